@@ -1,0 +1,24 @@
+-- The names of a document's fields.
+use Rattle.std.specs.Prelude.{◌≡◌, ℕ, ◌==◌, ◌||◌, Bool, false, List, [], ◌∷◌, Option, Some, None, if◌then◌else◌, ⊤}
+use Rattle.std.specs.Str.{bytes_eq}
+use Rattle.dv_bson.specs.Tree.{Tree, Field}
+
+-- the value under a name, where there is one
+abbrev pub value_under : List ℕ → List Field → Option Tree
+value_under name [] = None
+value_under name (f ∷ fs) = if bytes_eq name f.0 then Some f.1 else value_under name fs
+
+-- whether a field has the name
+abbrev pub has_name : List ℕ → List Field → Bool
+has_name name [] = false
+has_name name (f ∷ fs) = bytes_eq name f.0 || has_name name fs
+
+-- whether a zero byte stands in a name, where it would end it
+abbrev pub has_zero : List ℕ → Bool
+has_zero [] = false
+has_zero (b ∷ bs) = b == 0 || has_zero bs
+
+-- no name holds a zero byte, and no two fields have one name
+abbrev pub AreNamed : List Field → Type 0
+AreNamed [] = ⊤
+AreNamed (f ∷ fs) = (has_zero f.0 ≡ false) × (has_name f.0 fs ≡ false) × AreNamed fs

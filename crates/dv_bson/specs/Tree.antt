@@ -1,0 +1,58 @@
+-- Values without their place in memory, in the words of the BSON specification (bsonspec.org, version 1.1).
+use Rattle.std.specs.Prelude.{ℕ, suc, ◌+◌, ℤ, Bool, List, [], ◌∷◌}
+
+-- a value; the fields of a document; the elements of an array
+mutual
+  pub data Tree : Type 0 where
+    int32 : ℤ → Tree
+    int64 : ℤ → Tree
+    string : List ℕ → Tree
+    document : Fields → Tree
+    array : Elements → Tree
+    boolean : Bool → Tree
+
+  pub data Fields : Type 0 where
+    no_fields : Fields
+    field : List ℕ → Tree → Fields → Fields
+
+  pub data Elements : Type 0 where
+    no_elements : Elements
+    element : Tree → Elements → Elements
+
+-- a name in UTF-8, and the value under it
+abbrev pub Field : Type 0
+Field = List ℕ × Tree
+
+abbrev pub fields_of : List Field → Fields
+fields_of [] = no_fields
+fields_of (f ∷ fs) = field f.0 f.1 (fields_of fs)
+
+abbrev pub list_of_fields : Fields → List Field
+list_of_fields no_fields = []
+list_of_fields (field name value fs) = (name, value) ∷ list_of_fields fs
+
+abbrev pub elements_of : List Tree → Elements
+elements_of [] = no_elements
+elements_of (v ∷ vs) = element v (elements_of vs)
+
+abbrev pub list_of_elements : Elements → List Tree
+list_of_elements no_elements = []
+list_of_elements (element v vs) = v ∷ list_of_elements vs
+
+-- how many values there are in a value, itself among them
+abbrev mutual
+  pub weight : Tree → ℕ
+  weight (int32 n) = 1
+  weight (int64 n) = 1
+  weight (string s) = 1
+  weight (document fs) = suc (fields_weight fs)
+  weight (array vs) = suc (elements_weight vs)
+  weight (boolean b) = 1
+
+  pub fields_weight : Fields → ℕ
+  fields_weight no_fields = 0
+  fields_weight (field name value fs) = weight value + fields_weight fs
+
+  pub elements_weight : Elements → ℕ
+  elements_weight no_elements = 0
+  elements_weight (element v vs) = weight v + elements_weight vs

@@ -1,0 +1,16 @@
+//! BSON documents.
+#![tactic(auto)]
+
+mod bytes;
+mod fault;
+mod kind;
+mod text;
+mod value;
+
+pub use bytes::Bytes;
+pub use fault::BsonFault;
+pub use text::Str;
+pub use value::{Document, List, Value};
+
+/// Want of memory, where nothing else can be refused.
+pub type NoMemory = std::alloc::AllocError;
