@@ -1,5 +1,6 @@
 -- The names of a document's fields.
 use Rattle.std.specs.Prelude.{◌≡◌, ℕ, ◌==◌, ◌||◌, Bool, false, List, [], ◌∷◌, Option, Some, None, if◌then◌else◌, ⊤}
+use Rattle.std.specs.List.{position_from}
 use Rattle.std.specs.Str.{bytes_eq}
 use Rattle.dv_bson.specs.Tree.{Tree, Field}
 
@@ -7,6 +8,10 @@ use Rattle.dv_bson.specs.Tree.{Tree, Field}
 abbrev pub value_under : List ℕ → List Field → Option Tree
 value_under name [] = None
 value_under name (f ∷ fs) = if bytes_eq name f.0 then Some f.1 else value_under name fs
+
+-- the place of the field with a name, counted from 0, where there is one
+abbrev pub place_under : List ℕ → List Field → Option ℕ
+place_under name fs = position_from (λ f. bytes_eq name f.0) 0 fs
 
 -- whether a field has the name
 abbrev pub has_name : List ℕ → List Field → Bool

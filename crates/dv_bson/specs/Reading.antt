@@ -5,7 +5,7 @@ use Rattle.std.specs.Str.{bytes_eq, is_utf8}
 use Rattle.dv_bson.specs.declared.kind.Kind.{Kind}
 use Rattle.dv_bson.specs.declared.kind.Kind.TheVariants as kinds
 use Rattle.dv_bson.specs.declared.fault.BsonFault.{BsonFault}
-use Rattle.dv_bson.specs.declared.fault.BsonFault.TheVariants.{Truncated, BadLength, RefusedType, BadUtf8, BadBool, BadArrayName, RepeatedName, TooDeep, TooLarge, NoMemory}
+use Rattle.dv_bson.specs.declared.fault.BsonFault.TheVariants.{Truncated, BadLength, RefusedType, BadUtf8, BadBool, BadArrayName, RepeatedName, TooDeep, TooLarge}
 use Rattle.dv_bson.specs.declared.fault.ReadError.{ReadError}
 use Rattle.dv_bson.specs.declared.fault.ReadError.TheVariants as errors
 use Rattle.dv_bson.specs.Tree.{Tree, int32, int64, string, document, array, boolean, Field, fields_of, elements_of}

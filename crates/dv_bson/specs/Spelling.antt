@@ -1,5 +1,5 @@
 -- The bytes of a document, as the grammar of BSON 1.1 has them (bsonspec.org, "Specification Version 1.1").
-use Rattle.std.specs.Prelude.{◌≡◌, ℕ, zero, suc, ◌+◌, ◌≤◌, max, ℤ, Bool, false, List, [], ◌∷◌, ◌++◌, length, FitsSigned, decimal, ⊤}
+use Rattle.std.specs.Prelude.{◌≡◌, ℕ, suc, ◌+◌, ◌≤◌, max, false, List, [], ◌∷◌, ◌++◌, length, FitsSigned, decimal, ⊤}
 use Rattle.std.specs.Int.{w32, w64, to_le_bytes, cast_unsigned, from_bool}
 use Rattle.std.specs.Str.{IsUtf8}
 use Rattle.dv_bson.specs.declared.kind.Kind.{Kind}

@@ -1,5 +1,5 @@
 -- A tree as a ghost value, one to one: so a proof can tell two trees apart.
-use Rattle.std.specs.Prelude.{◌≡◌, ℕ, ℤ, List, Bool, refl}
+use Rattle.std.specs.Prelude.{◌≡◌, ℕ, List, refl}
 use Rattle.std.proofs.Common.{ap}
 use base.Stored.{Gv, gnum, gcons, gnil, Coded, coded_ℤ, coded_ℕ, coded_bool, coded_list}
 use Rattle.dv_bson.specs.Tree.{Tree, int32, int64, string, document, array, boolean, Fields, no_fields, field, Elements, no_elements, element}

@@ -1,5 +1,4 @@
 -- What a value in memory stands for.
-use Rattle.std.specs.Prelude.{List, map, [], ◌∷◌, ◌+◌, ◌≤◌, suc}
 use Rattle.dv_bson.specs.declared.value.Value.{Value}
 use Rattle.dv_bson.specs.declared.value.Value.TheVariants.{Int32, Int64, Text, Doc, Array, Bool}
 use Rattle.dv_bson.specs.declared.value.Entry.{Entry}

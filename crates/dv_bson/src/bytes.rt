@@ -20,18 +20,21 @@ impl Model for Bytes {
 }
 
 impl Bytes {
+    /// The bytes as they are. Takes no memory.
     pub fn of(bytes: Vec<u8>) -> Self
         ensures { result ≡ bytes.items }
     {
         Bytes { bytes }
     }
 
+    /// The bytes.
     pub fn as_slice(&self) -> &[u8]
         ensures { result.now ≡ self.now }
     {
         self.bytes.as_slice()
     }
 
+    /// The bytes as they are. Takes no memory.
     pub fn into_inner(self) -> Vec<u8>
         ensures { result.items ≡ self }
     {
@@ -39,6 +42,7 @@ impl Bytes {
         bytes
     }
 
+    /// A copy of its own. Fails where memory is wanting.
     pub fn try_clone(&self) -> Result<Self, AllocError>
         ensures { IfOk result (λ copy. copy ≡ self.now) }
     {

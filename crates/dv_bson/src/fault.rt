@@ -5,6 +5,8 @@ ghost use Rattle.dv_bson.specs.declared.fault.BsonFault.TheVariants.{NoMemory};
 ghost use Rattle.dv_bson.specs.declared.fault.ReadError.TheVariants.{Memory};
 
 use std::alloc::{AllocError, AllocFailed};
+use std::error::Error;
+use std::fmt;
 
 /// A fault. Its text is its name; that of a refused type says which byte stands where.
 #[derive(Clone, Copy, Debug, PartialEq, Eq)]
@@ -16,6 +18,7 @@ pub enum BsonFault {
     BadLength,
     /// A type byte that isn't supported.
     RefusedType {
+        /// The type byte.
         byte: u8,
         /// Where the byte stands, counted from the outermost document's first byte.
         at: usize,
@@ -61,10 +64,37 @@ impl BsonFault {
     }
 }
 
-/// Why reading stopped: a fault of the bytes, or memory.
+impl fmt::Display for BsonFault {
+    ghost use Rattle.std.specs.Prelude.{Some};
+    ghost use Rattle.dv_bson.specs.Fault.{fault_text};
+
+    ghost output = { λ f. Some (fault_text f) };
+
+    fn fmt<W: fmt::Write>(&self, f: &mut fmt::Formatter<W>) -> fmt::Result {
+        match *self {
+            BsonFault::Truncated => write!(f, "Truncated"),
+            BsonFault::BadLength => write!(f, "BadLength"),
+            BsonFault::RefusedType { byte, at } => write!(f, "RefusedType 0x{byte:02x} at {at}"),
+            BsonFault::BadUtf8 => write!(f, "BadUtf8"),
+            BsonFault::BadBool => write!(f, "BadBool"),
+            BsonFault::BadArrayName => write!(f, "BadArrayName"),
+            BsonFault::RepeatedName => write!(f, "RepeatedName"),
+            BsonFault::TooDeep => write!(f, "TooDeep"),
+            BsonFault::TooLarge => write!(f, "TooLarge"),
+            BsonFault::NoMemory => write!(f, "NoMemory"),
+            BsonFault::BadName => write!(f, "BadName"),
+        }
+    }
+}
+
+impl Error for BsonFault {}
+
+/// Why reading stopped.
 #[derive(Debug, Drop)]
 pub enum ReadError {
+    /// Memory is wanting.
     Memory,
+    /// The bytes have a fault.
     Fault(BsonFault),
 }
 

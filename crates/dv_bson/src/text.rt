@@ -22,18 +22,21 @@ impl Model for Str {
 }
 
 impl Str {
+    /// The text as it is. Takes no memory.
     pub fn of(text: String) -> Self
         ensures { result ≡ string_bytes text }
     {
         Str { text }
     }
 
+    /// The text.
     pub fn as_str(&self) -> &str
         ensures { result.now ≡ self.now }
     {
         self.text.as_str()
     }
 
+    /// The text as it is. Takes no memory.
     pub fn into_inner(self) -> String
         ensures { string_bytes result ≡ self }
     {
@@ -41,6 +44,7 @@ impl Str {
         text
     }
 
+    /// A copy of its own. Fails where memory is wanting.
     pub fn try_clone(&self) -> Result<Self, AllocError>
         ensures { IfOk result (λ copy. copy ≡ self.now) }
     {

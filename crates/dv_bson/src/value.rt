@@ -1,9 +1,9 @@
 //! Values, documents and lists of values.
 
-ghost use Rattle.std.specs.Prelude.{◌≡◌, ◌↔◌, ◌⊎◌, [], ◌∷◌, ◌++◌, true, false, length, IsTrue, OnOk, OnErr, IfErr, IsErrOf, slice_get};
+ghost use Rattle.std.specs.Prelude.{◌≡◌, ◌↔◌, ◌⊎◌, [], ◌∷◌, ◌++◌, true, false, length, map, IsTrue, OnOk, OnErr, IfOk, IfErr, IsErrOf, slice_get};
 ghost use Rattle.std.specs.Option.{option_map};
-ghost use Rattle.dv_bson.specs.Names.{value_under, has_name, has_zero};
-ghost use Rattle.dv_bson.specs.View.{tree};
+ghost use Rattle.dv_bson.specs.Names.{AreNamed, place_under, value_under, has_name, has_zero};
+ghost use Rattle.dv_bson.specs.View.{tree, field_of};
 
 use crate::NoMemory;
 use crate::fault::BsonFault;
@@ -11,30 +11,41 @@ use crate::text::Str;
 use std::alloc::Global;
 use std::marker::Model;
 
+/// A value of a field or of an array. In quotes: its type's name in the BSON specification, version 1.1
+/// (bsonspec.org).
 #[cycle(value)]
 #[derive(Debug, Drop)]
 pub enum Value {
+    /// "32-bit integer", signed.
     Int32(i32),
+    /// "64-bit integer", signed.
     Int64(i64),
+    /// "UTF-8 string", which may hold the character U+0000.
     Text(Str),
+    /// "Embedded document".
     Doc(Document),
+    /// "Array", of values of any types.
     Array(List),
+    /// "Boolean".
     Bool(bool),
 }
 
+/// A field of a document.
 #[cycle(value)]
 #[derive(Debug, Drop)]
-struct Entry {
-    name: Str,
-    value: Value,
+pub(crate) struct Entry {
+    pub(crate) name: Str,
+    pub(crate) value: Value,
 }
 
+/// Fields in the order in which they were added. No two have one name, and no name holds a zero byte.
 #[cycle(value)]
 #[derive(Debug, Drop)]
 pub struct Document {
     entries: Vec<Entry>,
 }
 
+/// The values of an array, in order.
 #[cycle(value)]
 #[derive(Debug, Drop)]
 pub struct List {
@@ -90,6 +101,23 @@ impl Model for List {
     ghost size_decreases = { λ l h. omega (arith, values_fall l.values.items) };
 }
 
+impl Value {
+    /// A copy of its own. Fails where memory is wanting.
+    #[cycle(value)]
+    pub fn try_clone(&self) -> Result<Self, NoMemory>
+        ensures { IfOk result (λ copy. copy ≡ self.now) }
+    {
+        match self {
+            Value::Int32(number) => Ok(Value::Int32(*number)),
+            Value::Int64(number) => Ok(Value::Int64(*number)),
+            Value::Text(text) => Ok(Value::Text(text.try_clone()?)),
+            Value::Doc(document) => Ok(Value::Doc(document.try_clone()?)),
+            Value::Array(list) => Ok(Value::Array(list.try_clone()?)),
+            Value::Bool(truth) => Ok(Value::Bool(*truth)),
+        }
+    }
+}
+
 impl Document {
     /// A document without fields, whose fields will be allocated by `alloc`.
     pub fn new(alloc: Global) -> Self
@@ -121,12 +149,96 @@ impl Document {
         let entry = self.entries.get(place)?;
         Some((entry.name.as_str(), &entry.value))
     }
+
+    /// The value under the name, where there is one.
+    pub fn get(&self, name: &str) -> Option<&Value>
+        ensures { option_map (λ value. tree value.now) result ≡ value_under name.now self.now }
+    {
+        let place = self.place_of(name)?;
+        Some(&self.entries[place].value)
+    }
+
+    /// The place of the field with the name, where there is one.
+    fn place_of(&self, name: &str) -> Option<usize>
+        ensures place { result ≡ place_under name.now self.now }
+        ensures named { AreNamed self.now }
+    {
+        for (place, entry) in self.entries.iter().enumerate() {
+            if entry.name.as_str() == name {
+                return Some(place);
+            }
+        }
+        None
+    }
+
+    /// Adds a field at the end. Refused with `BadName` where the name holds a zero byte, with
+    /// `RepeatedName` where a field has it, and with `NoMemory`; then nothing is changed, and the value is
+    /// dropped.
+    #[tactic(auto, using(crate::proofs::Named::places))]
+    pub fn push(&mut self, name: &str, value: Value) -> Result<(), BsonFault>
+        ensures ok { OnOk result (self.new ≡ self.old ++ (name.now, tree value) ∷ []) }
+        ensures err { OnErr result (self.new ≡ self.old) }
+
+        ensures bad_name { IsErrOf result BsonFault.BadName ↔ (has_zero name.now ≡ true) }
+        ensures repeated { IsErrOf result BsonFault.RepeatedName ↔ (has_name name.now self.old ≡ true) }
+        ensures other { IfErr result (λ e. (e ≡ BsonFault.BadName) ⊎ (e ≡ BsonFault.RepeatedName) ⊎ (e ≡ BsonFault.NoMemory)) }
+    {
+        if self.place_of(name).is_some() {
+            return Err(BsonFault::RepeatedName);
+        }
+        if name.as_bytes().contains(&0) {
+            return Err(BsonFault::BadName);
+        }
+        self.add(name, value)?;
+        Ok(())
+    }
+
+    /// Adds a field whose name is known to be new and without a zero byte.
+    pub(crate) fn add(&mut self, name: &str, value: Value) -> Result<(), NoMemory>
+        requires whole { has_zero name.now ≡ false }
+        requires fresh { has_name name.now self.old ≡ false }
+        ensures ok { OnOk result (self.new ≡ self.old ++ (name.now, tree value) ∷ []) }
+        ensures err { OnErr result (self.new ≡ self.old) }
+    {
+        let name = Str::of(String::from_str(*self.entries.allocator(), name)?);
+        self.entries.push(Entry { name, value })?;
+        Ok(())
+    }
+
+    /// The fields in written order.
+    pub(crate) fn entries(&self) -> &[Entry]
+        ensures entries { map field_of result.now ≡ self.now }
+        ensures named { AreNamed self.now }
+    {
+        self.entries.as_slice()
+    }
+
+    /// A copy of its own, in time linear in its size. Fails where memory is wanting.
+    #[cycle(value)]
+    pub fn try_clone(&self) -> Result<Self, NoMemory>
+        ensures { IfOk result (λ copy. copy ≡ self.now) }
+    {
+        let mut entries = Vec::with_capacity(*self.entries.allocator(), self.entries.len())?;
+        for entry in &self.entries {
+            let name = entry.name.try_clone()?;
+            let value = entry.value.try_clone()?;
+            entries.push(Entry { name, value })?;
+        }
+        Ok(Document { entries })
+    }
 }
 
 impl List {
-    ghost use Rattle.std.specs.Prelude.{map};
+    /// A list without values, whose values will be allocated by `alloc`.
+    pub fn new(alloc: Global) -> Self
+        ensures { result ≡ [] }
+    {
+        List {
+            values: Vec::new(alloc),
+        }
+    }
 
-    /// The list of these values.
+    /// The list of these values. Takes no memory.
     pub fn of(values: Vec<Value>) -> Self
         ensures { result ≡ map tree values.items }
     {
@@ -138,5 +250,25 @@ impl List {
         ensures { map tree result.now ≡ self.now }
     {
         self.values.as_slice()
+    }
+
+    /// The values in order. Takes no memory.
+    pub fn into_inner(self) -> Vec<Value>
+        ensures { map tree result.items ≡ self }
+    {
+        let List { values } = self;
+        values
+    }
+
+    /// A copy of its own, in time linear in its size. Fails where memory is wanting.
+    #[cycle(value)]
+    pub fn try_clone(&self) -> Result<Self, NoMemory>
+        ensures { IfOk result (λ copy. copy ≡ self.now) }
+    {
+        let mut values = Vec::with_capacity(*self.values.allocator(), self.values.len())?;
+        for value in &self.values {
+            values.push(value.try_clone()?)?;
+        }
+        Ok(List { values })
     }
 }
