@@ -1,1 +1,9 @@
 pub mod Named
+pub mod Steps
+pub mod Numbers
+pub mod Names
+pub mod Frames
+pub mod Fields
+pub mod Taken
+pub mod Again
+pub mod Both

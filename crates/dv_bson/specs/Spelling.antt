@@ -1,5 +1,5 @@
 -- The bytes of a document, as the grammar of BSON 1.1 has them (bsonspec.org, "Specification Version 1.1").
-use Rattle.std.specs.Prelude.{◌≡◌, ℕ, suc, ◌+◌, ◌≤◌, max, false, List, [], ◌∷◌, ◌++◌, length, FitsSigned, decimal, ⊤}
+use Rattle.std.specs.Prelude.{◌≡◌, ℕ, suc, ◌+◌, ◌<◌, ◌≤◌, max, false, List, [], ◌∷◌, ◌++◌, length, get_or, FitsSigned, decimal, ⊤}
 use Rattle.std.specs.Int.{w32, w64, to_le_bytes, cast_unsigned, from_bool}
 use Rattle.std.specs.Str.{IsUtf8}
 use Rattle.dv_bson.specs.declared.kind.Kind.{Kind}
@@ -93,6 +93,10 @@ abbrev mutual
 
 abbrev pub spelling : List Field → List ℕ
 spelling d = payload (document (fields_of d))
+
+-- each is a byte
+abbrev pub IsBytes : List ℕ → Type 0
+IsBytes bytes = (i : ℕ) → get_or bytes i 0 < 256
 
 -- the bytes spell the document: a length is an int32, so no spelling is longer than 2,147,483,647 bytes
 pub record Spells (d : List Field) (bytes : List ℕ) : Type 0 where

@@ -4,6 +4,7 @@
 mod bytes;
 mod fault;
 mod kind;
+pub mod laws;
 mod text;
 mod value;
 
