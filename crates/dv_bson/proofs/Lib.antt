@@ -7,3 +7,4 @@ pub mod Fields
 pub mod Taken
 pub mod Again
 pub mod Both
+pub mod Places

@@ -19,6 +19,11 @@ AreNamed-push [] f named whole fresh = grind arith
 AreNamed-push (g ∷ fs) f named whole fresh =
     grind (arith, AreNamed-push fs f, has_name-append g.0 fs (f ∷ []), bytes_eq-symmetric f.0 g.0)
 
+pub named_apart : (fs gs : List Field) (f : Field) → AreNamed (fs ++ f ∷ gs) → has_name f.0 fs ≡ false
+named_apart [] gs f named = grind arith
+named_apart (g ∷ fs) gs f named =
+    grind (arith, named_apart fs gs f named.2, has_name-append g.0 fs (f ∷ gs), bytes_eq-symmetric f.0 g.0)
+
 -- no field has a name that holds a zero byte
 pub zero_names_none : (name : List ℕ) (fs : List Field) → AreNamed fs → has_zero name ≡ true → has_name name fs ≡ false
 zero_names_none name [] named zero = grind arith

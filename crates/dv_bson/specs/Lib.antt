@@ -3,6 +3,7 @@ pub mod TreeCode
 pub mod View
 pub mod ViewFalls
 pub mod Names
+pub mod Places
 pub mod Spelling
 pub mod Reading
 pub mod Fault

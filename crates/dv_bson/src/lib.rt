@@ -5,6 +5,7 @@ mod bytes;
 mod fault;
 mod kind;
 pub mod laws;
+mod name_index;
 mod text;
 mod value;
 

@@ -1,12 +1,15 @@
 //! Values, documents and lists of values.
 
-ghost use Rattle.std.specs.Prelude.{◌≡◌, ◌↔◌, ◌⊎◌, [], ◌∷◌, ◌++◌, true, false, length, map, IsTrue, OnOk, OnErr, IfOk, IfErr, IsErrOf, slice_get};
+ghost use Rattle.std.specs.Prelude.{◌≡◌, ◌↔◌, ◌⊎◌, [], ◌∷◌, ◌++◌, true, false, length, map, IsTrue, OnOk, OnErr, IfOk, IfErr, IfSome, IsErrOf, slice_get};
 ghost use Rattle.std.specs.Option.{option_map};
 ghost use Rattle.dv_bson.specs.Names.{AreNamed, place_under, value_under, has_name, has_zero};
+ghost use Rattle.dv_bson.specs.Places.{IsIndexOf};
+ghost use Rattle.dv_bson.specs.Tree.{Tree};
 ghost use Rattle.dv_bson.specs.View.{tree, field_of};
 
 use crate::NoMemory;
 use crate::fault::BsonFault;
+use crate::name_index::NameIndex;
 use crate::text::Str;
 use std::alloc::Global;
 use std::marker::Model;
@@ -43,7 +46,12 @@ pub(crate) struct Entry {
 #[derive(Debug, Drop)]
 pub struct Document {
     entries: Vec<Entry>,
+    /// The places of the names, once there are too many to search them one by one.
+    index: Option<Box<NameIndex>>,
 }
+
+/// From so many fields on a document's names are indexed.
+const INDEXED_LENGTH: usize = 32;
 
 /// The values of an array, in order.
 #[cycle(value)]
@@ -63,12 +71,14 @@ impl Model for Document {
 
     ghost coded = { coded_list (coded× (coded_list coded_ℕ) coded_tree) };
 
+    ghost use Rattle.std.specs.Prelude.{IfSome};
     ghost use Rattle.dv_bson.specs.View.{field_of};
     ghost use Rattle.dv_bson.specs.Names.{AreNamed};
+    ghost use Rattle.dv_bson.specs.Places.{IsIndexOf};
 
     ghost view = { λ d. map field_of d.entries.items };
 
-    ghost invariant = { λ d. AreNamed (map field_of d.entries.items) };
+    ghost invariant = { λ d. let fields = map field_of d.entries.items in AreNamed fields × IfSome d.index (λ index. IsIndexOf fields index.value) };
 
     ghost size = { λ fs. fields_weight (fields_of fs) };
 
@@ -125,6 +135,7 @@ impl Document {
     {
         Document {
             entries: Vec::new(alloc),
+            index: None,
         }
     }
 
@@ -163,12 +174,10 @@ impl Document {
         ensures place { result ≡ place_under name.now self.now }
         ensures named { AreNamed self.now }
     {
-        for (place, entry) in self.entries.iter().enumerate() {
-            if entry.name.as_str() == name {
-                return Some(place);
-            }
+        match &self.index {
+            Some(index) => index.place_of(name),
+            None => place_among(&self.entries, name),
         }
-        None
     }
 
     /// Adds a field at the end. Refused with `BadName` where the name holds a zero byte, with
@@ -200,7 +209,11 @@ impl Document {
         ensures ok { OnOk result (self.new ≡ self.old ++ (name.now, tree value) ∷ []) }
         ensures err { OnErr result (self.new ≡ self.old) }
     {
-        let name = Str::of(String::from_str(*self.entries.allocator(), name)?);
+        let alloc = *self.entries.allocator();
+        let name = Str::of(String::from_str(alloc, name)?);
+        // Room first: once the name is in the index, nothing may fail.
+        self.entries.reserve(1)?;
+        index_next(alloc, &mut self.index, &self.entries, &name)?;
         self.entries.push(Entry { name, value })?;
         Ok(())
     }
@@ -218,14 +231,66 @@ impl Document {
     pub fn try_clone(&self) -> Result<Self, NoMemory>
         ensures { IfOk result (λ copy. copy ≡ self.now) }
     {
-        let mut entries = Vec::with_capacity(*self.entries.allocator(), self.entries.len())?;
+        let alloc = *self.entries.allocator();
+        let mut entries = Vec::with_capacity(alloc, self.entries.len())?;
         for entry in &self.entries {
             let name = entry.name.try_clone()?;
             let value = entry.value.try_clone()?;
             entries.push(Entry { name, value })?;
         }
-        Ok(Document { entries })
+        let index = index_of(alloc, &entries)?;
+        Ok(Document { entries, index })
     }
+}
+
+/// The place of the first of these fields that has the name, where there is one.
+fn place_among(entries: &[Entry], name: &str) -> Option<usize>
+    ensures { result ≡ place_under name.now (map field_of entries.now) }
+{
+    for (place, entry) in entries.iter().enumerate() {
+        if entry.name.as_str() == name {
+            return Some(place);
+        }
+    }
+    None
+}
+
+/// Indexes the name of the field that comes behind these, if they are as many as are indexed. Where memory
+/// is wanting the index is still one of these fields.
+fn index_next(
+    alloc: Global,
+    index: &mut Option<Box<NameIndex>>,
+    entries: &[Entry],
+    name: &Str,
+) -> Result<(), NoMemory>
+    requires named { AreNamed (map field_of entries.now) }
+    requires fresh { has_name name.now (map field_of entries.now) ≡ false }
+    requires indexed { IfSome index.old (λ index. IsIndexOf (map field_of entries.now) index.value) }
+    ensures ok { OnOk result ((value : Tree) → IfSome index.new (λ index. IsIndexOf (map field_of entries.now ++ (name.now, value) ∷ []) index.value)) }
+    ensures err { OnErr result (IfSome index.new (λ index. IsIndexOf (map field_of entries.now) index.value)) }
+{
+    if index.is_none() {
+        *index = index_of(alloc, entries)?;
+    }
+    match index {
+        Some(index) => index.add(name, entries.len()),
+        None => Ok(()),
+    }
+}
+
+/// The index of these fields' names, where there are so many that they are indexed.
+fn index_of(alloc: Global, entries: &[Entry]) -> Result<Option<Box<NameIndex>>, NoMemory>
+    requires { AreNamed (map field_of entries.now) }
+    ensures { IfOk result (λ index. IfSome index (λ index. IsIndexOf (map field_of entries.now) index.value)) }
+{
+    if entries.len() < INDEXED_LENGTH {
+        return Ok(None);
+    }
+    let mut index = NameIndex::new(alloc);
+    for (place, entry) in entries.iter().enumerate() {
+        index.add(&entry.name, place)?;
+    }
+    Ok(Some(Box::new(alloc, index)?))
 }
 
 impl List {

@@ -1,0 +1,7 @@
+use Rattle.dv_bson.proofs.Places.{places_of-insert}
+use Rattle.dv_bson.proofs.name_index.NameIndex.add.Goals as goal
+
+pub returns-clause-ok : goal.returns-clause-ok
+returns-clause-ok c =
+    let inserted = places_of-insert c.self.inside.places c.insert.new.self c.into_inner-name.result c.args.place c.in_ok-insert.ensures.updates in
+    rw (← c.self.view_is, ← c.in_ok-try_clone.ensures, ← c.into_inner-name.ensures) inserted
