@@ -11,7 +11,8 @@ use Rattle.dv_bson.proofs.Steps.{bind_at}
 use Rattle.dv_bson.proofs.Numbers.{wide32, wide64, signed_again}
 use Rattle.dv_bson.proofs.Names.{kind_again}
 use Rattle.dv_bson.proofs.Frames.{length-counted, length-framed, text_again, frame_again, framed_value}
-use Rattle.dv_bson.proofs.Fields.{name_again, AreRead, AreRead-fields, AreRead-elements, values, numbered, values-numbered, elements_spelling-from_read, elements_levels-values, fields_of-list_of_fields, elements_of-list_of_elements}
+use Rattle.dv_bson.specs.Parts.{numbered}
+use Rattle.dv_bson.proofs.Fields.{name_again, AreRead, AreRead-fields, AreRead-elements, values, values-numbered, elements_spelling-from_read, elements_levels-values, fields_of-list_of_fields, elements_of-list_of_elements}
 
 -- elements of fewer than k levels are read again
 abbrev pub Complete : ℕ → Inside → Type 0

@@ -12,6 +12,7 @@ use Rattle.dv_bson.specs.Tree.{Tree, Fields, no_fields, field, Elements, no_elem
 use Rattle.dv_bson.specs.Names.{has_name, has_zero}
 use Rattle.dv_bson.specs.Spelling.{kind_of, element_spelling, payload, fields_spelling, elements_spelling, IsValue, AreFields, AreElements, levels, fields_levels, elements_levels}
 use Rattle.dv_bson.specs.Reading.{cut_at_zero, checked_name, named_by, name_at}
+use Rattle.dv_bson.specs.Parts.{numbered}
 use Rattle.dv_bson.proofs.Steps.{passed, refused_not, given, ok_is}
 use Rattle.dv_bson.proofs.Names.{cut_takes, cut_again}
 
@@ -146,10 +147,6 @@ AreRead-fields fs h = AreRead-from_apart [] fs h (Apart-none fs)
 
 abbrev pub values : List Field → List Tree
 values fs = map (λ f. f.1) fs
-
-abbrev pub numbered : ℕ → List Tree → List Field
-numbered i [] = []
-numbered i (v ∷ vs) = (decimal i, v) ∷ numbered (suc i) vs
 
 pub values-numbered : (i : ℕ) (vs : List Tree) → values (numbered i vs) ≡ vs
 values-numbered i [] = refl

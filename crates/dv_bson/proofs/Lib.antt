@@ -8,3 +8,7 @@ pub mod Taken
 pub mod Again
 pub mod Both
 pub mod Places
+pub mod Fronts
+pub mod Shorter
+pub mod Elements
+pub mod Loop

@@ -1,5 +1,5 @@
 -- Counts and signed numbers: what is read is spelled so, and what is spelled so is read.
-use Rattle.std.proofs.Common.{◌≡◌, ℕ, ◌^◌, ◌<◌, ◌≤◌, ℤ, Bool, true, false, cond, ltb, List, ◌++◌, length, take, drop, Option, Some, None, Result, Ok, Err, FitsSigned, Fits, refl, sym, ap, subst, ◌∙◌, arith}
+use Rattle.std.proofs.Common.{◌≡◌, ℕ, ◌^◌, ◌<◌, ◌≤◌, ℤ, Bool, true, false, cond, ltb, List, ◌++◌, length, take, drop, Option, Some, None, Ok, FitsSigned, Fits, refl, sym, ap, subst, ◌∙◌, arith}
 use Rattle.std.specs.Int.{Width, w32, w64, byte_len, from_le_bytes, to_le_bytes, cast_signed, cast_unsigned}
 use mir.Val.{bits}
 use Rattle.std.proofs.Math.Facts.{Fits-of_lt, Fits-of_z, sfits_to_z}
@@ -7,11 +7,11 @@ use Rattle.std.proofs.lemmas.Bool.{ltb-false, le-ltb, lt-ltb}
 use Rattle.std.proofs.lemmas.Int.{of_z-to_z, to_z-of_z}
 use Rattle.std.proofs.lemmas.List.{take_at, drop_at, take-append-drop, length-append, length-take}
 use Rattle.std.proofs.lemmas.Nat.{le_bytes_4, le_bytes_8, from_le_bytes-to_le_bytes_4, from_le_bytes-to_le_bytes_8}
-use Rattle.dv_bson.specs.declared.fault.BsonFault.{BsonFault}
 use Rattle.dv_bson.specs.declared.fault.BsonFault.TheVariants.{BadLength}
 use Rattle.dv_bson.specs.Tree.{Tree}
 use Rattle.dv_bson.specs.Spelling.{IsBytes}
 use Rattle.dv_bson.specs.Reading.{count_at}
+use Rattle.dv_bson.specs.Parts.{signed_at}
 use Rattle.dv_bson.proofs.Steps.{IsBytes-take, IsBytes-drop, Takes, refused_not, ok_is}
 
 -- numbers of this width and their bytes
@@ -66,10 +66,6 @@ pub count_again : (n : ℕ) (rest : List ℕ) → n < 2147483648 → count_at (t
 count_again n rest lt = count_front (to_le_bytes w32 n) rest n (wide32.len n) (wide32.again n (omega arith)) lt
 
 -- ---- signed numbers
-
--- a signed number of this width, and the bytes behind it
-abbrev pub signed_at : Width → (ℤ → Tree) → List ℕ → Result (Tree × List ℕ) BsonFault
-signed_at w made bytes = cond (ltb (length bytes) (byte_len w)) (Err BadLength) (Ok (made (cast_signed w (from_le_bytes w (take (byte_len w) bytes))), drop (byte_len w) bytes))
 
 pub record TakesSigned (w : Width) (made : ℤ → Tree) (bytes : List ℕ) (x : Tree × List ℕ) : Type 0 where
   pub number : ℤ

@@ -7,3 +7,4 @@ pub mod Places
 pub mod Spelling
 pub mod Reading
 pub mod Fault
+pub mod Parts

@@ -114,6 +114,19 @@ impl<T: Drop> From<AllocFailed<T>> for ReadError {
     }
 }
 
+impl From<ReadError> for BsonFault {
+    ghost use Rattle.dv_bson.specs.Parts.{public_fault};
+
+    ghost from_gives = { λ e fault. fault ≡ public_fault e };
+
+    fn from(e: ReadError) -> BsonFault {
+        match e {
+            ReadError::Memory => BsonFault::NoMemory,
+            ReadError::Fault(fault) => fault,
+        }
+    }
+}
+
 impl From<AllocError> for BsonFault {
     ghost from_gives = { λ _ e. e ≡ NoMemory };
 

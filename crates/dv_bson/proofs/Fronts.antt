@@ -1,0 +1,107 @@
+-- What stands at the front of bytes.
+use Rattle.std.proofs.Common.{◌≡◌, ℕ, suc, ◌+◌, ◌-◌, ◌==◌, ◌||◌, if◌then◌else◌, Bool, true, false, cond, not, ltb, List, [], ◌∷◌, length, take, drop, map, Option, Some, None, Ok, Err, Bor, refl, sym, ap, ◌∙◌, decimal, add-one, arith, inl, inr}
+use Rattle.std.specs.Option.{option_map, is_some}
+use Rattle.std.specs.List.{position, position_or_len}
+use Rattle.std.specs.Str.{bytes_eq, IsUtf8, is_utf8}
+use Rattle.std.proofs.lemmas.Bool.{cases_lt, lt-ltb, le-ltb}
+use Rattle.std.proofs.lemmas.List.{take_all, length-drop}
+use Rattle.std.proofs.lemmas.Slice.Eq.{bytes_eq-Decides}
+use Rattle.std.proofs.lemmas.Str.{IsUtf8-from_is_utf8}
+use Rattle.dv_bson.specs.declared.fault.BsonFault.{BsonFault}
+use Rattle.dv_bson.specs.declared.value.Value.{Value}
+use Rattle.dv_bson.specs.declared.fault.BsonFault.TheVariants.{BadUtf8, BadArrayName, RepeatedName}
+use Rattle.dv_bson.specs.Tree.{Field}
+use Rattle.dv_bson.specs.View.{tree}
+use Rattle.dv_bson.specs.Names.{value_under, has_name}
+use Rattle.dv_bson.specs.Reading.{◌>>=◌, cut_at_zero, onto_name, named_by, name_at}
+use Rattle.dv_bson.specs.Parts.{utf8_name, any_name_at, name_beside, numbered}
+
+-- where the first zero is, as a front byte and the place behind it tell
+abbrev place_behind : Bool → ℕ → ℕ
+place_behind here k = cond (not here) (1 + k) 0
+
+abbrev cut_at : List ℕ → ℕ → Option (List ℕ × List ℕ)
+cut_at bytes k = option_map (λ i. (take i bytes, drop (suc i) bytes)) (cond (ltb k (length bytes)) (Some k) None)
+
+cut_behind : (b : ℕ) (bytes : List ℕ) (k : ℕ) → onto_name b (cut_at bytes k) ≡ cut_at (b ∷ bytes) (suc k)
+cut_behind b bytes k =
+    elim (cases_lt k (length bytes)) [
+      | inl lt ↦ let here : ltb k (length bytes) ≡ true = lt-ltb _ _ lt in let above : ltb (suc k) (suc (length bytes)) ≡ true = lt-ltb _ _ (omega arith) in rw (here, above) refl
+      | inr le ↦ let here : ltb k (length bytes) ≡ false = le-ltb _ _ le in let above : ltb (suc k) (suc (length bytes)) ≡ false = le-ltb _ _ (omega arith) in rw (here, above) refl
+    ]
+
+cut_by_place : (bytes : List ℕ) → cut_at_zero bytes ≡ cut_at bytes (position_or_len (λ b. b == 0) bytes)
+unfolding cut_at_zero
+cut_by_place [] = refl
+cut_by_place (b ∷ bytes) =
+    let k = position_or_len (λ b. b == 0) bytes in
+    let one : suc k ≡ 1 + k = omega arith in
+    let front : ltb 0 (suc (length bytes)) ≡ true = lt-ltb _ _ (omega arith) in
+    elim (b == 0) as (λ here. (if here then Some ([], bytes) else onto_name b (cut_at_zero bytes)) ≡ cut_at (b ∷ bytes) (place_behind here k)) [
+      | true ↦ rw front refl
+      | false ↦ ap (onto_name b) (cut_by_place bytes) ∙ cut_behind b bytes k ∙ ap (cut_at (b ∷ bytes)) one
+    ]
+
+pub cut_none : (bytes : List ℕ) → None ≡ position (λ b. b == 0) bytes → None ≡ cut_at_zero bytes
+cut_none bytes e = ap (option_map (λ i. (take i bytes, drop (suc i) bytes))) e ∙ sym (cut_by_place bytes)
+
+pub cut_some : (bytes : List ℕ) (i : ℕ) → Some i ≡ position (λ b. b == 0) bytes → Some (take i bytes, take (length bytes - (i + 1)) (drop (i + 1) bytes)) ≡ cut_at_zero bytes
+cut_some bytes i e =
+    let whole : take (length bytes - suc i) (drop (suc i) bytes) ≡ drop (suc i) bytes = take_all (length bytes - suc i) (drop (suc i) bytes) (omega (arith, length-drop (suc i) bytes)) in
+    rw (add-one, whole) (ap (option_map (λ i. (take i bytes, drop (suc i) bytes))) e ∙ sym (cut_by_place bytes))
+
+no_text : (b : Bool) (bytes : List ℕ) → is_utf8 bytes ≡ b → (IsUtf8 bytes → ⊥) → b ≡ false
+no_text true bytes e refuted = absurd (refuted (IsUtf8-from_is_utf8 bytes e))
+no_text false bytes e refuted = refl
+
+pub is_utf8-false : (bytes : List ℕ) → (IsUtf8 bytes → ⊥) → is_utf8 bytes ≡ false
+is_utf8-false bytes refuted = no_text (is_utf8 bytes) bytes refl refuted
+
+-- what is looked up is found where a field has the name
+value_under-is_some : (name : List ℕ) (fs : List Field) → is_some (value_under name fs) ≡ has_name name fs
+value_under-is_some name [] = refl
+value_under-is_some name (f ∷ fs) =
+    let rest = value_under-is_some name fs in
+    elim (bytes_eq name f.0) as (λ b. is_some (if b then Some f.1 else value_under name fs) ≡ (b || has_name name fs)) [ true ↦ refl | false ↦ rest ]
+
+mapped-is_some : (o : Option (Bor Value)) → is_some o ≡ is_some (option_map (λ v. tree v.now) o)
+mapped-is_some None = refl
+mapped-is_some (Some v) = refl
+
+pub has_name_by_get : (name : List ℕ) (fs : List Field) (o : Option (Bor Value)) → option_map (λ v. tree v.now) o ≡ value_under name fs → is_some o ≡ has_name name fs
+has_name_by_get name fs o e = mapped-is_some o ∙ ap is_some e ∙ value_under-is_some name fs
+
+-- a name is first found, and then compared with the others
+pub name_first : (in_array : Bool) (seen : List Field) (bytes : List ℕ) → name_at in_array seen bytes ≡ (any_name_at bytes >>= name_beside in_array seen)
+unfolding name_at any_name_at
+name_first false seen bytes =
+    elim (cut_at_zero bytes) as (λ o. named_by false seen o ≡ (utf8_name o >>= name_beside false seen)) [
+      | None ↦ refl
+      | Some cut ↦ elim (is_utf8 cut.0) as (λ b. (if b then name_beside false seen cut else Err BadUtf8) ≡ ((if b then Ok cut else Err BadUtf8) >>= name_beside false seen)) [ true ↦ refl | false ↦ refl ]
+    ]
+name_first true seen bytes =
+    elim (cut_at_zero bytes) as (λ o. named_by true seen o ≡ (utf8_name o >>= name_beside true seen)) [
+      | None ↦ refl
+      | Some cut ↦ elim (is_utf8 cut.0) as (λ b. (if b then name_beside true seen cut else Err BadUtf8) ≡ ((if b then Ok cut else Err BadUtf8) >>= name_beside true seen)) [ true ↦ refl | false ↦ refl ]
+    ]
+
+pub no_name : (in_array : Bool) (seen : List Field) (bytes : List ℕ) (f : BsonFault) → any_name_at bytes ≡ Err f → name_at in_array seen bytes ≡ Err f
+no_name in_array seen bytes f e = name_first in_array seen bytes ∙ ap (λ r. r >>= name_beside in_array seen) e
+
+pub repeated_name : (seen : List Field) (bytes : List ℕ) (name : List ℕ × List ℕ) → any_name_at bytes ≡ Ok name → has_name name.0 seen ≡ true → name_at false seen bytes ≡ Err RepeatedName
+repeated_name seen bytes name e h = name_first false seen bytes ∙ ap (λ r. r >>= name_beside false seen) e ∙ rw h refl
+
+pub new_name : (seen : List Field) (bytes : List ℕ) (name : List ℕ × List ℕ) → any_name_at bytes ≡ Ok name → has_name name.0 seen ≡ false → name_at false seen bytes ≡ Ok name
+new_name seen bytes name e h = name_first false seen bytes ∙ ap (λ r. r >>= name_beside false seen) e ∙ rw h refl
+
+length_numbered : (i : ℕ) (vs : List Value) → length (numbered i (map tree vs)) ≡ length vs
+length_numbered i [] = refl
+length_numbered i (v ∷ vs) = ap suc (length_numbered (suc i) vs)
+
+pub other_name : (before : List Value) (bytes : List ℕ) (name : List ℕ × List ℕ) → any_name_at bytes ≡ Ok name → bytes_eq name.0 (decimal (length before)) ≡ false → name_at true (numbered 0 (map tree before)) bytes ≡ Err BadArrayName
+other_name before bytes name e h = name_first true (numbered 0 (map tree before)) bytes ∙ ap (λ r. r >>= name_beside true (numbered 0 (map tree before))) e ∙ rw (length_numbered 0 before, h) refl
+
+pub index_name : (before : List Value) (bytes : List ℕ) (name : List ℕ × List ℕ) → any_name_at bytes ≡ Ok name → bytes_eq name.0 (decimal (length before)) ≡ true → name_at true (numbered 0 (map tree before)) bytes ≡ Ok (decimal (length before), name.1)
+index_name before bytes name e h =
+    let same : name.0 ≡ decimal (length before) = (bytes_eq-Decides name.0 (decimal (length before))).0 h in
+    name_first true (numbered 0 (map tree before)) bytes ∙ ap (λ r. r >>= name_beside true (numbered 0 (map tree before))) e ∙ rw (length_numbered 0 before, h) (ap (λ (n : List ℕ). Ok (n, name.1)) same)

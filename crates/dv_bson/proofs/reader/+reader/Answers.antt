@@ -1,0 +1,124 @@
+use Rattle.std.proofs.Common.{map, false, true, sym, ◌∙◌, rules, arith}
+use Rattle.std.proofs.lemmas.Result.{err_from_is_err_and}
+use Rattle.dv_bson.specs.View.{tree}
+use Rattle.dv_bson.specs.Parts.{numbered}
+use Rattle.dv_bson.proofs.Shorter.{behind_name, frame_within}
+use Rattle.dv_bson.proofs.Elements.{field_may_be_added, array_read, numbered_push}
+use Rattle.dv_bson.proofs.Loop.{shorter, goes_on, ends, is_done, starts, too_deep, some_left, none_left}
+use Rattle.dv_bson.proofs.reader.+reader.Goals as goal
+
+-- ---- an element
+
+pub field_of-overflow_sub-bytes : goal.field_of-overflow_sub-bytes
+field_of-overflow_sub-bytes t c = behind_name _ _ _ _ _ _ c.in_ok-kind.ensures c.in_ok-name.ensures
+
+pub field_of-value_of-requires : goal.field_of-value_of-requires
+field_of-value_of-requires t c = (search rules, omega (arith, c.requires, behind_name _ _ _ _ _ _ c.in_ok-kind.ensures c.in_ok-name.ensures))
+
+pub element_of-overflow_sub-bytes : goal.element_of-overflow_sub-bytes
+element_of-overflow_sub-bytes t c = behind_name _ _ _ _ _ _ c.in_ok-kind.ensures c.in_ok-rest.ensures
+
+pub element_of-value_of-requires : goal.element_of-value_of-requires
+element_of-value_of-requires t c = (search rules, omega (arith, c.requires, behind_name _ _ _ _ _ _ c.in_ok-kind.ensures c.in_ok-rest.ensures))
+
+-- ---- a value
+
+pub value_of-overflow_add-at : goal.value_of-overflow_add-at
+value_of-overflow_add-at t c = omega (arith, c.requires, frame_within _ _ c.in_ok-frame-in-Doc.ensures)
+
+pub value_of-document_of-requires : goal.value_of-document_of-requires
+value_of-document_of-requires t c = (search rules, omega (arith, c.requires, frame_within _ _ c.in_ok-frame-in-Doc.ensures))
+
+pub value_of-overflow_add-at-in-Array : goal.value_of-overflow_add-at-in-Array
+value_of-overflow_add-at-in-Array t c = omega (arith, c.requires, frame_within _ _ c.in_ok-frame-in-Array.ensures)
+
+pub value_of-list_of-requires : goal.value_of-list_of-requires
+value_of-list_of-requires t c = (search rules, omega (arith, c.requires, frame_within _ _ c.in_ok-frame-in-Array.ensures))
+
+pub value_of-returns-in_ok-list-in-Array : goal.value_of-returns-in_ok-list-in-Array
+value_of-returns-in_ok-list-in-Array t c = rw c.in-Array.is (array_read _ _ _ _ _ c.in_ok-frame-in-Array.ensures c.in_ok-list-in-Array.ensures)
+
+-- ---- the loop over a document's fields
+
+pub document_of-returns-then-levels-eq0 : goal.document_of-returns-then-levels-eq0
+document_of-returns-then-levels-eq0 t c = too_deep _ _ _ _ _ (omega arith)
+
+pub document_of-fields-init : goal.document_of-fields-init
+document_of-fields-init t c = record {
+  read = rw c.new-document.ensures (starts c.args.levels false c.args.at c.args.elements.now c.args.last (omega arith));
+  in_range = c.requires;
+}
+
+pub document_of-returns-in_err-name : goal.document_of-returns-in_err-name
+document_of-returns-in_err-name t c =
+    let p = err_from_is_err_and c.from_residual.result c.from_residual.ensures.1 in
+    rw (p.1, p.2) (ends _ _ _ _ _ _ _ _ (some_left _ (sym c.is_empty.ensures ∙ c.fields-test.true)) c.in_err-name.ensures c.fields.invariant.read)
+
+pub document_of-add-requires-clause-whole : goal.document_of-add-requires-clause-whole
+document_of-add-requires-clause-whole t c = (field_may_be_added _ _ _ _ _ c.in_ok-name.ensures).whole
+
+pub document_of-add-requires-clause-fresh : goal.document_of-add-requires-clause-fresh
+document_of-add-requires-clause-fresh t c = (field_may_be_added _ _ _ _ _ c.in_ok-name.ensures).fresh
+
+pub document_of-overflow_sub-at : goal.document_of-overflow_sub-at
+document_of-overflow_sub-at t c = omega (arith, shorter _ _ _ _ _ _ c.in_ok-name.ensures)
+
+pub document_of-fields-smaller : goal.document_of-fields-smaller
+document_of-fields-smaller t c = shorter _ _ _ _ _ _ c.in_ok-name.ensures
+
+pub document_of-fields-preserved : goal.document_of-fields-preserved
+document_of-fields-preserved t c = record {
+  read = rw c.in_ok-add.ensures.ok (goes_on _ _ _ _ _ _ _ _ c.in_ok-name.ensures c.fields.invariant.read);
+  in_range = omega (arith, c.fields.invariant.in_range, shorter _ _ _ _ _ _ c.in_ok-name.ensures);
+}
+
+pub document_of-returns-in_err-closed : goal.document_of-returns-in_err-closed
+document_of-returns-in_err-closed t c =
+    let p = err_from_is_err_and c.from_residual-in_err-closed.result c.from_residual-in_err-closed.ensures.1 in
+    let done = is_done _ _ _ _ _ _ _ (none_left _ (sym c.is_empty.ensures ∙ c.fields-test.false)) c.fields.invariant.read in
+    rw (p.1, p.2, ← done) (c.in_err-closed.ensures c.fields.document)
+
+pub document_of-returns : goal.document_of-returns
+document_of-returns t c =
+    let done = is_done _ _ _ _ _ _ _ (none_left _ (sym c.is_empty.ensures ∙ c.fields-test.false)) c.fields.invariant.read in
+    sym done ∙ c.in_ok-closed.ensures c.fields.document
+
+-- ---- the loop over an array's elements
+
+pub list_of-returns-then-levels-eq0 : goal.list_of-returns-then-levels-eq0
+list_of-returns-then-levels-eq0 t c = too_deep _ _ _ _ _ (omega arith)
+
+pub list_of-elements-init : goal.list_of-elements-init
+list_of-elements-init t c = record {
+  read = rw c.new-values.ensures.items (starts c.args.levels true c.args.at c.args.elements.now c.args.last (omega arith));
+  in_range = c.requires;
+}
+
+pub list_of-returns-in_err-value : goal.list_of-returns-in_err-value
+list_of-returns-in_err-value t c =
+    let p = err_from_is_err_and c.from_residual.result c.from_residual.ensures.1 in
+    let failed = rw c.deref.ensures.value at c.in_err-value.ensures in
+    rw (p.1, p.2) (ends _ _ _ _ _ _ _ _ (some_left _ (sym c.is_empty.ensures ∙ c.elements-test.true)) failed c.elements.invariant.read)
+
+pub list_of-overflow_sub-at : goal.list_of-overflow_sub-at
+list_of-overflow_sub-at t c = omega (arith, shorter _ _ _ _ _ _ c.in_ok-value.ensures)
+
+pub list_of-elements-smaller : goal.list_of-elements-smaller
+list_of-elements-smaller t c = shorter _ _ _ _ _ _ c.in_ok-value.ensures
+
+pub list_of-elements-preserved : goal.list_of-elements-preserved
+list_of-elements-preserved t c = record {
+  read = let made = rw c.deref.ensures.value at c.in_ok-value.ensures in rw (c.in_ok-push.ensures.items, numbered_push c.elements.values.items c.in_ok-value.value) (goes_on _ _ _ _ _ _ _ _ made c.elements.invariant.read);
+  in_range = omega (arith, c.elements.invariant.in_range, shorter _ _ _ _ _ _ c.in_ok-value.ensures);
+}
+
+pub list_of-returns-in_err-closed : goal.list_of-returns-in_err-closed
+list_of-returns-in_err-closed t c =
+    let p = err_from_is_err_and c.from_residual-in_err-closed.result c.from_residual-in_err-closed.ensures.1 in
+    let done = is_done _ _ _ _ _ _ _ (none_left _ (sym c.is_empty.ensures ∙ c.elements-test.false)) c.elements.invariant.read in
+    rw (p.1, p.2, ← done) (c.in_err-closed.ensures (numbered 0 (map tree c.elements.values.items)))
+
+pub list_of-returns : goal.list_of-returns
+list_of-returns t c =
+    let done = is_done _ _ _ _ _ _ _ (none_left _ (sym c.is_empty.ensures ∙ c.elements-test.false)) c.elements.invariant.read in
+    rw c.of.ensures (sym done ∙ c.in_ok-closed.ensures (numbered 0 (map tree c.elements.values.items)))

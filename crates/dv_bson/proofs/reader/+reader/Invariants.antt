@@ -1,0 +1,40 @@
+use Rattle.std.proofs.Common.{◌≡◌, ◌*◌, ◌+◌, ◌-◌, ◌^◌, ◌<◌, true, false, length, map}
+use Rattle.dv_bson.specs.View.{tree}
+use Rattle.dv_bson.specs.Reading.{fields_at, body_at}
+use Rattle.dv_bson.specs.Parts.{numbered}
+use Rattle.dv_bson.proofs.reader.+reader.Given as goal
+
+-- A document's or an array's elements are read with a level less, by way of an element and its value.
+abbrev pub decreases-document_of : goal.decreases-document_of
+decreases-document_of l = 3 * l.levels
+
+abbrev pub decreases-list_of : goal.decreases-list_of
+decreases-list_of l = 3 * l.levels
+
+abbrev pub decreases-value_of : goal.decreases-value_of
+decreases-value_of l = 3 * l.levels + 1
+
+abbrev pub decreases-field_of : goal.decreases-field_of
+decreases-field_of l = 3 * l.levels + 2
+
+abbrev pub decreases-element_of : goal.decreases-element_of
+decreases-element_of l = 3 * l.levels + 2
+
+-- What is still to be read, behind what was read, gives what the whole gives.
+abbrev pub invariant-document_of-fields : goal.invariant-document_of-fields
+invariant-document_of-fields l = record {
+  read : fields_at (body_at (l.levels - 1)) (length l.rest) false l.at l.document l.rest l.last ≡ body_at l.levels false l.fn.at l.elements l.last;
+  in_range : l.at + length l.rest < 2 ^ 64;
+}
+
+abbrev pub decreases-document_of-fields : goal.decreases-document_of-fields
+decreases-document_of-fields l = length l.rest
+
+abbrev pub invariant-list_of-elements : goal.invariant-list_of-elements
+invariant-list_of-elements l = record {
+  read : fields_at (body_at (l.levels - 1)) (length l.rest) true l.at (numbered 0 (map tree l.values.items)) l.rest l.last ≡ body_at l.levels true l.fn.at l.elements l.last;
+  in_range : l.at + length l.rest < 2 ^ 64;
+}
+
+abbrev pub decreases-list_of-elements : goal.decreases-list_of-elements
+decreases-list_of-elements l = length l.rest

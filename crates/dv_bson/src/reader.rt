@@ -1,0 +1,217 @@
+//! Documents from bytes.
+
+ghost use Rattle.std.specs.Prelude.{◌≡◌, ℕ, ◌+◌, ◌^◌, ◌<◌, ◌≤◌, ◌++◌, ◌⊎◌, true, false, List as Entries, take, length, map, decimal, IfOk, IfErr, MatchResult};
+ghost use Rattle.dv_bson.specs.Tree.{Field};
+ghost use Rattle.dv_bson.specs.View.{tree};
+ghost use Rattle.dv_bson.specs.Spelling.{Spells, Fits};
+ghost use Rattle.dv_bson.specs.Reading.{Gives, value_at, closed_by, body_at, document_at, first_fault};
+ghost use Rattle.dv_bson.specs.Parts.{field_at, numbered};
+
+use crate::fault::{BsonFault, ReadError};
+use crate::kind::Kind;
+use crate::reading::{
+    MIN_DOCUMENT_LEN, behind_index, boolean_of, count_of, field_name_of, frame_of, framed,
+    front_kind_of, int32_of, int64_of, kind_of, text_of,
+};
+use crate::value::{Document, List, Value};
+use std::alloc::Global;
+
+/// The largest length of a document that is read.
+const MAX_DOCUMENT_LEN: usize = 16_777_216;
+
+/// How many documents and arrays may stand in one another, the outermost among them.
+const MAX_LEVELS: u32 = 100;
+
+/// A value of this type, which stands at `at` in the outermost document, with so many levels left inside
+/// it, and the bytes behind it.
+#[cycle(reader)]
+#[tactic(auto, unfolding(crate::specs::Reading::value_at))]
+fn value_of(
+    alloc: Global,
+    levels: u32,
+    kind: Kind,
+    at: usize,
+    bytes: &[u8],
+) -> Result<(Value, &[u8]), ReadError>
+    requires { at + length bytes.now < 2 ^ 64 }
+    ensures { Gives (λ x. (tree x.0, x.1.now)) result (value_at (body_at levels) kind at bytes.now) }
+{
+    match kind {
+        Kind::Text => {
+            let (text, rest) = text_of(alloc, bytes)?;
+            Ok((Value::Text(text), rest))
+        }
+        Kind::Doc => {
+            let frame = frame_of(bytes)?;
+            let document = document_of(alloc, levels, at + 4, frame.elements, frame.last)?;
+            Ok((Value::Doc(document), frame.rest))
+        }
+        Kind::Array => {
+            let frame = frame_of(bytes)?;
+            let list = list_of(alloc, levels, at + 4, frame.elements, frame.last)?;
+            Ok((Value::Array(list), frame.rest))
+        }
+        Kind::Bool => boolean_of(bytes),
+        Kind::Int32 => int32_of(bytes),
+        Kind::Int64 => int64_of(bytes),
+    }
+}
+
+/// The name and the value of the field at the front, behind those of `before`, and the bytes behind it.
+#[cycle(reader)]
+#[tactic(auto, unfolding(crate::specs::Parts::field_at))]
+fn field_of<'a>(
+    alloc: Global,
+    levels: u32,
+    at: usize,
+    before: &Document,
+    bytes: &'a [u8],
+) -> Result<(&'a str, Value, &'a [u8]), ReadError>
+    requires { at + length bytes.now < 2 ^ 64 }
+    ensures { Gives (λ x. ((x.0.now, tree x.1), x.2.now)) result (field_at (body_at levels) false at before.now bytes.now) }
+{
+    let (kind, behind) = front_kind_of(bytes, at)?;
+    let (name, rest) = field_name_of(before, behind)?;
+    let (value, after) = value_of(alloc, levels, kind, at + (bytes.len() - rest.len()), rest)?;
+    Ok((name, value, after))
+}
+
+/// The element at the front of an array's rest, behind those of `before`, and the bytes behind it.
+#[cycle(reader)]
+#[tactic(auto, unfolding(crate::specs::Parts::field_at))]
+fn element_of<'a>(
+    alloc: Global,
+    levels: u32,
+    at: usize,
+    before: &[Value],
+    bytes: &'a [u8],
+) -> Result<(Value, &'a [u8]), ReadError>
+    requires { at + length bytes.now < 2 ^ 64 }
+    ensures { Gives (λ x. ((decimal (length before.now), tree x.0), x.1.now)) result (field_at (body_at levels) true at (numbered 0 (map tree before.now)) bytes.now) }
+{
+    let (kind, behind) = front_kind_of(bytes, at)?;
+    let rest = behind_index(before, behind)?;
+    value_of(alloc, levels, kind, at + (bytes.len() - rest.len()), rest)
+}
+
+/// Whether a document is closed where its elements end: by a zero as its last byte. Another last byte is
+/// looked at as the type byte of an element that lacks its name.
+fn closed(last: u8, at: usize) -> Result<(), ReadError>
+    ensures { (seen : Entries Field) → Gives (λ _. seen) result (closed_by last at seen) }
+{
+    if last == 0 {
+        return Ok(());
+    }
+    kind_of(last, at)?;
+    Err(ReadError::Fault(BsonFault::BadLength))
+}
+
+/// The document whose elements these are, the first of them at `at` in the outermost document, with so many
+/// levels left, itself among them.
+#[cycle(reader)]
+fn document_of(
+    alloc: Global,
+    levels: u32,
+    mut at: usize,
+    elements: &[u8],
+    last: u8,
+) -> Result<Document, ReadError>
+    requires { at + length elements.now < 2 ^ 64 }
+    ensures { Gives (λ document. document) result (body_at levels false at elements.now last) }
+{
+    if levels == 0 {
+        return Err(ReadError::Fault(BsonFault::TooDeep));
+    }
+    let mut document = Document::new(alloc);
+    let mut rest = elements;
+    'fields: while !rest.is_empty() {
+        let (name, value, after) = field_of(alloc, levels - 1, at, &document, rest)?;
+        document.add(name, value)?;
+        at += rest.len() - after.len();
+        rest = after;
+    }
+    closed(last, at)?;
+    Ok(document)
+}
+
+/// The array whose elements these are, the first of them at `at` in the outermost document, with so many
+/// levels left, itself among them.
+#[cycle(reader)]
+fn list_of(
+    alloc: Global,
+    levels: u32,
+    mut at: usize,
+    elements: &[u8],
+    last: u8,
+) -> Result<List, ReadError>
+    requires { at + length elements.now < 2 ^ 64 }
+    ensures { Gives (λ list. numbered 0 list) result (body_at levels true at elements.now last) }
+{
+    if levels == 0 {
+        return Err(ReadError::Fault(BsonFault::TooDeep));
+    }
+    let mut values = Vec::new(alloc);
+    let mut rest = elements;
+    'elements: while !rest.is_empty() {
+        let (value, after) = element_of(alloc, levels - 1, at, &values, rest)?;
+        values.push(value)?;
+        at += rest.len() - after.len();
+        rest = after;
+    }
+    closed(last, at)?;
+    Ok(List::of(values))
+}
+
+/// The document at the front, and its length.
+#[tactic(auto, unfolding(crate::specs::Reading::document_at))]
+fn outermost_of(alloc: Global, bytes: &[u8]) -> Result<(Document, usize), ReadError>
+    ensures { Gives (λ x. (x.0, x.1)) result (document_at bytes.now) }
+{
+    let Some((len, _)) = count_of(bytes) else {
+        return Err(ReadError::Fault(BsonFault::Truncated));
+    };
+    if len < MIN_DOCUMENT_LEN {
+        return Err(ReadError::Fault(BsonFault::BadLength));
+    }
+    if len > MAX_DOCUMENT_LEN {
+        return Err(ReadError::Fault(BsonFault::TooLarge));
+    }
+    if bytes.len() < len {
+        return Err(ReadError::Fault(BsonFault::Truncated));
+    }
+    let frame = framed(len, bytes);
+    let document = document_of(alloc, MAX_LEVELS, 4, frame.elements, frame.last)?;
+    Ok((document, len))
+}
+
+/// Reads the document that the bytes begin with, in the spelling of BSON 1.1 ("Specification Version 1.1",
+/// bsonspec.org), and answers it with its length in bytes. What follows is unread.
+///
+/// A document of at most 16,777,216 bytes and 100 levels is read, a document or an array being one level more
+/// than what it holds. What is read holds the standard's types string, document, array, boolean, int32 and
+/// int64; names are distinct, and texts and names are UTF-8. Else the first fault from the left is returned:
+///
+/// - `Truncated`: there are fewer than four bytes, or fewer than the document's length says;
+/// - `TooLarge`: the document's length is over 16,777,216;
+/// - `TooDeep`: a document or an array is at level 101;
+/// - `BadLength`: a length or a count is too small or leads out of the document around it, a name or a value
+///   doesn't end in its document, or a closing zero is missing or out of place;
+/// - `RefusedType`: a type byte is of another type, with its place in `bytes`;
+/// - `BadUtf8`, `BadBool`: a name or a text isn't UTF-8, a boolean is neither 0 nor 1;
+/// - `RepeatedName`, `BadArrayName`: an earlier field of the document has the name, an element of an array isn't
+///   named by its index;
+/// - `NoMemory`: memory is wanting, at any time.
+pub fn read_document(alloc: Global, bytes: &[u8]) -> Result<(Document, usize), BsonFault>
+    // What is read is spelled so, and fits.
+    ensures found { IfOk result (λ read. (read.1 ≤ length bytes.now) × Spells read.0 (take read.1 bytes.now) × Fits read.0) }
+    // What is spelled at the front and fits is read, unless memory is wanting.
+    ensures only { (d : Entries Field) (spelled rest : Entries ℕ) → Spells d spelled → Fits d → bytes.now ≡ spelled ++ rest
+        → MatchResult result (λ read. (read.0 ≡ d) × (read.1 ≡ length spelled)) (λ e. e ≡ BsonFault.NoMemory) }
+    // Which fault it is.
+    ensures refused { IfErr result (λ e. (e ≡ BsonFault.NoMemory) ⊎ (first_fault bytes.now ≡ Some e)) }
+{
+    Ok(outermost_of(alloc, bytes)?)
+}
+
+#[cfg(test)]
+mod tests;

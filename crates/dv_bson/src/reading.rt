@@ -1,0 +1,209 @@
+//! What stands at the front of bytes: a count, a type, a name, a text, a number, or the frame of a document.
+
+ghost use Rattle.std.specs.Prelude.{◌≡◌, ◌≤◌, ◌==◌, true, false, length, drop, map, decimal, position, MatchResult, IfSome};
+ghost use Rattle.std.specs.Option.{option_map};
+ghost use Rattle.std.specs.Int.{w32, w64};
+ghost use Rattle.std.specs.Str.{is_utf8};
+ghost use Rattle.dv_bson.specs.Tree.{int32, int64};
+ghost use Rattle.dv_bson.specs.View.{tree};
+ghost use Rattle.dv_bson.specs.Reading.{Gives, count_at, kind_at, cut_at_zero, name_at, text_at, frame_of, frame_at, boolean_at};
+ghost use Rattle.dv_bson.specs.Parts.{signed_at, front_kind_at, any_name_at, numbered};
+
+use crate::fault::{BsonFault, ReadError};
+use crate::kind::Kind;
+use crate::text::Str;
+use crate::value::{Document, Value};
+use itoa::Buffer;
+use std::alloc::Global;
+
+/// The smallest length of a document: its length and the closing zero.
+pub(crate) const MIN_DOCUMENT_LEN: usize = 5;
+
+/// A document inside other bytes, as its length frames it.
+#[derive(Clone, Copy)]
+pub(crate) struct Frame<'a> {
+    /// The bytes of its elements.
+    pub(crate) elements: &'a [u8],
+    /// Its last byte.
+    pub(crate) last: u8,
+    /// The bytes behind it.
+    pub(crate) rest: &'a [u8],
+}
+
+/// The count that a little-endian int32 gives, and the bytes behind it; nothing where fewer than four bytes
+/// are left. A negative count is given as 0, since either is too small wherever a count stands.
+#[tactic(auto, unfolding(crate::specs::Reading::count_at))]
+pub(crate) fn count_of(bytes: &[u8]) -> Option<(usize, &[u8])>
+    ensures count { option_map (λ x. x.0) result ≡ count_at bytes.now }
+    ensures rest { IfSome result (λ x. x.1.now ≡ drop 4 bytes.now) }
+{
+    let (front, rest) = bytes.split_first_chunk::<4>()?;
+    let count = u32::from_le_bytes(*front);
+    if count < 0x8000_0000 {
+        Some((count as usize, rest))
+    } else {
+        Some((0, rest))
+    }
+}
+
+/// The type that a type byte stands for, which stands at `at` in the outermost document.
+#[tactic(auto, unfolding(crate::specs::Reading::kind_at))]
+pub(crate) fn kind_of(byte: u8, at: usize) -> Result<Kind, ReadError>
+    ensures { Gives (λ kind. kind) result (kind_at byte at) }
+{
+    if byte == 0 {
+        return Err(ReadError::Fault(BsonFault::BadLength));
+    }
+    match Kind::of_byte(byte) {
+        Some(kind) => Ok(kind),
+        None => Err(ReadError::Fault(BsonFault::RefusedType { byte, at })),
+    }
+}
+
+/// The type of the element at the front, which stands at `at` in the outermost document, and the bytes
+/// behind its type byte.
+#[tactic(auto, unfolding(crate::specs::Parts::front_kind_at))]
+pub(crate) fn front_kind_of(bytes: &[u8], at: usize) -> Result<(Kind, &[u8]), ReadError>
+    ensures { Gives (λ x. (x.0, x.1.now)) result (front_kind_at at bytes.now) }
+{
+    let Some((byte, rest)) = bytes.split_first() else {
+        return Err(ReadError::Fault(BsonFault::BadLength));
+    };
+    Ok((kind_of(*byte, at)?, rest))
+}
+
+/// The bytes as a text; refused with `BadUtf8`.
+fn utf8_of(bytes: &[u8]) -> Result<&str, ReadError>
+    ensures { MatchResult result (λ text. (text.now ≡ bytes.now) × (is_utf8 bytes.now ≡ true)) (λ e. (e ≡ ReadError.Fault BsonFault.BadUtf8) × (is_utf8 bytes.now ≡ false)) }
+{
+    match str::from_utf8(bytes) {
+        Ok(text) => Ok(text),
+        Err(_) => Err(ReadError::Fault(BsonFault::BadUtf8)),
+    }
+}
+
+/// The place of the first zero.
+fn first_zero_in(bytes: &[u8]) -> Option<usize>
+    ensures { result ≡ position (λ byte. byte == 0) bytes.now }
+{
+    bytes.iter().position(|byte| *byte == 0)
+}
+
+/// The bytes before the first zero, and those behind it.
+fn cut_of(bytes: &[u8]) -> Option<(&[u8], &[u8])>
+    ensures { option_map (λ cut. (cut.0.now, cut.1.now)) result ≡ cut_at_zero bytes.now }
+{
+    let end = first_zero_in(bytes)?;
+    Some((&bytes[..end], &bytes[end + 1..]))
+}
+
+/// A name, and the bytes behind its closing zero.
+#[tactic(auto, unfolding(crate::specs::Parts::any_name_at))]
+fn name_of(bytes: &[u8]) -> Result<(&str, &[u8]), ReadError>
+    ensures { Gives (λ x. (x.0.now, x.1.now)) result (any_name_at bytes.now) }
+{
+    let Some((name, rest)) = cut_of(bytes) else {
+        return Err(ReadError::Fault(BsonFault::BadLength));
+    };
+    Ok((utf8_of(name)?, rest))
+}
+
+/// The name of a field that stands behind those of `before`, and the bytes behind its closing zero.
+#[tactic(auto, using(crate::proofs::Fronts::no_name))]
+pub(crate) fn field_name_of<'a>(
+    before: &Document,
+    bytes: &'a [u8],
+) -> Result<(&'a str, &'a [u8]), ReadError>
+    ensures { Gives (λ x. (x.0.now, x.1.now)) result (name_at false before.now bytes.now) }
+{
+    let (name, rest) = name_of(bytes)?;
+    if before.get(name).is_some() {
+        return Err(ReadError::Fault(BsonFault::RepeatedName));
+    }
+    Ok((name, rest))
+}
+
+/// The bytes behind the name of an array's element, which has to be its index as a decimal number.
+#[tactic(auto, using(crate::proofs::Fronts::no_name))]
+pub(crate) fn behind_index<'a>(before: &[Value], bytes: &'a [u8]) -> Result<&'a [u8], ReadError>
+    ensures { Gives (λ rest. (decimal (length before.now), rest.now)) result (name_at true (numbered 0 (map tree before.now)) bytes.now) }
+{
+    let (name, rest) = name_of(bytes)?;
+    if name == Buffer::new().format(before.len()) {
+        Ok(rest)
+    } else {
+        Err(ReadError::Fault(BsonFault::BadArrayName))
+    }
+}
+
+/// A text, and the bytes behind it: a count of its bytes and the closing zero, the bytes, the zero.
+#[tactic(auto, unfolding(crate::specs::Reading::text_at))]
+pub(crate) fn text_of(alloc: Global, bytes: &[u8]) -> Result<(Str, &[u8]), ReadError>
+    ensures { Gives (λ x. (x.0, x.1.now)) result (text_at bytes.now) }
+{
+    let Some((count, counted)) = count_of(bytes) else {
+        return Err(ReadError::Fault(BsonFault::BadLength));
+    };
+    if count < 1 || counted.len() < count || counted[count - 1] != 0 {
+        return Err(ReadError::Fault(BsonFault::BadLength));
+    }
+    let text = utf8_of(&counted[..count - 1])?;
+    Ok((Str::of(String::from_str(alloc, text)?), &counted[count..]))
+}
+
+/// The document of `len` bytes at the front.
+pub(crate) fn framed(len: usize, bytes: &[u8]) -> Frame<'_>
+    requires least { MIN_DOCUMENT_LEN ≤ len }
+    requires most { len ≤ length bytes.now }
+    ensures { record { elements = result.elements.now; last = result.last; rest = result.rest.now } ≡ frame_of len bytes.now }
+{
+    let (document, rest) = bytes.split_at(len);
+    Frame {
+        elements: &document[4..len - 1],
+        last: document[len - 1],
+        rest,
+    }
+}
+
+/// The document at the front, as its length frames it.
+#[tactic(auto, unfolding(crate::specs::Reading::frame_at))]
+pub(crate) fn frame_of(bytes: &[u8]) -> Result<Frame<'_>, ReadError>
+    ensures { Gives (λ frame. record { elements = frame.elements.now; last = frame.last; rest = frame.rest.now }) result (frame_at bytes.now) }
+{
+    match count_of(bytes) {
+        Some((len, _)) if MIN_DOCUMENT_LEN <= len && len <= bytes.len() => Ok(framed(len, bytes)),
+        _ => Err(ReadError::Fault(BsonFault::BadLength)),
+    }
+}
+
+/// A boolean, and the bytes behind it.
+pub(crate) fn boolean_of(bytes: &[u8]) -> Result<(Value, &[u8]), ReadError>
+    ensures { Gives (λ x. (tree x.0, x.1.now)) result (boolean_at bytes.now) }
+{
+    match bytes {
+        [0, rest @ ..] => Ok((Value::Bool(false), rest)),
+        [1, rest @ ..] => Ok((Value::Bool(true), rest)),
+        [_, ..] => Err(ReadError::Fault(BsonFault::BadBool)),
+        [] => Err(ReadError::Fault(BsonFault::BadLength)),
+    }
+}
+
+/// A little-endian int32, and the bytes behind it.
+pub(crate) fn int32_of(bytes: &[u8]) -> Result<(Value, &[u8]), ReadError>
+    ensures { Gives (λ x. (tree x.0, x.1.now)) result (signed_at w32 int32 bytes.now) }
+{
+    let Some((front, rest)) = bytes.split_first_chunk::<4>() else {
+        return Err(ReadError::Fault(BsonFault::BadLength));
+    };
+    Ok((Value::Int32(i32::from_le_bytes(*front)), rest))
+}
+
+/// A little-endian int64, and the bytes behind it.
+pub(crate) fn int64_of(bytes: &[u8]) -> Result<(Value, &[u8]), ReadError>
+    ensures { Gives (λ x. (tree x.0, x.1.now)) result (signed_at w64 int64 bytes.now) }
+{
+    let Some((front, rest)) = bytes.split_first_chunk::<8>() else {
+        return Err(ReadError::Fault(BsonFault::BadLength));
+    };
+    Ok((Value::Int64(i64::from_le_bytes(*front)), rest))
+}
