@@ -12,3 +12,7 @@ pub mod Fronts
 pub mod Shorter
 pub mod Elements
 pub mod Loop
+pub mod Items
+pub mod Payloads
+pub mod Rest
+pub mod Written

@@ -8,3 +8,4 @@ pub mod Spelling
 pub mod Reading
 pub mod Fault
 pub mod Parts
+pub mod Weight

@@ -5,17 +5,21 @@ mod bytes;
 mod fault;
 mod kind;
 pub mod laws;
+mod limits;
 mod name_index;
 mod reader;
 mod reading;
 mod text;
 mod value;
+mod writer;
 
 pub use bytes::Bytes;
 pub use fault::BsonFault;
+pub use limits::{fits, size};
 pub use reader::read_document;
 pub use text::Str;
 pub use value::{Document, List, Value};
+pub use writer::write_document;
 
 /// Want of memory, where nothing else can be refused.
 pub type NoMemory = std::alloc::AllocError;

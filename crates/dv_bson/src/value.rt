@@ -5,10 +5,12 @@ ghost use Rattle.std.specs.Option.{option_map};
 ghost use Rattle.dv_bson.specs.Names.{AreNamed, place_under, value_under, has_name, has_zero};
 ghost use Rattle.dv_bson.specs.Places.{IsIndexOf};
 ghost use Rattle.dv_bson.specs.Tree.{Tree};
+ghost use Rattle.dv_bson.specs.Spelling.{kind_of};
 ghost use Rattle.dv_bson.specs.View.{tree, field_of};
 
 use crate::NoMemory;
 use crate::fault::BsonFault;
+use crate::kind::Kind;
 use crate::name_index::NameIndex;
 use crate::text::Str;
 use std::alloc::Global;
@@ -112,6 +114,20 @@ impl Model for List {
 }
 
 impl Value {
+    /// The type of the value.
+    pub(crate) fn kind(&self) -> Kind
+        ensures { result ≡ kind_of (tree self.now) }
+    {
+        match self {
+            Value::Int32(_) => Kind::Int32,
+            Value::Int64(_) => Kind::Int64,
+            Value::Text(_) => Kind::Text,
+            Value::Doc(_) => Kind::Doc,
+            Value::Array(_) => Kind::Array,
+            Value::Bool(_) => Kind::Bool,
+        }
+    }
+
     /// A copy of its own. Fails where memory is wanting.
     #[cycle(value)]
     pub fn try_clone(&self) -> Result<Self, NoMemory>

@@ -1,0 +1,54 @@
+-- The bytes of each kind of value, and how many there are.
+use Rattle.std.proofs.Common.{◌≡◌, ℕ, ℤ, ◌+◌, Bool, List, [], ◌∷◌, length, length-append, refl, ap, ◌∙◌, arith}
+use Rattle.std.specs.Prelude.{FitsSigned}
+use Rattle.std.specs.Int.{w32, w64, to_le_bytes, cast_unsigned, cast_signed, from_bool}
+use Rattle.std.proofs.lemmas.Int.{to_z-of_z}
+use Rattle.dv_bson.specs.declared.kind.Kind.{Kind}
+use Rattle.dv_bson.specs.Tree.{int32, int64, string, document, array, boolean, Fields, Elements}
+use Rattle.dv_bson.specs.Spelling.{framed, counted, element_spelling, payload, fields_spelling, elements_spelling}
+
+-- a signed number's bytes, as code reads them through its bits
+pub payload-int32 : (n : ℤ) (bytes : List ℕ) → FitsSigned w32 n → bytes ≡ to_le_bytes w32 (cast_unsigned w32 (cast_signed w32 (cast_unsigned w32 n))) → bytes ≡ payload (int32 n)
+unfolding payload
+payload-int32 n bytes fits e = e ∙ ap (λ (m : ℤ). to_le_bytes w32 (cast_unsigned w32 m)) (to_z-of_z w32 n fits)
+
+pub payload-int64 : (n : ℤ) (bytes : List ℕ) → FitsSigned w64 n → bytes ≡ to_le_bytes w64 (cast_unsigned w64 (cast_signed w64 (cast_unsigned w64 n))) → bytes ≡ payload (int64 n)
+unfolding payload
+payload-int64 n bytes fits e = e ∙ ap (λ (m : ℤ). to_le_bytes w64 (cast_unsigned w64 m)) (to_z-of_z w64 n fits)
+
+pub payload-boolean : (b : Bool) → payload (boolean b) ≡ from_bool b ∷ []
+unfolding payload
+payload-boolean b = refl
+
+pub payload-string : (s : List ℕ) → payload (string s) ≡ counted s
+unfolding payload
+payload-string s = refl
+
+pub payload-document : (fs : Fields) → payload (document fs) ≡ framed (fields_spelling fs)
+unfolding payload
+payload-document fs = refl
+
+pub payload-array : (vs : Elements) → payload (array vs) ≡ framed (elements_spelling 0 vs)
+unfolding payload
+payload-array vs = refl
+
+pub length-counted : (text : List ℕ) → length (counted text) ≡ length text + 5
+unfolding counted
+length-counted text = omega (arith, length-append text (0 ∷ []))
+
+pub length-framed : (elements : List ℕ) → length (framed elements) ≡ length elements + 5
+unfolding framed
+length-framed elements = omega (arith, length-append elements (0 ∷ []))
+
+pub length-element_spelling : (kind : Kind) (name value : List ℕ) → length (element_spelling kind name value) ≡ length value + length name + 2
+unfolding element_spelling
+length-element_spelling kind name value = omega (arith, length-append name (0 ∷ value))
+
+pub length-document : (fs : Fields) → length (payload (document fs)) ≡ length (fields_spelling fs) + 5
+length-document fs = rw payload-document (length-framed (fields_spelling fs))
+
+pub length-array : (vs : Elements) → length (payload (array vs)) ≡ length (elements_spelling 0 vs) + 5
+length-array vs = rw payload-array (length-framed (elements_spelling 0 vs))
+
+pub length-string : (s : List ℕ) → length (payload (string s)) ≡ length s + 5
+length-string s = rw payload-string (length-counted s)

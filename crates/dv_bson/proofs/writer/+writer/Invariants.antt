@@ -1,0 +1,29 @@
+use Rattle.std.proofs.Common.{◌≡◌, ◌+◌, ◌*◌, ◌++◌, length, take, drop}
+use Rattle.dv_bson.specs.Tree.{weight, fields_of, fields_weight, elements_of, elements_weight}
+use Rattle.dv_bson.specs.Spelling.{fields_spelling, elements_spelling}
+use Rattle.dv_bson.specs.View.{tree}
+use Rattle.dv_bson.proofs.writer.+writer.Given as goal
+
+abbrev pub decreases-put_value : goal.decreases-put_value
+decreases-put_value l = 3 * weight (tree l.value.now)
+
+abbrev pub decreases-put_element : goal.decreases-put_element
+decreases-put_element l = 3 * weight (tree l.value.now) + 1
+
+abbrev pub decreases-put_document : goal.decreases-put_document
+decreases-put_document l = 3 * fields_weight (fields_of l.document.now) + 2
+
+abbrev pub decreases-put_list : goal.decreases-put_list
+decreases-put_list l = 3 * elements_weight (elements_of l.list.now) + 2
+
+abbrev pub invariant-put_document-loop-entry : goal.invariant-put_document-loop-entry
+invariant-put_document-loop-entry l = record {
+  front : take (length l.fn.out.items) l.out.items ≡ l.fn.out.items;
+  left : l.out.items ++ fields_spelling (fields_of (drop l.entry-index l.document)) ≡ l.initial.out.items ++ fields_spelling (fields_of l.document);
+}
+
+abbrev pub invariant-put_list-loop-place : goal.invariant-put_list-loop-place
+invariant-put_list-loop-place l = record {
+  front : take (length l.fn.out.items) l.out.items ≡ l.fn.out.items;
+  left : l.out.items ++ elements_spelling l.place (elements_of (drop l.place l.list)) ≡ l.initial.out.items ++ elements_spelling 0 (elements_of l.list);
+}

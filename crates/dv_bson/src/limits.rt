@@ -1,0 +1,156 @@
+//! How long documents are, and whether they are within the limits.
+
+ghost use Rattle.std.specs.Prelude.{◌≡◌, ◌+◌, ◌≤◌, ◌↔◌, IsTrue, IfSome, length, decimal};
+ghost use Rattle.std.specs.Option.{SomeIff};
+ghost use Rattle.dv_bson.specs.Tree.{fields_of, elements_of};
+ghost use Rattle.dv_bson.specs.Tree as trees;
+ghost use Rattle.dv_bson.specs.Spelling.{payload, spelling, levels, IsValue, Fits};
+ghost use Rattle.dv_bson.specs.View.{tree};
+
+use crate::value::{Document, List, Value};
+use itoa::Buffer;
+
+/// The length of the longest document that can be written: a length is an int32.
+const LONGEST: usize = 2_147_483_647;
+
+/// What stands around the elements of a document or an array, or around a text: the four bytes of a
+/// length, and the closing zero.
+const FRAME: usize = 5;
+
+/// The length of the longest document that is read and stored.
+const LARGEST_READ: u32 = 16_777_216;
+
+/// How many documents and arrays stand in one another at most in what is read and stored.
+const DEEPEST_READ: u32 = 100;
+
+/// The length of the document's spelling in bytes; `None` above 2,147,483,647. Takes no memory.
+pub fn size(document: &Document) -> Option<u32>
+    ensures { SomeIff result (length (spelling document.now) ≤ 2147483647) (length (spelling document.now)) }
+{
+    let size = document_size(document)?;
+    Some(size as u32)
+}
+
+/// Whether the document is within the limits for what is read and stored: 16,777,216 bytes and 100
+/// levels. Takes no memory.
+pub fn fits(document: &Document) -> bool
+    ensures { IsTrue result ↔ Fits document.now }
+{
+    if !document_within(document, DEEPEST_READ) {
+        return false;
+    }
+    match size(document) {
+        Some(size) => size <= LARGEST_READ,
+        None => false,
+    }
+}
+
+/// The sum of two lengths, where a document can be so long.
+fn sum(length: usize, more: usize) -> Option<usize>
+    ensures { SomeIff result (length + more ≤ 2147483647) (length + more) }
+{
+    let sum = length.checked_add(more)?;
+    if sum <= LONGEST { Some(sum) } else { None }
+}
+
+/// How many digits a number has.
+fn digits(number: usize) -> usize
+    ensures { result ≡ length (decimal number) }
+{
+    let mut buffer = Buffer::new();
+    buffer.format(number).len()
+}
+
+/// The length of a value's spelling behind its name. A value that has one is valid at each of its levels,
+/// as the writer needs to know.
+#[cycle(size)]
+fn value_size(value: &Value) -> Option<usize>
+    ensures size { SomeIff result (length (payload (tree value.now)) ≤ 2147483647) (length (payload (tree value.now))) }
+    ensures valid { IfSome result (λ _. IsValue (tree value.now)) }
+{
+    match value {
+        Value::Int32(number) => Some(number.to_le_bytes().len()),
+        Value::Int64(number) => Some(number.to_le_bytes().len()),
+        Value::Text(text) => sum(text.as_str().len(), FRAME),
+        Value::Doc(document) => document_size(document),
+        Value::Array(list) => list_size(list),
+        Value::Bool(_) => Some(1),
+    }
+}
+
+/// The length with an element added: a type byte, a name of so many bytes, a zero byte, and the value.
+#[cycle(size)]
+fn with_element(total: usize, name: usize, value: &Value) -> Option<usize>
+    ensures size { SomeIff result (total + (length (payload (tree value.now)) + name + 2) ≤ 2147483647) (total + (length (payload (tree value.now)) + name + 2)) }
+    ensures valid { IfSome result (λ _. IsValue (tree value.now)) }
+{
+    let size = value_size(value)?;
+    sum(total, sum(sum(size, name)?, 2)?)
+}
+
+/// As `size`, and that the document is valid at each of its levels.
+#[cycle(size)]
+pub(crate) fn document_size(document: &Document) -> Option<usize>
+    ensures size { SomeIff result (length (spelling document.now) ≤ 2147483647) (length (spelling document.now)) }
+    ensures valid { IfSome result (λ _. IsValue (trees.document (fields_of document.now))) }
+{
+    let mut total = FRAME;
+    for entry in document.entries() {
+        total = with_element(total, entry.name.as_str().len(), &entry.value)?;
+    }
+    Some(total)
+}
+
+#[cycle(size)]
+fn list_size(list: &List) -> Option<usize>
+    ensures size { SomeIff result (length (payload (trees.array (elements_of list.now))) ≤ 2147483647) (length (payload (trees.array (elements_of list.now)))) }
+    ensures valid { IfSome result (λ _. IsValue (trees.array (elements_of list.now))) }
+{
+    let mut total = FRAME;
+    for (place, value) in list.as_slice().iter().enumerate() {
+        total = with_element(total, digits(place), value)?;
+    }
+    Some(total)
+}
+
+/// Whether a value has at most so many levels.
+#[cycle(within)]
+fn value_within(value: &Value, limit: u32) -> bool
+    ensures { IsTrue result ↔ (levels (tree value.now) ≤ limit) }
+{
+    match value {
+        Value::Doc(document) => document_within(document, limit),
+        Value::Array(list) => list_within(list, limit),
+        _ => true,
+    }
+}
+
+#[cycle(within)]
+fn document_within(document: &Document, limit: u32) -> bool
+    ensures { IsTrue result ↔ (levels (trees.document (fields_of document.now)) ≤ limit) }
+{
+    if limit == 0 {
+        return false;
+    }
+    for entry in document.entries() {
+        if !value_within(&entry.value, limit - 1) {
+            return false;
+        }
+    }
+    true
+}
+
+#[cycle(within)]
+fn list_within(list: &List, limit: u32) -> bool
+    ensures { IsTrue result ↔ (levels (trees.array (elements_of list.now)) ≤ limit) }
+{
+    if limit == 0 {
+        return false;
+    }
+    for value in list.as_slice() {
+        if !value_within(value, limit - 1) {
+            return false;
+        }
+    }
+    true
+}
