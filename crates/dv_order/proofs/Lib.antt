@@ -1,0 +1,2 @@
+pub mod SameOrder
+pub mod Steps

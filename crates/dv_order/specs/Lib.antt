@@ -1,0 +1,4 @@
+pub mod Order
+pub mod Key
+pub mod TotalOrder
+pub mod KeyLaws

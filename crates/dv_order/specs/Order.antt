@@ -1,0 +1,80 @@
+-- The order in which BSON values stand, as a database sorts them and keeps them under an index:
+-- first by the class of their type, and within a class by what they say.
+use Rattle.std.specs.Prelude.{◌≡◌, ℕ, ℤ, pos}
+use Rattle.std.specs.declared.cmp.Ordering.{Ordering}
+use Rattle.std.specs.declared.cmp.Ordering.TheVariants.{Less, Equal, Greater}
+use Rattle.std.specs.Ordering.{ordering_then, nat_cmp, int_cmp, bool_cmp}
+use Rattle.std.specs.Cmp.Lexicographic.{slice_cmp}
+use Rattle.dv_bson.specs.Tree.{Tree, int32, int64, string, document, array, boolean, Fields, no_fields, field, Elements, no_elements, element, Field}
+
+-- the value with the width of its integers forgotten, at every depth
+abbrev mutual
+  pub canon : Tree → Tree
+  canon (int32 n) = int64 n
+  canon (int64 n) = int64 n
+  canon (string s) = string s
+  canon (document fs) = document (fields_canon fs)
+  canon (array vs) = array (elements_canon vs)
+  canon (boolean b) = boolean b
+
+  pub fields_canon : Fields → Fields
+  fields_canon no_fields = no_fields
+  fields_canon (field name value fs) = field name (canon value) (fields_canon fs)
+
+  pub elements_canon : Elements → Elements
+  elements_canon no_elements = no_elements
+  elements_canon (element v vs) = element (canon v) (elements_canon vs)
+
+-- where the type of a value stands among: 0 MinKey, 1 no element, 2 null, 3 numbers, 4 strings, 5 documents, 6 arrays,
+-- 7 binary, 8 ObjectId, 9 booleans, 10 dates, 11 timestamps, 12 MaxKey
+abbrev pub class : Tree → ℕ
+class (int32 n) = 3
+class (int64 n) = 3
+class (string s) = 4
+class (document fs) = 5
+class (array vs) = 6
+class (boolean b) = 9
+
+-- the number that an integer of either width is, and 0 for what is no integer
+abbrev pub integer : Tree → ℤ
+integer (int32 n) = n
+integer (int64 n) = n
+integer v = pos 0
+
+-- the order of two values of one class; of documents, pair by pair as written, and of arrays, element by element
+abbrev mutual
+  -- strings by their bytes, false before true, integers by the number whatever their width
+  pub within : Tree → Tree → Ordering
+  within (string s) (string t) = slice_cmp nat_cmp s t
+  within (document fs) (document gs) = fields_order fs gs
+  within (array vs) (array ws) = elements_order vs ws
+  within (boolean a) (boolean b) = bool_cmp a b
+  within v w = int_cmp (integer v) (integer w)
+
+  -- the class of the value decides, then the bytes of the name, then the value, then the fields that follow
+  pub fields_order : Fields → Fields → Ordering
+  fields_order no_fields no_fields = Equal
+  fields_order no_fields gs = Less
+  fields_order fs no_fields = Greater
+  fields_order (field a v fs) (field b w gs) =
+      ordering_then (nat_cmp (class v) (class w)) (ordering_then (slice_cmp nat_cmp a b) (ordering_then (within v w) (fields_order fs gs)))
+
+  -- the class of the element decides, then the element, then the elements that follow
+  pub elements_order : Elements → Elements → Ordering
+  elements_order no_elements no_elements = Equal
+  elements_order no_elements ws = Less
+  elements_order vs no_elements = Greater
+  elements_order (element v vs) (element w ws) =
+      ordering_then (nat_cmp (class v) (class w)) (ordering_then (within v w) (elements_order vs ws))
+
+-- the order of two values: their classes decide, and else the values within their class
+abbrev pub order : Tree → Tree → Ordering
+order v w = ordering_then (nat_cmp (class v) (class w)) (within v w)
+
+-- the order of two fields alone: by the class of the value, then by the name, then by the value
+abbrev pub field_order : Field → Field → Ordering
+field_order f g = ordering_then (nat_cmp (class f.1) (class g.1)) (ordering_then (slice_cmp nat_cmp f.0 g.0) (within f.1 g.1))
+
+-- the first value stands before the second
+abbrev pub below : Tree → Tree → Type 0
+below v w = order v w ≡ Less

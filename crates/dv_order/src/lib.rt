@@ -1,0 +1,12 @@
+//! The order of BSON values, and keys that have it.
+#![tactic(auto)]
+
+mod comparison;
+mod key;
+pub mod laws;
+
+pub use comparison::compare;
+pub use key::{Key, key_of};
+
+#[cfg(test)]
+mod tests;

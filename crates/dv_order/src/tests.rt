@@ -1,0 +1,108 @@
+use super::*;
+use dv_bson::{Document, List, Str, Value};
+use std::alloc::Global;
+use std::cmp::max;
+use std::test::*;
+
+/// A value as the table writes it: a document by its names and their values.
+enum Sample {
+    Int32(i32),
+    Int64(i64),
+    Text(&'static str),
+    Doc(&'static [&'static str], &'static [Sample]),
+    Array(&'static [Sample]),
+    Bool(bool),
+}
+
+use Sample::{Array, Bool, Doc, Int32, Int64, Text};
+
+/// From low to high; the values of one row are equal.
+const ROWS: [&[Sample]; 35] = [
+    &[Int64(i64::MIN)],
+    &[Int32(i32::MIN), Int64(-2147483648)],
+    &[Int32(-1), Int64(-1)],
+    &[Int32(0), Int64(0)],
+    &[Int32(5), Int64(5)],
+    &[Int64(i64::MAX)],
+    &[Text("")],
+    &[Text("B")],
+    &[Text("a")],
+    &[Text("a\0")],
+    &[Text("ab")],
+    &[Text("\u{e9}")],
+    &[Doc(&[], &[])],
+    &[Doc(&["a"], &[Int32(1)]), Doc(&["a"], &[Int64(1)])],
+    &[Doc(&["a", "b"], &[Int32(1), Int32(2)])],
+    &[Doc(&["a"], &[Int32(2)])],
+    &[Doc(&["b"], &[Int32(1)])],
+    &[Doc(&["b", "a"], &[Int32(2), Int32(1)])],
+    &[Doc(&["a"], &[Text("x")])],
+    &[
+        Doc(&["a"], &[Doc(&["b"], &[Int32(5)])]),
+        Doc(&["a"], &[Doc(&["b"], &[Int64(5)])]),
+    ],
+    &[Doc(&["a"], &[Doc(&["b"], &[Int32(6)])])],
+    &[Doc(&["a"], &[Array(&[])])],
+    &[Doc(&["a"], &[Bool(false)])],
+    &[Array(&[])],
+    &[Array(&[Int32(1)])],
+    &[Array(&[Int32(1), Int64(2)]), Array(&[Int64(1), Int32(2)])],
+    &[Array(&[Int32(1), Int32(2), Int32(3)])],
+    &[Array(&[Int32(1), Text("x")])],
+    &[Array(&[Int32(2)])],
+    &[Array(&[Text("a")])],
+    &[Array(&[Doc(&[], &[])])],
+    &[Array(&[Array(&[])])],
+    &[Array(&[Array(&[Int32(5)])]), Array(&[Array(&[Int64(5)])])],
+    &[Bool(false)],
+    &[Bool(true)],
+];
+
+fn value_of(alloc: Global, sample: &Sample) -> Result<Value, Fail> {
+    Ok(match sample {
+        Int32(n) => Value::Int32(*n),
+        Int64(n) => Value::Int64(*n),
+        Text(text) => Value::Text(Str::of(String::from_str(alloc, text)?)),
+        Doc(names, samples) => {
+            let mut document = Document::new(alloc);
+            for (name, sample) in names.iter().zip(*samples) {
+                let value = value_of(alloc, sample)?;
+                let pushed = document.push(name, value);
+                pushed.ok().ok_or("each name stands once")?;
+            }
+            Value::Doc(document)
+        }
+        Array(samples) => {
+            let mut values = Vec::new(alloc);
+            for sample in *samples {
+                values.push(value_of(alloc, sample)?)?;
+            }
+            Value::Array(List::of(values))
+        }
+        Bool(truth) => Value::Bool(*truth),
+    })
+}
+
+#[test]
+fn rows_stand_from_low_to_high(rt: HostRuntime) -> Result<(), Fail> {
+    for (i, row) in ROWS.iter().enumerate() {
+        for (j, other_row) in ROWS.iter().enumerate() {
+            for (sample, other) in row.iter().zip(other_row.iter().rev()) {
+                let a = value_of(rt.alloc(), sample)?;
+                let b = value_of(rt.alloc(), other)?;
+                assert_eq!(rt; compare(&a, &b), i.cmp(&j), "row {i} against row {j}");
+            }
+        }
+    }
+    Ok(())
+}
+
+#[test]
+fn keys_forget_widths(rt: HostRuntime) -> Result<(), Fail> {
+    let five = key_of(&Value::Int32(5))?;
+    let long_five = key_of(&Value::Int64(5))?.try_clone()?;
+    assert!(rt; five == long_five);
+    let greatest = max(long_five, key_of(&Value::Bool(false))?);
+    assert!(rt; five < greatest);
+    Ok(())
+}
