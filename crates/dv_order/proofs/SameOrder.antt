@@ -9,6 +9,7 @@ use Rattle.std.specs.Cmp.Lexicographic.{slice_cmp}
 use Rattle.std.specs.FinMap.{nat_cmp-IsAntisymmetric, int_cmp-IsAntisymmetric, slice_cmp-IsAntisymmetric}
 use Rattle.dv_bson.specs.Tree.{Tree, int32, int64, string, document, array, boolean, Fields, no_fields, field, Elements, no_elements, element}
 use Rattle.dv_order.specs.Order.{canon, fields_canon, elements_canon, class, integer, within, fields_order, elements_order, order}
+use Rattle.dv_order.specs.Key.{KeyTree, value as key_of_tree, key_order}
 use Rattle.dv_order.specs.TotalOrder.{order_total}
 
 class_of_canon : (v : Tree) → class (canon v) ≡ class v
@@ -94,3 +95,6 @@ same_order v w e = sym (order_of_canon v w) ∙ ap (order (canon v)) (sym e) ∙
 
 pub equal_is_canon : (v w : Tree) → (order v w ≡ Equal) ↔ (canon v ≡ canon w)
 equal_is_canon v w = (canon_same v w, same_order v w)
+
+pub same_key : (v w : Tree) → key_order (key_of_tree (canon v)) (key_of_tree (canon w)) ≡ Equal → key_of_tree (canon v) ≡ key_of_tree (canon w)
+same_key v w e = ap key_of_tree (canon_same v w (sym (order_of_canon v w) ∙ e))

@@ -2,6 +2,7 @@
 
 ghost use Rattle.std.specs.Prelude.{◌≡◌, IfOk, refl};
 ghost use Rattle.std.specs.Cmp.{eq_by_cmp_equiv, partial_equiv_from_equiv, partial_order_from_total};
+ghost use Rattle.std.specs.declared.cmp.Ordering.TheVariants.{Equal};
 ghost use Rattle.std.specs.Ordering.{as_partial_cmp, eq_by_cmp};
 ghost use Rattle.dv_bson.specs.View.{tree};
 ghost use Rattle.dv_order.specs.Order.{canon};
@@ -50,6 +51,15 @@ impl Key {
             value: self.value.try_clone()?,
         })
     }
+}
+
+/// Two keys that stand beside each other are one: a key has nothing but what the order sees.
+#[tactic(auto, using(crate::proofs::SameOrder::same_key))]
+pub fn equal_keys_are_one(a: &Key, b: &Key)
+    ensures { key_order a.now b.now ≡ Equal → a.now ≡ b.now }
+{
+    let _ = &a.value;
+    let _ = &b.value;
 }
 
 impl PartialEq for Key {
