@@ -85,7 +85,7 @@ def main():
         print("#[test]")
         print("fn vectors_from_%d(rt: HostRuntime) -> Result<(), Fail> {" % first)
         for document in DOCUMENTS[first:first + PER_TEST]:
-            print('    agrees(&rt, b"%s", "%s")?;' % (escaped(bson.BSON.encode(document), False), escaped_text(shown(document))))
+            print('    assert!(rt; agrees(rt.alloc(), b"%s", "%s")?);' % (escaped(bson.BSON.encode(document), False), escaped_text(shown(document))))
         print("    Ok(())")
         print("}")
 

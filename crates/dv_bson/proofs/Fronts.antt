@@ -1,5 +1,5 @@
 -- What stands at the front of bytes.
-use Rattle.std.proofs.Common.{◌≡◌, ℕ, suc, ◌+◌, ◌-◌, ◌==◌, ◌||◌, if◌then◌else◌, Bool, true, false, cond, not, ltb, List, [], ◌∷◌, length, take, drop, map, Option, Some, None, Ok, Err, Bor, refl, sym, ap, ◌∙◌, decimal, add-one, arith, inl, inr}
+use Rattle.std.proofs.Common.{◌≡◌, ℕ, suc, ◌+◌, ◌-◌, ◌==◌, ◌||◌, if◌then◌else◌, Bool, true, false, cond, not, ltb, List, [], ◌∷◌, length, take, drop, map, Option, Some, None, Result, Ok, Err, Bor, refl, sym, ap, ◌∙◌, decimal, add-one, arith, inl, inr}
 use Rattle.std.specs.Option.{option_map, is_some}
 use Rattle.std.specs.List.{position, position_or_len}
 use Rattle.std.specs.Str.{bytes_eq, IsUtf8, is_utf8}
@@ -14,7 +14,7 @@ use Rattle.dv_bson.specs.Tree.{Field}
 use Rattle.dv_bson.specs.View.{tree}
 use Rattle.dv_bson.specs.Names.{value_under, has_name}
 use Rattle.dv_bson.specs.Reading.{◌>>=◌, cut_at_zero, onto_name, named_by, name_at}
-use Rattle.dv_bson.specs.Parts.{utf8_name, any_name_at, name_beside, numbered}
+use Rattle.dv_bson.specs.Parts.{utf8_name, any_name_at, numbered}
 
 -- where the first zero is, as a front byte and the place behind it tell
 abbrev place_behind : Bool → ℕ → ℕ
@@ -71,6 +71,11 @@ mapped-is_some (Some v) = refl
 pub has_name_by_get : (name : List ℕ) (fs : List Field) (o : Option (Bor Value)) → option_map (λ v. tree v.now) o ≡ value_under name fs → is_some o ≡ has_name name fs
 has_name_by_get name fs o e = mapped-is_some o ∙ ap is_some e ∙ value_under-is_some name fs
 
+-- what is wrong with a name beside those of the fields before it
+abbrev pub name_beside : Bool → List Field → List ℕ × List ℕ → Result (List ℕ × List ℕ) BsonFault
+name_beside false seen name = if has_name name.0 seen then Err RepeatedName else Ok name
+name_beside true seen name = if bytes_eq name.0 (decimal (length seen)) then Ok name else Err BadArrayName
+
 -- a name is first found, and then compared with the others
 pub name_first : (in_array : Bool) (seen : List Field) (bytes : List ℕ) → name_at in_array seen bytes ≡ (any_name_at bytes >>= name_beside in_array seen)
 unfolding name_at any_name_at
@@ -88,20 +93,21 @@ name_first true seen bytes =
 pub no_name : (in_array : Bool) (seen : List Field) (bytes : List ℕ) (f : BsonFault) → any_name_at bytes ≡ Err f → name_at in_array seen bytes ≡ Err f
 no_name in_array seen bytes f e = name_first in_array seen bytes ∙ ap (λ r. r >>= name_beside in_array seen) e
 
-pub repeated_name : (seen : List Field) (bytes : List ℕ) (name : List ℕ × List ℕ) → any_name_at bytes ≡ Ok name → has_name name.0 seen ≡ true → name_at false seen bytes ≡ Err RepeatedName
-repeated_name seen bytes name e h = name_first false seen bytes ∙ ap (λ r. r >>= name_beside false seen) e ∙ rw h refl
-
-pub new_name : (seen : List Field) (bytes : List ℕ) (name : List ℕ × List ℕ) → any_name_at bytes ≡ Ok name → has_name name.0 seen ≡ false → name_at false seen bytes ≡ Ok name
-new_name seen bytes name e h = name_first false seen bytes ∙ ap (λ r. r >>= name_beside false seen) e ∙ rw h refl
+pub compared : (in_array : Bool) (seen : List Field) (bytes : List ℕ) (name : List ℕ × List ℕ) → any_name_at bytes ≡ Ok name → name_at in_array seen bytes ≡ name_beside in_array seen name
+compared in_array seen bytes name e = name_first in_array seen bytes ∙ ap (λ r. r >>= name_beside in_array seen) e
 
 length_numbered : (i : ℕ) (vs : List Value) → length (numbered i (map tree vs)) ≡ length vs
 length_numbered i [] = refl
 length_numbered i (v ∷ vs) = ap suc (length_numbered (suc i) vs)
 
-pub other_name : (before : List Value) (bytes : List ℕ) (name : List ℕ × List ℕ) → any_name_at bytes ≡ Ok name → bytes_eq name.0 (decimal (length before)) ≡ false → name_at true (numbered 0 (map tree before)) bytes ≡ Err BadArrayName
-other_name before bytes name e h = name_first true (numbered 0 (map tree before)) bytes ∙ ap (λ r. r >>= name_beside true (numbered 0 (map tree before))) e ∙ rw (length_numbered 0 before, h) refl
+-- the name of an array's element
+abbrev pub index_beside : List Value → List ℕ × List ℕ → Result (List ℕ × List ℕ) BsonFault
+index_beside before name = if bytes_eq name.0 (decimal (length before)) then Ok (decimal (length before), name.1) else Err BadArrayName
 
-pub index_name : (before : List Value) (bytes : List ℕ) (name : List ℕ × List ℕ) → any_name_at bytes ≡ Ok name → bytes_eq name.0 (decimal (length before)) ≡ true → name_at true (numbered 0 (map tree before)) bytes ≡ Ok (decimal (length before), name.1)
-index_name before bytes name e h =
-    let same : name.0 ≡ decimal (length before) = (bytes_eq-Decides name.0 (decimal (length before))).0 h in
-    name_first true (numbered 0 (map tree before)) bytes ∙ ap (λ r. r >>= name_beside true (numbered 0 (map tree before))) e ∙ rw (length_numbered 0 before, h) (ap (λ (n : List ℕ). Ok (n, name.1)) same)
+same_index : (b : Bool) (name : List ℕ × List ℕ) (text : List ℕ) → (b ≡ true → name.0 ≡ text) → (if b then Ok name else Err BadArrayName) ≡ (if b then Ok (text, name.1) else Err BadArrayName)
+same_index true name text h = ap (λ (n : List ℕ). Ok (n, name.1)) (h refl)
+same_index false name text h = refl
+
+pub index_compared : (before : List Value) (bytes : List ℕ) (name : List ℕ × List ℕ) → any_name_at bytes ≡ Ok name → name_at true (numbered 0 (map tree before)) bytes ≡ index_beside before name
+index_compared before bytes name e =
+    compared true (numbered 0 (map tree before)) bytes name e ∙ rw (length_numbered 0 before) (same_index (bytes_eq name.0 (decimal (length before))) name (decimal (length before)) (bytes_eq-Decides name.0 (decimal (length before))).0)

@@ -1,20 +1,20 @@
 -- Parts of reading, as the reader takes them one by one.
-use Rattle.std.specs.Prelude.{ℕ, suc, ◌+◌, ◌-◌, ℤ, Bool, true, false, List, [], ◌∷◌, length, take, drop, Option, Some, None, Result, Ok, Err, nat_lt, if◌then◌else◌, decimal}
+use Rattle.std.specs.Prelude.{ℕ, suc, ◌+◌, ◌-◌, ℤ, Bool, List, [], ◌∷◌, length, take, drop, Option, Some, None, Result, Ok, Err, nat_lt, if◌then◌else◌, decimal}
 use Rattle.std.specs.Int.{Width, byte_len, from_le_bytes, cast_signed}
-use Rattle.std.specs.Str.{bytes_eq, is_utf8}
+use Rattle.std.specs.Str.{is_utf8}
 use Rattle.dv_bson.specs.declared.kind.Kind.{Kind}
 use Rattle.dv_bson.specs.declared.fault.BsonFault.{BsonFault}
-use Rattle.dv_bson.specs.declared.fault.BsonFault.TheVariants.{BadLength, BadUtf8, BadArrayName, RepeatedName, NoMemory}
+use Rattle.dv_bson.specs.declared.fault.BsonFault.TheVariants.{BadLength, BadUtf8, NoMemory}
 use Rattle.dv_bson.specs.declared.fault.ReadError.{ReadError}
 use Rattle.dv_bson.specs.declared.fault.ReadError.TheVariants as errors
 use Rattle.dv_bson.specs.Tree.{Tree, Field}
-use Rattle.dv_bson.specs.Names.{has_name}
 use Rattle.dv_bson.specs.Reading.{◌>>=◌, kind_at, cut_at_zero, name_at, value_at, Inside}
 
 -- a signed number of this width, and the bytes behind it
 abbrev pub signed_at : Width → (ℤ → Tree) → List ℕ → Result (Tree × List ℕ) BsonFault
 signed_at w made bytes = if nat_lt (length bytes) (byte_len w) then Err BadLength else Ok (made (cast_signed w (from_le_bytes w (take (byte_len w) bytes))), drop (byte_len w) bytes)
 
+-- a type, and the bytes behind its byte
 abbrev pub with_rest : List ℕ → Kind → Result (Kind × List ℕ) BsonFault
 with_rest rest kind = Ok (kind, rest)
 
@@ -23,19 +23,16 @@ unfoldable pub front_kind_at : ℕ → List ℕ → Result (Kind × List ℕ) Bs
 front_kind_at at [] = Err BadLength
 front_kind_at at (b ∷ bytes) = kind_at b at >>= with_rest bytes
 
--- a name before anything is known of the other names, and the bytes behind its closing zero
+-- a name that was cut off at its closing zero, if it is UTF-8
 abbrev pub utf8_name : Option (List ℕ × List ℕ) → Result (List ℕ × List ℕ) BsonFault
 utf8_name None = Err BadLength
 utf8_name (Some cut) = if is_utf8 cut.0 then Ok cut else Err BadUtf8
 
+-- a name, whatever the others are
 unfoldable pub any_name_at : List ℕ → Result (List ℕ × List ℕ) BsonFault
 any_name_at bytes = utf8_name (cut_at_zero bytes)
 
--- what is wrong with a name beside those of the fields before it
-abbrev pub name_beside : Bool → List Field → List ℕ × List ℕ → Result (List ℕ × List ℕ) BsonFault
-name_beside false seen name = if has_name name.0 seen then Err RepeatedName else Ok name
-name_beside true seen name = if bytes_eq name.0 (decimal (length seen)) then Ok name else Err BadArrayName
-
+-- a value under its name, and the bytes behind it
 abbrev pub with_name : List ℕ → Tree × List ℕ → Result (Field × List ℕ) BsonFault
 with_name name value = Ok ((name, value.0), value.1)
 

@@ -16,6 +16,9 @@ use crate::text::Str;
 use std::alloc::Global;
 use std::marker::Model;
 
+/// A document of so many fields, or of more, has its names indexed as the next one comes.
+const INDEXED_LENGTH: usize = 32;
+
 /// A value of a field or of an array. In quotes: its type's name in the BSON specification, version 1.1
 /// (bsonspec.org).
 #[cycle(value)]
@@ -48,12 +51,9 @@ pub(crate) struct Entry {
 #[derive(Debug, Drop)]
 pub struct Document {
     entries: Vec<Entry>,
-    /// The places of the names, once there are too many to search them one by one.
+    /// The places of the names, once they are too many to be searched one by one.
     index: Option<Box<NameIndex>>,
 }
-
-/// From so many fields on a document's names are indexed.
-const INDEXED_LENGTH: usize = 32;
 
 /// The values of an array, in order.
 #[cycle(value)]
@@ -157,7 +157,9 @@ impl Document {
 
     /// How many fields there are.
     pub fn len(&self) -> usize
-        ensures { result ≡ length self.now }
+        ensures len { result ≡ length self.now }
+        // No name holds a zero byte, and no two fields have one name.
+        ensures named { AreNamed self.now }
     {
         self.entries.len()
     }
@@ -177,7 +179,8 @@ impl Document {
         Some((entry.name.as_str(), &entry.value))
     }
 
-    /// The value under the name, where there is one.
+    /// The value under the name, where there is one. Found in time logarithmic in the number of fields,
+    /// whatever the names are.
     pub fn get(&self, name: &str) -> Option<&Value>
         ensures { option_map (λ value. tree value.now) result ≡ value_under name.now self.now }
     {
@@ -242,7 +245,8 @@ impl Document {
         self.entries.as_slice()
     }
 
-    /// A copy of its own, in time linear in its size. Fails where memory is wanting.
+    /// A copy of its own, in time linear in its size, but for the names of many fields: they are sorted.
+    /// Fails where memory is wanting.
     #[cycle(value)]
     pub fn try_clone(&self) -> Result<Self, NoMemory>
         ensures { IfOk result (λ copy. copy ≡ self.now) }
@@ -271,8 +275,8 @@ fn place_among(entries: &[Entry], name: &str) -> Option<usize>
     None
 }
 
-/// Indexes the name of the field that comes behind these, if they are as many as are indexed. Where memory
-/// is wanting the index is still one of these fields.
+/// Indexes the name of the field that comes behind these, if there are so many that names are indexed. Where
+/// memory is wanting the index still is that of these fields.
 fn index_next(
     alloc: Global,
     index: &mut Option<Box<NameIndex>>,
@@ -294,7 +298,7 @@ fn index_next(
     }
 }
 
-/// The index of these fields' names, where there are so many that they are indexed.
+/// The index of these fields' names, where there are so many that names are indexed.
 fn index_of(alloc: Global, entries: &[Entry]) -> Result<Option<Box<NameIndex>>, NoMemory>
     requires { AreNamed (map field_of entries.now) }
     ensures { IfOk result (λ index. IfSome index (λ index. IsIndexOf (map field_of entries.now) index.value)) }
@@ -341,7 +345,7 @@ impl List {
         values
     }
 
-    /// A copy of its own, in time linear in its size. Fails where memory is wanting.
+    /// A copy of its own. Fails where memory is wanting.
     #[cycle(value)]
     pub fn try_clone(&self) -> Result<Self, NoMemory>
         ensures { IfOk result (λ copy. copy ≡ self.now) }

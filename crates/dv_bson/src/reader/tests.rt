@@ -50,7 +50,7 @@ fn is_refused(rt: &HostRuntime, bytes: &[u8], want: BsonFault) -> bool {
 fn tells_the_first_fault(rt: HostRuntime) {
     let refused_at_4 = BsonFault::RefusedType { byte: 1, at: 4 };
     let refused_inside = BsonFault::RefusedType { byte: 0x7f, at: 15 };
-    let cases: [(&[u8], BsonFault); 27] = [
+    let cases: [(&[u8], BsonFault); 28] = [
         // The length of the outermost document.
         (b"", BsonFault::Truncated),
         (b"\x05\0\0", BsonFault::Truncated),
@@ -63,6 +63,7 @@ fn tells_the_first_fault(rt: HostRuntime) {
         (b"\x05\0\0\0\x08", BsonFault::BadLength),
         (b"\x05\0\0\0\x01", refused_at_4),
         (b"\x06\0\0\0\0\0", BsonFault::BadLength),
+        (b"\x0a\0\0\0\x08a\0\x01\0\0", BsonFault::BadLength),
         // Types and names.
         (b"\x08\0\0\0\x01a\0\0", refused_at_4),
         (

@@ -1,0 +1,131 @@
+//! What no clause says: that there is an answer where memory is ample, what stands where it isn't, and
+//! texts.
+mod shown;
+mod vectors;
+
+use crate::{BsonFault, Bytes, Document, List, Str, Value, read_document, size, write_document};
+use std::alloc::Global;
+use std::test::Fail;
+
+/// Whether another library's bytes are read as the document that it spelled, and are spelled again.
+fn agrees(alloc: Global, bytes: &[u8], text: &str) -> Result<bool, Fail> {
+    let (document, len) = read_document(alloc, bytes)?;
+    let mut shown = String::new(alloc);
+    shown::show(&mut shown, &document)?;
+    let mut written = Vec::new(alloc);
+    write_document(&document, &mut written)?;
+    let measured = size(&document).map(|size| size as usize);
+    Ok(
+        len == bytes.len()
+            && shown.as_str() == text
+            && written.as_slice() == bytes
+            && measured == Some(bytes.len()),
+    )
+}
+
+/// A document of the numbers from 0 on, each under a name of its own.
+fn numbered(alloc: Global, count: i32) -> Result<Document, Fail> {
+    let mut document = Document::new(alloc);
+    for number in 0..count {
+        let name = format!(in alloc; "name {number}")?;
+        document.push(name.as_str(), Value::Int32(number))?;
+    }
+    Ok(document)
+}
+
+/// The number under the name, where there is one.
+fn number_under(document: &Document, name: &str) -> Option<i32> {
+    match document.get(name) {
+        Some(Value::Int32(number)) => Some(*number),
+        _ => None,
+    }
+}
+
+#[test]
+fn refuses_names(rt: HostRuntime) -> Result<(), Fail> {
+    let mut document = Document::new(rt.alloc());
+    document.push("", Value::Bool(true))?;
+    document.push("a", Value::Int64(-1))?;
+    assert_eq!(rt;
+        document.push("a", Value::Int32(2)),
+        Err(BsonFault::RepeatedName)
+    );
+    assert_eq!(rt;
+        document.push("b\0c", Value::Int32(2)),
+        Err(BsonFault::BadName)
+    );
+    assert_eq!(rt; document.len(), 2);
+    Ok(())
+}
+
+#[test]
+fn finds_each_name(rt: HostRuntime) -> Result<(), Fail> {
+    let alloc = rt.alloc();
+    let document = numbered(alloc, 100)?;
+    let mut copy = document.try_clone()?;
+    for number in 0..100 {
+        let name = format!(in alloc; "name {number}")?;
+        assert_eq!(rt; number_under(&document, name.as_str()), Some(number));
+        assert_eq!(rt; number_under(&copy, name.as_str()), Some(number));
+        assert_eq!(rt;
+            copy.push(name.as_str(), Value::Int32(0)),
+            Err(BsonFault::RepeatedName)
+        );
+    }
+    assert_eq!(rt; number_under(&document, "name 100"), None);
+    Ok(())
+}
+
+#[test]
+fn takes_many_names(rt: HostRuntime) -> Result<(), Fail> {
+    let document = numbered(rt.alloc(), 100_000)?;
+    assert_eq!(rt; document.len(), 100_000);
+    assert_eq!(rt; number_under(&document, "name 99999"), Some(99_999));
+    Ok(())
+}
+
+/// With an allocation that fails, whichever it is, the name can be added at the second try.
+#[test]
+fn keeps_what_stands_where_memory_is_wanting(rt: HostRuntime) -> Result<(), Fail> {
+    let letters = "aaaaaaaaaaaaaaaaaaaaaaaaaaaaaaaaaaaaaaaa";
+    let mut document = Document::new(rt.alloc());
+    for length in 0..letters.len() {
+        let name = letters.get(..length).unwrap_or("");
+        if document.push(name, Value::Bool(true)).is_err() {
+            assert_eq!(rt; document.len(), length);
+            assert!(rt; document.get(name).is_none());
+            document.push(name, Value::Bool(true))?;
+        }
+        assert!(rt; document.get(name).is_some());
+    }
+    Ok(())
+}
+
+#[test]
+fn copies_values(rt: HostRuntime) -> Result<(), Fail> {
+    let alloc = rt.alloc();
+    let mut values = Vec::new(alloc);
+    values.push(Value::Text(Str::of(String::from_str(alloc, "a\0b")?)))?;
+    values.push(Value::Doc(numbered(alloc, 3)?))?;
+    values.push(Value::Array(List::new(alloc)))?;
+    let copy = List::of(values).try_clone()?;
+    assert_eq!(rt; copy.as_slice().len(), 3);
+    assert_eq!(rt; copy.into_inner().len(), 3);
+    let bytes = Bytes::of([1, 0, 255].to_vec(alloc)?).try_clone()?;
+    assert_eq!(rt; bytes.into_inner().as_slice(), [1, 0, 255].as_slice());
+    Ok(())
+}
+
+#[test]
+fn names_faults(rt: HostRuntime) -> Result<(), Fail> {
+    let fault = BsonFault::RefusedType { byte: 11, at: 17 };
+    assert_eq!(rt;
+        fault.to_string(rt.alloc())?.as_str(),
+        "RefusedType 0x0b at 17"
+    );
+    assert_eq!(rt;
+        BsonFault::RepeatedName.to_string(rt.alloc())?.as_str(),
+        "RepeatedName"
+    );
+    Ok(())
+}

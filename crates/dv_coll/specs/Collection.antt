@@ -1,0 +1,39 @@
+-- Collections: documents that begin with an `_id` of their own, in the order of these.
+use Rattle.std.specs.Prelude.{◌≡◌, pos, Bool, List, [], ◌∷◌, map, Option, codes, if◌then◌else◌, ⊤}
+use Rattle.std.specs.List.{find}
+use Rattle.std.specs.List.Sorted.{IsStrictlySortedBy}
+use Rattle.std.specs.Ordering.{is_eq, is_lt}
+use Rattle.dv_bson.specs.Tree.{Tree, int64, array, Field}
+use Rattle.dv_order.specs.Order.{canon}
+use Rattle.dv_order.specs.Key.{KeyTree, value, key_order}
+
+abbrev pub IsNoArray : Tree → Type 0
+IsNoArray (array vs) = ⊥
+IsNoArray v = ⊤
+
+-- the first field is `_id`, and its value is no array
+abbrev pub HasId : List Field → Type 0
+HasId [] = ⊥
+HasId (f ∷ fs) = (f.0 ≡ codes "_id") × IsNoArray f.1
+
+-- the key of the first field's value; a document without fields, which is in no collection, has that of 0
+abbrev pub id_key : List Field → KeyTree
+id_key [] = value (int64 (pos 0))
+id_key (f ∷ fs) = value (canon f.1)
+
+-- each document is before all later ones
+abbrev pub IsAscending : List (List Field) → Type 0
+IsAscending ds = IsStrictlySortedBy key_order (map id_key ds)
+
+-- whether the document's key and this one are equal
+abbrev pub has_key : KeyTree → List Field → Bool
+has_key k d = is_eq (key_order k (id_key d))
+
+-- the document under the key, where there is one
+abbrev pub found : KeyTree → List (List Field) → Option (List Field)
+found k ds = find (has_key k) ds
+
+-- the documents, with d in front of the first that it is before
+abbrev pub inserted : List Field → List (List Field) → List (List Field)
+inserted d [] = d ∷ []
+inserted d (e ∷ ds) = if is_lt (key_order (id_key d) (id_key e)) then d ∷ e ∷ ds else e ∷ inserted d ds

@@ -1,0 +1,3 @@
+pub mod Collection
+pub mod Keyed
+pub mod Fault

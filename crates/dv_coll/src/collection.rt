@@ -1,0 +1,150 @@
+//! Documents by their `_id`.
+
+ghost use Rattle.std.specs.Prelude.{◌≡◌, ◌↔◌, [], None, length, IfOk, IsErrOf, IsSome, IsTrue, OnErr, OnOk};
+ghost use Rattle.std.specs.Iterator.{YieldsFirstRef, item_count};
+ghost use Rattle.std.specs.List.{AllByRecursion};
+ghost use Rattle.std.specs.Option.{option_map};
+ghost use Rattle.dv_coll.specs.Collection.{HasId, IsAscending, id_key, found, inserted};
+
+use crate::fault::InsertFault;
+use dv_bson::{Document, NoMemory};
+use dv_order::{Key, key_of};
+use std::alloc::Global;
+use std::collections::BTreeMap;
+use std::collections::btree_map::Values;
+use std::marker::Model;
+
+/// Documents in the order of their `_id`s, no two of which are equal but for the width of integers. `_id` is the first
+/// field of each, and its value no array.
+///
+/// A document is found in time logarithmic in their number.
+#[derive(Debug, Drop)]
+pub struct Collection {
+    documents: BTreeMap<Key, Document>,
+}
+
+impl Model for Collection {
+    ghost use Rattle.std.specs.Prelude as prelude;
+    ghost use Rattle.std.specs.Coded.{coded_list, coded×, coded_ℕ};
+    ghost use Rattle.std.specs.BTreeMap.{values};
+    ghost use Rattle.dv_bson.specs.Tree.{Field};
+    ghost use Rattle.dv_bson.specs.TreeCode.{coded_tree};
+    ghost use Rattle.dv_coll.specs.Keyed.{IsKeyed};
+
+    ghost Value = { prelude.List (prelude.List Field) };
+
+    ghost coded = { coded_list (coded_list (coded× (coded_list coded_ℕ) coded_tree)) };
+
+    ghost view = { λ c. values c.documents };
+
+    ghost invariant = { λ c. IsKeyed c.documents.entries };
+}
+
+impl Collection {
+    /// A collection without documents, whose memory will be allocated by `alloc`.
+    pub fn new(alloc: Global) -> Self
+        ensures { result ≡ [] }
+    {
+        Collection {
+            documents: BTreeMap::new(alloc),
+        }
+    }
+
+    /// How many documents there are.
+    pub fn len(&self) -> usize
+        ensures count { result ≡ length self.now }
+        ensures ascending { IsAscending self.now }
+        ensures identified { AllByRecursion HasId self.now }
+    {
+        self.documents.len()
+    }
+
+    /// Whether there is no document.
+    pub fn is_empty(&self) -> bool
+        ensures { IsTrue result ↔ (self.now ≡ []) }
+    {
+        self.documents.is_empty()
+    }
+
+    /// The document under the key of its `_id`, where there is one. Takes no memory.
+    #[tactic(auto, using(crate::proofs::Places::places))]
+    pub fn get(&self, key: &Key) -> Option<&Document>
+        ensures { option_map (λ document. document.now) result ≡ found key.now self.now }
+    {
+        self.documents.get(key)
+    }
+
+    /// The documents in the order of their `_id`s. Takes no memory.
+    pub fn iter(&self) -> Iter<'_>
+        ensures documents { result ≡ self.now }
+        ensures ascending { IsAscending self.now }
+        ensures identified { AllByRecursion HasId self.now }
+    {
+        Iter {
+            documents: self.documents.values(),
+        }
+    }
+
+    /// Puts the document in its place. Refused with `Duplicate` where a document has an equal `_id`, and with
+    /// `NoMemory` where memory is wanting, be it to look the `_id` up; then nothing is changed, and the document is
+    /// dropped.
+    #[tactic(auto, using(crate::proofs::Places::places))]
+    pub fn insert(&mut self, document: Document) -> Result<(), InsertFault>
+        requires { HasId document }
+        ensures ok { OnOk result (self.new ≡ inserted document self.old) }
+        ensures err { OnErr result (self.new ≡ self.old) }
+
+        // An equal `_id` is never inserted, and no new one refused as a duplicate.
+        ensures fresh { OnOk result (found (id_key document) self.old ≡ None) }
+        ensures duplicate { IsErrOf result InsertFault.Duplicate → IsSome (found (id_key document) self.old) }
+    {
+        let key = key_of_id(&document)?;
+        if self.get(&key).is_some() {
+            return Err(InsertFault::Duplicate);
+        }
+        self.documents.insert(key, document)?;
+        Ok(())
+    }
+}
+
+/// The key of the document's `_id`. Fails where memory is wanting.
+fn key_of_id(document: &Document) -> Result<Key, NoMemory>
+    requires { HasId document.now }
+    ensures { IfOk result (λ key. key ≡ id_key document.now) }
+{
+    let Some((_, id)) = document.entry(0) else {
+        unreachable!()
+    };
+    key_of(id)
+}
+
+/// Documents of a collection that are still to come, in the order of their `_id`s.
+#[derive(Debug, Drop)]
+pub struct Iter<'a> {
+    documents: Values<'a, Key, Document>,
+}
+
+impl<'a> Model for Iter<'a> {
+    ghost use Rattle.std.specs.Prelude as prelude;
+    ghost use Rattle.std.specs.Coded.{coded_list, coded×, coded_ℕ};
+    ghost use Rattle.dv_bson.specs.Tree.{Field};
+    ghost use Rattle.dv_bson.specs.TreeCode.{coded_tree};
+
+    ghost Value = { prelude.List (prelude.List Field) };
+
+    ghost coded = { coded_list (coded_list (coded× (coded_list coded_ℕ) coded_tree)) };
+
+    ghost view = { λ i. i.documents };
+}
+
+impl<'a> Iterator for Iter<'a> {
+    type Item = &'a Document;
+
+    ghost next_gives = { YieldsFirstRef (λ i. i) };
+
+    ghost remaining = { item_count (λ i. i) };
+
+    fn next(&mut self) -> Option<&'a Document> {
+        self.documents.next()
+    }
+}

@@ -1,0 +1,11 @@
+//! Collections of BSON documents by their `_id`.
+#![tactic(auto)]
+
+mod collection;
+mod fault;
+pub mod laws;
+#[cfg(test)]
+mod tests;
+
+pub use collection::{Collection, Iter};
+pub use fault::InsertFault;
