@@ -207,7 +207,8 @@ pub fn read_document(alloc: Global, bytes: &[u8]) -> Result<(Document, usize), B
     // What is spelled at the front and fits is read, unless memory is wanting.
     ensures only { (d : Entries Field) (spelled rest : Entries ℕ) → Spells d spelled → Fits d → bytes.now ≡ spelled ++ rest
         → MatchResult result (λ read. (read.0 ≡ d) × (read.1 ≡ length spelled)) (λ e. e ≡ BsonFault.NoMemory) }
-    // Which fault it is.
+    // Which document, or which fault it is.
+    ensures exact { IfOk result (λ read. document_at bytes.now ≡ Ok (read.0, read.1)) }
     ensures refused { IfErr result (λ e. (e ≡ BsonFault.NoMemory) ⊎ (first_fault bytes.now ≡ Some e)) }
 {
     Ok(outermost_of(alloc, bytes)?)

@@ -1,0 +1,65 @@
+-- The bytes of a reply, and what carrying out one message answers.
+use Rattle.std.proofs.Common.{◌≡◌, ℕ, ◌+◌, ◌-◌, ◌⊎◌, true, false, List, [], ◌∷◌, ◌++◌, length, take, drop, Some, Result, Ok, Err, refl, sym, ap, ◌∙◌, append_assoc, arith, inl, inr}
+use Rattle.std.specs.Prelude.{OnOk, OnErr}
+use Rattle.std.specs.Int.{w32, to_le_bytes}
+use Rattle.std.proofs.lemmas.List.{append-nil, take_at, drop_at, drop-drop, length-append}
+use Rattle.dv_bson.specs.declared.fault.BsonFault.{BsonFault}
+use Rattle.dv_bson.specs.declared.fault.BsonFault.TheVariants as bson
+use Rattle.dv_bson.specs.Tree.{Field}
+use Rattle.dv_bson.specs.Spelling.{spelling}
+use Rattle.dv_bson.specs.Reading.{document_at, first_fault, fault_of}
+use Rattle.dv_wire.specs.declared.store.Command.{Command}
+use Rattle.dv_wire.specs.declared.store.Command.TheVariants.{Invalid}
+use Rattle.dv_wire.specs.declared.store.Outcome.TheVariants.{Reply}
+use Rattle.dv_wire.specs.State.{State}
+use Rattle.dv_wire.specs.Message.{Message, message_spelling}
+use Rattle.dv_wire.specs.Step.{MemoryStep}
+use Rattle.dv_wire.specs.Schedule.{Appends, CarriesOut, command_read, command_of}
+use Rattle.dv_wire.specs.View.{Carries, unmeasured}
+
+-- ---- bytes
+
+-- the length is put in behind what was there
+pub measured : (old body : List ℕ) (response_to : ℕ) →
+    let all = (old ++ unmeasured response_to (0 ∷ [])) ++ body in
+    take (length old) all ++ (to_le_bytes w32 (length all - length old) ++ drop (length old + 4) all) ≡ old ++ message_spelling 0 response_to 0 (0 ∷ body)
+unfolding message_spelling
+measured old body response_to =
+    let whole : List ℕ = unmeasured response_to (0 ∷ body) in
+    let regrouped : (old ++ unmeasured response_to (0 ∷ [])) ++ body ≡ old ++ whole = append_assoc old (unmeasured response_to (0 ∷ [])) body in
+    let long : length (old ++ whole) - length old ≡ length (0 ∷ body) + 20 = omega (arith, length-append old whole) in
+    let behind : drop (length old + 4) (old ++ whole) ≡ drop 4 whole = sym (drop-drop 4 (length old) (old ++ whole)) ∙ ap (drop 4) (drop_at old whole (length old) refl) in
+    rw (regrouped, take_at old whole (length old) refl, long, behind) refl
+
+-- the same, as a vector's length and its items say it
+pub put_in : (old header body all put : List ℕ) (response_to start len : ℕ) → header ≡ unmeasured response_to (0 ∷ []) → all ≡ (old ++ header) ++ body → start ≡ length old → len ≡ length all
+    → put ≡ take start all ++ (to_le_bytes w32 (length all - start) ++ drop (start + 4) all) → length put ≡ length all
+    → take len (put ++ drop (length put) all) ≡ old ++ message_spelling 0 response_to 0 (0 ∷ body)
+put_in old header body all put response_to start len is_header is_all is_start is_len is_put same =
+    let whole : put ≡ old ++ message_spelling 0 response_to 0 (0 ∷ body) = is_put ∙ rw (is_start, is_all, is_header) (measured old body response_to) in
+    take_at put (drop (length put) all) len (same ∙ sym is_len) ∙ whole
+
+-- ---- the command that a body brings
+
+read_is : (read : Result (List Field × ℕ) BsonFault) (fault : BsonFault) → fault_of read ≡ Some fault → command_read read ≡ Invalid fault
+read_is (Ok found) fault e = absurd cc
+read_is (Err f) fault e = cc
+
+pub invalid : (bytes : List ℕ) (fault : BsonFault) → (fault ≡ bson.NoMemory → ⊥) → (fault ≡ bson.NoMemory) ⊎ (first_fault bytes ≡ Some fault) → command_read (document_at bytes) ≡ Invalid fault
+unfolding first_fault
+invalid bytes fault another (inl e) = absurd (another e)
+invalid bytes fault another (inr e) = read_is (document_at bytes) fault e
+
+-- ---- one message
+
+module _ (session : ℕ) (old new : State) (message : Message) (command : Command) (reply : List Field) (brings : command_of message ≡ command) (steps : MemoryStep old session command (Reply reply) new) where
+  -- moreToCome is carried out and not answered
+  pub silent : message.more_to_come ≡ true → CarriesOut session old (message ∷ []) [] new true
+  silent more = (new, Reply reply, rw brings steps, inl ([], rw more refl, (refl, refl, refl)))
+
+  pub answers : {A E : Type 0} (sent : Result A E) (before after : List ℕ) → message.more_to_come ≡ false
+      → OnOk sent (after ≡ before ++ message_spelling 0 message.request_id 0 (0 ∷ spelling reply)) → OnErr sent (after ≡ before)
+      → Appends before after (λ bytes. Carries session old message bytes new sent)
+  answers (Ok x) before after more ok err =
+      (message_spelling 0 message.request_id 0 (0 ∷ spelling reply), ok, (new, Reply reply, rw brings steps, inl ([], rw more (sym (append-nil _)), (refl, refl, refl))))
+  answers (Err e) before after more ok err = ([], err ∙ sym (append-nil before), inl (new, Reply reply, rw brings steps, inr (refl, refl, refl)))

@@ -1,0 +1,5 @@
+pub mod Message
+pub mod State
+pub mod Step
+pub mod Schedule
+pub mod View

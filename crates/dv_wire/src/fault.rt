@@ -1,0 +1,40 @@
+//! Why a session is closed, or none is opened.
+
+ghost use Rattle.std.specs.Prelude.{◌≡◌};
+ghost use Rattle.dv_wire.specs.declared.fault.CloseFault.TheVariants.{NoMemory};
+
+use std::alloc::AllocError;
+
+/// What closes a session.
+#[derive(Clone, Copy, Debug, PartialEq, Eq)]
+pub enum CloseFault {
+    /// A message's length is under 26 or over 48,000,000 bytes.
+    BadLength,
+    /// The operation code isn't that of OP_MSG, 2013.
+    BadOpCode,
+    /// One of the flag bits 2 to 15 is set.
+    BadFlag,
+    /// The flag checksumPresent is set.
+    Checksum,
+    /// The sections are no body and what may stand beside it.
+    BadSection,
+    /// Memory is wanting for a session's bytes or for a reply.
+    NoMemory,
+}
+
+/// Why no session is opened.
+#[derive(Clone, Copy, Debug, PartialEq, Eq)]
+pub enum HubFault {
+    /// As many sessions as may be are opened and not ended, or no number is left.
+    TooManySessions,
+    /// Memory is wanting.
+    NoMemory,
+}
+
+impl From<AllocError> for CloseFault {
+    ghost from_gives = { λ _ fault. fault ≡ NoMemory };
+
+    fn from(_e: AllocError) -> CloseFault {
+        CloseFault::NoMemory
+    }
+}

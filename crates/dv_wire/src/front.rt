@@ -1,0 +1,124 @@
+//! The front of a stream: an OP_MSG message with the standard message header (MongoDB manual, "MongoDB Wire Protocol").
+
+ghost use Rattle.std.specs.Prelude.{◌≡◌, ◌+◌, ◌≤◌, length};
+ghost use Rattle.dv_wire.specs.Message as wire;
+ghost use Rattle.dv_wire.specs.View.{front_seen};
+
+use crate::fault::CloseFault;
+
+/// The operation code of OP_MSG.
+pub(crate) const OP_MSG: u32 = 2013;
+
+/// The bytes of the header, the flags, a kind byte and the smallest document.
+const SHORTEST_MESSAGE: usize = 26;
+
+const LONGEST_MESSAGE: usize = 48_000_000;
+
+/// What a message asks.
+#[derive(Clone, Copy)]
+pub(crate) struct Message<'a> {
+    pub(crate) request_id: u32,
+    /// Whether no reply is to be sent.
+    pub(crate) more_to_come: bool,
+    /// The bytes of its document.
+    pub(crate) body: &'a [u8],
+}
+
+/// What stands at the front of a stream.
+#[derive(Clone, Copy)]
+pub(crate) enum Front<'a> {
+    /// Less than a message.
+    Unfinished,
+    /// A fault that the bytes show already.
+    Closing(CloseFault),
+    /// A message, and the bytes that follow it.
+    Whole {
+        message: Message<'a>,
+        rest: &'a [u8],
+    },
+}
+
+/// Looks at the front of a stream. A message's length is shown by its fourth byte, its code by the sixteenth, its
+/// flags by the twentieth, its sections by its last.
+#[tactic(auto, unfolding(crate::specs::Message::front))]
+pub(crate) fn front_of(bytes: &[u8]) -> Front<'_>
+    ensures { front_seen result ≡ wire.front bytes.now }
+{
+    if bytes.len() < 4 {
+        return Front::Unfinished;
+    }
+    let length = number_behind(0, bytes) as usize;
+    if length < SHORTEST_MESSAGE || LONGEST_MESSAGE < length {
+        return Front::Closing(CloseFault::BadLength);
+    }
+    if bytes.len() < 16 {
+        return Front::Unfinished;
+    }
+    if number_behind(12, bytes) != OP_MSG {
+        return Front::Closing(CloseFault::BadOpCode);
+    }
+    if bytes.len() < 20 {
+        return Front::Unfinished;
+    }
+    let flags = number_behind(16, bytes);
+    if has_checksum(flags) {
+        return Front::Closing(CloseFault::Checksum);
+    }
+    if has_unknown_flag(flags) {
+        return Front::Closing(CloseFault::BadFlag);
+    }
+    if bytes.len() < length {
+        return Front::Unfinished;
+    }
+    let (whole, rest) = bytes.split_at(length);
+    let (header, body) = whole.split_at(21);
+    if header[20] != 0 || !is_framed(body) {
+        return Front::Closing(CloseFault::BadSection);
+    }
+    Front::Whole {
+        message: Message {
+            request_id: number_behind(4, bytes),
+            more_to_come: has_more_to_come(flags),
+            body,
+        },
+        rest,
+    }
+}
+
+/// The little-endian number in the four bytes behind the first `place`.
+fn number_behind(place: usize, bytes: &[u8]) -> u32
+    requires { place + 4 ≤ length bytes.now }
+    ensures { result ≡ wire.number_behind place bytes.now }
+{
+    let (_, behind) = bytes.split_at(place);
+    let (number, _) = behind.split_at(4);
+    u32::from_le_bytes([number[0], number[1], number[2], number[3]])
+}
+
+/// Whether a document's length, at least 5, is that of the bytes.
+fn is_framed(bytes: &[u8]) -> bool
+    ensures { result ≡ wire.is_framed bytes.now }
+{
+    bytes.len() > 4 && number_behind(0, bytes) as usize == bytes.len()
+}
+
+/// Bit 0, checksumPresent.
+fn has_checksum(flags: u32) -> bool
+    ensures { result ≡ wire.has_checksum flags }
+{
+    flags & 1 == 1
+}
+
+/// Bit 1, moreToCome.
+fn has_more_to_come(flags: u32) -> bool
+    ensures { result ≡ wire.has_more_to_come flags }
+{
+    flags >> 1 & 1 == 1
+}
+
+/// Bits 2 to 15, which nobody knows.
+fn has_unknown_flag(flags: u32) -> bool
+    ensures { result ≡ wire.has_unknown_flag flags }
+{
+    flags >> 2 & 0x3fff != 0
+}

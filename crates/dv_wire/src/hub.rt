@@ -1,0 +1,123 @@
+//! The sessions, and the bytes that come from them.
+
+ghost use Rattle.std.specs.Prelude.{◌≡◌, ◌==◌};
+ghost use Rattle.std.specs.List.{position_from};
+
+use crate::fault::{CloseFault, HubFault};
+use crate::session::{Session, Stage};
+use crate::store::Store;
+use std::alloc::Global;
+use std::marker::Model;
+
+/// The number of a session, from 0 in the order in which they were opened.
+#[derive(Clone, Copy, Debug, PartialEq, Eq)]
+pub struct SessionId {
+    pub number: u32,
+}
+
+/// What a session is after a piece of its bytes.
+#[derive(Clone, Copy, Debug, PartialEq, Eq)]
+pub enum Fed {
+    /// It goes on.
+    Open,
+    /// It is closed, and takes no more bytes.
+    Closed(CloseFault),
+    /// It was never opened, or has ended.
+    Unknown,
+}
+
+/// How many sessions may be opened and not ended.
+const SESSION_LIMIT: usize = 1;
+
+/// A store and the sessions that speak to it.
+#[derive(Debug, Drop)]
+pub struct Hub {
+    alloc: Global,
+    store: Store,
+    /// The number of the next session, at most 2^32.
+    next: u64,
+    sessions: Vec<Session>,
+}
+
+impl Model for Hub {
+    ghost use Rattle.std.specs.Prelude.{map};
+    ghost use Rattle.dv_wire.specs.Schedule.{World};
+
+    ghost Value = { World };
+
+    ghost use Rattle.dv_wire.specs.View.{session_of};
+
+    ghost view = { λ h. record { state = h.store; next = h.next; sessions = map session_of h.sessions.items } };
+}
+
+impl Hub {
+    ghost use Rattle.dv_wire.specs.Schedule.{world_of, conversation_of, Opens, Feeds, Appends, unfinished_in, ended};
+
+    /// A store without any session. Sessions and their bytes are allocated by `alloc`.
+    pub fn new(alloc: Global, store: Store) -> Self
+        ensures { result ≡ world_of store }
+    {
+        Hub {
+            alloc,
+            store,
+            next: 0,
+            sessions: Vec::new(alloc),
+        }
+    }
+
+    /// Opens a session, and answers its number. Refused with `TooManySessions` where one is open already or no
+    /// number is left, and with `NoMemory`; then nothing is changed.
+    pub fn open(&mut self) -> Result<SessionId, HubFault>
+        ensures { Opens self.old result self.new }
+    {
+        if self.sessions.len() >= SESSION_LIMIT {
+            return Err(HubFault::TooManySessions);
+        }
+        let number = u32::try_from(self.next).map_err(|_| HubFault::TooManySessions)?;
+        let session = Session {
+            number,
+            stage: Stage::Reading(Vec::new(self.alloc)),
+        };
+        self.sessions.push(session).map_err(|_| HubFault::NoMemory)?;
+        self.next += 1;
+        Ok(SessionId { number })
+    }
+
+    /// Takes the next piece of a session's bytes: carries out the messages that are whole now, in order, and
+    /// appends their replies to `out`, each of them whole. A fault in the bytes closes the session as soon as they
+    /// show it, and so does want of memory for the bytes or for a reply. A session that is closed takes no more.
+    pub fn feed(&mut self, session: SessionId, piece: &[u8], out: &mut Vec<u8>) -> Fed
+        ensures { Appends out.old.items out.new.items (λ bytes. Feeds self.old session.number piece.now bytes result self.new) }
+    {
+        let Some(place) = place_of(&self.sessions, session.number) else {
+            return Fed::Unknown;
+        };
+        let session = &mut self.sessions[place];
+        session.hear(self.alloc, &mut self.store, piece, out)
+    }
+
+    /// Ends a session, and answers how many bytes of an unfinished message are dropped with it. A session that was
+    /// never opened, or has ended, has none. Takes no memory.
+    pub fn end(&mut self, session: SessionId) -> usize
+        ensures unfinished { result ≡ unfinished_in (conversation_of session.number self.old.sessions) }
+        ensures ended { self.new ≡ ended session.number self.old }
+    {
+        let Some(place) = place_of(&self.sessions, session.number) else {
+            return 0;
+        };
+        let session = self.sessions.remove(place);
+        session.stage.unfinished()
+    }
+}
+
+/// The place of the session with the number, where it is there.
+fn place_of(sessions: &[Session], number: u32) -> Option<usize>
+    ensures { result ≡ position_from (λ s. s.number == number) 0 sessions.now }
+{
+    for (place, session) in sessions.iter().enumerate() {
+        if session.number == number {
+            return Some(place);
+        }
+    }
+    None
+}

@@ -1,0 +1,92 @@
+//! Replies: their bodies, and their bytes.
+
+ghost use Rattle.std.specs.Prelude.{◌≡◌, ◌+◌, ◌-◌, ◌^◌, ◌<◌, ◌≤◌, ◌∷◌, [], ◌++◌, length, take, drop, false, IfOk, OnOk, OnErr, codes};
+ghost use Rattle.std.specs.Int.{w32, to_le_bytes};
+ghost use Rattle.dv_bson.specs.Names.{has_name, has_zero};
+ghost use Rattle.dv_bson.specs.Spelling.{spelling};
+ghost use Rattle.dv_bson.specs.View.{tree};
+ghost use Rattle.dv_wire.specs.Message.{message_spelling};
+ghost use Rattle.dv_wire.specs.View.{unmeasured};
+ghost use Rattle.dv_wire.specs.Step as step;
+
+use crate::front::OP_MSG;
+use crate::refusal::Refusal;
+use dv_bson::{Document, NoMemory, Str, Value, write_document};
+use std::alloc::{AllocError, Global};
+
+/// The reply to a command that was carried out: these fields, and `ok: 1`.
+pub(crate) fn done(mut fields: Document) -> Result<Document, NoMemory>
+    requires { has_name (codes "ok") fields ≡ false }
+    ensures { IfOk result (λ reply. reply ≡ step.done fields) }
+{
+    add(&mut fields, "ok", Value::Int32(1))?;
+    Ok(fields)
+}
+
+/// The reply to a command that is refused.
+pub(crate) fn refused(alloc: Global, refusal: &Refusal) -> Result<Document, NoMemory>
+    ensures { IfOk result (λ reply. reply ≡ step.refused refusal.now) }
+{
+    let mut reply = Document::new(alloc);
+    add(&mut reply, "ok", Value::Int32(0))?;
+    let message = refusal.message(alloc)?;
+    add(&mut reply, "errmsg", Value::Text(Str::of(message)))?;
+    add(&mut reply, "code", Value::Int32(refusal.code()))?;
+    let name = String::from_str(alloc, refusal.name())?;
+    add(&mut reply, "codeName", Value::Text(Str::of(name)))?;
+    Ok(reply)
+}
+
+/// Adds a field whose name is known to be new and without a zero byte.
+fn add(reply: &mut Document, name: &str, value: Value) -> Result<(), NoMemory>
+    requires whole { has_zero name.now ≡ false }
+    requires fresh { has_name name.now reply.old ≡ false }
+    ensures { OnOk result (reply.new ≡ reply.old ++ (name.now, tree value) ∷ []) }
+{
+    reply.push(name, value).map_err(|_| AllocError)
+}
+
+/// Appends a message with this body as the reply to a request. Where memory is wanting nothing is appended.
+pub(crate) fn append_reply(
+    request_id: u32,
+    reply: &Document,
+    out: &mut Vec<u8>,
+) -> Result<(), NoMemory>
+    ensures ok { OnOk result (out.new.items ≡ out.old.items ++ message_spelling 0 request_id 0 (0 ∷ spelling reply.now)) }
+    ensures err { OnErr result (out.new.items ≡ out.old.items) }
+{
+    let start = out.len();
+    out.extend_from_slice(&header(request_id))?;
+    match write_document(reply, out) {
+        Ok(()) => {
+            put_length(out, start);
+            Ok(())
+        }
+        Err(_) => {
+            out.truncate(start);
+            Err(AllocError)
+        }
+    }
+}
+
+/// The bytes in front of a reply's body: the header, with 0 as its length, the flags and the kind of the section.
+fn header(request_id: u32) -> [u8; 21]
+    ensures { result ≡ unmeasured request_id (0 ∷ []) }
+{
+    let id = request_id.to_le_bytes();
+    let code = OP_MSG.to_le_bytes();
+    [
+        0, 0, 0, 0, 0, 0, 0, 0, id[0], id[1], id[2], id[3], code[0], code[1], code[2], code[3], 0,
+        0, 0, 0, 0,
+    ]
+}
+
+/// Puts the length of the message that begins at `start` and ends with the bytes into its first four bytes.
+fn put_length(out: &mut [u8], start: usize)
+    requires room { start + 4 ≤ length out.old }
+    requires fits { length out.old < start + 2 ^ 32 }
+    ensures { out.new ≡ take start out.old ++ (to_le_bytes w32 (length out.old - start) ++ drop (start + 4) out.old) }
+{
+    let measured = ((out.len() - start) as u32).to_le_bytes();
+    out[start..start + 4].copy_from_slice(&measured);
+}

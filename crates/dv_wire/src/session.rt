@@ -1,0 +1,170 @@
+//! One session: its bytes, and its messages one after the other.
+
+ghost use Rattle.std.specs.Prelude.{◌≡◌, ◌≤◌, ◌++◌, IfOk, length, drop, vec_len};
+ghost use Rattle.dv_bson.specs.Reading.{document_at};
+ghost use Rattle.dv_wire.specs.Schedule.{Appends, Takes, command_read};
+ghost use Rattle.dv_wire.specs.View.{kept_or_shut, left_or_shut, message_seen, Carries};
+
+use crate::fault::CloseFault;
+use crate::front::{Front, Message, front_of};
+use crate::hub::Fed;
+use crate::reply::append_reply;
+use crate::store::{Command, Outcome, Store};
+use dv_bson::{BsonFault, NoMemory, read_document};
+use std::alloc::{AllocError, Global};
+
+/// How a session stands.
+#[derive(Debug, Drop)]
+pub(crate) enum Stage {
+    /// The session is open, with the bytes of a message that isn't whole.
+    Reading(Vec<u8>),
+    Closed(CloseFault),
+}
+
+impl Stage {
+    ghost use Rattle.std.specs.Prelude.{Some};
+    ghost use Rattle.dv_wire.specs.Schedule.{unfinished_in, fed_of};
+    ghost use Rattle.dv_wire.specs.View.{conversation};
+
+    fn fed(&self) -> Fed
+        ensures { result ≡ fed_of (conversation self.now) }
+    {
+        match self {
+            Stage::Reading(_) => Fed::Open,
+            Stage::Closed(fault) => Fed::Closed(*fault),
+        }
+    }
+
+    /// How many bytes of an unfinished message are kept.
+    pub(crate) fn unfinished(&self) -> usize
+        ensures { result ≡ unfinished_in (Some (conversation self.now)) }
+    {
+        match self {
+            Stage::Reading(kept) => kept.len(),
+            Stage::Closed(_) => 0,
+        }
+    }
+}
+
+/// A session that was opened and has not ended.
+#[derive(Debug, Drop)]
+pub(crate) struct Session {
+    pub(crate) number: u32,
+    pub(crate) stage: Stage,
+}
+
+impl Session {
+    ghost use Rattle.dv_wire.specs.Schedule.{Appends, Hears, fed_of};
+    ghost use Rattle.dv_wire.specs.View.{conversation};
+
+    /// Takes the next piece of the session's bytes. A closed session takes none.
+    pub(crate) fn hear(
+        &mut self,
+        alloc: Global,
+        store: &mut Store,
+        piece: &[u8],
+        out: &mut Vec<u8>,
+    ) -> Fed
+        ensures heard { Appends out.old.items out.new.items (λ bytes. Hears self.old.number store.old (conversation self.old.stage) piece.now bytes store.new (conversation self.new.stage)) }
+        ensures answer { result ≡ fed_of (conversation self.new.stage) }
+        ensures number { self.new.number ≡ self.old.number }
+    {
+        if let Stage::Reading(kept) = &mut self.stage {
+            if let Err(fault) = take_in(alloc, store, self.number, kept, piece, out) {
+                self.stage = Stage::Closed(fault);
+            }
+        }
+        self.stage.fed()
+    }
+}
+
+/// Appends a piece to the bytes that a session keeps, carries out the messages that are whole then, and keeps what
+/// follows them.
+fn take_in(
+    alloc: Global,
+    store: &mut Store,
+    session: u32,
+    kept: &mut Vec<u8>,
+    piece: &[u8],
+    out: &mut Vec<u8>,
+) -> Result<(), CloseFault>
+    ensures { Appends out.old.items out.new.items (λ bytes. Takes session store.old (kept.old.items ++ piece.now) bytes store.new (kept_or_shut result kept.new.items)) }
+{
+    kept.extend_from_slice(piece)?;
+    let taken = carry_out_all(alloc, store, session, kept, out)?;
+    drop_front(kept, taken);
+    Ok(())
+}
+
+/// Drops the first bytes, and moves the others only where some are dropped.
+fn drop_front(bytes: &mut Vec<u8>, count: usize)
+    requires { count ≤ vec_len bytes.old }
+    ensures { bytes.new.items ≡ drop count bytes.old.items }
+{
+    if count > 0 {
+        bytes.drain(..count);
+    }
+}
+
+/// Carries out the whole messages that a stream begins with, in order, and appends their replies. Answers how many
+/// bytes they are.
+fn carry_out_all(
+    alloc: Global,
+    store: &mut Store,
+    session: u32,
+    stream: &[u8],
+    out: &mut Vec<u8>,
+) -> Result<usize, CloseFault>
+    ensures taken { IfOk result (λ taken. taken ≤ length stream.now) }
+    ensures carried { Appends out.old.items out.new.items (λ bytes. Takes session store.old stream.now bytes store.new (left_or_shut result stream.now)) }
+{
+    let mut rest = stream;
+    'messages: loop {
+        match front_of(rest) {
+            Front::Unfinished => return Ok(stream.len() - rest.len()),
+            Front::Closing(fault) => return Err(fault),
+            Front::Whole {
+                message,
+                rest: behind,
+            } => {
+                carry_out(alloc, store, session, &message, out)?;
+                rest = behind;
+            }
+        }
+    }
+}
+
+/// Carries out a message, and appends its reply. An error says that memory is wanting, for the message or its reply.
+fn carry_out(
+    alloc: Global,
+    store: &mut Store,
+    session: u32,
+    message: &Message<'_>,
+    out: &mut Vec<u8>,
+) -> Result<(), NoMemory>
+    ensures { Appends out.old.items out.new.items (λ bytes. Carries session store.old (message_seen message.now) bytes store.new result) }
+{
+    let command = command_in(alloc, message.body)?;
+    match store.execute(session, &command) {
+        Outcome::NoReply => Err(AllocError),
+        Outcome::Reply(reply) => {
+            if message.more_to_come {
+                return Ok(());
+            }
+            append_reply(message.request_id, &reply, out)
+        }
+    }
+}
+
+/// The command that a body's bytes bring. Fails where memory is wanting.
+fn command_in(alloc: Global, body: &[u8]) -> Result<Command, NoMemory>
+    ensures { IfOk result (λ command. command_read (document_at body.now) ≡ command) }
+{
+    match read_document(alloc, body) {
+        Ok((document, _)) => Ok(Command::Body(document)),
+        Err(fault) => match fault {
+            BsonFault::NoMemory => Err(AllocError),
+            _ => Ok(Command::Invalid(fault)),
+        },
+    }
+}
