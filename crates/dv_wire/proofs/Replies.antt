@@ -10,7 +10,8 @@ use Rattle.dv_bson.specs.Spelling.{spelling}
 use Rattle.dv_bson.specs.Reading.{document_at, first_fault, fault_of}
 use Rattle.dv_wire.specs.declared.store.Command.{Command}
 use Rattle.dv_wire.specs.declared.store.Command.TheVariants.{Invalid}
-use Rattle.dv_wire.specs.declared.store.Outcome.TheVariants.{Reply}
+use Rattle.dv_wire.specs.declared.store.Outcome.{Outcome}
+use Rattle.dv_wire.specs.declared.store.Outcome.TheVariants.{Reply, NoReply}
 use Rattle.dv_wire.specs.State.{State}
 use Rattle.dv_wire.specs.Message.{Message, message_spelling}
 use Rattle.dv_wire.specs.Step.{MemoryStep}
@@ -45,21 +46,34 @@ read_is : (read : Result (List Field × ℕ) BsonFault) (fault : BsonFault) → 
 read_is (Ok found) fault e = absurd cc
 read_is (Err f) fault e = cc
 
-pub invalid : (bytes : List ℕ) (fault : BsonFault) → (fault ≡ bson.NoMemory → ⊥) → (fault ≡ bson.NoMemory) ⊎ (first_fault bytes ≡ Some fault) → command_read (document_at bytes) ≡ Invalid fault
+pub invalid : (bytes : List ℕ) (fault : BsonFault) → (fault ≡ bson.NoMemory) ⊎ (first_fault bytes ≡ Some fault)
+    → (command_read (document_at bytes) ≡ Invalid fault) ⊎ (Invalid fault ≡ Invalid bson.NoMemory)
 unfolding first_fault
-invalid bytes fault another (inl e) = absurd (another e)
-invalid bytes fault another (inr e) = read_is (document_at bytes) fault e
+invalid bytes fault (inl e) = inr (ap Invalid e)
+invalid bytes fault (inr e) = inl (read_is (document_at bytes) fault e)
+
+-- a step that is refused because memory was wanting to read its command
+unread : (session : ℕ) (old new : State) (command : Command) (outcome : Outcome) → MemoryStep old session (Invalid bson.NoMemory) outcome new → MemoryStep old session command outcome new
+unread session old new command (Reply reply) (inl same) = inr same
+unread session old new command (Reply reply) (inr same) = inr same
+unread session old new command NoReply (inl same) = inr same
+unread session old new command NoReply (inr same) = inr same
+
+pub steps_as : (session : ℕ) (old new : State) (meant read : Command) (outcome : Outcome) → (meant ≡ read) ⊎ (read ≡ Invalid bson.NoMemory)
+    → MemoryStep old session read outcome new → MemoryStep old session meant outcome new
+steps_as session old new meant read outcome (inl e) steps = rw e steps
+steps_as session old new meant read outcome (inr e) steps = unread session old new meant outcome (rw e at steps)
 
 -- ---- one message
 
-module _ (session : ℕ) (old new : State) (message : Message) (command : Command) (reply : List Field) (brings : command_of message ≡ command) (steps : MemoryStep old session command (Reply reply) new) where
+module _ (session : ℕ) (old new : State) (message : Message) (reply : List Field) (steps : MemoryStep old session (command_of message) (Reply reply) new) where
   -- moreToCome is carried out and not answered
   pub silent : message.more_to_come ≡ true → CarriesOut session old (message ∷ []) [] new true
-  silent more = (new, Reply reply, rw brings steps, inl ([], rw more refl, (refl, refl, refl)))
+  silent more = (new, Reply reply, steps, inl ([], rw more refl, (refl, refl, refl)))
 
   pub answers : {A E : Type 0} (sent : Result A E) (before after : List ℕ) → message.more_to_come ≡ false
       → OnOk sent (after ≡ before ++ message_spelling 0 message.request_id 0 (0 ∷ spelling reply)) → OnErr sent (after ≡ before)
       → Appends before after (λ bytes. Carries session old message bytes new sent)
   answers (Ok x) before after more ok err =
-      (message_spelling 0 message.request_id 0 (0 ∷ spelling reply), ok, (new, Reply reply, rw brings steps, inl ([], rw more (sym (append-nil _)), (refl, refl, refl))))
-  answers (Err e) before after more ok err = ([], err ∙ sym (append-nil before), inl (new, Reply reply, rw brings steps, inr (refl, refl, refl)))
+      (message_spelling 0 message.request_id 0 (0 ∷ spelling reply), ok, (new, Reply reply, steps, inl ([], rw more (sym (append-nil _)), (refl, refl, refl))))
+  answers (Err e) before after more ok err = ([], err ∙ sym (append-nil before), inl (new, Reply reply, steps, inr (refl, refl, refl)))

@@ -1,6 +1,8 @@
 -- The machine: what each command answers, and the state that it leaves.
 use Rattle.std.specs.Prelude.{◌≡◌, ℕ, ◌⊎◌, false, ◌||◌, ◌&&◌, not, Bool, List, [], ◌∷◌, ◌++◌, Option, Some, None, Result, Ok, Err, pos, codes, ◌==◌, nat_lt, length, if◌then◌else◌}
 use Rattle.std.specs.Str.{bytes_eq}
+use Rattle.dv_bson.specs.declared.fault.BsonFault.{BsonFault}
+use Rattle.dv_bson.specs.declared.fault.BsonFault.TheVariants.{NoMemory}
 use Rattle.dv_bson.specs.Fault.{fault_text}
 use Rattle.dv_bson.specs.Tree.{Tree, string, int32, Field}
 use Rattle.dv_bson.specs.Names.{value_under, has_zero}
@@ -90,9 +92,14 @@ abbrev pub answered : State → Result Answer Refusal → Answer
 answered state (Ok answer) = answer
 answered state (Err refusal) = record { reply = refused refusal; state = state }
 
+-- why a command is refused with whose documents something is wrong; want of memory to read them is no fault of theirs
+abbrev pub refusal_of : BsonFault → Refusal
+refusal_of NoMemory = WantOfMemory
+refusal_of fault = InvalidBson fault
+
 -- one step: what a command of a session answers, and the state after it; a refusal leaves the state
 abbrev pub step : State → ℕ → Command → Answer
-step state session (Invalid fault) = answered state (Err (InvalidBson fault))
+step state session (Invalid fault) = answered state (Err (refusal_of fault))
 step state session (Body body) = answered state (command_answer state body)
 
 -- ---- under want of memory

@@ -37,7 +37,7 @@ abbrev pub left_or_shut : Result ℕ CloseFault → List ℕ → Conversation
 left_or_shut (Ok taken) stream = reading (drop taken stream)
 left_or_shut (Err fault) stream = shut fault
 
--- one message is carried out; or memory is wanting, for its reply or for its bytes
+-- one message is carried out; or memory is wanting for its reply
 abbrev pub Carries : {A E : Type 0} → ℕ → State → Message → List ℕ → State → Result A E → Type 0
 Carries session old message bytes new (Ok x) = CarriesOut session old (message ∷ []) bytes new true
 Carries session old message bytes new (Err e) = CarriesOut session old (message ∷ []) bytes new false ⊎ ((bytes ≡ []) × (new ≡ old))

@@ -66,6 +66,19 @@ impl Refusal {
     }
 }
 
+impl From<BsonFault> for Refusal {
+    ghost use Rattle.dv_wire.specs.Step as step;
+
+    ghost from_gives = { λ fault refusal. refusal ≡ step.refusal_of fault };
+
+    fn from(fault: BsonFault) -> Refusal {
+        match fault {
+            BsonFault::NoMemory => Refusal::WantOfMemory,
+            _ => Refusal::InvalidBson(fault),
+        }
+    }
+}
+
 impl From<AllocError> for Refusal {
     ghost from_gives = { λ _ refusal. refusal ≡ WantOfMemory };
 

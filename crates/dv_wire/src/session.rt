@@ -1,8 +1,9 @@
 //! One session: its bytes, and its messages one after the other.
 
-ghost use Rattle.std.specs.Prelude.{◌≡◌, ◌≤◌, ◌++◌, IfOk, length, drop, vec_len};
+ghost use Rattle.std.specs.Prelude.{◌≡◌, ◌≤◌, ◌++◌, ◌⊎◌, IfOk, length, drop, vec_len};
 ghost use Rattle.dv_bson.specs.Reading.{document_at};
 ghost use Rattle.dv_wire.specs.Schedule.{Appends, Takes, command_read};
+ghost use Rattle.dv_wire.specs.Step.{MemoryStep};
 ghost use Rattle.dv_wire.specs.View.{kept_or_shut, left_or_shut, message_seen, Carries};
 
 use crate::fault::CloseFault;
@@ -134,7 +135,7 @@ fn carry_out_all(
     }
 }
 
-/// Carries out a message, and appends its reply. An error says that memory is wanting, for the message or its reply.
+/// Carries out a message, and appends its reply. An error says that memory is wanting for the reply.
 fn carry_out(
     alloc: Global,
     store: &mut Store,
@@ -144,8 +145,7 @@ fn carry_out(
 ) -> Result<(), NoMemory>
     ensures { Appends out.old.items out.new.items (λ bytes. Carries session store.old (message_seen message.now) bytes store.new result) }
 {
-    let command = command_in(alloc, message.body)?;
-    match store.execute(session, &command) {
+    match step(alloc, store, session, message.body) {
         Outcome::NoReply => Err(AllocError),
         Outcome::Reply(reply) => {
             if message.more_to_come {
@@ -156,15 +156,20 @@ fn carry_out(
     }
 }
 
-/// The command that a body's bytes bring. Fails where memory is wanting.
-fn command_in(alloc: Global, body: &[u8]) -> Result<Command, NoMemory>
-    ensures { IfOk result (λ command. command_read (document_at body.now) ≡ command) }
+/// Carries out the command that a body's bytes bring.
+fn step(alloc: Global, store: &mut Store, session: u32, body: &[u8]) -> Outcome
+    ensures { MemoryStep store.old session (command_read (document_at body.now)) result store.new }
+{
+    let command = command_in(alloc, body);
+    store.execute(session, &command)
+}
+
+/// The command that a body's bytes bring, or that memory is wanting to read them.
+fn command_in(alloc: Global, body: &[u8]) -> Command
+    ensures { (command_read (document_at body.now) ≡ result) ⊎ (result ≡ Command.Invalid BsonFault.NoMemory) }
 {
     match read_document(alloc, body) {
-        Ok((document, _)) => Ok(Command::Body(document)),
-        Err(fault) => match fault {
-            BsonFault::NoMemory => Err(AllocError),
-            _ => Ok(Command::Invalid(fault)),
-        },
+        Ok((document, _)) => Command::Body(document),
+        Err(fault) => Command::Invalid(fault),
     }
 }

@@ -61,7 +61,7 @@ impl Store {
         ensures { step.MemoryStep self.old session command.now result self.new }
     {
         match command {
-            Command::Invalid(fault) => self.refuse(Refusal::InvalidBson(*fault)),
+            Command::Invalid(fault) => self.refuse(Refusal::from(*fault)),
             Command::Body(body) => match self.carry_out(body) {
                 Ok(reply) => Outcome::Reply(reply),
                 Err(refusal) => self.refuse(refusal),
