@@ -3,3 +3,4 @@ pub mod State
 pub mod Step
 pub mod Schedule
 pub mod View
+pub mod Fault

@@ -22,6 +22,24 @@ pub enum CloseFault {
     NoMemory,
 }
 
+impl CloseFault {
+    ghost use Rattle.dv_wire.specs.Fault.{close_number};
+
+    /// The fault's number, from 1 to 6 in the order in which the faults are declared.
+    pub fn number(&self) -> u8
+        ensures { result ≡ close_number self.now }
+    {
+        match self {
+            CloseFault::BadLength => 1,
+            CloseFault::BadOpCode => 2,
+            CloseFault::BadFlag => 3,
+            CloseFault::Checksum => 4,
+            CloseFault::BadSection => 5,
+            CloseFault::NoMemory => 6,
+        }
+    }
+}
+
 /// Why no session is opened.
 #[derive(Clone, Copy, Debug, PartialEq, Eq)]
 pub enum HubFault {
@@ -29,6 +47,20 @@ pub enum HubFault {
     TooManySessions,
     /// Memory is wanting.
     NoMemory,
+}
+
+impl HubFault {
+    ghost use Rattle.dv_wire.specs.Fault.{hub_number};
+
+    /// The fault's number: 1 TooManySessions, 2 NoMemory.
+    pub fn number(&self) -> u8
+        ensures { result ≡ hub_number self.now }
+    {
+        match self {
+            HubFault::TooManySessions => 1,
+            HubFault::NoMemory => 2,
+        }
+    }
 }
 
 impl From<AllocError> for CloseFault {

@@ -1,0 +1,269 @@
+//! Scripts: lines that bring bytes to the sessions of a hub.
+
+ghost use Rattle.std.specs.Prelude.{◌≡◌, ◌<◌, ◌+◌, ◌↔◌, ◌++◌, length, IfOk, OnOk, is_some, count_by, slice_get};
+ghost use Rattle.dv_wire.specs.Schedule.{Opens};
+
+use crate::line::{LONGEST_LINE, line};
+use crate::replies::write_replies;
+use crate::said::{Line, LineFault};
+use dv_wire::{Fed, Hub, HubFault, SessionId};
+use std::alloc::{AllocError, Global};
+use std::io::{BufWriter, Read, Write};
+use thiserror::Error;
+
+/// The most reads that a script takes.
+const MOST_READS: u64 = 4_294_967_296;
+
+/// The most bytes that one read takes.
+const PIECE: usize = 65_536;
+
+/// How many numbers a script has for sessions.
+const NUMBERS: usize = 1_000;
+
+/// How many sessions of a script may be opened and not ended.
+const OPEN_LIMIT: usize = 1;
+
+/// Why a script ends before its last line.
+#[derive(Clone, Copy, Debug, PartialEq, Eq, Error)]
+pub enum ScriptFault {
+    /// A line has no form, is too long, or would open a session more than may be open. Lines count from 1, those
+    /// that are skipped too.
+    #[error("line {line}: bad line")]
+    BadLine { line: u64 },
+    /// The reader failed, or took too many reads.
+    #[error("read failed")]
+    Read,
+    /// The writer failed.
+    #[error("write failed")]
+    Write,
+    /// Memory is wanting.
+    #[error("no memory")]
+    NoMemory,
+    /// The hub opens no session.
+    #[error("too many sessions")]
+    Sessions,
+}
+
+impl From<AllocError> for ScriptFault {
+    ghost use Rattle.docd.specs.declared.script.ScriptFault.TheVariants.{NoMemory};
+
+    ghost from_gives = { λ _ e. e ≡ NoMemory };
+
+    fn from(_e: AllocError) -> ScriptFault {
+        ScriptFault::NoMemory
+    }
+}
+
+impl From<HubFault> for ScriptFault {
+    ghost use Rattle.docd.specs.Script.{open_fault};
+
+    ghost from_gives = { λ fault e. e ≡ open_fault fault };
+
+    fn from(fault: HubFault) -> ScriptFault {
+        match fault {
+            HubFault::TooManySessions => ScriptFault::Sessions,
+            HubFault::NoMemory => ScriptFault::NoMemory,
+        }
+    }
+}
+
+/// Reads a script to its end and does each line as it comes. A number's session is opened at the number's first line,
+/// and anew after its end. Each reply is written as the number, a space and the reply's bytes in lower case; a session
+/// that is closed as `N closed F`, once, with the fault's number; an end as `N end R`, with the bytes of an unfinished
+/// message. Bytes for a closed session are dropped.
+///
+/// The first fault ends the script; what was written before stays written. The hub keeps the sessions that the script
+/// hasn't ended.
+pub fn script<R: Read, W: Write>(
+    alloc: Global,
+    hub: &mut Hub,
+    reader: &mut R,
+    writer: &mut W,
+) -> Result<(), ScriptFault> {
+    let mut writer = BufWriter::new(alloc, writer).map_err(|_| ScriptFault::NoMemory)?;
+    let done = Progress::new(alloc).read(hub, reader, &mut writer);
+    let flushed = writer.flush().map_err(|_| ScriptFault::Write);
+    done?;
+    flushed
+}
+
+/// A number's session.
+#[derive(Clone, Copy)]
+struct Session {
+    id: SessionId,
+    is_closed: bool,
+}
+
+/// How far a script is done.
+#[derive(Drop)]
+struct Progress {
+    alloc: Global,
+    /// The sessions that were opened and haven't ended, by their numbers in the script.
+    sessions: [Option<Session>; NUMBERS],
+    /// The number of the line that is being read, from 1.
+    number: u64,
+    /// The bytes of that line so far.
+    line: Vec<u8>,
+    /// The replies to a line.
+    replies: Vec<u8>,
+}
+
+impl Progress {
+    fn new(alloc: Global) -> Self {
+        Progress {
+            alloc,
+            sessions: [None; NUMBERS],
+            number: 1,
+            line: Vec::new(alloc),
+            replies: Vec::new(alloc),
+        }
+    }
+
+    fn read<R: Read, W: Write>(
+        &mut self,
+        hub: &mut Hub,
+        reader: &mut R,
+        writer: &mut W,
+    ) -> Result<(), ScriptFault> {
+        let mut piece = room(self.alloc)?;
+        for _ in 0..MOST_READS {
+            // The next read may wait for someone who waits for these replies.
+            writer.flush().map_err(|_| ScriptFault::Write)?;
+            let count = reader.read(&mut piece).map_err(|_| ScriptFault::Read)?;
+            if count == 0 {
+                return self.finish_line(hub, writer);
+            }
+            self.take(hub, &piece[..count], writer)?;
+        }
+        Err(ScriptFault::Read)
+    }
+
+    // Takes the next piece of the script, which may end any number of lines.
+    fn take<W: Write>(
+        &mut self,
+        hub: &mut Hub,
+        piece: &[u8],
+        writer: &mut W,
+    ) -> Result<(), ScriptFault> {
+        for part in piece.split_inclusive(|byte| *byte == b'\n') {
+            match part.strip_suffix(b"\n".as_slice()) {
+                Some(end) => {
+                    self.keep(end)?;
+                    self.finish_line(hub, writer)?;
+                }
+                None => self.keep(part)?,
+            }
+        }
+        Ok(())
+    }
+
+    // Keeps what comes next of the line, where that isn't too much.
+    fn keep(&mut self, part: &[u8]) -> Result<(), ScriptFault>
+        ensures kept { OnOk result (self.new ≡ record self.old { line = self.new.line }) }
+        ensures line { OnOk result (self.new.line.items ≡ self.old.line.items ++ part.now) }
+        ensures limit { (result ≡ Err (ScriptFault.BadLine self.old.number)) ↔ (131200 < length self.old.line.items + length part.now) }
+    {
+        if self.line.len().saturating_add(part.len()) > LONGEST_LINE {
+            return Err(self.bad_line());
+        }
+        self.line.extend_from_slice(part)?;
+        Ok(())
+    }
+
+    fn bad_line(&self) -> ScriptFault
+        ensures { result ≡ ScriptFault.BadLine self.now.number }
+    {
+        ScriptFault::BadLine { line: self.number }
+    }
+
+    // Does the line that was read. At the script's end that is an empty one, where the last line has its LF.
+    fn finish_line<W: Write>(&mut self, hub: &mut Hub, writer: &mut W) -> Result<(), ScriptFault> {
+        match line(self.alloc, self.line.as_slice()) {
+            Ok(Line::Skip) => {}
+            Ok(Line::Bytes(number, bytes)) => self.feed(hub, number, bytes.as_slice(), writer)?,
+            Ok(Line::End(number)) => self.end(hub, number, writer)?,
+            Err(LineFault::BadLine) => return Err(self.bad_line()),
+            Err(LineFault::NoMemory) => return Err(ScriptFault::NoMemory),
+        }
+        self.line.clear();
+        self.number = self.number.saturating_add(1);
+        Ok(())
+    }
+
+    fn feed<W: Write>(
+        &mut self,
+        hub: &mut Hub,
+        number: u32,
+        bytes: &[u8],
+        writer: &mut W,
+    ) -> Result<(), ScriptFault>
+        requires { number < 1000 }
+    {
+        let session = self.session(hub, number)?;
+        if session.is_closed {
+            return Ok(());
+        }
+        self.replies.clear();
+        let fed = hub.feed(session.id, bytes, &mut self.replies);
+        write_replies(self.alloc, number, self.replies.as_slice(), writer)?;
+        if let Fed::Closed(fault) = fed {
+            self.sessions[number as usize] = Some(Session {
+                id: session.id,
+                is_closed: true,
+            });
+            let fault = fault.number();
+            writeln!(writer, "{number} closed {fault}").map_err(|_| ScriptFault::Write)?;
+        }
+        Ok(())
+    }
+
+    fn end<W: Write>(
+        &mut self,
+        hub: &mut Hub,
+        number: u32,
+        writer: &mut W,
+    ) -> Result<(), ScriptFault>
+        requires { number < 1000 }
+        ensures { OnOk result (slice_get self.new.sessions number ≡ Some None) }
+    {
+        let session = self.session(hub, number)?;
+        let unfinished = hub.end(session.id);
+        self.sessions[number as usize] = None;
+        writeln!(writer, "{number} end {unfinished}").map_err(|_| ScriptFault::Write)
+    }
+
+    // The session of a number, which is opened if it isn't open.
+    fn session(&mut self, hub: &mut Hub, number: u32) -> Result<Session, ScriptFault>
+        requires { number < 1000 }
+        ensures open { IfOk result (λ session. slice_get self.new.sessions number ≡ Some (Some session)) }
+        ensures again { (session : Session) → slice_get self.old.sessions number ≡ Some (Some session)
+            → (result ≡ Ok session) × (self.new ≡ self.old) × (hub.new ≡ hub.old) }
+        ensures second { slice_get self.old.sessions number ≡ Some None → 0 < count_by is_some self.old.sessions
+            → result ≡ Err (ScriptFault.BadLine self.old.number) }
+        ensures full { result ≡ Err ScriptFault.Sessions → Opens hub.old (Err HubFault.TooManySessions) hub.new }
+    {
+        if let Some(session) = self.sessions[number as usize] {
+            return Ok(session);
+        }
+        if self
+            .sessions
+            .iter()
+            .filter(|session| session.is_some())
+            .count()
+            >= OPEN_LIMIT
+        {
+            return Err(self.bad_line());
+        }
+        let session = Session {
+            id: hub.open()?,
+            is_closed: false,
+        };
+        self.sessions[number as usize] = Some(session);
+        Ok(session)
+    }
+}
+
+// Room for one read's bytes. Apart, so that no proof spells all of them out.
+fn room(alloc: Global) -> Result<Vec<u8>, AllocError> {
+    vec![in alloc; 0u8; PIECE]
+}
