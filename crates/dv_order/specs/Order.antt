@@ -1,5 +1,5 @@
 -- The order in which BSON values stand, as a database sorts them and keeps them under an index:
--- first by the class of their type, and within a class by what they say.
+-- first by the class of their type, and within a class by what they say (MongoDB manual, "Comparison/Sort Order").
 use Rattle.std.specs.Prelude.{◌≡◌, ℕ, ℤ, pos}
 use Rattle.std.specs.declared.cmp.Ordering.{Ordering}
 use Rattle.std.specs.declared.cmp.Ordering.TheVariants.{Less, Equal, Greater}

@@ -14,7 +14,7 @@ use Rattle.dv_wire.specs.declared.store.Outcome.{Outcome}
 use Rattle.dv_wire.specs.declared.store.Outcome.TheVariants.{Reply, NoReply}
 use Rattle.dv_wire.specs.State.{State}
 
--- ---- refusals
+-- ---- refusals (MongoDB manual, "Error Codes"; from 900 on they are this server's own)
 
 abbrev pub code : Refusal → ℕ
 code BadValue = 2
