@@ -3,7 +3,7 @@
 ghost use Rattle.std.specs.Prelude.{◌≡◌, ◌<◌, ◌+◌, ◌↔◌, ◌++◌, length, IfOk, OnOk, is_some, count_by, slice_get};
 ghost use Rattle.dv_wire.specs.Schedule.{Opens};
 
-use crate::line::{LONGEST_LINE, line};
+use crate::line::{LONGEST_LINE, NUMBERS, line};
 use crate::replies::write_replies;
 use crate::said::{Line, LineFault};
 use dv_wire::{Fed, Hub, HubFault, SessionId};
@@ -17,8 +17,8 @@ const MOST_READS: u64 = 4_294_967_296;
 /// The most bytes that one read takes.
 const PIECE: usize = 65_536;
 
-/// How many numbers a script has for sessions.
-const NUMBERS: usize = 1_000;
+/// How many places the table of sessions has: one for each number.
+const PLACES: usize = NUMBERS as usize;
 
 /// How many sessions of a script may be opened and not ended.
 const OPEN_LIMIT: usize = 1;
@@ -99,7 +99,7 @@ struct Session {
 struct Progress {
     alloc: Global,
     /// The sessions that were opened and haven't ended, by their numbers in the script.
-    sessions: [Option<Session>; NUMBERS],
+    sessions: [Option<Session>; PLACES],
     /// The number of the line that is being read, from 1.
     number: u64,
     /// The bytes of that line so far.
@@ -112,7 +112,7 @@ impl Progress {
     fn new(alloc: Global) -> Self {
         Progress {
             alloc,
-            sessions: [None; NUMBERS],
+            sessions: [None; PLACES],
             number: 1,
             line: Vec::new(alloc),
             replies: Vec::new(alloc),
