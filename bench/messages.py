@@ -73,6 +73,15 @@ def main():
         row("%d" % count, "a byte a line", "%.3f" % spent, "%.2f" % (1e6 * spent / count))
 
     print()
+    row("bytes of one ping", "how they come", "seconds", "nanoseconds a byte")
+    row("---:", "---", "---:", "---:")
+    for size in (10_000, 100_000, 1_000_000):
+        long = message(bson.encode({"ping": 1, "text": "x" * size, "$db": "t"}))
+        for name, length in (("lines of 65,000 bytes", LINE_BYTES), ("a byte a line", 1)):
+            spent = seconds(lines(long, length), 1) - idle
+            row("%d" % len(long), name, "%.4f" % spent, "%.1f" % (1e9 * spent / len(long)))
+
+    print()
     row("fields in one ping", "bytes", "seconds", "nanoseconds a field", "python3-bson, nanoseconds a field")
     row("---:", "---:", "---:", "---:", "---:")
     for count in (16, 256, 4_096, 65_536, 524_288):
