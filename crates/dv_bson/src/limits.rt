@@ -18,10 +18,10 @@ const LONGEST: usize = 2_147_483_647;
 const FRAME: usize = 5;
 
 /// The length of the longest document that is read and stored.
-const LARGEST_READ: u32 = 16_777_216;
+pub(crate) const MAX_DOCUMENT_LEN: u32 = 16_777_216;
 
 /// How many documents and arrays stand in one another at most in what is read and stored.
-const DEEPEST_READ: u32 = 100;
+pub(crate) const MAX_LEVELS: u32 = 100;
 
 /// The length of the document's spelling in bytes; `None` above 2,147,483,647. Takes no memory.
 pub fn size(document: &Document) -> Option<u32>
@@ -36,11 +36,11 @@ pub fn size(document: &Document) -> Option<u32>
 pub fn fits(document: &Document) -> bool
     ensures { IsTrue result ↔ Fits document.now }
 {
-    if !document_within(document, DEEPEST_READ) {
+    if !document_within(document, MAX_LEVELS) {
         return false;
     }
     match size(document) {
-        Some(size) => size <= LARGEST_READ,
+        Some(size) => size <= MAX_DOCUMENT_LEN,
         None => false,
     }
 }

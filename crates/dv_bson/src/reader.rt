@@ -9,18 +9,13 @@ ghost use Rattle.dv_bson.specs.Parts.{field_at, numbered};
 
 use crate::fault::{BsonFault, ReadError};
 use crate::kind::Kind;
+use crate::limits::{MAX_DOCUMENT_LEN, MAX_LEVELS};
 use crate::reading::{
     MIN_DOCUMENT_LEN, behind_index, boolean_of, count_of, field_name_of, frame_of, framed,
     front_kind_of, int32_of, int64_of, kind_of, text_of,
 };
 use crate::value::{Document, List, Value};
 use std::alloc::Global;
-
-/// The largest length of a document that is read.
-const MAX_DOCUMENT_LEN: usize = 16_777_216;
-
-/// How many documents and arrays may stand in one another, the outermost among them.
-const MAX_LEVELS: u32 = 100;
 
 /// A value of this type, which stands at `at` in the outermost document, with so many levels left inside
 /// it, and the bytes behind it.
@@ -173,7 +168,7 @@ fn outermost_of(alloc: Global, bytes: &[u8]) -> Result<(Document, usize), ReadEr
     if len < MIN_DOCUMENT_LEN {
         return Err(ReadError::Fault(BsonFault::BadLength));
     }
-    if len > MAX_DOCUMENT_LEN {
+    if len > MAX_DOCUMENT_LEN as usize {
         return Err(ReadError::Fault(BsonFault::TooLarge));
     }
     if bytes.len() < len {
