@@ -99,6 +99,19 @@ impl Collection {
         ensures duplicate { IsErrOf result InsertFault.Duplicate → IsSome (found (id_key document) self.old) }
     {
         let key = key_of_id(&document)?;
+        self.insert_under(key, document)
+    }
+
+    /// Puts the document in its place, under the key of its `_id`. Refused with `Duplicate` exactly where a document
+    /// has an equal `_id`, and with `NoMemory` where memory is wanting to keep it.
+    #[tactic(auto, using(crate::proofs::Places::places))]
+    fn insert_under(&mut self, key: Key, document: Document) -> Result<(), InsertFault>
+        requires identified { HasId document }
+        requires keyed { key ≡ id_key document }
+        ensures ok { OnOk result (self.new ≡ inserted document self.old) }
+        ensures err { OnErr result (self.new ≡ self.old) }
+        ensures duplicate { IsErrOf result InsertFault.Duplicate ↔ IsSome (found (id_key document) self.old) }
+    {
         if self.get(&key).is_some() {
             return Err(InsertFault::Duplicate);
         }
