@@ -1,5 +1,7 @@
 //! Lines and scripts, with readers and writers in memory.
 
+mod inserts;
+
 use crate::line::{LONGEST_LINE, line};
 use crate::said::Line;
 use crate::script::{ScriptFault, script};

@@ -7,6 +7,7 @@ pub mod Fields
 pub mod Taken
 pub mod Again
 pub mod Both
+pub mod ByText
 pub mod Places
 pub mod Fronts
 pub mod Shorter

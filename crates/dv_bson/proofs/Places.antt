@@ -3,43 +3,16 @@ use Rattle.std.proofs.Common.{◌≡◌, ℕ, ◌+◌, false, List, [], ◌∷�
 use Rattle.std.proofs.lemmas.Grind.{common_steps}
 use Rattle.std.proofs.lemmas.List.{take-append-drop, drop_more, map-append}
 use Rattle.std.proofs.lemmas.Slice.Eq.{bytes_eq-Decides}
-use Rattle.std.proofs.lemmas.Map.Text.{is_eq-slice_cmp, btree_map_updates_text}
-use Rattle.std.specs.BTreeMap.{BTreeMap, is_at, get_by_text, Updates}
-use Rattle.std.specs.Cmp.Lexicographic.{slice_cmp, nat_list_cmp_total}
 use Rattle.std.specs.FinMap as finite
 use Rattle.std.specs.List.{position_from}
-use Rattle.std.specs.Map.{lookup}
-use Rattle.std.specs.Ordering.{nat_cmp}
 use Rattle.std.specs.Str.{bytes_eq}
-use Rattle.std.specs.declared.string.String.{String}
-use Rattle.std.specs.String.{string_bytes, string_cmp}
 use Rattle.dv_bson.specs.Tree.{Field}
 use Rattle.dv_bson.specs.Names.{has_name, AreNamed}
 use Rattle.dv_bson.specs.View.{field_of}
 use Rattle.dv_bson.specs.declared.value.Entry.{Entry}
-use Rattle.dv_bson.specs.Places.{Places, places_of, IsIndexOf}
+use Rattle.dv_bson.specs.Places.{Places, IsIndexOf}
+use Rattle.dv_bson.proofs.ByText.{get-insert}
 use Rattle.dv_bson.proofs.Named.{bytes_eq-symmetric, named_apart}
-
-pub get-insert : (m : Places) (name : List ℕ) (place : ℕ) (q : List ℕ) → finite.get (finite.insert m name place) q ≡ cond (bytes_eq name q) (Some place) (finite.get m q)
-get-insert m name place q =
-    finite.get-insert nat_list_cmp_total m name place q
-    ∙ ap (λ b. cond b (Some place) (finite.get m q)) (is_eq-slice_cmp q name ∙ bytes_eq-symmetric q name)
-
-module _ {Y : Type 0} where
-  find-lookup : (name : List ℕ) (es : List (String Y × ℕ)) → finite.find (slice_cmp nat_cmp) name (map (λ e. (string_bytes e.0, e.1)) es) ≡ lookup (is_at (λ k. slice_cmp nat_cmp name (string_bytes k))) es
-  find-lookup name [] = grind arith
-  find-lookup name (e ∷ es) = grind (arith, find-lookup name es)
-
-  pub get-places_of : (m : BTreeMap (String Y) ℕ) (name : List ℕ) → finite.get (places_of m) name ≡ get_by_text m name
-  get-places_of m name = finite.get-from_entries nat_list_cmp_total _ name ∙ find-lookup name m.entries
-
-  pub places_of-insert : (m n : BTreeMap (String Y) ℕ) (name : String Y) (place : ℕ) → Updates string_cmp m n name (Some place) → places_of n ≡ finite.insert (places_of m) (string_bytes name) place
-  places_of-insert m n name place updated =
-      finite.same_map nat_list_cmp_total (finite.slice_cmp-IsAntisymmetric finite.nat_cmp-IsAntisymmetric) _ _ (λ q.
-      get-places_of n q
-      ∙ btree_map_updates_text (string_bytes name) m n (Some place) updated q
-      ∙ ap (cond (bytes_eq (string_bytes name) q) (Some place)) (sym (get-places_of m q))
-      ∙ sym (get-insert (places_of m) (string_bytes name) place q))
 
 -- counted from i, the last field stands at n
 position_from-push : (name : List ℕ) (i n : ℕ) (fs : List Field) (f : Field) → has_name f.0 fs ≡ false → n ≡ i + length fs → position_from (λ g. bytes_eq name g.0) i (fs ++ f ∷ []) ≡ cond (bytes_eq f.0 name) (Some n) (position_from (λ g. bytes_eq name g.0) i fs)

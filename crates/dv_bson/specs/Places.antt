@@ -14,8 +14,11 @@ abbrev pub Places : Type 0
 Places = finite.FinMap (slice_cmp nat_cmp) ℕ
 
 -- what a map under texts has, by the texts' bytes
+abbrev pub by_text : {X Y : Type 0} → BTreeMap (String Y) X → finite.FinMap (slice_cmp nat_cmp) X
+by_text m = finite.from_entries (map (λ e. (string_bytes e.0, e.1)) m.entries)
+
 abbrev pub places_of : {Y : Type 0} → BTreeMap (String Y) ℕ → Places
-places_of m = finite.from_entries (map (λ e. (string_bytes e.0, e.1)) m.entries)
+places_of m = by_text m
 
 -- each name of the fields has its place, and no other name has one
 pub record IsIndexOf (fs : List Field) (places : Places) : Type 0 where

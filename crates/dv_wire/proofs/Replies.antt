@@ -54,10 +54,9 @@ invalid bytes fault (inr e) = inl (read_is (document_at bytes) fault e)
 
 -- a step that is refused because memory was wanting to read its command
 unread : (session : ℕ) (old new : State) (command : Command) (outcome : Outcome) → MemoryStep old session (Invalid bson.NoMemory) outcome new → MemoryStep old session command outcome new
-unread session old new command (Reply reply) (inl same) = inr same
-unread session old new command (Reply reply) (inr same) = inr same
-unread session old new command NoReply (inl same) = inr same
-unread session old new command NoReply (inr same) = inr same
+unread session old new command outcome (inl told) = inr (inl told)
+unread session old new command outcome (inr (inl told)) = inr (inl told)
+unread session old new command outcome (inr (inr cut)) = absurd cut.1
 
 pub steps_as : (session : ℕ) (old new : State) (meant read : Command) (outcome : Outcome) → (meant ≡ read) ⊎ (read ≡ Invalid bson.NoMemory)
     → MemoryStep old session read outcome new → MemoryStep old session meant outcome new

@@ -1,6 +1,15 @@
 pub mod Message
 pub mod State
+pub mod Refusals
+pub mod Namespaces
+pub mod Fields
+pub mod Storable
+pub mod Insert
+pub mod Find
 pub mod Step
+pub mod Examples
 pub mod Schedule
+pub mod Statement
 pub mod View
 pub mod Fault
+pub mod WorldCode

@@ -42,8 +42,11 @@ pub struct Hub {
 impl Model for Hub {
     ghost use Rattle.std.specs.Prelude.{map};
     ghost use Rattle.dv_wire.specs.Schedule.{World};
+    ghost use Rattle.dv_wire.specs.WorldCode.{coded_world};
 
     ghost Value = { World };
+
+    ghost coded = { coded_world };
 
     ghost use Rattle.dv_wire.specs.View.{session_of};
 

@@ -2,11 +2,12 @@
 
 ghost use Rattle.std.specs.Prelude.{◌≡◌, IfOk, pos};
 ghost use Rattle.std.specs.String.{string_bytes};
-ghost use Rattle.dv_wire.specs.Step as step;
+ghost use Rattle.dv_wire.specs.Refusals as refusals;
 ghost use Rattle.dv_wire.specs.declared.refusal.Refusal.TheVariants.{WantOfMemory};
 
 use dv_bson::BsonFault;
-use std::alloc::{AllocError, Global};
+use dv_coll::InsertFault;
+use std::alloc::{AllocError, AllocFailed, Global};
 
 /// Why a command is refused: the server error codes of the MongoDB manual, and this server's own from 900 on.
 #[derive(Clone, Copy, Debug, PartialEq, Eq)]
@@ -21,14 +22,20 @@ pub enum Refusal {
     InvalidBson(BsonFault),
     /// There is no such command (59).
     CommandNotFound,
+    /// A document has an equal `_id` (11000).
+    DuplicateKey,
     /// Memory is wanting (900).
     WantOfMemory,
+    /// A document, or what a reply would hold, is over a limit (901).
+    TooLarge,
+    /// There are more statements than a command may have (903).
+    LimitReached,
 }
 
 impl Refusal {
     /// The code's number.
     pub fn code(&self) -> i32
-        ensures { result ≡ pos (step.code self.now) }
+        ensures { result ≡ pos (refusals.code self.now) }
     {
         match self {
             Refusal::BadValue => 2,
@@ -36,13 +43,16 @@ impl Refusal {
             Refusal::TypeMismatch => 14,
             Refusal::InvalidBson(_) => 22,
             Refusal::CommandNotFound => 59,
+            Refusal::DuplicateKey => 11000,
             Refusal::WantOfMemory => 900,
+            Refusal::TooLarge => 901,
+            Refusal::LimitReached => 903,
         }
     }
 
     /// The code's name.
     pub fn name(&self) -> &'static str
-        ensures { result.now ≡ step.code_name self.now }
+        ensures { result.now ≡ refusals.code_name self.now }
     {
         match self {
             Refusal::BadValue => "BadValue",
@@ -50,14 +60,17 @@ impl Refusal {
             Refusal::TypeMismatch => "TypeMismatch",
             Refusal::InvalidBson(_) => "InvalidBSON",
             Refusal::CommandNotFound => "CommandNotFound",
+            Refusal::DuplicateKey => "DuplicateKey",
             Refusal::WantOfMemory => "WantOfMemory",
+            Refusal::TooLarge => "TooLarge",
+            Refusal::LimitReached => "LimitReached",
         }
     }
 
     /// The refusal in words: the code's name, and behind it why a document can't be read. Fails where memory is
     /// wanting.
     pub fn message(&self, alloc: Global) -> Result<String, AllocError>
-        ensures { IfOk result (λ message. string_bytes message ≡ step.message_of self.now) }
+        ensures { IfOk result (λ message. string_bytes message ≡ refusals.message_of self.now) }
     {
         match self {
             Refusal::InvalidBson(fault) => format!(in alloc; "InvalidBSON: {fault}"),
@@ -67,9 +80,9 @@ impl Refusal {
 }
 
 impl From<BsonFault> for Refusal {
-    ghost use Rattle.dv_wire.specs.Step as step;
+    ghost use Rattle.dv_wire.specs.Refusals as refusals;
 
-    ghost from_gives = { λ fault refusal. refusal ≡ step.refusal_of fault };
+    ghost from_gives = { λ fault refusal. refusal ≡ refusals.refusal_of fault };
 
     fn from(fault: BsonFault) -> Refusal {
         match fault {
@@ -84,5 +97,26 @@ impl From<AllocError> for Refusal {
 
     fn from(_e: AllocError) -> Refusal {
         Refusal::WantOfMemory
+    }
+}
+
+impl<T: Drop> From<AllocFailed<T>> for Refusal {
+    ghost from_gives = { λ _ refusal. refusal ≡ WantOfMemory };
+
+    fn from(_e: AllocFailed<T>) -> Refusal {
+        Refusal::WantOfMemory
+    }
+}
+
+impl From<InsertFault> for Refusal {
+    ghost use Rattle.dv_wire.specs.Refusals as refusals;
+
+    ghost from_gives = { λ fault refusal. refusal ≡ refusals.insert_refusal fault };
+
+    fn from(fault: InsertFault) -> Refusal {
+        match fault {
+            InsertFault::Duplicate => Refusal::DuplicateKey,
+            InsertFault::NoMemory => Refusal::WantOfMemory,
+        }
     }
 }

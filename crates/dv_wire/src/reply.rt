@@ -7,7 +7,7 @@ ghost use Rattle.dv_bson.specs.Spelling.{spelling};
 ghost use Rattle.dv_bson.specs.View.{tree};
 ghost use Rattle.dv_wire.specs.Message.{message_spelling};
 ghost use Rattle.dv_wire.specs.View.{unmeasured};
-ghost use Rattle.dv_wire.specs.Step as step;
+ghost use Rattle.dv_wire.specs.Refusals as refusals;
 
 use crate::front::OP_MSG;
 use crate::refusal::Refusal;
@@ -17,7 +17,7 @@ use std::alloc::{AllocError, Global};
 /// The reply to a command that was carried out: these fields, and `ok: 1`.
 pub(crate) fn done(mut fields: Document) -> Result<Document, NoMemory>
     requires { has_name (codes "ok") fields ≡ false }
-    ensures { IfOk result (λ reply. reply ≡ step.done fields) }
+    ensures { IfOk result (λ reply. reply ≡ refusals.done fields) }
 {
     add(&mut fields, "ok", Value::Int32(1))?;
     Ok(fields)
@@ -25,7 +25,7 @@ pub(crate) fn done(mut fields: Document) -> Result<Document, NoMemory>
 
 /// The reply to a command that is refused.
 pub(crate) fn refused(alloc: Global, refusal: &Refusal) -> Result<Document, NoMemory>
-    ensures { IfOk result (λ reply. reply ≡ step.refused refusal.now) }
+    ensures { IfOk result (λ reply. reply ≡ refusals.refused refusal.now) }
 {
     let mut reply = Document::new(alloc);
     add(&mut reply, "ok", Value::Int32(0))?;
@@ -38,7 +38,7 @@ pub(crate) fn refused(alloc: Global, refusal: &Refusal) -> Result<Document, NoMe
 }
 
 /// Adds a field whose name is known to be new and without a zero byte.
-fn add(reply: &mut Document, name: &str, value: Value) -> Result<(), NoMemory>
+pub(crate) fn add(reply: &mut Document, name: &str, value: Value) -> Result<(), NoMemory>
     requires whole { has_zero name.now ≡ false }
     requires fresh { has_name name.now reply.old ≡ false }
     ensures { OnOk result (reply.new ≡ reply.old ++ (name.now, tree value) ∷ []) }

@@ -1,11 +1,16 @@
 //! The commands, and what they are carried out on.
 
-ghost use Rattle.std.specs.Prelude.{◌≡◌, Ok, Err, MatchResult};
+ghost use Rattle.std.specs.Prelude.{◌≡◌};
+ghost use Rattle.dv_wire.specs.Find as finding;
 ghost use Rattle.dv_wire.specs.Step as step;
 
+use crate::collections::Collections;
+use crate::find::{find_of, rows_reply};
+use crate::insert::{insert_all, insert_of};
+use crate::namespaces::database;
 use crate::refusal::Refusal;
 use crate::reply::{done, refused};
-use dv_bson::{BsonFault, Document, Value};
+use dv_bson::{BsonFault, Document};
 use std::alloc::Global;
 use std::marker::Model;
 
@@ -31,20 +36,23 @@ pub enum Outcome {
 #[derive(Debug, Drop)]
 pub struct Store {
     alloc: Global,
+    collections: Collections,
 }
 
 impl Model for Store {
-    ghost use Rattle.dv_wire.specs.State.{State, empty_state, coded_state};
+    ghost use Rattle.dv_wire.specs.State.{State, coded_state};
 
     ghost Value = { State };
 
     ghost coded = { coded_state };
 
-    ghost view = { λ _. empty_state };
+    ghost view = { λ s. s.collections };
 }
 
 impl Store {
     ghost use Rattle.std.specs.Prelude.{◌≡◌};
+    ghost use Rattle.dv_wire.specs.Find as finding;
+    ghost use Rattle.dv_wire.specs.Insert.{insert_of};
     ghost use Rattle.dv_wire.specs.State.{empty_state};
     ghost use Rattle.dv_wire.specs.Step as step;
 
@@ -52,18 +60,22 @@ impl Store {
     pub fn new(alloc: Global) -> Self
         ensures { result ≡ empty_state }
     {
-        Store { alloc }
+        Store {
+            alloc,
+            collections: Collections::new(alloc),
+        }
     }
 
-    /// Carries out one command of a session: one step of the machine. A command that is refused, and one that
-    /// finds no memory, is answered so and changes nothing; where its reply finds no memory the step stands.
+    /// Carries out one command of a session: one step of the machine. A command that is refused is answered so and
+    /// changes nothing. Where memory is wanting, it is refused for that, a write ends at the statement that finds
+    /// none, or the step stands and its reply is left out.
     pub fn execute(&mut self, session: u32, command: &Command) -> Outcome
         ensures { step.MemoryStep self.old session command.now result self.new }
     {
         match command {
             Command::Invalid(fault) => self.refuse(Refusal::from(*fault)),
-            Command::Body(body) => match self.carry_out(body) {
-                Ok(reply) => Outcome::Reply(reply),
+            Command::Body(body) => match self.carry_out(session, body) {
+                Ok(outcome) => outcome,
                 Err(refusal) => self.refuse(refusal),
             },
         }
@@ -82,22 +94,38 @@ impl Store {
         }
     }
 
-    /// Carries out the command that the body names, and answers its reply, or why it is refused. Then nothing is
-    /// changed.
-    fn carry_out(&mut self, body: &Document) -> Result<Document, Refusal>
-        ensures { step.Gives self.old (step.command_answer self.old body.now) result self.new }
+    /// Carries out the command that the body names, or answers why it is refused. Then nothing is changed.
+    fn carry_out(&mut self, session: u32, body: &Document) -> Result<Outcome, Refusal>
+        ensures { step.Gives self.old (step.command_answer self.old session body.now) (step.Cut self.old body.now) result self.new }
     {
         match command_name(body) {
-            "ping" => self.ping(body),
+            "ping" => Ok(Outcome::Reply(self.ping(body)?)),
+            "insert" => self.insert(body),
+            "find" => Ok(Outcome::Reply(self.find(body)?)),
             _ => Err(Refusal::CommandNotFound),
         }
     }
 
-    fn ping(&mut self, body: &Document) -> Result<Document, Refusal>
-        ensures { step.Gives self.old (step.ping self.old body.now) result self.new }
+    fn ping(&self, body: &Document) -> Result<Document, Refusal>
+        ensures { step.Wants (step.ping body.now) result }
     {
         database(body)?;
         Ok(done(Document::new(self.alloc))?)
+    }
+
+    fn insert(&mut self, body: &Document) -> Result<Outcome, Refusal>
+        ensures { step.Gives self.old (step.insert self.old body.now) (step.InsertCut self.old (insert_of body.now)) result self.new }
+    {
+        let insert = insert_of(self.alloc, body)?;
+        Ok(insert_all(self.alloc, &mut self.collections, &insert))
+    }
+
+    fn find(&self, body: &Document) -> Result<Document, Refusal>
+        ensures { step.Wants (finding.find self.now body.now) result }
+    {
+        let namespace = find_of(self.alloc, body)?;
+        let collection = self.collections.get(&namespace);
+        rows_reply(self.alloc, namespace, collection)
     }
 }
 
@@ -109,29 +137,4 @@ fn command_name(body: &Document) -> &str
         Some((name, _)) => name,
         None => "",
     }
-}
-
-/// The database that a command names, in its field `$db`.
-fn database(body: &Document) -> Result<&str, Refusal>
-    ensures { MatchResult result (λ name. step.database body.now ≡ Ok name.now) (λ refusal. step.database body.now ≡ Err refusal) }
-{
-    match body.get("$db") {
-        None => Err(Refusal::FailedToParse),
-        Some(Value::Text(name)) => {
-            if is_database_name(name.as_str()) {
-                Ok(name.as_str())
-            } else {
-                Err(Refusal::BadValue)
-            }
-        }
-        Some(_) => Err(Refusal::TypeMismatch),
-    }
-}
-
-/// Whether the name is not empty, without a dot and without a zero byte.
-fn is_database_name(name: &str) -> bool
-    ensures { result ≡ step.is_database_name name.now }
-{
-    let bytes = name.as_bytes();
-    !bytes.is_empty() && !bytes.contains(&b'.') && !bytes.contains(&0)
 }

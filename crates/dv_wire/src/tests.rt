@@ -1,4 +1,6 @@
 use super::*;
+use crate::storable::storable;
+use dv_bson::{Document, Value, read_document, write_document};
 use std::alloc::Global;
 use std::test::*;
 
@@ -190,5 +192,85 @@ fn refusals(rt: HostRuntime) -> Result<(), Fail> {
         assert_eq!(rt; told, Fed::Open);
         assert_eq!(rt; out, answered);
     }
+    Ok(())
+}
+
+/// The bytes of the document that these bytes spell, as it is stored; or the name of the refusal.
+fn stored(alloc: Global, body: &[u8]) -> Result<Vec<u8>, Fail> {
+    let (document, _) = read_document(alloc, body)?;
+    let mut told = Vec::new(alloc);
+    match storable(alloc, &document) {
+        Ok(stored) => write_document(&stored, &mut told)?,
+        Err(refusal) => told.extend_from_slice(refusal.name().as_bytes())?,
+    }
+    Ok(told)
+}
+
+#[test]
+fn documents_are_stored_with_their_id_in_front(rt: HostRuntime) -> Result<(), Fail> {
+    let bad = b"BadValue".as_slice();
+    let id_in_front = b"\x15\0\0\0\x10_id\0\x02\0\0\0\x10a\0\x01\0\0\0\0".as_slice();
+    let deep_in_id = b"\x17\0\0\0\x03_id\0\x0d\0\0\0\x10$x\0\x01\0\0\0\0\0".as_slice();
+    for (document, wanted) in [
+        (
+            b"\x15\0\0\0\x10a\0\x01\0\0\0\x10_id\0\x02\0\0\0\0".as_slice(),
+            id_in_front,
+        ),
+        (id_in_front, id_in_front),
+        (deep_in_id, deep_in_id),
+        (
+            b"\x1e\0\0\0\x03a\0\x0d\0\0\0\x10$x\0\x01\0\0\0\0\x10_id\0\x01\0\0\0\0".as_slice(),
+            b"\x1e\0\0\0\x10_id\0\x01\0\0\0\x03a\0\x0d\0\0\0\x10$x\0\x01\0\0\0\0\0".as_slice(),
+        ),
+        (b"\x05\0\0\0\0".as_slice(), bad),
+        (b"\x0c\0\0\0\x10a\0\x01\0\0\0\0".as_slice(), bad),
+        (
+            b"\x16\0\0\0\x04_id\0\x0c\0\0\0\x100\0\x01\0\0\0\0\0".as_slice(),
+            bad,
+        ),
+        (
+            b"\x16\0\0\0\x10$a\0\x01\0\0\0\x10_id\0\x01\0\0\0\0".as_slice(),
+            bad,
+        ),
+        (
+            b"\x17\0\0\0\x10_id\0\x01\0\0\0\x10a.b\0\x01\0\0\0\0".as_slice(),
+            bad,
+        ),
+        (
+            b"\x2f\0\0\0\x10_id\0\x01\0\0\0\x04a\0\x1e\0\0\0\x040\0\x16\0\0\0\x030\0\x0e\0\0\0\x10x.y\0\x01\0\0\0\0\0\0\0".as_slice(),
+            bad,
+        ),
+    ] {
+        let told = stored(rt.alloc(), document)?;
+        assert_eq!(rt; told.as_slice(), wanted);
+    }
+    Ok(())
+}
+
+/// 39 fields, each `true` under its number, and `_id` in front of them or behind them.
+fn numbered(alloc: Global, id_in_front: bool) -> Result<Document, Fail> {
+    let mut document = Document::new(alloc);
+    if id_in_front {
+        document.push("_id", Value::Bool(false))?;
+    }
+    for number in 0..39 {
+        let name = format!(in alloc; "{number}")?;
+        document.push(&name, Value::Bool(true))?;
+    }
+    if !id_in_front {
+        document.push("_id", Value::Bool(false))?;
+    }
+    Ok(document)
+}
+
+#[test]
+fn the_last_of_forty_fields_moves_to_the_front(rt: HostRuntime) -> Result<(), Fail> {
+    let document = numbered(rt.alloc(), false)?;
+    let stored = storable(rt.alloc(), &document).ok().ok_or("it is stored")?;
+    let mut told = Vec::new(rt.alloc());
+    let mut wanted = Vec::new(rt.alloc());
+    write_document(&stored, &mut told)?;
+    write_document(&numbered(rt.alloc(), true)?, &mut wanted)?;
+    assert_eq!(rt; told, wanted);
     Ok(())
 }

@@ -1,8 +1,12 @@
-use Rattle.std.proofs.Common.{[], sym, refl, inr}
+use Rattle.std.proofs.Common.{[], sym, refl, inl}
 use Rattle.std.proofs.lemmas.List.{append-nil}
+use Rattle.dv_wire.specs.declared.store.Outcome.TheVariants.{NoReply}
 use Rattle.dv_wire.specs.View.{message_seen}
 use Rattle.dv_wire.proofs.Replies.{silent, answers}
 use Rattle.dv_wire.proofs.session.carry_out.Goals as goal
+
+pub returns-in-NoReply : goal.returns-in-NoReply
+returns-in-NoReply c = ([], sym (append-nil _), inl (c.step.new.store, NoReply, c.in-NoReply.ensures, (refl, refl, refl)))
 
 pub returns-then-message : goal.returns-then-message
 returns-then-message c =

@@ -1,7 +1,8 @@
-use Rattle.dv_bson.proofs.Places.{places_of-insert}
+use Rattle.std.specs.String.{string_bytes}
+use Rattle.dv_bson.proofs.ByText.{by_text-insert}
 use Rattle.dv_bson.proofs.name_index.NameIndex.add.Goals as goal
 
 pub returns-clause-ok : goal.returns-clause-ok
 returns-clause-ok c =
-    let inserted = places_of-insert c.self.inside.places c.insert.new.self c.into_inner-name.result c.args.place c.in_ok-insert.ensures.updates in
+    let inserted = by_text-insert c.self.inside.places c.insert.new.self (string_bytes c.into_inner-name.result) c.args.place c.in_ok-insert.ensures.updates in
     rw (← c.self.view_is, ← c.in_ok-try_clone.ensures, ← c.into_inner-name.ensures) inserted

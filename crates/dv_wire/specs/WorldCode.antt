@@ -1,0 +1,28 @@
+-- A world as a ghost value, one to one: so a proof can tell two worlds apart.
+use Rattle.std.specs.Prelude.{◌≡◌, ℕ, ◌⊎◌, List, refl}
+use Rattle.std.proofs.Common.{inl, inr}
+use Rattle.std.specs.Coded.{Coded, code_by, coded×, coded⊎, coded_list, coded_ℕ}
+use Rattle.dv_wire.specs.declared.fault.CloseFault.{CloseFault}
+use Rattle.dv_wire.specs.contracts.fault.CloseFault as fault
+use Rattle.dv_wire.specs.State.{State, coded_state}
+use Rattle.dv_wire.specs.Schedule.{Conversation, reading, shut, World}
+
+abbrev either : Conversation → List ℕ ⊎ CloseFault
+either (reading bytes) = inl bytes
+either (shut fault) = inr fault
+
+abbrev conversation_from : List ℕ ⊎ CloseFault → Conversation
+conversation_from (inl bytes) = reading bytes
+conversation_from (inr fault) = shut fault
+
+abbrev same_conversation : (c : Conversation) → conversation_from (either c) ≡ c
+same_conversation (reading bytes) = refl
+same_conversation (shut fault) = refl
+
+abbrev coded_conversation : Coded Conversation
+coded_conversation = code_by (List ℕ ⊎ CloseFault) (coded⊎ (coded_list coded_ℕ) fault.the_row.coded) either conversation_from same_conversation
+
+abbrev pub coded_world : Coded World
+coded_world =
+    code_by (State × (ℕ × List (ℕ × Conversation))) (coded× coded_state (coded× coded_ℕ (coded_list (coded× coded_ℕ coded_conversation))))
+    (λ w. (w.state, (w.next, w.sessions))) (λ p. record { state = p.0; next = p.1.0; sessions = p.1.1 }) (λ _. refl)
