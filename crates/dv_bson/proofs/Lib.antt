@@ -1,3 +1,4 @@
+pub mod Ascii
 pub mod Named
 pub mod Steps
 pub mod Numbers

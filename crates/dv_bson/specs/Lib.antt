@@ -2,6 +2,7 @@ pub mod Tree
 pub mod TreeCode
 pub mod View
 pub mod ViewFalls
+pub mod Kept
 pub mod Names
 pub mod Places
 pub mod Spelling

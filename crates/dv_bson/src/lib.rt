@@ -6,6 +6,7 @@ mod fault;
 mod kind;
 pub mod laws;
 mod limits;
+mod name;
 mod name_index;
 mod reader;
 mod reading;

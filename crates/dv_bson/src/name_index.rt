@@ -4,7 +4,6 @@ ghost use Rattle.std.specs.Prelude.{◌≡◌, OnOk, OnErr};
 ghost use Rattle.std.specs.FinMap as finite;
 
 use crate::NoMemory;
-use crate::text::Str;
 use std::alloc::Global;
 use std::collections::BTreeMap;
 use std::marker::Model;
@@ -46,11 +45,11 @@ impl NameIndex {
 
     /// Gives the name this place, instead of the one that it had. Where memory is wanting nothing is
     /// changed.
-    pub(crate) fn add(&mut self, name: &Str, place: usize) -> Result<(), NoMemory>
+    pub(crate) fn add(&mut self, alloc: Global, name: &str, place: usize) -> Result<(), NoMemory>
         ensures ok { OnOk result (self.new ≡ finite.insert self.old name.now place) }
         ensures err { OnErr result (self.new ≡ self.old) }
     {
-        let name = name.try_clone()?.into_inner();
+        let name = String::from_str(alloc, name)?;
         self.places.insert(name, place)?;
         Ok(())
     }

@@ -101,6 +101,14 @@ fn closed(last: u8, at: usize) -> Result<(), ReadError>
     Err(ReadError::Fault(BsonFault::BadLength))
 }
 
+/// For how many fields room is made before the first is read, where so many bytes of elements are there: for as many
+/// as a document of that length often has, so that fields are seldom moved, and never for many.
+fn first_room(len: usize) -> usize
+    ensures { result ≤ 12 }
+{
+    if len == 0 { 0 } else { (len / 20).clamp(4, 12) }
+}
+
 /// The document whose elements these are, the first of them at `at` in the outermost document, with so many
 /// levels left, itself among them.
 #[cycle(reader)]
@@ -117,7 +125,7 @@ fn document_of(
     if levels == 0 {
         return Err(ReadError::Fault(BsonFault::TooDeep));
     }
-    let mut document = Document::new(alloc);
+    let mut document = Document::with_room(alloc, first_room(elements.len()))?;
     let mut rest = elements;
     'fields: while !rest.is_empty() {
         let (name, value, after) = field_of(alloc, levels - 1, at, &document, rest)?;

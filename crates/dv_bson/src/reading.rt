@@ -1,6 +1,6 @@
 //! What stands at the front of bytes: a count, a type, a name, a text, a number, or the frame of a document.
 
-ghost use Rattle.std.specs.Prelude.{◌≡◌, ◌≤◌, ◌==◌, true, false, length, drop, map, decimal, position, MatchResult, IfSome};
+ghost use Rattle.std.specs.Prelude.{◌≡◌, ◌≤◌, ◌==◌, ◌||◌, Ok, nat_lt, true, false, length, drop, map, decimal, position, MatchResult, IfSome};
 ghost use Rattle.std.specs.Option.{option_map};
 ghost use Rattle.std.specs.Int.{w32, w64};
 ghost use Rattle.std.specs.Str.{is_utf8};
@@ -97,11 +97,34 @@ fn cut_of(bytes: &[u8]) -> Option<(&[u8], &[u8])>
     Some((&bytes[..end], &bytes[end + 1..]))
 }
 
+/// The place of the first byte that is zero or not ASCII.
+fn ascii_end_in(bytes: &[u8]) -> Option<usize>
+    ensures { result ≡ position (λ byte. byte == 0 || nat_lt 127 byte) bytes.now }
+{
+    bytes.iter().position(|byte| *byte == 0 || 127 < *byte)
+}
+
+/// A name, and the bytes behind its closing zero, where the name is ASCII, as most are: then one look at each byte
+/// finds its end and that it is UTF-8.
+fn ascii_name_of(bytes: &[u8]) -> Option<(&str, &[u8])>
+    ensures { IfSome result (λ x. any_name_at bytes.now ≡ Ok (x.0.now, x.1.now)) }
+{
+    let end = ascii_end_in(bytes)?;
+    if bytes[end] != 0 {
+        return None;
+    }
+    let name = unsafe { str::from_utf8_unchecked(&bytes[..end]) };
+    Some((name, &bytes[end + 1..]))
+}
+
 /// A name, and the bytes behind its closing zero.
 #[tactic(auto, unfolding(crate::specs::Parts::any_name_at))]
 fn name_of(bytes: &[u8]) -> Result<(&str, &[u8]), ReadError>
     ensures { Gives (λ x. (x.0.now, x.1.now)) result (any_name_at bytes.now) }
 {
+    if let Some(found) = ascii_name_of(bytes) {
+        return Ok(found);
+    }
     let Some((name, rest)) = cut_of(bytes) else {
         return Err(ReadError::Fault(BsonFault::BadLength));
     };

@@ -11,6 +11,7 @@ ghost use Rattle.dv_bson.specs.View.{tree, field_of};
 use crate::NoMemory;
 use crate::fault::BsonFault;
 use crate::kind::Kind;
+use crate::name::Name;
 use crate::name_index::NameIndex;
 use crate::text::Str;
 use std::alloc::Global;
@@ -42,7 +43,7 @@ pub enum Value {
 #[cycle(value)]
 #[derive(Debug, Drop)]
 pub(crate) struct Entry {
-    pub(crate) name: Str,
+    pub(crate) name: Name,
     pub(crate) value: Value,
 }
 
@@ -155,6 +156,16 @@ impl Document {
         }
     }
 
+    /// A document without fields, with room for so many. Fails where memory is wanting.
+    pub(crate) fn with_room(alloc: Global, fields: usize) -> Result<Self, NoMemory>
+        ensures { IfOk result (λ document. document ≡ []) }
+    {
+        Ok(Document {
+            entries: Vec::with_capacity(alloc, fields)?,
+            index: None,
+        })
+    }
+
     /// How many fields there are.
     pub fn len(&self) -> usize
         ensures len { result ≡ length self.now }
@@ -229,10 +240,10 @@ impl Document {
         ensures err { OnErr result (self.new ≡ self.old) }
     {
         let alloc = *self.entries.allocator();
-        let name = Str::of(String::from_str(alloc, name)?);
+        let name = Name::of(alloc, name)?;
         // Room first: once the name is in the index, nothing may fail.
         self.entries.reserve(1)?;
-        index_next(alloc, &mut self.index, &self.entries, &name)?;
+        index_next(alloc, &mut self.index, &self.entries, name.as_str())?;
         self.entries.push(Entry { name, value })?;
         Ok(())
     }
@@ -254,8 +265,8 @@ impl Document {
         let alloc = *self.entries.allocator();
         let mut entries = Vec::with_capacity(alloc, self.entries.len())?;
         for entry in &self.entries {
-            let name = entry.name.try_clone()?;
             let value = entry.value.try_clone()?;
+            let name = entry.name.try_clone()?;
             entries.push(Entry { name, value })?;
         }
         let index = index_of(alloc, &entries)?;
@@ -281,7 +292,7 @@ fn index_next(
     alloc: Global,
     index: &mut Option<Box<NameIndex>>,
     entries: &[Entry],
-    name: &Str,
+    name: &str,
 ) -> Result<(), NoMemory>
     requires named { AreNamed (map field_of entries.now) }
     requires fresh { has_name name.now (map field_of entries.now) ≡ false }
@@ -293,12 +304,13 @@ fn index_next(
         *index = index_of(alloc, entries)?;
     }
     match index {
-        Some(index) => index.add(name, entries.len()),
+        Some(index) => index.add(alloc, name, entries.len()),
         None => Ok(()),
     }
 }
 
 /// The index of these fields' names, where there are so many that names are indexed.
+#[inline]
 fn index_of(alloc: Global, entries: &[Entry]) -> Result<Option<Box<NameIndex>>, NoMemory>
     requires { AreNamed (map field_of entries.now) }
     ensures { IfOk result (λ index. IfSome index (λ index. IsIndexOf (map field_of entries.now) index.value)) }
@@ -306,11 +318,19 @@ fn index_of(alloc: Global, entries: &[Entry]) -> Result<Option<Box<NameIndex>>, 
     if entries.len() < INDEXED_LENGTH {
         return Ok(None);
     }
+    Ok(Some(Box::new(alloc, all_indexed(alloc, entries)?)?))
+}
+
+/// The index of these fields' names.
+fn all_indexed(alloc: Global, entries: &[Entry]) -> Result<NameIndex, NoMemory>
+    requires { AreNamed (map field_of entries.now) }
+    ensures { IfOk result (λ index. IsIndexOf (map field_of entries.now) index) }
+{
     let mut index = NameIndex::new(alloc);
     for (place, entry) in entries.iter().enumerate() {
-        index.add(&entry.name, place)?;
+        index.add(alloc, entry.name.as_str(), place)?;
     }
-    Ok(Some(Box::new(alloc, index)?))
+    Ok(index)
 }
 
 impl List {

@@ -39,6 +39,25 @@ fn reads_each_type(rt: HostRuntime) -> Result<(), Fail> {
     Ok(())
 }
 
+#[test]
+fn reads_short_long_and_foreign_names(rt: HostRuntime) -> Result<(), Fail> {
+    let bytes =
+        b"\x31\0\0\0\x08aaaaaaaaaaaaaaaa\0\x01\x08aaaaaaaaaaaaaaaaa\0\x01\x08\xc3\xa9\0\x01\0";
+    let (read, len) = read_document(rt.alloc(), bytes)?;
+    assert_eq!(rt; len, 49);
+    let copy = read.try_clone()?;
+    let names = ["aaaaaaaaaaaaaaaa", "aaaaaaaaaaaaaaaaa", "é"];
+    for (place, want) in names.iter().enumerate() {
+        for document in [&read, &copy] {
+            match document.entry(place) {
+                Some((name, Value::Bool(true))) => assert_eq!(rt; name, *want),
+                _ => return Err("no boolean".into()),
+            }
+        }
+    }
+    Ok(())
+}
+
 fn is_refused(rt: &HostRuntime, bytes: &[u8], want: BsonFault) -> bool {
     match read_document(rt.alloc(), bytes) {
         Ok(_) => false,

@@ -45,13 +45,13 @@ document_of-returns-then-levels-eq0 t c = too_deep _ _ _ _ _ (omega arith)
 
 pub document_of-fields-init : goal.document_of-fields-init
 document_of-fields-init t c = record {
-  read = rw c.new-document.ensures (starts c.args.levels false c.args.at c.args.elements.now c.args.last (omega arith));
+  read = rw c.in_ok-document.ensures (starts c.args.levels false c.args.at c.args.elements.now c.args.last (omega arith));
   in_range = c.requires;
 }
 
 pub document_of-returns-in_err-name : goal.document_of-returns-in_err-name
 document_of-returns-in_err-name t c =
-    let p = err_from_is_err_and c.from_residual.result c.from_residual.ensures.1 in
+    let p = err_from_is_err_and c.from_residual-in_err-name.result c.from_residual-in_err-name.ensures.1 in
     rw (p.1, p.2) (ends _ _ _ _ _ _ _ _ (some_left _ (sym c.is_empty.ensures ∙ c.fields-test.true)) c.in_err-name.ensures c.fields.invariant.read)
 
 pub document_of-add-requires-clause-whole : goal.document_of-add-requires-clause-whole

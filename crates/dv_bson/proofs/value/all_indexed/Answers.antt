@@ -1,6 +1,6 @@
 use Rattle.std.proofs.Common.{arith}
 use Rattle.dv_bson.proofs.Places.{IsIndexOf-empty, IsIndexOf-more}
-use Rattle.dv_bson.proofs.value.index_of.Goals as goal
+use Rattle.dv_bson.proofs.value.all_indexed.Goals as goal
 
 pub loop-place-init : goal.loop-place-init
 loop-place-init c = rw c.new-index.ensures IsIndexOf-empty
@@ -8,4 +8,4 @@ loop-place-init c = rw c.new-index.ensures IsIndexOf-empty
 pub loop-place-preserved : goal.loop-place-preserved
 loop-place-preserved c =
     let l = c.loop-place in
-    rw c.in_ok-add.ensures.ok (IsIndexOf-more c.args.entries.now l.place c.index-entries-place.result l.index (omega arith) c.index-entries-place.is c.requires l.invariant)
+    rw (c.in_ok-add.ensures.ok, c.as_str.ensures) (IsIndexOf-more c.args.entries.now l.place c.index-entries-place.result l.index (omega arith) c.index-entries-place.is c.requires l.invariant)
