@@ -10,15 +10,18 @@ use Rattle.dv_wire.specs.declared.store.Command.{Command}
 use Rattle.dv_wire.specs.declared.store.Command.TheVariants.{Body, Invalid}
 use Rattle.dv_wire.specs.declared.store.Outcome.{Outcome}
 use Rattle.dv_wire.specs.declared.store.Outcome.TheVariants.{Reply, NoReply}
-use Rattle.dv_wire.specs.Refusals.{done, ◌>>=◌}
+use Rattle.dv_wire.specs.Refusals.{◌>>=◌}
+use Rattle.dv_wire.specs.Replies.{done, count}
 use Rattle.dv_wire.specs.State.{State}
-use Rattle.dv_wire.specs.Insert.{Insert, insert_of, Written, nothing_written, with_all, count, errors_field, IsCut}
+use Rattle.dv_wire.specs.Statements.{Written, nothing_written, with_all, errors_field, IsCut}
+use Rattle.dv_wire.specs.Insert.{Insert, insert_of, insert_one}
 use Rattle.dv_wire.specs.Find.{find}
 use Rattle.dv_wire.specs.Step.{Answer, answered, written_answer, insert_answer, insert, reads, ping, command_name, command_answer, InsertCut, CommandCut, Tells, MemoryStep}
 
 -- what an insert wrote, be it cut
 abbrev pub Wrote : State → Insert → Written → Type 0
-Wrote old asked written = (written ≡ with_all asked (nothing_written old) asked.documents) ⊎ IsCut asked old written
+Wrote old asked written = let one = insert_one asked.namespace in
+    (written ≡ with_all one asked.ordered (nothing_written old) asked.documents) ⊎ IsCut one asked.ordered asked.documents old written
 
 abbrev IsInsert : Command → Type 0
 IsInsert (Body body) = bytes_eq (command_name body) (codes "insert") ≡ true
@@ -42,7 +45,7 @@ read_only old (Ok reply) = refl
 read_only old (Err refusal) = refl
 
 writes : (old : State) (command : Command) (asked : Result Insert Refusal) → IsInsert command → MayWrite old command (answered old (asked >>= λ i. Ok (insert_answer old i)))
-writes old command (Ok asked) is = inr (record { is_insert = is; asked = asked; written = with_all asked (nothing_written old) asked.documents; wrote = inl refl; answers = refl })
+writes old command (Ok asked) is = inr (record { is_insert = is; asked = asked; written = with_all (insert_one asked.namespace) asked.ordered (nothing_written old) asked.documents; wrote = inl refl; answers = refl })
 writes old command (Err refusal) is = inl refl
 
 cut_writes : (old : State) (command : Command) (asked : Result Insert Refusal) (answer : Answer) → IsInsert command → InsertCut old asked answer → MayWrite old command answer

@@ -12,7 +12,7 @@ use Rattle.dv_wire.specs.declared.store.Outcome.TheVariants.{Reply, NoReply}
 use Rattle.dv_wire.specs.State.{State}
 use Rattle.dv_wire.specs.Message.{Message, Ending, rest, closed, Split, split, continued}
 use Rattle.dv_wire.specs.Step.{MemoryStep}
-use Rattle.dv_wire.specs.Schedule.{command_of, GoesOn, CarriesOut, sent, Takes, Conversation, reading, shut, conversation_after, fed_of, World, conversation_of, with_conversation, Hears, Feeds, FeedsTwo}
+use Rattle.dv_wire.specs.Schedule.{command_of, GoesOn, CarriesOut, sent, Takes, Conversation, reading, shut, conversation_after, fed_of, World, conversation_of, with_conversation, Hears, Feeds, FeedsAll, joined}
 use Rattle.dv_wire.proofs.Streams.{carries_then, stops}
 use Rattle.dv_wire.proofs.Growth.{split_continues}
 
@@ -221,7 +221,7 @@ fed_first : (old : World) (session : ℕ) (piece bytes : List ℕ) (state : Stat
 fed_first old session piece bytes state before now e hears = rw e (state, now, hears, refl, refl)
 
 pub feeds_two : (old new : World) (session : ℕ) (piece more bytes : List ℕ) (answer : Fed) (found : Option Conversation) → conversation_of session old.sessions ≡ found
-    → Feeds old session (piece ++ more) bytes answer new → FeedsTwo old session piece more bytes answer new
+    → Feeds old session (piece ++ more) bytes answer new → FeedsAll old session piece (more ∷ []) bytes answer new
 feeds_two old new session piece more bytes answer None e feeds =
     let nothing = rw e at feeds in
     ([], [], old, Unknown, nothing.0, rw e (refl, refl, refl), rw e (refl, nothing.1, nothing.2))
@@ -239,7 +239,7 @@ feeds_two old new session piece more bytes answer (Some before) e feeds =
     )
 
 pub feeds_one : (old new : World) (session : ℕ) (piece more bytes : List ℕ) (answer : Fed) (found : Option Conversation) → conversation_of session old.sessions ≡ found
-    → FeedsTwo old session piece more bytes answer new → Feeds old session (piece ++ more) bytes answer new
+    → FeedsAll old session piece (more ∷ []) bytes answer new → Feeds old session (piece ++ more) bytes answer new
 feeds_one old new session piece more bytes answer None e two =
     let first = rw e at two.5 in
     let second = rw (first.2, e) at two.6 in
@@ -251,3 +251,19 @@ feeds_one old new session piece more bytes answer (Some before) e two =
     let both : HearsTwo session old.state before piece more bytes second.0 second.1 =
     record { one = two.0; two = two.1; mid = first.0; between = first.1; both = two.4; first = first.2; second = second.2 } in
     rw e (second.0, second.1, hears_one session old.state second.0 before second.1 piece more bytes both, second.3, set_once old new session first.0 second.0 first.1 second.1 second.4)
+
+-- ---- any number of pieces
+
+pub feeds_joined : (old new : World) (session : ℕ) (piece : List ℕ) (pieces : List (List ℕ)) (bytes : List ℕ) (answer : Fed)
+    → FeedsAll old session piece pieces bytes answer new → Feeds old session (joined piece pieces) bytes answer new
+feeds_joined old new session piece [] bytes answer feeds = feeds
+feeds_joined old new session piece (next ∷ pieces) bytes answer (first, others, mid, told, both, feeds, behind) =
+    feeds_one old new session piece (joined next pieces) bytes answer (conversation_of session old.sessions) refl
+    (first, others, mid, told, both, feeds, feeds_joined mid new session next pieces others answer behind)
+
+pub feeds_all : (old new : World) (session : ℕ) (piece : List ℕ) (pieces : List (List ℕ)) (bytes : List ℕ) (answer : Fed)
+    → Feeds old session (joined piece pieces) bytes answer new → FeedsAll old session piece pieces bytes answer new
+feeds_all old new session piece [] bytes answer feeds = feeds
+feeds_all old new session piece (next ∷ pieces) bytes answer feeds =
+    let (first, others, mid, told, both, before, behind) = feeds_two old new session piece (joined next pieces) bytes answer (conversation_of session old.sessions) refl feeds in
+    (first, others, mid, told, both, before, feeds_all mid new session next pieces others answer behind)

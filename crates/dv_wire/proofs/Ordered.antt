@@ -15,7 +15,8 @@ use Rattle.dv_wire.specs.declared.store.Outcome.{Outcome}
 use Rattle.dv_wire.specs.Refusals.{◌>>=◌}
 use Rattle.dv_wire.specs.Storable.{are_fields_dotted, has_dollar, id_in, is_within_limits, storable, with_id_first, without_field}
 use Rattle.dv_wire.specs.State.{State, empty_state, documents_of, or_no_documents, with_documents, AreOrdered, IsOrdered}
-use Rattle.dv_wire.specs.Insert.{Insert, Written, nothing_written, goes_on, insert_one, stored_in, with_all, with_next, with_result}
+use Rattle.dv_wire.specs.Statements.{Written, nothing_written, goes_on, with_all, with_next, with_result}
+use Rattle.dv_wire.specs.Insert.{Insert, insert_one, stored_in}
 use Rattle.dv_wire.specs.Step.{Answer, MemoryStep}
 use Rattle.dv_wire.proofs.Changes.{MayWrite, Wrote, told_writes, told_state}
 
@@ -90,18 +91,25 @@ module _ (keeps : KeepsOrder) where
   looked_ordered true one other h i = h
   looked_ordered false one other h i = i
 
-  next_ordered : (asked : Insert) (so_far : Written) (d : List Field) → IsOrdered so_far.state → IsOrdered (with_next asked so_far d).state
-  next_ordered asked so_far d i =
-      looked_ordered (goes_on asked.ordered so_far.errors) (with_result so_far (insert_one asked.namespace so_far.state d)) so_far
-      (written_ordered so_far _ i (result_ordered asked.namespace so_far.state (storable d) (storable_id d) i)) i
+  one_ordered : (namespace : List ℕ) (state : State) (d : List Field) → IsOrdered state → GivesOrdered (insert_one namespace state d)
+  one_ordered namespace state d i = result_ordered namespace state (storable d) (storable_id d) i
 
-  all_ordered : (asked : Insert) (so_far : Written) (ds : List (List Field)) → IsOrdered so_far.state → IsOrdered (with_all asked so_far ds).state
-  all_ordered asked so_far [] i = i
-  all_ordered asked so_far (d ∷ ds) i = all_ordered asked (with_next asked so_far d) ds (next_ordered asked so_far d i)
+  -- the statements of any command, if each leaves the documents in order
+  module _ {A : Type 0} (one : State → A → Result State Refusal) (ordered : Bool) (keeps_one : (state : State) (statement : A) → IsOrdered state → GivesOrdered (one state statement)) where
+    next_ordered : (so_far : Written) (statement : A) → IsOrdered so_far.state → IsOrdered (with_next one ordered so_far statement).state
+    next_ordered so_far statement i =
+        looked_ordered (goes_on ordered so_far.errors) (with_result so_far (one so_far.state statement)) so_far
+        (written_ordered so_far _ i (keeps_one so_far.state statement i)) i
+
+    all_ordered : (so_far : Written) (statements : List A) → IsOrdered so_far.state → IsOrdered (with_all one ordered so_far statements).state
+    all_ordered so_far [] i = i
+    all_ordered so_far (statement ∷ statements) i = all_ordered (with_next one ordered so_far statement) statements (next_ordered so_far statement i)
 
   wrote_ordered : (old : State) (asked : Insert) (written : Written) → Wrote old asked written → IsOrdered old → IsOrdered written.state
-  wrote_ordered old asked written (inl whole) i = rw whole (all_ordered asked (nothing_written old) asked.documents i)
-  wrote_ordered old asked written (inr c) i = rw c.left_so (all_ordered asked (nothing_written old) c.before i)
+  wrote_ordered old asked written (inl whole) i =
+      rw whole (all_ordered (insert_one asked.namespace) asked.ordered (one_ordered asked.namespace) (nothing_written old) asked.documents i)
+  wrote_ordered old asked written (inr c) i =
+      rw c.left_so (all_ordered (insert_one asked.namespace) asked.ordered (one_ordered asked.namespace) (nothing_written old) c.before i)
 
   may_ordered : (old : State) (command : Command) (answer : Answer) → MayWrite old command answer → IsOrdered old → IsOrdered answer.state
   may_ordered old command answer (inl same) i = rw same i

@@ -11,7 +11,7 @@ use Rattle.dv_bson.specs.Reading.{document_at, first_fault, fault_of}
 use Rattle.dv_wire.specs.declared.store.Command.{Command}
 use Rattle.dv_wire.specs.declared.store.Command.TheVariants.{Invalid}
 use Rattle.dv_wire.specs.declared.store.Outcome.{Outcome}
-use Rattle.dv_wire.specs.declared.store.Outcome.TheVariants.{Reply, NoReply}
+use Rattle.dv_wire.specs.declared.store.Outcome.TheVariants.{Reply}
 use Rattle.dv_wire.specs.State.{State}
 use Rattle.dv_wire.specs.Message.{Message, message_spelling}
 use Rattle.dv_wire.specs.Step.{MemoryStep}

@@ -1,4 +1,4 @@
--- The statements of an insert, one after the other.
+-- The statements of a write command, one after the other.
 use Rattle.std.proofs.Common.{◌≡◌, ℕ, suc, ◌+◌, ◌<◌, ◌≤◌, ◌⊎◌, Bool, true, false, not, List, [], ◌∷◌, ◌++◌, length, map, drop, get_or, Result, Ok, Err, IfOk, refl, sym, ap, subst, ◌∙◌, append_assoc, add-one, drop_of_length-le, inl, inr, arith}
 use Rattle.std.specs.Bool.{◌==◌}
 use Rattle.std.specs.Prelude.{codes}
@@ -15,9 +15,8 @@ use Rattle.dv_wire.specs.declared.refusal.Refusal.TheVariants.{WantOfMemory}
 use Rattle.dv_wire.specs.declared.store.Outcome.TheVariants.{NoReply}
 use Rattle.dv_wire.specs.Fields.{documents_among}
 use Rattle.dv_wire.specs.State.{State}
-use Rattle.dv_wire.specs.Insert.{Insert, Written, nothing_written, with_next, with_all, insert_one, with_result, goes_on, errors_field, insert_reply, cut, IsCut}
-use Rattle.dv_wire.specs.Step.{Writes}
-use Rattle.dv_wire.specs.Statement.{with_refusal, goes_on_behind, Next, outcome_of}
+use Rattle.dv_wire.specs.Statements.{Written, nothing_written, with_next, with_all, with_result, goes_on, errors_field, written_reply, cut, IsCut}
+use Rattle.dv_wire.specs.WriteParts.{with_refusal, goes_on_behind, outcome_of, Next, Writes}
 
 -- ---- the reply's errors
 
@@ -62,92 +61,94 @@ module _ (vs : List Value) (trees : List Tree) (place : ℕ) (seen : map tree vs
 
 -- ---- one statement
 
-next_carried_out : (insert : Insert) (so_far now : Written) (d : List Field) (b : Bool)
-    → now ≡ with_next insert so_far d → goes_on insert.ordered now.errors ≡ b → Next insert so_far d (Ok b) now
-next_carried_out insert so_far now d true is goes = (is, goes)
-next_carried_out insert so_far now d false is goes = inl (is, goes)
-
 goes_on-push : (ordered : Bool) (es : List Tree) (e : Tree) → goes_on ordered (es ++ e ∷ []) ≡ not ordered
 goes_on-push ordered [] e = refl
 goes_on-push ordered (x ∷ es) e = refl
-
-pub next_refused : (insert : Insert) (so_far now : Written) (d : List Field) (refusal : Refusal)
-    → goes_on insert.ordered so_far.errors ≡ true → (insert_one insert.namespace so_far.state d ≡ Err refusal) ⊎ (refusal ≡ WantOfMemory)
-    → now ≡ with_refusal so_far refusal → Next insert so_far d (Ok (goes_on_behind refusal insert.ordered)) now
-next_refused insert so_far now d WantOfMemory goes refused is = inr is
-next_refused insert so_far now d refusal goes (inl e) is =
-    next_carried_out insert so_far now d (not insert.ordered) (rw (goes, e) is) (rw is (goes_on-push insert.ordered so_far.errors _))
-next_refused insert so_far now d refusal goes (inr want) is = cc
 
 counts_result : (so_far : Written) (result : Result State Refusal) → (with_result so_far result).statements ≡ suc so_far.statements
 counts_result so_far (Ok state) = refl
 counts_result so_far (Err refusal) = refl
 
--- ---- where a command stands
+module _ {A : Type 0} (one : State → A → Result State Refusal) (ordered : Bool) where
+  next_carried_out : (so_far now : Written) (statement : A) (b : Bool)
+      → now ≡ with_next one ordered so_far statement → goes_on ordered now.errors ≡ b → Next one ordered so_far statement (Ok b) now
+  next_carried_out so_far now statement true is goes = (is, goes)
+  next_carried_out so_far now statement false is goes = inl (is, goes)
 
-pub with_all-append : (insert : Insert) (w : Written) (ds es : List (List Field)) → with_all insert w (ds ++ es) ≡ with_all insert (with_all insert w ds) es
-with_all-append insert w [] es = refl
-with_all-append insert w (d ∷ ds) es = with_all-append insert (with_next insert w d) ds es
+  pub next_refused : (so_far now : Written) (statement : A) (refusal : Refusal)
+      → goes_on ordered so_far.errors ≡ true → (one so_far.state statement ≡ Err refusal) ⊎ (refusal ≡ WantOfMemory)
+      → now ≡ with_refusal so_far refusal → Next one ordered so_far statement (Ok (goes_on_behind refusal ordered)) now
+  next_refused so_far now statement WantOfMemory goes refused is = inr is
+  next_refused so_far now statement refusal goes (inl e) is =
+      next_carried_out so_far now statement (not ordered) (rw (goes, e) is) (rw is (goes_on-push ordered so_far.errors _))
+  next_refused so_far now statement refusal goes (inr want) is = cc
 
--- where a command doesn't go on, the documents behind don't matter
-pub with_all-stopped : (insert : Insert) (w : Written) (ds : List (List Field)) → goes_on insert.ordered w.errors ≡ false → with_all insert w ds ≡ w
-with_all-stopped insert w [] stopped = refl
-with_all-stopped insert w (d ∷ ds) stopped = rw stopped (with_all-stopped insert w ds stopped)
+  -- ---- where a command stands
 
--- the documents before the rest were carried out, and the rest is to be looked at
-pub record Reached (insert : Insert) (old : State) (so_far : Written) (rest : List (List Field)) : Type 0 where
-  pub before : List (List Field)
-  pub documents : insert.documents ≡ before ++ rest
-  pub carried_out : so_far ≡ with_all insert (nothing_written old) before
-  pub goes : goes_on insert.ordered so_far.errors ≡ true
+  with_all-append : (w : Written) (xs ys : List A) → with_all one ordered w (xs ++ ys) ≡ with_all one ordered (with_all one ordered w xs) ys
+  with_all-append w [] ys = refl
+  with_all-append w (x ∷ xs) ys = with_all-append (with_next one ordered w x) xs ys
 
--- all documents were carried out, or the command was cut
-abbrev pub Ended : Insert → State → Written → Type 0
-Ended insert old left = (left ≡ with_all insert (nothing_written old) insert.documents) ⊎ IsCut insert old left
+  -- where a command doesn't go on, the statements behind don't matter
+  with_all-stopped : (w : Written) (xs : List A) → goes_on ordered w.errors ≡ false → with_all one ordered w xs ≡ w
+  with_all-stopped w [] stopped = refl
+  with_all-stopped w (x ∷ xs) stopped = rw stopped (with_all-stopped w xs stopped)
 
-pub starts : (insert : Insert) (old : State) → Reached insert old (nothing_written old) insert.documents
-starts insert old = record { before = []; documents = refl; carried_out = refl; goes = refl }
+  module _ (statements : List A) (old : State) where
+    -- the statements before the rest were carried out, and the rest is to be looked at
+    pub record Reached (so_far : Written) (rest : List A) : Type 0 where
+      pub before : List A
+      pub stands : statements ≡ before ++ rest
+      pub carried_out : so_far ≡ with_all one ordered (nothing_written old) before
+      pub goes : goes_on ordered so_far.errors ≡ true
 
-module _ (insert : Insert) (old : State) (so_far : Written) where
-  pub at_end : Reached insert old so_far [] → Ended insert old so_far
-  at_end reached = inl (reached.carried_out ∙ ap (with_all insert (nothing_written old)) (sym (append-nil reached.before) ∙ sym reached.documents))
+    -- all statements were carried out, or the command was cut
+    abbrev pub Ended : Written → Type 0
+    Ended left = (left ≡ with_all one ordered (nothing_written old) statements) ⊎ IsCut one ordered statements old left
 
-  module _ (d : List Field) (rest : List (List Field)) (reached : Reached insert old so_far (d ∷ rest)) where
-    cut_here : IsCut insert old (cut so_far)
-    cut_here = record {
-      before = reached.before;
-      document = d;
-      behind = rest;
-      documents = reached.documents;
-      reached = rw (← reached.carried_out) reached.goes;
-      left_so = ap cut reached.carried_out;
-    }
+    pub starts : Reached (nothing_written old) statements
+    starts = record { before = []; stands = refl; carried_out = refl; goes = refl }
 
-    pub goes_behind : (now : Written) → Next insert so_far d (Ok true) now → Reached insert old now rest
-    goes_behind now next = record {
-      before = reached.before ++ d ∷ [];
-      documents = reached.documents ∙ sym (append_assoc reached.before (d ∷ []) rest);
-      carried_out = next.0 ∙ ap (λ (w : Written). with_next insert w d) reached.carried_out ∙ sym (with_all-append insert (nothing_written old) reached.before (d ∷ []));
-      goes = next.1;
-    }
+    module _ (so_far : Written) where
+      pub at_end : Reached so_far [] → Ended so_far
+      at_end reached = inl (reached.carried_out ∙ ap (with_all one ordered (nothing_written old)) (sym (append-nil reached.before) ∙ sym reached.stands))
 
-    pub ends : (now : Written) → Next insert so_far d (Ok false) now → Ended insert old now
-    ends now (inl next) =
-        inl (sym (with_all-stopped insert now rest next.1)
-        ∙ ap (λ (w : Written). with_all insert w rest) (next.0 ∙ ap (λ (w : Written). with_next insert w d) reached.carried_out)
-        ∙ sym (with_all-append insert (nothing_written old) reached.before (d ∷ rest)) ∙ ap (with_all insert (nothing_written old)) (sym reached.documents))
-    ends now (inr is_cut) = inr (subst (IsCut insert old) (sym is_cut) cut_here)
+      module _ (statement : A) (rest : List A) (reached : Reached so_far (statement ∷ rest)) where
+        cut_here : IsCut one ordered statements old (cut so_far)
+        cut_here = record {
+          before = reached.before;
+          statement = statement;
+          behind = rest;
+          stands = reached.stands;
+          reached = rw (← reached.carried_out) reached.goes;
+          left_so = ap cut reached.carried_out;
+        }
 
-    pub fails : (new : State) → new ≡ so_far.state → Writes old insert NoReply new
-    fails new same = inr (cut so_far, cut_here, same)
+        pub goes_behind : (now : Written) → Next one ordered so_far statement (Ok true) now → Reached now rest
+        goes_behind now next = record {
+          before = reached.before ++ statement ∷ [];
+          stands = reached.stands ∙ sym (append_assoc reached.before (statement ∷ []) rest);
+          carried_out = next.0 ∙ ap (λ (w : Written). with_next one ordered w statement) reached.carried_out ∙ sym (with_all-append (nothing_written old) reached.before (statement ∷ []));
+          goes = next.1;
+        }
 
-    pub counts : (now : Written) → Next insert so_far d (Ok true) now → now.statements ≡ suc so_far.statements
-    counts now next = ap (λ (w : Written). w.statements) next.0 ∙ rw reached.goes (counts_result so_far _)
+        pub ends : (now : Written) → Next one ordered so_far statement (Ok false) now → Ended now
+        ends now (inl next) =
+            inl (sym (with_all-stopped now rest next.1)
+            ∙ ap (λ (w : Written). with_all one ordered w rest) (next.0 ∙ ap (λ (w : Written). with_next one ordered w statement) reached.carried_out)
+            ∙ sym (with_all-append (nothing_written old) reached.before (statement ∷ rest)) ∙ ap (with_all one ordered (nothing_written old)) (sym reached.stands))
+        ends now (inr is_cut) = inr (subst (IsCut one ordered statements old) (sym is_cut) cut_here)
 
--- what an ended command answers
-pub answers : (insert : Insert) (old : State) (left : Written) (reply : Result (List Field) AllocError)
-    → Ended insert old left → IfOk reply (λ r. r ≡ insert_reply left) → Writes old insert (outcome_of reply) left.state
-answers insert old left (Ok r) (inl all) is = inl (is ∙ ap insert_reply all, ap (λ (w : Written). w.state) all)
-answers insert old left (Ok r) (inr is_cut) is = inr (left, is_cut, (is, refl))
-answers insert old left (Err e) (inl all) is = inl (ap (λ (w : Written). w.state) all)
-answers insert old left (Err e) (inr is_cut) is = inr (left, is_cut, refl)
+        pub fails : (new : State) → new ≡ so_far.state → Writes one ordered old statements NoReply new
+        fails new same = inr (cut so_far, cut_here, same)
+
+        pub counts : (now : Written) → Next one ordered so_far statement (Ok true) now → now.statements ≡ suc so_far.statements
+        counts now next = ap (λ (w : Written). w.statements) next.0 ∙ rw reached.goes (counts_result so_far _)
+
+    -- what an ended command answers
+    pub answers : (left : Written) (reply : Result (List Field) AllocError)
+        → Ended left → IfOk reply (λ r. r ≡ written_reply left) → Writes one ordered old statements (outcome_of reply) left.state
+    answers left (Ok r) (inl all) is = inl (is ∙ ap written_reply all, ap (λ (w : Written). w.state) all)
+    answers left (Ok r) (inr is_cut) is = inr (left, is_cut, (is, refl))
+    answers left (Err e) (inl all) is = inl (ap (λ (w : Written). w.state) all)
+    answers left (Err e) (inr is_cut) is = inr (left, is_cut, refl)

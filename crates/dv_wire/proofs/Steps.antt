@@ -1,12 +1,14 @@
 -- What the commands give is a step of the machine.
-use Rattle.std.proofs.Common.{◌≡◌, ◌⊎◌, ℕ, List, Result, Ok, Err, inl, inr, refl}
+use Rattle.std.proofs.Common.{◌≡◌, ℕ, List, Result, Ok, Err, inl, inr, refl}
 use Rattle.dv_bson.specs.Tree.{Field}
 use Rattle.dv_wire.specs.declared.refusal.Refusal.{Refusal}
 use Rattle.dv_wire.specs.declared.store.Command.TheVariants.{Body}
 use Rattle.dv_wire.specs.declared.store.Outcome.{Outcome}
 use Rattle.dv_wire.specs.State.{State}
-use Rattle.dv_wire.specs.Insert.{Insert, insert_of}
-use Rattle.dv_wire.specs.Step.{Answer, insert, answered, written_answer, command_answer, Tells, InsertCut, Cut, MemoryStep, Writes, Gives}
+use Rattle.dv_wire.specs.Insert.{Insert, insert_of, insert_one}
+use Rattle.dv_wire.specs.Step.{Answer, insert, written_answer, command_answer, InsertCut, Cut, MemoryStep}
+use Rattle.dv_wire.specs.StepParts.{Gives}
+use Rattle.dv_wire.specs.WriteParts.{Writes}
 
 -- what is carried out under another name for it
 pub gives_as : (old new : State) (defined other : Result Answer Refusal) (IsCutTo IsOther : Answer → Type 0) (result : Result Outcome Refusal)
@@ -15,7 +17,7 @@ gives_as old new defined other IsCutTo IsOther (Ok outcome) e follows (inl told)
 gives_as old new defined other IsCutTo IsOther (Ok outcome) e follows (inr (answer, is, told)) = inr (answer, follows answer is, told)
 gives_as old new defined other IsCutTo IsOther (Err refusal) e follows h = rw e h
 
-pub writes_give : (old new : State) (body : List Field) (asked : Insert) (outcome : Outcome) → insert_of body ≡ Ok asked → Writes old asked outcome new
+pub writes_give : (old new : State) (body : List Field) (asked : Insert) (outcome : Outcome) → insert_of body ≡ Ok asked → Writes (insert_one asked.namespace) asked.ordered old asked.documents outcome new
     → Gives old (insert old body) (InsertCut old (insert_of body)) (Ok outcome) new
 writes_give old new body asked outcome e (inl told) = rw e (inl told)
 writes_give old new body asked outcome e (inr (left, cut, told)) = inr (written_answer left, rw e (left, cut, refl), told)

@@ -3,7 +3,7 @@ use Rattle.std.specs.Prelude.{◌≡◌, ℕ, false, List, [], ◌∷◌, ◌++�
 use Rattle.dv_bson.specs.Tree.{Tree, string, int32, int64, array, boolean, Field, elements_of}
 use Rattle.dv_wire.specs.declared.store.Command.TheVariants.{Body}
 use Rattle.dv_wire.specs.State.{State, empty_state, with_documents}
-use Rattle.dv_wire.specs.Find.{document_of}
+use Rattle.dv_wire.specs.Replies.{document_of}
 use Rattle.dv_wire.specs.Step.{step}
 
 -- ---- words for them

@@ -1,4 +1,5 @@
--- The fields of commands: which there may be, and what their values have to be.
+-- The fields of commands: which there may be, and what their values have to be. Their names and types are the MongoDB manual's
+-- ("insert", "find"); which of them are there yet and which are ignored are this server's own.
 use Rattle.std.specs.Prelude.{ℕ, ◌||◌, Bool, true, false, List, [], ◌∷◌, Option, Some, None, Result, Ok, Err, codes, if◌then◌else◌, ⊤}
 use Rattle.std.specs.Str.{bytes_eq}
 use Rattle.dv_bson.specs.Tree.{Tree, string, document, array, boolean, no_fields, field, Elements, no_elements, element, Field, list_of_fields}
@@ -9,7 +10,7 @@ use Rattle.dv_wire.specs.declared.refusal.Refusal.{Refusal}
 use Rattle.dv_wire.specs.declared.refusal.Refusal.TheVariants.{FailedToParse, TypeMismatch}
 use Rattle.dv_wire.specs.Refusals.{◌>>=◌}
 
--- the fields that a command may have, and what the value of each has to be
+-- the fields that a command may have, and what the value of each has to be; `Kind` is the code's own enum of that
 abbrev pub Table : Type 0
 Table = List (List ℕ × Kind)
 

@@ -1,10 +1,12 @@
--- Finding documents.
+-- Finding documents (MongoDB manual, "find"). That all documents of a namespace come, at once and in the order of their `_id`s, and
+-- how large they may be together are this server's own.
 use Rattle.std.specs.Prelude.{ℕ, ◌+◌, List, [], ◌∷◌, map, Result, Ok, Err, pos, codes, nat_lt, length, if◌then◌else◌}
-use Rattle.dv_bson.specs.Tree.{Tree, string, int64, document, array, Field, fields_of, elements_of}
+use Rattle.dv_bson.specs.Tree.{string, int64, array, Field, elements_of}
 use Rattle.dv_bson.specs.Spelling.{spelling}
 use Rattle.dv_wire.specs.declared.refusal.Refusal.{Refusal}
 use Rattle.dv_wire.specs.declared.refusal.Refusal.TheVariants.{TooLarge}
-use Rattle.dv_wire.specs.Refusals.{done, ◌>>=◌}
+use Rattle.dv_wire.specs.Refusals.{◌>>=◌}
+use Rattle.dv_wire.specs.Replies.{done, document_of}
 use Rattle.dv_wire.specs.Fields.{find_table, checked, text_under}
 use Rattle.dv_wire.specs.Namespaces.{database, namespace}
 use Rattle.dv_wire.specs.State.{State, documents_of}
@@ -24,9 +26,6 @@ total_size (d ∷ ds) = length (spelling d) + total_size ds
 -- how many bytes the documents of a reply may be together
 abbrev pub batch_limit : ℕ
 batch_limit = 16777216
-
-abbrev pub document_of : List Field → Tree
-document_of d = document (fields_of d)
 
 -- all rows at once, so that no cursor is left: its id is 0
 abbrev pub find_reply : List ℕ → List (List Field) → List Field

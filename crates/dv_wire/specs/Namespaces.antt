@@ -1,4 +1,5 @@
--- The names of databases and collections.
+-- The names of databases and collections (MongoDB manual, "Naming Restrictions"). Which of its restrictions hold here, the longest
+-- namespace and the codes are this server's own.
 use Rattle.std.specs.Prelude.{ℕ, false, ◌||◌, ◌&&◌, not, Bool, List, [], ◌∷◌, ◌++◌, Option, Some, None, Result, Ok, Err, codes, ◌==◌, nat_lt, length, if◌then◌else◌}
 use Rattle.dv_bson.specs.Tree.{Tree, string, Field}
 use Rattle.dv_bson.specs.Names.{value_under, has_zero}
@@ -31,6 +32,7 @@ database body = database_in (value_under (codes "$db") body)
 abbrev pub is_collection_name : List ℕ → Bool
 is_collection_name name = nat_lt 0 (length name) && not (begins_with_dollar name) && not (has_zero name)
 
+-- in bytes
 abbrev pub longest_namespace : ℕ
 longest_namespace = 120
 

@@ -41,11 +41,7 @@ abbrev pub refused : Refusal → List Field
 refused refusal =
     (codes "ok", int32 (pos 0)) ∷ (codes "errmsg", string (message_of refusal)) ∷ (codes "code", int32 (pos (code refusal))) ∷ (codes "codeName", string (code_name refusal)) ∷ []
 
--- the reply to a command that was carried out: these fields, and that it was
-abbrev pub done : List Field → List Field
-done fields = fields ++ (codes "ok", int32 (pos 1)) ∷ []
-
--- why a command is refused with whose documents something is wrong; want of memory to read them is no fault of theirs
+-- how a command is refused whose body can't be read: for the fault in it, or for want of memory where there was none to read it
 abbrev pub refusal_of : BsonFault → Refusal
 refusal_of NoMemory = WantOfMemory
 refusal_of fault = InvalidBson fault

@@ -121,10 +121,15 @@ FeedsTo (Some before) session old piece bytes answer new =
 abbrev pub Feeds : World → ℕ → List ℕ → List ℕ → Fed → World → Type 0
 Feeds old session piece bytes answer new = FeedsTo (conversation_of session old.sessions) session old piece bytes answer new
 
--- two pieces of a session's bytes come, one right after the other
-abbrev pub FeedsTwo : World → ℕ → List ℕ → List ℕ → List ℕ → Fed → World → Type 0
-FeedsTwo old session piece next_piece bytes answer new =
-    (first : List ℕ) × (second : List ℕ) × (mid : World) × (told : Fed) × (bytes ≡ first ++ second) × Feeds old session piece first told mid × Feeds mid session next_piece second answer new
+-- pieces of a session's bytes come, one right after the other: what is answered to all, and whether the session then goes on
+abbrev pub FeedsAll : World → ℕ → List ℕ → List (List ℕ) → List ℕ → Fed → World → Type 0
+FeedsAll old session piece [] bytes answer new = Feeds old session piece bytes answer new
+FeedsAll old session piece (next ∷ pieces) bytes answer new =
+    (first : List ℕ) × (others : List ℕ) × (mid : World) × (told : Fed) × (bytes ≡ first ++ others) × Feeds old session piece first told mid × FeedsAll mid session next pieces others answer new
+
+abbrev pub joined : List ℕ → List (List ℕ) → List ℕ
+joined piece [] = piece
+joined piece (next ∷ pieces) = piece ++ joined next pieces
 
 -- what was there stays in front, and these bytes follow it
 abbrev pub Appends : List ℕ → List ℕ → (List ℕ → Type 0) → Type 0

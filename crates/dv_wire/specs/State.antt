@@ -1,4 +1,5 @@
--- What commands read and change: the documents of each namespace.
+-- What commands read and change: the documents of each namespace. That no two of one collection have an equal `_id` is the MongoDB
+-- manual's ("Documents", "The _id Field"); that they stand in the order of these is this server's own.
 use Rattle.std.specs.Prelude.{ℕ, List, [], Option, Some, None}
 use Rattle.std.specs.Cmp.Lexicographic.{slice_cmp}
 use Rattle.std.specs.Coded.{Coded, coded_list, coded×, coded_ℕ}

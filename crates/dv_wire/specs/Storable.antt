@@ -1,4 +1,5 @@
--- Documents as they are stored.
+-- Documents as they are stored. That `_id` is no array and stands in front, and the limits, are the MongoDB manual's ("Documents",
+-- "MongoDB Limits and Thresholds"); that `_id` has to be there, and which names are refused, are this server's own.
 use Rattle.std.specs.Prelude.{ℕ, false, ◌||◌, ◌&&◌, not, Bool, List, [], ◌∷◌, Option, Some, None, Result, Ok, Err, codes, nat_lt, length, if◌then◌else◌}
 use Rattle.std.specs.Str.{bytes_eq}
 use Rattle.dv_bson.specs.Tree.{Tree, document, array, Fields, no_fields, field, Elements, no_elements, element, Field, fields_of}
@@ -43,12 +44,12 @@ id_in (Some value) = Ok value
 abbrev pub is_within_limits : List Field → Bool
 is_within_limits d = not (nat_lt 16777216 (length (spelling d))) && not (nat_lt 100 (levels (document (fields_of d))))
 
--- with `_id` in front
+-- with `_id` in front; refused for its names, without `_id`, or with an array as `_id`
 abbrev pub with_id_first : List Field → Result (List Field) Refusal
 with_id_first d =
     if has_dollar d || are_fields_dotted (fields_of d) then Err BadValue
     else id_in (value_under (codes "_id") d) >>= λ id. Ok ((codes "_id", id) ∷ without_field (codes "_id") d)
 
--- a document as it is stored
+-- a document as it is stored, or why it can't be: first for its names and `_id`, then for its size
 abbrev pub storable : List Field → Result (List Field) Refusal
 storable d = with_id_first d >>= λ stored. if is_within_limits stored then Ok stored else Err TooLarge

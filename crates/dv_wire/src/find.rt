@@ -5,8 +5,9 @@ ghost use Rattle.std.specs.Option.{option_map};
 ghost use Rattle.std.specs.String.{string_bytes};
 ghost use Rattle.dv_wire.specs.declared.refusal.Refusal.TheVariants.{WantOfMemory};
 ghost use Rattle.dv_wire.specs.Find as finding;
+ghost use Rattle.dv_wire.specs.Replies.{document_of};
 ghost use Rattle.dv_wire.specs.State.{or_no_documents};
-ghost use Rattle.dv_wire.specs.Step.{Wants};
+ghost use Rattle.dv_wire.specs.StepParts.{Wants};
 
 use crate::fields::{FIND_RULES, check, text_under};
 use crate::namespaces::{database, namespace};
@@ -69,7 +70,7 @@ fn is_too_large(collection: &Collection) -> bool
 
 /// Copies of the documents, in the order of their `_id`s. Fails where memory is wanting.
 fn copies(alloc: Global, collection: &Collection) -> Result<List, NoMemory>
-    ensures { IfOk result (λ copies. copies ≡ map finding.document_of collection.now) }
+    ensures { IfOk result (λ copies. copies ≡ map document_of collection.now) }
 {
     let mut copies = Vec::new(alloc);
     'documents: for document in collection.iter() {

@@ -68,8 +68,8 @@ impl Hub {
         }
     }
 
-    /// Opens a session, and answers its number. Refused with `TooManySessions` where one is open already or no
-    /// number is left, and with `NoMemory`; then nothing is changed.
+    /// Opens a session, and answers its number. Refused with `TooManySessions` where one was opened and hasn't ended,
+    /// be it closed, or no number is left, and with `NoMemory`; then nothing is changed.
     pub fn open(&mut self) -> Result<SessionId, HubFault>
         ensures { Opens self.old result self.new }
     {

@@ -1,13 +1,14 @@
 //! Inserting documents.
 
 ghost use Rattle.std.specs.Prelude.{◌≡◌, ◌+◌, ◌^◌, ◌<◌, ◌⊎◌, true, map, vec_len, Ok, Err, MatchResult};
+ghost use Rattle.std.specs.String.{string_bytes};
 ghost use Rattle.dv_bson.specs.View.{tree};
 ghost use Rattle.dv_wire.specs.declared.refusal.Refusal.TheVariants.{WantOfMemory};
 ghost use Rattle.dv_wire.specs.Insert as inserting;
-ghost use Rattle.dv_wire.specs.Statement as statement;
-ghost use Rattle.dv_wire.specs.Statement.{written_seen, InsertsOne, Next, outcome_of};
-ghost use Rattle.dv_wire.specs.Step as step;
+ghost use Rattle.dv_wire.specs.Statements.{goes_on};
 ghost use Rattle.dv_wire.specs.View.{insert_seen};
+ghost use Rattle.dv_wire.specs.WriteParts as parts;
+ghost use Rattle.dv_wire.specs.WriteParts.{written_seen, outcome_of, DoesOne, Next, Writes};
 
 use crate::collections::Collections;
 use crate::fields::{
@@ -60,7 +61,8 @@ pub(crate) fn insert_all(
     collections: &mut Collections,
     insert: &Insert<'_>,
 ) -> Outcome
-    ensures { step.Writes collections.old (insert_seen insert.now) result collections.new }
+    ensures { let asked = insert_seen insert.now in
+        Writes (inserting.insert_one asked.namespace) asked.ordered collections.old asked.documents result collections.new }
 {
     match insert_each(alloc, collections, insert) {
         Ok(reply) => Outcome::Reply(reply),
@@ -74,7 +76,8 @@ fn insert_each(
     collections: &mut Collections,
     insert: &Insert<'_>,
 ) -> Result<Document, NoMemory>
-    ensures { step.Writes collections.old (insert_seen insert.now) (outcome_of result) collections.new }
+    ensures { let asked = insert_seen insert.now in
+        Writes (inserting.insert_one asked.namespace) asked.ordered collections.old asked.documents (outcome_of result) collections.new }
 {
     let mut written = Written::new(alloc);
     'documents: for value in insert.documents.as_slice() {
@@ -98,8 +101,9 @@ fn insert_next(
     written: &mut Written,
 ) -> Result<bool, NoMemory>
     requires room { written.old.inserted + vec_len written.old.errors < 2 ^ 63 }
-    requires reached { inserting.goes_on insert.now.ordered (map tree written.old.errors.items) ≡ true }
-    ensures { Next (insert_seen insert.now) (written_seen written.old collections.old) document.now result (written_seen written.new collections.new) }
+    requires reached { goes_on insert.now.ordered (map tree written.old.errors.items) ≡ true }
+    ensures { Next (inserting.insert_one (string_bytes insert.now.namespace)) insert.now.ordered
+        (written_seen written.old collections.old) document.now result (written_seen written.new collections.new) }
 {
     match insert_one(alloc, collections, &insert.namespace, document) {
         Ok(()) => {
@@ -115,7 +119,7 @@ fn insert_next(
 
 /// Whether a command goes on behind a statement that is refused.
 fn goes_on_behind(refusal: &Refusal, ordered: bool) -> bool
-    ensures { result ≡ statement.goes_on_behind refusal.now ordered }
+    ensures { result ≡ parts.goes_on_behind refusal.now ordered }
 {
     match refusal {
         Refusal::WantOfMemory => false,
@@ -130,7 +134,7 @@ fn insert_one(
     namespace: &str,
     document: &Document,
 ) -> Result<(), Refusal>
-    ensures { InsertsOne namespace.now collections.old document.now result collections.new }
+    ensures { DoesOne (inserting.insert_one namespace.now) collections.old document.now result collections.new }
 {
     let stored = storable(alloc, document)?;
     collections.insert(namespace, stored)

@@ -13,7 +13,7 @@ ghost use Rattle.dv_wire.specs.declared.store.Outcome.{Outcome};
 ghost use Rattle.dv_wire.specs.declared.store.Outcome.TheVariants.{Reply};
 ghost use Rattle.dv_wire.specs.Examples as examples;
 ghost use Rattle.dv_wire.specs.Message as wire;
-ghost use Rattle.dv_wire.specs.Schedule.{World, Feeds, FeedsTwo};
+ghost use Rattle.dv_wire.specs.Schedule.{World, Feeds, FeedsAll, joined};
 ghost use Rattle.dv_wire.specs.State.{State, IsOrdered, empty_state};
 ghost use Rattle.dv_wire.specs.Step.{MemoryStep, command_name};
 
@@ -28,11 +28,11 @@ pub fn messages_are_spelled()
         → (wire.front bytes ≡ wire.whole message following) ↔ ((spelled : List ℕ) × wire.IsMessage message spelled × (bytes ≡ spelled ++ following)) }
 {}
 
-/// It doesn't matter how a session's bytes are cut into pieces: a piece and the next one may do together what the
-/// two as one piece may do, and nothing else.
+/// It doesn't matter how a session's bytes are cut: whatever the pieces are, and however many, they may do together what
+/// all their bytes as one piece may do, and nothing else.
 pub fn cuts_do_not_matter()
-    ensures { (old new : World) (session : ℕ) (piece next bytes : List ℕ) (answer : Fed)
-        → Feeds old session (piece ++ next) bytes answer new ↔ FeedsTwo old session piece next bytes answer new }
+    ensures { (old new : World) (session : ℕ) (piece : List ℕ) (pieces : List (List ℕ)) (bytes : List ℕ) (answer : Fed)
+        → Feeds old session (joined piece pieces) bytes answer new ↔ FeedsAll old session piece pieces bytes answer new }
 {}
 
 /// A command that is told as refused, with `ok: 0`, changed nothing.

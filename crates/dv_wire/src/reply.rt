@@ -8,6 +8,7 @@ ghost use Rattle.dv_bson.specs.View.{tree};
 ghost use Rattle.dv_wire.specs.Message.{message_spelling};
 ghost use Rattle.dv_wire.specs.View.{unmeasured};
 ghost use Rattle.dv_wire.specs.Refusals as refusals;
+ghost use Rattle.dv_wire.specs.Replies as replies;
 
 use crate::front::OP_MSG;
 use crate::refusal::Refusal;
@@ -17,7 +18,7 @@ use std::alloc::{AllocError, Global};
 /// The reply to a command that was carried out: these fields, and `ok: 1`.
 pub(crate) fn done(mut fields: Document) -> Result<Document, NoMemory>
     requires { has_name (codes "ok") fields ≡ false }
-    ensures { IfOk result (λ reply. reply ≡ refusals.done fields) }
+    ensures { IfOk result (λ reply. reply ≡ replies.done fields) }
 {
     add(&mut fields, "ok", Value::Int32(1))?;
     Ok(fields)

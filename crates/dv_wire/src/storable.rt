@@ -6,7 +6,7 @@ ghost use Rattle.dv_bson.specs.Tree.{fields_of, elements_of};
 ghost use Rattle.dv_bson.specs.View.{tree};
 ghost use Rattle.dv_coll.specs.Collection.{HasId};
 ghost use Rattle.dv_wire.specs.Storable as stored;
-ghost use Rattle.dv_wire.specs.Step.{Wants};
+ghost use Rattle.dv_wire.specs.StepParts.{Wants};
 
 use crate::namespaces::{begins_with_dollar, has_dot};
 use crate::refusal::Refusal;

@@ -55,6 +55,7 @@ impl Store {
     ghost use Rattle.dv_wire.specs.Insert.{insert_of};
     ghost use Rattle.dv_wire.specs.State.{empty_state};
     ghost use Rattle.dv_wire.specs.Step as step;
+    ghost use Rattle.dv_wire.specs.StepParts.{Wants, Gives, Refuses};
 
     /// A store without any collection.
     pub fn new(alloc: Global) -> Self
@@ -67,10 +68,10 @@ impl Store {
     }
 
     /// Carries out one command of a session: one step of the machine. A command that is refused is answered so and
-    /// changes nothing. Where memory is wanting, it is refused for that, a write ends at the statement that finds
-    /// none, or the step stands and its reply is left out.
+    /// changes nothing. Where memory is wanting, it is refused for that, or a write ends at the statement that finds
+    /// none; and after any of these the reply may be left out.
     pub fn execute(&mut self, session: u32, command: &Command) -> Outcome
-        ensures { step.MemoryStep self.old session command.now result self.new }
+        ensures step { step.MemoryStep self.old session command.now result self.new }
     {
         match command {
             Command::Invalid(fault) => self.refuse(Refusal::from(*fault)),
@@ -83,7 +84,7 @@ impl Store {
 
     /// The outcome of a command that is refused: if memory is wanting for the reply, it is refused for that.
     fn refuse(&self, refusal: Refusal) -> Outcome
-        ensures { step.Refuses refusal result }
+        ensures { Refuses refusal result }
     {
         if let Ok(reply) = refused(self.alloc, &refusal) {
             return Outcome::Reply(reply);
@@ -96,7 +97,7 @@ impl Store {
 
     /// Carries out the command that the body names, or answers why it is refused. Then nothing is changed.
     fn carry_out(&mut self, session: u32, body: &Document) -> Result<Outcome, Refusal>
-        ensures { step.Gives self.old (step.command_answer self.old session body.now) (step.Cut self.old body.now) result self.new }
+        ensures { Gives self.old (step.command_answer self.old session body.now) (step.Cut self.old body.now) result self.new }
     {
         match command_name(body) {
             "ping" => Ok(Outcome::Reply(self.ping(body)?)),
@@ -107,21 +108,21 @@ impl Store {
     }
 
     fn ping(&self, body: &Document) -> Result<Document, Refusal>
-        ensures { step.Wants (step.ping body.now) result }
+        ensures { Wants (step.ping body.now) result }
     {
         database(body)?;
         Ok(done(Document::new(self.alloc))?)
     }
 
     fn insert(&mut self, body: &Document) -> Result<Outcome, Refusal>
-        ensures { step.Gives self.old (step.insert self.old body.now) (step.InsertCut self.old (insert_of body.now)) result self.new }
+        ensures { Gives self.old (step.insert self.old body.now) (step.InsertCut self.old (insert_of body.now)) result self.new }
     {
         let insert = insert_of(self.alloc, body)?;
         Ok(insert_all(self.alloc, &mut self.collections, &insert))
     }
 
     fn find(&self, body: &Document) -> Result<Document, Refusal>
-        ensures { step.Wants (finding.find self.now body.now) result }
+        ensures { Wants (finding.find self.now body.now) result }
     {
         let namespace = find_of(self.alloc, body)?;
         let collection = self.collections.get(&namespace);

@@ -1,6 +1,6 @@
 use super::*;
 use crate::storable::storable;
-use dv_bson::{Document, Value, read_document, write_document};
+use dv_bson::{Document, List, Str, Value, read_document, write_document};
 use std::alloc::Global;
 use std::test::*;
 
@@ -272,5 +272,44 @@ fn the_last_of_forty_fields_moves_to_the_front(rt: HostRuntime) -> Result<(), Fa
     write_document(&stored, &mut told)?;
     write_document(&numbered(rt.alloc(), true)?, &mut wanted)?;
     assert_eq!(rt; told, wanted);
+    Ok(())
+}
+
+/// `{insert: "c", documents: [{_id: 1, t: text}], $db: "t"}`, where the text is so many times the letter "a".
+fn insert_of_length(alloc: Global, length: usize) -> Result<Document, Fail> {
+    let mut document = Document::new(alloc);
+    document.push("_id", Value::Int32(1))?;
+    document.push("t", Value::Text(Str::of("a".repeat(alloc, length)?)))?;
+    let mut documents = Vec::new(alloc);
+    documents.push(Value::Doc(document))?;
+    let mut body = Document::new(alloc);
+    let collection = String::from_str(alloc, "c")?;
+    body.push("insert", Value::Text(Str::of(collection)))?;
+    body.push("documents", Value::Array(List::of(documents)))?;
+    let database = String::from_str(alloc, "t")?;
+    body.push("$db", Value::Text(Str::of(database)))?;
+    Ok(body)
+}
+
+/// The bytes of a new store's reply to the command.
+fn reply_to(alloc: Global, body: Document) -> Result<Vec<u8>, Fail> {
+    let mut store = Store::new(alloc);
+    let mut bytes = Vec::new(alloc);
+    if let Outcome::Reply(reply) = store.execute(0, &Command::Body(body)) {
+        write_document(&reply, &mut bytes)?;
+    }
+    Ok(bytes)
+}
+
+// No message brings so long a document, but a command may be made without one.
+#[test]
+fn a_document_has_at_most_16_mebibytes(rt: HostRuntime) -> Result<(), Fail> {
+    let inserted = b"\x14\0\0\0\x10n\0\x01\0\0\0\x10ok\0\x01\0\0\0\0".as_slice();
+    let refused =
+        b"X\0\0\0\x10n\0\0\0\0\0\x04writeErrors\x007\0\0\0\x030\0/\0\0\0\x10index\0\0\0\0\0\x10code\0\x85\x03\0\0\x02errmsg\0\x09\0\0\0TooLarge\0\0\0\x10ok\0\x01\0\0\0\0".as_slice();
+    for (length, wanted) in [(16_777_194, inserted), (16_777_195, refused)] {
+        let told = reply_to(rt.alloc(), insert_of_length(rt.alloc(), length)?)?;
+        assert_eq!(rt; told.as_slice(), wanted);
+    }
     Ok(())
 }

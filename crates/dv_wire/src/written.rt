@@ -2,8 +2,8 @@
 
 ghost use Rattle.std.specs.Prelude.{◌≡◌, ◌^◌, ◌<◌, IfOk};
 ghost use Rattle.dv_bson.specs.View.{tree};
-ghost use Rattle.dv_wire.specs.Insert as inserting;
-ghost use Rattle.dv_wire.specs.Statement.{told};
+ghost use Rattle.dv_wire.specs.Replies as replies;
+ghost use Rattle.dv_wire.specs.WriteParts.{told};
 
 use crate::refusal::Refusal;
 use crate::reply::{add, done};
@@ -19,13 +19,13 @@ pub(crate) struct Written {
 
 impl Written {
     ghost use Rattle.std.specs.Prelude.{◌≡◌, ◌+◌, ◌^◌, ◌<◌, IfOk, OnOk, vec_len};
-    ghost use Rattle.dv_wire.specs.Insert as inserting;
     ghost use Rattle.dv_wire.specs.State.{State, empty_state};
-    ghost use Rattle.dv_wire.specs.Statement.{written_seen, with_refusal};
+    ghost use Rattle.dv_wire.specs.Statements.{nothing_written, written_reply};
+    ghost use Rattle.dv_wire.specs.WriteParts.{written_seen, with_refusal};
 
     /// No statement so far.
     pub(crate) fn new(alloc: Global) -> Self
-        ensures { (state : State) → written_seen result state ≡ inserting.nothing_written state }
+        ensures { (state : State) → written_seen result state ≡ nothing_written state }
     {
         Written {
             inserted: 0,
@@ -58,7 +58,7 @@ impl Written {
     pub(crate) fn reply(self, alloc: Global) -> Result<Document, NoMemory>
         requires { self.inserted < 2 ^ 63 }
         // The reply is the same in every state.
-        ensures { IfOk result (λ reply. reply ≡ inserting.insert_reply (written_seen self empty_state)) }
+        ensures { IfOk result (λ reply. reply ≡ written_reply (written_seen self empty_state)) }
     {
         let Written { inserted, errors } = self;
         let mut fields = Document::new(alloc);
@@ -90,7 +90,7 @@ fn error(alloc: Global, place: usize, refusal: &Refusal) -> Result<Document, NoM
 /// A number below 2^63 as int32 where it fits, else as int64.
 fn number(number: usize) -> Value
     requires { number < 2 ^ 63 }
-    ensures { tree result ≡ inserting.count number }
+    ensures { tree result ≡ replies.count number }
 {
     match i32::try_from(number) {
         Ok(number) => Value::Int32(number),
