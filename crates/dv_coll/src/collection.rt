@@ -11,7 +11,7 @@ use dv_bson::{Document, NoMemory};
 use dv_order::{Key, key_of};
 use std::alloc::Global;
 use std::collections::BTreeMap;
-use std::collections::btree_map::Values;
+use std::collections::btree_map::{Entry, Values};
 use std::marker::Model;
 
 /// Documents in the order of their `_id`s, no two of which are equal but for the width of integers. `_id` is the first
@@ -112,11 +112,13 @@ impl Collection {
         ensures err { OnErr result (self.new ≡ self.old) }
         ensures duplicate { IsErrOf result InsertFault.Duplicate ↔ IsSome (found (id_key document) self.old) }
     {
-        if self.get(&key).is_some() {
-            return Err(InsertFault::Duplicate);
+        match self.documents.entry(key)? {
+            Entry::Occupied(_) => Err(InsertFault::Duplicate),
+            Entry::Vacant(place) => {
+                place.insert(document);
+                Ok(())
+            }
         }
-        self.documents.insert(key, document)?;
-        Ok(())
     }
 }
 

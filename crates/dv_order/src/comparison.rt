@@ -19,9 +19,14 @@ use std::cmp::Ordering;
 pub fn compare(a: &Value, b: &Value) -> Ordering
     ensures { result ≡ order (tree a.now) (tree b.now) }
 {
-    match class_of(a).cmp(&class_of(b)) {
-        Ordering::Equal => compare_within(a, b),
-        unequal => unequal,
+    match (a, b) {
+        // The keys that a search compares are mostly integers of one width, whose classes needn't be looked up.
+        (Value::Int32(a), Value::Int32(b)) => a.cmp(b),
+        (Value::Int64(a), Value::Int64(b)) => a.cmp(b),
+        _ => match class_of(a).cmp(&class_of(b)) {
+            Ordering::Equal => compare_within(a, b),
+            unequal => unequal,
+        },
     }
 }
 
@@ -41,6 +46,8 @@ fn compare_within(a: &Value, b: &Value) -> Ordering
 
 /// The order of two documents: the first unequal pair of fields decides, and else the shorter stands first.
 #[cycle(compare)]
+// Apart, so that no registers are saved where numbers or strings are compared.
+#[inline(never)]
 fn compare_documents(a: &Document, b: &Document) -> Ordering
     ensures { result ≡ fields_order (fields_of a.now) (fields_of b.now) }
 {
@@ -69,6 +76,8 @@ fn compare_fields(name: &str, a: &Value, other_name: &str, b: &Value) -> Orderin
 
 /// The order of two arrays: the first unequal pair of elements decides, and else the shorter stands first.
 #[cycle(compare)]
+// Apart, so that no registers are saved where numbers or strings are compared.
+#[inline(never)]
 fn compare_lists(a: &List, b: &List) -> Ordering
     ensures { result ≡ elements_order (elements_of a.now) (elements_of b.now) }
 {
