@@ -1,5 +1,5 @@
 -- A piece of a session's bytes, and the same bytes in two pieces.
-use Rattle.std.proofs.Common.{◌≡◌, ℕ, suc, ◌+◌, ◌-◌, ◌≤◌, ◌⊎◌, min, Bool, true, false, List, [], ◌∷◌, ◌++◌, length, take, Option, Some, None, refl, sym, ap, subst, ◌∙◌, append_assoc, zero-add, arith, inl, inr}
+use Rattle.std.proofs.Common.{◌≡◌, ℕ, suc, ◌+◌, ◌-◌, ◌≤◌, ◌⊎◌, ◌&&◌, min, Bool, true, false, List, [], ◌∷◌, ◌++◌, length, take, Option, Some, None, refl, sym, ap, subst, ◌∙◌, append_assoc, zero-add, arith, inl, inr}
 use Rattle.std.proofs.lemmas.Bool.{cases_lt, eq-eqb}
 use Rattle.std.proofs.lemmas.List.{append-nil, take-append-le, take_min}
 use Rattle.dv_bson.specs.Tree.{Field}
@@ -11,6 +11,7 @@ use Rattle.dv_wire.specs.declared.store.Outcome.{Outcome}
 use Rattle.dv_wire.specs.declared.store.Outcome.TheVariants.{Reply, NoReply}
 use Rattle.dv_wire.specs.State.{State}
 use Rattle.dv_wire.specs.Message.{Message, Ending, rest, closed, Split, split, continued}
+use Rattle.dv_wire.specs.Replies.{wants_memory}
 use Rattle.dv_wire.specs.Step.{MemoryStep}
 use Rattle.dv_wire.specs.Schedule.{command_of, GoesOn, CarriesOut, sent, Takes, Conversation, reading, shut, conversation_after, fed_of, World, conversation_of, with_conversation, Hears, Feeds, FeedsAll, joined}
 use Rattle.dv_wire.proofs.Streams.{carries_then, stops}
@@ -32,15 +33,15 @@ abbrev Cut : ℕ → State → State → List Message → List Message → List 
 Cut session old new first second bytes b = ((b ≡ false) × CarriesOut session old first bytes new false) ⊎ Carried session old new first second bytes b
 
 cut_behind : (session : ℕ) (old from new : State) (message : Message) (messages second : List Message) (reply : List Field) (bytes others : List ℕ) (b : Bool)
-    → MemoryStep old session (command_of message) (Reply reply) from → bytes ≡ sent message reply ++ others → Cut session from new messages second others b → Cut session old new (message ∷ messages) second bytes b
-cut_behind session old from new message messages second reply bytes others b steps e (inl stopped) = inl (stopped.0, (from, Reply reply, steps, inl (others, e, stopped.1)))
-cut_behind session old from new message messages second reply bytes others b steps e (inr c) =
+    → MemoryStep old session (command_of message) (Reply reply) from → bytes ≡ sent message reply ++ others → message.more_to_come && wants_memory reply ≡ false → Cut session from new messages second others b → Cut session old new (message ∷ messages) second bytes b
+cut_behind session old from new message messages second reply bytes others b steps e told (inl stopped) = inl (stopped.0, (from, Reply reply, steps, inl (others, e, stopped.1, told)))
+cut_behind session old from new message messages second reply bytes others b steps e told (inr c) =
     inr (record {
       mid = c.mid;
       one = sent message reply ++ c.one;
       two = c.two;
       both = e ∙ ap (λ (x : List ℕ). sent message reply ++ x) c.both ∙ sym (append_assoc (sent message reply) c.one c.two);
-      before = (from, Reply reply, steps, inl (c.one, refl, c.before));
+      before = (from, Reply reply, steps, inl (c.one, refl, c.before, told));
       behind = c.behind;
     })
 
@@ -50,7 +51,7 @@ goes_cut : (session : ℕ) (old from new : State) (message : Message) (outcome :
     → GoesOn message outcome from (λ mid others. CarriesOut session mid (messages ++ second) others new b) bytes new b → Cut session old new (message ∷ messages) second bytes b
 goes_cut session old from new message NoReply messages second bytes b steps f goes = inl (goes.2, (from, NoReply, steps, (goes.0, goes.1, refl)))
 goes_cut session old from new message (Reply reply) messages second bytes b steps f (inl goes) =
-    cut_behind session old from new message messages second reply bytes goes.0 b steps goes.1 (f goes.0 goes.2)
+    cut_behind session old from new message messages second reply bytes goes.0 b steps goes.1 goes.3 (f goes.0 goes.2)
 goes_cut session old from new message (Reply reply) messages second bytes b steps f (inr goes) = inl (goes.2, (from, Reply reply, steps, inr (goes.0, goes.1, refl)))
 
 carries_cut : (session : ℕ) (old new : State) (first second : List Message) (bytes : List ℕ) (b : Bool) → CarriesOut session old (first ++ second) bytes new b → Cut session old new first second bytes b

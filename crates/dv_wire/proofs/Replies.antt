@@ -14,6 +14,7 @@ use Rattle.dv_wire.specs.declared.store.Outcome.{Outcome}
 use Rattle.dv_wire.specs.declared.store.Outcome.TheVariants.{Reply}
 use Rattle.dv_wire.specs.State.{State}
 use Rattle.dv_wire.specs.Message.{Message, message_spelling}
+use Rattle.dv_wire.specs.Replies.{wants_memory}
 use Rattle.dv_wire.specs.Step.{MemoryStep}
 use Rattle.dv_wire.specs.Schedule.{Appends, CarriesOut, command_read, command_of}
 use Rattle.dv_wire.specs.View.{Carries, unmeasured}
@@ -67,12 +68,16 @@ steps_as session old new meant read outcome (inr e) steps = unread session old n
 
 module _ (session : ℕ) (old new : State) (message : Message) (reply : List Field) (steps : MemoryStep old session (command_of message) (Reply reply) new) where
   -- moreToCome is carried out and not answered
-  pub silent : message.more_to_come ≡ true → CarriesOut session old (message ∷ []) [] new true
-  silent more = (new, Reply reply, steps, inl ([], rw more refl, (refl, refl, refl)))
+  pub silent : message.more_to_come ≡ true → wants_memory reply ≡ false → CarriesOut session old (message ∷ []) [] new true
+  silent more told = (new, Reply reply, steps, inl ([], rw more refl, (refl, refl, refl), rw (more, told) refl))
+
+  -- in place of a reply the session is closed
+  pub shuts : CarriesOut session old (message ∷ []) [] new false
+  shuts = (new, Reply reply, steps, inr (refl, refl, refl))
 
   pub answers : {A E : Type 0} (sent : Result A E) (before after : List ℕ) → message.more_to_come ≡ false
       → OnOk sent (after ≡ before ++ message_spelling 0 message.request_id 0 (0 ∷ spelling reply)) → OnErr sent (after ≡ before)
       → Appends before after (λ bytes. Carries session old message bytes new sent)
   answers (Ok x) before after more ok err =
-      (message_spelling 0 message.request_id 0 (0 ∷ spelling reply), ok, (new, Reply reply, steps, inl ([], rw more (sym (append-nil _)), (refl, refl, refl))))
-  answers (Err e) before after more ok err = ([], err ∙ sym (append-nil before), inl (new, Reply reply, steps, inr (refl, refl, refl)))
+      (message_spelling 0 message.request_id 0 (0 ∷ spelling reply), ok, (new, Reply reply, steps, inl ([], rw more (sym (append-nil _)), (refl, refl, refl), rw more refl)))
+  answers (Err e) before after more ok err = ([], err ∙ sym (append-nil before), inl shuts)

@@ -1,5 +1,5 @@
 -- Names that are looked at from the front, and a document with one of its fields in front.
-use Rattle.std.specs.Prelude.{◌≡◌, ℕ, ◌+◌, ◌≤◌, ◌<◌, ◌||◌, ◌&&◌, ◌↔◌, IsTrue, not, nat_lt, Bool, true, false, if◌then◌else◌, List, [], ◌∷◌, ◌++◌, length, map, drop, slice_get, slice_index_or, Option, Ok, Some, None, zero, suc, refl, codes}
+use Rattle.std.specs.Prelude.{◌≡◌, ℕ, ◌+◌, ◌≤◌, ◌<◌, ◌||◌, ◌&&◌, ◌↔◌, IsTrue, not, nat_lt, Bool, true, false, if◌then◌else◌, List, [], ◌∷◌, ◌++◌, length, map, drop, slice_get, slice_index_or, Option, Result, Ok, Err, Some, None, zero, suc, refl, codes}
 use Rattle.std.specs.Str.{bytes_eq}
 use Rattle.std.proofs.Common.{ap, sym, ◌∙◌, subst, arith, append_assoc, drop_of_length-le}
 use Rattle.std.proofs.lemmas.List.{append-nil}
@@ -16,7 +16,10 @@ use Rattle.dv_bson.proofs.Payloads.{length-document}
 use Rattle.dv_bson.proofs.Rest.{fields_length-drop}
 use Rattle.dv_bson.specs.Weight.{field_weighs_less, value_weighs_less}
 use Rattle.dv_wire.specs.Namespaces.{has_dot, begins_with_dollar}
-use Rattle.dv_wire.specs.Storable.{is_dotted, are_fields_dotted, are_elements_dotted, has_dollar, without_field, id_in, is_within_limits}
+use Rattle.dv_wire.specs.declared.refusal.Refusal.{Refusal}
+use Rattle.dv_wire.specs.declared.refusal.Refusal.TheVariants.{TooLarge}
+use Rattle.dv_wire.specs.Refusals.{◌>>=◌}
+use Rattle.dv_wire.specs.Storable.{is_dotted, are_fields_dotted, are_elements_dotted, has_dollar, without_field, id_in, is_within_limits, with_id_first, storable}
 
 -- ---- what is left from a place on
 
@@ -157,8 +160,25 @@ limits_told : (n m a b : ℕ) (told : Bool) → (IsTrue told → (n ≤ a) × (m
 limits_told n m a b true within told = grind (arith, nat_tests, within refl)
 limits_told n m a b false within told = grind (arith, nat_tests)
 
+limits_of : (n m : ℕ) → (not (nat_lt 16777216 n) && not (nat_lt 100 m)) ≡ true → (n ≤ 16777216) × (m ≤ 100)
+limits_of n m e = grind (arith, nat_tests)
+
 pub moved_within : (id : Tree) (d : List Field) (told : Bool) → id_in (value_under (codes "_id") d) ≡ Ok id → IsTrue told ↔ Fits d → is_within_limits ((codes "_id", id) ∷ without_field (codes "_id") d) ≡ told
 moved_within id d told is fits =
     let same = moved_large (codes "_id") id d (id_shown (value_under (codes "_id") d) id is) in
     (λ i. not (nat_lt 16777216 (same.size i)) && not (nat_lt 100 (suc (same.depth i))))
     ∙ limits_told (length (spelling d)) (levels (document (fields_of d))) 16777216 100 told (λ t. ((fits.0 t).size, (fits.0 t).depth)) (λ both. fits.1 (record { size = both.0; depth = both.1 }))
+
+fits_within : (d stored : List Field) (b : Bool) → is_within_limits d ≡ b → (if b then Ok d else Err TooLarge) ≡ Ok stored → Fits stored
+fits_within d stored true within e =
+    let both = limits_of (length (spelling d)) (levels (document (fields_of d))) within in
+    let same : d ≡ stored = cc in
+    subst Fits same (record { size = both.0; depth = both.1 })
+fits_within d stored false within e = absurd cc
+
+fits_first : (first : Result (List Field) Refusal) (stored : List Field) → (first >>= λ d. if is_within_limits d then Ok d else Err TooLarge) ≡ Ok stored → Fits stored
+fits_first (Ok d) stored e = fits_within d stored (is_within_limits d) refl e
+fits_first (Err refusal) stored e = absurd cc
+
+pub storable_fits : (d stored : List Field) → storable d ≡ Ok stored → Fits stored
+storable_fits d stored e = fits_first (with_id_first d) stored e

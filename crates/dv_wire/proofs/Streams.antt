@@ -57,7 +57,7 @@ goes_then : (message : Message) (outcome : Outcome) (from mid new : State) (Othe
     → ((others : List ℕ) → Others from others → More from (others ++ more)) → GoesOn message outcome from Others bytes mid true → GoesOn message outcome from More (bytes ++ more) new b
 goes_then message NoReply from mid new Others More bytes more b both goes = let e = goes.2 in absurd cc
 goes_then message (Reply reply) from mid new Others More bytes more b both (inl goes) =
-    inl (goes.0 ++ more, ap (λ (x : List ℕ). x ++ more) goes.1 ∙ append_assoc _ goes.0 more, both goes.0 goes.2)
+    inl (goes.0 ++ more, ap (λ (x : List ℕ). x ++ more) goes.1 ∙ append_assoc _ goes.0 more, both goes.0 goes.2, goes.3)
 goes_then message (Reply reply) from mid new Others More bytes more b both (inr goes) = let e = goes.2 in absurd cc
 
 -- one list of messages, and then another
@@ -76,7 +76,7 @@ carries_then session old mid new (message ∷ messages) second bytes more b one 
 goes_map : (message : Message) (outcome : Outcome) (from new : State) (Others More : State → List ℕ → Type 0) (bytes : List ℕ) (b : Bool)
     → ((others : List ℕ) → Others from others → More from others) → GoesOn message outcome from Others bytes new b → GoesOn message outcome from More bytes new b
 goes_map message NoReply from new Others More bytes b f goes = goes
-goes_map message (Reply reply) from new Others More bytes b f (inl goes) = inl (goes.0, goes.1, f goes.0 goes.2)
+goes_map message (Reply reply) from new Others More bytes b f (inl goes) = inl (goes.0, goes.1, f goes.0 goes.2, goes.3)
 goes_map message (Reply reply) from new Others More bytes b f (inr goes) = inr goes
 
 -- where a session is closed in place of a reply, the messages behind don't matter

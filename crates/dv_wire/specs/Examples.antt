@@ -1,9 +1,11 @@
 -- Worked examples of commands on the collection c of the database t. Integers are int32 where nothing else is said.
 use Rattle.std.specs.Prelude.{◌≡◌, ℕ, false, List, [], ◌∷◌, ◌++◌, map, pos, codes}
-use Rattle.dv_bson.specs.Tree.{Tree, string, int32, int64, array, boolean, Field, elements_of}
-use Rattle.dv_wire.specs.declared.store.Command.TheVariants.{Body}
+use Rattle.dv_bson.specs.Tree.{Tree, string, int32, int64, document, no_fields, array, boolean, Field, elements_of}
+use Rattle.dv_bson.specs.declared.fault.BsonFault.TheVariants.{TooDeep}
+use Rattle.dv_wire.specs.declared.store.Command.TheVariants.{Body, Invalid}
 use Rattle.dv_wire.specs.State.{State, empty_state, with_documents}
 use Rattle.dv_wire.specs.Replies.{document_of}
+use Rattle.dv_wire.specs.Statements.{nothing_written, cut, written_reply}
 use Rattle.dv_wire.specs.Step.{step}
 
 -- ---- words for them
@@ -27,6 +29,9 @@ number n = int32 (pos n)
 -- these fields, and the database they are for
 abbrev pub on : List ℕ → List Field → List Field
 on database fields = fields ++ (codes "$db", string database) ∷ []
+
+abbrev pub one_field : List ℕ → Tree → List Field
+one_field name value = (name, value) ∷ []
 
 abbrev pub ping : List Field
 ping = (codes "ping", number 1) ∷ []
@@ -83,10 +88,22 @@ pub record InsertExamples : Type 0 where
       (inserted_reply 1) (holding (((codes "_id", number 2) ∷ (codes "a", number 1) ∷ []) ∷ []))
   -- {a: 1} has no _id, and no collection is made
   pub no_id : Does empty_state (insert (((codes "a", number 1) ∷ []) ∷ [])) (errors_reply 0 (error 0 2 (codes "BadValue") ∷ [])) empty_state
+  -- {_id: [1]}, {_id: 1, $a: 1} and {_id: 1, a: {b.c: 1}} are not stored
+  pub unfit : Does empty_state
+      (unordered_insert (one_field (codes "_id") (array (elements_of (number 1 ∷ []))) ∷ (only 1 ++ one_field (codes "$a") (number 1)) ∷ (only 1 ++ one_field (codes "a") (document_of (one_field (codes "b.c") (number 1)))) ∷ []))
+      (errors_reply 0 (error 0 2 (codes "BadValue") ∷ error 1 2 (codes "BadValue") ∷ error 2 2 (codes "BadValue") ∷ [])) empty_state
+  -- a document of a database that has none, where another has {_id: 5} in a collection of the same name
+  pub elsewhere : Does (holding (only 5 ∷ [])) (on (codes "u") ((codes "insert", string (codes "c")) ∷ (codes "documents", array (elements_of (document_of (only 5) ∷ []))) ∷ []))
+      (inserted_reply 1) (with_documents (codes "u.c") (only 5 ∷ []) (holding (only 5 ∷ [])))
+  -- an insert that finds no memory at its first document
+  pub cut_first : written_reply (cut (nothing_written empty_state))
+      ≡ errors_reply 0 (document_of ((codes "index", number 0) ∷ (codes "code", number 900) ∷ (codes "errmsg", string (codes "WantOfMemory")) ∷ (codes "done", number 0) ∷ []) ∷ [])
 
 pub record ReadExamples : Type 0 where
   pub pinged : (state : State) → Does state (on (codes "t") ping) ((codes "ok", number 1) ∷ []) state
-  pub found : Does (holding (only 5 ∷ [])) find (find_reply (only 5 ∷ [])) (holding (only 5 ∷ []))
+  pub found : Does (holding (only 5 ∷ only 6 ∷ [])) find (find_reply (only 5 ∷ only 6 ∷ [])) (holding (only 5 ∷ only 6 ∷ []))
+  -- no collection is made; a comment is ignored, whatever it is
+  pub not_found : Does empty_state (find ++ (codes "filter", document no_fields) ∷ (codes "comment", number 1) ∷ []) (find_reply []) empty_state
 
 pub record RefusalExamples : Type 0 where
   pub no_database : Refuses ping 9 (codes "FailedToParse")
@@ -96,3 +113,11 @@ pub record RefusalExamples : Type 0 where
   -- 1 is to be inserted, which is no document
   pub no_document : Refuses (insert_values (codes "c") (number 1 ∷ [])) 14 (codes "TypeMismatch")
   pub no_collection : Refuses (insert_values [] []) 2 (codes "BadValue")
+  pub typed_database : Refuses (ping ++ one_field (codes "$db") (number 1)) 14 (codes "TypeMismatch")
+  -- the database is looked at before the other fields
+  pub database_first : Refuses (on (codes "a.b") (one_field (codes "find") (number 1))) 2 (codes "BadValue")
+  pub typed_ordered : Refuses (insert (only 1 ∷ []) ++ one_field (codes "ordered") (number 1)) 14 (codes "TypeMismatch")
+  pub unknown_field : Refuses (insert (only 1 ∷ []) ++ one_field (codes "upsert") (boolean false)) 9 (codes "FailedToParse")
+  pub filtered : Refuses (find ++ one_field (codes "filter") (document_of (only 1))) 9 (codes "FailedToParse")
+  pub unreadable : (state : State) (session : ℕ) → step state session (Invalid TooDeep)
+      ≡ record { reply = (codes "ok", int32 (pos 0)) ∷ (codes "errmsg", string (codes "InvalidBSON: TooDeep")) ∷ (codes "code", int32 (pos 22)) ∷ (codes "codeName", string (codes "InvalidBSON")) ∷ []; state = state }

@@ -1,5 +1,5 @@
 -- Sessions, and what happens to them: one is opened, a piece of its bytes comes, it ends.
-use Rattle.std.specs.Prelude.{◌≡◌, ℕ, suc, ◌≤◌, ◌<◌, ◌^◌, ◌⊎◌, Bool, true, false, List, [], ◌∷◌, ◌++◌, length, take, Option, Some, None, Result, Ok, Err, ◌==◌, if◌then◌else◌}
+use Rattle.std.specs.Prelude.{◌≡◌, ℕ, suc, ◌≤◌, ◌<◌, ◌^◌, ◌⊎◌, ◌&&◌, Bool, true, false, List, [], ◌∷◌, ◌++◌, length, take, Option, Some, None, Result, Ok, Err, ◌==◌, if◌then◌else◌}
 use Rattle.dv_bson.specs.declared.fault.BsonFault.{BsonFault}
 use Rattle.dv_bson.specs.Tree.{Field}
 use Rattle.dv_bson.specs.Spelling.{spelling}
@@ -17,6 +17,7 @@ use Rattle.dv_wire.specs.declared.hub.Fed.{Fed}
 use Rattle.dv_wire.specs.declared.hub.Fed.TheVariants as fed
 use Rattle.dv_wire.specs.Message.{Message, message_spelling, Ending, rest, closed, split}
 use Rattle.dv_wire.specs.State.{State}
+use Rattle.dv_wire.specs.Replies.{wants_memory}
 use Rattle.dv_wire.specs.Step.{MemoryStep}
 
 -- ---- the messages of a session, one after the other
@@ -34,11 +35,13 @@ abbrev pub sent : Message → List Field → List ℕ
 sent message reply = if message.more_to_come then [] else message_spelling 0 message.request_id 0 (0 ∷ spelling reply)
 
 -- After the outcome of a message these bytes are answered: its reply, and then what the others (as a relation between the
--- state, the bytes and how it ends) answer. The session goes on (true), or is closed in place of a reply (false).
+-- state, the bytes and how it ends) answer. The session goes on (true), or is closed in place of a reply (false). It is closed
+-- where moreToCome would leave a reply out that tells of want of memory: so nothing is left undone and not told.
 abbrev pub GoesOn : Message → Outcome → State → (State → List ℕ → Type 0) → List ℕ → State → Bool → Type 0
 GoesOn message NoReply mid Others bytes new goes_on = (bytes ≡ []) × (new ≡ mid) × (goes_on ≡ false)
 GoesOn message (Reply reply) mid Others bytes new goes_on =
-    ((others : List ℕ) × (bytes ≡ sent message reply ++ others) × Others mid others) ⊎ ((bytes ≡ []) × (new ≡ mid) × (goes_on ≡ false))
+    ((others : List ℕ) × (bytes ≡ sent message reply ++ others) × Others mid others × (message.more_to_come && wants_memory reply ≡ false))
+    ⊎ ((bytes ≡ []) × (new ≡ mid) × (goes_on ≡ false))
 
 -- the messages of a session are carried out in order, from one state to another, and these bytes are answered
 abbrev pub CarriesOut : ℕ → State → List Message → List ℕ → State → Bool → Type 0

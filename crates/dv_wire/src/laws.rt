@@ -1,9 +1,9 @@
 //! What holds of streams and of sessions, however their bytes come, and of every step of the machine.
 
-ghost use Rattle.std.specs.Prelude.{◌≡◌, ◌↔◌, ℕ, List, ◌++◌, Some, false, codes, pos};
+ghost use Rattle.std.specs.Prelude.{◌≡◌, ◌↔◌, ℕ, List, ◌++◌, Ok, Some, false, codes, pos};
 ghost use Rattle.std.specs.Str.{bytes_eq};
 ghost use Rattle.dv_bson.specs.Names.{value_under};
-ghost use Rattle.dv_bson.specs.Spelling.{IsBytes};
+ghost use Rattle.dv_bson.specs.Spelling.{Fits, IsBytes};
 ghost use Rattle.dv_bson.specs.Tree.{Field, int32};
 ghost use Rattle.dv_bson.specs.declared.fault.BsonFault.{BsonFault};
 ghost use Rattle.dv_wire.specs.declared.hub.Fed.{Fed};
@@ -16,6 +16,7 @@ ghost use Rattle.dv_wire.specs.Message as wire;
 ghost use Rattle.dv_wire.specs.Schedule.{World, Feeds, FeedsAll, joined};
 ghost use Rattle.dv_wire.specs.State.{State, IsOrdered, empty_state};
 ghost use Rattle.dv_wire.specs.Step.{MemoryStep, command_name};
+ghost use Rattle.dv_wire.specs.Storable.{storable};
 
 /// A stream of which more comes splits as before, and then as its rest with what comes; behind a fault nothing does.
 pub fn splitting_goes_on()
@@ -59,6 +60,11 @@ pub fn documents_stay_in_order()
     dv_coll::laws::inserted_documents_ascend();
     dv_coll::laws::inserted_documents_begin_with_ids();
 }
+
+/// What is stored is within the limits: 16,777,216 bytes and 100 levels.
+pub fn stored_documents_fit()
+    ensures { (d stored : List Field) → storable d ≡ Ok stored → Fits stored }
+{}
 
 /// What inserts answer and leave, by worked examples.
 pub fn inserts_by_example()

@@ -5,6 +5,9 @@ ghost use Rattle.std.specs.Int.{w32, to_le_bytes};
 ghost use Rattle.dv_bson.specs.Names.{has_name, has_zero};
 ghost use Rattle.dv_bson.specs.Spelling.{spelling};
 ghost use Rattle.dv_bson.specs.View.{tree};
+ghost use Rattle.dv_bson.specs.Tree.{elements_of};
+ghost use Rattle.std.specs.List.{list_any};
+ghost use Rattle.dv_wire.specs.Fields.{documents_among};
 ghost use Rattle.dv_wire.specs.Message.{message_spelling};
 ghost use Rattle.dv_wire.specs.View.{unmeasured};
 ghost use Rattle.dv_wire.specs.Refusals as refusals;
@@ -12,7 +15,7 @@ ghost use Rattle.dv_wire.specs.Replies as replies;
 
 use crate::front::OP_MSG;
 use crate::refusal::Refusal;
-use dv_bson::{Document, NoMemory, Str, Value, write_document};
+use dv_bson::{Document, List, NoMemory, Str, Value, write_document};
 use std::alloc::{AllocError, Global};
 
 /// The reply to a command that was carried out: these fields, and `ok: 1`.
@@ -45,6 +48,43 @@ pub(crate) fn add(reply: &mut Document, name: &str, value: Value) -> Result<(), 
     ensures { OnOk result (reply.new ≡ reply.old ++ (name.now, tree value) ∷ []) }
 {
     reply.push(name, value).map_err(|_| AllocError)
+}
+
+/// Whether a reply tells of want of memory: that of its command, or of one of its statements.
+pub(crate) fn wants_memory(reply: &Document) -> bool
+    ensures { result ≡ replies.wants_memory reply.now }
+{
+    if has_want(reply) {
+        return true;
+    }
+    match reply.get("writeErrors") {
+        Some(Value::Array(errors)) => any_wants(errors),
+        _ => false,
+    }
+}
+
+/// Whether the code among the fields of a refusal, or of a write error, is that of want of memory.
+fn has_want(fields: &Document) -> bool
+    ensures { result ≡ replies.has_want fields.now }
+{
+    match fields.get("code") {
+        Some(Value::Int32(code)) => *code == Refusal::WantOfMemory.code(),
+        _ => false,
+    }
+}
+
+/// Whether one of the write errors is for want of memory.
+fn any_wants(errors: &List) -> bool
+    ensures { result ≡ list_any replies.has_want (documents_among (elements_of errors.now)) }
+{
+    'errors: for value in errors.as_slice() {
+        if let Value::Doc(error) = value {
+            if has_want(error) {
+                return true;
+            }
+        }
+    }
+    false
 }
 
 /// Appends a message with this body as the reply to a request. Where memory is wanting nothing is appended.

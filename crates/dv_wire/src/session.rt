@@ -9,7 +9,7 @@ ghost use Rattle.dv_wire.specs.View.{kept_or_shut, left_or_shut, message_seen, C
 use crate::fault::CloseFault;
 use crate::front::{Front, Message, front_of};
 use crate::hub::Fed;
-use crate::reply::append_reply;
+use crate::reply::{append_reply, wants_memory};
 use crate::store::{Command, Outcome, Store};
 use dv_bson::{BsonFault, NoMemory, read_document};
 use std::alloc::{AllocError, Global};
@@ -135,7 +135,8 @@ fn carry_out_all(
     }
 }
 
-/// Carries out a message, and appends its reply. An error says that memory is wanting for the reply.
+/// Carries out a message, and appends its reply. An error says that memory is wanting for the reply, or that a reply
+/// which tells of want of memory isn't to be sent.
 fn carry_out(
     alloc: Global,
     store: &mut Store,
@@ -149,6 +150,10 @@ fn carry_out(
         Outcome::NoReply => Err(AllocError),
         Outcome::Reply(reply) => {
             if message.more_to_come {
+                // Who waits for no reply is told of want of memory by the end of the session.
+                if wants_memory(&reply) {
+                    return Err(AllocError);
+                }
                 return Ok(());
             }
             append_reply(message.request_id, &reply, out)
