@@ -176,7 +176,9 @@ def fits(steps, said, collections, is_cut, may_want=True):
     reply, is_usual = machine.execute(after, body(step)), True
     for reply, after in [(reply, after), *(without_memory(collections, body(step)) if may_want else [])]:
         line = [b"%d %s" % (step.session, machine.message(7, reply).hex().encode())] * (not step.flags & 2)
-        if said[:len(line)] == line and fits(rest, said[len(line):], after, is_cut, may_want and is_usual):
+        # Where no reply is sent, want of memory is told by the end of the session alone.
+        is_told = is_usual or not step.flags & 2
+        if is_told and said[:len(line)] == line and fits(rest, said[len(line):], after, is_cut, may_want and is_usual):
             return True
         if may_want and said[:1] == [b"%d closed 6" % step.session]:
             later = [one for place, one in enumerate(rest)
