@@ -13,7 +13,7 @@ use Rattle.dv_wire.specs.State.{State}
 use Rattle.dv_wire.specs.Message.{Message, Ending, rest, closed, Split, split, continued}
 use Rattle.dv_wire.specs.Replies.{wants_memory}
 use Rattle.dv_wire.specs.Step.{MemoryStep}
-use Rattle.dv_wire.specs.Schedule.{command_of, GoesOn, CarriesOut, sent, Takes, Conversation, reading, shut, conversation_after, fed_of, World, conversation_of, with_conversation, Hears, Feeds, FeedsAll, joined}
+use Rattle.dv_wire.specs.Schedule.{command_of, GoesOn, CarriesOut, sent, Takes, Conversation, reading, shut, conversation_after, fed_of, World, conversation_of, with_conversation, Hears, Feeds, FeedsAll, pieces_joined}
 use Rattle.dv_wire.proofs.Streams.{carries_then, stops}
 use Rattle.dv_wire.proofs.Growth.{split_continues}
 
@@ -256,15 +256,15 @@ feeds_one old new session piece more bytes answer (Some before) e two =
 -- ---- any number of pieces
 
 pub feeds_joined : (old new : World) (session : ℕ) (piece : List ℕ) (pieces : List (List ℕ)) (bytes : List ℕ) (answer : Fed)
-    → FeedsAll old session piece pieces bytes answer new → Feeds old session (joined piece pieces) bytes answer new
+    → FeedsAll old session piece pieces bytes answer new → Feeds old session (pieces_joined piece pieces) bytes answer new
 feeds_joined old new session piece [] bytes answer feeds = feeds
 feeds_joined old new session piece (next ∷ pieces) bytes answer (first, others, mid, told, both, feeds, behind) =
-    feeds_one old new session piece (joined next pieces) bytes answer (conversation_of session old.sessions) refl
+    feeds_one old new session piece (pieces_joined next pieces) bytes answer (conversation_of session old.sessions) refl
     (first, others, mid, told, both, feeds, feeds_joined mid new session next pieces others answer behind)
 
 pub feeds_all : (old new : World) (session : ℕ) (piece : List ℕ) (pieces : List (List ℕ)) (bytes : List ℕ) (answer : Fed)
-    → Feeds old session (joined piece pieces) bytes answer new → FeedsAll old session piece pieces bytes answer new
+    → Feeds old session (pieces_joined piece pieces) bytes answer new → FeedsAll old session piece pieces bytes answer new
 feeds_all old new session piece [] bytes answer feeds = feeds
 feeds_all old new session piece (next ∷ pieces) bytes answer feeds =
-    let (first, others, mid, told, both, before, behind) = feeds_two old new session piece (joined next pieces) bytes answer (conversation_of session old.sessions) refl feeds in
+    let (first, others, mid, told, both, before, behind) = feeds_two old new session piece (pieces_joined next pieces) bytes answer (conversation_of session old.sessions) refl feeds in
     (first, others, mid, told, both, before, feeds_all mid new session next pieces others answer behind)

@@ -101,8 +101,8 @@ Opens old (Ok session) new =
 Opens old (Err hub_faults.TooManySessions) new = ((session_limit ≤ length old.sessions) ⊎ (2 ^ 32 ≤ old.next)) × (new ≡ old)
 Opens old (Err hub_faults.NoMemory) new = new ≡ old
 
--- A stream's whole messages are carried out, and what follows them is kept or closes the session; or a reply finds no memory;
--- or the stream's bytes find none, behind any of the messages.
+-- A stream's whole messages are carried out, and what follows them is kept or closes the session; or the session is closed in
+-- place of a reply; or the stream's bytes find no memory, behind any of the messages.
 abbrev pub Takes : ℕ → State → List ℕ → List ℕ → State → Conversation → Type 0
 Takes session old stream bytes new after =
     (CarriesOut session old (split stream).messages bytes new true × (after ≡ conversation_after (split stream).ending))
@@ -130,9 +130,9 @@ FeedsAll old session piece [] bytes answer new = Feeds old session piece bytes a
 FeedsAll old session piece (next ∷ pieces) bytes answer new =
     (first : List ℕ) × (others : List ℕ) × (mid : World) × (told : Fed) × (bytes ≡ first ++ others) × Feeds old session piece first told mid × FeedsAll mid session next pieces others answer new
 
-abbrev pub joined : List ℕ → List (List ℕ) → List ℕ
-joined piece [] = piece
-joined piece (next ∷ pieces) = piece ++ joined next pieces
+abbrev pub pieces_joined : List ℕ → List (List ℕ) → List ℕ
+pieces_joined piece [] = piece
+pieces_joined piece (next ∷ pieces) = piece ++ pieces_joined next pieces
 
 -- what was there stays in front, and these bytes follow it
 abbrev pub Appends : List ℕ → List ℕ → (List ℕ → Type 0) → Type 0

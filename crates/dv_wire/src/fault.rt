@@ -18,7 +18,7 @@ pub enum CloseFault {
     Checksum,
     /// The sections are no body and what may stand beside it.
     BadSection,
-    /// Memory is wanting for a session's bytes or for a reply.
+    /// Memory is wanting for a session's bytes, for a reply, or for a command whose reply moreToCome leaves out.
     NoMemory,
 }
 

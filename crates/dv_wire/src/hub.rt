@@ -88,7 +88,8 @@ impl Hub {
 
     /// Takes the next piece of a session's bytes: carries out the messages that are whole now, in order, and
     /// appends their replies to `out`, each of them whole. A fault in the bytes closes the session as soon as they
-    /// show it, and so does want of memory for the bytes or for a reply. A session that is closed takes no more.
+    /// show it, and so does want of memory for the bytes, for a reply, or for a command whose reply moreToCome leaves
+    /// out. A session that is closed takes no more.
     pub fn feed(&mut self, session: SessionId, piece: &[u8], out: &mut Vec<u8>) -> Fed
         ensures { Appends out.old.items out.new.items (λ bytes. Feeds self.old session.number piece.now bytes result self.new) }
     {

@@ -13,7 +13,7 @@ ghost use Rattle.dv_wire.specs.declared.store.Outcome.{Outcome};
 ghost use Rattle.dv_wire.specs.declared.store.Outcome.TheVariants.{Reply};
 ghost use Rattle.dv_wire.specs.Examples as examples;
 ghost use Rattle.dv_wire.specs.Message as wire;
-ghost use Rattle.dv_wire.specs.Schedule.{World, Feeds, FeedsAll, joined};
+ghost use Rattle.dv_wire.specs.Schedule.{World, Feeds, FeedsAll, pieces_joined};
 ghost use Rattle.dv_wire.specs.State.{State, IsOrdered, empty_state};
 ghost use Rattle.dv_wire.specs.Step.{MemoryStep, command_name};
 ghost use Rattle.dv_wire.specs.Storable.{storable};
@@ -33,7 +33,7 @@ pub fn messages_are_spelled()
 /// all their bytes as one piece may do, and nothing else.
 pub fn cuts_do_not_matter()
     ensures { (old new : World) (session : ℕ) (piece : List ℕ) (pieces : List (List ℕ)) (bytes : List ℕ) (answer : Fed)
-        → Feeds old session (joined piece pieces) bytes answer new ↔ FeedsAll old session piece pieces bytes answer new }
+        → Feeds old session (pieces_joined piece pieces) bytes answer new ↔ FeedsAll old session piece pieces bytes answer new }
 {}
 
 /// A command that is told as refused, with `ok: 0`, changed nothing.
