@@ -7,12 +7,12 @@ use Rattle.dv_wire.specs.declared.fault.CloseFault.{CloseFault}
 use Rattle.dv_wire.specs.declared.fault.CloseFault.TheVariants.{NoMemory}
 use Rattle.dv_wire.specs.declared.hub.Fed.{Fed}
 use Rattle.dv_wire.specs.declared.hub.Fed.TheVariants.{Unknown}
-use Rattle.dv_wire.specs.declared.store.Outcome.{Outcome}
-use Rattle.dv_wire.specs.declared.store.Outcome.TheVariants.{Reply, NoReply}
-use Rattle.dv_wire.specs.State.{State}
+use Rattle.dv_core.specs.declared.store.Outcome.{Outcome}
+use Rattle.dv_core.specs.declared.store.Outcome.TheVariants.{Reply, NoReply}
+use Rattle.dv_core.specs.State.{State}
 use Rattle.dv_wire.specs.Message.{Message, Ending, rest, closed, Split, split, continued}
-use Rattle.dv_wire.specs.Replies.{wants_memory}
-use Rattle.dv_wire.specs.Step.{MemoryStep}
+use Rattle.dv_command.specs.Replies.{wants_memory}
+use Rattle.dv_core.specs.Step.{MemoryStep}
 use Rattle.dv_wire.specs.Schedule.{command_of, GoesOn, CarriesOut, sent, Takes, Conversation, reading, shut, conversation_after, fed_of, World, conversation_of, with_conversation, Hears, Feeds, FeedsAll, pieces_joined}
 use Rattle.dv_wire.proofs.Streams.{carries_then, stops}
 use Rattle.dv_wire.proofs.Growth.{split_continues}

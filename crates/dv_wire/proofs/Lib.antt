@@ -5,12 +5,3 @@ mod Streams
 mod Growth
 mod Spelled
 mod Cuts
-mod Steps
-mod Checked
-mod Documents
-mod Stored
-mod Changes
-mod Ordered
-mod Worked
-mod Statements
-mod ByNamespace

@@ -8,14 +8,14 @@ use Rattle.dv_bson.specs.declared.fault.BsonFault.TheVariants as bson
 use Rattle.dv_bson.specs.Tree.{Field}
 use Rattle.dv_bson.specs.Spelling.{spelling}
 use Rattle.dv_bson.specs.Reading.{document_at, first_fault, fault_of}
-use Rattle.dv_wire.specs.declared.store.Command.{Command}
-use Rattle.dv_wire.specs.declared.store.Command.TheVariants.{Invalid}
-use Rattle.dv_wire.specs.declared.store.Outcome.{Outcome}
-use Rattle.dv_wire.specs.declared.store.Outcome.TheVariants.{Reply}
-use Rattle.dv_wire.specs.State.{State}
+use Rattle.dv_command.specs.declared.command.Command.{Command}
+use Rattle.dv_command.specs.declared.command.Command.TheVariants.{Invalid}
+use Rattle.dv_core.specs.declared.store.Outcome.{Outcome}
+use Rattle.dv_core.specs.declared.store.Outcome.TheVariants.{Reply}
+use Rattle.dv_core.specs.State.{State}
 use Rattle.dv_wire.specs.Message.{Message, message_spelling}
-use Rattle.dv_wire.specs.Replies.{wants_memory}
-use Rattle.dv_wire.specs.Step.{MemoryStep}
+use Rattle.dv_command.specs.Replies.{wants_memory}
+use Rattle.dv_core.specs.Step.{MemoryStep}
 use Rattle.dv_wire.specs.Schedule.{Appends, CarriesOut, command_read, command_of}
 use Rattle.dv_wire.specs.View.{Carries, unmeasured}
 

@@ -5,7 +5,7 @@ use Rattle.dv_wire.specs.declared.session.Stage.{Stage}
 use Rattle.dv_wire.specs.declared.session.Session.{Session}
 use Rattle.dv_wire.specs.declared.hub.Fed.{Fed}
 use Rattle.dv_wire.specs.declared.hub.Fed.TheVariants.{Unknown}
-use Rattle.dv_wire.specs.State.{State}
+use Rattle.dv_core.specs.State.{State}
 use Rattle.dv_wire.specs.Schedule.{World, conversation_of, with_conversation, without, fed_of, Hears, Feeds}
 use Rattle.dv_wire.specs.View.{conversation, session_of}
 

@@ -3,9 +3,9 @@ use Rattle.std.proofs.Common.{◌≡◌, ℕ, zero, suc, ◌-◌, ◌<◌, ◌�
 use Rattle.std.proofs.lemmas.List.{append-nil, length-append, length-drop, take-append-drop, take_at, drop_at}
 use Rattle.dv_wire.specs.declared.fault.CloseFault.{CloseFault}
 use Rattle.dv_wire.specs.declared.fault.CloseFault.TheVariants.{NoMemory}
-use Rattle.dv_wire.specs.declared.store.Outcome.{Outcome}
-use Rattle.dv_wire.specs.declared.store.Outcome.TheVariants.{Reply, NoReply}
-use Rattle.dv_wire.specs.State.{State}
+use Rattle.dv_core.specs.declared.store.Outcome.{Outcome}
+use Rattle.dv_core.specs.declared.store.Outcome.TheVariants.{Reply, NoReply}
+use Rattle.dv_core.specs.State.{State}
 use Rattle.dv_wire.specs.Message.{Message, Front, unfinished, closing, whole, number_behind, front, Ending, rest, closed, Split, behind, split_from, split_within, split}
 use Rattle.dv_wire.specs.Schedule.{GoesOn, CarriesOut, Appends, Takes, reading, shut}
 use Rattle.dv_wire.specs.View.{Carries}

@@ -8,17 +8,17 @@ use Rattle.dv_wire.specs.declared.fault.CloseFault.{CloseFault}
 use Rattle.dv_wire.specs.declared.fault.CloseFault.TheVariants.{NoMemory}
 use Rattle.dv_wire.specs.declared.fault.HubFault.{HubFault}
 use Rattle.dv_wire.specs.declared.fault.HubFault.TheVariants as hub_faults
-use Rattle.dv_wire.specs.declared.store.Command.{Command}
-use Rattle.dv_wire.specs.declared.store.Command.TheVariants.{Body, Invalid}
-use Rattle.dv_wire.specs.declared.store.Outcome.{Outcome}
-use Rattle.dv_wire.specs.declared.store.Outcome.TheVariants.{Reply, NoReply}
+use Rattle.dv_command.specs.declared.command.Command.{Command}
+use Rattle.dv_command.specs.declared.command.Command.TheVariants.{Body, Invalid}
+use Rattle.dv_core.specs.declared.store.Outcome.{Outcome}
+use Rattle.dv_core.specs.declared.store.Outcome.TheVariants.{Reply, NoReply}
 use Rattle.dv_wire.specs.declared.hub.SessionId.{SessionId}
 use Rattle.dv_wire.specs.declared.hub.Fed.{Fed}
 use Rattle.dv_wire.specs.declared.hub.Fed.TheVariants as fed
 use Rattle.dv_wire.specs.Message.{Message, message_spelling, Ending, rest, closed, split}
-use Rattle.dv_wire.specs.State.{State}
-use Rattle.dv_wire.specs.Replies.{wants_memory}
-use Rattle.dv_wire.specs.Step.{MemoryStep}
+use Rattle.dv_core.specs.State.{State}
+use Rattle.dv_command.specs.Replies.{wants_memory}
+use Rattle.dv_core.specs.Step.{MemoryStep}
 
 -- ---- the messages of a session, one after the other
 

@@ -9,17 +9,7 @@ use Rattle.dv_wire.specs.declared.front.Message as declared
 use Rattle.dv_wire.specs.declared.front.Front.{Front as FrontSeen}
 use Rattle.dv_wire.specs.declared.front.Front.TheVariants.{Unfinished, Closing, Whole}
 use Rattle.dv_wire.specs.Message.{Message, Front, unfinished, closing, whole}
-use Rattle.std.specs.BTreeMap.{BTreeMap}
-use Rattle.std.specs.declared.string.String.{String}
-use Rattle.std.specs.String.{string_bytes}
-use Rattle.dv_bson.specs.Places.{by_text}
-use Rattle.dv_bson.specs.Tree.{Field, elements_of}
-use Rattle.dv_wire.specs.declared.fields.Kind.{Kind}
-use Rattle.dv_wire.specs.declared.fields.Rule.{Rule}
-use Rattle.dv_wire.specs.declared.insert.Insert as inserting
-use Rattle.dv_wire.specs.Fields.{documents_among}
-use Rattle.dv_wire.specs.Insert.{Insert}
-use Rattle.dv_wire.specs.State.{State}
+use Rattle.dv_core.specs.State.{State}
 use Rattle.dv_wire.specs.Schedule.{Conversation, reading, shut, CarriesOut}
 
 abbrev pub message_seen : declared.Message → Message
@@ -55,15 +45,3 @@ Carries session old message bytes new (Err e) = CarriesOut session old (message 
 -- a reply to a request, with a length of 0 in its header
 abbrev pub unmeasured : ℕ → List ℕ → List ℕ
 unmeasured response_to sections = to_le_bytes w32 0 ++ (to_le_bytes w32 0 ++ (to_le_bytes w32 response_to ++ (to_le_bytes w32 2013 ++ (to_le_bytes w32 0 ++ sections))))
-
--- ---- the store
-
-abbrev pub rule_seen : Rule → List ℕ × Kind
-rule_seen r = (r.name.now, r.kind)
-
--- what a map under namespaces has, by the namespaces' bytes
-abbrev pub documents_by_namespace : {Y : Type 0} → BTreeMap (String Y) (List (List Field)) → State
-documents_by_namespace m = by_text m
-
-abbrev pub insert_seen : inserting.Insert → Insert
-insert_seen i = record { namespace = string_bytes i.namespace; documents = documents_among (elements_of i.documents.now); ordered = i.ordered }

@@ -5,7 +5,7 @@ ghost use Rattle.std.specs.List.{position_from};
 
 use crate::fault::{CloseFault, HubFault};
 use crate::session::{Session, Stage};
-use crate::store::Store;
+use dv_core::Store;
 use std::alloc::Global;
 use std::marker::Model;
 

@@ -1,54 +1,19 @@
-//! Replies: their bodies, and their bytes.
+//! Replies: their bytes.
 
-ghost use Rattle.std.specs.Prelude.{◌≡◌, ◌+◌, ◌-◌, ◌^◌, ◌<◌, ◌≤◌, ◌∷◌, [], ◌++◌, length, take, drop, false, IfOk, OnOk, OnErr, codes};
+ghost use Rattle.std.specs.Prelude.{◌≡◌, ◌+◌, ◌-◌, ◌^◌, ◌<◌, ◌≤◌, ◌∷◌, [], ◌++◌, length, take, drop, OnOk, OnErr};
 ghost use Rattle.std.specs.Int.{w32, to_le_bytes};
-ghost use Rattle.dv_bson.specs.Names.{has_name, has_zero};
 ghost use Rattle.dv_bson.specs.Spelling.{spelling};
-ghost use Rattle.dv_bson.specs.View.{tree};
 ghost use Rattle.dv_bson.specs.Tree.{elements_of};
 ghost use Rattle.std.specs.List.{list_any};
-ghost use Rattle.dv_wire.specs.Fields.{documents_among};
+ghost use Rattle.dv_command.specs.Fields.{documents_among};
 ghost use Rattle.dv_wire.specs.Message.{message_spelling};
 ghost use Rattle.dv_wire.specs.View.{unmeasured};
-ghost use Rattle.dv_wire.specs.Refusals as refusals;
-ghost use Rattle.dv_wire.specs.Replies as replies;
+ghost use Rattle.dv_command.specs.Replies as replies;
 
 use crate::front::OP_MSG;
-use crate::refusal::Refusal;
-use dv_bson::{Document, List, NoMemory, Str, Value, write_document};
-use std::alloc::{AllocError, Global};
-
-/// The reply to a command that was carried out: these fields, and `ok: 1`.
-pub(crate) fn done(mut fields: Document) -> Result<Document, NoMemory>
-    requires { has_name (codes "ok") fields ≡ false }
-    ensures { IfOk result (λ reply. reply ≡ replies.done fields) }
-{
-    add(&mut fields, "ok", Value::Int32(1))?;
-    Ok(fields)
-}
-
-/// The reply to a command that is refused.
-pub(crate) fn refused(alloc: Global, refusal: &Refusal) -> Result<Document, NoMemory>
-    ensures { IfOk result (λ reply. reply ≡ refusals.refused refusal.now) }
-{
-    let mut reply = Document::new(alloc);
-    add(&mut reply, "ok", Value::Int32(0))?;
-    let message = refusal.message(alloc)?;
-    add(&mut reply, "errmsg", Value::Text(Str::of(message)))?;
-    add(&mut reply, "code", Value::Int32(refusal.code()))?;
-    let name = String::from_str(alloc, refusal.name())?;
-    add(&mut reply, "codeName", Value::Text(Str::of(name)))?;
-    Ok(reply)
-}
-
-/// Adds a field whose name is known to be new and without a zero byte.
-pub(crate) fn add(reply: &mut Document, name: &str, value: Value) -> Result<(), NoMemory>
-    requires whole { has_zero name.now ≡ false }
-    requires fresh { has_name name.now reply.old ≡ false }
-    ensures { OnOk result (reply.new ≡ reply.old ++ (name.now, tree value) ∷ []) }
-{
-    reply.push(name, value).map_err(|_| AllocError)
-}
+use dv_bson::{Document, List, NoMemory, Value, write_document};
+use dv_command::refusal::Refusal;
+use std::alloc::AllocError;
 
 /// Whether a reply tells of want of memory: that of its command, or of one of its statements.
 pub(crate) fn wants_memory(reply: &Document) -> bool

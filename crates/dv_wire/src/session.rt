@@ -3,15 +3,16 @@
 ghost use Rattle.std.specs.Prelude.{◌≡◌, ◌≤◌, ◌++◌, ◌⊎◌, IfOk, length, drop, vec_len};
 ghost use Rattle.dv_bson.specs.Reading.{document_at};
 ghost use Rattle.dv_wire.specs.Schedule.{Appends, Takes, command_read};
-ghost use Rattle.dv_wire.specs.Step.{MemoryStep};
+ghost use Rattle.dv_core.specs.Step.{MemoryStep};
 ghost use Rattle.dv_wire.specs.View.{kept_or_shut, left_or_shut, message_seen, Carries};
 
 use crate::fault::CloseFault;
 use crate::front::{Front, Message, front_of};
 use crate::hub::Fed;
 use crate::reply::{append_reply, wants_memory};
-use crate::store::{Command, Outcome, Store};
 use dv_bson::{BsonFault, NoMemory, read_document};
+use dv_command::command::Command;
+use dv_core::{Outcome, Store};
 use std::alloc::{AllocError, Global};
 
 /// How a session stands.

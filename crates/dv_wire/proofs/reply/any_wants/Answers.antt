@@ -1,7 +1,7 @@
 use Rattle.std.proofs.Common.{sym, ◌∙◌, ap, refl}
 use Rattle.std.specs.List.{list_any}
-use Rattle.dv_wire.specs.Replies.{has_want}
-use Rattle.dv_wire.proofs.Statements.{next_document, no_document}
+use Rattle.dv_command.specs.Replies.{has_want}
+use Rattle.dv_core.proofs.Statements.{next_document, no_document}
 use Rattle.dv_wire.proofs.reply.any_wants.Goals as goal
 use Rattle.dv_wire.proofs.reply.any_wants.Goals.{in-Doc+else-has_want, in_default}
 

@@ -1,8 +1,8 @@
 -- no write error so far is for want of memory
 use Rattle.std.proofs.Common.{◌≡◌}
 use Rattle.std.specs.List.{list_any}
-use Rattle.dv_wire.specs.Replies.{has_want}
-use Rattle.dv_wire.proofs.Statements.{documents_from}
+use Rattle.dv_command.specs.Replies.{has_want}
+use Rattle.dv_core.proofs.Statements.{documents_from}
 use Rattle.dv_wire.proofs.reply.any_wants.Given as goal
 
 abbrev pub invariant-errors : goal.invariant-errors

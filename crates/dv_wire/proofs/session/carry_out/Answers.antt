@@ -1,6 +1,6 @@
 use Rattle.std.proofs.Common.{[], sym, refl, inl, ◌∙◌}
 use Rattle.std.proofs.lemmas.List.{append-nil}
-use Rattle.dv_wire.specs.declared.store.Outcome.TheVariants.{NoReply}
+use Rattle.dv_core.specs.declared.store.Outcome.TheVariants.{NoReply}
 use Rattle.dv_wire.specs.View.{message_seen}
 use Rattle.dv_wire.proofs.Replies.{silent, shuts, answers}
 use Rattle.dv_wire.proofs.session.carry_out.Goals as goal

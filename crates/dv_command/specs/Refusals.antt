@@ -1,0 +1,58 @@
+-- How commands are refused (MongoDB manual, "Error Codes"; from 900 on they are this server's own).
+use Rattle.std.specs.Prelude.{ℕ, List, [], ◌∷◌, ◌++◌, Result, Ok, Err, pos, codes}
+use Rattle.dv_bson.specs.declared.fault.BsonFault.{BsonFault}
+use Rattle.dv_bson.specs.declared.fault.BsonFault.TheVariants.{NoMemory}
+use Rattle.dv_bson.specs.Fault.{fault_text}
+use Rattle.dv_coll.specs.declared.fault.InsertFault.{InsertFault}
+use Rattle.dv_coll.specs.declared.fault.InsertFault.TheVariants as inserting
+use Rattle.dv_bson.specs.Tree.{string, int32, Field}
+use Rattle.dv_command.specs.declared.refusal.Refusal.{Refusal}
+use Rattle.dv_command.specs.declared.refusal.Refusal.TheVariants.{BadValue, FailedToParse, TypeMismatch, InvalidBson, CommandNotFound, DuplicateKey, WantOfMemory, TooLarge, LimitReached}
+
+abbrev pub code : Refusal → ℕ
+code BadValue = 2
+code FailedToParse = 9
+code TypeMismatch = 14
+code (InvalidBson fault) = 22
+code CommandNotFound = 59
+code DuplicateKey = 11000
+code WantOfMemory = 900
+code TooLarge = 901
+code LimitReached = 903
+
+abbrev pub code_name : Refusal → List ℕ
+code_name BadValue = codes "BadValue"
+code_name FailedToParse = codes "FailedToParse"
+code_name TypeMismatch = codes "TypeMismatch"
+code_name (InvalidBson fault) = codes "InvalidBSON"
+code_name CommandNotFound = codes "CommandNotFound"
+code_name DuplicateKey = codes "DuplicateKey"
+code_name WantOfMemory = codes "WantOfMemory"
+code_name TooLarge = codes "TooLarge"
+code_name LimitReached = codes "LimitReached"
+
+-- the message is the code's name; that of a document that can't be read says why
+abbrev pub message_of : Refusal → List ℕ
+message_of (InvalidBson fault) = codes "InvalidBSON: " ++ fault_text fault
+message_of refusal = code_name refusal
+
+-- the reply to a command that is refused
+abbrev pub refused : Refusal → List Field
+refused refusal =
+    (codes "ok", int32 (pos 0)) ∷ (codes "errmsg", string (message_of refusal)) ∷ (codes "code", int32 (pos (code refusal))) ∷ (codes "codeName", string (code_name refusal)) ∷ []
+
+-- how a command is refused whose body can't be read: for the fault in it, or for want of memory where there was none to read it
+abbrev pub refusal_of : BsonFault → Refusal
+refusal_of NoMemory = WantOfMemory
+refusal_of fault = InvalidBson fault
+
+-- why a document isn't inserted
+abbrev pub insert_refusal : InsertFault → Refusal
+insert_refusal inserting.Duplicate = DuplicateKey
+insert_refusal inserting.NoMemory = WantOfMemory
+
+-- one thing after another: the first refusal is told
+infixl 10 ◌>>=◌
+abbrev pub ◌>>=◌ : {A B : Type 0} → Result A Refusal → (A → Result B Refusal) → Result B Refusal
+(Ok x) >>= f = f x
+(Err e) >>= f = Err e

@@ -1,0 +1,122 @@
+//! Why a command is refused.
+
+ghost use Rattle.std.specs.Prelude.{◌≡◌, IfOk, pos};
+ghost use Rattle.std.specs.String.{string_bytes};
+ghost use Rattle.dv_command.specs.Refusals as refusals;
+ghost use Rattle.dv_command.specs.declared.refusal.Refusal.TheVariants.{WantOfMemory};
+
+use dv_bson::BsonFault;
+use dv_coll::InsertFault;
+use std::alloc::{AllocError, AllocFailed, Global};
+
+/// Why a command is refused: the server error codes of the MongoDB manual, and this server's own from 900 on.
+#[derive(Clone, Copy, Debug, PartialEq, Eq)]
+pub enum Refusal {
+    /// A name or a number is out of its rules (2).
+    BadValue,
+    /// A field is missing, unknown or repeated (9).
+    FailedToParse,
+    /// A field has another type than it has to (14).
+    TypeMismatch,
+    /// A document of the message can't be read (22).
+    InvalidBson(BsonFault),
+    /// There is no such command (59).
+    CommandNotFound,
+    /// A document has an equal `_id` (11000).
+    DuplicateKey,
+    /// Memory is wanting (900).
+    WantOfMemory,
+    /// A document, or what a reply would hold, is over a limit (901).
+    TooLarge,
+    /// There are more statements than a command may have (903).
+    LimitReached,
+}
+
+impl Refusal {
+    /// The code's number.
+    pub fn code(&self) -> i32
+        ensures { result ≡ pos (refusals.code self.now) }
+    {
+        match self {
+            Refusal::BadValue => 2,
+            Refusal::FailedToParse => 9,
+            Refusal::TypeMismatch => 14,
+            Refusal::InvalidBson(_) => 22,
+            Refusal::CommandNotFound => 59,
+            Refusal::DuplicateKey => 11000,
+            Refusal::WantOfMemory => 900,
+            Refusal::TooLarge => 901,
+            Refusal::LimitReached => 903,
+        }
+    }
+
+    /// The code's name.
+    pub fn name(&self) -> &'static str
+        ensures { result.now ≡ refusals.code_name self.now }
+    {
+        match self {
+            Refusal::BadValue => "BadValue",
+            Refusal::FailedToParse => "FailedToParse",
+            Refusal::TypeMismatch => "TypeMismatch",
+            Refusal::InvalidBson(_) => "InvalidBSON",
+            Refusal::CommandNotFound => "CommandNotFound",
+            Refusal::DuplicateKey => "DuplicateKey",
+            Refusal::WantOfMemory => "WantOfMemory",
+            Refusal::TooLarge => "TooLarge",
+            Refusal::LimitReached => "LimitReached",
+        }
+    }
+
+    /// The refusal in words: the code's name, and behind it why a document can't be read. Fails where memory is
+    /// wanting.
+    pub fn message(&self, alloc: Global) -> Result<String, AllocError>
+        ensures { IfOk result (λ message. string_bytes message ≡ refusals.message_of self.now) }
+    {
+        match self {
+            Refusal::InvalidBson(fault) => format!(in alloc; "InvalidBSON: {fault}"),
+            refusal => String::from_str(alloc, refusal.name()),
+        }
+    }
+}
+
+impl From<BsonFault> for Refusal {
+    ghost use Rattle.dv_command.specs.Refusals as refusals;
+
+    ghost from_gives = { λ fault refusal. refusal ≡ refusals.refusal_of fault };
+
+    fn from(fault: BsonFault) -> Refusal {
+        match fault {
+            BsonFault::NoMemory => Refusal::WantOfMemory,
+            _ => Refusal::InvalidBson(fault),
+        }
+    }
+}
+
+impl From<AllocError> for Refusal {
+    ghost from_gives = { λ _ refusal. refusal ≡ WantOfMemory };
+
+    fn from(_e: AllocError) -> Refusal {
+        Refusal::WantOfMemory
+    }
+}
+
+impl<T: Drop> From<AllocFailed<T>> for Refusal {
+    ghost from_gives = { λ _ refusal. refusal ≡ WantOfMemory };
+
+    fn from(_e: AllocFailed<T>) -> Refusal {
+        Refusal::WantOfMemory
+    }
+}
+
+impl From<InsertFault> for Refusal {
+    ghost use Rattle.dv_command.specs.Refusals as refusals;
+
+    ghost from_gives = { λ fault refusal. refusal ≡ refusals.insert_refusal fault };
+
+    fn from(fault: InsertFault) -> Refusal {
+        match fault {
+            InsertFault::Duplicate => Refusal::DuplicateKey,
+            InsertFault::NoMemory => Refusal::WantOfMemory,
+        }
+    }
+}

@@ -1,0 +1,7 @@
+mod Steps
+mod Stored
+mod Changes
+mod Ordered
+mod Worked
+pub mod Statements
+mod ByNamespace

@@ -1,0 +1,184 @@
+-- Names that are looked at from the front, and a document with one of its fields in front.
+use Rattle.std.specs.Prelude.{◌≡◌, ℕ, ◌+◌, ◌≤◌, ◌<◌, ◌||◌, ◌&&◌, ◌↔◌, IsTrue, not, nat_lt, Bool, true, false, if◌then◌else◌, List, [], ◌∷◌, ◌++◌, length, map, drop, slice_get, slice_index_or, Option, Result, Ok, Err, Some, None, zero, suc, refl, codes}
+use Rattle.std.specs.Str.{bytes_eq}
+use Rattle.std.proofs.Common.{ap, sym, ◌∙◌, subst, arith, append_assoc, drop_of_length-le}
+use Rattle.std.proofs.lemmas.List.{append-nil}
+use Rattle.std.proofs.lemmas.Bool.Decides.{nat_tests}
+use Rattle.std.proofs.lemmas.Slice.Eq.{bytes_eq-Decides}
+use Rattle.dv_bson.specs.declared.value.Value.{Value}
+use Rattle.dv_bson.specs.Tree.{Tree, document, array, Field, fields_of, elements_of}
+use Rattle.dv_bson.specs.Names.{value_under, has_name, has_zero, AreNamed}
+use Rattle.dv_bson.specs.Spelling.{payload, spelling, fields_levels, levels, Fits}
+use Rattle.dv_bson.specs.View.{tree}
+use Rattle.dv_bson.proofs.Items.{slice_get_seen, drop_item, drop_seen}
+use Rattle.dv_bson.proofs.Named.{named_apart, bytes_eq-symmetric}
+use Rattle.dv_bson.proofs.Payloads.{length-document}
+use Rattle.dv_bson.proofs.Rest.{fields_length-drop}
+use Rattle.dv_bson.specs.Weight.{field_weighs_less, value_weighs_less}
+use Rattle.dv_command.specs.Namespaces.{has_dot, begins_with_dollar}
+use Rattle.dv_command.specs.declared.refusal.Refusal.{Refusal}
+use Rattle.dv_command.specs.declared.refusal.Refusal.TheVariants.{TooLarge}
+use Rattle.dv_command.specs.Refusals.{◌>>=◌}
+use Rattle.dv_core.specs.Storable.{is_dotted, are_fields_dotted, are_elements_dotted, has_dollar, without_field, id_in, is_within_limits, with_id_first, storable}
+
+-- ---- what is left from a place on
+
+pub are_fields_dotted-drop : (fs : List Field) (place : ℕ) (name : List ℕ) (value : Tree) → Some (name, value) ≡ slice_get fs place
+    → are_fields_dotted (fields_of (drop place fs)) ≡ (has_dot name || is_dotted value || are_fields_dotted (fields_of (drop (place + 1) fs)))
+are_fields_dotted-drop fs place name value here = ap (λ (rest : List Field). are_fields_dotted (fields_of rest)) (drop_item fs place (name, value) (sym here))
+
+pub has_dollar-drop : (fs : List Field) (place : ℕ) (name : List ℕ) (value : Tree) → Some (name, value) ≡ slice_get fs place
+    → has_dollar (drop place fs) ≡ (begins_with_dollar name || has_dollar (drop (place + 1) fs))
+has_dollar-drop fs place name value here = ap has_dollar (drop_item fs place (name, value) (sym here))
+
+-- past the last field nothing is left
+pub drop-none : (fs : List Field) (place : ℕ) → None ≡ slice_get fs place → drop place fs ≡ []
+drop-none [] place none = drop_of_length-le [] (omega arith)
+drop-none (f ∷ fs) zero none = absurd cc
+drop-none (f ∷ fs) (suc place) none = drop-none fs place none
+
+pub are_elements_dotted-drop : (values : List Value) (vs : List Tree) (place : ℕ) (value : Value) → map tree values ≡ vs → place < length values → value ≡ slice_index_or values place value
+    → are_elements_dotted (elements_of (drop place vs)) ≡ (is_dotted (tree value) || are_elements_dotted (elements_of (drop (place + 1) vs)))
+are_elements_dotted-drop values vs place value seen within is =
+    ap (λ (rest : List Tree). are_elements_dotted (elements_of rest)) (drop_item vs place (tree value) (slice_get_seen tree values vs place value seen within is))
+
+pub no_elements_left : (values : List Value) (vs : List Tree) (place : ℕ) → map tree values ≡ vs → length values ≤ place → are_elements_dotted (elements_of (drop place vs)) ≡ false
+no_elements_left values vs place seen past = ap (λ (rest : List Tree). are_elements_dotted (elements_of rest)) (drop_seen tree values vs place seen past)
+
+-- for loops over fields, and over elements
+pub ruleset fields_left = (are_fields_dotted-drop, has_dollar-drop, drop-none, drop_of_length-le, field_weighs_less)
+
+pub ruleset elements_left = (are_elements_dotted-drop, no_elements_left, value_weighs_less)
+
+-- ---- a document without one of its fields
+
+without_field-none : (name : List ℕ) (fs : List Field) → has_name name fs ≡ false → without_field name fs ≡ fs
+without_field-none name [] none = refl
+without_field-none name (f ∷ fs) none = grind (arith, without_field-none name fs)
+
+has_name-without_field : (other name : List ℕ) (fs : List Field) → has_name other fs ≡ false → has_name other (without_field name fs) ≡ false
+has_name-without_field other name [] none = refl
+has_name-without_field other name (f ∷ fs) none = grind (arith, has_name-without_field other name fs)
+
+AreNamed-without_field : (name : List ℕ) (fs : List Field) → AreNamed fs → AreNamed (without_field name fs)
+AreNamed-without_field name [] named = named
+AreNamed-without_field name (f ∷ fs) named = grind (arith, AreNamed-without_field name fs, has_name-without_field f.0 name fs)
+
+without_field-gone : (name : List ℕ) (fs : List Field) → AreNamed fs → has_name name (without_field name fs) ≡ false
+without_field-gone name [] named = refl
+without_field-gone name (f ∷ fs) named = grind (arith, without_field-gone name fs, (bytes_eq-Decides name f.0).0)
+
+-- ---- the fields left to copy behind `_id`
+
+-- the copy so far, and what is left without `_id`, are the document with `_id` in front
+pub record IsCopied (first : Field) (d copy left : List Field) : Type 0 where
+  pub whole : copy ++ without_field (codes "_id") left ≡ first ∷ without_field (codes "_id") d
+  pub apart : AreNamed (copy ++ without_field (codes "_id") left)
+  pub named : AreNamed left
+
+pub nothing_copied : (id : Tree) (d copy : List Field) → AreNamed d → copy ≡ (codes "_id", id) ∷ [] → IsCopied (codes "_id", id) d copy d
+nothing_copied id d copy named is =
+    rw is (record { whole = refl; apart = (refl, without_field-gone (codes "_id") d named, AreNamed-without_field (codes "_id") d named); named = named })
+
+module _ {first : Field} {d copy left : List Field} (copied : IsCopied first d copy left) where
+  pub all_copied : left ≡ [] → copy ≡ first ∷ without_field (codes "_id") d
+  all_copied over = sym (append-nil copy) ∙ ap (λ (rest : List Field). copy ++ without_field (codes "_id") rest) (sym over) ∙ copied.whole
+
+  module _ (f : Field) (next : List Field) (here : left ≡ f ∷ next) where
+    named_here : AreNamed (f ∷ next)
+    named_here = subst AreNamed here copied.named
+
+    left_here : copy ++ without_field (codes "_id") left ≡ copy ++ (if bytes_eq (codes "_id") f.0 then next else f ∷ without_field (codes "_id") next)
+    left_here = ap (λ (rest : List Field). copy ++ without_field (codes "_id") rest) here
+
+    pub IsCopied-id : false ≡ not (bytes_eq f.0 (codes "_id")) → IsCopied first d copy next
+    IsCopied-id test =
+        let id : bytes_eq (codes "_id") f.0 ≡ true = grind (arith, bytes_eq-symmetric (codes "_id") f.0) in
+        let fresh : has_name (codes "_id") next ≡ false = rw (← (bytes_eq-Decides (codes "_id") f.0).0 id) at named_here.1 in
+        let same : copy ++ without_field (codes "_id") left ≡ copy ++ without_field (codes "_id") next = rw (without_field-none (codes "_id") next fresh) (rw id at left_here) in
+        record { whole = sym same ∙ copied.whole; apart = subst AreNamed same copied.apart; named = named_here.2 }
+
+    pub whole_name : has_zero f.0 ≡ false
+    whole_name = named_here.0
+
+    module _ (test : true ≡ not (bytes_eq f.0 (codes "_id"))) where
+      kept_here : copy ++ without_field (codes "_id") left ≡ copy ++ f ∷ without_field (codes "_id") next
+      kept_here = let other : bytes_eq (codes "_id") f.0 ≡ false = grind (arith, bytes_eq-symmetric (codes "_id") f.0) in rw other at left_here
+
+      pub fresh_name : has_name f.0 copy ≡ false
+      fresh_name = named_apart copy (without_field (codes "_id") next) f (subst AreNamed kept_here copied.apart)
+
+      pub IsCopied-more : IsCopied first d (copy ++ f ∷ []) next
+      IsCopied-more =
+          let same : copy ++ without_field (codes "_id") left ≡ (copy ++ f ∷ []) ++ without_field (codes "_id") next = kept_here ∙ sym (append_assoc copy (f ∷ []) (without_field (codes "_id") next)) in
+          record { whole = sym same ∙ copied.whole; apart = subst AreNamed same copied.apart; named = named_here.2 }
+
+-- where `_id` stands in front, nothing is moved
+pub first_already : (d : List Field) (name : List ℕ) (value id : Tree) → Some (name, value) ≡ slice_get d 0 → true ≡ bytes_eq name (codes "_id") → value_under (codes "_id") d ≡ Some id
+    → d ≡ (codes "_id", id) ∷ without_field (codes "_id") d
+first_already [] name value id here is under = absurd cc
+first_already (f ∷ fs) name value id here is under =
+    let same : f ≡ (name, value) = cc in
+    grind (arith, ap (λ (g : Field). g.0) same, bytes_eq-symmetric (codes "_id") name, (bytes_eq-Decides (codes "_id") f.0).0)
+
+-- ---- the limits, which don't see where a field stands
+
+spelling-field : (f : Field) (fs : List Field) → length (spelling (f ∷ fs)) ≡ length (payload f.1) + length f.0 + 2 + length (spelling fs)
+spelling-field f fs = omega (arith, length-document (fields_of (f ∷ fs)), length-document (fields_of fs), fields_length-drop (f ∷ fs) 0 f refl)
+
+record IsAsLarge (d e : List Field) : Type 0 where
+  size : length (spelling d) ≡ length (spelling e)
+  depth : fields_levels (fields_of d) ≡ fields_levels (fields_of e)
+
+-- two fields in front, the other way round
+around : (f g : Field) (fs gs : List Field) → IsAsLarge (g ∷ fs) gs → IsAsLarge (g ∷ f ∷ fs) (f ∷ gs)
+around f g fs gs same = record {
+  size = omega (arith, spelling-field g (f ∷ fs), spelling-field f fs, spelling-field g fs, spelling-field f gs, same.size);
+  depth = omega (arith, same.depth);
+}
+
+moved_by : (name : List ℕ) (value : Tree) (f : Field) (fs : List Field) (test : Bool) → bytes_eq name f.0 ≡ test → (value_under name fs ≡ Some value → IsAsLarge ((name, value) ∷ without_field name fs) fs)
+    → value_under name (f ∷ fs) ≡ Some value → IsAsLarge ((name, value) ∷ without_field name (f ∷ fs)) (f ∷ fs)
+moved_by name value f fs true is rest under =
+    let name_is : name ≡ f.0 = (bytes_eq-Decides name f.0).0 is in
+    let value_is : Some f.1 ≡ Some value = rw is at under in
+    let fields : value ≡ f.1 = cc in
+    let same : (name, value) ≡ f = λ i. (name_is i, fields i) in
+    rw is (record { size = ap (λ (g : Field). length (spelling (g ∷ fs))) same; depth = ap (λ (g : Field). fields_levels (fields_of (g ∷ fs))) same })
+moved_by name value f fs false is rest under = rw is (around f (name, value) (without_field name fs) fs (rest (rw is at under)))
+
+moved_large : (name : List ℕ) (value : Tree) (d : List Field) → value_under name d ≡ Some value → IsAsLarge ((name, value) ∷ without_field name d) d
+moved_large name value [] under = absurd cc
+moved_large name value (f ∷ fs) under = moved_by name value f fs (bytes_eq name f.0) refl (moved_large name value fs) under
+
+id_shown : (under : Option Tree) (id : Tree) → id_in under ≡ Ok id → under ≡ Some id
+id_shown None id e = absurd cc
+id_shown (Some (array vs)) id e = absurd cc
+id_shown (Some value) id e = cc
+
+limits_told : (n m a b : ℕ) (told : Bool) → (IsTrue told → (n ≤ a) × (m ≤ b)) → ((n ≤ a) × (m ≤ b) → IsTrue told) → (not (nat_lt a n) && not (nat_lt b m)) ≡ told
+limits_told n m a b true within told = grind (arith, nat_tests, within refl)
+limits_told n m a b false within told = grind (arith, nat_tests)
+
+limits_of : (n m : ℕ) → (not (nat_lt 16777216 n) && not (nat_lt 100 m)) ≡ true → (n ≤ 16777216) × (m ≤ 100)
+limits_of n m e = grind (arith, nat_tests)
+
+pub moved_within : (id : Tree) (d : List Field) (told : Bool) → id_in (value_under (codes "_id") d) ≡ Ok id → IsTrue told ↔ Fits d → is_within_limits ((codes "_id", id) ∷ without_field (codes "_id") d) ≡ told
+moved_within id d told is fits =
+    let same = moved_large (codes "_id") id d (id_shown (value_under (codes "_id") d) id is) in
+    (λ i. not (nat_lt 16777216 (same.size i)) && not (nat_lt 100 (suc (same.depth i))))
+    ∙ limits_told (length (spelling d)) (levels (document (fields_of d))) 16777216 100 told (λ t. ((fits.0 t).size, (fits.0 t).depth)) (λ both. fits.1 (record { size = both.0; depth = both.1 }))
+
+fits_within : (d stored : List Field) (b : Bool) → is_within_limits d ≡ b → (if b then Ok d else Err TooLarge) ≡ Ok stored → Fits stored
+fits_within d stored true within e =
+    let both = limits_of (length (spelling d)) (levels (document (fields_of d))) within in
+    let same : d ≡ stored = cc in
+    subst Fits same (record { size = both.0; depth = both.1 })
+fits_within d stored false within e = absurd cc
+
+fits_first : (first : Result (List Field) Refusal) (stored : List Field) → (first >>= λ d. if is_within_limits d then Ok d else Err TooLarge) ≡ Ok stored → Fits stored
+fits_first (Ok d) stored e = fits_within d stored (is_within_limits d) refl e
+fits_first (Err refusal) stored e = absurd cc
+
+pub storable_fits : (d stored : List Field) → storable d ≡ Ok stored → Fits stored
+storable_fits d stored e = fits_first (with_id_first d) stored e

@@ -1,0 +1,11 @@
+pub mod State
+pub mod Storable
+pub mod Statements
+pub mod Insert
+pub mod Find
+pub mod Step
+pub mod Examples
+-- words that only bodies need
+pub mod View
+pub mod StepParts
+pub mod WriteParts

@@ -1,0 +1,55 @@
+-- Documents as they are stored. That `_id` is no array and stands in front, and the limits, are the MongoDB manual's ("Documents",
+-- "MongoDB Limits and Thresholds"); that `_id` has to be there, and which names are refused, are this server's own.
+use Rattle.std.specs.Prelude.{ℕ, false, ◌||◌, ◌&&◌, not, Bool, List, [], ◌∷◌, Option, Some, None, Result, Ok, Err, codes, nat_lt, length, if◌then◌else◌}
+use Rattle.std.specs.Str.{bytes_eq}
+use Rattle.dv_bson.specs.Tree.{Tree, document, array, Fields, no_fields, field, Elements, no_elements, element, Field, fields_of}
+use Rattle.dv_bson.specs.Names.{value_under}
+use Rattle.dv_bson.specs.Spelling.{spelling, levels}
+use Rattle.dv_command.specs.declared.refusal.Refusal.{Refusal}
+use Rattle.dv_command.specs.declared.refusal.Refusal.TheVariants.{BadValue, TooLarge}
+use Rattle.dv_command.specs.Namespaces.{has_dot, begins_with_dollar}
+use Rattle.dv_command.specs.Refusals.{◌>>=◌}
+
+-- whether a dot stands in a name, at any level
+abbrev mutual
+  pub is_dotted : Tree → Bool
+  is_dotted (document fs) = are_fields_dotted fs
+  is_dotted (array vs) = are_elements_dotted vs
+  is_dotted v = false
+
+  pub are_fields_dotted : Fields → Bool
+  are_fields_dotted no_fields = false
+  are_fields_dotted (field name value fs) = has_dot name || is_dotted value || are_fields_dotted fs
+
+  pub are_elements_dotted : Elements → Bool
+  are_elements_dotted no_elements = false
+  are_elements_dotted (element v vs) = is_dotted v || are_elements_dotted vs
+
+-- whether a name begins with a dollar sign, at the top level
+abbrev pub has_dollar : List Field → Bool
+has_dollar [] = false
+has_dollar (f ∷ fs) = begins_with_dollar f.0 || has_dollar fs
+
+abbrev pub without_field : List ℕ → List Field → List Field
+without_field name [] = []
+without_field name (f ∷ fs) = if bytes_eq name f.0 then fs else f ∷ without_field name fs
+
+-- there has to be an `_id`, and it can't be an array
+abbrev pub id_in : Option Tree → Result Tree Refusal
+id_in None = Err BadValue
+id_in (Some (array vs)) = Err BadValue
+id_in (Some value) = Ok value
+
+-- within the limits for what is stored: 16,777,216 bytes and 100 levels
+abbrev pub is_within_limits : List Field → Bool
+is_within_limits d = not (nat_lt 16777216 (length (spelling d))) && not (nat_lt 100 (levels (document (fields_of d))))
+
+-- with `_id` in front; refused for its names, without `_id`, or with an array as `_id`
+abbrev pub with_id_first : List Field → Result (List Field) Refusal
+with_id_first d =
+    if has_dollar d || are_fields_dotted (fields_of d) then Err BadValue
+    else id_in (value_under (codes "_id") d) >>= λ id. Ok ((codes "_id", id) ∷ without_field (codes "_id") d)
+
+-- a document as it is stored, or why it can't be: first for its names and `_id`, then for its size
+abbrev pub storable : List Field → Result (List Field) Refusal
+storable d = with_id_first d >>= λ stored. if is_within_limits stored then Ok stored else Err TooLarge

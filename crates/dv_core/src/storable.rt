@@ -1,0 +1,132 @@
+//! Documents as they are stored.
+
+ghost use Rattle.std.specs.Prelude.{◌≡◌, ◌∷◌, Ok, Err, Some, IfOk, MatchResult, codes};
+ghost use Rattle.dv_bson.specs.Names.{value_under};
+ghost use Rattle.dv_bson.specs.Tree.{fields_of, elements_of};
+ghost use Rattle.dv_bson.specs.View.{tree};
+ghost use Rattle.dv_coll.specs.Collection.{HasId};
+ghost use Rattle.dv_core.specs.Storable as stored;
+ghost use Rattle.dv_core.specs.StepParts.{Wants};
+
+use dv_bson::{Document, List, NoMemory, Value, fits};
+use dv_command::namespaces::{begins_with_dollar, has_dot};
+use dv_command::refusal::Refusal;
+use dv_command::replies::add;
+use std::alloc::Global;
+
+/// The name of the field that a stored document begins with.
+const ID: &str = "_id";
+
+/// A copy of the document as it is stored, with `_id` in front. Refused with `BadValue` where there is no `_id` or it
+/// is an array, where a name begins with a dollar sign at the top level, and where a name holds a dot at any level;
+/// then with `TooLarge` where the document is over the limits; and with `WantOfMemory`.
+pub(crate) fn storable(alloc: Global, document: &Document) -> Result<Document, Refusal>
+    ensures stored { Wants (stored.storable document.now) result }
+    ensures identified { IfOk result HasId }
+{
+    if has_dollar(document) || are_fields_dotted(document) {
+        return Err(Refusal::BadValue);
+    }
+    let id = id_of(document)?;
+    // In whichever order its fields stand, a document has the same size and levels: so what is refused isn't copied.
+    if !fits(document) {
+        return Err(Refusal::TooLarge);
+    }
+    Ok(with_id_first(alloc, document, id)?)
+}
+
+/// Whether a name begins with a dollar sign, at the top level.
+#[tactic(auto, using(crate::proofs::Stored::fields_left))]
+fn has_dollar(document: &Document) -> bool
+    ensures { result ≡ stored.has_dollar document.now }
+{
+    'fields: for place in 0..document.len() {
+        let Some((name, _)) = document.entry(place) else {
+            break;
+        };
+        if begins_with_dollar(name) {
+            return true;
+        }
+    }
+    false
+}
+
+/// Whether a dot stands in a name, at any level of the value.
+#[cycle(dotted)]
+fn is_dotted(value: &Value) -> bool
+    ensures { result ≡ stored.is_dotted (tree value.now) }
+{
+    match value {
+        Value::Doc(document) => are_fields_dotted(document),
+        Value::Array(list) => are_elements_dotted(list),
+        _ => false,
+    }
+}
+
+#[cycle(dotted)]
+#[tactic(auto, using(crate::proofs::Stored::fields_left))]
+fn are_fields_dotted(document: &Document) -> bool
+    ensures { result ≡ stored.are_fields_dotted (fields_of document.now) }
+{
+    'fields: for place in 0..document.len() {
+        let Some((name, value)) = document.entry(place) else {
+            break;
+        };
+        if has_dot(name) || is_dotted(value) {
+            return true;
+        }
+    }
+    false
+}
+
+#[cycle(dotted)]
+#[tactic(auto, using(crate::proofs::Stored::elements_left))]
+fn are_elements_dotted(list: &List) -> bool
+    ensures { result ≡ stored.are_elements_dotted (elements_of list.now) }
+{
+    'elements: for value in list.as_slice() {
+        if is_dotted(value) {
+            return true;
+        }
+    }
+    false
+}
+
+/// The value under `_id`. Refused with `BadValue` where there is none or it is an array.
+fn id_of(document: &Document) -> Result<&Value, Refusal>
+    ensures { MatchResult result (λ id. stored.id_in (value_under (codes "_id") document.now) ≡ Ok (tree id.now)) (λ refusal. stored.id_in (value_under (codes "_id") document.now) ≡ Err refusal) }
+{
+    match document.get(ID) {
+        None | Some(Value::Array(_)) => Err(Refusal::BadValue),
+        Some(id) => Ok(id),
+    }
+}
+
+/// A copy of the document with its `_id`, which is given, in front.
+fn with_id_first(alloc: Global, document: &Document, id: &Value) -> Result<Document, NoMemory>
+    requires { value_under (codes "_id") document.now ≡ Some (tree id.now) }
+    ensures { IfOk result (λ copy. copy ≡ (codes "_id", tree id.now) ∷ stored.without_field (codes "_id") document.now) }
+{
+    match document.entry(0) {
+        Some((name, _)) if name == ID => document.try_clone(),
+        _ => with_id_moved(alloc, document, id),
+    }
+}
+
+/// As `with_id_first`, wherever `_id` stands.
+fn with_id_moved(alloc: Global, document: &Document, id: &Value) -> Result<Document, NoMemory>
+    requires { value_under (codes "_id") document.now ≡ Some (tree id.now) }
+    ensures { IfOk result (λ copy. copy ≡ (codes "_id", tree id.now) ∷ stored.without_field (codes "_id") document.now) }
+{
+    let mut copy = Document::new(alloc);
+    add(&mut copy, ID, id.try_clone()?)?;
+    'others: for place in 0..document.len() {
+        let Some((name, value)) = document.entry(place) else {
+            break;
+        };
+        if name != ID {
+            add(&mut copy, name, value.try_clone()?)?;
+        }
+    }
+    Ok(copy)
+}

@@ -1,9 +1,0 @@
--- nothing is wrong with the fields so far
-use Rattle.std.proofs.Common.{◌≡◌, drop, map}
-use Rattle.dv_wire.specs.Fields as fields
-use Rattle.dv_wire.specs.View.{rule_seen}
-use Rattle.dv_wire.proofs.fields.check.Given as goal
-
-abbrev pub invariant-fields : goal.invariant-fields
-invariant-fields l =
-    fields.checked (map rule_seen l.fn.rules) l.fn.body ≡ fields.checked (map rule_seen l.fn.rules) (drop l.place l.fn.body)
