@@ -1,4 +1,6 @@
 -- What a value in memory stands for.
+use Rattle.std.specs.Prelude.{List, [], Option, None, Some}
+use Rattle.std.specs.declared.rc.Rc.{Rc}
 use Rattle.dv_bson.specs.declared.value.Value.{Value}
 use Rattle.dv_bson.specs.declared.value.Value.TheVariants.{Int32, Int64, Text, Doc, Array, Binary, ObjectId, Bool, Date, Null, Timestamp, MinKey, MaxKey}
 use Rattle.dv_bson.specs.declared.value.Entry.{Entry}
@@ -18,6 +20,11 @@ tree Null = null
 tree (Timestamp n) = timestamp n
 tree MinKey = min_key
 tree MaxKey = max_key
+
+-- what a pointer that may be none holds
+abbrev pub held : {X Y : Type 0} → Option (Rc (List X) Y) → List X
+held None = []
+held (Some shared) = shared.value
 
 abbrev pub field_of : Entry → Field
 field_of e = (e.name, tree e.value)

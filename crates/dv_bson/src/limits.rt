@@ -122,8 +122,9 @@ pub(crate) fn document_size(document: &Document) -> Option<usize>
     ensures valid { IfSome result (λ _. IsValue (trees.document (fields_of document.now))) }
 {
     let mut total = FRAME;
-    for entry in document.entries() {
-        total = with_element(total, entry.name.as_str().len(), &entry.value)?;
+    for place in 0..document.len() {
+        let (name, value) = document.field(place);
+        total = with_element(total, name.len(), value)?;
     }
     Some(total)
 }
@@ -159,8 +160,9 @@ fn document_within(document: &Document, limit: u32) -> bool
     if limit == 0 {
         return false;
     }
-    for entry in document.entries() {
-        if !value_within(&entry.value, limit - 1) {
+    for place in 0..document.len() {
+        let (_name, value) = document.field(place);
+        if !value_within(value, limit - 1) {
             return false;
         }
     }

@@ -15,7 +15,7 @@ use crate::reading::{
     frame_of, framed, front_kind_of, int32_of, int64_of, kind_of, object_id_of, text_of,
     timestamp_of,
 };
-use crate::value::{Document, List, Value};
+use crate::value::{Document, Fields, List, Value};
 use std::alloc::Global;
 
 /// A value of this type, which stands at `at` in the outermost document, with so many levels left inside
@@ -67,7 +67,7 @@ fn field_of<'a>(
     alloc: Global,
     levels: u32,
     at: usize,
-    before: &Document,
+    before: &Fields,
     bytes: &'a [u8],
 ) -> Result<(&'a str, Value, &'a [u8]), ReadError>
     requires { at + length bytes.now < 2 ^ 64 }
@@ -133,16 +133,16 @@ fn document_of(
     if levels == 0 {
         return Err(ReadError::Fault(BsonFault::TooDeep));
     }
-    let mut document = Document::with_room(alloc, first_room(elements.len()))?;
+    let mut fields = Fields::with_room(alloc, first_room(elements.len()))?;
     let mut rest = elements;
-    'fields: while !rest.is_empty() {
-        let (name, value, after) = field_of(alloc, levels - 1, at, &document, rest)?;
-        document.add(name, value)?;
+    'elements: while !rest.is_empty() {
+        let (name, value, after) = field_of(alloc, levels - 1, at, &fields, rest)?;
+        fields.add(name, value)?;
         at += rest.len() - after.len();
         rest = after;
     }
     closed(last, at)?;
-    Ok(document)
+    Ok(Document::of(alloc, fields)?)
 }
 
 /// The array whose elements these are, the first of them at `at` in the outermost document, with so many

@@ -13,7 +13,7 @@ use crate::bytes::Bytes;
 use crate::fault::{BsonFault, ReadError};
 use crate::kind::Kind;
 use crate::text::Str;
-use crate::value::{Document, Value};
+use crate::value::{Fields, Value};
 use itoa::Buffer;
 use std::alloc::Global;
 
@@ -135,7 +135,7 @@ fn name_of(bytes: &[u8]) -> Result<(&str, &[u8]), ReadError>
 /// The name of a field that stands behind those of `before`, and the bytes behind its closing zero.
 #[tactic(auto, using(crate::proofs::Fronts::no_name))]
 pub(crate) fn field_name_of<'a>(
-    before: &Document,
+    before: &Fields,
     bytes: &'a [u8],
 ) -> Result<(&'a str, &'a [u8]), ReadError>
     ensures { Gives (λ x. (x.0.now, x.1.now)) result (name_at false before.now bytes.now) }

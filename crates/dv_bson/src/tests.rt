@@ -86,6 +86,20 @@ fn finds_each_name(rt: HostRuntime) -> Result<(), Fail> {
 }
 
 #[test]
+fn a_changed_copy_leaves_its_source(rt: HostRuntime) -> Result<(), Fail> {
+    let mut source = numbered(rt.alloc(), 2)?;
+    let mut copy = source.try_clone()?;
+    copy.push("copy", Value::Int32(7))?;
+    source.push("source", Value::Int32(8))?;
+    assert_eq!(rt; (source.len(), copy.len()), (3, 3));
+    assert_eq!(rt; number_under(&copy, "copy"), Some(7));
+    assert_eq!(rt; number_under(&copy, "source"), None);
+    assert_eq!(rt; number_under(&source, "copy"), None);
+    assert_eq!(rt; number_under(&source, "name 1"), Some(1));
+    Ok(())
+}
+
+#[test]
 fn takes_many_names(rt: HostRuntime) -> Result<(), Fail> {
     let document = numbered(rt.alloc(), 100_000)?;
     assert_eq!(rt; document.len(), 100_000);

@@ -122,8 +122,9 @@ fn put_document(document: &Document, out: &mut Vec<u8>) -> Result<(), NoMemory>
     ensures front { take (length out.old.items) out.new.items ≡ out.old.items }
 {
     let start = open(out)?;
-    for entry in document.entries() {
-        put_element(entry.name.as_str(), &entry.value, out)?;
+    for place in 0..document.len() {
+        let (name, value) = document.field(place);
+        put_element(name, value, out)?;
     }
     close(out, start)
 }
