@@ -3,6 +3,7 @@
 mod shown;
 mod vectors;
 
+use self::vectors::VECTORS;
 use crate::{BsonFault, Bytes, Document, List, Str, Value, read_document, size, write_document};
 use std::alloc::Global;
 use std::test::Fail;
@@ -21,6 +22,14 @@ fn agrees(alloc: Global, bytes: &[u8], text: &str) -> Result<bool, Fail> {
             && written.as_slice() == bytes
             && measured == Some(bytes.len()),
     )
+}
+
+#[test]
+fn agrees_with_another_library(rt: HostRuntime) -> Result<(), Fail> {
+    for (bytes, text) in VECTORS {
+        assert!(rt; agrees(rt.alloc(), bytes, text)?, "{text}");
+    }
+    Ok(())
 }
 
 /// A document of the numbers from 0 on, each under a name of its own.
@@ -73,6 +82,20 @@ fn finds_each_name(rt: HostRuntime) -> Result<(), Fail> {
         );
     }
     assert_eq!(rt; number_under(&document, "name 100"), None);
+    Ok(())
+}
+
+#[test]
+fn a_changed_copy_leaves_its_source(rt: HostRuntime) -> Result<(), Fail> {
+    let mut source = numbered(rt.alloc(), 2)?;
+    let mut copy = source.try_clone()?;
+    copy.push("copy", Value::Int32(7))?;
+    source.push("source", Value::Int32(8))?;
+    assert_eq!(rt; (source.len(), copy.len()), (3, 3));
+    assert_eq!(rt; number_under(&copy, "copy"), Some(7));
+    assert_eq!(rt; number_under(&copy, "source"), None);
+    assert_eq!(rt; number_under(&source, "copy"), None);
+    assert_eq!(rt; number_under(&source, "name 1"), Some(1));
     Ok(())
 }
 

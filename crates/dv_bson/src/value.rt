@@ -1,6 +1,6 @@
 //! Values, documents and lists of values.
 
-ghost use Rattle.std.specs.Prelude.{◌≡◌, ◌↔◌, ◌⊎◌, [], ◌∷◌, ◌++◌, true, false, length, map, IsTrue, OnOk, OnErr, IfOk, IfErr, IfSome, IsErrOf, slice_get};
+ghost use Rattle.std.specs.Prelude.{◌≡◌, ◌<◌, ◌↔◌, ◌⊎◌, Some, [], ◌∷◌, ◌++◌, true, false, length, map, IsTrue, OnOk, OnErr, IfOk, IfErr, IfSome, IsErrOf, slice_get};
 ghost use Rattle.std.specs.Option.{option_map};
 ghost use Rattle.dv_bson.specs.Names.{AreNamed, place_under, value_under, has_name, has_zero};
 ghost use Rattle.dv_bson.specs.Places.{IsIndexOf};
@@ -9,6 +9,7 @@ ghost use Rattle.dv_bson.specs.Spelling.{kind_of};
 ghost use Rattle.dv_bson.specs.View.{tree, field_of};
 
 use crate::NoMemory;
+use crate::bytes::Bytes;
 use crate::fault::BsonFault;
 use crate::kind::Kind;
 use crate::name::Name;
@@ -16,6 +17,7 @@ use crate::name_index::NameIndex;
 use crate::text::Str;
 use std::alloc::Global;
 use std::marker::Model;
+use std::rc::Rc;
 
 /// A document of so many fields, or of more, has its names indexed as the next one comes.
 const INDEXED_LENGTH: usize = 32;
@@ -35,8 +37,27 @@ pub enum Value {
     Doc(Document),
     /// "Array", of values of any types.
     Array(List),
+    /// "Binary data": bytes of a use that the subtype names, kept as they are whatever it is.
+    Binary {
+        /// "Binary subtype".
+        subtype: u8,
+        /// The bytes, without the subtype.
+        bytes: Bytes,
+    },
+    /// "ObjectId".
+    ObjectId([u8; 12]),
     /// "Boolean".
     Bool(bool),
+    /// "UTC datetime", in milliseconds since the Unix epoch.
+    Date(i64),
+    /// "Null value".
+    Null,
+    /// "Timestamp": an unsigned 64-bit integer, whose lower half counts inside the second that the upper half is.
+    Timestamp(u64),
+    /// "Min key", which comes before all other values.
+    MinKey,
+    /// "Max key", which comes behind all other values.
+    MaxKey,
 }
 
 /// A field of a document.
@@ -47,13 +68,24 @@ pub(crate) struct Entry {
     pub(crate) value: Value,
 }
 
+/// The fields of a document and of its copies, in the order in which they were added. No two have one name, and no
+/// name holds a zero byte.
+#[cycle(value)]
+#[derive(Debug, Drop)]
+pub(crate) struct Fields {
+    entries: Vec<Entry>,
+    /// The places of the names, once they are too many to be searched one by one.
+    index: Option<Box<NameIndex>>,
+}
+
 /// Fields in the order in which they were added. No two have one name, and no name holds a zero byte.
 #[cycle(value)]
 #[derive(Debug, Drop)]
 pub struct Document {
-    entries: Vec<Entry>,
-    /// The places of the names, once they are too many to be searched one by one.
-    index: Option<Box<NameIndex>>,
+    alloc: Global,
+    /// Shared by a document and its copies until one of them is changed. None where there is no field, since a new
+    /// document takes no memory.
+    fields: Option<Rc<Fields>>,
 }
 
 /// The values of an array, in order.
@@ -63,9 +95,9 @@ pub struct List {
     values: Vec<Value>,
 }
 
-impl Model for Document {
+impl Model for Fields {
     ghost use Rattle.std.specs.Prelude as prelude;
-    ghost use Rattle.std.specs.Prelude.{ℕ, map};
+    ghost use Rattle.std.specs.Prelude.{ℕ, ◌*◌, map};
     ghost use Rattle.std.specs.Coded.{coded_list, coded×, coded_ℕ};
     ghost use Rattle.dv_bson.specs.Tree.{Field, fields_of, fields_weight};
     ghost use Rattle.dv_bson.specs.TreeCode.{coded_tree};
@@ -79,21 +111,43 @@ impl Model for Document {
     ghost use Rattle.dv_bson.specs.Names.{AreNamed};
     ghost use Rattle.dv_bson.specs.Places.{IsIndexOf};
 
-    ghost view = { λ d. map field_of d.entries.items };
+    ghost view = { λ f. map field_of f.entries.items };
 
-    ghost invariant = { λ d. let fields = map field_of d.entries.items in AreNamed fields × IfSome d.index (λ index. IsIndexOf fields index.value) };
+    ghost invariant = { λ f. let fields = map field_of f.entries.items in AreNamed fields × IfSome f.index (λ index. IsIndexOf fields index.value) };
 
-    ghost size = { λ fs. fields_weight (fields_of fs) };
+    ghost size = { λ fs. 2 * fields_weight (fields_of fs) };
 
     ghost use Rattle.std.proofs.Common.{arith};
     ghost use Rattle.dv_bson.specs.ViewFalls.{entries_fall};
 
-    ghost size_decreases = { λ d h. omega (arith, entries_fall d.entries.items) };
+    ghost size_decreases = { λ f h. omega (arith, entries_fall f.entries.items) };
+}
+
+impl Model for Document {
+    ghost use Rattle.std.specs.Prelude as prelude;
+    ghost use Rattle.std.specs.Prelude.{ℕ, suc, ◌*◌};
+    ghost use Rattle.std.specs.Coded.{coded_list, coded×, coded_ℕ};
+    ghost use Rattle.dv_bson.specs.Tree.{Field, fields_of, fields_weight};
+    ghost use Rattle.dv_bson.specs.TreeCode.{coded_tree};
+
+    ghost Value = { prelude.List Field };
+
+    ghost coded = { coded_list (coded× (coded_list coded_ℕ) coded_tree) };
+
+    ghost use Rattle.dv_bson.specs.View.{held};
+
+    ghost view = { λ d. held d.fields };
+
+    ghost size = { λ fs. suc (2 * fields_weight (fields_of fs)) };
+
+    ghost use Rattle.std.proofs.Common.{arith};
+
+    ghost size_decreases = { λ d h. Prim.grind arith };
 }
 
 impl Model for List {
     ghost use Rattle.std.specs.Prelude as prelude;
-    ghost use Rattle.std.specs.Prelude.{map};
+    ghost use Rattle.std.specs.Prelude.{◌*◌, map};
     ghost use Rattle.std.specs.Coded.{coded_list};
     ghost use Rattle.dv_bson.specs.Tree.{Tree, elements_of, elements_weight};
     ghost use Rattle.dv_bson.specs.TreeCode.{coded_tree};
@@ -106,7 +160,7 @@ impl Model for List {
 
     ghost view = { λ l. map tree l.values.items };
 
-    ghost size = { λ vs. elements_weight (elements_of vs) };
+    ghost size = { λ vs. 2 * elements_weight (elements_of vs) };
 
     ghost use Rattle.std.proofs.Common.{arith};
     ghost use Rattle.dv_bson.specs.ViewFalls.{values_fall};
@@ -125,7 +179,14 @@ impl Value {
             Value::Text(_) => Kind::Text,
             Value::Doc(_) => Kind::Doc,
             Value::Array(_) => Kind::Array,
+            Value::Binary { .. } => Kind::Binary,
+            Value::ObjectId(_) => Kind::ObjectId,
             Value::Bool(_) => Kind::Bool,
+            Value::Date(_) => Kind::Date,
+            Value::Null => Kind::Null,
+            Value::Timestamp(_) => Kind::Timestamp,
+            Value::MinKey => Kind::MinKey,
+            Value::MaxKey => Kind::MaxKey,
         }
     }
 
@@ -140,7 +201,17 @@ impl Value {
             Value::Text(text) => Ok(Value::Text(text.try_clone()?)),
             Value::Doc(document) => Ok(Value::Doc(document.try_clone()?)),
             Value::Array(list) => Ok(Value::Array(list.try_clone()?)),
+            Value::Binary { subtype, bytes } => Ok(Value::Binary {
+                subtype: *subtype,
+                bytes: bytes.try_clone()?,
+            }),
+            Value::ObjectId(id) => Ok(Value::ObjectId(*id)),
             Value::Bool(truth) => Ok(Value::Bool(*truth)),
+            Value::Date(milliseconds) => Ok(Value::Date(*milliseconds)),
+            Value::Null => Ok(Value::Null),
+            Value::Timestamp(time) => Ok(Value::Timestamp(*time)),
+            Value::MinKey => Ok(Value::MinKey),
+            Value::MaxKey => Ok(Value::MaxKey),
         }
     }
 }
@@ -151,19 +222,21 @@ impl Document {
         ensures { result ≡ [] }
     {
         Document {
-            entries: Vec::new(alloc),
-            index: None,
+            alloc,
+            fields: None,
         }
     }
 
-    /// A document without fields, with room for so many. Fails where memory is wanting.
-    pub(crate) fn with_room(alloc: Global, fields: usize) -> Result<Self, NoMemory>
-        ensures { IfOk result (λ document. document ≡ []) }
+    /// The document with these fields, which give back what room they have left.
+    pub(crate) fn of(alloc: Global, mut fields: Fields) -> Result<Self, NoMemory>
+        ensures { IfOk result (λ document. document ≡ fields) }
     {
-        Ok(Document {
-            entries: Vec::with_capacity(alloc, fields)?,
-            index: None,
-        })
+        if fields.len() == 0 {
+            return Ok(Document::new(alloc));
+        }
+        fields.trim();
+        let fields = Some(Rc::new(alloc, fields)?);
+        Ok(Document { alloc, fields })
     }
 
     /// How many fields there are.
@@ -172,22 +245,27 @@ impl Document {
         // No name holds a zero byte, and no two fields have one name.
         ensures named { AreNamed self.now }
     {
-        self.entries.len()
+        match &self.fields {
+            Some(fields) => fields.len(),
+            None => 0,
+        }
     }
 
     /// Whether there is no field.
     pub fn is_empty(&self) -> bool
         ensures { IsTrue result ↔ (self.now ≡ []) }
     {
-        self.entries.is_empty()
+        self.len() == 0
     }
 
     /// The name and the value of the field at `place`, counted from 0 in written order.
     pub fn entry(&self, place: usize) -> Option<(&str, &Value)>
         ensures { option_map (λ field. (field.0.now, tree field.1.now)) result ≡ slice_get self.now place }
     {
-        let entry = self.entries.get(place)?;
-        Some((entry.name.as_str(), &entry.value))
+        match &self.fields {
+            Some(fields) => fields.entry(place),
+            None => None,
+        }
     }
 
     /// The value under the name, where there is one. Found in time logarithmic in the number of fields,
@@ -195,18 +273,9 @@ impl Document {
     pub fn get(&self, name: &str) -> Option<&Value>
         ensures { option_map (λ value. tree value.now) result ≡ value_under name.now self.now }
     {
-        let place = self.place_of(name)?;
-        Some(&self.entries[place].value)
-    }
-
-    /// The place of the field with the name, where there is one.
-    fn place_of(&self, name: &str) -> Option<usize>
-        ensures place { result ≡ place_under name.now self.now }
-        ensures named { AreNamed self.now }
-    {
-        match &self.index {
-            Some(index) => index.place_of(name),
-            None => place_among(&self.entries, name),
+        match &self.fields {
+            Some(fields) => fields.get(name),
+            None => None,
         }
     }
 
@@ -232,6 +301,114 @@ impl Document {
         Ok(())
     }
 
+    /// The place of the field with the name, where there is one.
+    fn place_of(&self, name: &str) -> Option<usize>
+        ensures place { result ≡ place_under name.now self.now }
+        ensures named { AreNamed self.now }
+    {
+        match &self.fields {
+            Some(fields) => fields.place_of(name),
+            None => None,
+        }
+    }
+
+    /// Adds a field whose name is known to be new and without a zero byte. Fields that another document shares are
+    /// copied first.
+    fn add(&mut self, name: &str, value: Value) -> Result<(), NoMemory>
+        requires whole { has_zero name.now ≡ false }
+        requires fresh { has_name name.now self.old ≡ false }
+        ensures ok { OnOk result (self.new ≡ self.old ++ (name.now, tree value) ∷ []) }
+        ensures err { OnErr result (self.new ≡ self.old) }
+    {
+        let alloc = self.alloc;
+        let Some(shared) = &mut self.fields else {
+            let mut fields = Fields::with_room(alloc, 1)?;
+            fields.add(name, value)?;
+            self.fields = Some(Rc::new(alloc, fields)?);
+            return Ok(());
+        };
+        if let Some(fields) = Rc::get_mut(shared) {
+            return fields.add(name, value);
+        }
+        let mut fields = shared.try_clone()?;
+        fields.add(name, value)?;
+        *shared = Rc::new(alloc, fields)?;
+        Ok(())
+    }
+
+    /// The name and the value of a field that is there.
+    pub(crate) fn field(&self, place: usize) -> (&str, &Value)
+        requires { place < length self.now }
+        ensures { slice_get self.now place ≡ Some (result.0.now, tree result.1.now) }
+    {
+        match self.entry(place) {
+            Some(field) => field,
+            None => unreachable!(),
+        }
+    }
+
+    /// A copy, which shares the memory of the fields until one of the two is changed: in constant time. Fails where
+    /// memory is wanting.
+    pub fn try_clone(&self) -> Result<Self, NoMemory>
+        ensures { IfOk result (λ copy. copy ≡ self.now) }
+    {
+        let fields = match &self.fields {
+            Some(fields) => Some(fields.clone()?),
+            None => None,
+        };
+        Ok(Document {
+            alloc: self.alloc,
+            fields,
+        })
+    }
+}
+
+impl Fields {
+    /// No fields, with room for so many. Fails where memory is wanting.
+    pub(crate) fn with_room(alloc: Global, fields: usize) -> Result<Self, NoMemory>
+        ensures { IfOk result (λ fields. fields ≡ []) }
+    {
+        Ok(Fields {
+            entries: Vec::with_capacity(alloc, fields)?,
+            index: None,
+        })
+    }
+
+    /// How many fields there are.
+    pub(crate) fn len(&self) -> usize
+        ensures len { result ≡ length self.now }
+        ensures named { AreNamed self.now }
+    {
+        self.entries.len()
+    }
+
+    /// The name and the value of the field at `place`.
+    fn entry(&self, place: usize) -> Option<(&str, &Value)>
+        ensures { option_map (λ field. (field.0.now, tree field.1.now)) result ≡ slice_get self.now place }
+    {
+        let entry = self.entries.get(place)?;
+        Some((entry.name.as_str(), &entry.value))
+    }
+
+    /// The value under the name, where there is one.
+    pub(crate) fn get(&self, name: &str) -> Option<&Value>
+        ensures { option_map (λ value. tree value.now) result ≡ value_under name.now self.now }
+    {
+        let place = self.place_of(name)?;
+        Some(&self.entries[place].value)
+    }
+
+    /// The place of the field with the name, where there is one.
+    fn place_of(&self, name: &str) -> Option<usize>
+        ensures place { result ≡ place_under name.now self.now }
+        ensures named { AreNamed self.now }
+    {
+        match &self.index {
+            Some(index) => index.place_of(name),
+            None => place_among(&self.entries, name),
+        }
+    }
+
     /// Adds a field whose name is known to be new and without a zero byte.
     pub(crate) fn add(&mut self, name: &str, value: Value) -> Result<(), NoMemory>
         requires whole { has_zero name.now ≡ false }
@@ -248,18 +425,16 @@ impl Document {
         Ok(())
     }
 
-    /// The fields in written order.
-    pub(crate) fn entries(&self) -> &[Entry]
-        ensures entries { map field_of result.now ≡ self.now }
-        ensures named { AreNamed self.now }
+    /// Gives back what room is left, where that can be done.
+    fn trim(&mut self)
+        ensures { self.new ≡ self.old }
     {
-        self.entries.as_slice()
+        let _ = self.entries.shrink_to_fit();
     }
 
     /// A copy of its own, in time linear in its size, but for the names of many fields: they are sorted.
     /// Fails where memory is wanting.
-    #[cycle(value)]
-    pub fn try_clone(&self) -> Result<Self, NoMemory>
+    fn try_clone(&self) -> Result<Self, NoMemory>
         ensures { IfOk result (λ copy. copy ≡ self.now) }
     {
         let alloc = *self.entries.allocator();
@@ -270,7 +445,7 @@ impl Document {
             entries.push(Entry { name, value })?;
         }
         let index = index_of(alloc, &entries)?;
-        Ok(Document { entries, index })
+        Ok(Fields { entries, index })
     }
 }
 

@@ -1,44 +1,41 @@
-use Rattle.std.proofs.Common.{◌≡◌, length, refl, sym, ap, arith}
-use Rattle.dv_bson.specs.Tree.{fields_of, elements_of}
+use Rattle.std.proofs.Common.{◌≡◌, length, refl, sym, ap, arith, rules}
+use Rattle.std.proofs.lemmas.List.{drop_all}
+use Rattle.dv_bson.specs.Tree.{Field, fields_of, elements_of}
 use Rattle.dv_bson.specs.Spelling.{payload}
-use Rattle.dv_bson.specs.View.{tree, field_of}
+use Rattle.dv_bson.specs.View.{tree}
 use Rattle.dv_bson.specs.Weight.{field_weighs_less, value_weighs_less}
 use Rattle.dv_bson.proofs.Items.{slice_get_seen, drop_seen}
 use Rattle.dv_bson.proofs.Payloads.{length-string, length-document, length-array}
 use Rattle.dv_bson.proofs.Rest.{fields_spelling-nil, elements_spelling-nil, fields_length-drop, elements_length-drop, AreValidBefore-more, elements_valid-more}
 use Rattle.dv_bson.proofs.limits.+size.Goals as goal
 
-pub document_size-loop-entry-init : goal.document_size-loop-entry-init
-document_size-loop-entry-init t c = record {
+pub document_size-loop-place-init : goal.document_size-loop-place-init
+document_size-loop-place-init t c = record {
   within = omega arith;
   left = omega (arith, length-document (fields_of c.args.document.now));
-  before = record { named = c.entries-entry-items.ensures.named; valid = λ valid. valid };
+  before = record { named = c.len-place-end.ensures.named; valid = λ valid. valid };
 }
 
 pub document_size-with_element-requires : goal.document_size-with_element-requires
 document_size-with_element-requires t c =
-    let here = slice_get_seen field_of c.entries-entry-items.result.now c.args.document.now c.loop-entry.entry-index c.entry-item.result c.entries-entry-items.ensures.entries c.loop-entry-test.true c.entry-item.is in
-    (omega (arith, field_weighs_less c.args.document.now c.loop-entry.entry-index c.entry-item.result.name (tree c.entry-item.result.value) (sym here)), tt)
+    (omega (arith, field_weighs_less c.args.document.now c.loop-place.place c.field.result.0.now (tree c.field.result.1.now) (sym c.field.ensures)), tt)
 
 pub document_size-returns-in_err-total-clause-size : goal.document_size-returns-in_err-total-clause-size
 document_size-returns-in_err-total-clause-size t c =
-    let here = slice_get_seen field_of c.entries-entry-items.result.now c.args.document.now c.loop-entry.entry-index c.entry-item.result c.entries-entry-items.ensures.entries c.loop-entry-test.true c.entry-item.is in
-    let name : length c.as_str.result.now ≡ length c.entry-item.result.name = ap length c.as_str.ensures in
-    rw c.from_residual.ensures (λ short. c.in_err-total.ensures.size (omega (arith, fields_length-drop c.args.document.now c.loop-entry.entry-index (field_of c.entry-item.result) here)))
+    rw c.from_residual.ensures (λ short. c.in_err-total.ensures.size (omega (arith, fields_length-drop c.args.document.now c.loop-place.place (c.field.result.0.now, tree c.field.result.1.now) c.field.ensures)))
 
-pub document_size-loop-entry-preserved : goal.document_size-loop-entry-preserved
-document_size-loop-entry-preserved t c =
-    let here = slice_get_seen field_of c.entries-entry-items.result.now c.args.document.now c.loop-entry.entry-index c.entry-item.result c.entries-entry-items.ensures.entries c.loop-entry-test.true c.entry-item.is in
-    let name : length c.as_str.result.now ≡ length c.entry-item.result.name = ap length c.as_str.ensures in
+pub document_size-loop-place-preserved : goal.document_size-loop-place-preserved
+document_size-loop-place-preserved t c =
+    let f : Field = (c.field.result.0.now, tree c.field.result.1.now) in
     record {
       within = omega (arith, c.in_ok-total.ensures.size);
-      left = omega (arith, c.in_ok-total.ensures.size, fields_length-drop c.args.document.now c.loop-entry.entry-index (field_of c.entry-item.result) here);
-      before = AreValidBefore-more c.args.document.now c.loop-entry.entry-index (field_of c.entry-item.result) here (rw c.as_str.ensures at c.as_str.utf8) c.in_ok-total.ensures.valid c.loop-entry.invariant.before;
+      left = omega (arith, c.in_ok-total.ensures.size, fields_length-drop c.args.document.now c.loop-place.place f c.field.ensures);
+      before = AreValidBefore-more c.args.document.now c.loop-place.place f c.field.ensures (search rules) c.in_ok-total.ensures.valid c.loop-place.invariant.before;
     }
 
 pub document_size-returns-clause-size : goal.document_size-returns-clause-size
 document_size-returns-clause-size t c =
-    let none = drop_seen field_of c.entries-entry-items.result.now c.args.document.now c.loop-entry.entry-index c.entries-entry-items.ensures.entries c.loop-entry-test.false in
+    let none = drop_all c.loop-place.place c.args.document.now (omega arith) in
     let nothing = ap length (fields_spelling-nil _ none) in
     (omega arith, omega arith)
 
@@ -84,6 +81,30 @@ value_size-returns-in-Int64-clause-size t c = rw c.in-Int64.is (omega arith, ref
 pub value_size-returns-in-Bool-clause-size : goal.value_size-returns-in-Bool-clause-size
 unfolding payload
 value_size-returns-in-Bool-clause-size t c = rw c.in-Bool.is (omega arith, refl)
+
+pub value_size-returns-in-Date-clause-size : goal.value_size-returns-in-Date-clause-size
+unfolding payload
+value_size-returns-in-Date-clause-size t c = rw c.in-Date.is (omega arith, refl)
+
+pub value_size-returns-in-Timestamp-clause-size : goal.value_size-returns-in-Timestamp-clause-size
+unfolding payload
+value_size-returns-in-Timestamp-clause-size t c = rw c.in-Timestamp.is (omega arith, refl)
+
+pub value_size-returns-in-Null-clause-size : goal.value_size-returns-in-Null-clause-size
+unfolding payload
+value_size-returns-in-Null-clause-size t c = rw c.in-Null.is (omega arith, refl)
+
+pub value_size-returns-in-MinKey-clause-size : goal.value_size-returns-in-MinKey-clause-size
+unfolding payload
+value_size-returns-in-MinKey-clause-size t c = rw c.in-MinKey.is (omega arith, refl)
+
+pub value_size-returns-in-MaxKey-clause-size : goal.value_size-returns-in-MaxKey-clause-size
+unfolding payload
+value_size-returns-in-MaxKey-clause-size t c = rw c.in-MaxKey.is (omega arith, refl)
+
+pub value_size-returns-in-ObjectId-clause-size : goal.value_size-returns-in-ObjectId-clause-size
+unfolding payload
+value_size-returns-in-ObjectId-clause-size t c = rw c.in-ObjectId.is (omega (arith, c.object_id_size.ensures.size, c.object_id_size.ensures.valid.0), c.object_id_size.ensures.size)
 
 pub value_size-returns-in-Text-clause-size : goal.value_size-returns-in-Text-clause-size
 value_size-returns-in-Text-clause-size t c = rw (c.in-Text.is, length-string c.in-Text.text, ← c.as_str.ensures) c.sum.ensures

@@ -18,11 +18,11 @@ decreases-document_size l = 3 * fields_weight (fields_of l.document.now) + 2
 abbrev pub decreases-list_size : goal.decreases-list_size
 decreases-list_size l = 3 * elements_weight (elements_of l.list.now) + 2
 
-abbrev pub invariant-document_size-loop-entry : goal.invariant-document_size-loop-entry
-invariant-document_size-loop-entry l = record {
+abbrev pub invariant-document_size-loop-place : goal.invariant-document_size-loop-place
+invariant-document_size-loop-place l = record {
   within : l.total ≤ 2147483647;
-  left : l.total + length (fields_spelling (fields_of (drop l.entry-index l.document))) ≡ length (spelling l.document);
-  before : AreValidBefore l.document l.entry-index;
+  left : l.total + length (fields_spelling (fields_of (drop l.place l.document))) ≡ length (spelling l.document);
+  before : AreValidBefore l.document l.place;
 }
 
 abbrev pub invariant-list_size-loop-place : goal.invariant-list_size-loop-place

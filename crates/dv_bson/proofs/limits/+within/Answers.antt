@@ -1,21 +1,19 @@
 use Rattle.std.proofs.Common.{arith}
-use Rattle.dv_bson.specs.View.{tree, field_of}
+use Rattle.dv_bson.specs.View.{tree}
 use Rattle.dv_bson.proofs.Items.{slice_get_seen}
 use Rattle.dv_bson.proofs.Rest.{fields_levels-drop, elements_levels-drop}
 use Rattle.dv_bson.proofs.limits.+within.Goals as goal
 
 pub document_within-returns-then-not-value_within : goal.document_within-returns-then-not-value_within
 document_within-returns-then-not-value_within t c =
-    let here = slice_get_seen field_of c.entries-entry-items.result.now c.args.document.now c.loop-entry.entry-index c.entry-item.result c.entries-entry-items.ensures.entries c.loop-entry-test.true c.entry-item.is in
-    let split = fields_levels-drop c.args.document.now c.loop-entry.entry-index (field_of c.entry-item.result) here in
-    (λ no. absurd cc, λ shallow. c.if-not-value_within.ensures.1 (omega (arith, c.loop-entry.invariant.1 (omega arith), split)))
+    let split = fields_levels-drop c.args.document.now c.loop-place.place (c.field.result.0.now, tree c.field.result.1.now) c.field.ensures in
+    (λ no. absurd cc, λ shallow. c.if-not-value_within.ensures.1 (omega (arith, c.loop-place.invariant.1 (omega arith), split)))
 
-pub document_within-loop-entry-preserved : goal.document_within-loop-entry-preserved
-document_within-loop-entry-preserved t c =
-    let here = slice_get_seen field_of c.entries-entry-items.result.now c.args.document.now c.loop-entry.entry-index c.entry-item.result c.entries-entry-items.ensures.entries c.loop-entry-test.true c.entry-item.is in
-    let split = fields_levels-drop c.args.document.now c.loop-entry.entry-index (field_of c.entry-item.result) here in
+pub document_within-loop-place-preserved : goal.document_within-loop-place-preserved
+document_within-loop-place-preserved t c =
+    let split = fields_levels-drop c.args.document.now c.loop-place.place (c.field.result.0.now, tree c.field.result.1.now) c.field.ensures in
     let shallow = c.value_within.ensures.0 c.if-not-value_within.false in
-    (λ rest. c.loop-entry.invariant.0 (omega arith), λ whole. omega (arith, c.loop-entry.invariant.1 whole))
+    (λ rest. c.loop-place.invariant.0 (omega arith), λ whole. omega (arith, c.loop-place.invariant.1 whole))
 
 pub list_within-returns-then-not-value_within : goal.list_within-returns-then-not-value_within
 list_within-returns-then-not-value_within t c =

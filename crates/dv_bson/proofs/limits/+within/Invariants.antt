@@ -13,8 +13,8 @@ abbrev pub decreases-list_within : goal.decreases-list_within
 decreases-list_within l = 2 * l.limit
 
 -- the fields before are within the limit
-abbrev pub invariant-document_within-loop-entry : goal.invariant-document_within-loop-entry
-invariant-document_within-loop-entry l = (fields_levels (fields_of (drop l.entry-index l.document)) ≤ l.limit - 1) ↔ (fields_levels (fields_of l.document) ≤ l.limit - 1)
+abbrev pub invariant-document_within-loop-place : goal.invariant-document_within-loop-place
+invariant-document_within-loop-place l = (fields_levels (fields_of (drop l.place l.document)) ≤ l.limit - 1) ↔ (fields_levels (fields_of l.document) ≤ l.limit - 1)
 
 abbrev pub invariant-list_within-loop-value : goal.invariant-list_within-loop-value
 invariant-list_within-loop-value l = (elements_levels (elements_of (drop l.value-index l.list)) ≤ l.limit - 1) ↔ (elements_levels (elements_of l.list) ≤ l.limit - 1)

@@ -43,16 +43,16 @@ value_of-returns-in_ok-list-in-Array t c = rw c.in-Array.is (array_read _ _ _ _ 
 pub document_of-returns-then-levels-eq0 : goal.document_of-returns-then-levels-eq0
 document_of-returns-then-levels-eq0 t c = too_deep _ _ _ _ _ (omega arith)
 
-pub document_of-fields-init : goal.document_of-fields-init
-document_of-fields-init t c = record {
-  read = rw c.in_ok-document.ensures (starts c.args.levels false c.args.at c.args.elements.now c.args.last (omega arith));
+pub document_of-elements-init : goal.document_of-elements-init
+document_of-elements-init t c = record {
+  read = rw c.in_ok-fields.ensures (starts c.args.levels false c.args.at c.args.elements.now c.args.last (omega arith));
   in_range = c.requires;
 }
 
 pub document_of-returns-in_err-name : goal.document_of-returns-in_err-name
 document_of-returns-in_err-name t c =
     let p = err_from_is_err_and c.from_residual-in_err-name.result c.from_residual-in_err-name.ensures.1 in
-    rw (p.1, p.2) (ends _ _ _ _ _ _ _ _ (some_left _ (sym c.is_empty.ensures ∙ c.fields-test.true)) c.in_err-name.ensures c.fields.invariant.read)
+    rw (p.1, p.2) (ends _ _ _ _ _ _ _ _ (some_left _ (sym c.is_empty.ensures ∙ c.elements-test.true)) c.in_err-name.ensures c.elements.invariant.read)
 
 pub document_of-add-requires-clause-whole : goal.document_of-add-requires-clause-whole
 document_of-add-requires-clause-whole t c = (field_may_be_added _ _ _ _ _ c.in_ok-name.ensures).whole
@@ -63,25 +63,25 @@ document_of-add-requires-clause-fresh t c = (field_may_be_added _ _ _ _ _ c.in_o
 pub document_of-overflow_sub-at : goal.document_of-overflow_sub-at
 document_of-overflow_sub-at t c = omega (arith, shorter _ _ _ _ _ _ c.in_ok-name.ensures)
 
-pub document_of-fields-smaller : goal.document_of-fields-smaller
-document_of-fields-smaller t c = shorter _ _ _ _ _ _ c.in_ok-name.ensures
+pub document_of-elements-smaller : goal.document_of-elements-smaller
+document_of-elements-smaller t c = shorter _ _ _ _ _ _ c.in_ok-name.ensures
 
-pub document_of-fields-preserved : goal.document_of-fields-preserved
-document_of-fields-preserved t c = record {
-  read = rw c.in_ok-add.ensures.ok (goes_on _ _ _ _ _ _ _ _ c.in_ok-name.ensures c.fields.invariant.read);
-  in_range = omega (arith, c.fields.invariant.in_range, shorter _ _ _ _ _ _ c.in_ok-name.ensures);
+pub document_of-elements-preserved : goal.document_of-elements-preserved
+document_of-elements-preserved t c = record {
+  read = rw c.in_ok-add.ensures.ok (goes_on _ _ _ _ _ _ _ _ c.in_ok-name.ensures c.elements.invariant.read);
+  in_range = omega (arith, c.elements.invariant.in_range, shorter _ _ _ _ _ _ c.in_ok-name.ensures);
 }
 
 pub document_of-returns-in_err-closed : goal.document_of-returns-in_err-closed
 document_of-returns-in_err-closed t c =
     let p = err_from_is_err_and c.from_residual-in_err-closed.result c.from_residual-in_err-closed.ensures.1 in
-    let done = is_done _ _ _ _ _ _ _ (none_left _ (sym c.is_empty.ensures ∙ c.fields-test.false)) c.fields.invariant.read in
-    rw (p.1, p.2, ← done) (c.in_err-closed.ensures c.fields.document)
+    let done = is_done _ _ _ _ _ _ _ (none_left _ (sym c.is_empty.ensures ∙ c.elements-test.false)) c.elements.invariant.read in
+    rw (p.1, p.2, ← done) (c.in_err-closed.ensures c.elements.fields)
 
 pub document_of-returns : goal.document_of-returns
 document_of-returns t c =
-    let done = is_done _ _ _ _ _ _ _ (none_left _ (sym c.is_empty.ensures ∙ c.fields-test.false)) c.fields.invariant.read in
-    sym done ∙ c.in_ok-closed.ensures c.fields.document
+    let done = is_done _ _ _ _ _ _ _ (none_left _ (sym c.is_empty.ensures ∙ c.elements-test.false)) c.elements.invariant.read in
+    rw c.in_ok-of.ensures (sym done ∙ c.in_ok-closed.ensures c.elements.fields)
 
 -- ---- the loop over an array's elements
 

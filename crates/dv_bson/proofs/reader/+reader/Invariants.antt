@@ -21,14 +21,14 @@ abbrev pub decreases-element_of : goal.decreases-element_of
 decreases-element_of l = 3 * l.levels + 2
 
 -- What is still to be read, behind what was read, gives what the whole gives.
-abbrev pub invariant-document_of-fields : goal.invariant-document_of-fields
-invariant-document_of-fields l = record {
-  read : fields_at (body_at (l.levels - 1)) (length l.rest) false l.at l.document l.rest l.last ≡ body_at l.levels false l.fn.at l.elements l.last;
+abbrev pub invariant-document_of-elements : goal.invariant-document_of-elements
+invariant-document_of-elements l = record {
+  read : fields_at (body_at (l.levels - 1)) (length l.rest) false l.at l.fields l.rest l.last ≡ body_at l.levels false l.fn.at l.elements l.last;
   in_range : l.at + length l.rest < 2 ^ 64;
 }
 
-abbrev pub decreases-document_of-fields : goal.decreases-document_of-fields
-decreases-document_of-fields l = length l.rest
+abbrev pub decreases-document_of-elements : goal.decreases-document_of-elements
+decreases-document_of-elements l = length l.rest
 
 abbrev pub invariant-list_of-elements : goal.invariant-list_of-elements
 invariant-list_of-elements l = record {

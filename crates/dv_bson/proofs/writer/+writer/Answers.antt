@@ -1,39 +1,37 @@
-use Rattle.std.proofs.Common.{◌≡◌, ◌+◌, ◌++◌, ◌∷◌, [], List, ℕ, take, drop, refl, ap, sym, ◌∙◌, arith, rules}
+use Rattle.std.proofs.Common.{append-nil, ◌≡◌, ◌+◌, ◌++◌, ◌∷◌, [], List, ℕ, take, drop, refl, ap, sym, ◌∙◌, arith, rules}
 use Rattle.std.specs.Prelude.{FitsSigned}
 use Rattle.std.specs.Int.{w32, w64}
 use Rattle.std.proofs.Math.Seq.{take-length}
+use Rattle.std.proofs.lemmas.List.{drop_all}
 use Rattle.std.proofs.lemmas.Result.{on_ok_weaker}
 use Rattle.dv_bson.specs.Tree.{fields_of, elements_of}
 use Rattle.dv_bson.specs.Spelling.{payload, type_byte, kind_of, framed, fields_spelling, elements_spelling}
-use Rattle.dv_bson.specs.View.{tree, field_of}
+use Rattle.dv_bson.specs.View.{tree}
 use Rattle.dv_bson.specs.Weight.{field_weighs_less, value_weighs_less}
 use Rattle.dv_bson.proofs.Items.{slice_get_seen, drop_seen}
-use Rattle.dv_bson.proofs.Payloads.{payload-int32, payload-int64, payload-string, payload-document, payload-array, payload-boolean, length-document, length-array}
+use Rattle.dv_bson.proofs.Payloads.{payload-int32, payload-int64, payload-string, payload-document, payload-array, payload-binary, payload-object_id, payload-boolean, payload-date, payload-null, payload-timestamp, payload-min_key, payload-max_key, length-document, length-array}
 use Rattle.dv_bson.proofs.Rest.{fields_spelling-drop, elements_spelling-drop, fields_spelling-nil, elements_spelling-nil, payload-le-fields, payload-le-elements}
 use Rattle.dv_bson.proofs.Written.{front_more, front_append, appended, left_more, left_none, length-written, append-element, framed_behind}
 use Rattle.dv_bson.proofs.writer.+writer.Goals as goal
 
 pub put_document-put_element-requires : goal.put_document-put_element-requires
-put_document-put_element-requires t c =
-    let here = slice_get_seen field_of c.entries-entry-items.result.now c.args.document.now c.loop-entry.entry-index c.entry-item.result c.entries-entry-items.ensures.entries c.loop-entry-test.true c.entry-item.is in (
-      omega (arith, field_weighs_less c.args.document.now c.loop-entry.entry-index c.entry-item.result.name (tree c.entry-item.result.value) (sym here)),
-      omega (arith, c.requires, length-document (fields_of c.args.document.now), payload-le-fields c.args.document.now c.loop-entry.entry-index (field_of c.entry-item.result) here),
-    )
+put_document-put_element-requires t c = (
+  omega (arith, field_weighs_less c.args.document.now c.loop-place.place c.field.result.0.now (tree c.field.result.1.now) (sym c.field.ensures)),
+  omega (arith, c.requires, length-document (fields_of c.args.document.now), payload-le-fields c.args.document.now c.loop-place.place (c.field.result.0.now, tree c.field.result.1.now) c.field.ensures),
+)
 
-pub put_document-loop-entry-preserved : goal.put_document-loop-entry-preserved
-put_document-loop-entry-preserved t c =
-    let here = slice_get_seen field_of c.entries-entry-items.result.now c.args.document.now c.loop-entry.entry-index c.entry-item.result c.entries-entry-items.ensures.entries c.loop-entry-test.true c.entry-item.is in
-    let part = rw c.as_str.ensures at c.in_ok-put_element.ensures.ok in
+pub put_document-loop-place-preserved : goal.put_document-loop-place-preserved
+put_document-loop-place-preserved t c =
     record {
-      front = front_more c.args.out.now.items c.loop-entry.out.items c.put_element.new.out.items c.loop-entry.invariant.front c.put_element.ensures.front;
-      left = left_more c.loop-entry.out.items c.put_element.new.out.items _ _ _ _ part (fields_spelling-drop c.args.document.now c.loop-entry.entry-index (field_of c.entry-item.result) here) c.loop-entry.invariant.left;
+      front = front_more c.args.out.now.items c.loop-place.out.items c.put_element.new.out.items c.loop-place.invariant.front c.put_element.ensures.front;
+      left = left_more c.loop-place.out.items c.put_element.new.out.items _ _ _ _ c.in_ok-put_element.ensures.ok (fields_spelling-drop c.args.document.now c.loop-place.place (c.field.result.0.now, tree c.field.result.1.now) c.field.ensures) c.loop-place.invariant.left;
     }
 
 pub put_document-close-requires : goal.put_document-close-requires
 put_document-close-requires t c =
-    let none = drop_seen field_of c.entries-entry-items.result.now c.args.document.now c.loop-entry.entry-index c.entries-entry-items.ensures.entries c.loop-entry-test.false in
-    let written = left_none c.args.out.now.items c.open.new.out.items c.loop-entry.out.items _ (fields_spelling (fields_of c.args.document.now)) (fields_spelling-nil _ none) c.in_ok-start.ensures.ok.1 c.loop-entry.invariant.left in
-    let long = length-written c.args.out.now.items c.loop-entry.out.items (fields_spelling (fields_of c.args.document.now)) written in
+    let none = drop_all c.loop-place.place c.args.document.now (omega arith) in
+    let written = left_none c.args.out.now.items c.open.new.out.items c.loop-place.out.items _ (fields_spelling (fields_of c.args.document.now)) (fields_spelling-nil _ none) c.in_ok-start.ensures.ok.1 c.loop-place.invariant.left in
+    let long = length-written c.args.out.now.items c.loop-place.out.items (fields_spelling (fields_of c.args.document.now)) written in
     let start = c.in_ok-start.ensures.ok.0 in
     record {
       opened = omega arith;
@@ -42,10 +40,10 @@ put_document-close-requires t c =
 
 pub put_document-returns-clause-ok : goal.put_document-returns-clause-ok
 put_document-returns-clause-ok t c =
-    let none = drop_seen field_of c.entries-entry-items.result.now c.args.document.now c.loop-entry.entry-index c.entries-entry-items.ensures.entries c.loop-entry-test.false in
-    let written = left_none c.args.out.now.items c.open.new.out.items c.loop-entry.out.items _ (fields_spelling (fields_of c.args.document.now)) (fields_spelling-nil _ none) c.in_ok-start.ensures.ok.1 c.loop-entry.invariant.left in
-    let behind = framed_behind c.in_ok-start.start c.args.out.now.items c.loop-entry.out.items (fields_spelling (fields_of c.args.document.now)) c.in_ok-start.ensures.ok.0 written in
-    on_ok_weaker c.close.result (λ (e : c.close.new.out.items ≡ take c.in_ok-start.start c.loop-entry.out.items ++ framed (drop (c.in_ok-start.start + 4) c.loop-entry.out.items)). e ∙ behind ∙ ap (λ (bytes : List ℕ). c.args.out.now.items ++ bytes) (sym (payload-document (fields_of c.args.document.now)))) c.close.ensures.ok
+    let none = drop_all c.loop-place.place c.args.document.now (omega arith) in
+    let written = left_none c.args.out.now.items c.open.new.out.items c.loop-place.out.items _ (fields_spelling (fields_of c.args.document.now)) (fields_spelling-nil _ none) c.in_ok-start.ensures.ok.1 c.loop-place.invariant.left in
+    let behind = framed_behind c.in_ok-start.start c.args.out.now.items c.loop-place.out.items (fields_spelling (fields_of c.args.document.now)) c.in_ok-start.ensures.ok.0 written in
+    on_ok_weaker c.close.result (λ (e : c.close.new.out.items ≡ take c.in_ok-start.start c.loop-place.out.items ++ framed (drop (c.in_ok-start.start + 4) c.loop-place.out.items)). e ∙ behind ∙ ap (λ (bytes : List ℕ). c.args.out.now.items ++ bytes) (sym (payload-document (fields_of c.args.document.now)))) c.close.ensures.ok
 
 pub put_element-returns-clause-ok : goal.put_element-returns-clause-ok
 put_element-returns-clause-ok t c =
@@ -116,3 +114,34 @@ put_value-returns-in-Text-clause-ok t c = rw (c.in-Text.is, payload-string c.in-
 pub put_value-returns-in_ok-push-in-Bool-clause-ok :
     goal.put_value-returns-in_ok-push-in-Bool-clause-ok
 put_value-returns-in_ok-push-in-Bool-clause-ok t c = rw (c.in-Bool.is, payload-boolean c.in-Bool.boolean) c.in_ok-push-in-Bool.ensures.items
+
+pub put_value-put_binary-requires : goal.put_value-put_binary-requires
+put_value-put_binary-requires t c = rw (c.as_slice.ensures, ← payload-binary c.in-Binary.subtype c.in-Binary.bytes) (rw c.in-Binary.is at c.requires)
+
+pub put_value-returns-in-Binary-clause-ok : goal.put_value-returns-in-Binary-clause-ok
+put_value-returns-in-Binary-clause-ok t c = rw (c.in-Binary.is, payload-binary c.in-Binary.subtype c.in-Binary.bytes, ← c.as_slice.ensures) c.put_binary.ensures.ok
+
+pub put_value-returns-in-ObjectId-clause-ok : goal.put_value-returns-in-ObjectId-clause-ok
+put_value-returns-in-ObjectId-clause-ok t c =
+    rw c.in-ObjectId.is (appended c.extend_from_slice-in-ObjectId.result c.args.out.now.items c.extend_from_slice-in-ObjectId.new.self.items c.in-ObjectId.id _
+    c.extend_from_slice-in-ObjectId.ensures.items (payload-object_id c.in-ObjectId.id))
+
+pub put_value-returns-in-Date-clause-ok : goal.put_value-returns-in-Date-clause-ok
+put_value-returns-in-Date-clause-ok t c =
+    let fits : FitsSigned w64 c.in-Date.milliseconds = search rules in
+    rw c.in-Date.is (appended c.extend_from_slice-in-Date.result c.args.out.now.items c.extend_from_slice-in-Date.new.self.items c.to_le_bytes-in-Date.result _
+    c.extend_from_slice-in-Date.ensures.items (payload-date c.in-Date.milliseconds c.to_le_bytes-in-Date.result fits c.to_le_bytes-in-Date.ensures))
+
+pub put_value-returns-in-Timestamp-clause-ok : goal.put_value-returns-in-Timestamp-clause-ok
+put_value-returns-in-Timestamp-clause-ok t c =
+    rw c.in-Timestamp.is (appended c.extend_from_slice-in-Timestamp.result c.args.out.now.items c.extend_from_slice-in-Timestamp.new.self.items c.to_le_bytes-in-Timestamp.result _
+    c.extend_from_slice-in-Timestamp.ensures.items (c.to_le_bytes-in-Timestamp.ensures ∙ payload-timestamp c.in-Timestamp.time))
+
+pub put_value-returns-in-Null-clause-ok : goal.put_value-returns-in-Null-clause-ok
+put_value-returns-in-Null-clause-ok t c = rw (c.in-Null.is, payload-null) (sym (append-nil c.args.out.now.items))
+
+pub put_value-returns-in-MinKey-clause-ok : goal.put_value-returns-in-MinKey-clause-ok
+put_value-returns-in-MinKey-clause-ok t c = rw (c.in-MinKey.is, payload-min_key) (sym (append-nil c.args.out.now.items))
+
+pub put_value-returns-in-MaxKey-clause-ok : goal.put_value-returns-in-MaxKey-clause-ok
+put_value-returns-in-MaxKey-clause-ok t c = rw (c.in-MaxKey.is, payload-max_key) (sym (append-nil c.args.out.now.items))

@@ -16,10 +16,10 @@ decreases-put_document l = 3 * fields_weight (fields_of l.document.now) + 2
 abbrev pub decreases-put_list : goal.decreases-put_list
 decreases-put_list l = 3 * elements_weight (elements_of l.list.now) + 2
 
-abbrev pub invariant-put_document-loop-entry : goal.invariant-put_document-loop-entry
-invariant-put_document-loop-entry l = record {
+abbrev pub invariant-put_document-loop-place : goal.invariant-put_document-loop-place
+invariant-put_document-loop-place l = record {
   front : take (length l.fn.out.items) l.out.items ≡ l.fn.out.items;
-  left : l.out.items ++ fields_spelling (fields_of (drop l.entry-index l.document)) ≡ l.initial.out.items ++ fields_spelling (fields_of l.document);
+  left : l.out.items ++ fields_spelling (fields_of (drop l.place l.document)) ≡ l.initial.out.items ++ fields_spelling (fields_of l.document);
 }
 
 abbrev pub invariant-put_list-loop-place : goal.invariant-put_list-loop-place

@@ -4,7 +4,7 @@ use Rattle.std.proofs.Math.ListN.{get_or-map}
 use Rattle.dv_bson.specs.Names.{place_under}
 use Rattle.dv_bson.specs.View.{field_of}
 use Rattle.dv_bson.proofs.Named.{place_within, value_there, value_nowhere}
-use Rattle.dv_bson.proofs.value.Document.get.Goals as goal
+use Rattle.dv_bson.proofs.value.Fields.get.Goals as goal
 
 pub returns-in_err-place : goal.returns-in_err-place
 returns-in_err-place c =

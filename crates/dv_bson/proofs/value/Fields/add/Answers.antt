@@ -5,7 +5,7 @@ use Rattle.dv_bson.specs.Tree.{Field}
 use Rattle.dv_bson.specs.Places.{IsIndexOf}
 use Rattle.dv_bson.specs.View.{tree, field_of}
 use Rattle.dv_bson.proofs.Named.{AreNamed-push}
-use Rattle.dv_bson.proofs.value.Document.add.Goals as goal
+use Rattle.dv_bson.proofs.value.Fields.add.Goals as goal
 
 pub invariant_of-self-2 : goal.invariant_of-self-2
 invariant_of-self-2 c =
