@@ -3,7 +3,7 @@
 ghost use Rattle.std.specs.Prelude.{◌≡◌};
 ghost use Rattle.dv_bson.specs.Tree.{fields_of, elements_of};
 ghost use Rattle.dv_bson.specs.View.{tree};
-ghost use Rattle.dv_order.specs.Order.{class, integer, within, field_order, fields_order, elements_order, order};
+ghost use Rattle.dv_order.specs.Order.{class, field_order, fields_order, elements_order, order};
 
 use dv_bson::{Document, List, Value};
 use std::cmp::Ordering;
@@ -20,27 +20,15 @@ pub fn compare(a: &Value, b: &Value) -> Ordering
     ensures { result ≡ order (tree a.now) (tree b.now) }
 {
     match (a, b) {
-        // The keys that a search compares are mostly integers of one width, whose classes needn't be looked up.
         (Value::Int32(a), Value::Int32(b)) => a.cmp(b),
+        (Value::Int32(a), Value::Int64(b)) => i64::from(*a).cmp(b),
+        (Value::Int64(a), Value::Int32(b)) => a.cmp(&i64::from(*b)),
         (Value::Int64(a), Value::Int64(b)) => a.cmp(b),
-        _ => match class_of(a).cmp(&class_of(b)) {
-            Ordering::Equal => compare_within(a, b),
-            unequal => unequal,
-        },
-    }
-}
-
-/// The order of two values whose classes are equal.
-#[cycle(compare)]
-fn compare_within(a: &Value, b: &Value) -> Ordering
-    ensures { result ≡ within (tree a.now) (tree b.now) }
-{
-    match (a, b) {
         (Value::Text(a), Value::Text(b)) => a.as_str().cmp(b.as_str()),
         (Value::Doc(a), Value::Doc(b)) => compare_documents(a, b),
         (Value::Array(a), Value::Array(b)) => compare_lists(a, b),
         (Value::Bool(a), Value::Bool(b)) => a.cmp(b),
-        _ => integer_of(a).cmp(&integer_of(b)),
+        _ => class_of(a).cmp(&class_of(b)),
     }
 }
 
@@ -69,7 +57,7 @@ fn compare_fields(name: &str, a: &Value, other_name: &str, b: &Value) -> Orderin
     ensures { result ≡ field_order (name.now, tree a.now) (other_name.now, tree b.now) }
 {
     match class_of(a).cmp(&class_of(b)).then(name.cmp(other_name)) {
-        Ordering::Equal => compare_within(a, b),
+        Ordering::Equal => compare(a, b),
         unequal => unequal,
     }
 }
@@ -94,7 +82,7 @@ fn compare_lists(a: &List, b: &List) -> Ordering
 
 /// The place of the value's class among the classes of all BSON types, least first. Places are left for types that are
 /// not there yet.
-fn class_of(value: &Value) -> u8
+pub(crate) fn class_of(value: &Value) -> u8
     ensures { result ≡ class (tree value.now) }
 {
     match value {
@@ -103,16 +91,5 @@ fn class_of(value: &Value) -> u8
         Value::Doc(_) => 5,
         Value::Array(_) => 6,
         Value::Bool(_) => 9,
-    }
-}
-
-/// The number that an integer is, and 0 for what is no integer.
-fn integer_of(value: &Value) -> i64
-    ensures { result ≡ integer (tree value.now) }
-{
-    match value {
-        Value::Int32(n) => i64::from(*n),
-        Value::Int64(n) => *n,
-        _ => 0,
     }
 }

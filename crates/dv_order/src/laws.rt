@@ -1,11 +1,11 @@
 //! The laws of the order, each the contract of a function that does nothing.
 
-ghost use Rattle.std.specs.Prelude.{◌≡◌, ◌↔◌};
-ghost use Rattle.std.specs.declared.cmp.Ordering.TheVariants.{Equal};
-ghost use Rattle.std.specs.Ordering.{ordering_reverse};
-ghost use Rattle.dv_bson.specs.Tree.{Tree};
-ghost use Rattle.dv_order.specs.Order.{canon, order, below};
-ghost use Rattle.dv_order.specs.Key.{key_order, value};
+ghost use Rattle.std.specs.Prelude.{◌≡◌, ◌↔◌, ◌<◌, ℕ, ℤ, pos, negsuc, Bool, false, true, List, [], ◌∷◌, codes};
+ghost use Rattle.std.specs.declared.cmp.Ordering.TheVariants.{Less, Equal};
+ghost use Rattle.std.specs.Ordering.{ordering_reverse, is_ne};
+ghost use Rattle.dv_bson.specs.Tree.{Tree, int32, int64, string, document, array, boolean, Field, fields_of, Fields, Elements, elements_of};
+ghost use Rattle.dv_order.specs.Order.{canon, class, order, below};
+ghost use Rattle.dv_order.specs.Key.{key_order, no_element, value};
 
 /// Any two values compare, and either way round alike.
 #[tactic(auto, using(crate::specs::TotalOrder::order_total))]
@@ -29,4 +29,41 @@ pub fn equal_is_same_but_for_widths()
 #[tactic(auto, using(crate::proofs::SameOrder::order_of_canon))]
 pub fn keys_stand_as_their_values()
     ensures { (v w : Tree) → key_order (value (canon v)) (value (canon w)) ≡ order v w }
+{}
+
+/// A value of a lower class stands before each one of a higher class.
+#[tactic(auto, using(crate::proofs::SameOrder::lower_class))]
+pub fn lower_classes_stand_first()
+    ensures { (v w : Tree) → class v < class w → below v w }
+{}
+
+/// The key that no value has stands beside no value's.
+#[tactic(auto, using(crate::specs::KeyLaws::no_class))]
+pub fn no_element_stands_beside_no_value()
+    ensures { (v : Tree) → is_ne (key_order no_element (value v)) ≡ true }
+{}
+
+/// The classes from low to high, each beside its neighbour.
+pub fn classes_stand_in_a_row()
+    ensures numbers_after_no_element { (n : ℤ) → key_order no_element (value (int64 n)) ≡ Less }
+    ensures strings_after_int32s { (n : ℤ) (s : List ℕ) → below (int32 n) (string s) }
+    ensures strings_after_int64s { (n : ℤ) (s : List ℕ) → below (int64 n) (string s) }
+    ensures documents_after_strings { (s : List ℕ) (fs : Fields) → below (string s) (document fs) }
+    ensures arrays_after_documents { (fs : Fields) (vs : Elements) → below (document fs) (array vs) }
+    ensures booleans_after_arrays { (vs : Elements) (b : Bool) → below (array vs) (boolean b) }
+{}
+
+/// Examples of two values of one class, the lower one first.
+pub fn examples_within_a_class()
+    ensures integers_by_number { below (int32 (negsuc 0)) (int64 (pos 0)) }
+    ensures integers_of_each_width { order (int32 (pos 5)) (int64 (pos 5)) ≡ Equal }
+    ensures strings_by_bytes { below (string (codes "B")) (string (codes "a")) }
+    ensures a_string_before_a_longer_one { below (string (codes "a")) (string (codes "ab")) }
+    ensures a_class_before_a_name { below (document (fields_of ((codes "b", int32 (pos 1)) ∷ []))) (document (fields_of ((codes "a", string []) ∷ []))) }
+    ensures a_name_before_a_value { below (document (fields_of ((codes "a", int32 (pos 2)) ∷ []))) (document (fields_of ((codes "b", int32 (pos 1)) ∷ []))) }
+    ensures a_value_before_the_number_of_fields { below (document (fields_of ((codes "a", int32 (pos 1)) ∷ (codes "b", int32 (pos 2)) ∷ []))) (document (fields_of ((codes "a", int64 (pos 2)) ∷ []))) }
+    ensures fewer_fields { below (document (fields_of [])) (document (fields_of ((codes "a", int32 (pos 1)) ∷ []))) }
+    ensures an_element_before_the_number_of_elements { below (array (elements_of (int32 (pos 1) ∷ int32 (pos 1) ∷ []))) (array (elements_of (int64 (pos 2) ∷ []))) }
+    ensures fewer_elements { below (array (elements_of (int32 (pos 1) ∷ []))) (array (elements_of (int64 (pos 1) ∷ int32 (pos 1) ∷ []))) }
+    ensures false_before_true { below (boolean false) (boolean true) }
 {}

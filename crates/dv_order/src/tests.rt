@@ -104,5 +104,9 @@ fn keys_forget_widths(rt: HostRuntime) -> Result<(), Fail> {
     assert!(rt; five == long_five);
     let greatest = max(long_five, key_of(&Value::Bool(false))?);
     assert!(rt; five < greatest);
+
+    let none = Key::no_element().try_clone()?;
+    assert!(rt; none == Key::no_element());
+    assert!(rt; none < five);
     Ok(())
 }
