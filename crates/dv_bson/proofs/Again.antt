@@ -1,14 +1,15 @@
 -- What is spelled so is read.
 use Rattle.std.proofs.Common.{◌≡◌, ℕ, zero, suc, ◌+◌, ◌-◌, ◌<◌, ◌≤◌, Bool, true, false, List, [], ◌∷◌, ◌++◌, length, map, Ok, refl, sym, ap, subst, ◌∙◌, append_assoc, append-nil, le_refl, arith}
-use Rattle.std.specs.Int.{w32, w64}
+use Rattle.std.specs.Int.{w32, w64, to_le_bytes, from_le_bytes}
 use Rattle.std.proofs.lemmas.List.{length-append, length_push}
 use Rattle.dv_bson.specs.declared.kind.Kind.{Kind}
 use Rattle.dv_bson.specs.declared.kind.Kind.TheVariants as kinds
-use Rattle.dv_bson.specs.Tree.{Tree, int32, int64, string, document, array, boolean, Fields, Elements, Field, fields_of, list_of_fields, elements_of, list_of_elements}
+use Rattle.dv_bson.specs.Tree.{Tree, int32, int64, string, document, array, boolean, binary, object_id, date, null, timestamp, min_key, max_key, Fields, Elements, Field, fields_of, list_of_fields, elements_of, list_of_elements}
 use Rattle.dv_bson.specs.Spelling.{type_byte, kind_of, framed, counted, element_spelling, payload, fields_spelling, elements_spelling, IsValue, levels, fields_levels, elements_levels}
 use Rattle.dv_bson.specs.Reading.{◌>>=◌, Inside, Frame, kind_at, name_at, text_at, frame_at, value_at, fields_at, body_at}
 use Rattle.dv_bson.proofs.Steps.{bind_at}
-use Rattle.dv_bson.proofs.Numbers.{wide32, wide64, signed_again}
+use Rattle.dv_bson.proofs.Numbers.{wide32, wide64, first_again, signed_again}
+use Rattle.dv_bson.proofs.Binaries.{binary_again, length-tagged}
 use Rattle.dv_bson.proofs.Names.{kind_again}
 use Rattle.dv_bson.proofs.Frames.{length-counted, length-framed, text_again, frame_again, framed_value}
 use Rattle.dv_bson.specs.Parts.{numbered}
@@ -54,10 +55,18 @@ module _ (k : ℕ) (inside : Inside) (complete : Complete k inside) (at : ℕ) (
       bind_at (text_at (counted s ++ rest)) (λ text. Ok (string text.0, text.1)) (s, rest) (Ok (string s, rest)) (text_again s rest valid (omega (arith, length-counted s))) refl
   value_again (document fs) = subst (λ (gs : Fields). IsAgain (document gs)) (fields_of-list_of_fields fs) (fields_of_again (list_of_fields fs))
   value_again (array vs) = subst (λ (ws : Elements). IsAgain (array ws)) (elements_of-list_of_elements vs) (elements_of_again (list_of_elements vs))
+  value_again (binary subtype bytes) = λ valid deep short. binary_again subtype bytes rest (omega (arith, length-tagged subtype bytes))
+  value_again (object_id id) = λ valid deep short. first_again 12 object_id id rest valid.0
   value_again (boolean false) = λ valid deep short. refl
   value_again (boolean true) = λ valid deep short. refl
   value_again (int32 n) = λ valid deep short. signed_again w32 wide32 int32 n rest valid
   value_again (int64 n) = λ valid deep short. signed_again w64 wide64 int64 n rest valid
+  value_again (date n) = λ valid deep short. signed_again w64 wide64 date n rest valid
+  value_again null = λ valid deep short. refl
+  value_again (timestamp n) = λ valid deep short.
+      first_again 8 (λ front. timestamp (from_le_bytes w64 front)) (to_le_bytes w64 n) rest (wide64.len n) ∙ ap (λ (m : ℕ). Ok (timestamp m, rest)) (wide64.again n valid)
+  value_again min_key = λ valid deep short. refl
+  value_again max_key = λ valid deep short. refl
 
 -- a field and those behind it
 field_again : (inside : Inside) (steps : ℕ) (in_array : Bool) (at : ℕ) (seen : List Field) (kind : Kind) (name text rest : List ℕ) (v : Tree) (last : ℕ) (all : List Field) →

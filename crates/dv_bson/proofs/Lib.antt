@@ -3,6 +3,7 @@ pub mod Named
 pub mod Steps
 pub mod Numbers
 pub mod Names
+pub mod Binaries
 pub mod Frames
 pub mod Fields
 pub mod Taken

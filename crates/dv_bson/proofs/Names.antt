@@ -24,9 +24,16 @@ kind_of_byte_takes b kind e =
     stands_for b 0x02 kinds.Text kind _ e refl
     (λ e. stands_for b 0x03 kinds.Doc kind _ e refl
     (λ e. stands_for b 0x04 kinds.Array kind _ e refl
+    (λ e. stands_for b 0x05 kinds.Binary kind _ e refl
+    (λ e. stands_for b 0x07 kinds.ObjectId kind _ e refl
     (λ e. stands_for b 0x08 kinds.Bool kind _ e refl
+    (λ e. stands_for b 0x09 kinds.Date kind _ e refl
+    (λ e. stands_for b 0x0A kinds.Null kind _ e refl
     (λ e. stands_for b 0x10 kinds.Int32 kind _ e refl
-    (λ e. stands_for b 0x12 kinds.Int64 kind _ e refl (λ e. absurd cc))))))
+    (λ e. stands_for b 0x11 kinds.Timestamp kind _ e refl
+    (λ e. stands_for b 0x12 kinds.Int64 kind _ e refl
+    (λ e. stands_for b 0x7F kinds.MaxKey kind _ e refl
+    (λ e. stands_for b 0xFF kinds.MinKey kind _ e refl (λ e. absurd cc)))))))))))))
 
 known : (b at : ℕ) (o : Option Kind) (kind : Kind) → kind_or_refused b at o ≡ Ok kind → o ≡ Some kind
 known b at None kind e = absurd cc
@@ -41,9 +48,16 @@ unfolding kind_at kind_of_byte
 kind_again kinds.Text at = refl
 kind_again kinds.Doc at = refl
 kind_again kinds.Array at = refl
+kind_again kinds.Binary at = refl
+kind_again kinds.ObjectId at = refl
 kind_again kinds.Bool at = refl
+kind_again kinds.Date at = refl
+kind_again kinds.Null at = refl
 kind_again kinds.Int32 at = refl
+kind_again kinds.Timestamp at = refl
 kind_again kinds.Int64 at = refl
+kind_again kinds.MinKey at = refl
+kind_again kinds.MaxKey at = refl
 
 -- ---- the bytes before the first zero
 

@@ -10,8 +10,7 @@ use Rattle.std.proofs.lemmas.Nat.{le_bytes_4, le_bytes_8, from_le_bytes-to_le_by
 use Rattle.dv_bson.specs.declared.fault.BsonFault.TheVariants.{BadLength}
 use Rattle.dv_bson.specs.Tree.{Tree}
 use Rattle.dv_bson.specs.Spelling.{IsBytes}
-use Rattle.dv_bson.specs.Reading.{count_at}
-use Rattle.dv_bson.specs.Parts.{signed_at}
+use Rattle.dv_bson.specs.Reading.{count_at, first_bytes, signed_at}
 use Rattle.dv_bson.proofs.Steps.{IsBytes-take, IsBytes-drop, Takes, refused_not, ok_is}
 
 -- numbers of this width and their bytes
@@ -65,6 +64,28 @@ count_front front rest n len value lt =
 pub count_again : (n : ℕ) (rest : List ℕ) → n < 2147483648 → count_at (to_le_bytes w32 n ++ rest) ≡ Some n
 count_again n rest lt = count_front (to_le_bytes w32 n) rest n (wide32.len n) (wide32.again n (omega arith)) lt
 
+-- ---- so many bytes
+
+pub record TakesFirst (n : ℕ) (made : List ℕ → Tree) (bytes : List ℕ) (x : Tree × List ℕ) : Type 0 where
+  pub front : List ℕ
+  pub is : made front ≡ x.0
+  pub len : length front ≡ n
+  pub fits : IsBytes front
+  pub takes : Takes bytes front x.1
+
+pub first_takes : (n : ℕ) (made : List ℕ → Tree) (bytes : List ℕ) (x : Tree × List ℕ) → IsBytes bytes → first_bytes n made bytes ≡ Ok x → TakesFirst n made bytes x
+first_takes n made bytes x fits e =
+    let g = refused_not (ltb (length bytes) n) BadLength _ x e in
+    let long : n ≤ length bytes = ltb-false _ _ g.0 in
+    let taken : Takes bytes (take n bytes) (drop n bytes) = record { parts = sym (take-append-drop n bytes); rest_fits = IsBytes-drop n bytes fits } in
+    subst (λ (y : Tree × List ℕ). TakesFirst n made bytes y) (ok_is (made (take n bytes), drop n bytes) x g.1)
+    (record { front = take n bytes; is = refl; len = omega (arith, length-take n bytes); fits = IsBytes-take n bytes fits; takes = taken })
+
+pub first_again : (n : ℕ) (made : List ℕ → Tree) (front rest : List ℕ) → length front ≡ n → first_bytes n made (front ++ rest) ≡ Ok (made front, rest)
+first_again n made front rest len =
+    let long : ltb (length (front ++ rest)) n ≡ false = le-ltb _ _ (omega (arith, length-append front rest)) in
+    rw (long, take_at front rest n len, drop_at front rest n len) refl
+
 -- ---- signed numbers
 
 pub record TakesSigned (w : Width) (made : ℤ → Tree) (bytes : List ℕ) (x : Tree × List ℕ) : Type 0 where
@@ -75,21 +96,16 @@ pub record TakesSigned (w : Width) (made : ℤ → Tree) (bytes : List ℕ) (x :
 
 pub signed_takes : (w : Width) (wide : IsWide w) (made : ℤ → Tree) (bytes : List ℕ) (x : Tree × List ℕ) → IsBytes bytes → signed_at w made bytes ≡ Ok x → TakesSigned w made bytes x
 signed_takes w wide made bytes x fits e =
-    let g = refused_not (ltb (length bytes) (byte_len w)) BadLength _ x e in
-    let long : byte_len w ≤ length bytes = ltb-false _ _ g.0 in
-    let front = take (byte_len w) bytes in
-    let number = from_le_bytes w front in
-    let below : number < 2 ^ bits w = wide.below front (IsBytes-take (byte_len w) bytes fits) in
-    let whole : to_le_bytes w (cast_unsigned w (cast_signed w number)) ≡ front = ap (to_le_bytes w) (of_z-to_z w number below) ∙ wide.back front (omega (arith, length-take (byte_len w) bytes)) (IsBytes-take (byte_len w) bytes fits) in
-    let taken : Takes bytes (to_le_bytes w (cast_unsigned w (cast_signed w number))) (drop (byte_len w) bytes) = record { parts = sym (take-append-drop (byte_len w) bytes) ∙ ap (λ (t : List ℕ). t ++ drop (byte_len w) bytes) (sym whole); rest_fits = IsBytes-drop (byte_len w) bytes fits } in
-    subst (λ (y : Tree × List ℕ). TakesSigned w made bytes y) (ok_is (made (cast_signed w number), drop (byte_len w) bytes) x g.1)
-    (record { number = cast_signed w number; is = refl; fits = sfits_to_z (Fits-of_lt below); takes = taken })
+    let t = first_takes (byte_len w) (λ front. made (cast_signed w (from_le_bytes w front))) bytes x fits e in
+    let number = from_le_bytes w t.front in
+    let below : number < 2 ^ bits w = wide.below t.front t.fits in
+    let whole : t.front ≡ to_le_bytes w (cast_unsigned w (cast_signed w number)) = sym (ap (to_le_bytes w) (of_z-to_z w number below) ∙ wide.back t.front t.len t.fits) in
+    record { number = cast_signed w number; is = t.is; fits = sfits_to_z (Fits-of_lt below); takes = subst (λ (text : List ℕ). Takes bytes text x.1) whole t.takes }
 
 pub signed_again : (w : Width) (wide : IsWide w) (made : ℤ → Tree) (z : ℤ) (rest : List ℕ) → FitsSigned w z → signed_at w made (to_le_bytes w (cast_unsigned w z) ++ rest) ≡ Ok (made z, rest)
 signed_again w wide made z rest fits =
     let n = cast_unsigned w z in
-    let len = wide.len n in
-    let long : ltb (length (to_le_bytes w n ++ rest)) (byte_len w) ≡ false = le-ltb _ _ (omega (arith, length-append (to_le_bytes w n) rest)) in
     let below : Fits w n = Fits-of_z fits in
     let number : from_le_bytes w (to_le_bytes w n) ≡ n = wide.again n (omega arith) in
-    rw (long, take_at (to_le_bytes w n) rest (byte_len w) len, drop_at (to_le_bytes w n) rest (byte_len w) len, number, to_z-of_z w z fits) refl
+    first_again (byte_len w) (λ front. made (cast_signed w (from_le_bytes w front))) (to_le_bytes w n) rest (wide.len n)
+    ∙ rw (number, to_z-of_z w z fits) refl

@@ -1,6 +1,7 @@
 -- What is left behind a part that was read is no longer than the bytes were.
 use Rattle.std.proofs.Common.{◌≡◌, ℕ, suc, ◌+◌, ◌-◌, ◌≤◌, ◌==◌, if◌then◌else◌, Bool, true, false, List, [], ◌∷◌, length, take, drop, map, Option, Some, None, Result, Ok, Err, refl, ap, subst, arith}
 use Rattle.std.specs.Prelude.{◌||◌, nat_lt, slice_index}
+use Rattle.std.specs.Int.{w32, w64, from_le_bytes, cast_signed}
 use Rattle.std.specs.Str.{is_utf8}
 use Rattle.std.proofs.lemmas.Bool.{ltb-false, or_parts}
 use Rattle.std.proofs.lemmas.List.{length-append, length-take, length-drop}
@@ -8,8 +9,8 @@ use Rattle.dv_bson.specs.declared.kind.Kind.{Kind}
 use Rattle.dv_bson.specs.declared.kind.Kind.TheVariants as kinds
 use Rattle.dv_bson.specs.declared.fault.BsonFault.{BsonFault}
 use Rattle.dv_bson.specs.declared.fault.BsonFault.TheVariants.{BadLength, BadUtf8}
-use Rattle.dv_bson.specs.Tree.{Tree, string, document, array, Field, fields_of, elements_of}
-use Rattle.dv_bson.specs.Reading.{◌>>=◌, name_at, counted_at, count_at, text_at, Frame, frame_of, framed_at, frame_at, boolean_at, value_at, kind_at, Inside}
+use Rattle.dv_bson.specs.Tree.{Tree, int32, int64, string, document, array, object_id, date, timestamp, Field, fields_of, elements_of}
+use Rattle.dv_bson.specs.Reading.{◌>>=◌, name_at, counted_at, count_at, text_at, Frame, frame_of, framed_at, frame_at, boolean_at, first_bytes, tagged_at, binary_at, value_at, kind_at, Inside}
 use Rattle.dv_bson.specs.Parts.{with_rest, front_kind_at, field_at}
 use Rattle.dv_bson.proofs.Steps.{refused_not, given, ok_is}
 use Rattle.dv_bson.proofs.Fields.{name_takes}
@@ -66,14 +67,37 @@ boolean_leaves : (bytes : List ℕ) → Leaves Tree (length bytes) (boolean_at b
 boolean_leaves [] = Leaves-Err _ _ _
 boolean_leaves (b ∷ bytes) = Leaves-if _ _ (b == 0) _ _ (Leaves-Ok _ _ _ (omega arith)) (Leaves-if _ _ (b == 1) _ _ (Leaves-Ok _ _ _ (omega arith)) (Leaves-Err _ _ _))
 
+first_leaves : (n : ℕ) (made : List ℕ → Tree) (bytes : List ℕ) → Leaves Tree (length bytes) (first_bytes n made bytes)
+first_leaves n made bytes = Leaves-if _ _ (nat_lt (length bytes) n) _ _ (Leaves-Err _ _ _) (Leaves-Ok _ _ _ (omega (arith, length-drop n bytes)))
+
+tagged_leaves : (n : ℕ) (bytes : List ℕ) → Leaves Tree (length bytes) (tagged_at n bytes)
+tagged_leaves n [] = Leaves-Err _ _ _
+tagged_leaves n (subtype ∷ bytes) = Leaves-if _ _ (nat_lt 2147483647 n || nat_lt (length bytes) n) _ _ (Leaves-Err _ _ _) (Leaves-Ok _ _ _ (omega (arith, length-drop n bytes)))
+
+Leaves-more : (A : Type 0) (n m : ℕ) (r : Result (A × List ℕ) BsonFault) → n ≤ m → Leaves A n r → Leaves A m r
+Leaves-more A n m r le h = record { within = λ x e. omega (arith, h.within x e) }
+
+binary_leaves : (bytes : List ℕ) → Leaves Tree (length bytes) (binary_at bytes)
+unfolding binary_at
+binary_leaves bytes =
+    let behind = Leaves-more Tree _ (length bytes) _ (omega (arith, length-drop 4 bytes)) (tagged_leaves (from_le_bytes w32 (take 4 bytes)) (drop 4 bytes)) in
+    Leaves-if _ _ (nat_lt (length bytes) 4) _ _ (Leaves-Err _ _ _) behind
+
 pub value_leaves : (inside : Inside) (kind : Kind) (at : ℕ) (bytes : List ℕ) → Leaves Tree (length bytes) (value_at inside kind at bytes)
 unfolding value_at frame_at
 value_leaves inside kinds.Text at bytes = text_value_leaves bytes
 value_leaves inside kinds.Doc at bytes = framed_leaves (count_at bytes) bytes (λ frame. inside false (at + 4) frame.elements frame.last) (λ fields. document (fields_of fields))
 value_leaves inside kinds.Array at bytes = framed_leaves (count_at bytes) bytes (λ frame. inside true (at + 4) frame.elements frame.last) (λ fields. array (elements_of (map (λ f. f.1) fields)))
 value_leaves inside kinds.Bool at bytes = boolean_leaves bytes
-value_leaves inside kinds.Int32 at bytes = Leaves-if _ _ (nat_lt (length bytes) 4) _ _ (Leaves-Err _ _ _) (Leaves-Ok _ _ _ (omega (arith, length-drop 4 bytes)))
-value_leaves inside kinds.Int64 at bytes = Leaves-if _ _ (nat_lt (length bytes) 8) _ _ (Leaves-Err _ _ _) (Leaves-Ok _ _ _ (omega (arith, length-drop 8 bytes)))
+value_leaves inside kinds.Binary at bytes = binary_leaves bytes
+value_leaves inside kinds.ObjectId at bytes = first_leaves 12 object_id bytes
+value_leaves inside kinds.Date at bytes = first_leaves 8 (λ front. date (cast_signed w64 (from_le_bytes w64 front))) bytes
+value_leaves inside kinds.Null at bytes = Leaves-Ok _ _ _ (omega arith)
+value_leaves inside kinds.Int32 at bytes = first_leaves 4 (λ front. int32 (cast_signed w32 (from_le_bytes w32 front))) bytes
+value_leaves inside kinds.Timestamp at bytes = first_leaves 8 (λ front. timestamp (from_le_bytes w64 front)) bytes
+value_leaves inside kinds.Int64 at bytes = first_leaves 8 (λ front. int64 (cast_signed w64 (from_le_bytes w64 front))) bytes
+value_leaves inside kinds.MinKey at bytes = Leaves-Ok _ _ _ (omega arith)
+value_leaves inside kinds.MaxKey at bytes = Leaves-Ok _ _ _ (omega arith)
 
 -- ---- the element at the front
 

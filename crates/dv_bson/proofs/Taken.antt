@@ -1,15 +1,16 @@
 -- What is read is spelled so.
 use Rattle.std.proofs.Common.{◌≡◌, ℕ, zero, suc, ◌+◌, ◌-◌, ◌<◌, ◌≤◌, Bool, true, false, eqb, List, [], ◌∷◌, ◌++◌, length, map, Ok, Err, refl, sym, ap, subst, ◌∙◌, append_assoc, append-nil, inl, inr, arith}
-use Rattle.std.specs.Int.{w32, w64, from_bool}
+use Rattle.std.specs.Int.{w32, w64, from_le_bytes, from_bool}
 use Rattle.std.proofs.lemmas.Bool.{eqb-true}
 use Rattle.dv_bson.specs.declared.kind.Kind.{Kind}
 use Rattle.dv_bson.specs.declared.kind.Kind.TheVariants as kinds
 use Rattle.dv_bson.specs.declared.fault.BsonFault.TheVariants.{BadLength, BadBool}
-use Rattle.dv_bson.specs.Tree.{Tree, int32, int64, string, document, array, boolean, Field, fields_of, elements_of}
+use Rattle.dv_bson.specs.Tree.{Tree, int32, int64, string, document, array, boolean, binary, object_id, date, null, timestamp, min_key, max_key, Field, fields_of, elements_of}
 use Rattle.dv_bson.specs.Spelling.{IsBytes, type_byte, kind_of, framed, element_spelling, payload, fields_spelling, elements_spelling, IsValue, levels, fields_levels}
 use Rattle.dv_bson.specs.Reading.{◌>>=◌, Inside, kind_at, name_at, text_at, frame_at, boolean_at, value_at, closed_by, fields_at, body_at}
 use Rattle.dv_bson.proofs.Steps.{bind_ok, passed, branched, done, ok_is, IsBytes-rest, IsBytes-behind, Takes}
-use Rattle.dv_bson.proofs.Numbers.{wide32, wide64, signed_takes}
+use Rattle.dv_bson.proofs.Numbers.{wide32, wide64, first_takes, signed_takes}
+use Rattle.dv_bson.proofs.Binaries.{binary_takes}
 use Rattle.dv_bson.proofs.Names.{kind_takes}
 use Rattle.dv_bson.proofs.Frames.{text_takes, frame_takes, framed_value}
 use Rattle.dv_bson.proofs.Fields.{name_takes, IsNamed, AreRead, AreFields-from_read, AreElements-from_read, elements_spelling-from_read, elements_levels-values}
@@ -43,6 +44,12 @@ boolean_takes k (b ∷ rest) x fits e =
       | inl h ↦ boolean_is k b rest false x fits (eqb-true b 0 h.0) h.1
       | inr h ↦ let p = passed (eqb b 1) BadBool (Ok (boolean true, rest)) x h.1 in boolean_is k b rest true x fits (eqb-true b 1 p.0) p.1
     ]
+
+-- a value that has no bytes
+nothing_is : (k : ℕ) (kind : Kind) (bytes : List ℕ) (v : Tree) (x : Tree × List ℕ) → IsBytes bytes → kind_of v ≡ kind → payload v ≡ [] → IsValue v → levels v ≤ k → done (v, bytes) ≡ done x → TakesValue k kind bytes x
+nothing_is k kind bytes v x fits is none valid deep e =
+    let parts : bytes ≡ payload v ++ bytes = rw none refl in
+    subst (λ (y : Tree × List ℕ). TakesValue k kind bytes y) (ok_is (v, bytes) x e) (record { kind_is = is; taken = record { parts = parts; rest_fits = fits }; valid = valid; depth = deep })
 
 module _ (k : ℕ) (inside : Inside) (sound : Sound k inside) (at : ℕ) (bytes : List ℕ) (x : Tree × List ℕ) (fits : IsBytes bytes) where
   record TakesFramed (in_array : Bool) (made : List Field → Tree) : Type 0 where
@@ -84,10 +91,26 @@ module _ (k : ℕ) (inside : Inside) (sound : Sound k inside) (at : ℕ) (bytes 
       let taken = subst (λ (elements : List ℕ). Takes bytes (framed elements) x.1) (elements_spelling-from_read [] t.fields t.read) t.taken in
       subst (λ (v : Tree). TakesValue k kinds.Array bytes (v, x.1)) t.is
       (record { kind_is = refl; taken = taken; valid = AreElements-from_read [] t.fields t.read; depth = subst (λ (n : ℕ). n < k) (elements_levels-values t.fields) t.depth })
+  value_takes kinds.Binary e =
+      let t = binary_takes bytes x fits e in
+      subst (λ (v : Tree). TakesValue k kinds.Binary bytes (v, x.1)) t.is (record { kind_is = refl; taken = t.takes; valid = (t.byte, t.fits); depth = omega arith })
+  value_takes kinds.ObjectId e =
+      let t = first_takes 12 object_id bytes x fits e in
+      subst (λ (v : Tree). TakesValue k kinds.ObjectId bytes (v, x.1)) t.is (record { kind_is = refl; taken = t.takes; valid = (t.len, t.fits); depth = omega arith })
   value_takes kinds.Bool e = boolean_takes k bytes x fits e
+  value_takes kinds.Date e =
+      let t = signed_takes w64 wide64 date bytes x fits e in
+      subst (λ (v : Tree). TakesValue k kinds.Date bytes (v, x.1)) t.is (record { kind_is = refl; taken = t.takes; valid = t.fits; depth = omega arith })
+  value_takes kinds.Null e = nothing_is k kinds.Null bytes null x fits refl refl tt (omega arith) e
   value_takes kinds.Int32 e =
       let t = signed_takes w32 wide32 int32 bytes x fits e in
       subst (λ (v : Tree). TakesValue k kinds.Int32 bytes (v, x.1)) t.is (record { kind_is = refl; taken = t.takes; valid = t.fits; depth = omega arith })
+  value_takes kinds.Timestamp e =
+      let t = first_takes 8 (λ front. timestamp (from_le_bytes w64 front)) bytes x fits e in
+      let taken = subst (λ (text : List ℕ). Takes bytes text x.1) (sym (wide64.back t.front t.len t.fits)) t.takes in
+      subst (λ (v : Tree). TakesValue k kinds.Timestamp bytes (v, x.1)) t.is (record { kind_is = refl; taken = taken; valid = wide64.below t.front t.fits; depth = omega arith })
+  value_takes kinds.MinKey e = nothing_is k kinds.MinKey bytes min_key x fits refl refl tt (omega arith) e
+  value_takes kinds.MaxKey e = nothing_is k kinds.MaxKey bytes max_key x fits refl refl tt (omega arith) e
   value_takes kinds.Int64 e =
       let t = signed_takes w64 wide64 int64 bytes x fits e in
       subst (λ (v : Tree). TakesValue k kinds.Int64 bytes (v, x.1)) t.is (record { kind_is = refl; taken = t.takes; valid = t.fits; depth = omega arith })

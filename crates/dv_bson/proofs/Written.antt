@@ -4,7 +4,7 @@ use Rattle.std.specs.Int.{w32, to_le_bytes}
 use Rattle.std.specs.Result.{OnOk, is_ok}
 use Rattle.std.proofs.lemmas.List.{append-nil, take_all, take_at, take-take, drop_at, drop_all, drop-drop, take-append-le, drop-append-le}
 use Rattle.dv_bson.specs.declared.kind.Kind.{Kind}
-use Rattle.dv_bson.specs.Spelling.{type_byte, framed, counted, element_spelling}
+use Rattle.dv_bson.specs.Spelling.{type_byte, framed, counted, tagged, element_spelling}
 use Rattle.dv_bson.proofs.Payloads.{length-framed}
 
 -- ---- what stood before
@@ -44,6 +44,11 @@ append-element kind old name value = simp append_assoc
 pub append-counted : (old count text : List ℕ) → count ≡ to_le_bytes w32 (length text + 1) → ((old ++ count) ++ text) ++ 0 ∷ [] ≡ old ++ counted text
 unfolding counted
 append-counted old count text e = append_assoc (old ++ count) text (0 ∷ []) ∙ append_assoc old count (text ++ 0 ∷ []) ∙ ap (λ (bytes : List ℕ). old ++ (bytes ++ (text ++ 0 ∷ []))) e
+
+-- a binary's bytes behind their count and the subtype
+pub append-tagged : (subtype : ℕ) (old count bytes : List ℕ) → count ≡ to_le_bytes w32 (length bytes) → ((old ++ count) ++ subtype ∷ []) ++ bytes ≡ old ++ tagged subtype bytes
+unfolding tagged
+append-tagged subtype old count bytes e = append_assoc (old ++ count) (subtype ∷ []) bytes ∙ append_assoc old count (subtype ∷ bytes) ∙ ap (λ (c : List ℕ). old ++ (c ++ subtype ∷ bytes)) e
 
 framed-is : (count elements : List ℕ) → count ≡ to_le_bytes w32 (length elements + 5) → count ++ (elements ++ 0 ∷ []) ≡ framed elements
 unfolding framed

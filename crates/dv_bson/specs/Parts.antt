@@ -1,6 +1,5 @@
 -- Parts of reading, as the reader takes them one by one.
-use Rattle.std.specs.Prelude.{ℕ, suc, ◌+◌, ◌-◌, ℤ, Bool, List, [], ◌∷◌, length, take, drop, Option, Some, None, Result, Ok, Err, nat_lt, if◌then◌else◌, decimal}
-use Rattle.std.specs.Int.{Width, byte_len, from_le_bytes, cast_signed}
+use Rattle.std.specs.Prelude.{ℕ, suc, ◌+◌, ◌-◌, Bool, List, [], ◌∷◌, length, Option, Some, None, Result, Ok, Err, if◌then◌else◌, decimal}
 use Rattle.std.specs.Str.{is_utf8}
 use Rattle.dv_bson.specs.declared.kind.Kind.{Kind}
 use Rattle.dv_bson.specs.declared.fault.BsonFault.{BsonFault}
@@ -9,10 +8,6 @@ use Rattle.dv_bson.specs.declared.fault.ReadError.{ReadError}
 use Rattle.dv_bson.specs.declared.fault.ReadError.TheVariants as errors
 use Rattle.dv_bson.specs.Tree.{Tree, Field}
 use Rattle.dv_bson.specs.Reading.{◌>>=◌, kind_at, cut_at_zero, name_at, value_at, Inside}
-
--- a signed number of this width, and the bytes behind it
-abbrev pub signed_at : Width → (ℤ → Tree) → List ℕ → Result (Tree × List ℕ) BsonFault
-signed_at w made bytes = if nat_lt (length bytes) (byte_len w) then Err BadLength else Ok (made (cast_signed w (from_le_bytes w (take (byte_len w) bytes))), drop (byte_len w) bytes)
 
 -- a type, and the bytes behind its byte
 abbrev pub with_rest : List ℕ → Kind → Result (Kind × List ℕ) BsonFault

@@ -1,6 +1,6 @@
 -- Reading from left to right: the document that the bytes begin with, or the first fault.
-use Rattle.std.specs.Prelude.{◌≡◌, ℕ, zero, suc, ◌+◌, ◌-◌, Bool, true, false, ◌||◌, List, [], ◌∷◌, ◌++◌, length, take, drop, map, slice_index, Option, Some, None, Result, Ok, Err, nat_lt, ◌==◌, if◌then◌else◌, decimal}
-use Rattle.std.specs.Int.{w32, w64, from_le_bytes, cast_signed}
+use Rattle.std.specs.Prelude.{◌≡◌, ℕ, ℤ, zero, suc, ◌+◌, ◌-◌, Bool, true, false, ◌||◌, List, [], ◌∷◌, ◌++◌, length, take, drop, map, slice_index, Option, Some, None, Result, Ok, Err, nat_lt, ◌==◌, if◌then◌else◌, decimal}
+use Rattle.std.specs.Int.{Width, w32, w64, byte_len, from_le_bytes, cast_signed}
 use Rattle.std.specs.Str.{bytes_eq, is_utf8}
 use Rattle.dv_bson.specs.declared.kind.Kind.{Kind}
 use Rattle.dv_bson.specs.declared.kind.Kind.TheVariants as kinds
@@ -8,7 +8,7 @@ use Rattle.dv_bson.specs.declared.fault.BsonFault.{BsonFault}
 use Rattle.dv_bson.specs.declared.fault.BsonFault.TheVariants.{Truncated, BadLength, RefusedType, BadUtf8, BadBool, BadArrayName, RepeatedName, TooDeep, TooLarge}
 use Rattle.dv_bson.specs.declared.fault.ReadError.{ReadError}
 use Rattle.dv_bson.specs.declared.fault.ReadError.TheVariants as errors
-use Rattle.dv_bson.specs.Tree.{Tree, int32, int64, string, document, array, boolean, Field, fields_of, elements_of}
+use Rattle.dv_bson.specs.Tree.{Tree, int32, int64, string, document, array, boolean, binary, object_id, date, null, timestamp, min_key, max_key, Field, fields_of, elements_of}
 use Rattle.dv_bson.specs.Names.{has_name}
 
 infixl 10 ◌>>=◌
@@ -37,9 +37,16 @@ kind_of_byte b =
     if b == 0x02 then Some kinds.Text
     else if b == 0x03 then Some kinds.Doc
     else if b == 0x04 then Some kinds.Array
+    else if b == 0x05 then Some kinds.Binary
+    else if b == 0x07 then Some kinds.ObjectId
     else if b == 0x08 then Some kinds.Bool
+    else if b == 0x09 then Some kinds.Date
+    else if b == 0x0A then Some kinds.Null
     else if b == 0x10 then Some kinds.Int32
+    else if b == 0x11 then Some kinds.Timestamp
     else if b == 0x12 then Some kinds.Int64
+    else if b == 0x7F then Some kinds.MaxKey
+    else if b == 0xFF then Some kinds.MinKey
     else None
 
 abbrev pub kind_or_refused : ℕ → ℕ → Option Kind → Result Kind BsonFault
@@ -113,6 +120,21 @@ abbrev pub boolean_at : List ℕ → Result (Tree × List ℕ) BsonFault
 boolean_at [] = Err BadLength
 boolean_at (b ∷ rest) = if b == 0 then Ok (boolean false, rest) else if b == 1 then Ok (boolean true, rest) else Err BadBool
 
+-- what so many bytes at the front make, and the bytes behind them
+abbrev pub first_bytes : ℕ → (List ℕ → Tree) → List ℕ → Result (Tree × List ℕ) BsonFault
+first_bytes n made bytes = if nat_lt (length bytes) n then Err BadLength else Ok (made (take n bytes), drop n bytes)
+
+abbrev pub signed_at : Width → (ℤ → Tree) → List ℕ → Result (Tree × List ℕ) BsonFault
+signed_at w made bytes = first_bytes (byte_len w) (λ front. made (cast_signed w (from_le_bytes w front))) bytes
+
+-- a binary: a count, as an int32 of its bytes without the subtype; the subtype; the bytes, whatever they are
+abbrev pub tagged_at : ℕ → List ℕ → Result (Tree × List ℕ) BsonFault
+tagged_at n [] = Err BadLength
+tagged_at n (subtype ∷ bytes) = if nat_lt 2147483647 n || nat_lt (length bytes) n then Err BadLength else Ok (binary subtype (take n bytes), drop n bytes)
+
+unfoldable pub binary_at : List ℕ → Result (Tree × List ℕ) BsonFault
+binary_at bytes = if nat_lt (length bytes) 4 then Err BadLength else tagged_at (from_le_bytes w32 (take 4 bytes)) (drop 4 bytes)
+
 -- a value of this type, and the bytes behind it
 unfoldable pub value_at : Inside → Kind → ℕ → List ℕ → Result (Tree × List ℕ) BsonFault
 value_at inside kinds.Text at bytes = do
@@ -126,9 +148,16 @@ value_at inside kinds.Array at bytes = do
   frame ← frame_at bytes
   fields ← inside true (at + 4) frame.elements frame.last
   Ok (array (elements_of (map (λ f. f.1) fields)), frame.rest)
+value_at inside kinds.Binary at bytes = binary_at bytes
+value_at inside kinds.ObjectId at bytes = first_bytes 12 object_id bytes
 value_at inside kinds.Bool at bytes = boolean_at bytes
-value_at inside kinds.Int32 at bytes = if nat_lt (length bytes) 4 then Err BadLength else Ok (int32 (cast_signed w32 (from_le_bytes w32 (take 4 bytes))), drop 4 bytes)
-value_at inside kinds.Int64 at bytes = if nat_lt (length bytes) 8 then Err BadLength else Ok (int64 (cast_signed w64 (from_le_bytes w64 (take 8 bytes))), drop 8 bytes)
+value_at inside kinds.Date at bytes = signed_at w64 date bytes
+value_at inside kinds.Null at bytes = Ok (null, bytes)
+value_at inside kinds.Int32 at bytes = signed_at w32 int32 bytes
+value_at inside kinds.Timestamp at bytes = first_bytes 8 (λ front. timestamp (from_le_bytes w64 front)) bytes
+value_at inside kinds.Int64 at bytes = signed_at w64 int64 bytes
+value_at inside kinds.MinKey at bytes = Ok (min_key, bytes)
+value_at inside kinds.MaxKey at bytes = Ok (max_key, bytes)
 
 -- where all elements are read, the last byte has to be the closing zero; another is first looked at as a type byte, and then lacks its name
 abbrev pub closed_by : ℕ → ℕ → List Field → Result (List Field) BsonFault

@@ -10,6 +10,15 @@ mutual
     document : Fields → Tree
     array : Elements → Tree
     boolean : Bool → Tree
+    -- the subtype, the bytes
+    binary : ℕ → List ℕ → Tree
+    object_id : List ℕ → Tree
+    -- milliseconds since the Unix epoch
+    date : ℤ → Tree
+    null : Tree
+    timestamp : ℕ → Tree
+    min_key : Tree
+    max_key : Tree
 
   pub data Fields : Type 0 where
     no_fields : Fields
@@ -48,6 +57,13 @@ abbrev mutual
   weight (document fs) = suc (fields_weight fs)
   weight (array vs) = suc (elements_weight vs)
   weight (boolean b) = 1
+  weight (binary subtype bytes) = 1
+  weight (object_id id) = 1
+  weight (date n) = 1
+  weight null = 1
+  weight (timestamp n) = 1
+  weight min_key = 1
+  weight max_key = 1
 
   pub fields_weight : Fields → ℕ
   fields_weight no_fields = 0

@@ -1,8 +1,8 @@
 -- What a value in memory stands for.
 use Rattle.dv_bson.specs.declared.value.Value.{Value}
-use Rattle.dv_bson.specs.declared.value.Value.TheVariants.{Int32, Int64, Text, Doc, Array, Bool}
+use Rattle.dv_bson.specs.declared.value.Value.TheVariants.{Int32, Int64, Text, Doc, Array, Binary, ObjectId, Bool, Date, Null, Timestamp, MinKey, MaxKey}
 use Rattle.dv_bson.specs.declared.value.Entry.{Entry}
-use Rattle.dv_bson.specs.Tree.{Tree, int32, int64, string, document, array, boolean, Field, fields_of, elements_of}
+use Rattle.dv_bson.specs.Tree.{Tree, int32, int64, string, document, array, boolean, binary, object_id, date, null, timestamp, min_key, max_key, Field, fields_of, elements_of}
 
 abbrev pub tree : Value → Tree
 tree (Int32 n) = int32 n
@@ -10,7 +10,14 @@ tree (Int64 n) = int64 n
 tree (Text s) = string s
 tree (Doc fs) = document (fields_of fs)
 tree (Array vs) = array (elements_of vs)
+tree (Binary subtype bytes) = binary subtype bytes
+tree (ObjectId id) = object_id id
 tree (Bool b) = boolean b
+tree (Date n) = date n
+tree Null = null
+tree (Timestamp n) = timestamp n
+tree MinKey = min_key
+tree MaxKey = max_key
 
 abbrev pub field_of : Entry → Field
 field_of e = (e.name, tree e.value)

@@ -17,6 +17,9 @@ const LONGEST: usize = 2_147_483_647;
 /// length, and the closing zero.
 const FRAME: usize = 5;
 
+/// The four bytes of a count.
+const COUNT: usize = 4;
+
 /// The length of the longest document that is read and stored.
 pub(crate) const MAX_DOCUMENT_LEN: u32 = 16_777_216;
 
@@ -61,6 +64,23 @@ fn digits(number: usize) -> usize
     buffer.format(number).len()
 }
 
+/// The length of a binary: a count, the subtype, the bytes.
+#[tactic(auto, using(crate::proofs::Payloads::binary_length))]
+fn binary_size(subtype: u8, bytes: &[u8]) -> Option<usize>
+    ensures size { SomeIff result (length (payload (trees.binary subtype bytes.now)) ≤ 2147483647) (length (payload (trees.binary subtype bytes.now))) }
+    ensures valid { IsValue (trees.binary subtype bytes.now) }
+{
+    sum(bytes.len(), COUNT + subtype.to_le_bytes().len())
+}
+
+#[tactic(auto, unfolding(crate::specs::Spelling::payload))]
+fn object_id_size(id: [u8; 12]) -> usize
+    ensures size { result ≡ length (payload (trees.object_id id)) }
+    ensures valid { IsValue (trees.object_id id) }
+{
+    id.len()
+}
+
 /// The length of a value's spelling behind its name. A value that has one is valid at each of its levels,
 /// as the writer needs to know.
 #[cycle(size)]
@@ -74,7 +94,14 @@ fn value_size(value: &Value) -> Option<usize>
         Value::Text(text) => sum(text.as_str().len(), FRAME),
         Value::Doc(document) => document_size(document),
         Value::Array(list) => list_size(list),
+        Value::Binary { subtype, bytes } => binary_size(*subtype, bytes.as_slice()),
+        Value::ObjectId(id) => Some(object_id_size(*id)),
         Value::Bool(_) => Some(1),
+        Value::Date(milliseconds) => Some(milliseconds.to_le_bytes().len()),
+        Value::Timestamp(time) => Some(time.to_le_bytes().len()),
+        Value::Null => Some(0),
+        Value::MinKey => Some(0),
+        Value::MaxKey => Some(0),
     }
 }
 

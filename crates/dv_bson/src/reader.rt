@@ -11,8 +11,9 @@ use crate::fault::{BsonFault, ReadError};
 use crate::kind::Kind;
 use crate::limits::{MAX_DOCUMENT_LEN, MAX_LEVELS};
 use crate::reading::{
-    MIN_DOCUMENT_LEN, behind_index, boolean_of, count_of, field_name_of, frame_of, framed,
-    front_kind_of, int32_of, int64_of, kind_of, text_of,
+    MIN_DOCUMENT_LEN, behind_index, binary_of, boolean_of, count_of, date_of, field_name_of,
+    frame_of, framed, front_kind_of, int32_of, int64_of, kind_of, object_id_of, text_of,
+    timestamp_of,
 };
 use crate::value::{Document, List, Value};
 use std::alloc::Global;
@@ -46,9 +47,16 @@ fn value_of(
             let list = list_of(alloc, levels, at + 4, frame.elements, frame.last)?;
             Ok((Value::Array(list), frame.rest))
         }
+        Kind::Binary => binary_of(alloc, bytes),
+        Kind::ObjectId => object_id_of(bytes),
         Kind::Bool => boolean_of(bytes),
+        Kind::Date => date_of(bytes),
+        Kind::Null => Ok((Value::Null, bytes)),
         Kind::Int32 => int32_of(bytes),
+        Kind::Timestamp => timestamp_of(bytes),
         Kind::Int64 => int64_of(bytes),
+        Kind::MinKey => Ok((Value::MinKey, bytes)),
+        Kind::MaxKey => Ok((Value::MaxKey, bytes)),
     }
 }
 
@@ -191,8 +199,9 @@ fn outermost_of(alloc: Global, bytes: &[u8]) -> Result<(Document, usize), ReadEr
 /// bsonspec.org), and answers it with its length in bytes. What follows is unread.
 ///
 /// A document of at most 16,777,216 bytes and 100 levels is read, a document or an array being one level more
-/// than what it holds. What is read holds the standard's types string, document, array, boolean, int32 and
-/// int64; names are distinct, and texts and names are UTF-8. Else the first fault from the left is returned:
+/// than what it holds. What is read holds the standard's types string, document, array, binary, ObjectId,
+/// boolean, UTC datetime, null, int32, timestamp, int64, min key and max key; names are distinct, and texts and names
+/// are UTF-8. Else the first fault from the left is returned:
 ///
 /// - `Truncated`: there are fewer than four bytes, or fewer than the document's length says;
 /// - `TooLarge`: the document's length is over 16,777,216;

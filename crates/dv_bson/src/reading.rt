@@ -2,13 +2,14 @@
 
 ghost use Rattle.std.specs.Prelude.{◌≡◌, ◌≤◌, ◌==◌, ◌||◌, Ok, nat_lt, true, false, length, drop, map, decimal, position, MatchResult, IfSome};
 ghost use Rattle.std.specs.Option.{option_map};
-ghost use Rattle.std.specs.Int.{w32, w64};
+ghost use Rattle.std.specs.Int.{w32, w64, from_le_bytes};
 ghost use Rattle.std.specs.Str.{is_utf8};
-ghost use Rattle.dv_bson.specs.Tree.{int32, int64};
+ghost use Rattle.dv_bson.specs.Tree.{int32, int64, object_id, date, timestamp};
 ghost use Rattle.dv_bson.specs.View.{tree};
-ghost use Rattle.dv_bson.specs.Reading.{Gives, count_at, kind_at, cut_at_zero, name_at, text_at, frame_of, frame_at, boolean_at};
-ghost use Rattle.dv_bson.specs.Parts.{signed_at, front_kind_at, any_name_at, numbered};
+ghost use Rattle.dv_bson.specs.Reading.{Gives, count_at, kind_at, cut_at_zero, name_at, text_at, frame_of, frame_at, boolean_at, first_bytes, signed_at, binary_at};
+ghost use Rattle.dv_bson.specs.Parts.{front_kind_at, any_name_at, numbered};
 
+use crate::bytes::Bytes;
 use crate::fault::{BsonFault, ReadError};
 use crate::kind::Kind;
 use crate::text::Str;
@@ -229,4 +230,60 @@ pub(crate) fn int64_of(bytes: &[u8]) -> Result<(Value, &[u8]), ReadError>
         return Err(ReadError::Fault(BsonFault::BadLength));
     };
     Ok((Value::Int64(i64::from_le_bytes(*front)), rest))
+}
+
+/// A little-endian int64 as a time, and the bytes behind it.
+pub(crate) fn date_of(bytes: &[u8]) -> Result<(Value, &[u8]), ReadError>
+    ensures { Gives (λ x. (tree x.0, x.1.now)) result (signed_at w64 date bytes.now) }
+{
+    let Some((front, rest)) = bytes.split_first_chunk::<8>() else {
+        return Err(ReadError::Fault(BsonFault::BadLength));
+    };
+    Ok((Value::Date(i64::from_le_bytes(*front)), rest))
+}
+
+/// A little-endian timestamp, and the bytes behind it.
+pub(crate) fn timestamp_of(bytes: &[u8]) -> Result<(Value, &[u8]), ReadError>
+    ensures { Gives (λ x. (tree x.0, x.1.now)) result (first_bytes 8 (λ front. timestamp (from_le_bytes w64 front)) bytes.now) }
+{
+    let Some((front, rest)) = bytes.split_first_chunk::<8>() else {
+        return Err(ReadError::Fault(BsonFault::BadLength));
+    };
+    Ok((Value::Timestamp(u64::from_le_bytes(*front)), rest))
+}
+
+/// An ObjectId, and the bytes behind it.
+pub(crate) fn object_id_of(bytes: &[u8]) -> Result<(Value, &[u8]), ReadError>
+    ensures { Gives (λ x. (tree x.0, x.1.now)) result (first_bytes 12 object_id bytes.now) }
+{
+    let Some((front, rest)) = bytes.split_first_chunk::<12>() else {
+        return Err(ReadError::Fault(BsonFault::BadLength));
+    };
+    Ok((Value::ObjectId(*front), rest))
+}
+
+/// A binary, and the bytes behind it: a count of its bytes, the subtype, the bytes.
+#[tactic(auto, unfolding(crate::specs::Reading::binary_at))]
+pub(crate) fn binary_of(alloc: Global, bytes: &[u8]) -> Result<(Value, &[u8]), ReadError>
+    ensures { Gives (λ x. (tree x.0, x.1.now)) result (binary_at bytes.now) }
+{
+    let Some((front, behind)) = bytes.split_first_chunk::<4>() else {
+        return Err(ReadError::Fault(BsonFault::BadLength));
+    };
+    let Some((subtype, counted)) = behind.split_first() else {
+        return Err(ReadError::Fault(BsonFault::BadLength));
+    };
+    let count = u32::from_le_bytes(*front);
+    if 0x7FFF_FFFF < count || counted.len() < count as usize {
+        return Err(ReadError::Fault(BsonFault::BadLength));
+    }
+    let (own, rest) = counted.split_at(count as usize);
+    let bytes = Bytes::of(Vec::from_slice(alloc, own)?);
+    Ok((
+        Value::Binary {
+            subtype: *subtype,
+            bytes,
+        },
+        rest,
+    ))
 }

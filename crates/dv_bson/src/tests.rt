@@ -3,6 +3,7 @@
 mod shown;
 mod vectors;
 
+use self::vectors::VECTORS;
 use crate::{BsonFault, Bytes, Document, List, Str, Value, read_document, size, write_document};
 use std::alloc::Global;
 use std::test::Fail;
@@ -21,6 +22,14 @@ fn agrees(alloc: Global, bytes: &[u8], text: &str) -> Result<bool, Fail> {
             && written.as_slice() == bytes
             && measured == Some(bytes.len()),
     )
+}
+
+#[test]
+fn agrees_with_another_library(rt: HostRuntime) -> Result<(), Fail> {
+    for (bytes, text) in VECTORS {
+        assert!(rt; agrees(rt.alloc(), bytes, text)?, "{text}");
+    }
+    Ok(())
 }
 
 /// A document of the numbers from 0 on, each under a name of its own.

@@ -9,6 +9,7 @@ ghost use Rattle.dv_bson.specs.Spelling.{kind_of};
 ghost use Rattle.dv_bson.specs.View.{tree, field_of};
 
 use crate::NoMemory;
+use crate::bytes::Bytes;
 use crate::fault::BsonFault;
 use crate::kind::Kind;
 use crate::name::Name;
@@ -35,8 +36,27 @@ pub enum Value {
     Doc(Document),
     /// "Array", of values of any types.
     Array(List),
+    /// "Binary data": bytes of a use that the subtype names, kept as they are whatever it is.
+    Binary {
+        /// "Binary subtype".
+        subtype: u8,
+        /// The bytes, without the subtype.
+        bytes: Bytes,
+    },
+    /// "ObjectId".
+    ObjectId([u8; 12]),
     /// "Boolean".
     Bool(bool),
+    /// "UTC datetime", in milliseconds since the Unix epoch.
+    Date(i64),
+    /// "Null value".
+    Null,
+    /// "Timestamp": an unsigned 64-bit integer, whose lower half counts inside the second that the upper half is.
+    Timestamp(u64),
+    /// "Min key", which comes before all other values.
+    MinKey,
+    /// "Max key", which comes behind all other values.
+    MaxKey,
 }
 
 /// A field of a document.
@@ -125,7 +145,14 @@ impl Value {
             Value::Text(_) => Kind::Text,
             Value::Doc(_) => Kind::Doc,
             Value::Array(_) => Kind::Array,
+            Value::Binary { .. } => Kind::Binary,
+            Value::ObjectId(_) => Kind::ObjectId,
             Value::Bool(_) => Kind::Bool,
+            Value::Date(_) => Kind::Date,
+            Value::Null => Kind::Null,
+            Value::Timestamp(_) => Kind::Timestamp,
+            Value::MinKey => Kind::MinKey,
+            Value::MaxKey => Kind::MaxKey,
         }
     }
 
@@ -140,7 +167,17 @@ impl Value {
             Value::Text(text) => Ok(Value::Text(text.try_clone()?)),
             Value::Doc(document) => Ok(Value::Doc(document.try_clone()?)),
             Value::Array(list) => Ok(Value::Array(list.try_clone()?)),
+            Value::Binary { subtype, bytes } => Ok(Value::Binary {
+                subtype: *subtype,
+                bytes: bytes.try_clone()?,
+            }),
+            Value::ObjectId(id) => Ok(Value::ObjectId(*id)),
             Value::Bool(truth) => Ok(Value::Bool(*truth)),
+            Value::Date(milliseconds) => Ok(Value::Date(*milliseconds)),
+            Value::Null => Ok(Value::Null),
+            Value::Timestamp(time) => Ok(Value::Timestamp(*time)),
+            Value::MinKey => Ok(Value::MinKey),
+            Value::MaxKey => Ok(Value::MaxKey),
         }
     }
 }

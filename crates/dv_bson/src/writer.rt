@@ -3,7 +3,7 @@
 ghost use Rattle.std.specs.Prelude.{◌≡◌, ◌+◌, ◌<◌, ◌≤◌, ◌↔◌, ◌⊎◌, [], ◌∷◌, ◌++◌, length, take, drop, IfOk, OnOk, IfErr, OnErr, IsErrOf};
 ghost use Rattle.dv_bson.specs.Tree.{fields_of, elements_of};
 ghost use Rattle.dv_bson.specs.Tree as trees;
-ghost use Rattle.dv_bson.specs.Spelling.{payload, spelling, framed, counted, element_spelling, kind_of, Spells};
+ghost use Rattle.dv_bson.specs.Spelling.{payload, spelling, framed, counted, tagged, element_spelling, kind_of, Spells};
 ghost use Rattle.dv_bson.specs.View.{tree};
 
 use crate::NoMemory;
@@ -66,6 +66,16 @@ fn put_text(text: &str, out: &mut Vec<u8>) -> Result<(), NoMemory>
     Ok(())
 }
 
+fn put_binary(subtype: u8, bytes: &[u8], out: &mut Vec<u8>) -> Result<(), NoMemory>
+    requires { length (tagged subtype bytes.now) ≤ 2147483647 }
+    ensures ok { OnOk result (out.new.items ≡ out.old.items ++ tagged subtype bytes.now) }
+    ensures front { take (length out.old.items) out.new.items ≡ out.old.items }
+{
+    out.extend_from_slice(&(bytes.len() as u32).to_le_bytes())?;
+    out.push(subtype)?;
+    out.extend_from_slice(bytes)
+}
+
 #[cycle(writer)]
 fn put_value(value: &Value, out: &mut Vec<u8>) -> Result<(), NoMemory>
     requires { length (payload (tree value.now)) ≤ 2147483647 }
@@ -78,10 +88,17 @@ fn put_value(value: &Value, out: &mut Vec<u8>) -> Result<(), NoMemory>
         Value::Text(text) => put_text(text.as_str(), out),
         Value::Doc(document) => put_document(document, out),
         Value::Array(list) => put_list(list, out),
+        Value::Binary { subtype, bytes } => put_binary(*subtype, bytes.as_slice(), out),
+        Value::ObjectId(id) => out.extend_from_slice(id),
         Value::Bool(boolean) => {
             out.push(*boolean as u8)?;
             Ok(())
         }
+        Value::Date(milliseconds) => out.extend_from_slice(&milliseconds.to_le_bytes()),
+        Value::Timestamp(time) => out.extend_from_slice(&time.to_le_bytes()),
+        Value::Null => Ok(()),
+        Value::MinKey => Ok(()),
+        Value::MaxKey => Ok(()),
     }
 }
 

@@ -68,8 +68,9 @@ fn is_refused(rt: &HostRuntime, bytes: &[u8], want: BsonFault) -> bool {
 #[test]
 fn tells_the_first_fault(rt: HostRuntime) {
     let refused_at_4 = BsonFault::RefusedType { byte: 1, at: 4 };
-    let refused_inside = BsonFault::RefusedType { byte: 0x7f, at: 15 };
-    let cases: [(&[u8], BsonFault); 28] = [
+    let refused_inside = BsonFault::RefusedType { byte: 0x13, at: 15 };
+    let refused_behind = BsonFault::RefusedType { byte: 1, at: 12 };
+    let cases: [(&[u8], BsonFault); 36] = [
         // The length of the outermost document.
         (b"", BsonFault::Truncated),
         (b"\x05\0\0", BsonFault::Truncated),
@@ -86,11 +87,11 @@ fn tells_the_first_fault(rt: HostRuntime) {
         // Types and names.
         (b"\x08\0\0\0\x01a\0\0", refused_at_4),
         (
-            b"\x10\0\0\0\x03d\0\x08\0\0\0\x7fa\0\0\0",
-            BsonFault::RefusedType { byte: 0x7f, at: 11 },
+            b"\x10\0\0\0\x03d\0\x08\0\0\0\x13a\0\0\0",
+            BsonFault::RefusedType { byte: 0x13, at: 11 },
         ),
         (
-            b"\x14\0\0\0\x08b\0\x01\x03d\0\x08\0\0\0\x7fa\0\0\0",
+            b"\x14\0\0\0\x08b\0\x01\x03d\0\x08\0\0\0\x13a\0\0\0",
             refused_inside,
         ),
         (b"\x07\0\0\0\x08a\0", BsonFault::BadLength),
@@ -112,6 +113,21 @@ fn tells_the_first_fault(rt: HostRuntime) {
             b"\x0e\0\0\0\x02a\0\x02\0\0\0\xff\x01\0",
             BsonFault::BadLength,
         ),
+        // A binary's count: negative, too large, and by one too small for the document; and no subtype.
+        (
+            b"\x0d\0\0\0\x05a\0\xff\xff\xff\xff\0\0",
+            BsonFault::BadLength,
+        ),
+        (b"\x0d\0\0\0\x05a\0\x01\0\0\0\0\0", BsonFault::BadLength),
+        (b"\x0e\0\0\0\x05a\0\0\0\0\0\0\x01\0", refused_behind),
+        (b"\x0c\0\0\0\x05a\0\0\0\0\0\0", BsonFault::BadLength),
+        (
+            b"\x13\0\0\0\x07a\0\0\0\0\0\0\0\0\0\0\0\0\0",
+            BsonFault::BadLength,
+        ),
+        (b"\x0f\0\0\0\x09a\0\x01\0\0\0\0\0\0\0", BsonFault::BadLength),
+        (b"\x0f\0\0\0\x11a\0\x01\0\0\0\0\0\0\0", BsonFault::BadLength),
+        (b"\x09\0\0\0\x0aa\0\0\0", BsonFault::BadLength),
         // Arrays.
         (
             b"\x11\0\0\0\x04a\0\x09\0\0\0\x08\x31\0\x01\0\0",
@@ -121,6 +137,18 @@ fn tells_the_first_fault(rt: HostRuntime) {
     ];
     for (bytes, want) in cases {
         assert!(rt; is_refused(&rt, bytes, want), "{want} of {bytes:?}");
+    }
+}
+
+/// The type bytes that BSON 1.1 has, but for those of types that are refused.
+const TYPES: &[u8] = b"\x02\x03\x04\x05\x07\x08\x09\x0a\x10\x11\x12\x7f\xff";
+
+#[test]
+fn refuses_every_other_type(rt: HostRuntime) {
+    for byte in 1..=255 {
+        let document = [8, 0, 0, 0, byte, b'a', 0, 0];
+        let fault = BsonFault::RefusedType { byte, at: 4 };
+        assert_eq!(rt; is_refused(&rt, &document, fault), !TYPES.contains(&byte));
     }
 }
 

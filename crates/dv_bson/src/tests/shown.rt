@@ -1,7 +1,15 @@
-//! Documents as text: plain numbers are int32, L marks int64, texts stand in single quotes.
+//! Documents as text: plain numbers are int32, L marks int64, texts stand in single quotes, bytes behind an x.
 
 use crate::{Document, List, Value};
 use std::alloc::AllocError;
+
+fn show_bytes(out: &mut String, bytes: &[u8]) -> Result<(), AllocError> {
+    out.push_str("x")?;
+    for byte in bytes {
+        write!(out, "{byte:02x}")?;
+    }
+    Ok(())
+}
 
 #[cycle(shown)]
 fn show_value(out: &mut String, value: &Value) -> Result<(), AllocError> {
@@ -11,7 +19,20 @@ fn show_value(out: &mut String, value: &Value) -> Result<(), AllocError> {
         Value::Text(text) => write!(out, "'{}'", text.as_str()),
         Value::Doc(document) => show(out, document),
         Value::Array(list) => show_list(out, list),
+        Value::Binary { subtype, bytes } => {
+            write!(out, "binary {subtype} ")?;
+            show_bytes(out, bytes.as_slice())
+        }
+        Value::ObjectId(id) => {
+            out.push_str("id ")?;
+            show_bytes(out, id)
+        }
         Value::Bool(truth) => write!(out, "{truth}"),
+        Value::Date(milliseconds) => write!(out, "date {milliseconds}"),
+        Value::Null => out.push_str("null"),
+        Value::Timestamp(time) => write!(out, "timestamp {time}"),
+        Value::MinKey => out.push_str("least"),
+        Value::MaxKey => out.push_str("greatest"),
     }
 }
 

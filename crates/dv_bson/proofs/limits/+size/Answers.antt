@@ -85,5 +85,29 @@ pub value_size-returns-in-Bool-clause-size : goal.value_size-returns-in-Bool-cla
 unfolding payload
 value_size-returns-in-Bool-clause-size t c = rw c.in-Bool.is (omega arith, refl)
 
+pub value_size-returns-in-Date-clause-size : goal.value_size-returns-in-Date-clause-size
+unfolding payload
+value_size-returns-in-Date-clause-size t c = rw c.in-Date.is (omega arith, refl)
+
+pub value_size-returns-in-Timestamp-clause-size : goal.value_size-returns-in-Timestamp-clause-size
+unfolding payload
+value_size-returns-in-Timestamp-clause-size t c = rw c.in-Timestamp.is (omega arith, refl)
+
+pub value_size-returns-in-Null-clause-size : goal.value_size-returns-in-Null-clause-size
+unfolding payload
+value_size-returns-in-Null-clause-size t c = rw c.in-Null.is (omega arith, refl)
+
+pub value_size-returns-in-MinKey-clause-size : goal.value_size-returns-in-MinKey-clause-size
+unfolding payload
+value_size-returns-in-MinKey-clause-size t c = rw c.in-MinKey.is (omega arith, refl)
+
+pub value_size-returns-in-MaxKey-clause-size : goal.value_size-returns-in-MaxKey-clause-size
+unfolding payload
+value_size-returns-in-MaxKey-clause-size t c = rw c.in-MaxKey.is (omega arith, refl)
+
+pub value_size-returns-in-ObjectId-clause-size : goal.value_size-returns-in-ObjectId-clause-size
+unfolding payload
+value_size-returns-in-ObjectId-clause-size t c = rw c.in-ObjectId.is (omega (arith, c.object_id_size.ensures.size, c.object_id_size.ensures.valid.0), c.object_id_size.ensures.size)
+
 pub value_size-returns-in-Text-clause-size : goal.value_size-returns-in-Text-clause-size
 value_size-returns-in-Text-clause-size t c = rw (c.in-Text.is, length-string c.in-Text.text, ← c.as_str.ensures) c.sum.ensures

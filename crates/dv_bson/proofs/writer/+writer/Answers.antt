@@ -1,4 +1,4 @@
-use Rattle.std.proofs.Common.{◌≡◌, ◌+◌, ◌++◌, ◌∷◌, [], List, ℕ, take, drop, refl, ap, sym, ◌∙◌, arith, rules}
+use Rattle.std.proofs.Common.{append-nil, ◌≡◌, ◌+◌, ◌++◌, ◌∷◌, [], List, ℕ, take, drop, refl, ap, sym, ◌∙◌, arith, rules}
 use Rattle.std.specs.Prelude.{FitsSigned}
 use Rattle.std.specs.Int.{w32, w64}
 use Rattle.std.proofs.Math.Seq.{take-length}
@@ -8,7 +8,7 @@ use Rattle.dv_bson.specs.Spelling.{payload, type_byte, kind_of, framed, fields_s
 use Rattle.dv_bson.specs.View.{tree, field_of}
 use Rattle.dv_bson.specs.Weight.{field_weighs_less, value_weighs_less}
 use Rattle.dv_bson.proofs.Items.{slice_get_seen, drop_seen}
-use Rattle.dv_bson.proofs.Payloads.{payload-int32, payload-int64, payload-string, payload-document, payload-array, payload-boolean, length-document, length-array}
+use Rattle.dv_bson.proofs.Payloads.{payload-int32, payload-int64, payload-string, payload-document, payload-array, payload-binary, payload-object_id, payload-boolean, payload-date, payload-null, payload-timestamp, payload-min_key, payload-max_key, length-document, length-array}
 use Rattle.dv_bson.proofs.Rest.{fields_spelling-drop, elements_spelling-drop, fields_spelling-nil, elements_spelling-nil, payload-le-fields, payload-le-elements}
 use Rattle.dv_bson.proofs.Written.{front_more, front_append, appended, left_more, left_none, length-written, append-element, framed_behind}
 use Rattle.dv_bson.proofs.writer.+writer.Goals as goal
@@ -116,3 +116,34 @@ put_value-returns-in-Text-clause-ok t c = rw (c.in-Text.is, payload-string c.in-
 pub put_value-returns-in_ok-push-in-Bool-clause-ok :
     goal.put_value-returns-in_ok-push-in-Bool-clause-ok
 put_value-returns-in_ok-push-in-Bool-clause-ok t c = rw (c.in-Bool.is, payload-boolean c.in-Bool.boolean) c.in_ok-push-in-Bool.ensures.items
+
+pub put_value-put_binary-requires : goal.put_value-put_binary-requires
+put_value-put_binary-requires t c = rw (c.as_slice.ensures, ← payload-binary c.in-Binary.subtype c.in-Binary.bytes) (rw c.in-Binary.is at c.requires)
+
+pub put_value-returns-in-Binary-clause-ok : goal.put_value-returns-in-Binary-clause-ok
+put_value-returns-in-Binary-clause-ok t c = rw (c.in-Binary.is, payload-binary c.in-Binary.subtype c.in-Binary.bytes, ← c.as_slice.ensures) c.put_binary.ensures.ok
+
+pub put_value-returns-in-ObjectId-clause-ok : goal.put_value-returns-in-ObjectId-clause-ok
+put_value-returns-in-ObjectId-clause-ok t c =
+    rw c.in-ObjectId.is (appended c.extend_from_slice-in-ObjectId.result c.args.out.now.items c.extend_from_slice-in-ObjectId.new.self.items c.in-ObjectId.id _
+    c.extend_from_slice-in-ObjectId.ensures.items (payload-object_id c.in-ObjectId.id))
+
+pub put_value-returns-in-Date-clause-ok : goal.put_value-returns-in-Date-clause-ok
+put_value-returns-in-Date-clause-ok t c =
+    let fits : FitsSigned w64 c.in-Date.milliseconds = search rules in
+    rw c.in-Date.is (appended c.extend_from_slice-in-Date.result c.args.out.now.items c.extend_from_slice-in-Date.new.self.items c.to_le_bytes-in-Date.result _
+    c.extend_from_slice-in-Date.ensures.items (payload-date c.in-Date.milliseconds c.to_le_bytes-in-Date.result fits c.to_le_bytes-in-Date.ensures))
+
+pub put_value-returns-in-Timestamp-clause-ok : goal.put_value-returns-in-Timestamp-clause-ok
+put_value-returns-in-Timestamp-clause-ok t c =
+    rw c.in-Timestamp.is (appended c.extend_from_slice-in-Timestamp.result c.args.out.now.items c.extend_from_slice-in-Timestamp.new.self.items c.to_le_bytes-in-Timestamp.result _
+    c.extend_from_slice-in-Timestamp.ensures.items (c.to_le_bytes-in-Timestamp.ensures ∙ payload-timestamp c.in-Timestamp.time))
+
+pub put_value-returns-in-Null-clause-ok : goal.put_value-returns-in-Null-clause-ok
+put_value-returns-in-Null-clause-ok t c = rw (c.in-Null.is, payload-null) (sym (append-nil c.args.out.now.items))
+
+pub put_value-returns-in-MinKey-clause-ok : goal.put_value-returns-in-MinKey-clause-ok
+put_value-returns-in-MinKey-clause-ok t c = rw (c.in-MinKey.is, payload-min_key) (sym (append-nil c.args.out.now.items))
+
+pub put_value-returns-in-MaxKey-clause-ok : goal.put_value-returns-in-MaxKey-clause-ok
+put_value-returns-in-MaxKey-clause-ok t c = rw (c.in-MaxKey.is, payload-max_key) (sym (append-nil c.args.out.now.items))
