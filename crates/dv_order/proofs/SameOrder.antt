@@ -1,5 +1,5 @@
 -- The order does not see the width of integers, and tells apart what differs in anything else.
-use Rattle.std.specs.Prelude.{◌≡◌, ◌↔◌, Bool, true, false, Option, None, Some, ◌<◌, refl}
+use Rattle.std.specs.Prelude.{◌≡◌, ◌↔◌, Bool, true, false, Option, None, Some, length, ◌<◌, refl}
 use Rattle.std.proofs.Common.{sym, ap, ◌∙◌}
 use Rattle.std.specs.declared.cmp.Ordering.{Ordering}
 use Rattle.std.specs.declared.cmp.Ordering.TheVariants.{Less, Equal, Greater}
@@ -7,7 +7,7 @@ use Rattle.std.specs.Ordering.{ordering_then, nat_cmp, bool_cmp}
 use Rattle.std.specs.Cmp.{tied_itself, nat_cmp_is}
 use Rattle.std.specs.Cmp.Lexicographic.{slice_cmp}
 use Rattle.std.specs.FinMap.{nat_cmp-IsAntisymmetric, int_cmp-IsAntisymmetric, slice_cmp-IsAntisymmetric}
-use Rattle.dv_bson.specs.Tree.{Tree, int32, int64, string, document, array, boolean, Fields, no_fields, field, Elements, no_elements, element}
+use Rattle.dv_bson.specs.Tree.{Tree, int32, int64, string, document, array, boolean, binary, object_id, date, null, timestamp, min_key, max_key, Fields, no_fields, field, Elements, no_elements, element}
 use Rattle.dv_order.specs.Order.{canon, fields_canon, elements_canon, class, fields_order, elements_order, order}
 use Rattle.dv_order.specs.Key.{value, key_order, key_at}
 use Rattle.dv_order.specs.KeyLaws.{no_class, no_class_back}
@@ -27,6 +27,13 @@ mutual
   order_of_canon (document fs) (document gs) = fields_order_of_canon fs gs
   order_of_canon (array vs) (array ws) = elements_order_of_canon vs ws
   order_of_canon (boolean a) (boolean b) = refl
+  order_of_canon (binary s bs) (binary t cs) = refl
+  order_of_canon (object_id a) (object_id b) = refl
+  order_of_canon (date m) (date n) = refl
+  order_of_canon (timestamp m) (timestamp n) = refl
+  order_of_canon null null = refl
+  order_of_canon min_key min_key = refl
+  order_of_canon max_key max_key = refl
   order_of_canon v w = refl
 
   fields_order_of_canon : (fs gs : Fields) → fields_order (fields_canon fs) (fields_canon gs) ≡ fields_order fs gs
@@ -63,6 +70,18 @@ mutual
   canon_same (document fs) (document gs) e = ap document (fields_canon_same fs gs e)
   canon_same (array vs) (array ws) e = ap array (elements_canon_same vs ws e)
   canon_same (boolean a) (boolean b) e = ap boolean (same_bool a b e)
+  canon_same (binary s bs) (binary t cs) e =
+      let behind = both_Equal (nat_cmp (length bs) (length cs)) _ e in
+      let parts = both_Equal (nat_cmp s t) _ behind.1 in
+      let subtype = nat_cmp-IsAntisymmetric s t parts.0 in
+      let bytes = slice_cmp-IsAntisymmetric nat_cmp-IsAntisymmetric bs cs parts.1 in
+      λ i. binary (subtype i) (bytes i)
+  canon_same (object_id a) (object_id b) e = ap object_id (slice_cmp-IsAntisymmetric nat_cmp-IsAntisymmetric a b e)
+  canon_same (date m) (date n) e = ap date (int_cmp-IsAntisymmetric m n e)
+  canon_same (timestamp m) (timestamp n) e = ap timestamp (nat_cmp-IsAntisymmetric m n e)
+  canon_same null null e = refl
+  canon_same min_key min_key e = refl
+  canon_same max_key max_key e = refl
   canon_same v w e = cc
 
   fields_canon_same : (fs gs : Fields) → fields_order fs gs ≡ Equal → fields_canon fs ≡ fields_canon gs

@@ -1,11 +1,11 @@
 -- The order in which BSON values stand, as a database sorts them and keeps them under an index:
 -- first by the class of their type, and within a class by what they say (MongoDB manual, "Comparison/Sort Order").
-use Rattle.std.specs.Prelude.{◌≡◌, ℕ}
+use Rattle.std.specs.Prelude.{◌≡◌, ℕ, length}
 use Rattle.std.specs.declared.cmp.Ordering.{Ordering}
 use Rattle.std.specs.declared.cmp.Ordering.TheVariants.{Less, Equal, Greater}
 use Rattle.std.specs.Ordering.{ordering_then, nat_cmp, int_cmp, bool_cmp}
 use Rattle.std.specs.Cmp.Lexicographic.{slice_cmp}
-use Rattle.dv_bson.specs.Tree.{Tree, int32, int64, string, document, array, boolean, Fields, no_fields, field, Elements, no_elements, element, Field}
+use Rattle.dv_bson.specs.Tree.{Tree, int32, int64, string, document, array, boolean, binary, object_id, date, null, timestamp, min_key, max_key, Fields, no_fields, field, Elements, no_elements, element, Field}
 
 -- the value with the width of its integers forgotten, at every depth
 abbrev mutual
@@ -16,6 +16,13 @@ abbrev mutual
   canon (document fs) = document (fields_canon fs)
   canon (array vs) = array (elements_canon vs)
   canon (boolean b) = boolean b
+  canon (binary subtype bytes) = binary subtype bytes
+  canon (object_id id) = object_id id
+  canon (date n) = date n
+  canon null = null
+  canon (timestamp n) = timestamp n
+  canon min_key = min_key
+  canon max_key = max_key
 
   pub fields_canon : Fields → Fields
   fields_canon no_fields = no_fields
@@ -28,12 +35,19 @@ abbrev mutual
 -- where the type of a value stands among: 0 MinKey, 1 no element, 2 null, 3 numbers, 4 strings, 5 documents, 6 arrays,
 -- 7 binary, 8 ObjectId, 9 booleans, 10 dates, 11 timestamps, 12 MaxKey
 abbrev pub class : Tree → ℕ
+class min_key = 0
+class null = 2
 class (int32 n) = 3
 class (int64 n) = 3
 class (string s) = 4
 class (document fs) = 5
 class (array vs) = 6
+class (binary subtype bytes) = 7
+class (object_id id) = 8
 class (boolean b) = 9
+class (date n) = 10
+class (timestamp n) = 11
+class max_key = 12
 
 -- the order of two values; of documents, pair by pair as written, and of arrays, element by element
 abbrev mutual
@@ -47,8 +61,17 @@ abbrev mutual
   order (string s) (string t) = slice_cmp nat_cmp s t
   order (document fs) (document gs) = fields_order fs gs
   order (array vs) (array ws) = elements_order vs ws
+  -- binary data by its length, then by the subtype, then by the bytes
+  order (binary s bs) (binary t cs) = ordering_then (nat_cmp (length bs) (length cs)) (ordering_then (nat_cmp s t) (slice_cmp nat_cmp bs cs))
+  order (object_id a) (object_id b) = slice_cmp nat_cmp a b
   -- false before true
   order (boolean a) (boolean b) = bool_cmp a b
+  order (date m) (date n) = int_cmp m n
+  order (timestamp m) (timestamp n) = nat_cmp m n
+  -- there is one of each
+  order null null = Equal
+  order min_key min_key = Equal
+  order max_key max_key = Equal
   -- Two values of different classes stand as these do. Two of one class have their line above: without it they would be
   -- equal here, and the law that equal values are the same but for widths would fail.
   order v w = nat_cmp (class v) (class w)

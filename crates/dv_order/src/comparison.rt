@@ -1,7 +1,7 @@
 //! The order of two values.
 
 ghost use Rattle.std.specs.Prelude.{◌≡◌};
-ghost use Rattle.dv_bson.specs.Tree.{fields_of, elements_of};
+ghost use Rattle.dv_bson.specs.Tree.{binary, fields_of, elements_of};
 ghost use Rattle.dv_bson.specs.View.{tree};
 ghost use Rattle.dv_order.specs.Order.{class, field_order, fields_order, elements_order, order};
 
@@ -10,11 +10,12 @@ use std::cmp::Ordering;
 
 /// Whether `a` stands before `b` (`Less`), beside it (`Equal`) or after it (`Greater`).
 ///
-/// The classes of the two types decide first, from low to high: numbers, strings, documents, arrays, booleans.
-/// Within a class integers stand by their number, whatever their width, strings by their bytes, and `false` before
-/// `true`. Documents stand by their fields in written order (the class of the value, then the name, then the value) and
-/// arrays by their elements; where one ends first, it stands before the other. Takes no memory, and time at most linear
-/// in the smaller of the two.
+/// The classes of the two types decide first, from low to high: MinKey, null, numbers, strings, documents, arrays,
+/// binary data, ObjectIds, booleans, datetimes, timestamps, MaxKey. Within a class integers stand by their number,
+/// whatever their width, strings and ObjectIds by their bytes, binary data by its length, then its subtype, then its
+/// bytes, `false` before `true`, datetimes and timestamps by their number. Documents stand by their fields in written
+/// order (the class of the value, then the name, then the value) and arrays by their elements; where one ends first, it
+/// stands before the other. Takes no memory, and time at most linear in the smaller of the two.
 #[cycle(compare)]
 pub fn compare(a: &Value, b: &Value) -> Ordering
     ensures { result ≡ order (tree a.now) (tree b.now) }
@@ -27,8 +28,34 @@ pub fn compare(a: &Value, b: &Value) -> Ordering
         (Value::Text(a), Value::Text(b)) => a.as_str().cmp(b.as_str()),
         (Value::Doc(a), Value::Doc(b)) => compare_documents(a, b),
         (Value::Array(a), Value::Array(b)) => compare_lists(a, b),
+        (
+            Value::Binary { subtype, bytes },
+            Value::Binary {
+                subtype: other_subtype,
+                bytes: other_bytes,
+            },
+        ) => compare_binaries(
+            *subtype,
+            bytes.as_slice(),
+            *other_subtype,
+            other_bytes.as_slice(),
+        ),
+        (Value::ObjectId(a), Value::ObjectId(b)) => a.cmp(b),
         (Value::Bool(a), Value::Bool(b)) => a.cmp(b),
+        (Value::Date(a), Value::Date(b)) => a.cmp(b),
+        (Value::Timestamp(a), Value::Timestamp(b)) => a.cmp(b),
         _ => class_of(a).cmp(&class_of(b)),
+    }
+}
+
+/// The order of two values of binary data: the lengths decide, then the subtypes, then the bytes.
+fn compare_binaries(subtype: u8, bytes: &[u8], other_subtype: u8, other_bytes: &[u8]) -> Ordering
+    ensures { result ≡ order (binary subtype bytes.now) (binary other_subtype other_bytes.now) }
+{
+    let lengths = bytes.len().cmp(&other_bytes.len());
+    match lengths.then(subtype.cmp(&other_subtype)) {
+        Ordering::Equal => bytes.cmp(other_bytes),
+        unequal => unequal,
     }
 }
 
@@ -80,16 +107,23 @@ fn compare_lists(a: &List, b: &List) -> Ordering
     xs.len().cmp(&ys.len())
 }
 
-/// The place of the value's class among the classes of all BSON types, least first. Places are left for types that are
-/// not there yet.
+/// The place of the value's class among the classes of all BSON types, least first. No value has 1, which is left for
+/// the key of what is no element.
 pub(crate) fn class_of(value: &Value) -> u8
     ensures { result ≡ class (tree value.now) }
 {
     match value {
+        Value::MinKey => 0,
+        Value::Null => 2,
         Value::Int32(_) | Value::Int64(_) => 3,
         Value::Text(_) => 4,
         Value::Doc(_) => 5,
         Value::Array(_) => 6,
+        Value::Binary { .. } => 7,
+        Value::ObjectId(_) => 8,
         Value::Bool(_) => 9,
+        Value::Date(_) => 10,
+        Value::Timestamp(_) => 11,
+        Value::MaxKey => 12,
     }
 }

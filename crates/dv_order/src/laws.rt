@@ -3,7 +3,7 @@
 ghost use Rattle.std.specs.Prelude.{◌≡◌, ◌↔◌, ◌<◌, ℕ, ℤ, pos, negsuc, Bool, false, true, List, [], ◌∷◌, codes};
 ghost use Rattle.std.specs.declared.cmp.Ordering.TheVariants.{Less, Equal};
 ghost use Rattle.std.specs.Ordering.{ordering_reverse, is_ne};
-ghost use Rattle.dv_bson.specs.Tree.{Tree, int32, int64, string, document, array, boolean, Field, fields_of, Fields, Elements, elements_of};
+ghost use Rattle.dv_bson.specs.Tree.{Tree, int32, int64, string, document, array, boolean, binary, object_id, date, null, timestamp, min_key, max_key, fields_of, Fields, Elements, elements_of};
 ghost use Rattle.dv_order.specs.Order.{canon, class, order, below};
 ghost use Rattle.dv_order.specs.Key.{key_order, no_element, value};
 
@@ -45,12 +45,21 @@ pub fn no_element_stands_beside_no_value()
 
 /// The classes from low to high, each beside its neighbour.
 pub fn classes_stand_in_a_row()
-    ensures numbers_after_no_element { (n : ℤ) → key_order no_element (value (int64 n)) ≡ Less }
+    ensures no_element_after_min_key { key_order (value min_key) no_element ≡ Less }
+    ensures null_after_no_element { key_order no_element (value null) ≡ Less }
+    ensures null_after_min_key { below min_key null }
+    ensures int32s_after_null { (n : ℤ) → below null (int32 n) }
+    ensures int64s_after_null { (n : ℤ) → below null (int64 n) }
     ensures strings_after_int32s { (n : ℤ) (s : List ℕ) → below (int32 n) (string s) }
     ensures strings_after_int64s { (n : ℤ) (s : List ℕ) → below (int64 n) (string s) }
     ensures documents_after_strings { (s : List ℕ) (fs : Fields) → below (string s) (document fs) }
     ensures arrays_after_documents { (fs : Fields) (vs : Elements) → below (document fs) (array vs) }
-    ensures booleans_after_arrays { (vs : Elements) (b : Bool) → below (array vs) (boolean b) }
+    ensures binaries_after_arrays { (vs : Elements) (subtype : ℕ) (bytes : List ℕ) → below (array vs) (binary subtype bytes) }
+    ensures object_ids_after_binaries { (subtype : ℕ) (bytes id : List ℕ) → below (binary subtype bytes) (object_id id) }
+    ensures booleans_after_object_ids { (id : List ℕ) (b : Bool) → below (object_id id) (boolean b) }
+    ensures dates_after_booleans { (b : Bool) (n : ℤ) → below (boolean b) (date n) }
+    ensures timestamps_after_dates { (m : ℤ) (n : ℕ) → below (date m) (timestamp n) }
+    ensures max_key_after_timestamps { (n : ℕ) → below (timestamp n) max_key }
 {}
 
 /// Examples of two values of one class, the lower one first.
@@ -65,5 +74,14 @@ pub fn examples_within_a_class()
     ensures fewer_fields { below (document (fields_of [])) (document (fields_of ((codes "a", int32 (pos 1)) ∷ []))) }
     ensures an_element_before_the_number_of_elements { below (array (elements_of (int32 (pos 1) ∷ int32 (pos 1) ∷ []))) (array (elements_of (int64 (pos 2) ∷ []))) }
     ensures fewer_elements { below (array (elements_of (int32 (pos 1) ∷ []))) (array (elements_of (int64 (pos 1) ∷ int32 (pos 1) ∷ []))) }
+    ensures fewer_bytes { below (binary 9 (255 ∷ [])) (binary 0 (0 ∷ 0 ∷ [])) }
+    ensures a_subtype_before_bytes { below (binary 0 (255 ∷ [])) (binary 1 (0 ∷ [])) }
+    ensures bytes_of_one_subtype { below (binary 0 (1 ∷ 2 ∷ [])) (binary 0 (2 ∷ 1 ∷ [])) }
+    ensures object_ids_by_bytes { below (object_id (0 ∷ 255 ∷ [])) (object_id (1 ∷ 0 ∷ [])) }
     ensures false_before_true { below (boolean false) (boolean true) }
+    ensures dates_before_1970 { below (date (negsuc 0)) (date (pos 0)) }
+    ensures timestamps_without_sign { below (timestamp 1) (timestamp 18446744073709551615) }
+    ensures one_null { order null null ≡ Equal }
+    ensures one_min_key { order min_key min_key ≡ Equal }
+    ensures one_max_key { order max_key max_key ≡ Equal }
 {}
