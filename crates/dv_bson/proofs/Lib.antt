@@ -16,6 +16,7 @@ pub mod Shorter
 pub mod Elements
 pub mod Loop
 pub mod Items
+pub mod Zipped
 pub mod Payloads
 pub mod Rest
 pub mod Written
