@@ -20,3 +20,4 @@ pub mod Zipped
 pub mod Payloads
 pub mod Rest
 pub mod Written
+pub mod Moved
