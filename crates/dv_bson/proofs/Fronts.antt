@@ -57,20 +57,6 @@ no_text false bytes e refuted = refl
 pub is_utf8-false : (bytes : List ℕ) → (IsUtf8 bytes → ⊥) → is_utf8 bytes ≡ false
 is_utf8-false bytes refuted = no_text (is_utf8 bytes) bytes refl refuted
 
--- what is looked up is found where a field has the name
-value_under-is_some : (name : List ℕ) (fs : List Field) → is_some (value_under name fs) ≡ has_name name fs
-value_under-is_some name [] = refl
-value_under-is_some name (f ∷ fs) =
-    let rest = value_under-is_some name fs in
-    elim (bytes_eq name f.0) as (λ b. is_some (if b then Some f.1 else value_under name fs) ≡ (b || has_name name fs)) [ true ↦ refl | false ↦ rest ]
-
-mapped-is_some : (o : Option (Bor Value)) → is_some o ≡ is_some (option_map (λ v. tree v.now) o)
-mapped-is_some None = refl
-mapped-is_some (Some v) = refl
-
-pub has_name_by_get : (name : List ℕ) (fs : List Field) (o : Option (Bor Value)) → option_map (λ v. tree v.now) o ≡ value_under name fs → is_some o ≡ has_name name fs
-has_name_by_get name fs o e = mapped-is_some o ∙ ap is_some e ∙ value_under-is_some name fs
-
 -- what is wrong with a name beside those of the fields before it
 abbrev pub name_beside : Bool → List Field → List ℕ × List ℕ → Result (List ℕ × List ℕ) BsonFault
 name_beside false seen name = if has_name name.0 seen then Err RepeatedName else Ok name

@@ -16,6 +16,8 @@ pub mod Shorter
 pub mod Elements
 pub mod Loop
 pub mod Items
+pub mod Zipped
 pub mod Payloads
 pub mod Rest
 pub mod Written
+pub mod Moved

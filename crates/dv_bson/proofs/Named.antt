@@ -1,11 +1,12 @@
 -- The names of a list of fields, and of one with a field more at its end.
-use Rattle.std.proofs.Common.{◌≡◌, ℕ, ◌+◌, ◌-◌, ◌≤◌, ◌<◌, true, false, ◌||◌, List, [], ◌∷◌, ◌++◌, length, get_or, Some, None, is_some, sym, arith}
+use Rattle.std.proofs.Common.{◌≡◌, ℕ, ◌+◌, ◌-◌, ◌≤◌, ◌<◌, true, false, ◌||◌, List, [], ◌∷◌, ◌++◌, length, get_or, Some, None, is_some, take, drop, map, sym, ap, subst, ◌∙◌, arith}
+use Rattle.std.proofs.lemmas.List.{take-append-drop, map-append}
 use Rattle.std.proofs.lemmas.Bool.Decides.{same_from_decides}
 use Rattle.std.proofs.lemmas.Slice.Eq.{bytes_eq-Decides}
 use Rattle.std.specs.List.{position_from}
 use Rattle.std.specs.Str.{bytes_eq}
 use Rattle.dv_bson.specs.Tree.{Field, boolean}
-use Rattle.dv_bson.specs.Names.{place_under, value_under, has_name, has_zero, AreNamed}
+use Rattle.dv_bson.specs.Names.{bare, place_under, value_under, has_name, has_zero, AreNamed}
 
 pub bytes_eq-symmetric : (a b : List ℕ) → bytes_eq a b ≡ bytes_eq b a
 bytes_eq-symmetric a b = same_from_decides _ _ (bytes_eq-Decides a b) ((λ e. sym ((bytes_eq-Decides b a).0 e)), λ e. (bytes_eq-Decides b a).1 (sym e))
@@ -18,6 +19,16 @@ pub AreNamed-push : (fs : List Field) (f : Field) → AreNamed fs → has_zero f
 AreNamed-push [] f named whole fresh = grind arith
 AreNamed-push (g ∷ fs) f named whole fresh =
     grind (arith, AreNamed-push fs f, has_name-append g.0 fs (f ∷ []), bytes_eq-symmetric f.0 g.0)
+
+AreNamed-front : (fs gs : List Field) → AreNamed (fs ++ gs) → AreNamed fs
+AreNamed-front [] gs named = tt
+AreNamed-front (f ∷ fs) gs named = (named.0, grind (arith, named.1, has_name-append f.0 fs gs), AreNamed-front fs gs named.2)
+
+-- the names in front of a place
+pub AreNamed-take : (count : ℕ) (ns : List (List ℕ)) → AreNamed (map bare ns) → AreNamed (map bare (take count ns))
+AreNamed-take count ns named =
+    let parts : map bare ns ≡ map bare (take count ns) ++ map bare (drop count ns) = ap (map bare) (sym (take-append-drop count ns)) ∙ map-append bare (take count ns) (drop count ns) in
+    AreNamed-front (map bare (take count ns)) (map bare (drop count ns)) (subst AreNamed parts named)
 
 pub named_apart : (fs gs : List Field) (f : Field) → AreNamed (fs ++ f ∷ gs) → has_name f.0 fs ≡ false
 named_apart [] gs f named = grind arith

@@ -6,6 +6,7 @@ use Rattle.std.proofs.lemmas.Int.{to_z-of_z}
 use Rattle.dv_bson.specs.declared.kind.Kind.{Kind}
 use Rattle.dv_bson.specs.Tree.{Tree, int32, int64, string, document, array, boolean, binary, object_id, date, null, timestamp, min_key, max_key, Fields, Elements}
 use Rattle.dv_bson.proofs.Binaries.{length-tagged}
+pub use Rattle.dv_bson.proofs.Frames.{length-counted, length-framed}
 use Rattle.dv_bson.specs.Spelling.{framed, counted, tagged, element_spelling, payload, fields_spelling, elements_spelling}
 
 -- a signed number's bytes, as code reads them through its bits
@@ -61,14 +62,6 @@ payload-document fs = refl
 pub payload-array : (vs : Elements) → payload (array vs) ≡ framed (elements_spelling 0 vs)
 unfolding payload
 payload-array vs = refl
-
-pub length-counted : (text : List ℕ) → length (counted text) ≡ length text + 5
-unfolding counted
-length-counted text = omega (arith, length-append text (0 ∷ []))
-
-pub length-framed : (elements : List ℕ) → length (framed elements) ≡ length elements + 5
-unfolding framed
-length-framed elements = omega (arith, length-append elements (0 ∷ []))
 
 pub length-element_spelling : (kind : Kind) (name value : List ℕ) → length (element_spelling kind name value) ≡ length value + length name + 2
 unfolding element_spelling

@@ -7,9 +7,7 @@ use Rattle.std.specs.FinMap as finite
 use Rattle.std.specs.List.{position_from}
 use Rattle.std.specs.Str.{bytes_eq}
 use Rattle.dv_bson.specs.Tree.{Field}
-use Rattle.dv_bson.specs.Names.{has_name, AreNamed}
-use Rattle.dv_bson.specs.View.{field_of}
-use Rattle.dv_bson.specs.declared.value.Entry.{Entry}
+use Rattle.dv_bson.specs.Names.{bare, has_name, AreNamed}
 use Rattle.dv_bson.specs.Places.{Places, IsIndexOf}
 use Rattle.dv_bson.proofs.ByText.{get-insert}
 use Rattle.dv_bson.proofs.Named.{bytes_eq-symmetric, named_apart}
@@ -28,12 +26,12 @@ IsIndexOf-push fs m f place index fresh at_end = record {
   finds = λ q. get-insert m f.0 place q ∙ ap (cond (bytes_eq f.0 q) (Some place)) (index.finds q) ∙ sym (position_from-push q 0 place fs f fresh (omega arith));
 }
 
--- one field more of a document is indexed
-pub IsIndexOf-more : (es : List Entry) (i : ℕ) (e : Entry) (m : Places) → i < length es → e ≡ get_or es i e → AreNamed (map field_of es) → IsIndexOf (map field_of (take i es)) m → IsIndexOf (map field_of (take (i + 1) es)) (finite.insert m e.name i)
-IsIndexOf-more es i e m within here named index =
-    let so_far = map field_of (take i es) in
-    let split : es ≡ take i es ++ e ∷ drop (i + 1) es = sym (take-append-drop i es) ∙ ap (λ l. take i es ++ l) (drop_more es i e within ∙ ap (λ x. x ∷ drop (i + 1) es) (sym here)) in
-    let all : map field_of es ≡ so_far ++ field_of e ∷ map field_of (drop (i + 1) es) = ap (map field_of) split ∙ map-append field_of (take i es) _ in
-    let more : map field_of (take (i + 1) es) ≡ so_far ++ field_of e ∷ [] = grind (arith, common_steps) in
+-- one name more is indexed
+pub IsIndexOf-more : (ns : List (List ℕ)) (i : ℕ) (n : List ℕ) (m : Places) → i < length ns → n ≡ get_or ns i n → AreNamed (map bare ns) → IsIndexOf (map bare (take i ns)) m → IsIndexOf (map bare (take (i + 1) ns)) (finite.insert m n i)
+IsIndexOf-more ns i n m within here named index =
+    let so_far = map bare (take i ns) in
+    let split : ns ≡ take i ns ++ n ∷ drop (i + 1) ns = sym (take-append-drop i ns) ∙ ap (λ l. take i ns ++ l) (drop_more ns i n within ∙ ap (λ x. x ∷ drop (i + 1) ns) (sym here)) in
+    let all : map bare ns ≡ so_far ++ bare n ∷ map bare (drop (i + 1) ns) = ap (map bare) split ∙ map-append bare (take i ns) _ in
+    let more : map bare (take (i + 1) ns) ≡ so_far ++ bare n ∷ [] = grind (arith, common_steps) in
     let place : i ≡ length so_far = grind (arith, common_steps) in
-    rw more (IsIndexOf-push so_far m (field_of e) i index (named_apart so_far _ (field_of e) (subst AreNamed all named)) place)
+    rw more (IsIndexOf-push so_far m (bare n) i index (named_apart so_far _ (bare n) (subst AreNamed all named)) place)

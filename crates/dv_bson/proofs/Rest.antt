@@ -2,15 +2,16 @@
 use Rattle.std.proofs.Common.{◌≡◌, ℕ, zero, suc, ◌+◌, ◌≤◌, max, List, [], ◌∷◌, ◌++◌, length, drop, Some, decimal, length-append, add-one, refl, sym, ap, subst, ◌∙◌, arith}
 use Rattle.std.specs.List.{slice_get}
 use Rattle.std.specs.Str.{IsUtf8}
-use Rattle.dv_bson.specs.Tree.{Tree, Field, fields_of, list_of_fields, elements_of}
+use Rattle.dv_bson.specs.Tree.{Tree, Field, fields_of, elements_of}
 use Rattle.dv_bson.specs.Names.{AreNamed}
 use Rattle.dv_bson.specs.Spelling.{kind_of, element_spelling, payload, fields_spelling, elements_spelling, levels, fields_levels, elements_levels, IsValue, AreFields, AreElements}
+use Rattle.dv_bson.proofs.Fields.{list_of_fields-fields_of}
 use Rattle.dv_bson.proofs.Items.{drop_item}
 use Rattle.dv_bson.proofs.Payloads.{length-element_spelling}
 
 -- ---- spellings
 
-fields_spelling-field : (f : Field) (fs : List Field) → fields_spelling (fields_of (f ∷ fs)) ≡ element_spelling (kind_of f.1) f.0 (payload f.1) ++ fields_spelling (fields_of fs)
+pub fields_spelling-field : (f : Field) (fs : List Field) → fields_spelling (fields_of (f ∷ fs)) ≡ element_spelling (kind_of f.1) f.0 (payload f.1) ++ fields_spelling (fields_of fs)
 unfolding fields_spelling
 fields_spelling-field f fs = refl
 
@@ -59,10 +60,6 @@ payload-le-elements i (w ∷ vs) zero v here =
 payload-le-elements i (w ∷ vs) (suc place) v here = rw (elements_spelling-element i w vs, length-append) (omega (arith, payload-le-elements (suc i) vs place v here))
 
 -- ---- validity
-
-list_of_fields-fields_of : (fs : List Field) → list_of_fields (fields_of fs) ≡ fs
-list_of_fields-fields_of [] = refl
-list_of_fields-fields_of (f ∷ fs) = ap (λ (rest : List Field). f ∷ rest) (list_of_fields-fields_of fs)
 
 -- the fields from a place on have good names, and where they are valid, the whole document is
 pub record AreValidBefore (fs : List Field) (place : ℕ) : Type 0 where

@@ -2,7 +2,11 @@
 use Rattle.std.specs.Prelude.{◌≡◌, ℕ, ◌==◌, ◌||◌, Bool, false, List, [], ◌∷◌, Option, Some, None, if◌then◌else◌, ⊤}
 use Rattle.std.specs.List.{position_from}
 use Rattle.std.specs.Str.{bytes_eq}
-use Rattle.dv_bson.specs.Tree.{Tree, Field}
+use Rattle.dv_bson.specs.Tree.{Tree, Field, null}
+
+-- a name alone, as the field with nothing under it
+abbrev pub bare : List ℕ → Field
+bare name = (name, null)
 
 -- the value under a name, where there is one
 abbrev pub value_under : List ℕ → List Field → Option Tree

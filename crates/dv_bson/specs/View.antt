@@ -3,8 +3,7 @@ use Rattle.std.specs.Prelude.{List, [], Option, None, Some}
 use Rattle.std.specs.declared.rc.Rc.{Rc}
 use Rattle.dv_bson.specs.declared.value.Value.{Value}
 use Rattle.dv_bson.specs.declared.value.Value.TheVariants.{Int32, Int64, Text, Doc, Array, Binary, ObjectId, Bool, Date, Null, Timestamp, MinKey, MaxKey}
-use Rattle.dv_bson.specs.declared.value.Entry.{Entry}
-use Rattle.dv_bson.specs.Tree.{Tree, int32, int64, string, document, array, boolean, binary, object_id, date, null, timestamp, min_key, max_key, Field, fields_of, elements_of}
+use Rattle.dv_bson.specs.Tree.{Tree, int32, int64, string, document, array, boolean, binary, object_id, date, null, timestamp, min_key, max_key, fields_of, elements_of}
 
 abbrev pub tree : Value → Tree
 tree (Int32 n) = int32 n
@@ -25,6 +24,3 @@ tree MaxKey = max_key
 abbrev pub held : {X Y : Type 0} → Option (Rc (List X) Y) → List X
 held None = []
 held (Some shared) = shared.value
-
-abbrev pub field_of : Entry → Field
-field_of e = (e.name, tree e.value)

@@ -1,13 +1,13 @@
 -- A value inside is smaller than what it is in.
-use Rattle.std.specs.Prelude.{◌*◌, ◌≤◌, List, [], ◌∷◌, map}
+use Rattle.std.specs.Prelude.{ℕ, ◌*◌, ◌≤◌, List, [], ◌∷◌, length, map}
+use Rattle.std.specs.List.{zip}
 use Rattle.std.proofs.Common.{arith}
 use denote.Param.Weighed.{most}
 use Rattle.dv_bson.specs.declared.value.Value.{Value}
 use Rattle.dv_bson.specs.declared.value.Value.TheVariants.{Int32, Int64, Text, Doc, Array, Binary, ObjectId, Bool, Date, Null, Timestamp, MinKey, MaxKey}
-use Rattle.dv_bson.specs.declared.value.Entry.{Entry}
-use Rattle.dv_bson.specs.declared.value.Document.TheDeep.{deep-Value, deep-Entry}
+use Rattle.dv_bson.specs.declared.value.Document.TheDeep.{deep-Value}
 use Rattle.dv_bson.specs.Tree.{weight, fields_of, fields_weight, elements_of, elements_weight}
-use Rattle.dv_bson.specs.View.{tree, field_of}
+use Rattle.dv_bson.specs.View.{tree}
 
 value_falls : (v : Value) → deep-Value v ≤ 2 * weight (tree v)
 value_falls (Int32 n) = omega arith
@@ -28,6 +28,8 @@ pub values_fall : (vs : List Value) → most deep-Value vs ≤ 2 * elements_weig
 values_fall [] = omega arith
 values_fall (v ∷ vs) = omega (arith, value_falls v, values_fall vs)
 
-pub entries_fall : (es : List Entry) → most deep-Entry es ≤ 2 * fields_weight (fields_of (map field_of es))
-entries_fall [] = omega arith
-entries_fall (e ∷ es) = omega (arith, value_falls e.value, entries_fall es)
+pub fields_fall : (ns : List (List ℕ)) (vs : List Value) → length vs ≤ length ns → most deep-Value vs ≤ 2 * fields_weight (fields_of (zip ns (map tree vs)))
+fields_fall [] [] le = omega arith
+fields_fall [] (v ∷ vs) le = absurd (omega arith)
+fields_fall (n ∷ ns) [] le = omega arith
+fields_fall (n ∷ ns) (v ∷ vs) le = omega (arith, value_falls v, fields_fall ns vs (omega arith))

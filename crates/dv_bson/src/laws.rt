@@ -1,8 +1,10 @@
-//! What holds between the bytes of documents and reading them.
+//! What holds between the bytes of documents and reading them, and of documents whatever their bytes are.
 
-ghost use Rattle.std.specs.Prelude.{◌≡◌, ◌↔◌, ℕ, ◌≤◌, List, ◌++◌, length, take, None};
-ghost use Rattle.dv_bson.specs.Tree.{Field};
-ghost use Rattle.dv_bson.specs.Spelling.{Spells, Fits, IsBytes};
+ghost use Rattle.std.specs.Prelude.{◌≡◌, ◌↔◌, ℕ, ◌+◌, ◌≤◌, List, [], ◌∷◌, ◌++◌, length, take, None, All};
+ghost use Rattle.std.specs.Str.{IsUtf8};
+ghost use Rattle.dv_bson.specs.Tree.{Field, document, fields_of};
+ghost use Rattle.dv_bson.specs.Names.{AreNamed};
+ghost use Rattle.dv_bson.specs.Spelling.{payload, spelling, levels, IsValue, AreFields, Spells, Fits, IsBytes};
 ghost use Rattle.dv_bson.specs.Reading.{first_fault};
 
 /// No spelling begins another one, and a spelling has one document: so what was written is read again, whatever follows it.
@@ -13,4 +15,22 @@ pub fn no_spelling_begins_another()
 /// There is a first fault exactly where the front of the bytes spells no document that fits.
 pub fn a_fault_where_nothing_is_spelled()
     ensures { (bytes : List ℕ) → IsBytes bytes → (first_fault bytes ≡ None) ↔ ((d : List Field) × (n : ℕ) × (n ≤ length bytes) × Spells d (take n bytes) × Fits d) }
+{}
+
+/// A document is valid where the name and the value of each field are, and the names are apart.
+pub fn a_document_is_valid_by_its_fields()
+    ensures { (fields : List Field) → AreFields (fields_of fields) ↔ (All (λ f. IsUtf8 f.0 × IsValue f.1) fields × AreNamed fields) }
+{}
+
+/// A field adds a type byte, its name, a zero byte and its value to the spelling, whatever the other fields are.
+pub fn what_a_field_adds()
+    ensures nothing { length (spelling []) ≡ 5 }
+    ensures more { (f : Field) (fields : List Field) → length (spelling (f ∷ fields)) ≡ length (payload f.1) + length f.0 + 2 + length (spelling fields) }
+{}
+
+/// A field that is moved to the front leaves the names apart, and the spelling's length and the levels as they are.
+pub fn where_a_field_stands_is_no_matter()
+    ensures named { (before after : List Field) (f : Field) → AreNamed (before ++ f ∷ after) → AreNamed (f ∷ (before ++ after)) }
+    ensures size { (before after : List Field) (f : Field) → length (spelling (f ∷ (before ++ after))) ≡ length (spelling (before ++ f ∷ after)) }
+    ensures depth { (before after : List Field) (f : Field) → levels (document (fields_of (f ∷ (before ++ after)))) ≡ levels (document (fields_of (before ++ f ∷ after))) }
 {}

@@ -8,6 +8,7 @@ pub mod laws;
 mod limits;
 mod name;
 mod name_index;
+mod name_list;
 mod reader;
 mod reading;
 mod text;

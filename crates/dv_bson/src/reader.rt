@@ -19,16 +19,18 @@ use crate::value::{Document, Fields, List, Value};
 use std::alloc::Global;
 
 /// A value of this type, which stands at `at` in the outermost document, with so many levels left inside
-/// it, and the bytes behind it.
+/// it, and the bytes behind it. A value that is `like` it, if there is one, has the names that are to be expected: what
+/// is read is the same whatever that is.
 #[cycle(reader)]
 #[tactic(auto, unfolding(crate::specs::Reading::value_at))]
-fn value_of(
+fn value_of<'a>(
     alloc: Global,
     levels: u32,
     kind: Kind,
+    like: Option<&Value>,
     at: usize,
-    bytes: &[u8],
-) -> Result<(Value, &[u8]), ReadError>
+    bytes: &'a [u8],
+) -> Result<(Value, &'a [u8]), ReadError>
     requires { at + length bytes.now < 2 ^ 64 }
     ensures { Gives (λ x. (tree x.0, x.1.now)) result (value_at (body_at levels) kind at bytes.now) }
 {
@@ -39,12 +41,26 @@ fn value_of(
         }
         Kind::Doc => {
             let frame = frame_of(bytes)?;
-            let document = document_of(alloc, levels, at + 4, frame.elements, frame.last)?;
+            let document = document_of(
+                alloc,
+                levels,
+                document_like(like),
+                at + 4,
+                frame.elements,
+                frame.last,
+            )?;
             Ok((Value::Doc(document), frame.rest))
         }
         Kind::Array => {
             let frame = frame_of(bytes)?;
-            let list = list_of(alloc, levels, at + 4, frame.elements, frame.last)?;
+            let list = list_of(
+                alloc,
+                levels,
+                element_like(like),
+                at + 4,
+                frame.elements,
+                frame.last,
+            )?;
             Ok((Value::Array(list), frame.rest))
         }
         Kind::Binary => binary_of(alloc, bytes),
@@ -66,6 +82,7 @@ fn value_of(
 fn field_of<'a>(
     alloc: Global,
     levels: u32,
+    like: Option<&Document>,
     at: usize,
     before: &Fields,
     bytes: &'a [u8],
@@ -75,7 +92,9 @@ fn field_of<'a>(
 {
     let (kind, behind) = front_kind_of(bytes, at)?;
     let (name, rest) = field_name_of(before, behind)?;
-    let (value, after) = value_of(alloc, levels, kind, at + (bytes.len() - rest.len()), rest)?;
+    let like = value_like(like, before.len());
+    let at = at + (bytes.len() - rest.len());
+    let (value, after) = value_of(alloc, levels, kind, like, at, rest)?;
     Ok((name, value, after))
 }
 
@@ -85,6 +104,7 @@ fn field_of<'a>(
 fn element_of<'a>(
     alloc: Global,
     levels: u32,
+    like: Option<&Value>,
     at: usize,
     before: &[Value],
     bytes: &'a [u8],
@@ -94,7 +114,31 @@ fn element_of<'a>(
 {
     let (kind, behind) = front_kind_of(bytes, at)?;
     let rest = behind_index(before, behind)?;
-    value_of(alloc, levels, kind, at + (bytes.len() - rest.len()), rest)
+    let like = before.last().or(like);
+    let at = at + (bytes.len() - rest.len());
+    value_of(alloc, levels, kind, like, at, rest)
+}
+
+/// The value where it is a document.
+fn document_like(value: Option<&Value>) -> Option<&Document> {
+    match value {
+        Some(Value::Doc(document)) => Some(document),
+        _ => None,
+    }
+}
+
+/// The first element, where the value is an array that has one.
+fn element_like(value: Option<&Value>) -> Option<&Value> {
+    match value {
+        Some(Value::Array(list)) => list.as_slice().first(),
+        _ => None,
+    }
+}
+
+/// The value at `place` of the document.
+fn value_like(document: Option<&Document>, place: usize) -> Option<&Value> {
+    let (_name, value) = document?.entry(place)?;
+    Some(value)
 }
 
 /// Whether a document is closed where its elements end: by a zero as its last byte. Another last byte is
@@ -123,6 +167,7 @@ fn first_room(len: usize) -> usize
 fn document_of(
     alloc: Global,
     levels: u32,
+    like: Option<&Document>,
     mut at: usize,
     elements: &[u8],
     last: u8,
@@ -133,10 +178,10 @@ fn document_of(
     if levels == 0 {
         return Err(ReadError::Fault(BsonFault::TooDeep));
     }
-    let mut fields = Fields::with_room(alloc, first_room(elements.len()))?;
+    let mut fields = Fields::expected(alloc, like, first_room(elements.len()))?;
     let mut rest = elements;
     'elements: while !rest.is_empty() {
-        let (name, value, after) = field_of(alloc, levels - 1, at, &fields, rest)?;
+        let (name, value, after) = field_of(alloc, levels - 1, like, at, &fields, rest)?;
         fields.add(name, value)?;
         at += rest.len() - after.len();
         rest = after;
@@ -151,6 +196,7 @@ fn document_of(
 fn list_of(
     alloc: Global,
     levels: u32,
+    like: Option<&Value>,
     mut at: usize,
     elements: &[u8],
     last: u8,
@@ -164,7 +210,7 @@ fn list_of(
     let mut values = Vec::new(alloc);
     let mut rest = elements;
     'elements: while !rest.is_empty() {
-        let (value, after) = element_of(alloc, levels - 1, at, &values, rest)?;
+        let (value, after) = element_of(alloc, levels - 1, like, at, &values, rest)?;
         values.push(value)?;
         at += rest.len() - after.len();
         rest = after;
@@ -191,7 +237,7 @@ fn outermost_of(alloc: Global, bytes: &[u8]) -> Result<(Document, usize), ReadEr
         return Err(ReadError::Fault(BsonFault::Truncated));
     }
     let frame = framed(len, bytes);
-    let document = document_of(alloc, MAX_LEVELS, 4, frame.elements, frame.last)?;
+    let document = document_of(alloc, MAX_LEVELS, None, 4, frame.elements, frame.last)?;
     Ok((document, len))
 }
 

@@ -141,7 +141,7 @@ pub(crate) fn field_name_of<'a>(
     ensures { Gives (λ x. (x.0.now, x.1.now)) result (name_at false before.now bytes.now) }
 {
     let (name, rest) = name_of(bytes)?;
-    if before.get(name).is_some() {
+    if before.has(name) {
         return Err(ReadError::Fault(BsonFault::RepeatedName));
     }
     Ok((name, rest))

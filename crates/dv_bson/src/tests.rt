@@ -100,6 +100,21 @@ fn a_changed_copy_leaves_its_source(rt: HostRuntime) -> Result<(), Fail> {
 }
 
 #[test]
+fn shares_names(rt: HostRuntime) -> Result<(), Fail> {
+    let longer = numbered(rt.alloc(), 40)?;
+    let mut document = numbered(rt.alloc(), 2)?;
+    document.share_names(&longer);
+    assert_eq!(rt; document.len(), 2);
+    assert_eq!(rt; number_under(&document, "name 1"), Some(1));
+    assert_eq!(rt; number_under(&document, "name 2"), None);
+    document.push("other", Value::Int32(7))?;
+    assert_eq!(rt; number_under(&document, "other"), Some(7));
+    assert_eq!(rt; number_under(&longer, "name 2"), Some(2));
+    assert_eq!(rt; number_under(&longer, "other"), None);
+    Ok(())
+}
+
+#[test]
 fn takes_many_names(rt: HostRuntime) -> Result<(), Fail> {
     let document = numbered(rt.alloc(), 100_000)?;
     assert_eq!(rt; document.len(), 100_000);

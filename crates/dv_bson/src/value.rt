@@ -1,26 +1,20 @@
 //! Values, documents and lists of values.
 
-ghost use Rattle.std.specs.Prelude.{◌≡◌, ◌<◌, ◌↔◌, ◌⊎◌, Some, [], ◌∷◌, ◌++◌, true, false, length, map, IsTrue, OnOk, OnErr, IfOk, IfErr, IfSome, IsErrOf, slice_get};
+ghost use Rattle.std.specs.Prelude.{◌≡◌, ◌+◌, ◌<◌, ◌≤◌, ◌↔◌, ◌⊎◌, Some, [], ◌∷◌, ◌++◌, true, false, length, take, map, IsTrue, OnOk, OnErr, IfOk, IfErr, IsErrOf, slice_get};
 ghost use Rattle.std.specs.Option.{option_map};
-ghost use Rattle.dv_bson.specs.Names.{AreNamed, place_under, value_under, has_name, has_zero};
-ghost use Rattle.dv_bson.specs.Places.{IsIndexOf};
-ghost use Rattle.dv_bson.specs.Tree.{Tree};
+ghost use Rattle.dv_bson.specs.Names.{bare, AreNamed, place_under, value_under, has_name, has_zero};
 ghost use Rattle.dv_bson.specs.Spelling.{kind_of};
-ghost use Rattle.dv_bson.specs.View.{tree, field_of};
+ghost use Rattle.dv_bson.specs.View.{tree};
 
 use crate::NoMemory;
 use crate::bytes::Bytes;
 use crate::fault::BsonFault;
 use crate::kind::Kind;
-use crate::name::Name;
-use crate::name_index::NameIndex;
+use crate::name_list::Names;
 use crate::text::Str;
 use std::alloc::Global;
 use std::marker::Model;
 use std::rc::Rc;
-
-/// A document of so many fields, or of more, has its names indexed as the next one comes.
-const INDEXED_LENGTH: usize = 32;
 
 /// A value of a field or of an array. In quotes: its type's name in the BSON specification, version 1.1
 /// (bsonspec.org).
@@ -60,22 +54,14 @@ pub enum Value {
     MaxKey,
 }
 
-/// A field of a document.
-#[cycle(value)]
-#[derive(Debug, Drop)]
-pub(crate) struct Entry {
-    pub(crate) name: Name,
-    pub(crate) value: Value,
-}
-
-/// The fields of a document and of its copies, in the order in which they were added. No two have one name, and no
-/// name holds a zero byte.
+/// The fields of a document and of its copies, in the order in which they were added.
 #[cycle(value)]
 #[derive(Debug, Drop)]
 pub(crate) struct Fields {
-    entries: Vec<Entry>,
-    /// The places of the names, once they are too many to be searched one by one.
-    index: Option<Box<NameIndex>>,
+    /// Shared with documents of the same names. Names may follow that have no value: those of a longer document, which
+    /// begins with these.
+    names: Rc<Names>,
+    values: Vec<Value>,
 }
 
 /// Fields in the order in which they were added. No two have one name, and no name holds a zero byte.
@@ -97,7 +83,8 @@ pub struct List {
 
 impl Model for Fields {
     ghost use Rattle.std.specs.Prelude as prelude;
-    ghost use Rattle.std.specs.Prelude.{ℕ, ◌*◌, map};
+    ghost use Rattle.std.specs.Prelude.{ℕ, ◌*◌, ◌≤◌, map, length};
+    ghost use Rattle.std.specs.List.{zip};
     ghost use Rattle.std.specs.Coded.{coded_list, coded×, coded_ℕ};
     ghost use Rattle.dv_bson.specs.Tree.{Field, fields_of, fields_weight};
     ghost use Rattle.dv_bson.specs.TreeCode.{coded_tree};
@@ -106,21 +93,18 @@ impl Model for Fields {
 
     ghost coded = { coded_list (coded× (coded_list coded_ℕ) coded_tree) };
 
-    ghost use Rattle.std.specs.Prelude.{IfSome};
-    ghost use Rattle.dv_bson.specs.View.{field_of};
-    ghost use Rattle.dv_bson.specs.Names.{AreNamed};
-    ghost use Rattle.dv_bson.specs.Places.{IsIndexOf};
+    ghost use Rattle.dv_bson.specs.View.{tree};
 
-    ghost view = { λ f. map field_of f.entries.items };
+    ghost view = { λ f. zip f.names.value (map tree f.values.items) };
 
-    ghost invariant = { λ f. let fields = map field_of f.entries.items in AreNamed fields × IfSome f.index (λ index. IsIndexOf fields index.value) };
+    ghost invariant = { λ f. length f.values.items ≤ length f.names.value };
 
     ghost size = { λ fs. 2 * fields_weight (fields_of fs) };
 
     ghost use Rattle.std.proofs.Common.{arith};
-    ghost use Rattle.dv_bson.specs.ViewFalls.{entries_fall};
+    ghost use Rattle.dv_bson.specs.ViewFalls.{fields_fall};
 
-    ghost size_decreases = { λ f h. omega (arith, entries_fall f.entries.items) };
+    ghost size_decreases = { λ f h. omega (arith, fields_fall f.names.value f.values.items h) };
 }
 
 impl Model for Document {
@@ -336,6 +320,23 @@ impl Document {
         Ok(())
     }
 
+    /// Lets the names of the fields lie where those of the other document do, if these are the same, or more of them
+    /// follow there. Nothing that a caller sees changes but how much memory is taken. Fields that a copy shares stay
+    /// where they are.
+    pub fn share_names(&mut self, with: &Document)
+        ensures { self.new ≡ self.old }
+    {
+        let Some(shared) = &mut self.fields else {
+            return;
+        };
+        let Some(others) = &with.fields else {
+            return;
+        };
+        if let Some(own) = Rc::get_mut(shared) {
+            own.share_names(others);
+        }
+    }
+
     /// The name and the value of a field that is there.
     pub(crate) fn field(&self, place: usize) -> (&str, &Value)
         requires { place < length self.now }
@@ -365,13 +366,41 @@ impl Document {
 
 impl Fields {
     /// No fields, with room for so many. Fails where memory is wanting.
-    pub(crate) fn with_room(alloc: Global, fields: usize) -> Result<Self, NoMemory>
+    fn with_room(alloc: Global, fields: usize) -> Result<Self, NoMemory>
         ensures { IfOk result (λ fields. fields ≡ []) }
     {
         Ok(Fields {
-            entries: Vec::with_capacity(alloc, fields)?,
-            index: None,
+            names: Rc::new(alloc, Names::with_room(alloc, fields)?)?,
+            values: Vec::with_capacity(alloc, fields)?,
         })
+    }
+
+    /// No fields, with room for as many as the document has, whose names they may share. Fails where memory is wanting.
+    fn beside(alloc: Global, document: &Document) -> Result<Self, NoMemory>
+        ensures { IfOk result (λ fields. fields ≡ []) }
+    {
+        match &document.fields {
+            Some(fields) => Ok(Fields {
+                names: fields.names.clone()?,
+                values: Vec::with_capacity(alloc, fields.values.len())?,
+            }),
+            None => Fields::with_room(alloc, 0),
+        }
+    }
+
+    /// No fields yet of a document that is read: those of the document that came before it tell what names to expect,
+    /// or else there is room for so many. Fails where memory is wanting.
+    pub(crate) fn expected(
+        alloc: Global,
+        before: Option<&Document>,
+        room: usize,
+    ) -> Result<Self, NoMemory>
+        ensures { IfOk result (λ fields. fields ≡ []) }
+    {
+        match before {
+            Some(document) => Fields::beside(alloc, document),
+            None => Fields::with_room(alloc, room),
+        }
     }
 
     /// How many fields there are.
@@ -379,23 +408,26 @@ impl Fields {
         ensures len { result ≡ length self.now }
         ensures named { AreNamed self.now }
     {
-        self.entries.len()
+        let names = self.names.len();
+        prove!(self.values.len() <= names);
+        self.values.len()
     }
 
     /// The name and the value of the field at `place`.
     fn entry(&self, place: usize) -> Option<(&str, &Value)>
         ensures { option_map (λ field. (field.0.now, tree field.1.now)) result ≡ slice_get self.now place }
     {
-        let entry = self.entries.get(place)?;
-        Some((entry.name.as_str(), &entry.value))
+        let value = self.values.get(place)?;
+        let name = self.names.get(place)?;
+        Some((name, value))
     }
 
     /// The value under the name, where there is one.
-    pub(crate) fn get(&self, name: &str) -> Option<&Value>
+    fn get(&self, name: &str) -> Option<&Value>
         ensures { option_map (λ value. tree value.now) result ≡ value_under name.now self.now }
     {
         let place = self.place_of(name)?;
-        Some(&self.entries[place].value)
+        Some(&self.values[place])
     }
 
     /// The place of the field with the name, where there is one.
@@ -403,10 +435,23 @@ impl Fields {
         ensures place { result ≡ place_under name.now self.now }
         ensures named { AreNamed self.now }
     {
-        match &self.index {
-            Some(index) => index.place_of(name),
-            None => place_among(&self.entries, name),
+        let place = self.names.place_of(name)?;
+        if place < self.values.len() {
+            Some(place)
+        } else {
+            None
         }
+    }
+
+    /// Whether a field has the name. One look where it is the name that was to be expected.
+    pub(crate) fn has(&self, name: &str) -> bool
+        ensures { result ≡ has_name name.now self.now }
+    {
+        let place = self.values.len();
+        if place < self.names.len() && self.names.is_at(place, name) {
+            return false;
+        }
+        self.place_of(name).is_some()
     }
 
     /// Adds a field whose name is known to be new and without a zero byte.
@@ -416,96 +461,67 @@ impl Fields {
         ensures ok { OnOk result (self.new ≡ self.old ++ (name.now, tree value) ∷ []) }
         ensures err { OnErr result (self.new ≡ self.old) }
     {
-        let alloc = *self.entries.allocator();
-        let name = Name::of(alloc, name)?;
-        // Room first: once the name is in the index, nothing may fail.
-        self.entries.reserve(1)?;
-        index_next(alloc, &mut self.index, &self.entries, name.as_str())?;
-        self.entries.push(Entry { name, value })?;
+        let alloc = *self.values.allocator();
+        self.values.reserve(1)?;
+        put_name(alloc, &mut self.names, self.values.len(), name)?;
+        self.values.push(value)?;
         Ok(())
+    }
+
+    /// Takes the other's names in place of the same ones of its own.
+    fn share_names(&mut self, other: &Fields)
+        ensures { self.new ≡ self.old }
+    {
+        if self.names.begins_as(&other.names, self.values.len()) {
+            if let Ok(names) = other.names.clone() {
+                self.names = names;
+            }
+        }
     }
 
     /// Gives back what room is left, where that can be done.
     fn trim(&mut self)
         ensures { self.new ≡ self.old }
     {
-        let _ = self.entries.shrink_to_fit();
+        self.values.shrink_to_fit();
+        if let Some(names) = Rc::get_mut(&mut self.names) {
+            names.trim();
+        }
     }
 
-    /// A copy of its own, in time linear in its size, but for the names of many fields: they are sorted.
-    /// Fails where memory is wanting.
+    /// A copy, which shares the names. In time linear in the number of fields. Fails where memory is wanting.
     fn try_clone(&self) -> Result<Self, NoMemory>
         ensures { IfOk result (λ copy. copy ≡ self.now) }
     {
-        let alloc = *self.entries.allocator();
-        let mut entries = Vec::with_capacity(alloc, self.entries.len())?;
-        for entry in &self.entries {
-            let value = entry.value.try_clone()?;
-            let name = entry.name.try_clone()?;
-            entries.push(Entry { name, value })?;
+        let mut values = Vec::with_capacity(*self.values.allocator(), self.values.len())?;
+        for value in &self.values {
+            values.push(value.try_clone()?)?;
         }
-        let index = index_of(alloc, &entries)?;
-        Ok(Fields { entries, index })
+        let names = self.names.clone()?;
+        Ok(Fields { names, values })
     }
 }
 
-/// The place of the first of these fields that has the name, where there is one.
-fn place_among(entries: &[Entry], name: &str) -> Option<usize>
-    ensures { result ≡ place_under name.now (map field_of entries.now) }
+/// Puts the name behind the first `count`, if it doesn't stand there. Names that are shared are copied first.
+fn put_name(alloc: Global, names: &mut Rc<Names>, count: usize, name: &str) -> Result<(), NoMemory>
+    requires within { count ≤ length names.old.value }
+    requires whole { has_zero name.now ≡ false }
+    requires fresh { has_name name.now (map bare (take count names.old.value)) ≡ false }
+    ensures ok { OnOk result (take (count + 1) names.new.value ≡ take count names.old.value ++ name.now ∷ []) }
+    ensures err { OnErr result (names.new.value ≡ names.old.value) }
 {
-    for (place, entry) in entries.iter().enumerate() {
-        if entry.name.as_str() == name {
-            return Some(place);
+    if names.is_at(count, name) {
+        return Ok(());
+    }
+    if names.len() == count {
+        if let Some(own) = Rc::get_mut(names) {
+            return own.add(name);
         }
     }
-    None
-}
-
-/// Indexes the name of the field that comes behind these, if there are so many that names are indexed. Where
-/// memory is wanting the index still is that of these fields.
-fn index_next(
-    alloc: Global,
-    index: &mut Option<Box<NameIndex>>,
-    entries: &[Entry],
-    name: &str,
-) -> Result<(), NoMemory>
-    requires named { AreNamed (map field_of entries.now) }
-    requires fresh { has_name name.now (map field_of entries.now) ≡ false }
-    requires indexed { IfSome index.old (λ index. IsIndexOf (map field_of entries.now) index.value) }
-    ensures ok { OnOk result ((value : Tree) → IfSome index.new (λ index. IsIndexOf (map field_of entries.now ++ (name.now, value) ∷ []) index.value)) }
-    ensures err { OnErr result (IfSome index.new (λ index. IsIndexOf (map field_of entries.now) index.value)) }
-{
-    if index.is_none() {
-        *index = index_of(alloc, entries)?;
-    }
-    match index {
-        Some(index) => index.add(alloc, name, entries.len()),
-        None => Ok(()),
-    }
-}
-
-/// The index of these fields' names, where there are so many that names are indexed.
-#[inline]
-fn index_of(alloc: Global, entries: &[Entry]) -> Result<Option<Box<NameIndex>>, NoMemory>
-    requires { AreNamed (map field_of entries.now) }
-    ensures { IfOk result (λ index. IfSome index (λ index. IsIndexOf (map field_of entries.now) index.value)) }
-{
-    if entries.len() < INDEXED_LENGTH {
-        return Ok(None);
-    }
-    Ok(Some(Box::new(alloc, all_indexed(alloc, entries)?)?))
-}
-
-/// The index of these fields' names.
-fn all_indexed(alloc: Global, entries: &[Entry]) -> Result<NameIndex, NoMemory>
-    requires { AreNamed (map field_of entries.now) }
-    ensures { IfOk result (λ index. IsIndexOf (map field_of entries.now) index) }
-{
-    let mut index = NameIndex::new(alloc);
-    for (place, entry) in entries.iter().enumerate() {
-        index.add(alloc, entry.name.as_str(), place)?;
-    }
-    Ok(index)
+    let mut own = names.front(count)?;
+    own.add(name)?;
+    *names = Rc::new(alloc, own)?;
+    Ok(())
 }
 
 impl List {

@@ -9,14 +9,14 @@ use Rattle.dv_bson.proofs.reader.+reader.Goals as goal
 
 -- ---- an element
 
-pub field_of-overflow_sub-bytes : goal.field_of-overflow_sub-bytes
-field_of-overflow_sub-bytes t c = behind_name _ _ _ _ _ _ c.in_ok-kind.ensures c.in_ok-name.ensures
+pub field_of-overflow_sub-at : goal.field_of-overflow_sub-at
+field_of-overflow_sub-at t c = behind_name _ _ _ _ _ _ c.in_ok-kind.ensures c.in_ok-name.ensures
 
 pub field_of-value_of-requires : goal.field_of-value_of-requires
 field_of-value_of-requires t c = (search rules, omega (arith, c.requires, behind_name _ _ _ _ _ _ c.in_ok-kind.ensures c.in_ok-name.ensures))
 
-pub element_of-overflow_sub-bytes : goal.element_of-overflow_sub-bytes
-element_of-overflow_sub-bytes t c = behind_name _ _ _ _ _ _ c.in_ok-kind.ensures c.in_ok-rest.ensures
+pub element_of-overflow_sub-at : goal.element_of-overflow_sub-at
+element_of-overflow_sub-at t c = behind_name _ _ _ _ _ _ c.in_ok-kind.ensures c.in_ok-rest.ensures
 
 pub element_of-value_of-requires : goal.element_of-value_of-requires
 element_of-value_of-requires t c = (search rules, omega (arith, c.requires, behind_name _ _ _ _ _ _ c.in_ok-kind.ensures c.in_ok-rest.ensures))

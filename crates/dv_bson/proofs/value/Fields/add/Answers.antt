@@ -1,17 +1,24 @@
-use Rattle.std.proofs.Common.{◌≡◌, List, ◌++◌, [], ◌∷◌, arith, map, subst}
-use Rattle.std.proofs.lemmas.Grind.{common_steps}
-use Rattle.std.specs.Option.{IfSome}
-use Rattle.dv_bson.specs.Tree.{Field}
-use Rattle.dv_bson.specs.Places.{IsIndexOf}
-use Rattle.dv_bson.specs.View.{tree, field_of}
-use Rattle.dv_bson.proofs.Named.{AreNamed-push}
+use Rattle.std.proofs.Common.{◌≡◌, false, ◌++◌, [], ◌∷◌, length, map, take, sym, ◌∙◌, arith}
+use Rattle.std.specs.List.{zip}
+use Rattle.std.proofs.lemmas.List.{length-map, map-append}
+use Rattle.dv_bson.specs.Names.{has_name}
+use Rattle.dv_bson.specs.View.{tree}
+use Rattle.dv_bson.proofs.Zipped.{has_name-zip, zip-more}
 use Rattle.dv_bson.proofs.value.Fields.add.Goals as goal
 
-pub invariant_of-self-2 : goal.invariant_of-self-2
-invariant_of-self-2 c =
-    let fields = map field_of c.self.inside.entries.items in
-    let field : Field = (c.args.name.now, tree c.args.value) in
-    let more : map field_of c.push.new.self.items ≡ fields ++ field ∷ [] = grind (arith, common_steps) in
-    let known : map field_of c.deref.result.now ++ (c.as_str.result.now, tree c.args.value) ∷ [] ≡ fields ++ field ∷ [] = grind (arith, common_steps) in
-    let IsIndexed : List Field → Type 0 = λ fs. IfSome c.index_next.new.index (λ index. IsIndexOf fs index.value) in
-    rw more (AreNamed-push fields field c.self.invariant.0 c.requires.whole (rw c.self.view_is c.requires.fresh), subst IsIndexed known (c.in_ok-index_next.ensures.ok (tree c.args.value)))
+pub put_name-requires-clause-fresh : goal.put_name-requires-clause-fresh
+put_name-requires-clause-fresh c =
+    let names = c.self.inside.names.value in
+    let values = c.self.inside.values.items in
+    let count : c.len.result ≡ length (map tree values) = omega (arith, c.len.ensures, c.in_ok-reserve.ensures.len, c.self.inside.values.ok.0, length-map values tree) in
+    let fresh : has_name c.args.name.now (zip names (map tree values)) ≡ false = rw c.self.view_is c.requires.fresh in
+    rw count (sym (has_name-zip c.args.name.now names (map tree values) (rw length-map c.self.invariant)) ∙ fresh)
+
+pub returns-clause-ok : goal.returns-clause-ok
+returns-clause-ok c =
+    let names = c.self.inside.names.value in
+    let values = c.self.inside.values.items in
+    let count : c.len.result ≡ length (map tree values) = omega (arith, c.len.ensures, c.in_ok-reserve.ensures.len, c.self.inside.values.ok.0, length-map values tree) in
+    let items : map tree c.push.new.self.items ≡ map tree values ++ tree c.args.value ∷ [] = rw (c.in_ok-push.ensures.items, c.in_ok-reserve.ensures.items) (map-append tree values _) in
+    let grown = rw count at c.in_ok-put_name.ensures.ok in
+    rw (← c.self.view_is, items) (zip-more names c.put_name.new.names.value (map tree values) c.args.name.now (tree c.args.value) (rw length-map c.self.invariant) grown)

@@ -1,8 +1,11 @@
-use Rattle.std.proofs.Common.{◌≡◌, ◌<◌, Some, sym, map, length, arith}
+use Rattle.std.proofs.Common.{◌≡◌, ◌<◌, Some, [], sym, ap, ◌∙◌, map, length, arith}
+use Rattle.std.specs.List.{zip}
 use Rattle.std.proofs.lemmas.List.{length-map}
+use Rattle.std.proofs.lemmas.Slice.Zip.{length-zip, get_or-zip}
 use Rattle.std.proofs.Math.ListN.{get_or-map}
+use Rattle.dv_bson.specs.Tree.{Field}
 use Rattle.dv_bson.specs.Names.{place_under}
-use Rattle.dv_bson.specs.View.{field_of}
+use Rattle.dv_bson.specs.View.{tree}
 use Rattle.dv_bson.proofs.Named.{place_within, value_there, value_nowhere}
 use Rattle.dv_bson.proofs.value.Fields.get.Goals as goal
 
@@ -12,17 +15,20 @@ returns-in_err-place c =
 
 pub index-requires : goal.index-requires
 index-requires c =
-    let entries = c.self.inside.entries.items in
-    let place = c.in_ok-place.place in
-    let found : place_under c.args.name.now (map field_of entries) ≡ Some place = rw c.self.view_is (sym c.in_ok-place.ensures.place) in
-    let within : place < length entries = rw (← length-map entries field_of) (place_within c.args.name.now place (map field_of entries) found) in
-    omega (arith, c.self.inside.entries.ok.0)
+    let values = c.self.inside.values.items in
+    let fields = zip c.self.inside.names.value (map tree values) in
+    let found : place_under c.args.name.now fields ≡ Some c.in_ok-place.place = rw c.self.view_is (sym c.in_ok-place.ensures.place) in
+    omega (arith, place_within c.args.name.now c.in_ok-place.place fields found, length-zip c.self.inside.names.value (map tree values), length-map values tree, c.self.inside.values.ok.0)
 
 pub returns : goal.returns
 returns c =
-    let entries = c.self.inside.entries.items in
+    let names = c.self.inside.names.value in
+    let values = c.self.inside.values.items in
     let place = c.in_ok-place.place in
-    let entry = c.index.result.now in
-    let found : place_under c.args.name.now (map field_of entries) ≡ Some place = rw c.self.view_is (sym c.in_ok-place.ensures.place) in
-    let there = value_there c.args.name.now place (map field_of entries) (field_of entry) found in
-    rw (← c.self.view_is) (sym (rw (get_or-map field_of entries place entry, ← c.index.ensures) at there))
+    let value = c.index.result.now in
+    let none : Field = ([], tree value) in
+    let found : place_under c.args.name.now (zip names (map tree values)) ≡ Some place = rw c.self.view_is (sym c.in_ok-place.ensures.place) in
+    let within = place_within c.args.name.now place _ found in
+    let pair = get_or-zip names (map tree values) place none (omega (arith, within, length-zip names (map tree values))) (omega (arith, within, length-zip names (map tree values))) in
+    let there = value_there c.args.name.now place _ none found ∙ ap (λ (f : Field). Some f.1) pair in
+    rw (← c.self.view_is) (sym (rw (get_or-map tree values place value, ← c.index.ensures) at there))
