@@ -1,6 +1,5 @@
 -- What an insertion leaves.
-use Rattle.std.proofs.Common.{◌≡◌, Bool, true, false, List, [], ◌∷◌, map, Option, None, Some, cond, refl, ap, ◌∙◌}
-use Rattle.std.specs.List.{AllByRecursion}
+use Rattle.std.proofs.Common.{◌≡◌, Bool, true, false, List, [], ◌∷◌, Option, None, Some, cond, refl, ap, ◌∙◌}
 use Rattle.std.specs.List.Sorted.{IsStrictlySortedBy}
 use Rattle.std.specs.Cmp.{Equal-is}
 use Rattle.std.specs.Ordering.{is_lt, is_eq, ordering_reverse}
@@ -10,6 +9,7 @@ use Rattle.dv_bson.specs.Tree.{Field}
 use Rattle.dv_order.specs.Key.{KeyTree, key_order}
 use Rattle.dv_order.specs.KeyLaws.{key_order_total}
 use Rattle.dv_coll.specs.Collection.{IsAscending, id_key, has_key, found, inserted}
+use Rattle.dv_coll.proofs.Places.{Follow}
 
 -- a document that is found nowhere is found neither first nor behind
 absent_first : (b : Bool) (d : List Field) (r : Option (List Field)) → cond b (Some d) r ≡ None → b ≡ false
@@ -21,20 +21,16 @@ absent_behind true d r e = cc
 absent_behind false d r e = e
 
 module _ (k : KeyTree) where
-  -- the documents come after the key
-  abbrev Follow : List (List Field) → Type 0
-  Follow ds = AllByRecursion (λ l. key_order k l ≡ Less) (map id_key ds)
-
-  follow-earlier : (l : KeyTree) (ds : List (List Field)) → key_order k l ≡ Less → AllByRecursion (λ m. key_order l m ≡ Less) (map id_key ds) → Follow ds
+  follow-earlier : (l : KeyTree) (ds : List (List Field)) → key_order k l ≡ Less → Follow l ds → Follow k ds
   follow-earlier l [] before h = tt
   follow-earlier l (d ∷ ds) before h = (key_order_total.trans k l (id_key d) before h.0, follow-earlier l ds before h.1)
 
-  follow-placed : (o : Ordering) (d e : List Field) (ds es : List (List Field)) → key_order k (id_key d) ≡ Less → Follow (e ∷ ds) → Follow es → Follow (cond (is_lt o) (d ∷ e ∷ ds) (e ∷ es))
+  follow-placed : (o : Ordering) (d e : List Field) (ds es : List (List Field)) → key_order k (id_key d) ≡ Less → Follow k (e ∷ ds) → Follow k es → Follow k (cond (is_lt o) (d ∷ e ∷ ds) (e ∷ es))
   follow-placed Less d e ds es before h rest = (before, h)
   follow-placed Equal d e ds es before h rest = (h.0, rest)
   follow-placed Greater d e ds es before h rest = (h.0, rest)
 
-  follow-inserted : (d : List Field) (ds : List (List Field)) → key_order k (id_key d) ≡ Less → Follow ds → Follow (inserted d ds)
+  follow-inserted : (d : List Field) (ds : List (List Field)) → key_order k (id_key d) ≡ Less → Follow k ds → Follow k (inserted d ds)
   follow-inserted d [] before h = (before, tt)
   follow-inserted d (e ∷ ds) before h = follow-placed _ d e ds _ before h (follow-inserted d ds before h.1)
 

@@ -1,2 +1,4 @@
 pub mod Places
 pub mod Inserted
+pub mod Removed
+pub mod Replaced

@@ -3,12 +3,17 @@ use Rattle.std.proofs.Common.{◌≡◌, List, [], ◌∷◌, map, None, refl, a
 use Rattle.std.specs.List.{AllByRecursion}
 use Rattle.std.specs.Map.{keys_of, values_of, lookup}
 use Rattle.std.specs.BTreeMap.{is_at, insert_entry}
+use Rattle.std.specs.declared.cmp.Ordering.TheVariants.{Less}
 use Rattle.dv_bson.specs.Tree.{Field}
 use Rattle.dv_order.specs.Key.{KeyTree, key_order}
 use Rattle.dv_coll.specs.Collection.{HasId, id_key, found, inserted}
 
-abbrev Entries : Type 0
+abbrev pub Entries : Type 0
 Entries = List (KeyTree × List Field)
+
+-- the documents come after the key
+abbrev pub Follow : KeyTree → List (List Field) → Type 0
+Follow k ds = AllByRecursion (λ l. key_order k l ≡ Less) (map id_key ds)
 
 pub lookup-found : (k : KeyTree) (es : Entries) → keys_of es ≡ map id_key (values_of es) → lookup (is_at (key_order k)) es ≡ found k (values_of es)
 lookup-found k [] e = refl

@@ -1,6 +1,6 @@
 -- Collections: documents that begin with an `_id` of their own, in the order of these.
-use Rattle.std.specs.Prelude.{◌≡◌, pos, Bool, List, [], ◌∷◌, map, Option, codes, if◌then◌else◌, ⊤}
-use Rattle.std.specs.List.{find}
+use Rattle.std.specs.Prelude.{◌≡◌, pos, Bool, not, List, [], ◌∷◌, map, Option, codes, if◌then◌else◌, ⊤}
+use Rattle.std.specs.List.{find, filter}
 use Rattle.std.specs.List.Sorted.{IsStrictlySortedBy}
 use Rattle.std.specs.Ordering.{is_eq, is_lt}
 use Rattle.dv_bson.specs.Tree.{Tree, int64, array, Field}
@@ -37,3 +37,11 @@ found k ds = find (has_key k) ds
 abbrev pub inserted : List Field → List (List Field) → List (List Field)
 inserted d [] = d ∷ []
 inserted d (e ∷ ds) = if is_lt (key_order (id_key d) (id_key e)) then d ∷ e ∷ ds else e ∷ inserted d ds
+
+-- the documents but the one under the key
+abbrev pub removed : KeyTree → List (List Field) → List (List Field)
+removed k ds = filter (λ d. not (has_key k d)) ds
+
+-- the documents, with d in place of the one that has an equal `_id`
+abbrev pub replaced : List Field → List (List Field) → List (List Field)
+replaced d ds = map (λ e. if has_key (id_key d) e then d else e) ds

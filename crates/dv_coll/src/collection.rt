@@ -1,14 +1,14 @@
 //! Documents by their `_id`.
 
-ghost use Rattle.std.specs.Prelude.{◌≡◌, ◌↔◌, [], None, length, IfOk, IsErrOf, IsSome, IsTrue, OnErr, OnOk};
+ghost use Rattle.std.specs.Prelude.{◌≡◌, ◌↔◌, [], None, length, IfOk, IsErrOf, IsSome, IsTrue, OnErr, OnOk, is_some};
 ghost use Rattle.std.specs.Iterator.{YieldsFirstRef, item_count};
 ghost use Rattle.std.specs.List.{AllByRecursion};
 ghost use Rattle.std.specs.Option.{option_map};
-ghost use Rattle.dv_coll.specs.Collection.{HasId, IsAscending, id_key, found, inserted};
+ghost use Rattle.dv_coll.specs.Collection.{HasId, IsAscending, id_key, found, inserted, removed, replaced};
 
 use crate::fault::InsertFault;
 use dv_bson::{Document, NoMemory};
-use dv_order::{Key, key_of};
+use dv_order::{Key, key_of, laws, replace_under_first};
 use std::alloc::Global;
 use std::collections::BTreeMap;
 use std::collections::btree_map::{Entry, Values};
@@ -100,6 +100,27 @@ impl Collection {
     {
         let key = key_of_id(&document)?;
         self.insert_under(key, document)
+    }
+
+    /// Puts the document in place of the one with an equal `_id`, and answers whether there is one. Where there is none,
+    /// nothing is changed, and the document is dropped. Takes no memory.
+    #[tactic(auto, using(crate::proofs::Replaced::replacements))]
+    pub fn replace(&mut self, document: Document) -> bool
+        requires { HasId document }
+        ensures found { result ≡ is_some (found (id_key document) self.old) }
+        ensures documents { self.new ≡ replaced document self.old }
+    {
+        laws::equal_keys_are_one();
+        replace_under_first(&mut self.documents, document)
+    }
+
+    /// Takes out the document under the key of its `_id`, where there is one, and answers it. Takes no memory.
+    #[tactic(auto, using(crate::proofs::Places::places, crate::proofs::Removed::removals))]
+    pub fn remove(&mut self, key: &Key) -> Option<Document>
+        ensures document { result ≡ found key.now self.old }
+        ensures documents { self.new ≡ removed key.now self.old }
+    {
+        self.documents.remove(key)
     }
 
     /// Puts the document in its place, under the key of its `_id`. Refused with `Duplicate` exactly where a document

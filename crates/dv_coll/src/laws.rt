@@ -2,9 +2,11 @@
 
 ghost use Rattle.std.specs.Prelude.{◌≡◌, List, None, Some, if◌then◌else◌};
 ghost use Rattle.std.specs.List.{AllByRecursion};
+ghost use Rattle.std.specs.Option.{option_map};
+ghost use Rattle.std.specs.Ordering.{is_eq};
 ghost use Rattle.dv_bson.specs.Tree.{Field};
-ghost use Rattle.dv_order.specs.Key.{KeyTree};
-ghost use Rattle.dv_coll.specs.Collection.{HasId, IsAscending, found, has_key, id_key, inserted};
+ghost use Rattle.dv_order.specs.Key.{KeyTree, key_order};
+ghost use Rattle.dv_coll.specs.Collection.{HasId, IsAscending, found, has_key, id_key, inserted, removed, replaced};
 
 /// Documents ascend after one is inserted whose `_id` is new.
 #[tactic(auto, using(crate::proofs::Inserted::inserted_ascending))]
@@ -22,4 +24,43 @@ pub fn inserted_documents_begin_with_ids()
 #[tactic(auto, using(crate::proofs::Inserted::found_inserted))]
 pub fn inserted_document_is_found()
     ensures { (k : KeyTree) (d : List Field) (ds : List (List Field)) → found (id_key d) ds ≡ None → found k (inserted d ds) ≡ (if has_key k d then Some d else found k ds) }
+{}
+
+/// Documents ascend after one is taken out.
+#[tactic(auto, using(crate::proofs::Removed::removed_ascending))]
+pub fn removed_documents_ascend()
+    ensures { (k : KeyTree) (ds : List (List Field)) → IsAscending ds → IsAscending (removed k ds) }
+{}
+
+/// Documents that begin with an `_id` still do after one is taken out.
+#[tactic(auto, using(crate::proofs::Removed::identified_removed))]
+pub fn removed_documents_begin_with_ids()
+    ensures { (k : KeyTree) (ds : List (List Field)) → AllByRecursion HasId ds → AllByRecursion HasId (removed k ds) }
+{}
+
+/// Nothing is found under a key after its document is taken out, and under each other key what was found before.
+#[tactic(auto, using(crate::proofs::Removed::found_removed))]
+pub fn removed_document_is_not_found()
+    ensures { (k l : KeyTree) (ds : List (List Field)) → found l (removed k ds) ≡ (if is_eq (key_order k l) then None else found l ds) }
+{}
+
+/// Documents ascend after one is put in place of another.
+#[tactic(auto, using(crate::proofs::Replaced::replaced_ascending))]
+pub fn replaced_documents_ascend()
+    ensures { (d : List Field) (ds : List (List Field)) → HasId d → AllByRecursion HasId ds → IsAscending ds → IsAscending (replaced d ds) }
+{
+    dv_order::laws::equal_keys_are_one();
+}
+
+/// Documents that begin with an `_id` still do after another such document is put in place of one.
+#[tactic(auto, using(crate::proofs::Replaced::identified_replaced))]
+pub fn replaced_documents_begin_with_ids()
+    ensures { (d : List Field) (ds : List (List Field)) → HasId d → AllByRecursion HasId ds → AllByRecursion HasId (replaced d ds) }
+{}
+
+/// A document is found under its `_id` after it is put in place of one with an equal `_id`, and under each other key
+/// what was found before. Where there is no such document, nothing changes.
+#[tactic(auto, using(crate::proofs::Replaced::found_replaced))]
+pub fn replaced_document_is_found()
+    ensures { (k : KeyTree) (d : List Field) (ds : List (List Field)) → found k (replaced d ds) ≡ (if has_key k d then option_map (λ e. d) (found k ds) else found k ds) }
 {}

@@ -44,6 +44,40 @@ fn integers_of_either_width_are_one_id(rt: HostRuntime) -> Result<(), Fail> {
     Ok(())
 }
 
+/// The document `{_id: id, n: number}`.
+fn with_number(alloc: Global, id: Value, number: i64) -> Result<Document, BsonFault>
+    requires { IsNoArray (tree id) }
+    ensures { IfOk result HasId }
+{
+    let mut document = Document::new(alloc);
+    document.push("_id", id)?;
+    document.push("n", Value::Int64(number))?;
+    Ok(document)
+}
+
+#[test]
+fn documents_are_replaced_and_removed(rt: HostRuntime) -> Result<(), Fail> {
+    let mut documents = Collection::new(rt.alloc());
+    for id in 0..100 {
+        documents.insert(with_number(rt.alloc(), Value::Int64(id), 0)?)?;
+    }
+    let five = with_number(rt.alloc(), Value::Int32(5), 1)?;
+    assert!(rt; documents.replace(five));
+    let hundred = with_number(rt.alloc(), Value::Int32(100), 1)?;
+    assert!(rt; !documents.replace(hundred));
+    assert_eq!(rt; documents.len(), 100);
+
+    let key = key_of(&Value::Int64(5))?;
+    let Some(removed) = documents.remove(&key) else {
+        return Err("5 is there")?;
+    };
+    assert!(rt; matches!(removed.get("_id"), Some(Value::Int32(5))));
+    assert!(rt; matches!(removed.get("n"), Some(Value::Int64(1))));
+    assert!(rt; documents.remove(&key).is_none());
+    assert_eq!(rt; documents.len(), 99);
+    Ok(())
+}
+
 /// Whether there is a document whose `_id` is this 64-bit integer.
 fn has_number(document: Option<&Document>, number: i64) -> bool {
     match document.and_then(|document| document.get("_id")) {

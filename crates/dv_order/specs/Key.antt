@@ -1,10 +1,10 @@
 -- Keys: what a sorted index keeps of a value.
-use Rattle.std.specs.Prelude.{◌≡◌, ℕ, Option, None, Some, refl}
+use Rattle.std.specs.Prelude.{◌≡◌, ℕ, List, [], ◌∷◌, Option, None, Some, refl}
 use Rattle.std.specs.declared.cmp.Ordering.{Ordering}
 use Rattle.std.specs.Ordering.{nat_cmp}
 use Rattle.std.proofs.Common.{ap}
 use base.Stored.{Gv, gnum, gcons, Coded}
-use Rattle.dv_bson.specs.Tree.{Tree}
+use Rattle.dv_bson.specs.Tree.{Tree, Field}
 use Rattle.dv_bson.specs.TreeCode.{coded_tree}
 use Rattle.dv_order.specs.Order.{canon, class, order}
 
@@ -27,6 +27,11 @@ key_order k l = nat_cmp (key_class k) (key_class l)
 abbrev pub key_at : Option Tree → KeyTree
 key_at None = no_element
 key_at (Some v) = value (canon v)
+
+-- the value of a document's first field, where it has one
+abbrev pub first_value : List Field → Option Tree
+first_value [] = None
+first_value (f ∷ fs) = Some f.1
 
 -- a key as a ghost value, one to one
 abbrev pub code_key : KeyTree → Gv

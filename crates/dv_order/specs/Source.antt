@@ -2,9 +2,11 @@
 use Rattle.std.specs.Prelude.{Option, None, Some}
 use Rattle.dv_bson.specs.Tree.{Tree}
 use Rattle.dv_bson.specs.View.{tree}
+use Rattle.dv_order.specs.Key.{first_value}
 use Rattle.dv_order.specs.declared.key.Source.{Source}
-use Rattle.dv_order.specs.declared.key.Source.TheVariants.{NoElement, Element}
+use Rattle.dv_order.specs.declared.key.Source.TheVariants.{NoElement, Element, First}
 
 abbrev pub source_value : Source → Option Tree
 source_value NoElement = None
 source_value (Element v) = Some (tree v)
+source_value (First d) = first_value d

@@ -1,18 +1,20 @@
 //! Keys, by which a sorted index finds values.
 
-ghost use Rattle.std.specs.Prelude.{◌≡◌, IfOk, refl};
+ghost use Rattle.std.specs.Prelude.{◌≡◌, IfOk, is_some, refl};
+ghost use Rattle.std.specs.BTreeMap.{get_by, is_at};
+ghost use Rattle.std.specs.Map.{set_value};
 ghost use Rattle.std.specs.Cmp.{eq_by_cmp_equiv, partial_equiv_from_equiv, partial_order_from_total};
-ghost use Rattle.std.specs.declared.cmp.Ordering.TheVariants.{Equal};
 ghost use Rattle.std.specs.Option.{option_map};
 ghost use Rattle.std.specs.Ordering.{as_partial_cmp, eq_by_cmp};
 ghost use Rattle.dv_bson.specs.View.{tree};
 ghost use Rattle.dv_order.specs.Order.{canon};
-ghost use Rattle.dv_order.specs.Key.{key_at, key_class, key_order, no_element, value as key_of_tree};
+ghost use Rattle.dv_order.specs.Key.{first_value, key_at, key_class, key_order, no_element, value as key_of_tree};
 ghost use Rattle.dv_order.specs.KeyLaws.{key_order_total};
 
 use crate::comparison::{class_of, compare};
-use dv_bson::{NoMemory, Value};
+use dv_bson::{Document, NoMemory, Value};
 use std::cmp::Ordering;
+use std::collections::BTreeMap;
 use std::marker::Model;
 
 /// What a key is made of.
@@ -20,6 +22,8 @@ use std::marker::Model;
 enum Source {
     NoElement,
     Element(Value),
+    /// The document whose first field has the value.
+    First(Document),
 }
 
 /// The key of a value, or one that no value has. Keys stand as `compare` has their values, and are equal exactly where
@@ -77,6 +81,10 @@ impl Key {
         match &self.source {
             Source::NoElement => None,
             Source::Element(value) => Some(value),
+            Source::First(document) => match document.entry(0) {
+                Some((_, value)) => Some(value),
+                None => None,
+            },
         }
     }
 
@@ -92,13 +100,29 @@ impl Key {
     }
 }
 
-/// Two keys that stand beside each other are one: a key has nothing but what the order sees.
-#[tactic(auto, using(crate::proofs::SameOrder::same_key))]
-pub fn equal_keys_are_one(a: &Key, b: &Key)
-    ensures { key_order a.now b.now ≡ Equal → a.now ≡ b.now }
+/// Puts the document in place of the one that stands in the map under the key of the new one's first value, and answers
+/// whether there is one; where there is none, the document is dropped. A document without fields has the key that no
+/// value has. Takes no memory, and time logarithmic in the map's length: while the key is looked up it owns the document.
+#[tactic(auto, using(crate::proofs::Absent::set_value_absent))]
+pub fn replace_under_first(map: &mut BTreeMap<Key, Document>, document: Document) -> bool
+    ensures documents { map.new.entries ≡ set_value (is_at (key_order (key_at (first_value document)))) map.old.entries document }
+    ensures found { result ≡ is_some (get_by (key_order (key_at (first_value document))) map.old) }
 {
-    let _ = &a.source;
-    let _ = &b.source;
+    let key = Key {
+        source: Source::First(document),
+    };
+    let place = map.get_mut(&key);
+    let Key { source } = key;
+    let Source::First(document) = source else {
+        unreachable!()
+    };
+    match place {
+        Some(place) => {
+            *place = document;
+            true
+        }
+        None => false,
+    }
 }
 
 impl PartialEq for Key {

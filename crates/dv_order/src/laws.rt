@@ -1,11 +1,11 @@
 //! The laws of the order, each the contract of a function that does nothing.
 
-ghost use Rattle.std.specs.Prelude.{◌≡◌, ◌↔◌, ◌<◌, ℕ, ℤ, pos, negsuc, Bool, false, true, List, [], ◌∷◌, codes};
+ghost use Rattle.std.specs.Prelude.{◌≡◌, ◌↔◌, ◌<◌, ℕ, ℤ, pos, negsuc, Bool, false, true, List, [], ◌∷◌, Option, codes};
 ghost use Rattle.std.specs.declared.cmp.Ordering.TheVariants.{Less, Equal};
 ghost use Rattle.std.specs.Ordering.{ordering_reverse, is_ne};
 ghost use Rattle.dv_bson.specs.Tree.{Tree, int32, int64, string, document, array, boolean, binary, object_id, date, null, timestamp, min_key, max_key, fields_of, Fields, Elements, elements_of};
 ghost use Rattle.dv_order.specs.Order.{canon, class, order, below};
-ghost use Rattle.dv_order.specs.Key.{key_order, no_element, value};
+ghost use Rattle.dv_order.specs.Key.{key_at, key_order, no_element, value};
 
 /// Any two values compare, and either way round alike.
 #[tactic(auto, using(crate::specs::TotalOrder::order_total))]
@@ -29,6 +29,12 @@ pub fn equal_is_same_but_for_widths()
 #[tactic(auto, using(crate::proofs::SameOrder::order_of_canon))]
 pub fn keys_stand_as_their_values()
     ensures { (v w : Tree) → key_order (value (canon v)) (value (canon w)) ≡ order v w }
+{}
+
+/// Keys that stand beside each other are one: a key has nothing but what the order sees.
+#[tactic(auto, using(crate::proofs::SameOrder::same_key))]
+pub fn equal_keys_are_one()
+    ensures { (v w : Option Tree) → key_order (key_at v) (key_at w) ≡ Equal → key_at v ≡ key_at w }
 {}
 
 /// A value of a lower class stands before each one of a higher class.

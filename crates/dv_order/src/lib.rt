@@ -6,7 +6,7 @@ mod key;
 pub mod laws;
 
 pub use comparison::compare;
-pub use key::{Key, key_of};
+pub use key::{Key, key_of, replace_under_first};
 
 #[cfg(test)]
 mod tests;
