@@ -1,6 +1,8 @@
 mod Sessions
-mod Replies
+mod Sections
 mod Fronts
+mod Runs
+mod Replies
 mod Streams
 mod Growth
 mod Spelled

@@ -13,11 +13,13 @@ use Rattle.dv_command.specs.declared.command.Command.TheVariants.{Invalid}
 use Rattle.dv_core.specs.declared.store.Outcome.{Outcome}
 use Rattle.dv_core.specs.declared.store.Outcome.TheVariants.{Reply}
 use Rattle.dv_core.specs.State.{State}
-use Rattle.dv_wire.specs.Message.{Message, message_spelling}
+use Rattle.dv_wire.specs.declared.fault.CloseFault.TheVariants.{NoMemory}
+use Rattle.dv_wire.specs.Message.{Message, message_spelling, reading, closed}
 use Rattle.dv_command.specs.Replies.{wants_memory}
 use Rattle.dv_core.specs.Step.{MemoryStep}
-use Rattle.dv_wire.specs.Schedule.{Appends, CarriesOut, command_read, command_of}
-use Rattle.dv_wire.specs.View.{Carries, unmeasured}
+use Rattle.dv_wire.specs.Schedule.{Appends, silence, answer_to, CarriesOut, command_read, command_of}
+use Rattle.dv_wire.specs.View.{GoesOn, Carries, unmeasured}
+use Rattle.dv_wire.proofs.Runs.{follows_shut, follows_on, in_front-silence}
 
 -- ---- bytes
 
@@ -66,18 +68,28 @@ steps_as session old new meant read outcome (inr e) steps = unread session old n
 
 -- ---- one message
 
-module _ (session : ℕ) (old new : State) (message : Message) (reply : List Field) (steps : MemoryStep old session (command_of message) (Reply reply) new) where
-  -- moreToCome is carried out and not answered
-  pub silent : message.more_to_come ≡ true → wants_memory reply ≡ false → CarriesOut session old (message ∷ []) [] new true
-  silent more told = (new, Reply reply, steps, inl ([], rw more refl, (refl, refl, refl), rw (more, told) refl))
+-- in place of an answer the session is closed
+pub closes : (session : ℕ) (old new : State) (message : Message) (outcome : Outcome) → MemoryStep old session (command_of message) outcome new
+    → CarriesOut session old (message ∷ []) (reading []) (silence new (closed NoMemory))
+closes session old new message outcome steps =
+    (outcome, new, steps, follows_shut (answer_to message outcome) new (CarriesOut session new [] (reading [])) (silence new (closed NoMemory)) refl)
 
-  -- in place of a reply the session is closed
-  pub shuts : CarriesOut session old (message ∷ []) [] new false
-  shuts = (new, Reply reply, steps, inr (refl, refl, refl))
+module _ (session : ℕ) (old new : State) (message : Message) (reply : List Field) (steps : MemoryStep old session (command_of message) (Reply reply) new) where
+  told : (bytes : List ℕ) → answer_to message (Reply reply) ≡ Some bytes → GoesOn session old (message ∷ []) bytes new
+  told bytes is = (
+    Reply reply,
+    new,
+    steps,
+    follows_on (answer_to message (Reply reply)) new (CarriesOut session new [] (reading [])) bytes (silence new (reading [])) (record { bytes = bytes; state = new; conversation = reading [] }) is refl
+        (sym (in_front-silence (record { bytes = bytes; state = new; conversation = reading [] }))),
+  )
+
+  -- moreToCome is carried out and not answered
+  pub silent : message.more_to_come ≡ true → wants_memory reply ≡ false → GoesOn session old (message ∷ []) [] new
+  silent more no_want = told [] (rw (more, no_want) refl)
 
   pub answers : {A E : Type 0} (sent : Result A E) (before after : List ℕ) → message.more_to_come ≡ false
       → OnOk sent (after ≡ before ++ message_spelling 0 message.request_id 0 (0 ∷ spelling reply)) → OnErr sent (after ≡ before)
       → Appends before after (λ bytes. Carries session old message bytes new sent)
-  answers (Ok x) before after more ok err =
-      (message_spelling 0 message.request_id 0 (0 ∷ spelling reply), ok, (new, Reply reply, steps, inl ([], rw more (sym (append-nil _)), (refl, refl, refl), rw more refl)))
-  answers (Err e) before after more ok err = ([], err ∙ sym (append-nil before), inl shuts)
+  answers (Ok x) before after more ok err = (message_spelling 0 message.request_id 0 (0 ∷ spelling reply), ok, told _ (rw more refl))
+  answers (Err e) before after more ok err = ([], err ∙ sym (append-nil before), closes session old new message (Reply reply) steps)
