@@ -12,6 +12,7 @@ use Rattle.dv_wire.specs.Schedule.{Run, in_front, silence, CarriesOut, Takes, ta
 use Rattle.dv_wire.specs.View.{GoesOn}
 use Rattle.dv_wire.proofs.Runs.{in_front-silence, carries_then, carries_to, carries_cases, carries_all, carries_shut, stops_so, Divides}
 use Rattle.dv_wire.proofs.Growth.{split_continues}
+use Rattle.dv_wire.proofs.Worlds.{conversation_of-with}
 
 take_past : (n : ℕ) (xs ys : List Message) → take (length xs + n) (xs ++ ys) ≡ xs ++ take n ys
 take_past n [] ys = rw zero-add refl
@@ -150,14 +151,9 @@ hears_one session old (reading kept) piece more run two =
 
 -- ---- the world
 
-module _ (session : ℕ) where
-  is_now : (ss : List (ℕ × Conversation)) (before now : Conversation) → conversation_of session ss ≡ Some before → conversation_of session (with_conversation session now ss) ≡ Some now
-  is_now [] before now e = absurd cc
-  is_now (s ∷ ss) before now e = grind (arith, is_now ss before now, eq-eqb session session refl)
-
-  is_last : (ss : List (ℕ × Conversation)) (first now : Conversation) → with_conversation session now (with_conversation session first ss) ≡ with_conversation session now ss
-  is_last [] first now = refl
-  is_last (s ∷ ss) first now = grind (arith, is_last ss first now, eq-eqb session session refl)
+is_last : (session : ℕ) (ss : List (ℕ × Conversation)) (first now : Conversation) → with_conversation session now (with_conversation session first ss) ≡ with_conversation session now ss
+is_last session [] first now = refl
+is_last session (s ∷ ss) first now = grind (arith, is_last session ss first now, eq-eqb session session refl)
 
 -- a session that stood in another way between stands as it did last
 world_twice : (old : World) (session : ℕ) (one two : Run) → world_behind session two (world_behind session one old) ≡ world_behind session two old
@@ -172,7 +168,7 @@ feeds_two old new session piece more bytes answer None e feeds =
 feeds_two old new session piece more bytes answer (Some before) e feeds =
     let (run, hears, are, told, world) = rw e at feeds in
     let two = hears_two session old.state before piece more run hears in
-    let between : conversation_of session (world_behind session two.one old).sessions ≡ Some two.one.conversation = is_now session old.sessions before two.one.conversation e in
+    let between : conversation_of session (world_behind session two.one old).sessions ≡ Some two.one.conversation = conversation_of-with session old.sessions before two.one.conversation e in
     let same = ap (λ (r : Run). r.conversation) two.both in (
       two.one.bytes,
       two.two.bytes,
@@ -186,6 +182,13 @@ feeds_two old new session piece more bytes answer (Some before) e feeds =
 parts_same : (bytes first others one two : List ℕ) → bytes ≡ first ++ others → first ≡ one → others ≡ two → bytes ≡ one ++ two
 parts_same bytes first others one two both same_one same_two = cc
 
+feeds_so : (old new : World) (session : ℕ) (before : Conversation) (piece more bytes : List ℕ) (answer : Fed) (one two : Run) → conversation_of session old.sessions ≡ Some before
+    → Hears session old.state before piece one → Hears session one.state one.conversation more two → bytes ≡ one.bytes ++ two.bytes → answer ≡ fed_of two.conversation
+    → new ≡ world_behind session two (world_behind session one old) → Feeds old session (piece ++ more) bytes answer new
+feeds_so old new session before piece more bytes answer one two e first second are told world =
+    let joint : HearsTwo session old.state before piece more (in_front one.bytes two) = record { one = one; two = two; first = first; second = second; both = refl } in
+    rw e (in_front one.bytes two, hears_one session old.state before piece more (in_front one.bytes two) joint, are, told, world ∙ world_twice old session one two)
+
 feeds_one : (old new : World) (session : ℕ) (piece more bytes : List ℕ) (answer : Fed) (here : Option Conversation) → conversation_of session old.sessions ≡ here
     → FeedsAll old session piece (more ∷ []) bytes answer new → Feeds old session (piece ++ more) bytes answer new
 feeds_one old new session piece more bytes answer None e (first, others, mid, told, both, before, behind) =
@@ -194,16 +197,9 @@ feeds_one old new session piece more bytes answer None e (first, others, mid, to
     rw e (both ∙ rw (one.0, two.0) refl, two.1, two.2)
 feeds_one old new session piece more bytes answer (Some before) e (first, others, mid, told, both, feeds, behind) =
     let (one, hears, are, told_one, world) = rw e at feeds in
-    let between : conversation_of session (world_behind session one old).sessions ≡ Some one.conversation = is_now session old.sessions before one.conversation e in
+    let between : conversation_of session (world_behind session one old).sessions ≡ Some one.conversation = conversation_of-with session old.sessions before one.conversation e in
     let (two, hears_more, are_more, told_two, world_two) = rw between at (subst (λ (w : World). Feeds w session more others answer new) world behind) in
-    let joint : HearsTwo session old.state before piece more (in_front one.bytes two) = record { one = one; two = two; first = hears; second = hears_more; both = refl } in
-    rw e (
-      in_front one.bytes two,
-      hears_one session old.state before piece more (in_front one.bytes two) joint,
-      parts_same bytes first others one.bytes two.bytes both are are_more,
-      told_two,
-      world_two ∙ world_twice old session one two,
-    )
+    feeds_so old new session before piece more bytes answer one two e hears hears_more (parts_same bytes first others one.bytes two.bytes both are are_more) told_two world_two
 
 -- ---- any number of pieces
 

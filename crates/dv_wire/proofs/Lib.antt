@@ -6,4 +6,6 @@ mod Replies
 mod Streams
 mod Growth
 mod Spelled
+mod Worlds
 mod Cuts
+mod Worked
