@@ -1,21 +1,18 @@
 -- The bytes of a reply, and what carrying out one message answers.
-use Rattle.std.proofs.Common.{◌≡◌, ℕ, ◌+◌, ◌-◌, ◌⊎◌, true, false, List, [], ◌∷◌, ◌++◌, length, take, drop, Some, Result, Ok, Err, refl, sym, ap, ◌∙◌, append_assoc, arith, inl, inr}
+use Rattle.std.proofs.Common.{◌≡◌, ℕ, ◌+◌, ◌-◌, ◌⊎◌, List, [], ◌∷◌, ◌++◌, length, take, drop, Some, Result, Ok, Err, refl, sym, ap, ◌∙◌, append_assoc, arith, inl, inr}
 use Rattle.std.specs.Prelude.{OnOk, OnErr}
 use Rattle.std.specs.Int.{w32, to_le_bytes}
 use Rattle.std.proofs.lemmas.List.{append-nil, take_at, drop_at, drop-drop, length-append}
 use Rattle.dv_bson.specs.declared.fault.BsonFault.{BsonFault}
 use Rattle.dv_bson.specs.declared.fault.BsonFault.TheVariants as bson
 use Rattle.dv_bson.specs.Tree.{Field}
-use Rattle.dv_bson.specs.Spelling.{spelling}
 use Rattle.dv_bson.specs.Reading.{document_at, first_fault, fault_of}
 use Rattle.dv_command.specs.declared.command.Command.{Command}
 use Rattle.dv_command.specs.declared.command.Command.TheVariants.{Invalid}
 use Rattle.dv_core.specs.declared.store.Outcome.{Outcome}
-use Rattle.dv_core.specs.declared.store.Outcome.TheVariants.{Reply}
 use Rattle.dv_core.specs.State.{State}
 use Rattle.dv_wire.specs.declared.fault.CloseFault.TheVariants.{NoMemory}
 use Rattle.dv_wire.specs.Message.{Message, message_spelling, reading, closed}
-use Rattle.dv_command.specs.Replies.{wants_memory}
 use Rattle.dv_core.specs.Step.{MemoryStep}
 use Rattle.dv_wire.specs.Schedule.{Appends, silence, answer_to, CarriesOut, command_read, command_of}
 use Rattle.dv_wire.specs.View.{GoesOn, Carries, unmeasured}
@@ -23,24 +20,30 @@ use Rattle.dv_wire.proofs.Runs.{follows_shut, follows_on, in_front-silence}
 
 -- ---- bytes
 
+-- the rest stands behind the header
+pub behind_header : (old header body : List ℕ) (response_to : ℕ) → header ≡ unmeasured response_to (0 ∷ []) → (old ++ header) ++ body ≡ old ++ unmeasured response_to (0 ∷ body)
+behind_header old header body response_to is_header = ap (λ (h : List ℕ). (old ++ h) ++ body) is_header ∙ append_assoc old (unmeasured response_to (0 ∷ [])) body
+
+pub unmeasured-length : (old all body : List ℕ) (response_to : ℕ) → all ≡ old ++ unmeasured response_to (0 ∷ body) → length all ≡ length old + (length body + 21)
+unmeasured-length old all body response_to is_all = omega (arith, ap length is_all, length-append old (unmeasured response_to (0 ∷ body)))
+
 -- the length is put in behind what was there
-pub measured : (old body : List ℕ) (response_to : ℕ) →
-    let all = (old ++ unmeasured response_to (0 ∷ [])) ++ body in
+measure : (old body : List ℕ) (response_to : ℕ) →
+    let all = old ++ unmeasured response_to (0 ∷ body) in
     take (length old) all ++ (to_le_bytes w32 (length all - length old) ++ drop (length old + 4) all) ≡ old ++ message_spelling 0 response_to 0 (0 ∷ body)
 unfolding message_spelling
-measured old body response_to =
+measure old body response_to =
     let whole : List ℕ = unmeasured response_to (0 ∷ body) in
-    let regrouped : (old ++ unmeasured response_to (0 ∷ [])) ++ body ≡ old ++ whole = append_assoc old (unmeasured response_to (0 ∷ [])) body in
     let long : length (old ++ whole) - length old ≡ length (0 ∷ body) + 20 = omega (arith, length-append old whole) in
     let behind : drop (length old + 4) (old ++ whole) ≡ drop 4 whole = sym (drop-drop 4 (length old) (old ++ whole)) ∙ ap (drop 4) (drop_at old whole (length old) refl) in
-    rw (regrouped, take_at old whole (length old) refl, long, behind) refl
+    rw (take_at old whole (length old) refl, long, behind) refl
 
 -- the same, as a vector's length and its items say it
-pub put_in : (old header body all put : List ℕ) (response_to start len : ℕ) → header ≡ unmeasured response_to (0 ∷ []) → all ≡ (old ++ header) ++ body → start ≡ length old → len ≡ length all
+pub put_in : (old body all put : List ℕ) (response_to start len : ℕ) → all ≡ old ++ unmeasured response_to (0 ∷ body) → start ≡ length old → len ≡ length all
     → put ≡ take start all ++ (to_le_bytes w32 (length all - start) ++ drop (start + 4) all) → length put ≡ length all
     → take len (put ++ drop (length put) all) ≡ old ++ message_spelling 0 response_to 0 (0 ∷ body)
-put_in old header body all put response_to start len is_header is_all is_start is_len is_put same =
-    let whole : put ≡ old ++ message_spelling 0 response_to 0 (0 ∷ body) = is_put ∙ rw (is_start, is_all, is_header) (measured old body response_to) in
+put_in old body all put response_to start len is_all is_start is_len is_put same =
+    let whole : put ≡ old ++ message_spelling 0 response_to 0 (0 ∷ body) = is_put ∙ rw (is_start, is_all) (measure old body response_to) in
     take_at put (drop (length put) all) len (same ∙ sym is_len) ∙ whole
 
 -- ---- the command that a body brings
@@ -68,28 +71,22 @@ steps_as session old new meant read outcome (inr e) steps = unread session old n
 
 -- ---- one message
 
--- in place of an answer the session is closed
-pub closes : (session : ℕ) (old new : State) (message : Message) (outcome : Outcome) → MemoryStep old session (command_of message) outcome new
-    → CarriesOut session old (message ∷ []) (reading []) (silence new (closed NoMemory))
-closes session old new message outcome steps =
-    (outcome, new, steps, follows_shut (answer_to message outcome) new (CarriesOut session new [] (reading [])) (silence new (closed NoMemory)) refl)
-
-module _ (session : ℕ) (old new : State) (message : Message) (reply : List Field) (steps : MemoryStep old session (command_of message) (Reply reply) new) where
-  told : (bytes : List ℕ) → answer_to message (Reply reply) ≡ Some bytes → GoesOn session old (message ∷ []) bytes new
+module _ (session : ℕ) (old new : State) (message : Message) (outcome : Outcome) (steps : MemoryStep old session (command_of message) outcome new) where
+  -- its answer, and the session goes on
+  pub told : (bytes : List ℕ) → answer_to message outcome ≡ Some bytes → GoesOn session old (message ∷ []) bytes new
   told bytes is = (
-    Reply reply,
+    outcome,
     new,
     steps,
-    follows_on (answer_to message (Reply reply)) new (CarriesOut session new [] (reading [])) bytes (silence new (reading [])) (record { bytes = bytes; state = new; conversation = reading [] }) is refl
+    follows_on (answer_to message outcome) new (CarriesOut session new [] (reading [])) bytes (silence new (reading [])) (record { bytes = bytes; state = new; conversation = reading [] }) is refl
         (sym (in_front-silence (record { bytes = bytes; state = new; conversation = reading [] }))),
   )
 
-  -- moreToCome is carried out and not answered
-  pub silent : message.more_to_come ≡ true → wants_memory reply ≡ false → GoesOn session old (message ∷ []) [] new
-  silent more no_want = told [] (rw (more, no_want) refl)
+  -- in place of its answer the session is closed
+  pub closes : CarriesOut session old (message ∷ []) (reading []) (silence new (closed NoMemory))
+  closes = (outcome, new, steps, follows_shut (answer_to message outcome) new (CarriesOut session new [] (reading [])) (silence new (closed NoMemory)) refl)
 
-  pub answers : {A E : Type 0} (sent : Result A E) (before after : List ℕ) → message.more_to_come ≡ false
-      → OnOk sent (after ≡ before ++ message_spelling 0 message.request_id 0 (0 ∷ spelling reply)) → OnErr sent (after ≡ before)
+  pub answers : {A E : Type 0} (sent : Result A E) (bytes before after : List ℕ) → answer_to message outcome ≡ Some bytes → OnOk sent (after ≡ before ++ bytes) → OnErr sent (after ≡ before)
       → Appends before after (λ bytes. Carries session old message bytes new sent)
-  answers (Ok x) before after more ok err = (message_spelling 0 message.request_id 0 (0 ∷ spelling reply), ok, told _ (rw more refl))
-  answers (Err e) before after more ok err = ([], err ∙ sym (append-nil before), closes session old new message (Reply reply) steps)
+  answers (Ok x) bytes before after is ok err = (bytes, ok, told bytes is)
+  answers (Err e) bytes before after is ok err = ([], err ∙ sym (append-nil before), closes)

@@ -1,5 +1,7 @@
 -- What messages and sessions in memory stand for.
-use Rattle.std.specs.Prelude.{ℕ, List, [], ◌∷◌, ◌++◌, drop, Result, Ok, Err}
+use Rattle.std.specs.Prelude.{ℕ, List, [], ◌∷◌, ◌++◌, drop, Option, Some, None, Result, Ok, Err}
+use Rattle.dv_bson.specs.Tree.{Field}
+use Rattle.dv_bson.specs.Spelling.{spelling}
 use Rattle.std.specs.Int.{w32, to_le_bytes}
 use Rattle.dv_wire.specs.declared.fault.CloseFault.{CloseFault}
 use Rattle.dv_wire.specs.declared.fault.CloseFault.TheVariants.{NoMemory}
@@ -9,7 +11,7 @@ use Rattle.dv_wire.specs.declared.session.Session.{Session}
 use Rattle.dv_wire.specs.declared.front.Message as declared
 use Rattle.dv_wire.specs.declared.front.Front.{Front as FrontSeen}
 use Rattle.dv_wire.specs.declared.front.Front.TheVariants.{Unfinished, Closing, Whole}
-use Rattle.dv_wire.specs.Message.{body, Message, op_msg, Front, unfinished, closing, whole, Conversation, reading, closed}
+use Rattle.dv_wire.specs.Message.{body, section_spelling, Message, message_spelling, op_msg, Front, unfinished, closing, whole, Conversation, reading, closed}
 use Rattle.dv_core.specs.State.{State}
 use Rattle.dv_wire.specs.Schedule.{CarriesOut}
 
@@ -41,6 +43,12 @@ left_or_closed (Err fault) stream = closed fault
 -- all these messages are carried out and answered, and the session goes on
 abbrev pub GoesOn : ℕ → State → List Message → List ℕ → State → Type 0
 GoesOn session old messages bytes new = CarriesOut session old messages (reading []) (record { bytes = bytes; state = new; conversation = reading [] })
+
+-- the answer to a message: with this reply, or without; or there is none
+abbrev pub answer_seen : {E : Type 0} → Message → Result (Option (List Field)) E → Option (List ℕ)
+answer_seen message (Ok (Some reply)) = Some (message_spelling 0 message.request_id 0 (section_spelling (body (spelling reply))))
+answer_seen message (Ok None) = Some []
+answer_seen message (Err e) = None
 
 -- one message is carried out; or the session is closed in place of its answer
 abbrev pub Carries : {A E : Type 0} → ℕ → State → Message → List ℕ → State → Result A E → Type 0

@@ -1,6 +1,6 @@
 //! Replies: their bytes.
 
-ghost use Rattle.std.specs.Prelude.{◌≡◌, ◌+◌, ◌-◌, ◌^◌, ◌<◌, ◌≤◌, ◌∷◌, [], ◌++◌, length, take, drop, OnOk, OnErr};
+ghost use Rattle.std.specs.Prelude.{◌≡◌, ◌+◌, ◌-◌, ◌^◌, ◌<◌, ◌≤◌, ℕ, List, ◌∷◌, [], ◌++◌, length, take, drop, OnOk, OnErr};
 ghost use Rattle.std.specs.Int.{w32, to_le_bytes};
 ghost use Rattle.dv_bson.specs.Spelling.{spelling};
 ghost use Rattle.dv_bson.specs.Tree.{elements_of};
@@ -11,7 +11,7 @@ ghost use Rattle.dv_wire.specs.View.{unmeasured};
 ghost use Rattle.dv_command.specs.Replies as replies;
 
 use crate::front::OP_MSG;
-use dv_bson::{Document, List, NoMemory, Value, write_document};
+use dv_bson::{Document, List as Elements, NoMemory, Value, write_document};
 use dv_command::refusal::Refusal;
 use std::alloc::AllocError;
 
@@ -39,7 +39,7 @@ fn has_want(fields: &Document) -> bool
 }
 
 /// Whether one of the write errors is for want of memory.
-fn any_wants(errors: &List) -> bool
+fn any_wants(errors: &Elements) -> bool
     ensures { result ≡ list_any replies.has_want (documents_among (elements_of errors.now)) }
 {
     'errors: for value in errors.as_slice() {
@@ -62,16 +62,24 @@ pub(crate) fn append_reply(
     ensures err { OnErr result (out.new.items ≡ out.old.items) }
 {
     let start = out.len();
+    let appended = append_unmeasured(request_id, reply, out);
+    match appended {
+        Ok(()) => put_length(out, start),
+        Err(_) => out.truncate(start),
+    }
+    appended
+}
+
+/// Appends the same with 0 as the message's length. Where memory is wanting a part of it may be appended.
+fn append_unmeasured(request_id: u32, reply: &Document, out: &mut Vec<u8>) -> Result<(), NoMemory>
+    ensures ok { OnOk result (out.new.items ≡ out.old.items ++ unmeasured request_id (0 ∷ spelling reply.now)) }
+    ensures within { OnOk result (length (spelling reply.now) ≤ 2147483647) }
+    ensures err { OnErr result ((part : List ℕ) × (out.new.items ≡ out.old.items ++ part)) }
+{
     out.extend_from_slice(&header(request_id))?;
     match write_document(reply, out) {
-        Ok(()) => {
-            put_length(out, start);
-            Ok(())
-        }
-        Err(_) => {
-            out.truncate(start);
-            Err(AllocError)
-        }
+        Ok(()) => Ok(()),
+        Err(_) => Err(AllocError),
     }
 }
 

@@ -2,16 +2,16 @@
 
 ghost use Rattle.std.specs.Prelude.{◌≡◌, ◌≤◌, ◌++◌, ◌⊎◌, IfOk, length, drop, vec_len};
 ghost use Rattle.dv_bson.specs.Reading.{document_at};
-ghost use Rattle.dv_wire.specs.Schedule.{Appends, Takes, command_read};
+ghost use Rattle.dv_wire.specs.Schedule.{Appends, Takes, answer_to, command_read};
 ghost use Rattle.dv_core.specs.Step.{MemoryStep};
 ghost use Rattle.dv_wire.specs.Message.{split};
-ghost use Rattle.dv_wire.specs.View.{kept_or_closed, left_or_closed, message_seen, Carries};
+ghost use Rattle.dv_wire.specs.View.{kept_or_closed, left_or_closed, message_seen, answer_seen, Carries};
 
 use crate::fault::CloseFault;
 use crate::front::{Front, Message, front_of};
 use crate::hub::Fed;
 use crate::reply::{append_reply, wants_memory};
-use dv_bson::{BsonFault, NoMemory, read_document};
+use dv_bson::{BsonFault, Document, NoMemory, read_document};
 use dv_command::command::Command;
 use dv_core::{Outcome, Store};
 use std::alloc::{AllocError, Global};
@@ -149,17 +149,29 @@ fn carry_out(
 ) -> Result<(), NoMemory>
     ensures { Appends out.old.items out.new.items (λ bytes. Carries session store.old (message_seen message.now) bytes store.new result) }
 {
-    match step(alloc, store, session, message.body) {
+    let outcome = step(alloc, store, session, message.body);
+    match reply_to(message, outcome)? {
+        Some(reply) => append_reply(message.request_id, &reply, out),
+        None => Ok(()),
+    }
+}
+
+/// The reply that is to be sent to a message, or none where moreToCome leaves it out. An error says that the session
+/// is to be closed: there is no reply, or moreToCome would leave one out that tells of want of memory.
+fn reply_to(message: &Message<'_>, outcome: Outcome) -> Result<Option<Document>, NoMemory>
+    ensures { answer_seen (message_seen message.now) result ≡ answer_to (message_seen message.now) outcome }
+{
+    match outcome {
         Outcome::NoReply => Err(AllocError),
         Outcome::Reply(reply) => {
-            if message.more_to_come {
-                // Who waits for no reply is told of want of memory by the end of the session.
-                if wants_memory(&reply) {
-                    return Err(AllocError);
-                }
-                return Ok(());
+            if !message.more_to_come {
+                return Ok(Some(reply));
             }
-            append_reply(message.request_id, &reply, out)
+            // Who waits for no reply is told of want of memory by the end of the session.
+            if wants_memory(&reply) {
+                return Err(AllocError);
+            }
+            Ok(None)
         }
     }
 }
