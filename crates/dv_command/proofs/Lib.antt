@@ -1,3 +1,4 @@
 mod Lists
-mod Checked
-mod Documents
+pub mod Checks
+mod Among
+pub mod Errors

@@ -1,6 +1,10 @@
 pub mod Refusals
 pub mod Replies
 pub mod Namespaces
+pub mod Kinds
 pub mod Fields
+pub mod Asked
 -- words that only bodies need
 pub mod View
+pub mod DocumentsView
+pub mod ListsView

@@ -36,10 +36,10 @@ is_collection_name name = nat_lt 0 (length name) && not (begins_with_dollar name
 abbrev pub longest_namespace : ℕ
 longest_namespace = 120
 
-abbrev pub joined : List ℕ → List ℕ → List ℕ
-joined database collection = database ++ 46 ∷ collection
+abbrev pub dotted : List ℕ → List ℕ → List ℕ
+dotted database collection = database ++ 46 ∷ collection
 
 -- the namespace of a database's collection
 abbrev pub namespace : List ℕ → List ℕ → Result (List ℕ) Refusal
 namespace database collection =
-    if is_collection_name collection && not (nat_lt longest_namespace (length (joined database collection))) then Ok (joined database collection) else Err BadValue
+    if is_collection_name collection && not (nat_lt longest_namespace (length (dotted database collection))) then Ok (dotted database collection) else Err BadValue

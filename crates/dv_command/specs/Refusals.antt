@@ -1,11 +1,10 @@
 -- How commands are refused (MongoDB manual, "Error Codes"; from 900 on they are this server's own).
-use Rattle.std.specs.Prelude.{ℕ, List, [], ◌∷◌, ◌++◌, Result, Ok, Err, pos, codes}
+use Rattle.std.specs.Prelude.{◌≡◌, ◌⊎◌, ℕ, List, ◌++◌, Result, Ok, Err, codes}
 use Rattle.dv_bson.specs.declared.fault.BsonFault.{BsonFault}
 use Rattle.dv_bson.specs.declared.fault.BsonFault.TheVariants.{NoMemory}
 use Rattle.dv_bson.specs.Fault.{fault_text}
 use Rattle.dv_coll.specs.declared.fault.InsertFault.{InsertFault}
 use Rattle.dv_coll.specs.declared.fault.InsertFault.TheVariants as inserting
-use Rattle.dv_bson.specs.Tree.{string, int32, Field}
 use Rattle.dv_command.specs.declared.refusal.Refusal.{Refusal}
 use Rattle.dv_command.specs.declared.refusal.Refusal.TheVariants.{BadValue, FailedToParse, TypeMismatch, InvalidBson, CommandNotFound, DuplicateKey, WantOfMemory, TooLarge, LimitReached}
 
@@ -36,11 +35,6 @@ abbrev pub message_of : Refusal → List ℕ
 message_of (InvalidBson fault) = codes "InvalidBSON: " ++ fault_text fault
 message_of refusal = code_name refusal
 
--- the reply to a command that is refused
-abbrev pub refused : Refusal → List Field
-refused refusal =
-    (codes "ok", int32 (pos 0)) ∷ (codes "errmsg", string (message_of refusal)) ∷ (codes "code", int32 (pos (code refusal))) ∷ (codes "codeName", string (code_name refusal)) ∷ []
-
 -- how a command is refused whose body can't be read: for the fault in it, or for want of memory where there was none to read it
 abbrev pub refusal_of : BsonFault → Refusal
 refusal_of NoMemory = WantOfMemory
@@ -56,3 +50,8 @@ infixl 10 ◌>>=◌
 abbrev pub ◌>>=◌ : {A B : Type 0} → Result A Refusal → (A → Result B Refusal) → Result B Refusal
 (Ok x) >>= f = f x
 (Err e) >>= f = Err e
+
+-- what a function of the code answered, seen by a view, is as it is defined; or a refusal for want of memory in place of it
+abbrev pub UnlessWanting : {X Y : Type 0} → (X → Y) → Result Y Refusal → Result X Refusal → Type 0
+UnlessWanting view defined (Ok x) = defined ≡ Ok (view x)
+UnlessWanting view defined (Err refusal) = (defined ≡ Err refusal) ⊎ (refusal ≡ WantOfMemory)

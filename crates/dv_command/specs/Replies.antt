@@ -1,16 +1,10 @@
--- What the replies of commands are made of.
-use Rattle.std.specs.Prelude.{ℕ, ◌^◌, ◌||◌, Bool, false, List, [], ◌∷◌, ◌++◌, Option, Some, pos, codes, nat_lt, if◌then◌else◌}
-use Rattle.std.specs.List.{list_any}
-use Rattle.std.specs.Ordering.{int_eq}
-use Rattle.dv_bson.specs.Tree.{Tree, int32, int64, document, array, Field, fields_of}
-use Rattle.dv_bson.specs.Names.{value_under}
+-- The documents of replies (MongoDB manual, "insert", "find": their output). The codes from 900 on and what stands beside them are this
+-- server's own.
+use Rattle.std.specs.Prelude.{ℕ, ◌^◌, List, [], ◌∷◌, ◌++◌, pos, codes, nat_lt, if◌then◌else◌}
+use Rattle.dv_bson.specs.Tree.{Tree, string, int32, int64, document, array, Field, fields_of, elements_of}
+use Rattle.dv_command.specs.declared.refusal.Refusal.{Refusal}
 use Rattle.dv_command.specs.declared.refusal.Refusal.TheVariants.{WantOfMemory}
-use Rattle.dv_command.specs.Refusals.{code}
-use Rattle.dv_command.specs.Fields.{documents_among}
-
--- the reply to a command that was carried out: these fields, and that it was
-abbrev pub done : List Field → List Field
-done fields = fields ++ (codes "ok", int32 (pos 1)) ∷ []
+use Rattle.dv_command.specs.Refusals.{code, code_name, message_of}
 
 -- a document as a value
 abbrev pub document_of : List Field → Tree
@@ -20,18 +14,33 @@ document_of d = document (fields_of d)
 abbrev pub count : ℕ → Tree
 count n = if nat_lt n (2 ^ 31) then int32 (pos n) else int64 (pos n)
 
--- whether the code among the fields of a refusal, or of a write error, is that of want of memory
-abbrev pub is_want : Option Tree → Bool
-is_want (Some (int32 n)) = int_eq n (pos (code WantOfMemory))
-is_want other = false
+-- the reply to a command that was carried out: these fields, and that it was
+abbrev pub reply_of : List Field → List Field
+reply_of fields = fields ++ (codes "ok", int32 (pos 1)) ∷ []
 
-abbrev pub has_want : List Field → Bool
-has_want fields = is_want (value_under (codes "code") fields)
+-- the reply to a command that is refused
+abbrev pub refusal_reply : Refusal → List Field
+refusal_reply refusal =
+    (codes "ok", int32 (pos 0)) ∷ (codes "errmsg", string (message_of refusal)) ∷ (codes "code", int32 (pos (code refusal))) ∷ (codes "codeName", string (code_name refusal)) ∷ []
 
-abbrev pub errors_in : Option Tree → List (List Field)
-errors_in (Some (array vs)) = documents_among vs
-errors_in other = []
+-- the error of the statement at a place, counted from 0
+abbrev pub write_error : ℕ → Refusal → List Field
+write_error place refusal = (codes "index", int32 (pos place)) ∷ (codes "code", int32 (pos (code refusal))) ∷ (codes "errmsg", string (message_of refusal)) ∷ []
 
--- whether a reply tells of want of memory: that of its command, or of one of its statements
-abbrev pub wants_memory : List Field → Bool
-wants_memory reply = has_want reply || list_any has_want (errors_in (value_under (codes "writeErrors") reply))
+-- the error of the statement that finds no memory behind so many of its changes
+abbrev pub cut_error : ℕ → ℕ → List Field
+cut_error place changes = write_error place WantOfMemory ++ (codes "done", count changes) ∷ []
+
+-- write errors are told only where there are any
+abbrev pub errors_field : List Tree → List Field
+errors_field [] = []
+errors_field (e ∷ es) = (codes "writeErrors", array (elements_of (e ∷ es))) ∷ []
+
+-- the reply to a write: the number that it counts, and the errors of its statements
+abbrev pub write_reply : ℕ → List Tree → List Field
+write_reply n errors = reply_of ((codes "n", count n) ∷ errors_field errors)
+
+-- the reply with these rows of a namespace: all at once, so that no cursor is left, and its id is 0
+abbrev pub rows_reply : List ℕ → List Tree → List Field
+rows_reply namespace rows =
+    reply_of ((codes "cursor", document_of ((codes "firstBatch", array (elements_of rows)) ∷ (codes "id", int64 (pos 0)) ∷ (codes "ns", string namespace) ∷ [])) ∷ [])

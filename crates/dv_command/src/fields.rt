@@ -1,17 +1,19 @@
 //! The fields of commands: which there may be, and what they hold.
 
-ghost use Rattle.std.specs.Prelude.{◌≡◌, Ok, Err, MatchResult, map, length};
-ghost use Rattle.dv_bson.specs.Tree.{elements_of};
+ghost use Rattle.std.specs.Prelude.{◌≡◌, Ok, Err, MatchResult, map};
+ghost use Rattle.std.specs.Option.{option_map};
 ghost use Rattle.dv_bson.specs.View.{tree};
 ghost use Rattle.dv_command.specs.Fields as fields;
-ghost use Rattle.dv_command.specs.View.{rule_seen};
+ghost use Rattle.dv_command.specs.View.{kind_seen, rule_seen};
 
+use crate::command::DocumentLists;
+use crate::documents::Documents;
 use crate::refusal::Refusal;
-use dv_bson::{Document, List, Value};
+use dv_bson::{Document, Value};
 
 /// What the value of a field has to be.
 #[derive(Clone, Copy, Debug, PartialEq, Eq)]
-pub enum Kind {
+pub(crate) enum Kind {
     Anything,
     Text,
     Boolean,
@@ -23,7 +25,7 @@ pub enum Kind {
 
 /// A field that a command may have.
 #[derive(Clone, Copy)]
-pub struct Rule {
+pub(crate) struct Rule {
     name: &'static str,
     kind: Kind,
 }
@@ -35,7 +37,7 @@ const DATABASE: Rule = Rule {
 };
 
 /// The fields of an insert.
-pub const INSERT_RULES: [Rule; 4] = [
+pub(crate) const INSERT_RULES: [Rule; 4] = [
     DATABASE,
     Rule {
         name: "insert",
@@ -52,7 +54,7 @@ pub const INSERT_RULES: [Rule; 4] = [
 ];
 
 /// The fields of a find.
-pub const FIND_RULES: [Rule; 3] = [
+pub(crate) const FIND_RULES: [Rule; 3] = [
     DATABASE,
     Rule {
         name: "find",
@@ -66,8 +68,8 @@ pub const FIND_RULES: [Rule; 3] = [
 
 /// Looks at the fields of a command as they stand: the first that is unknown (`FailedToParse`) or has a value of
 /// another kind (`TypeMismatch`) is told. Of a document that may only be empty and isn't `FailedToParse` is told.
-pub fn check(body: &Document, rules: &[Rule]) -> Result<(), Refusal>
-    ensures { result ≡ fields.checked (map rule_seen rules.now) body.now }
+pub(crate) fn check_fields(body: &Document, rules: &[Rule]) -> Result<(), Refusal>
+    ensures { result ≡ fields.check_fields (map rule_seen rules.now) body.now }
 {
     'fields: for place in 0..body.len() {
         if let Some((name, value)) = body.entry(place) {
@@ -79,7 +81,7 @@ pub fn check(body: &Document, rules: &[Rule]) -> Result<(), Refusal>
 
 /// Looks at one field of a command.
 fn check_field(rules: &[Rule], name: &str, value: &Value) -> Result<(), Refusal>
-    ensures { result ≡ fields.checked_field (map rule_seen rules.now) (name.now, tree value.now) }
+    ensures { result ≡ fields.check_field (map rule_seen rules.now) (name.now, tree value.now) }
 {
     if is_ignored(name) {
         return Ok(());
@@ -112,7 +114,7 @@ fn is_ignored(name: &str) -> bool
 
 /// What the rules say of a field of the name; `None` where there is no such field.
 fn kind_in(rules: &[Rule], name: &str) -> Option<Kind>
-    ensures { result ≡ fields.kind_in (map rule_seen rules.now) name.now }
+    ensures { option_map kind_seen result ≡ fields.kind_in (map rule_seen rules.now) name.now }
 {
     'rules: for rule in rules {
         if name == rule.name {
@@ -123,66 +125,68 @@ fn kind_in(rules: &[Rule], name: &str) -> Option<Kind>
 }
 
 /// Looks at a value that has to be of the kind. The fields of a document that may only be empty are unknown.
-#[tactic(auto, using(crate::proofs::Checked::unknown_fields))]
+#[tactic(auto, using(crate::proofs::Checks::unknown_fields))]
 fn check_value(kind: Kind, value: &Value) -> Result<(), Refusal>
-    ensures { result ≡ fields.checked_value kind (tree value.now) }
+    ensures { result ≡ fields.check_value (kind_seen kind) (tree value.now) }
 {
     match (kind, value) {
         (Kind::Anything, _) | (Kind::Text, Value::Text(_)) | (Kind::Boolean, Value::Bool(_)) => Ok(
             (),
         ),
-        (Kind::Documents, Value::Array(list)) if are_documents(list) => Ok(()),
+        (Kind::Documents, Value::Array(list)) => {
+            Documents::of(list)?;
+            Ok(())
+        }
         (Kind::EmptyDocument, Value::Doc(document)) if document.is_empty() => Ok(()),
         (Kind::EmptyDocument, Value::Doc(_)) => Err(Refusal::FailedToParse),
         _ => Err(Refusal::TypeMismatch),
     }
 }
 
-/// Whether all values are documents.
-fn are_documents(list: &List) -> bool
-    ensures { result ≡ fields.are_documents (elements_of list.now) }
+/// Looks at the lists of documents beside a body. No command has such a list yet, so one is refused with
+/// `FailedToParse`.
+pub(crate) fn check_lists(lists: &DocumentLists) -> Result<(), Refusal>
+    ensures { result ≡ fields.check_lists lists.now }
 {
-    list.as_slice()
-        .iter()
-        .all(|value| matches!(value, Value::Doc(_)))
-}
-
-/// The text under a name; empty where there is none.
-pub fn text_under<'a>(body: &'a Document, name: &str) -> &'a str
-    ensures { result.now ≡ fields.text_under name.now body.now }
-{
-    match body.get(name) {
-        Some(Value::Text(text)) => text.as_str(),
-        _ => "",
+    if lists.is_empty() {
+        Ok(())
+    } else {
+        Err(Refusal::FailedToParse)
     }
 }
 
-/// The boolean under a name, or `default` where there is none.
-pub fn boolean_under(body: &Document, name: &str, default: bool) -> bool
+/// The text under a name. Refused with `FailedToParse` where there is no field of the name, and with `TypeMismatch`
+/// where there is another value.
+pub(crate) fn text_under<'a>(body: &'a Document, name: &str) -> Result<&'a str, Refusal>
+    ensures { MatchResult result (λ text. fields.text_under name.now body.now ≡ Ok text.now) (λ refusal. fields.text_under name.now body.now ≡ Err refusal) }
+{
+    match body.get(name) {
+        None => Err(Refusal::FailedToParse),
+        Some(Value::Text(text)) => Ok(text.as_str()),
+        Some(_) => Err(Refusal::TypeMismatch),
+    }
+}
+
+/// The boolean under a name, or `default` where there is no field of the name. Refused with `TypeMismatch` where there
+/// is another value.
+pub(crate) fn boolean_under(body: &Document, name: &str, default: bool) -> Result<bool, Refusal>
     ensures { result ≡ fields.boolean_under name.now default body.now }
 {
     match body.get(name) {
-        Some(Value::Bool(truth)) => *truth,
-        _ => default,
+        None => Ok(default),
+        Some(Value::Bool(truth)) => Ok(*truth),
+        Some(_) => Err(Refusal::TypeMismatch),
     }
 }
 
-/// The documents in the array under a name. Refused with `FailedToParse` where there is no array.
-pub fn documents_under<'a>(body: &'a Document, name: &str) -> Result<&'a List, Refusal>
-    ensures { MatchResult result (λ list. fields.documents_under name.now body.now ≡ Ok (fields.documents_among (elements_of list.now))) (λ refusal. fields.documents_under name.now body.now ≡ Err refusal) }
+/// The documents in the array under a name. Refused with `FailedToParse` where there is no field of the name, and with
+/// `TypeMismatch` where there is another value, or an array with another value in it.
+pub(crate) fn documents_under<'a>(body: &'a Document, name: &str) -> Result<Documents<'a>, Refusal>
+    ensures { MatchResult result (λ documents. fields.documents_under name.now body.now ≡ Ok documents) (λ refusal. fields.documents_under name.now body.now ≡ Err refusal) }
 {
     match body.get(name) {
-        Some(Value::Array(list)) => Ok(list),
-        _ => Err(Refusal::FailedToParse),
+        None => Err(Refusal::FailedToParse),
+        Some(Value::Array(list)) => Documents::of(list),
+        Some(_) => Err(Refusal::TypeMismatch),
     }
-}
-
-/// How many of the values are documents.
-pub fn count_documents(list: &List) -> usize
-    ensures { result ≡ length (fields.documents_among (elements_of list.now)) }
-{
-    list.as_slice()
-        .iter()
-        .filter(|value| matches!(value, Value::Doc(_)))
-        .count()
 }

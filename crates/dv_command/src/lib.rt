@@ -1,8 +1,17 @@
 //! What commands ask, and the documents of replies.
 #![tactic(auto)]
 
-pub mod command;
-pub mod fields;
+mod asking;
+mod command;
+mod documents;
+mod fields;
 pub mod namespaces;
-pub mod refusal;
+mod parsing;
+mod refusal;
 pub mod replies;
+
+pub use asking::{Asked, Find, Insert};
+pub use command::{Command, DocumentList, DocumentLists};
+pub use documents::Documents;
+pub use parsing::parse;
+pub use refusal::Refusal;

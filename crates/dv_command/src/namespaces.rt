@@ -1,9 +1,9 @@
 //! The names of databases and collections.
 
-ghost use Rattle.std.specs.Prelude.{◌≡◌, ◌⊎◌, Ok, Err, MatchResult};
+ghost use Rattle.std.specs.Prelude.{◌≡◌, Ok, Err, MatchResult};
 ghost use Rattle.std.specs.String.{string_bytes};
-ghost use Rattle.dv_command.specs.declared.refusal.Refusal.TheVariants.{WantOfMemory};
 ghost use Rattle.dv_command.specs.Namespaces as names;
+ghost use Rattle.dv_command.specs.Refusals.{UnlessWanting};
 
 use crate::refusal::Refusal;
 use dv_bson::{Document, Value};
@@ -13,7 +13,7 @@ use std::alloc::Global;
 const LONGEST_NAMESPACE: usize = 120;
 
 /// The database that a command names, in its field `$db`.
-pub fn database(body: &Document) -> Result<&str, Refusal>
+pub(crate) fn database(body: &Document) -> Result<&str, Refusal>
     ensures { MatchResult result (λ name. names.database body.now ≡ Ok name.now) (λ refusal. names.database body.now ≡ Err refusal) }
 {
     match body.get("$db") {
@@ -53,9 +53,8 @@ fn is_database_name(name: &str) -> bool
 /// The namespace of a database's collection: the two names joined by a dot. Refused with `BadValue` where the
 /// collection's name is empty, holds a zero byte or begins with a dollar sign, or the namespace is over 120 bytes;
 /// and with `WantOfMemory`.
-pub fn namespace(alloc: Global, database: &str, collection: &str) -> Result<String, Refusal>
-    ensures { MatchResult result (λ namespace. names.namespace database.now collection.now ≡ Ok (string_bytes namespace))
-        (λ refusal. (names.namespace database.now collection.now ≡ Err refusal) ⊎ (refusal ≡ WantOfMemory)) }
+pub(crate) fn namespace(alloc: Global, database: &str, collection: &str) -> Result<String, Refusal>
+    ensures { UnlessWanting string_bytes (names.namespace database.now collection.now) result }
 {
     // One byte more is the dot's.
     let is_short = database.len() + 1 + collection.len() <= LONGEST_NAMESPACE;

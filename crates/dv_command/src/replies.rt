@@ -1,27 +1,27 @@
-//! Replies: their bodies.
+//! The documents of replies.
 
-ghost use Rattle.std.specs.Prelude.{◌≡◌, ◌∷◌, [], ◌++◌, false, IfOk, OnOk, codes};
+ghost use Rattle.std.specs.Prelude.{◌≡◌, ◌∷◌, [], ◌++◌, ◌^◌, ◌<◌, false, IfOk, OnOk, codes, map};
+ghost use Rattle.std.specs.String.{string_bytes};
 ghost use Rattle.dv_bson.specs.Names.{has_name, has_zero};
 ghost use Rattle.dv_bson.specs.View.{tree};
-ghost use Rattle.dv_command.specs.Refusals as refusals;
 ghost use Rattle.dv_command.specs.Replies as replies;
 
 use crate::refusal::Refusal;
-use dv_bson::{Document, NoMemory, Str, Value};
+use dv_bson::{Document, List, NoMemory, Str, Value};
 use std::alloc::{AllocError, Global};
 
-/// The reply to a command that was carried out: these fields, and `ok: 1`.
-pub fn done(mut fields: Document) -> Result<Document, NoMemory>
+/// The reply to a command that was carried out: these fields, and `ok: 1`. Fails where memory is wanting.
+pub fn reply_of(mut fields: Document) -> Result<Document, NoMemory>
     requires { has_name (codes "ok") fields ≡ false }
-    ensures { IfOk result (λ reply. reply ≡ replies.done fields) }
+    ensures { IfOk result (λ reply. reply ≡ replies.reply_of fields) }
 {
     add(&mut fields, "ok", Value::Int32(1))?;
     Ok(fields)
 }
 
-/// The reply to a command that is refused.
-pub fn refused(alloc: Global, refusal: &Refusal) -> Result<Document, NoMemory>
-    ensures { IfOk result (λ reply. reply ≡ refusals.refused refusal.now) }
+/// The reply to a command that is refused. Fails where memory is wanting.
+pub fn refusal_reply(alloc: Global, refusal: &Refusal) -> Result<Document, NoMemory>
+    ensures { IfOk result (λ reply. reply ≡ replies.refusal_reply refusal.now) }
 {
     let mut reply = Document::new(alloc);
     add(&mut reply, "ok", Value::Int32(0))?;
@@ -33,11 +33,75 @@ pub fn refused(alloc: Global, refusal: &Refusal) -> Result<Document, NoMemory>
     Ok(reply)
 }
 
-/// Adds a field whose name is known to be new and without a zero byte.
-pub fn add(reply: &mut Document, name: &str, value: Value) -> Result<(), NoMemory>
-    requires whole { has_zero name.now ≡ false }
-    requires fresh { has_name name.now reply.old ≡ false }
-    ensures { OnOk result (reply.new ≡ reply.old ++ (name.now, tree value) ∷ []) }
+/// The error of the statement at a place, counted from 0 and below 2^31. Fails where memory is wanting.
+pub fn write_error(alloc: Global, place: usize, refusal: &Refusal) -> Result<Document, NoMemory>
+    requires { place < 2 ^ 31 }
+    ensures { IfOk result (λ error. error ≡ replies.write_error place refusal.now) }
 {
-    reply.push(name, value).map_err(|_| AllocError)
+    let mut error = Document::new(alloc);
+    add(&mut error, "index", Value::Int32(place as i32))?;
+    add(&mut error, "code", Value::Int32(refusal.code()))?;
+    let message = refusal.message(alloc)?;
+    add(&mut error, "errmsg", Value::Text(Str::of(message)))?;
+    Ok(error)
+}
+
+/// The error of the statement at a place, counted from 0 and below 2^31, that found no memory behind so many of its
+/// changes, fewer than 2^63. Fails where memory is wanting.
+pub fn cut_error(alloc: Global, place: usize, changes: usize) -> Result<Document, NoMemory>
+    requires place { place < 2 ^ 31 }
+    requires changes { changes < 2 ^ 63 }
+    ensures { IfOk result (λ error. error ≡ replies.cut_error place changes) }
+{
+    let mut error = write_error(alloc, place, &Refusal::WantOfMemory)?;
+    add(&mut error, "done", count(changes))?;
+    Ok(error)
+}
+
+/// The reply to a write: the number that it counts, below 2^63, and the errors of its statements where there are any.
+/// Fails where memory is wanting.
+#[tactic(auto, using(crate::proofs::Errors::no_errors, crate::proofs::Errors::some_errors))]
+pub fn write_reply(alloc: Global, n: usize, errors: Vec<Value>) -> Result<Document, NoMemory>
+    requires { n < 2 ^ 63 }
+    ensures { IfOk result (λ reply. reply ≡ replies.write_reply n (map tree errors.items)) }
+{
+    let mut fields = Document::new(alloc);
+    add(&mut fields, "n", count(n))?;
+    if !errors.is_empty() {
+        add(&mut fields, "writeErrors", Value::Array(List::of(errors)))?;
+    }
+    reply_of(fields)
+}
+
+/// The reply with these rows of a namespace. Fails where memory is wanting.
+pub fn rows_reply(alloc: Global, namespace: String, rows: List) -> Result<Document, NoMemory>
+    ensures { IfOk result (λ reply. reply ≡ replies.rows_reply (string_bytes namespace) rows) }
+{
+    let mut cursor = Document::new(alloc);
+    add(&mut cursor, "firstBatch", Value::Array(rows))?;
+    add(&mut cursor, "id", Value::Int64(0))?;
+    add(&mut cursor, "ns", Value::Text(Str::of(namespace)))?;
+    let mut fields = Document::new(alloc);
+    add(&mut fields, "cursor", Value::Doc(cursor))?;
+    reply_of(fields)
+}
+
+/// A number below 2^63 as int32 where it fits, else as int64.
+fn count(number: usize) -> Value
+    requires { number < 2 ^ 63 }
+    ensures { tree result ≡ replies.count number }
+{
+    match i32::try_from(number) {
+        Ok(number) => Value::Int32(number),
+        Err(_) => Value::Int64(number as i64),
+    }
+}
+
+/// Adds a field whose name is known to be new and without a zero byte. Fails where memory is wanting.
+pub fn add(document: &mut Document, name: &str, value: Value) -> Result<(), NoMemory>
+    requires whole { has_zero name.now ≡ false }
+    requires fresh { has_name name.now document.old ≡ false }
+    ensures { OnOk result (document.new ≡ document.old ++ (name.now, tree value) ∷ []) }
+{
+    document.push(name, value).map_err(|_| AllocError)
 }

@@ -1,38 +1,99 @@
--- What becomes of the documents of namespaces when one is put among them.
-use Rattle.std.proofs.Common.{◌≡◌, ℕ, List, Option, Some, None, Ok, Err, IsSome, IsErrOf, ◌⊎◌, inl, inr, refl, ap, sym, ◌∙◌}
-use Rattle.std.specs.BTreeMap.{BTreeMap, WritesThrough}
-use Rattle.std.specs.Cmp.Lexicographic.{slice_cmp}
+-- What stands under namespaces, in a map under texts.
+use Rattle.std.proofs.Common.{◌≡◌, ◌⊎◌, inl, inr, ℕ, Bool, true, false, List, [], ◌∷◌, Option, Some, None, Result, Ok, Err, IsSome, IsErrOf, map, cond, refl, ap, sym, ◌∙◌, arith}
+use Rattle.std.proofs.lemmas.Map.Text.{is_eq-slice_cmp, btree_map_updates_text}
+use Rattle.std.proofs.lemmas.Slice.Eq.{bytes_eq-Decides}
+use Rattle.std.specs.BTreeMap.{BTreeMap, is_at, get_by_text, UpdatesBy, WritesThrough}
+use Rattle.std.specs.Cmp.Lexicographic.{slice_cmp, nat_list_cmp_total}
 use Rattle.std.specs.FinMap as finite
+use Rattle.std.specs.Map.{lookup}
+use Rattle.std.specs.Option.{option_map}
 use Rattle.std.specs.Ordering.{nat_cmp}
+use Rattle.std.specs.Str.{bytes_eq}
 use Rattle.std.specs.declared.string.String.{String}
 use Rattle.std.specs.String.{string_bytes, string_cmp}
 use Rattle.dv_bson.specs.Tree.{Field}
-use Rattle.dv_bson.proofs.ByText.{get-by_text, by_text-written, insert-same}
+use Rattle.dv_core.proofs.Lists.{bytes_eq-symmetric}
+use Rattle.dv_order.specs.Key.{KeyTree}
 use Rattle.dv_coll.specs.Collection.{id_key, found, inserted}
 use Rattle.dv_coll.specs.declared.fault.InsertFault.{InsertFault}
 use Rattle.dv_coll.specs.declared.fault.InsertFault.TheVariants.{Duplicate, NoMemory}
-use Rattle.dv_command.specs.declared.refusal.Refusal.TheVariants.{WantOfMemory}
+use Rattle.dv_command.specs.declared.refusal.Refusal.{Refusal}
+use Rattle.dv_command.specs.declared.refusal.Refusal.TheVariants.{DuplicateKey, WantOfMemory}
 use Rattle.dv_command.specs.Refusals.{insert_refusal}
-use Rattle.dv_core.specs.Insert.{stored_in}
-use Rattle.dv_core.specs.State.{State, or_no_documents, with_documents}
-use Rattle.dv_core.specs.View.{documents_by_namespace}
+use Rattle.dv_core.specs.Changes.{put, without_key}
+use Rattle.dv_core.specs.Insert.{put_new}
+use Rattle.dv_core.specs.State.{Standing, Namespaces, collection_at, documents_of, with_documents}
+use Rattle.dv_core.specs.View.{standing_seen, standing_by_namespace}
+use Rattle.dv_core.specs.WriteParts.{Makes}
 
-pub stored_in-new : (s : State) (namespace : List ℕ) (d : List Field) (there : Option (List (List Field))) → finite.get s namespace ≡ there → found (id_key d) (or_no_documents there) ≡ None → stored_in namespace s d ≡ Ok (with_documents namespace (inserted d (or_no_documents there)) s)
-stored_in-new s namespace d there is none = rw is (rw none refl)
+pub same_namespaces : (m n : Namespaces) → ((q : List ℕ) → finite.get m q ≡ finite.get n q) → m ≡ n
+same_namespaces = finite.same_map nat_list_cmp_total (finite.slice_cmp-IsAntisymmetric finite.nat_cmp-IsAntisymmetric)
 
--- where the collection refuses the document, it is refused so
-pub stored_in-refused : (s : State) (namespace : List ℕ) (d : List Field) (documents : List (List Field)) (fault : InsertFault) → finite.get s namespace ≡ Some documents → (IsErrOf {T = Unit {0}} (Err fault) Duplicate → IsSome (found (id_key d) documents)) → (stored_in namespace s d ≡ Err (insert_refusal fault)) ⊎ (insert_refusal fault ≡ WantOfMemory)
-stored_in-refused s namespace d documents Duplicate is twice = inl (rw is (rw (twice refl) refl))
-stored_in-refused s namespace d documents NoMemory is twice = inr refl
+pub get-insert : (m : Namespaces) (name : List ℕ) (s : Standing) (q : List ℕ) → finite.get (finite.insert m name s) q ≡ cond (bytes_eq name q) (Some s) (finite.get m q)
+get-insert m name s q =
+    finite.get-insert nat_list_cmp_total m name s q
+    ∙ ap (λ b. cond b (Some s) (finite.get m q)) (is_eq-slice_cmp q name ∙ bytes_eq-symmetric q name)
 
--- the documents of a namespace are written over
-module _ {Y : Type 0} (m n : BTreeMap (String Y) (List (List Field))) (namespace : List ℕ) (documents written : List (List Field))
-    (is : finite.get (documents_by_namespace m) namespace ≡ Some documents) (writes : WritesThrough string_cmp (λ k. slice_cmp nat_cmp namespace (string_bytes k)) m written n) where
-  with_written : documents_by_namespace n ≡ with_documents namespace written (documents_by_namespace m)
-  with_written = by_text-written m n namespace documents written (sym is ∙ get-by_text m namespace) writes
+seen-updated : (b : Bool) (documents : List (List Field)) (before : Option (List (List Field))) → option_map standing_seen (cond b (Some documents) before) ≡ cond b (Some (standing_seen documents)) (option_map standing_seen before)
+seen-updated true documents before = refl
+seen-updated false documents before = refl
 
-  pub written-same : written ≡ documents → documents_by_namespace n ≡ documents_by_namespace m
-  written-same same = with_written ∙ rw same (insert-same _ namespace documents is)
+module _ {Y : Type 0} where
+  find-lookup : (name : List ℕ) (es : List (String Y × List (List Field)))
+      → finite.find (slice_cmp nat_cmp) name (map (λ e. (string_bytes e.0, standing_seen e.1)) es) ≡ option_map standing_seen (lookup (is_at (λ k. slice_cmp nat_cmp name (string_bytes k))) es)
+  find-lookup name [] = grind arith
+  find-lookup name (e ∷ es) = grind (arith, find-lookup name es)
 
-  pub written-new : (d : List Field) → found (id_key d) documents ≡ None → written ≡ inserted d documents → stored_in namespace (documents_by_namespace m) d ≡ Ok (documents_by_namespace n)
-  written-new d none more = stored_in-new _ namespace d _ is none ∙ ap Ok (sym (rw more at with_written))
+  pub get-standing : (m : BTreeMap (String Y) (List (List Field))) (name : List ℕ) → finite.get (standing_by_namespace m) name ≡ option_map standing_seen (get_by_text m name)
+  get-standing m name = finite.get-from_entries nat_list_cmp_total _ name ∙ find-lookup name m.entries
+
+  pub standing-insert : (m n : BTreeMap (String Y) (List (List Field))) (name : List ℕ) (documents : List (List Field))
+      → UpdatesBy string_cmp (λ k. slice_cmp nat_cmp name (string_bytes k)) m n (Some documents) → standing_by_namespace n ≡ with_documents name documents (standing_by_namespace m)
+  standing-insert m n name documents updated =
+      same_namespaces _ _ (λ q.
+      get-standing n q
+      ∙ ap (option_map standing_seen) (btree_map_updates_text name m n (Some documents) updated q)
+      ∙ seen-updated (bytes_eq name q) documents (get_by_text m q)
+      ∙ ap (cond (bytes_eq name q) (Some (standing_seen documents))) (sym (get-standing m q))
+      ∙ sym (get-insert (standing_by_namespace m) name (standing_seen documents) q))
+
+  -- after a write over the documents of a namespace
+  pub standing-written : (m n : BTreeMap (String Y) (List (List Field))) (name : List ℕ) (old new : List (List Field)) → Some old ≡ get_by_text m name
+      → WritesThrough string_cmp (λ k. slice_cmp nat_cmp name (string_bytes k)) m new n → standing_by_namespace n ≡ with_documents name new (standing_by_namespace m)
+  standing-written m n name old new there writes = standing-insert m n name new (writes.3 (rw (← there) refl))
+
+  -- what a namespace has already, put there again
+  pub same-written : (m : BTreeMap (String Y) (List (List Field))) (name : List ℕ) (documents : List (List Field)) → Some documents ≡ get_by_text m name → with_documents name documents (standing_by_namespace m) ≡ standing_by_namespace m
+  same-written m name documents there =
+      let here : finite.get (standing_by_namespace m) name ≡ Some (standing_seen documents) = get-standing m name ∙ ap (option_map standing_seen) (sym there) in
+      same_namespaces _ _ (λ q. get-insert (standing_by_namespace m) name (standing_seen documents) q ∙ grind (arith, here, (bytes_eq-Decides name q).0))
+
+-- ---- a document more among those of a namespace
+
+without_key-none : (k : KeyTree) (ds : List (List Field)) → found k ds ≡ None → without_key k ds ≡ ds
+without_key-none k [] none = refl
+without_key-none k (d ∷ ds) none = grind (arith, without_key-none k ds)
+
+module _ (old : Namespaces) (namespace : List ℕ) (d : List Field) (documents : List (List Field)) (are : documents_of namespace old ≡ documents) where
+  pub makes_new : (new : Namespaces) → found (id_key d) documents ≡ None → new ≡ with_documents namespace (inserted d documents) old → Makes {B = Unit {0}} namespace (put_new d) 1 old (Ok tt) new
+  makes_new new none more =
+      let fresh : put_new d documents ≡ Ok (record { matched = 1; changes = put d ∷ [] }) = rw none refl in (
+        put d ∷ [],
+        ap (put_new d) are ∙ fresh,
+        more ∙ ap (λ (ds : List (List Field)). with_documents namespace (inserted d ds) old) (sym (ap (without_key (id_key d)) are ∙ without_key-none (id_key d) documents none)),
+      )
+
+  -- where the collection refuses the document, it is refused so
+  refuses_equal : (fault : InsertFault) → (IsErrOf {T = Unit {0}} (Err fault) Duplicate → IsSome (found (id_key d) documents))
+      → (put_new d (documents_of namespace old) ≡ Err (insert_refusal fault)) ⊎ (insert_refusal fault ≡ WantOfMemory)
+  refuses_equal Duplicate twice =
+      let there : put_new d documents ≡ Err DuplicateKey = rw (twice refl) refl in
+      inl (ap (put_new d) are ∙ there)
+  refuses_equal NoMemory twice = inr refl
+
+  pub not_made : (new : Namespaces) (fault : InsertFault) (result : Result (Unit {0}) Refusal) (refusal : Refusal) → result ≡ Err refusal → refusal ≡ insert_refusal fault
+      → (IsErrOf {T = Unit {0}} (Err fault) Duplicate → IsSome (found (id_key d) documents)) → new ≡ old → Makes namespace (put_new d) 1 old result new
+  not_made new fault result refusal is from twice same = rw is (rw from (refuses_equal fault twice, same))
+
+pub documents_there : (namespaces : Namespaces) (namespace : List ℕ) (there : Option Standing) → finite.get namespaces namespace ≡ there → documents_of namespace namespaces ≡ (collection_at there).documents
+documents_there namespaces namespace there is = ap (λ (s : Option Standing). (collection_at s).documents) is

@@ -1,7 +1,6 @@
-mod Steps
+mod Lists
+mod Spellings
 mod Stored
-mod Changes
-mod Ordered
-mod Worked
 pub mod Statements
+mod Steps
 mod ByNamespace

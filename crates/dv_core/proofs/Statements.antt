@@ -1,154 +1,158 @@
--- The statements of a write command, one after the other.
-use Rattle.std.proofs.Common.{◌≡◌, ℕ, suc, ◌+◌, ◌<◌, ◌≤◌, ◌⊎◌, Bool, true, false, not, List, [], ◌∷◌, ◌++◌, length, map, drop, get_or, Result, Ok, Err, IfOk, refl, sym, ap, subst, ◌∙◌, append_assoc, add-one, drop_of_length-le, inl, inr, arith}
-use Rattle.std.specs.Bool.{◌==◌}
-use Rattle.std.specs.Prelude.{codes}
+-- The statements of a write, one after the other.
+use Rattle.std.proofs.Common.{◌≡◌, ℕ, suc, ◌+◌, ◌<◌, ◌≤◌, ◌⊎◌, Bool, true, false, not, List, [], ◌∷◌, ◌++◌, length, Result, Ok, Err, is_some, if◌then◌else◌, refl, sym, ap, subst, ◌∙◌, append_assoc, inl, inr, arith}
 use Rattle.std.specs.declared.alloc.AllocError.{AllocError}
-use Rattle.std.proofs.lemmas.Bool.{eqb-true}
-use Rattle.std.proofs.Math.Seq.{drop-cons}
-use Rattle.std.proofs.lemmas.List.{append-nil, drop-map}
-use Rattle.dv_bson.specs.declared.value.Value.{Value}
-use Rattle.dv_bson.specs.declared.value.Value.TheVariants.{Doc}
-use Rattle.dv_bson.specs.Tree.{Tree, array, Elements, element, Field, fields_of, list_of_fields, elements_of}
-use Rattle.dv_bson.specs.View.{tree}
+use Rattle.std.proofs.lemmas.List.{append-nil}
+use Rattle.dv_bson.specs.Tree.{Tree, Field}
 use Rattle.dv_command.specs.declared.refusal.Refusal.{Refusal}
-use Rattle.dv_command.specs.declared.refusal.Refusal.TheVariants.{WantOfMemory}
-use Rattle.dv_core.specs.declared.store.Outcome.TheVariants.{NoReply}
-use Rattle.dv_command.specs.Fields.{documents_among}
-use Rattle.dv_core.specs.State.{State}
-use Rattle.dv_core.specs.Statements.{Written, nothing_written, with_next, with_all, with_result, goes_on, errors_field, written_reply, cut, IsCut}
-use Rattle.dv_core.specs.WriteParts.{with_refusal, goes_on_behind, outcome_of, Next, Writes}
+use Rattle.dv_command.specs.declared.refusal.Refusal.TheVariants.{DuplicateKey, WantOfMemory}
+use Rattle.dv_command.specs.Refusals.{◌>>=◌}
+use Rattle.dv_coll.specs.Collection.{id_key, found}
+use Rattle.dv_core.specs.Insert.{insert_one, put_new}
+use Rattle.dv_core.specs.Storable.{storable}
+use Rattle.dv_core.specs.declared.outcome.Outcome.TheVariants.{Reply, Wanting, NoReply}
+use Rattle.dv_core.specs.declared.written.Next.{Next}
+use Rattle.dv_core.specs.declared.written.Next.TheVariants.{Due, Ended}
+use Rattle.dv_core.specs.State.{Namespaces, documents_of}
+use Rattle.dv_core.specs.Changes.{Change, put, Effect, changed}
+use Rattle.dv_core.specs.Statements.{Statement, Write, Written, nothing_written, written, with_next, with_all, with_result, is_due, next_changes, cut, AreCut, IsCut}
+use Rattle.dv_core.specs.WriteParts.{with_refusal, next_behind, reply_seen, Notes, CutsNext, NextStep, Writes}
 
--- ---- the reply's errors
+is_due-push : (ordered : Bool) (es : List Tree) (e : Tree) → is_due ordered (es ++ e ∷ []) ≡ not ordered
+is_due-push ordered [] e = refl
+is_due-push ordered (x ∷ es) e = refl
 
-pub no_errors : (vs : List Value) → true ≡ (length vs == 0) → errors_field (map tree vs) ≡ []
-no_errors [] e = refl
-no_errors (v ∷ vs) e = absurd (omega (arith, eqb-true (length (v ∷ vs)) 0 (sym e)))
+-- a statement is counted for one document at most
+abbrev pub CountsOne : Result Effect Refusal → Type 0
+CountsOne (Ok effect) = effect.matched ≤ 1
+CountsOne (Err refusal) = Unit {0}
 
-pub some_errors : (vs : List Value) → false ≡ (length vs == 0) → errors_field (map tree vs) ≡ (codes "writeErrors", array (elements_of (map tree vs))) ∷ []
-some_errors [] e = cc
-some_errors (v ∷ vs) e = refl
+module _ (namespace : List ℕ) (ordered : Bool) where
+  -- ---- one statement
 
--- ---- the documents among values
+  module _ (so_far now : Written) (statement : Statement) where
+    -- it was carried out
+    pub next_made : (matched : ℕ) (changes : List Change) → is_due ordered so_far.errors ≡ true → statement (documents_of namespace so_far.namespaces) ≡ Ok (record { matched = matched; changes = changes })
+        → now ≡ record { statements = suc so_far.statements; n = so_far.n + matched; errors = so_far.errors; namespaces = changed namespace changes so_far.namespaces }
+        → NextStep namespace ordered so_far statement (Ok Due) now
+    next_made matched changes due made is = (rw (due, made) is, rw is due)
 
-list_of_fields-fields_of : (fs : List Field) → list_of_fields (fields_of fs) ≡ fs
-list_of_fields-fields_of [] = refl
-list_of_fields-fields_of (f ∷ fs) = ap (λ (rest : List Field). f ∷ rest) (list_of_fields-fields_of fs)
+    -- an error of an ordered command ends it
+    ended_or_due : (b : Bool) → ordered ≡ b → now ≡ with_next namespace ordered so_far statement → is_due ordered now.errors ≡ not ordered → NextStep namespace ordered so_far statement (Ok (if b then Ended else Due)) now
+    ended_or_due true ends is due = (is, due ∙ rw ends refl)
+    ended_or_due false ends is due = (is, due ∙ rw ends refl)
 
--- the documents among the values from a place on
-abbrev pub documents_from : ℕ → List Tree → List (List Field)
-documents_from place vs = documents_among (elements_of (drop place vs))
+    -- it was refused
+    pub next_refused : (refusal : Refusal) → is_due ordered so_far.errors ≡ true → (statement (documents_of namespace so_far.namespaces) ≡ Err refusal) ⊎ (refusal ≡ WantOfMemory)
+        → now ≡ with_refusal so_far refusal → NextStep namespace ordered so_far statement (Ok (next_behind ordered refusal)) now
+    next_refused WantOfMemory due refused is = record { made = 0; fewer = inl refl; is_cut = is }
+    next_refused refusal due (inl refused) is = ended_or_due ordered refl (rw (due, refused) is) (rw is (is_due-push ordered so_far.errors _))
+    next_refused refusal due (inr want) is = absurd cc
 
-documents_among-other : (v : Value) (vs : Elements) → ((d : List Field) → v ≡ Doc d → ⊥) → documents_among (element (tree v) vs) ≡ documents_among vs
-documents_among-other (Doc d) vs other = absurd (other d refl)
-documents_among-other v vs other = refl
+  -- a refusal that is noted, or for which there was no memory
+  module _ (so_far : Written) (statement : Statement) where
+    pub next_noted : (noted : Namespaces → Written) (refusal : Refusal) → is_due ordered so_far.errors ≡ true → (statement (documents_of namespace so_far.namespaces) ≡ Err refusal) ⊎ (refusal ≡ WantOfMemory)
+        → (result : Result Next AllocError) → Notes ordered refusal so_far result (noted so_far.namespaces) → ((ns : Namespaces) → (noted ns).namespaces ≡ ns) → (new : Namespaces) → new ≡ so_far.namespaces
+        → NextStep namespace ordered so_far statement result (noted new)
+    next_noted noted refusal due refused (Ok next) (now_is, next_is) keeps new same = rw (same, next_is) (next_refused so_far (noted so_far.namespaces) statement refusal due refused now_is)
+    next_noted noted refusal due refused (Err e) told keeps new same =
+        (cut namespace ordered 0 so_far statement, record { made = 0; fewer = inl refl; is_cut = refl }, keeps new ∙ same)
 
--- what a loop over the values looks at: a document is the next one, another value is none
-module _ (vs : List Value) (trees : List Tree) (place : ℕ) (seen : map tree vs ≡ trees) where
-  begins_with : (v : Value) → place < length vs → v ≡ get_or vs place v → documents_from place trees ≡ documents_among (element (tree v) (elements_of (drop (place + 1) trees)))
-  begins_with v within is =
-      let here : drop place vs ≡ v ∷ drop (place + 1) vs = drop-cons vs place v within ∙ rw (← is, add-one) refl in
-      rw (← seen, drop-map tree place vs, here, drop-map tree (place + 1) vs) refl
+  counts_result : (so_far : Written) (result : Result Effect Refusal) → (with_result namespace ordered so_far result).statements ≡ suc so_far.statements
+  counts_result so_far (Ok effect) = refl
+  counts_result so_far (Err refusal) = refl
 
-  pub next_document : (v : Value) (d : List Field) → place < length vs → v ≡ get_or vs place v → v ≡ Doc d → documents_from place trees ≡ d ∷ documents_from (place + 1) trees
-  next_document v d within is is_document =
-      begins_with v within is ∙ rw is_document (ap (λ (first : List Field). first ∷ documents_from (place + 1) trees) (list_of_fields-fields_of d))
+  counts_n-result : (so_far : Written) (result : Result Effect Refusal) → CountsOne result → so_far.n ≤ so_far.statements → (with_result namespace ordered so_far result).n ≤ suc so_far.statements
+  counts_n-result so_far (Ok effect) one within = omega arith
+  counts_n-result so_far (Err refusal) one within = omega arith
 
-  pub no_document : (v : Value) → place < length vs → v ≡ get_or vs place v → ((d : List Field) → v ≡ Doc d → ⊥) → documents_from place trees ≡ documents_from (place + 1) trees
-  no_document v within is other = begins_with v within is ∙ documents_among-other v _ other
+  -- ---- where a write stands
 
-  pub none_left : length vs ≤ place → documents_from place trees ≡ []
-  none_left past = rw (← seen, drop-map, drop_of_length-le vs past) refl
-
--- ---- one statement
-
-goes_on-push : (ordered : Bool) (es : List Tree) (e : Tree) → goes_on ordered (es ++ e ∷ []) ≡ not ordered
-goes_on-push ordered [] e = refl
-goes_on-push ordered (x ∷ es) e = refl
-
-counts_result : (so_far : Written) (result : Result State Refusal) → (with_result so_far result).statements ≡ suc so_far.statements
-counts_result so_far (Ok state) = refl
-counts_result so_far (Err refusal) = refl
-
-module _ {A : Type 0} (one : State → A → Result State Refusal) (ordered : Bool) where
-  next_carried_out : (so_far now : Written) (statement : A) (b : Bool)
-      → now ≡ with_next one ordered so_far statement → goes_on ordered now.errors ≡ b → Next one ordered so_far statement (Ok b) now
-  next_carried_out so_far now statement true is goes = (is, goes)
-  next_carried_out so_far now statement false is goes = inl (is, goes)
-
-  pub next_refused : (so_far now : Written) (statement : A) (refusal : Refusal)
-      → goes_on ordered so_far.errors ≡ true → (one so_far.state statement ≡ Err refusal) ⊎ (refusal ≡ WantOfMemory)
-      → now ≡ with_refusal so_far refusal → Next one ordered so_far statement (Ok (goes_on_behind refusal ordered)) now
-  next_refused so_far now statement WantOfMemory goes refused is = inr is
-  next_refused so_far now statement refusal goes (inl e) is =
-      next_carried_out so_far now statement (not ordered) (rw (goes, e) is) (rw is (goes_on-push ordered so_far.errors _))
-  next_refused so_far now statement refusal goes (inr want) is = cc
-
-  -- ---- where a command stands
-
-  with_all-append : (w : Written) (xs ys : List A) → with_all one ordered w (xs ++ ys) ≡ with_all one ordered (with_all one ordered w xs) ys
+  pub with_all-append : (w : Written) (xs ys : List Statement) → with_all namespace ordered w (xs ++ ys) ≡ with_all namespace ordered (with_all namespace ordered w xs) ys
   with_all-append w [] ys = refl
-  with_all-append w (x ∷ xs) ys = with_all-append (with_next one ordered w x) xs ys
+  with_all-append w (x ∷ xs) ys = with_all-append (with_next namespace ordered w x) xs ys
 
-  -- where a command doesn't go on, the statements behind don't matter
-  with_all-stopped : (w : Written) (xs : List A) → goes_on ordered w.errors ≡ false → with_all one ordered w xs ≡ w
+  -- where no statement is due, those behind don't matter
+  pub with_all-stopped : (w : Written) (xs : List Statement) → is_due ordered w.errors ≡ false → with_all namespace ordered w xs ≡ w
   with_all-stopped w [] stopped = refl
   with_all-stopped w (x ∷ xs) stopped = rw stopped (with_all-stopped w xs stopped)
 
-  module _ (statements : List A) (old : State) where
-    -- the statements before the rest were carried out, and the rest is to be looked at
-    pub record Reached (so_far : Written) (rest : List A) : Type 0 where
-      pub before : List A
-      pub stands : statements ≡ before ++ rest
-      pub carried_out : so_far ≡ with_all one ordered (nothing_written old) before
-      pub goes : goes_on ordered so_far.errors ≡ true
+  module _ (statements : List Statement) (old : Namespaces) where
+    all_done : Written
+    all_done = with_all namespace ordered (nothing_written old) statements
 
-    -- all statements were carried out, or the command was cut
-    abbrev pub Ended : Written → Type 0
-    Ended left = (left ≡ with_all one ordered (nothing_written old) statements) ⊎ IsCut one ordered statements old left
+    -- the statements before the rest were carried out, and the rest is to be looked at
+    pub record Reached (so_far : Written) (rest : List Statement) : Type 0 where
+      pub before : List Statement
+      pub stands : statements ≡ before ++ rest
+      pub carried_out : so_far ≡ with_all namespace ordered (nothing_written old) before
+      pub due : is_due ordered so_far.errors ≡ true
 
     pub starts : Reached (nothing_written old) statements
-    starts = record { before = []; stands = refl; carried_out = refl; goes = refl }
+    starts = record { before = []; stands = refl; carried_out = refl; due = refl }
 
     module _ (so_far : Written) where
-      pub at_end : Reached so_far [] → Ended so_far
-      at_end reached = inl (reached.carried_out ∙ ap (with_all one ordered (nothing_written old)) (sym (append-nil reached.before) ∙ sym reached.stands))
+      pub at_end : Reached so_far [] → so_far ≡ with_all namespace ordered (nothing_written old) statements
+      at_end reached = reached.carried_out ∙ ap (with_all namespace ordered (nothing_written old)) (sym (append-nil reached.before) ∙ sym reached.stands)
 
-      module _ (statement : A) (rest : List A) (reached : Reached so_far (statement ∷ rest)) where
-        cut_here : IsCut one ordered statements old (cut so_far)
-        cut_here = record {
-          before = reached.before;
-          statement = statement;
-          behind = rest;
-          stands = reached.stands;
-          reached = rw (← reached.carried_out) reached.goes;
-          left_so = ap cut reached.carried_out;
-        }
+      module _ (statement : Statement) (rest : List Statement) (reached : Reached so_far (statement ∷ rest)) where
+        pub cut_here : (now : Written) → CutsNext namespace ordered so_far statement now → AreCut namespace ordered statements old now
+        cut_here now cuts =
+            let before_is : Written = with_all namespace ordered (nothing_written old) reached.before in
+            record {
+              before = reached.before;
+              statement = statement;
+              behind = rest;
+              made = cuts.made;
+              stands = reached.stands;
+              reached = rw (← reached.carried_out) reached.due;
+              fewer = subst (λ (w : Written). (cuts.made ≡ 0) ⊎ (cuts.made < length (next_changes namespace ordered w statement))) reached.carried_out cuts.fewer;
+              left_so = cuts.is_cut ∙ ap (λ (w : Written). cut namespace ordered cuts.made w statement) reached.carried_out;
+            }
 
-        pub goes_behind : (now : Written) → Next one ordered so_far statement (Ok true) now → Reached now rest
-        goes_behind now next = record {
+        pub due_behind : (now : Written) → NextStep namespace ordered so_far statement (Ok Due) now → Reached now rest
+        due_behind now next = record {
           before = reached.before ++ statement ∷ [];
           stands = reached.stands ∙ sym (append_assoc reached.before (statement ∷ []) rest);
-          carried_out = next.0 ∙ ap (λ (w : Written). with_next one ordered w statement) reached.carried_out ∙ sym (with_all-append (nothing_written old) reached.before (statement ∷ []));
-          goes = next.1;
+          carried_out = next.0 ∙ ap (λ (w : Written). with_next namespace ordered w statement) reached.carried_out ∙ sym (with_all-append (nothing_written old) reached.before (statement ∷ []));
+          due = next.1;
         }
 
-        pub ends : (now : Written) → Next one ordered so_far statement (Ok false) now → Ended now
-        ends now (inl next) =
-            inl (sym (with_all-stopped now rest next.1)
-            ∙ ap (λ (w : Written). with_all one ordered w rest) (next.0 ∙ ap (λ (w : Written). with_next one ordered w statement) reached.carried_out)
-            ∙ sym (with_all-append (nothing_written old) reached.before (statement ∷ rest)) ∙ ap (with_all one ordered (nothing_written old)) (sym reached.stands))
-        ends now (inr is_cut) = inr (subst (IsCut one ordered statements old) (sym is_cut) cut_here)
+        pub ends : (now : Written) → NextStep namespace ordered so_far statement (Ok Ended) now → now ≡ with_all namespace ordered (nothing_written old) statements
+        ends now next =
+            sym (with_all-stopped now rest next.1)
+            ∙ ap (λ (w : Written). with_all namespace ordered w rest) (next.0 ∙ ap (λ (w : Written). with_next namespace ordered w statement) reached.carried_out)
+            ∙ sym (with_all-append (nothing_written old) reached.before (statement ∷ rest)) ∙ ap (with_all namespace ordered (nothing_written old)) (sym reached.stands)
 
-        pub fails : (new : State) → new ≡ so_far.state → Writes one ordered old statements NoReply new
-        fails new same = inr (cut so_far, cut_here, same)
+        pub counts : (now : Written) → NextStep namespace ordered so_far statement (Ok Due) now → now.statements ≡ suc so_far.statements
+        counts now next = ap (λ (w : Written). w.statements) next.0 ∙ rw reached.due (counts_result so_far _)
 
-        pub counts : (now : Written) → Next one ordered so_far statement (Ok true) now → now.statements ≡ suc so_far.statements
-        counts now next = ap (λ (w : Written). w.statements) next.0 ∙ rw reached.goes (counts_result so_far _)
+        pub counts_n : (now : Written) → NextStep namespace ordered so_far statement (Ok Due) now → CountsOne (statement (documents_of namespace so_far.namespaces)) → so_far.n ≤ so_far.statements → now.n ≤ now.statements
+        counts_n now next one within =
+            let n : now.n ≡ (with_result namespace ordered so_far (statement (documents_of namespace so_far.namespaces))).n = ap (λ (w : Written). w.n) next.0 ∙ rw reached.due refl in
+            omega (arith, n, counts now next, counts_n-result so_far (statement (documents_of namespace so_far.namespaces)) one within)
 
-    -- what an ended command answers
-    pub answers : (left : Written) (reply : Result (List Field) AllocError)
-        → Ended left → IfOk reply (λ r. r ≡ written_reply left) → Writes one ordered old statements (outcome_of reply) left.state
-    answers left (Ok r) (inl all) is = inl (is ∙ ap written_reply all, ap (λ (w : Written). w.state) all)
-    answers left (Ok r) (inr is_cut) is = inr (left, is_cut, (is, refl))
-    answers left (Err e) (inl all) is = inl (ap (λ (w : Written). w.state) all)
-    answers left (Err e) (inr is_cut) is = inr (left, is_cut, refl)
+-- an insert's statement is counted for one document
+put_counts : (b : Bool) (d : List Field) → CountsOne (if b then Err DuplicateKey else Ok (record { matched = 1; changes = put d ∷ [] }))
+put_counts true d = tt
+put_counts false d = omega arith
+
+stored_counts : (r : Result (List Field) Refusal) (documents : List (List Field)) → CountsOne (r >>= λ stored. put_new stored documents)
+stored_counts (Ok stored) documents = put_counts (is_some (found (id_key stored) documents)) stored
+stored_counts (Err refusal) documents = tt
+
+pub insert_counts : (d : List Field) (documents : List (List Field)) → CountsOne (insert_one d documents)
+insert_counts d documents = stored_counts (storable d) documents
+
+-- what an ended write answers
+module _ (write : Write) (old : Namespaces) (left : Written) where
+  pub done_replied : (reply : List Field) → left ≡ written write old → reply ≡ reply_seen left → Writes write old (Reply reply) left.namespaces
+  done_replied reply is replies = (replies ∙ ap reply_seen is, ap (λ (w : Written). w.namespaces) is)
+
+  pub done_untold : left ≡ written write old → Writes write old NoReply left.namespaces
+  done_untold is = inl (ap (λ (w : Written). w.namespaces) is)
+
+  pub cut_replied : (reply : List Field) → IsCut write old left → reply ≡ reply_seen left → Writes write old (Wanting reply) left.namespaces
+  cut_replied reply is_cut replies = (left, is_cut, replies, refl)
+
+  pub cut_untold : (new : Namespaces) → IsCut write old left → new ≡ left.namespaces → Writes write old NoReply new
+  cut_untold new is_cut same = inr (left, is_cut, same)

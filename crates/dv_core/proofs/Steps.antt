@@ -1,28 +1,34 @@
--- What the commands give is a step of the machine.
-use Rattle.std.proofs.Common.{◌≡◌, ℕ, List, Result, Ok, Err, inl, inr, refl}
+-- What carrying out a command gives is a step of the machine.
+use Rattle.std.proofs.Common.{◌≡◌, ◌⊎◌, ℕ, List, Ok, Err, inl, inr, refl, sym}
 use Rattle.dv_bson.specs.Tree.{Field}
+use Rattle.dv_command.specs.declared.command.Command.{Command}
 use Rattle.dv_command.specs.declared.refusal.Refusal.{Refusal}
-use Rattle.dv_command.specs.declared.command.Command.TheVariants.{Body}
-use Rattle.dv_core.specs.declared.store.Outcome.{Outcome}
-use Rattle.dv_core.specs.State.{State}
-use Rattle.dv_core.specs.Insert.{Insert, insert_of, insert_one}
-use Rattle.dv_core.specs.Step.{Answer, insert, written_answer, command_answer, InsertCut, Cut, MemoryStep}
-use Rattle.dv_core.specs.StepParts.{Gives}
+use Rattle.dv_command.specs.declared.refusal.Refusal.TheVariants.{WantOfMemory}
+use Rattle.dv_command.specs.Asked.{Insert, insert, asked_by}
+use Rattle.dv_core.specs.declared.outcome.Outcome.{Outcome}
+use Rattle.dv_core.specs.declared.outcome.Outcome.TheVariants.{Reply, Wanting, NoReply}
+use Rattle.dv_core.specs.Insert.{insert_write}
+use Rattle.dv_core.specs.State.{State, Namespaces}
+use Rattle.dv_core.specs.Step.{Answer, answered, write_answer, MemoryStep}
+use Rattle.dv_core.specs.StepParts.{Refuses}
 use Rattle.dv_core.specs.WriteParts.{Writes}
 
--- what is carried out under another name for it
-pub gives_as : (old new : State) (defined other : Result Answer Refusal) (IsCutTo IsOther : Answer → Type 0) (result : Result Outcome Refusal)
-    → other ≡ defined → ((answer : Answer) → IsCutTo answer → IsOther answer) → Gives old defined IsCutTo result new → Gives old other IsOther result new
-gives_as old new defined other IsCutTo IsOther (Ok outcome) e follows (inl told) = rw e (inl told)
-gives_as old new defined other IsCutTo IsOther (Ok outcome) e follows (inr (answer, is, told)) = inr (answer, follows answer is, told)
-gives_as old new defined other IsCutTo IsOther (Err refusal) e follows h = rw e h
+abbrev answer_of : List Field → Namespaces → Answer
+answer_of reply namespaces = record { reply = reply; state = record { namespaces = namespaces } }
 
-pub writes_give : (old new : State) (body : List Field) (asked : Insert) (outcome : Outcome) → insert_of body ≡ Ok asked → Writes (insert_one asked.namespace) asked.ordered old asked.documents outcome new
-    → Gives old (insert old body) (InsertCut old (insert_of body)) (Ok outcome) new
-writes_give old new body asked outcome e (inl told) = rw e (inl told)
-writes_give old new body asked outcome e (inr (left, cut, told)) = inr (written_answer left, rw e (left, cut, refl), told)
+same_answer : (r s : List Field) (m n : Namespaces) → r ≡ s → m ≡ n → answer_of r m ≡ answer_of s n
+same_answer r s m n p q = λ i. answer_of (p i) (q i)
 
-pub given_steps : (old new : State) (session : ℕ) (body : List Field) (outcome : Outcome) → Gives old (command_answer old session body) (Cut old body) (Ok outcome) new
-    → MemoryStep old session (Body body) outcome new
-given_steps old new session body outcome (inl told) = inl told
-given_steps old new session body outcome (inr cut) = inr (inr cut)
+pub insert_steps : (old : State) (new : Namespaces) (session : ℕ) (command : Command) (asked : Insert) (outcome : Outcome) → asked_by command ≡ Ok (insert asked)
+    → Writes (insert_write asked) old.namespaces outcome new → MemoryStep old session command outcome (record { namespaces = new })
+insert_steps old new session command asked (Reply reply) e (replies, leaves) = rw e (same_answer _ _ _ _ (sym replies) (sym leaves))
+insert_steps old new session command asked (Wanting reply) e (left, is_cut, replies, leaves) = inr (rw e (left, is_cut, same_answer _ _ _ _ replies leaves))
+insert_steps old new session command asked NoReply e (inl leaves) = inl (rw e (λ i. record { namespaces = leaves i }))
+insert_steps old new session command asked NoReply e (inr (left, is_cut, leaves)) = inr (write_answer old left, inr (rw e (left, is_cut, refl)), λ i. record { namespaces = leaves i })
+
+pub refusal_steps : (old : State) (session : ℕ) (command : Command) (refusal : Refusal) (outcome : Outcome) → (asked_by command ≡ Err refusal) ⊎ (refusal ≡ WantOfMemory)
+    → Refuses refusal outcome → MemoryStep old session command outcome old
+refusal_steps old session command refusal (Reply reply) (inl e) (replies, known) = rw e (λ i. record { reply = sym replies i; state = old })
+refusal_steps old session command refusal (Reply reply) (inr want) (replies, known) = absurd (known want)
+refusal_steps old session command refusal (Wanting reply) why replies = inl (λ i. record { reply = replies i; state = old })
+refusal_steps old session command refusal NoReply why told = inr (answered old (Err WantOfMemory), inl refl, refl)

@@ -8,12 +8,10 @@ use Rattle.std.proofs.lemmas.Slice.Eq.{bytes_eq-Decides}
 use Rattle.dv_bson.specs.declared.value.Value.{Value}
 use Rattle.dv_bson.specs.Tree.{Tree, document, array, Field, fields_of, elements_of}
 use Rattle.dv_bson.specs.Names.{value_under, has_name, has_zero, AreNamed}
-use Rattle.dv_bson.specs.Spelling.{payload, spelling, fields_levels, levels, Fits}
+use Rattle.dv_bson.specs.Spelling.{spelling, fields_levels, levels, Fits}
 use Rattle.dv_bson.specs.View.{tree}
-use Rattle.dv_bson.proofs.Items.{slice_get_seen, drop_item, drop_seen}
-use Rattle.dv_bson.proofs.Named.{named_apart, bytes_eq-symmetric}
-use Rattle.dv_bson.proofs.Payloads.{length-document}
-use Rattle.dv_bson.proofs.Rest.{fields_length-drop}
+use Rattle.dv_core.proofs.Lists.{bytes_eq-symmetric, slice_get_seen, drop_item, drop_seen}
+use Rattle.dv_core.proofs.Spellings.{spelling-field}
 use Rattle.dv_bson.specs.Weight.{field_weighs_less, value_weighs_less}
 use Rattle.dv_command.specs.Namespaces.{has_dot, begins_with_dollar}
 use Rattle.dv_command.specs.declared.refusal.Refusal.{Refusal}
@@ -67,6 +65,16 @@ AreNamed-without_field name (f ∷ fs) named = grind (arith, AreNamed-without_fi
 without_field-gone : (name : List ℕ) (fs : List Field) → AreNamed fs → has_name name (without_field name fs) ≡ false
 without_field-gone name [] named = refl
 without_field-gone name (f ∷ fs) named = grind (arith, without_field-gone name fs, (bytes_eq-Decides name f.0).0)
+
+has_name-append : (name : List ℕ) (fs gs : List Field) → has_name name (fs ++ gs) ≡ (has_name name fs || has_name name gs)
+has_name-append name [] gs = grind arith
+has_name-append name (f ∷ fs) gs = grind (arith, has_name-append name fs gs)
+
+-- a field's name isn't that of one before it
+named_apart : (fs gs : List Field) (f : Field) → AreNamed (fs ++ f ∷ gs) → has_name f.0 fs ≡ false
+named_apart [] gs f named = refl
+named_apart (g ∷ fs) gs f named =
+    grind (arith, named_apart fs gs f named.2, has_name-append g.0 fs (f ∷ gs), bytes_eq-symmetric f.0 g.0)
 
 -- ---- the fields left to copy behind `_id`
 
@@ -122,9 +130,6 @@ first_already (f ∷ fs) name value id here is under =
     grind (arith, ap (λ (g : Field). g.0) same, bytes_eq-symmetric (codes "_id") name, (bytes_eq-Decides (codes "_id") f.0).0)
 
 -- ---- the limits, which don't see where a field stands
-
-spelling-field : (f : Field) (fs : List Field) → length (spelling (f ∷ fs)) ≡ length (payload f.1) + length f.0 + 2 + length (spelling fs)
-spelling-field f fs = omega (arith, length-document (fields_of (f ∷ fs)), length-document (fields_of fs), fields_length-drop (f ∷ fs) 0 f refl)
 
 record IsAsLarge (d e : List Field) : Type 0 where
   size : length (spelling d) ≡ length (spelling e)

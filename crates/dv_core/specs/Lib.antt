@@ -1,11 +1,12 @@
 pub mod State
 pub mod Storable
+pub mod Changes
 pub mod Statements
 pub mod Insert
 pub mod Find
 pub mod Step
-pub mod Examples
 -- words that only bodies need
+pub mod StateCode
 pub mod View
 pub mod StepParts
 pub mod WriteParts

@@ -1,36 +1,46 @@
--- What commands read and change: the documents of each namespace. That no two of one collection have an equal `_id` is the MongoDB
--- manual's ("Documents", "The _id Field"); that they stand in the order of these is this server's own.
+-- What commands read and change: what stands under each namespace. That no two documents of a collection have an equal `_id` is the
+-- MongoDB manual's ("Documents", "The _id Field"); that they stand in the order of these is this server's own.
 use Rattle.std.specs.Prelude.{ℕ, List, [], Option, Some, None}
 use Rattle.std.specs.Cmp.Lexicographic.{slice_cmp}
-use Rattle.std.specs.Coded.{Coded, coded_list, coded×, coded_ℕ}
 use Rattle.std.specs.FinMap as finite
 use Rattle.std.specs.List.{AllByRecursion}
 use Rattle.std.specs.Ordering.{nat_cmp}
 use Rattle.dv_bson.specs.Tree.{Field}
-use Rattle.dv_bson.specs.TreeCode.{coded_tree}
 use Rattle.dv_coll.specs.Collection.{HasId, IsAscending}
 
--- from the namespaces of the collections that there are to their documents, in the order of the `_id`s
-abbrev pub State : Type 0
-State = finite.FinMap (slice_cmp nat_cmp) (List (List Field))
+-- a collection's documents, in the order of their `_id`s
+pub record Collection : Type 0 where
+  pub documents : List (List Field)
+
+-- what stands under a namespace
+pub data Standing : Type 0 where
+  collection : Collection → Standing
+
+-- from the namespaces under which something stands to what it is
+abbrev pub Namespaces : Type 0
+Namespaces = finite.FinMap (slice_cmp nat_cmp) Standing
+
+pub record State : Type 0 where
+  pub namespaces : Namespaces
 
 abbrev pub empty_state : State
-empty_state = finite.empty
+empty_state = record { namespaces = finite.empty }
 
-abbrev pub coded_state : Coded State
-coded_state = finite.code (coded_list coded_ℕ) (coded_list (coded_list (coded× (coded_list coded_ℕ) coded_tree)))
+abbrev pub collection_at : Option Standing → Collection
+collection_at None = record { documents = [] }
+collection_at (Some (collection c)) = c
 
-abbrev pub or_no_documents : Option (List (List Field)) → List (List Field)
-or_no_documents None = []
-or_no_documents (Some documents) = documents
+-- the collection of a namespace; one without documents where it isn't there
+abbrev pub collection_of : List ℕ → Namespaces → Collection
+collection_of namespace namespaces = collection_at (finite.get namespaces namespace)
 
--- the documents of a namespace; none where it isn't there
-abbrev pub documents_of : List ℕ → State → List (List Field)
-documents_of namespace state = or_no_documents (finite.get state namespace)
+abbrev pub documents_of : List ℕ → Namespaces → List (List Field)
+documents_of namespace namespaces = (collection_of namespace namespaces).documents
 
--- with these documents in a namespace, be it there or not
-abbrev pub with_documents : List ℕ → List (List Field) → State → State
-with_documents namespace documents state = finite.insert state namespace documents
+-- with these documents in the collection of a namespace, be it there or not
+abbrev pub with_documents : List ℕ → List (List Field) → Namespaces → Namespaces
+with_documents namespace documents namespaces =
+    finite.insert namespaces namespace (collection (record (collection_of namespace namespaces) { documents = documents }))
 
 -- each document begins with its `_id`, in the order of which they stand; no two are equal, whatever the width of their integers
 abbrev pub AreOrdered : List (List Field) → Type 0
@@ -38,4 +48,4 @@ AreOrdered documents = IsAscending documents × AllByRecursion HasId documents
 
 -- the documents of each namespace are in the order of their `_id`s
 abbrev pub IsOrdered : State → Type 0
-IsOrdered state = (namespace : List ℕ) → AreOrdered (documents_of namespace state)
+IsOrdered state = (namespace : List ℕ) → AreOrdered (documents_of namespace state.namespaces)

@@ -1,90 +1,80 @@
 -- The machine: what each command answers, and the state that it leaves.
-use Rattle.std.specs.Prelude.{◌≡◌, ℕ, ◌⊎◌, true, List, [], ◌∷◌, Result, Ok, Err, codes, if◌then◌else◌}
-use Rattle.std.specs.Str.{bytes_eq}
+use Rattle.std.specs.Prelude.{◌≡◌, ℕ, ◌⊎◌, List, [], Option, Some, None, Result, Ok, Err}
 use Rattle.dv_bson.specs.Tree.{Field}
-use Rattle.dv_command.specs.declared.refusal.Refusal.{Refusal}
-use Rattle.dv_command.specs.declared.refusal.Refusal.TheVariants.{CommandNotFound, WantOfMemory}
 use Rattle.dv_command.specs.declared.command.Command.{Command}
-use Rattle.dv_command.specs.declared.command.Command.TheVariants.{Body, Invalid}
-use Rattle.dv_core.specs.declared.store.Outcome.{Outcome}
-use Rattle.dv_core.specs.declared.store.Outcome.TheVariants.{Reply, NoReply}
-use Rattle.dv_command.specs.Refusals.{refused, refusal_of, ◌>>=◌}
-use Rattle.dv_command.specs.Replies.{done}
-use Rattle.dv_command.specs.Namespaces.{database}
-use Rattle.dv_core.specs.State.{State}
-use Rattle.dv_core.specs.Statements.{Written, nothing_written, with_all, written_reply, IsCut}
-use Rattle.dv_core.specs.Insert.{Insert, insert_of, insert_one}
-use Rattle.dv_core.specs.Find as finding
-
--- ---- the commands: each answers a reply and a state, or is refused
+use Rattle.dv_command.specs.declared.refusal.Refusal.{Refusal}
+use Rattle.dv_command.specs.declared.refusal.Refusal.TheVariants.{WantOfMemory}
+use Rattle.dv_command.specs.Asked.{Asked, ping, insert, find, asked_by}
+use Rattle.dv_command.specs.Refusals.{◌>>=◌}
+use Rattle.dv_command.specs.Replies.{reply_of, refusal_reply, write_reply}
+use Rattle.dv_core.specs.declared.outcome.Outcome.{Outcome}
+use Rattle.dv_core.specs.declared.outcome.Outcome.TheVariants.{Reply, Wanting, NoReply}
+use Rattle.dv_core.specs.State.{State, documents_of}
+use Rattle.dv_core.specs.Statements.{Write, Written, written, IsCut}
+use Rattle.dv_core.specs.Insert.{insert_write}
+use Rattle.dv_core.specs.Find.{batch_reply}
 
 -- the reply to a command, and the state after it
 pub record Answer : Type 0 where
   pub reply : List Field
   pub state : State
 
-abbrev pub ping : List Field → Result (List Field) Refusal
-ping body = database body >>= λ _. Ok (done [])
-
-abbrev pub written_answer : Written → Answer
-written_answer written = record { reply = written_reply written; state = written.state }
-
-abbrev pub insert_answer : State → Insert → Answer
-insert_answer state insert = written_answer (with_all (insert_one insert.namespace) insert.ordered (nothing_written state) insert.documents)
-
-abbrev pub insert : State → List Field → Result Answer Refusal
-insert state body = insert_of body >>= λ asked. Ok (insert_answer state asked)
+-- ---- the commands: each answers a reply and a state, or is refused
 
 -- a command that changes nothing
-abbrev pub reads : State → Result (List Field) Refusal → Result Answer Refusal
-reads state result = result >>= λ reply. Ok (record { reply = reply; state = state })
+abbrev pub read_answer : State → Result (List Field) Refusal → Result Answer Refusal
+read_answer state result = result >>= λ reply. Ok (record { reply = reply; state = state })
 
--- the command is the first name of the body
-abbrev pub command_name : List Field → List ℕ
-command_name [] = []
-command_name (f ∷ fs) = f.0
+-- a write whose statements did this
+abbrev pub write_answer : State → Written → Answer
+write_answer old did = record { reply = write_reply did.n did.errors; state = record old { namespaces = did.namespaces } }
 
-abbrev pub command_answer : State → ℕ → List Field → Result Answer Refusal
-command_answer state session body =
-    if bytes_eq (command_name body) (codes "ping") then reads state (ping body)
-    else if bytes_eq (command_name body) (codes "insert") then insert state body
-    else if bytes_eq (command_name body) (codes "find") then reads state (finding.find state body)
-    else Err CommandNotFound
+-- what a command of a session answers, by what it asks
+abbrev pub answer_to : State → ℕ → Asked → Result Answer Refusal
+answer_to state session ping = read_answer state (Ok (reply_of []))
+answer_to state session (insert asked) = Ok (write_answer state (written (insert_write asked) state.namespaces))
+answer_to state session (find asked) = read_answer state (batch_reply asked.namespace (documents_of asked.namespace state.namespaces))
 
+-- a refusal leaves the state
 abbrev pub answered : State → Result Answer Refusal → Answer
 answered state (Ok answer) = answer
-answered state (Err refusal) = record { reply = refused refusal; state = state }
+answered state (Err refusal) = record { reply = refusal_reply refusal; state = state }
 
--- one step: what a command of a session answers, and the state after it; a refusal leaves the state
+-- one step: what a command of a session answers, and the state after it
 abbrev pub step : State → ℕ → Command → Answer
-step state session (Invalid fault) = answered state (Err (refusal_of fault))
-step state session (Body body) = answered state (command_answer state session body)
+step state session command = answered state (asked_by command >>= answer_to state session)
 
 -- ---- under want of memory
 
--- an outcome tells an answer: with its reply, or, for want of memory, without
-abbrev pub Tells : Answer → Outcome → State → Type 0
-Tells answer (Reply reply) new = (reply ≡ answer.reply) × (new ≡ answer.state)
-Tells answer NoReply new = new ≡ answer.state
+-- the write that a command is, if it is one; no other command changes a document
+abbrev pub write_of : Asked → Option Write
+write_of ping = None
+write_of (insert asked) = Some (insert_write asked)
+write_of (find asked) = None
 
--- the answers of an insert that is cut at one of its documents; one that is refused isn't cut
-abbrev pub InsertCut : State → Result Insert Refusal → Answer → Type 0
-InsertCut old (Ok insert) answer = (left : Written) × IsCut (insert_one insert.namespace) insert.ordered insert.documents old left × (answer ≡ written_answer left)
-InsertCut old (Err refusal) answer = ⊥
+-- the answers of a write that is cut at one of its statements
+abbrev pub WriteCut : State → Option Write → Answer → Type 0
+WriteCut old None answer = ⊥
+WriteCut old (Some write) answer = (left : Written) × IsCut write old.namespaces left × (answer ≡ write_answer old left)
 
--- the answers of a write command that is cut; only inserts write yet
-abbrev pub Cut : State → List Field → Answer → Type 0
-Cut old body answer = (bytes_eq (command_name body) (codes "insert") ≡ true) × InsertCut old (insert_of body) answer
+-- a command that is refused isn't cut
+abbrev pub Cut : State → Result Asked Refusal → Answer → Type 0
+Cut old (Ok asked) answer = WriteCut old (write_of asked) answer
+Cut old (Err refusal) answer = ⊥
 
--- the answers of a command that is cut; one that can't be read isn't
-abbrev pub CommandCut : State → Command → Answer → Type 0
-CommandCut old (Invalid fault) answer = ⊥
-CommandCut old (Body body) answer = Cut old body answer
+-- the answers of a command for which memory is wanting: it is refused and nothing changed, or it is a write and cut
+abbrev pub Wants : State → Command → Answer → Type 0
+Wants old command answer = (answer ≡ answered old (Err WantOfMemory)) ⊎ Cut old (asked_by command) answer
 
--- the step as it is defined; or, for want of memory, the command refused and nothing changed; or a write cut at one of its
--- statements; or no reply after any of these
+-- What a command of a session may come to, and the state after it: a reply, and then it is the step as it is defined; a reply that
+-- tells of want of memory; or no reply, for which memory is wanting, after either.
 abbrev pub MemoryStep : State → ℕ → Command → Outcome → State → Type 0
-MemoryStep old session command outcome new =
-    Tells (step old session command) outcome new
-    ⊎ Tells (answered old (Err WantOfMemory)) outcome new
-    ⊎ ((answer : Answer) × CommandCut old command answer × Tells answer outcome new)
+MemoryStep old session command (Reply reply) new = step old session command ≡ record { reply = reply; state = new }
+MemoryStep old session command (Wanting reply) new = Wants old command (record { reply = reply; state = new })
+MemoryStep old session command NoReply new = (new ≡ (step old session command).state) ⊎ ((answer : Answer) × Wants old command answer × (new ≡ answer.state))
+
+-- an outcome that tells of want of memory, if only by there being no reply
+abbrev pub TellsOfWant : Outcome → Type 0
+TellsOfWant (Reply reply) = ⊥
+TellsOfWant (Wanting reply) = Unit {0}
+TellsOfWant NoReply = Unit {0}

@@ -1,25 +1,19 @@
 -- What the parts of a step give.
-use Rattle.std.specs.Prelude.{◌≡◌, ◌⊎◌, Result, Ok, Err, ⊤}
+use Rattle.std.specs.Prelude.{◌≡◌, ◌≢◌, List, Result, Ok, Err, ⊤}
+use Rattle.dv_bson.specs.Tree.{Field}
 use Rattle.dv_command.specs.declared.refusal.Refusal.{Refusal}
 use Rattle.dv_command.specs.declared.refusal.Refusal.TheVariants.{WantOfMemory}
-use Rattle.dv_core.specs.declared.store.Outcome.{Outcome}
-use Rattle.dv_core.specs.declared.store.Outcome.TheVariants.{Reply, NoReply}
-use Rattle.dv_command.specs.Refusals.{refused}
-use Rattle.dv_core.specs.State.{State}
-use Rattle.dv_core.specs.Step.{Answer, answered, Tells}
+use Rattle.dv_command.specs.Replies.{refusal_reply}
+use Rattle.dv_core.specs.declared.outcome.Outcome.{Outcome}
+use Rattle.dv_core.specs.declared.outcome.Outcome.TheVariants.{Reply, Wanting, NoReply}
 
--- a result as it is defined, or refused for want of memory
-abbrev pub Wants : {A : Type 0} → Result A Refusal → Result A Refusal → Type 0
-Wants defined (Ok x) = defined ≡ Ok x
-Wants defined (Err refusal) = (defined ≡ Err refusal) ⊎ (refusal ≡ WantOfMemory)
-
--- what carrying out a command gives: an outcome that tells its answer, or that of a cut; or why it is refused, which may be want of
--- memory, and nothing is changed
-abbrev pub Gives : State → Result Answer Refusal → (Answer → Type 0) → Result Outcome Refusal → State → Type 0
-Gives old defined IsCutTo (Ok outcome) new = Tells (answered old defined) outcome new ⊎ ((answer : Answer) × IsCutTo answer × Tells answer outcome new)
-Gives old defined IsCutTo (Err refusal) new = ((defined ≡ Err refusal) ⊎ (refusal ≡ WantOfMemory)) × (new ≡ old)
-
--- a command that is refused, or wants memory for that, or for any reply
+-- a command that is refused: its reply, or that memory is wanting for it
 abbrev pub Refuses : Refusal → Outcome → Type 0
-Refuses refusal (Reply reply) = (reply ≡ refused refusal) ⊎ (reply ≡ refused WantOfMemory)
+Refuses refusal (Reply reply) = (reply ≡ refusal_reply refusal) × (refusal ≢ WantOfMemory)
+Refuses refusal (Wanting reply) = reply ≡ refusal_reply WantOfMemory
 Refuses refusal NoReply = ⊤
+
+-- a command that changes nothing: its reply, or why it is refused
+abbrev pub Tells : Result (List Field) Refusal → Outcome → Type 0
+Tells (Ok reply) outcome = outcome ≡ Reply reply
+Tells (Err refusal) outcome = Refuses refusal outcome

@@ -40,7 +40,7 @@ id_in None = Err BadValue
 id_in (Some (array vs)) = Err BadValue
 id_in (Some value) = Ok value
 
--- within the limits for what is stored: 16,777,216 bytes and 100 levels
+-- within the limits for what is stored, which are those for what is read: see `Fits`
 abbrev pub is_within_limits : List Field → Bool
 is_within_limits d = not (nat_lt 16777216 (length (spelling d))) && not (nat_lt 100 (levels (document (fields_of d))))
 

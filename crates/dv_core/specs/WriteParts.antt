@@ -1,56 +1,75 @@
--- What the parts of a write command give.
-use Rattle.std.specs.Prelude.{◌≡◌, ℕ, ◌+◌, ◌⊎◌, Bool, true, false, not, List, map, length, Result, Ok, Err}
+-- What the parts of a write give.
+use Rattle.std.specs.Prelude.{◌≡◌, ℕ, suc, ◌<◌, ◌⊎◌, Bool, true, false, List, [], ◌∷◌, ◌++◌, length, map, Result, Ok, Err, if◌then◌else◌, ⊤}
 use Rattle.std.specs.declared.alloc.AllocError.{AllocError}
 use Rattle.dv_bson.specs.Tree.{Field}
 use Rattle.dv_bson.specs.View.{tree}
 use Rattle.dv_command.specs.declared.refusal.Refusal.{Refusal}
 use Rattle.dv_command.specs.declared.refusal.Refusal.TheVariants.{WantOfMemory}
-use Rattle.dv_core.specs.declared.store.Outcome.{Outcome}
-use Rattle.dv_core.specs.declared.store.Outcome.TheVariants.{Reply, NoReply}
+use Rattle.dv_command.specs.Replies.{document_of, write_error, cut_error, write_reply}
+use Rattle.dv_core.specs.declared.outcome.Outcome.{Outcome}
+use Rattle.dv_core.specs.declared.outcome.Outcome.TheVariants.{Reply, Wanting, NoReply}
 use Rattle.dv_core.specs.declared.written.Written as declared
-use Rattle.dv_core.specs.State.{State}
-use Rattle.dv_core.specs.Statements.{Written, nothing_written, with_next, with_all, with_error, goes_on, error_fields, cut_fields, cut, IsCut}
-use Rattle.dv_core.specs.Step.{written_answer, Tells}
+use Rattle.dv_core.specs.declared.written.Next.{Next}
+use Rattle.dv_core.specs.declared.written.Next.TheVariants.{Due, Ended, Cut}
+use Rattle.dv_core.specs.State.{Namespaces, documents_of}
+use Rattle.dv_core.specs.Changes.{Change, changed}
+use Rattle.dv_core.specs.Statements.{Statement, Write, Written, written, with_next, is_due, next_changes, cut, IsCut}
 
--- what statements did, and the state that they left
-abbrev pub written_seen : declared.Written → State → Written
-written_seen w state = record { statements = w.inserted + length w.errors.items; n = w.inserted; errors = map tree w.errors.items; state = state }
+-- what statements did, and what they left
+abbrev pub written_seen : declared.Written → Namespaces → Written
+written_seen w namespaces = record { statements = w.statements; n = w.n; errors = map tree w.errors.items; namespaces = namespaces }
 
--- the error that is told of a statement
-abbrev pub told : ℕ → Refusal → List Field
-told place WantOfMemory = cut_fields place
-told place refusal = error_fields place refusal
+abbrev pub reply_seen : Written → List Field
+reply_seen did = write_reply did.n did.errors
 
+-- the error of a statement that was refused; one that found no memory made none of its changes
+abbrev pub error_of : ℕ → Refusal → List Field
+error_of place WantOfMemory = cut_error place 0
+error_of place refusal = write_error place refusal
+
+-- one statement more, which was refused
 abbrev pub with_refusal : Written → Refusal → Written
-with_refusal so_far refusal = with_error so_far (told so_far.statements refusal)
+with_refusal so_far refusal =
+    record { statements = suc so_far.statements; n = so_far.n; errors = so_far.errors ++ document_of (error_of so_far.statements refusal) ∷ []; namespaces = so_far.namespaces }
 
--- whether a command goes on behind a statement that is refused
-abbrev pub goes_on_behind : Refusal → Bool → Bool
-goes_on_behind WantOfMemory ordered = false
-goes_on_behind refusal ordered = not ordered
+-- what comes behind a statement that was refused
+abbrev pub next_behind : Bool → Refusal → Next
+next_behind ordered WantOfMemory = Cut
+next_behind ordered refusal = if ordered then Ended else Due
 
--- the outcome with this reply, or without
-abbrev pub outcome_of : Result (List Field) AllocError → Outcome
-outcome_of (Ok reply) = Reply reply
+-- a statement that was refused is noted, unless memory is wanting
+abbrev pub Notes : Bool → Refusal → Written → Result Next AllocError → Written → Type 0
+Notes ordered refusal so_far (Ok next) now = (now ≡ with_refusal so_far refusal) × (next ≡ next_behind ordered refusal)
+Notes ordered refusal so_far (Err e) now = ⊤
+
+-- the outcome, or none for which there was memory
+abbrev pub outcome_of : Result Outcome AllocError → Outcome
+outcome_of (Ok outcome) = outcome
 outcome_of (Err e) = NoReply
 
--- by what `one` statement leaves or why it is refused, and by whether the first that is refused ends the command
-module _ {A : Type 0} (one : State → A → Result State Refusal) where
-  -- a statement is carried out; or refused, if only for want of memory, and nothing is changed
-  abbrev pub DoesOne : {B : Type 0} → State → A → Result B Refusal → State → Type 0
-  DoesOne old statement (Ok x) new = one old statement ≡ Ok new
-  DoesOne old statement (Err refusal) new = ((one old statement ≡ Err refusal) ⊎ (refusal ≡ WantOfMemory)) × (new ≡ old)
+-- a statement makes its changes, and is counted for so many documents; or it is refused, if only for want of memory, and nothing is changed
+abbrev pub Makes : {B : Type 0} → List ℕ → Statement → ℕ → Namespaces → Result B Refusal → Namespaces → Type 0
+Makes namespace statement matched old (Ok x) new =
+    (changes : List Change) × (statement (documents_of namespace old) ≡ Ok (record { matched = matched; changes = changes })) × (new ≡ changed namespace changes old)
+Makes namespace statement matched old (Err refusal) new = ((statement (documents_of namespace old) ≡ Err refusal) ⊎ (refusal ≡ WantOfMemory)) × (new ≡ old)
 
-  module _ (ordered : Bool) where
-    -- the next statement, and whether the command goes on behind it: not where it was refused in an ordered command, and not where
-    -- it was cut. Where its error finds no memory, it changed nothing
-    abbrev pub Next : Written → A → Result Bool AllocError → Written → Type 0
-    Next so_far statement (Ok true) now = (now ≡ with_next one ordered so_far statement) × (goes_on ordered now.errors ≡ true)
-    Next so_far statement (Ok false) now = ((now ≡ with_next one ordered so_far statement) × (goes_on ordered now.errors ≡ false)) ⊎ (now ≡ cut so_far)
-    Next so_far statement (Err e) now = now.state ≡ so_far.state
+module _ (namespace : List ℕ) (ordered : Bool) where
+  -- the next statement is cut behind some of its changes
+  pub record CutsNext (so_far : Written) (statement : Statement) (now : Written) : Type 0 where
+    pub made : ℕ
+    pub fewer : (made ≡ 0) ⊎ (made < length (next_changes namespace ordered so_far statement))
+    pub is_cut : now ≡ cut namespace ordered made so_far statement
 
-    -- the statements as they are defined, or cut at one of them; their reply may find no memory
-    abbrev pub Writes : State → List A → Outcome → State → Type 0
-    Writes old statements outcome new =
-        Tells (written_answer (with_all one ordered (nothing_written old) statements)) outcome new
-        ⊎ ((left : Written) × IsCut one ordered statements old left × Tells (written_answer left) outcome new)
+  -- The next statement, and whether another one is due behind it: not where it was refused in an ordered command, and not where it
+  -- was cut. Where its error finds no memory, it is cut and not told.
+  abbrev pub NextStep : Written → Statement → Result Next AllocError → Written → Type 0
+  NextStep so_far statement (Ok Due) now = (now ≡ with_next namespace ordered so_far statement) × (is_due ordered now.errors ≡ true)
+  NextStep so_far statement (Ok Ended) now = (now ≡ with_next namespace ordered so_far statement) × (is_due ordered now.errors ≡ false)
+  NextStep so_far statement (Ok Cut) now = CutsNext so_far statement now
+  NextStep so_far statement (Err e) now = (cuts : Written) × CutsNext so_far statement cuts × (now.namespaces ≡ cuts.namespaces)
+
+-- a write: the statements as they are defined, or cut at one of them; no reply after either
+abbrev pub Writes : Write → Namespaces → Outcome → Namespaces → Type 0
+Writes write old (Reply reply) new = (reply ≡ reply_seen (written write old)) × (new ≡ (written write old).namespaces)
+Writes write old (Wanting reply) new = (left : Written) × IsCut write old left × (reply ≡ reply_seen left) × (new ≡ left.namespaces)
+Writes write old NoReply new = (new ≡ (written write old).namespaces) ⊎ ((left : Written) × IsCut write old left × (new ≡ left.namespaces))

@@ -1,16 +1,18 @@
 //! The collections by their namespaces.
 
-ghost use Rattle.std.specs.Prelude.{◌≡◌, ◌⊎◌, None, Ok, Err, OnOk, OnErr, IfErr};
+ghost use Rattle.std.specs.Prelude.{◌≡◌, None, OnErr, IfErr};
 ghost use Rattle.std.specs.FinMap as finite;
 ghost use Rattle.std.specs.Option.{option_map};
 ghost use Rattle.dv_coll.specs.Collection.{HasId};
-ghost use Rattle.dv_core.specs.State.{empty_state};
-ghost use Rattle.dv_core.specs.Insert.{stored_in};
+ghost use Rattle.dv_core.specs.Insert.{put_new};
+ghost use Rattle.dv_core.specs.State.{collection_at, documents_of, empty_state};
+ghost use Rattle.dv_core.specs.View.{standing_seen};
+ghost use Rattle.dv_core.specs.WriteParts.{Makes};
 ghost use Rattle.dv_command.specs.declared.refusal.Refusal.TheVariants.{WantOfMemory};
 
 use dv_bson::Document;
 use dv_coll::Collection;
-use dv_command::refusal::Refusal;
+use dv_command::Refusal;
 use std::alloc::Global;
 use std::collections::BTreeMap;
 use std::marker::Model;
@@ -23,21 +25,22 @@ pub(crate) struct Collections {
 }
 
 impl Model for Collections {
-    ghost use Rattle.dv_core.specs.State.{State, coded_state};
+    ghost use Rattle.dv_core.specs.State.{Namespaces};
+    ghost use Rattle.dv_core.specs.StateCode.{coded_namespaces};
 
-    ghost Value = { State };
+    ghost Value = { Namespaces };
 
-    ghost coded = { coded_state };
+    ghost coded = { coded_namespaces };
 
-    ghost use Rattle.dv_core.specs.View.{documents_by_namespace};
+    ghost use Rattle.dv_core.specs.View.{standing_by_namespace};
 
-    ghost view = { λ c. documents_by_namespace c.collections };
+    ghost view = { λ c. standing_by_namespace c.collections };
 }
 
 impl Collections {
     /// No collection.
     pub(crate) fn new(alloc: Global) -> Self
-        ensures { result ≡ empty_state }
+        ensures { result ≡ empty_state.namespaces }
     {
         Collections {
             alloc,
@@ -47,7 +50,7 @@ impl Collections {
 
     /// The collection of a namespace, where it is there.
     pub(crate) fn get(&self, namespace: &str) -> Option<&Collection>
-        ensures { option_map (λ collection. collection.now) result ≡ finite.get self.now namespace.now }
+        ensures { option_map (λ collection. standing_seen collection.now) result ≡ finite.get self.now namespace.now }
     {
         self.collections.get(namespace)
     }
@@ -57,9 +60,7 @@ impl Collections {
     /// collection is made.
     pub(crate) fn insert(&mut self, namespace: &str, document: Document) -> Result<(), Refusal>
         requires { HasId document }
-        ensures ok { OnOk result (stored_in namespace.now self.old document ≡ Ok self.new) }
-        ensures err { OnErr result (self.new ≡ self.old) }
-        ensures refused { IfErr result (λ refusal. (stored_in namespace.now self.old document ≡ Err refusal) ⊎ (refusal ≡ WantOfMemory)) }
+        ensures { Makes namespace.now (put_new document) 1 self.old result self.new }
     {
         match self.collections.get_mut(namespace) {
             Some(collection) => Ok(collection.insert(document)?),
@@ -72,9 +73,7 @@ impl Collections {
     fn insert_first(&mut self, namespace: &str, document: Document) -> Result<(), Refusal>
         requires identified { HasId document }
         requires fresh { finite.get self.old namespace.now ≡ None }
-        ensures ok { OnOk result (stored_in namespace.now self.old document ≡ Ok self.new) }
-        ensures err { OnErr result (self.new ≡ self.old) }
-        ensures refused { IfErr result (λ refusal. refusal ≡ WantOfMemory) }
+        ensures { Makes namespace.now (put_new document) 1 self.old result self.new }
     {
         let mut collection = Collection::new(self.alloc);
         collection.insert(document)?;
@@ -83,6 +82,3 @@ impl Collections {
         Ok(())
     }
 }
-
-#[cfg(test)]
-mod tests;

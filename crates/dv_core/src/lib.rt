@@ -1,15 +1,14 @@
 //! The store: commands carried out one by one.
 #![tactic(auto)]
 
+mod answers;
 mod collections;
 mod find;
 mod insert;
-pub mod laws;
+mod outcome;
 mod storable;
 mod store;
 mod written;
 
-pub use store::{Outcome, Store};
-
-#[cfg(test)]
-mod tests;
+pub use outcome::Outcome;
+pub use store::Store;

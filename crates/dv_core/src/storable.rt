@@ -6,11 +6,11 @@ ghost use Rattle.dv_bson.specs.Tree.{fields_of, elements_of};
 ghost use Rattle.dv_bson.specs.View.{tree};
 ghost use Rattle.dv_coll.specs.Collection.{HasId};
 ghost use Rattle.dv_core.specs.Storable as stored;
-ghost use Rattle.dv_core.specs.StepParts.{Wants};
+ghost use Rattle.dv_command.specs.Refusals.{UnlessWanting};
 
 use dv_bson::{Document, List, NoMemory, Value, fits};
+use dv_command::Refusal;
 use dv_command::namespaces::{begins_with_dollar, has_dot};
-use dv_command::refusal::Refusal;
 use dv_command::replies::add;
 use std::alloc::Global;
 
@@ -21,7 +21,7 @@ const ID: &str = "_id";
 /// is an array, where a name begins with a dollar sign at the top level, and where a name holds a dot at any level;
 /// then with `TooLarge` where the document is over the limits; and with `WantOfMemory`.
 pub(crate) fn storable(alloc: Global, document: &Document) -> Result<Document, Refusal>
-    ensures stored { Wants (stored.storable document.now) result }
+    ensures stored { UnlessWanting (λ d. d) (stored.storable document.now) result }
     ensures identified { IfOk result HasId }
 {
     if has_dollar(document) || are_fields_dotted(document) {

@@ -1,28 +1,14 @@
 //! The commands, and what they are carried out on.
 
-ghost use Rattle.std.specs.Prelude.{◌≡◌};
-ghost use Rattle.dv_core.specs.Find as finding;
-ghost use Rattle.dv_core.specs.Step as step;
-
+use crate::answers::{outcome_of, ping, refuse};
 use crate::collections::Collections;
-use crate::find::{find_of, rows_reply};
-use crate::insert::{insert_all, insert_of};
+use crate::find::batch_reply;
+use crate::insert::insert_all;
+use crate::outcome::Outcome;
 use dv_bson::Document;
-use dv_command::command::Command;
-use dv_command::namespaces::database;
-use dv_command::refusal::Refusal;
-use dv_command::replies::{done, refused};
+use dv_command::{Asked, Command, Find, Refusal, parse};
 use std::alloc::Global;
 use std::marker::Model;
-
-/// What carrying out a command gave.
-#[derive(Debug, Drop)]
-pub enum Outcome {
-    /// The reply's body.
-    Reply(Document),
-    /// The step stands, and its reply found no memory.
-    NoReply,
-}
 
 /// All that commands read and change.
 #[derive(Debug, Drop)]
@@ -32,22 +18,26 @@ pub struct Store {
 }
 
 impl Model for Store {
-    ghost use Rattle.dv_core.specs.State.{State, coded_state};
+    ghost use Rattle.dv_core.specs.State.{State};
+    ghost use Rattle.dv_core.specs.StateCode.{coded_state};
 
     ghost Value = { State };
 
     ghost coded = { coded_state };
 
-    ghost view = { λ s. s.collections };
+    ghost view = { λ s. record { namespaces = s.collections } };
 }
 
 impl Store {
-    ghost use Rattle.std.specs.Prelude.{◌≡◌};
+    ghost use Rattle.std.specs.Prelude.{◌≡◌, [], Ok};
+    ghost use Rattle.std.specs.String.{string_bytes};
+    ghost use Rattle.dv_bson.specs.declared.fault.BsonFault.TheVariants.{NoMemory};
+    ghost use Rattle.dv_command.specs.declared.command.Command.TheVariants.{Invalid};
+    ghost use Rattle.dv_command.specs.Refusals.{UnlessWanting};
+    ghost use Rattle.dv_command.specs.Replies as replies;
     ghost use Rattle.dv_core.specs.Find as finding;
-    ghost use Rattle.dv_core.specs.Insert.{insert_of};
-    ghost use Rattle.dv_core.specs.State.{empty_state};
-    ghost use Rattle.dv_core.specs.Step as step;
-    ghost use Rattle.dv_core.specs.StepParts.{Wants, Gives, Refuses};
+    ghost use Rattle.dv_core.specs.State.{documents_of, empty_state};
+    ghost use Rattle.dv_core.specs.Step.{MemoryStep, TellsOfWant};
 
     /// A store without any collection.
     pub fn new(alloc: Global) -> Self
@@ -63,71 +53,24 @@ impl Store {
     /// changes nothing. Where memory is wanting, it is refused for that, or a write ends at the statement that finds
     /// none; and after any of these the reply may be left out.
     pub fn execute(&mut self, session: u32, command: &Command) -> Outcome
-        ensures step { step.MemoryStep self.old session command.now result self.new }
+        ensures step { MemoryStep self.old session command.now result self.new }
+        // A command for which memory was wanting as it was read is told so.
+        ensures unread { command.now ≡ Invalid NoMemory → TellsOfWant result }
     {
-        match command {
-            Command::Invalid(fault) => self.refuse(Refusal::from(*fault)),
-            Command::Body(body) => match self.carry_out(session, body) {
-                Ok(outcome) => outcome,
-                Err(refusal) => self.refuse(refusal),
-            },
+        match parse(self.alloc, command) {
+            Ok(Asked::Ping) => outcome_of(self.alloc, ping(self.alloc)),
+            Ok(Asked::Insert(insert)) => insert_all(self.alloc, &mut self.collections, insert),
+            Ok(Asked::Find(find)) => outcome_of(self.alloc, self.find(find)),
+            Err(refusal) => refuse(self.alloc, refusal),
         }
     }
 
-    /// The outcome of a command that is refused: if memory is wanting for the reply, it is refused for that.
-    fn refuse(&self, refusal: Refusal) -> Outcome
-        ensures { Refuses refusal result }
+    fn find(&self, find: Find) -> Result<Document, Refusal>
+        ensures { let namespace = string_bytes find.namespace in
+            UnlessWanting (λ reply. reply) (finding.batch_reply namespace (documents_of namespace self.now.namespaces)) result }
     {
-        if let Ok(reply) = refused(self.alloc, &refusal) {
-            return Outcome::Reply(reply);
-        }
-        match refused(self.alloc, &Refusal::WantOfMemory) {
-            Ok(reply) => Outcome::Reply(reply),
-            Err(_) => Outcome::NoReply,
-        }
-    }
-
-    /// Carries out the command that the body names, or answers why it is refused. Then nothing is changed.
-    fn carry_out(&mut self, session: u32, body: &Document) -> Result<Outcome, Refusal>
-        ensures { Gives self.old (step.command_answer self.old session body.now) (step.Cut self.old body.now) result self.new }
-    {
-        match command_name(body) {
-            "ping" => Ok(Outcome::Reply(self.ping(body)?)),
-            "insert" => self.insert(body),
-            "find" => Ok(Outcome::Reply(self.find(body)?)),
-            _ => Err(Refusal::CommandNotFound),
-        }
-    }
-
-    fn ping(&self, body: &Document) -> Result<Document, Refusal>
-        ensures { Wants (step.ping body.now) result }
-    {
-        database(body)?;
-        Ok(done(Document::new(self.alloc))?)
-    }
-
-    fn insert(&mut self, body: &Document) -> Result<Outcome, Refusal>
-        ensures { Gives self.old (step.insert self.old body.now) (step.InsertCut self.old (insert_of body.now)) result self.new }
-    {
-        let insert = insert_of(self.alloc, body)?;
-        Ok(insert_all(self.alloc, &mut self.collections, &insert))
-    }
-
-    fn find(&self, body: &Document) -> Result<Document, Refusal>
-        ensures { Wants (finding.find self.now body.now) result }
-    {
-        let namespace = find_of(self.alloc, body)?;
+        let Find { namespace } = find;
         let collection = self.collections.get(&namespace);
-        rows_reply(self.alloc, namespace, collection)
-    }
-}
-
-/// The first name of a command's body, which is the command; empty where there is none.
-fn command_name(body: &Document) -> &str
-    ensures { result.now ≡ step.command_name body.now }
-{
-    match body.entry(0) {
-        Some((name, _)) => name,
-        None => "",
+        batch_reply(self.alloc, namespace, collection)
     }
 }

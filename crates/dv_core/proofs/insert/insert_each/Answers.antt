@@ -1,51 +1,84 @@
-use Rattle.std.proofs.Common.{ap, arith}
+use Rattle.std.proofs.Common.{ap, arith, List, map, length, ◌≡◌, refl}
+use Rattle.dv_bson.specs.Tree.{Field}
 use Rattle.std.proofs.lemmas.Result.{err_from_is_err_and}
-use Rattle.dv_core.specs.Insert.{insert_one}
-use Rattle.dv_core.specs.Statements.{Written}
-use Rattle.dv_core.specs.View.{insert_seen}
+use Rattle.dv_command.specs.View.{insert_seen}
+use Rattle.dv_core.specs.Insert.{insert_one, insert_write}
+use Rattle.dv_core.specs.Statements.{Written, written}
 use Rattle.dv_core.specs.WriteParts.{written_seen}
-use Rattle.dv_core.proofs.Statements.{Ended, next_document, no_document, none_left, starts, at_end, goes_behind, ends, fails, counts, answers}
+use Rattle.dv_core.proofs.Statements.{starts, at_end, due_behind, ends, cut_here, counts, counts_n, insert_counts, done_replied, done_untold, cut_replied, cut_untold}
 use Rattle.dv_core.proofs.insert.insert_each.Goals as goal
-use Rattle.dv_core.proofs.insert.insert_each.Goals.{in-Doc+in_ok-insert_next+else-not-branch, in_default}
-use Rattle.dv_core.proofs.insert.insert_each.Goals.{else-documents-test, then-documents-test+in-Doc+in_ok-insert_next+then-not-branch}
+use Rattle.dv_core.proofs.insert.insert_each.Goals.{in-None, in-Some+in_ok-insert_next+in-Ended}
 
 pub documents-init : goal.documents-init
 documents-init c =
     let nothing = c.new-written.ensures c.args.collections.now in
-    let asked = insert_seen c.args.insert.now in
-    record { reached = rw nothing (starts (insert_one asked.namespace) asked.ordered asked.documents c.args.collections.now); counted = omega (arith, ap (λ (w : Written). w.statements) nothing) }
+    let asked = insert_seen c.args.insert in
+    let all = c.into_iter-document-iterator.ensures.into_iter_gives in
+    record {
+      reached = rw (nothing, all) (starts asked.namespace asked.ordered (map insert_one asked.documents) c.args.collections.now);
+      room = rw all (omega (arith, c.args.insert.few, ap (λ (w : Written). w.statements) nothing));
+      counted = omega (arith, ap (λ (w : Written). w.n) nothing);
+    }
+
+pub documents-preserved : goal.documents-preserved
+documents-preserved c =
+    let here = rw c.in-Some.ensures.steps at c.documents.invariant.reached in
+    let next = rw (c.in-Due.is, c.deref.ensures) at c.in_ok-insert_next.ensures.step in
+    let counted = counts _ _ _ _ _ _ _ here _ next in
+    let room = ap (λ (ds : List (List Field)). length ds) c.in-Some.ensures.steps in
+    record {
+      reached = due_behind _ _ _ _ _ _ _ here _ next;
+      room = omega (arith, counted, room, c.documents.invariant.room);
+      counted = counts_n _ _ _ _ _ _ _ here _ next (insert_counts c.in-Some.document.now _) c.documents.invariant.counted;
+    }
 
 pub returns-in_err-insert_next : goal.returns-in_err-insert_next
 returns-in_err-insert_next c =
     let p = err_from_is_err_and c.from_residual.result c.from_residual.ensures.1 in
-    let here = rw (next_document _ _ _ c.as_slice-value-items.ensures _ _ c.documents-test.true c.value-item.is c.in-Doc.is) at c.documents.invariant.reached in
-    rw p.1 (fails _ _ _ _ _ _ _ here c.insert_next.new.collections c.in_err-insert_next.ensures)
+    let here = rw c.in-Some.ensures.steps at c.documents.invariant.reached in
+    let cuts = rw c.deref.ensures at c.in_err-insert_next.ensures.step in
+    rw p.1 (cut_untold (insert_write (insert_seen c.args.insert)) c.args.collections.now cuts.0 _ (cut_here _ _ _ _ _ _ _ here cuts.0 cuts.1) cuts.2)
 
-pub documents-preserved : goal.documents-preserved
-documents-preserved c =
-    elim c.match-value.branch [
-      | in-Doc+in_ok-insert_next+else-not-branch w ↦
-          let here = rw (next_document _ _ _ c.as_slice-value-items.ensures _ _ c.documents-test.true c.value-item.is w.in-Doc.is) at c.documents.invariant.reached in
-          let next = rw w.if-not-branch.false at w.in_ok-insert_next.ensures in
-          rw (w.written-is, w.collections-is) (record { reached = goes_behind _ _ _ _ _ _ _ here _ next; counted = omega (arith, counts _ _ _ _ _ _ _ here _ next) })
-      | in_default w ↦
-          rw (w.written-is, w.collections-is) (record {
-            reached = rw (no_document _ _ _ c.as_slice-value-items.ensures _ c.documents-test.true c.value-item.is w.in_default.not-Doc) at c.documents.invariant.reached;
-            counted = omega arith;
-          })
-    ]
+pub returns-in_err-reply-in-Cut : goal.returns-in_err-reply-in-Cut
+returns-in_err-reply-in-Cut c =
+    let p = err_from_is_err_and c.from_residual-in_err-reply-in-Cut.result c.from_residual-in_err-reply-in-Cut.ensures.1 in
+    let here = rw c.in-Some.ensures.steps at c.documents.invariant.reached in
+    let cuts = rw (c.in-Cut.is, c.deref.ensures) at c.in_ok-insert_next.ensures.step in
+    rw p.1 (cut_untold (insert_write (insert_seen c.args.insert)) c.args.collections.now (written_seen c.insert_next.new.written c.insert_next.new.collections) _ (cut_here _ _ _ _ _ _ _ here _ cuts) refl)
+
+pub returns-in-Cut : goal.returns-in-Cut
+returns-in-Cut c =
+    let here = rw c.in-Some.ensures.steps at c.documents.invariant.reached in
+    let cuts = rw (c.in-Cut.is, c.deref.ensures) at c.in_ok-insert_next.ensures.step in
+    cut_replied (insert_write (insert_seen c.args.insert)) c.args.collections.now (written_seen c.insert_next.new.written c.insert_next.new.collections) _ (cut_here _ _ _ _ _ _ _ here _ cuts) c.in_ok-reply-in-Cut.ensures
+
+pub returns-in_err-reply : goal.returns-in_err-reply
+returns-in_err-reply c =
+    let p = err_from_is_err_and c.from_residual-in_err-reply.result c.from_residual-in_err-reply.ensures.1 in
+    let write = insert_write (insert_seen c.args.insert) in
+    let all : written_seen c.match-next.written c.match-next.collections ≡ written write c.args.collections.now =
+    elim c.match-next.branch [
+      | in-None w ↦
+          let here = rw w.in-None.ensures.steps.0 at c.documents.invariant.reached in
+          rw (w.written-is, w.collections-is) (at_end _ _ _ _ _ here)
+      | in-Some+in_ok-insert_next+in-Ended w ↦
+          let here = rw w.in-Some.ensures.steps at c.documents.invariant.reached in
+          let next = rw (w.in-Ended.is, w.deref.ensures) at w.in_ok-insert_next.ensures.step in
+          rw (w.written-is, w.collections-is) (ends _ _ _ _ _ _ _ here _ next)
+    ] in
+    rw p.1 (done_untold write c.args.collections.now (written_seen c.match-next.written c.match-next.collections) all)
 
 pub returns : goal.returns
 returns c =
-    let asked = insert_seen c.args.insert.now in
-    let ended : Ended (insert_one asked.namespace) asked.ordered asked.documents c.args.collections.now (written_seen c.documents-test.written c.documents-test.collections) =
-    elim c.documents-test.branch [
-      | else-documents-test w ↦
-          let here = rw (none_left _ _ _ c.as_slice-value-items.ensures w.documents-test.false) at c.documents.invariant.reached in
+    let write = insert_write (insert_seen c.args.insert) in
+    let all : written_seen c.match-next.written c.match-next.collections ≡ written write c.args.collections.now =
+    elim c.match-next.branch [
+      | in-None w ↦
+          let here = rw w.in-None.ensures.steps.0 at c.documents.invariant.reached in
           rw (w.written-is, w.collections-is) (at_end _ _ _ _ _ here)
-      | then-documents-test+in-Doc+in_ok-insert_next+then-not-branch w ↦
-          let here = rw (next_document _ _ _ c.as_slice-value-items.ensures _ _ w.documents-test.true w.value-item.is w.in-Doc.is) at c.documents.invariant.reached in
-          let next = rw w.if-not-branch.true at w.in_ok-insert_next.ensures in
+      | in-Some+in_ok-insert_next+in-Ended w ↦
+          let here = rw w.in-Some.ensures.steps at c.documents.invariant.reached in
+          let next = rw (w.in-Ended.is, w.deref.ensures) at w.in_ok-insert_next.ensures.step in
           rw (w.written-is, w.collections-is) (ends _ _ _ _ _ _ _ here _ next)
     ] in
-    answers _ _ _ _ _ _ ended c.reply.ensures
+    done_replied write c.args.collections.now (written_seen c.match-next.written c.match-next.collections) _ all c.in_ok-reply.ensures

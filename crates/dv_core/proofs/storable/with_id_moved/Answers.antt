@@ -1,14 +1,14 @@
 use Rattle.std.proofs.Common.{drop, ◌+◌, ◌≡◌, ◌∷◌, ◌++◌, [], sym, subst, codes, refl, List, drop_of_length-le, arith}
 use Rattle.dv_bson.specs.Tree.{Field}
 use Rattle.dv_bson.specs.View.{tree}
-use Rattle.dv_bson.proofs.Items.{drop_item}
+use Rattle.dv_core.proofs.Lists.{drop_item}
 use Rattle.dv_core.proofs.Stored.{IsCopied, nothing_copied, all_copied, IsCopied-id, IsCopied-more, whole_name, fresh_name, drop-none}
 use Rattle.dv_core.proofs.storable.with_id_moved.Goals as goal
 use Rattle.dv_core.proofs.storable.with_id_moved.Goals.{then-ne+in_ok-try_clone-2+in_ok-add-2, else-ne, else-others-test, then-others-test+in_default}
 
 pub others-init : goal.others-init
 others-init c =
-    nothing_copied (tree c.args.id.now) c.args.document.now c.add.new.reply c.len-place-end.ensures.named (rw (c.in_ok-add.ensures, c.new-copy.ensures, c.in_ok-try_clone.ensures) refl)
+    nothing_copied (tree c.args.id.now) c.args.document.now c.add.new.document c.len-place-end.ensures.named (rw (c.in_ok-add.ensures, c.new-copy.ensures, c.in_ok-try_clone.ensures) refl)
 
 pub add-requires-then-ne-clause-whole : goal.add-requires-then-ne-clause-whole
 add-requires-then-ne-clause-whole c =

@@ -1,0 +1,34 @@
+-- The documents among the values of an array.
+use Rattle.std.proofs.Common.{◌≡◌, true, false, List, [], ◌∷◌, length, map, refl, ap, suc, Ok, Err}
+use Rattle.std.specs.List.{list_all}
+use Rattle.dv_bson.specs.declared.value.Value.{Value}
+use Rattle.dv_bson.specs.declared.value.Value.TheVariants.{Doc}
+use Rattle.dv_bson.specs.Tree.{Field, elements_of, fields_of, list_of_fields}
+use Rattle.dv_bson.specs.View.{tree}
+use Rattle.dv_command.specs.Fields.{documents_in}
+use Rattle.dv_command.specs.declared.refusal.Refusal.TheVariants.{TypeMismatch}
+use Rattle.dv_command.specs.DocumentsView.{is_document, AreDocuments, documents_seen}
+
+list_of_fields-fields_of : (fs : List Field) → list_of_fields (fields_of fs) ≡ fs
+list_of_fields-fields_of [] = refl
+list_of_fields-fields_of (f ∷ fs) = ap (λ (rest : List Field). f ∷ rest) (list_of_fields-fields_of fs)
+
+pub all_documents : (vs : List Value) → list_all is_document vs ≡ true → AreDocuments vs
+all_documents [] e = tt
+all_documents (Doc d ∷ vs) e = all_documents vs e
+all_documents (v ∷ vs) e = absurd cc
+
+pub documents_all : (vs : List Value) → AreDocuments vs → documents_in (elements_of (map tree vs)) ≡ Ok (documents_seen vs)
+documents_all [] h = refl
+documents_all (Doc d ∷ vs) h = rw (documents_all vs h, list_of_fields-fields_of d) refl
+documents_all (v ∷ vs) h = absurd h
+
+pub documents_not_all : (vs : List Value) → list_all is_document vs ≡ false → documents_in (elements_of (map tree vs)) ≡ Err TypeMismatch
+documents_not_all [] e = absurd cc
+documents_not_all (Doc d ∷ vs) e = rw (documents_not_all vs e) refl
+documents_not_all (v ∷ vs) e = refl
+
+pub length_documents : (vs : List Value) → AreDocuments vs → length (documents_seen vs) ≡ length vs
+length_documents [] h = refl
+length_documents (Doc d ∷ vs) h = ap suc (length_documents vs h)
+length_documents (v ∷ vs) h = absurd h

@@ -1,0 +1,17 @@
+-- The field of a reply's errors.
+use Rattle.std.proofs.Common.{◌≡◌, true, false, List, [], ◌∷◌, length, map, refl, sym, arith}
+use Rattle.std.specs.Bool.{◌==◌}
+use Rattle.std.specs.Prelude.{codes}
+use Rattle.std.proofs.lemmas.Bool.{eqb-true}
+use Rattle.dv_bson.specs.declared.value.Value.{Value}
+use Rattle.dv_bson.specs.Tree.{array, elements_of}
+use Rattle.dv_bson.specs.View.{tree}
+use Rattle.dv_command.specs.Replies.{errors_field}
+
+pub no_errors : (vs : List Value) → true ≡ (length vs == 0) → errors_field (map tree vs) ≡ []
+no_errors [] e = refl
+no_errors (v ∷ vs) e = absurd (omega (arith, eqb-true (length (v ∷ vs)) 0 (sym e)))
+
+pub some_errors : (vs : List Value) → false ≡ (length vs == 0) → errors_field (map tree vs) ≡ (codes "writeErrors", array (elements_of (map tree vs))) ∷ []
+some_errors [] e = cc
+some_errors (v ∷ vs) e = refl

@@ -1,0 +1,40 @@
+-- What statements change: one document after the other.
+use Rattle.std.specs.Prelude.{ℕ, List, [], ◌∷◌, Result, Ok, Err, if◌then◌else◌}
+use Rattle.dv_bson.specs.Tree.{Field}
+use Rattle.dv_order.specs.Key.{KeyTree}
+use Rattle.dv_coll.specs.Collection.{id_key, has_key, inserted}
+use Rattle.dv_command.specs.declared.refusal.Refusal.{Refusal}
+use Rattle.dv_core.specs.State.{Namespaces, documents_of, with_documents}
+
+-- a document put in its place, in place of one with an equal `_id` if there is one; or the document under a key gone
+pub data Change : Type 0 where
+  put : List Field → Change
+  gone : KeyTree → Change
+
+abbrev pub without_key : KeyTree → List (List Field) → List (List Field)
+without_key k [] = []
+without_key k (d ∷ ds) = if has_key k d then ds else d ∷ without_key k ds
+
+abbrev pub with_change : List (List Field) → Change → List (List Field)
+with_change documents (put d) = inserted d (without_key (id_key d) documents)
+with_change documents (gone k) = without_key k documents
+
+abbrev pub with_changes : List (List Field) → List Change → List (List Field)
+with_changes documents [] = documents
+with_changes documents (change ∷ changes) = with_changes (with_change documents change) changes
+
+-- the documents of a namespace after these changes, one after the other; without any, all is left as it is, and no collection is made
+abbrev pub changed : List ℕ → List Change → Namespaces → Namespaces
+changed namespace [] namespaces = namespaces
+changed namespace (change ∷ changes) namespaces =
+    with_documents namespace (with_changes (documents_of namespace namespaces) (change ∷ changes)) namespaces
+
+-- what a statement does: how many documents it is counted for, and its changes in order
+pub record Effect : Type 0 where
+  pub matched : ℕ
+  pub changes : List Change
+
+-- none where the statement is refused
+abbrev pub changes_of : Result Effect Refusal → List Change
+changes_of (Ok effect) = effect.changes
+changes_of (Err refusal) = []

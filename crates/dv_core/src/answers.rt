@@ -1,0 +1,53 @@
+//! The outcomes of commands that change nothing.
+
+ghost use Rattle.std.specs.Prelude.{◌≡◌, [], Ok};
+ghost use Rattle.dv_command.specs.declared.refusal.Refusal.TheVariants.{WantOfMemory};
+ghost use Rattle.dv_command.specs.Refusals.{UnlessWanting};
+ghost use Rattle.dv_command.specs.Replies as replies;
+ghost use Rattle.dv_core.specs.StepParts.{Refuses, Tells};
+
+use crate::outcome::Outcome;
+use dv_bson::Document;
+use dv_command::Refusal;
+use dv_command::replies::{refusal_reply, reply_of};
+use std::alloc::Global;
+
+/// The outcome of a command that changes nothing: its reply, or why it is refused.
+pub(crate) fn outcome_of(alloc: Global, reply: Result<Document, Refusal>) -> Outcome
+    ensures { Tells reply result }
+{
+    match reply {
+        Ok(reply) => Outcome::Reply(reply),
+        Err(refusal) => refuse(alloc, refusal),
+    }
+}
+
+/// The outcome of a command that is refused: where memory is wanting for the reply, it is refused for that.
+pub(crate) fn refuse(alloc: Global, refusal: Refusal) -> Outcome
+    ensures { Refuses refusal result }
+{
+    if matches!(refusal, Refusal::WantOfMemory) {
+        return refuse_for_memory(alloc);
+    }
+    match refusal_reply(alloc, &refusal) {
+        Ok(reply) => Outcome::Reply(reply),
+        Err(_) => refuse_for_memory(alloc),
+    }
+}
+
+/// The outcome of a command that is refused for want of memory.
+fn refuse_for_memory(alloc: Global) -> Outcome
+    ensures { Refuses WantOfMemory result }
+{
+    match refusal_reply(alloc, &Refusal::WantOfMemory) {
+        Ok(reply) => Outcome::Wanting(reply),
+        Err(_) => Outcome::NoReply,
+    }
+}
+
+/// The reply to a ping. Refused where memory is wanting.
+pub(crate) fn ping(alloc: Global) -> Result<Document, Refusal>
+    ensures { UnlessWanting (λ reply. reply) (Ok (replies.reply_of [])) result }
+{
+    Ok(reply_of(Document::new(alloc))?)
+}
