@@ -8,10 +8,11 @@ use Rattle.dv_wire.specs.declared.hub.Fed.{Fed}
 use Rattle.dv_wire.specs.declared.hub.Fed.TheVariants.{Unknown}
 use Rattle.dv_core.specs.State.{State}
 use Rattle.dv_wire.specs.Message.{Message, Conversation, reading, closed, Split, split, continuation}
-use Rattle.dv_wire.specs.Schedule.{Run, in_front, silence, CarriesOut, Takes, takes_all, takes_some, Hears, fed_of, World, conversation_of, with_conversation, world_behind, Feeds, FeedsAll, stream_of}
+use Rattle.dv_wire.specs.Schedule.{Run, in_front, silence, CarriesOut, Takes, takes_all, takes_some, Hears, fed_of, World, conversation_of, with_conversation, world_behind, plain_run, Feeds, FeedsAll, stream_of}
 use Rattle.dv_wire.specs.View.{GoesOn}
 use Rattle.dv_wire.proofs.Runs.{in_front-silence, carries_then, carries_to, carries_cases, carries_all, carries_shut, stops_so, Divides}
 use Rattle.dv_wire.proofs.Growth.{split_continues}
+use Rattle.dv_wire.proofs.Replies.{plain_carries}
 use Rattle.dv_wire.proofs.Worlds.{conversation_of-with}
 
 take_past : (n : ℕ) (xs ys : List Message) → take (length xs + n) (xs ++ ys) ≡ xs ++ take n ys
@@ -216,3 +217,13 @@ feeds_all old new session piece [] bytes answer feeds = feeds
 feeds_all old new session piece (next ∷ pieces) bytes answer feeds =
     let (first, others, mid, told, both, before, behind) = feeds_two old new session piece (stream_of next pieces) bytes answer (conversation_of session old.sessions) refl feeds in
     (first, others, mid, told, both, before, feeds_all mid new session next pieces others answer behind)
+
+-- the plain run, however its bytes are cut
+pub plain_feeds : (world : World) (session : ℕ) (kept piece : List ℕ) (pieces : List (List ℕ)) → conversation_of session world.sessions ≡ Some (reading kept) →
+    let run = plain_run session world.state (split (kept ++ stream_of piece pieces)) in
+    FeedsAll world session piece pieces run.bytes (fed_of run.conversation) (world_behind session run world)
+plain_feeds world session kept piece pieces there =
+    let stream = split (kept ++ stream_of piece pieces) in
+    let run = plain_run session world.state stream in
+    feeds_all world (world_behind session run world) session piece pieces run.bytes (fed_of run.conversation)
+    (rw there (run, takes_all (plain_carries session world.state stream.messages stream.conversation), refl, refl, refl))

@@ -5,7 +5,7 @@ use Rattle.dv_wire.specs.declared.fault.CloseFault.{CloseFault}
 use Rattle.dv_wire.specs.declared.fault.CloseFault.TheVariants.{NoMemory}
 use Rattle.dv_core.specs.State.{State}
 use Rattle.dv_wire.specs.Message.{Message, Conversation, reading, closed}
-use Rattle.dv_wire.specs.Schedule.{Run, in_front, silence, answer_to, Follows, CarriesOut}
+use Rattle.dv_wire.specs.Schedule.{Run, in_front, silence, bytes_to, Follows, CarriesOut}
 use Rattle.dv_wire.specs.View.{GoesOn}
 
 pub in_front_twice : (one two : List ℕ) (run : Run) → in_front (one ++ two) run ≡ in_front one (in_front two run)
@@ -26,14 +26,14 @@ pub follows_on : (answer : Option (List ℕ)) (state : State) (Others : Run → 
 follows_on answer state Others bytes others run is behind e = subst (λ (a : Option (List ℕ)). Follows a state Others run) (sym is) (inl (others, behind, e))
 
 -- an answer, and then the others
-record Answers (answer : Option (List ℕ)) (Others : Run → Type 0) (run : Run) : Type 0 where
-  bytes : List ℕ
-  others : Run
-  is : answer ≡ Some bytes
-  behind : Others others
-  both : run ≡ in_front bytes others
+pub record Answers (answer : Option (List ℕ)) (Others : Run → Type 0) (run : Run) : Type 0 where
+  pub bytes : List ℕ
+  pub others : Run
+  pub is : answer ≡ Some bytes
+  pub behind : Others others
+  pub both : run ≡ in_front bytes others
 
-follows_cases : (answer : Option (List ℕ)) (state : State) (Others : Run → Type 0) (run : Run) → Follows answer state Others run → (run ≡ silence state (closed NoMemory)) ⊎ Answers answer Others run
+pub follows_cases : (answer : Option (List ℕ)) (state : State) (Others : Run → Type 0) (run : Run) → Follows answer state Others run → (run ≡ silence state (closed NoMemory)) ⊎ Answers answer Others run
 follows_cases None state Others run follows = inl follows
 follows_cases (Some bytes) state Others run (inl (others, behind, both)) = inr (record { bytes = bytes; others = others; is = refl; behind = behind; both = both })
 follows_cases (Some bytes) state Others run (inr shut) = inl shut
@@ -62,15 +62,15 @@ pub carries_cases : (session : ℕ) (old : State) (first second : List Message) 
     → Stops session old first run ⊎ Divides session old first second conversation run
 carries_cases session old [] second conversation run h = inr (record { bytes = []; mid = old; two = run; before = refl; behind = h; both = refl })
 carries_cases session old (message ∷ messages) second conversation run (outcome, mid, steps, follows) =
-    elim (follows_cases (answer_to message outcome) mid (CarriesOut session mid (messages ++ second) conversation) run follows) [
+    elim (follows_cases (bytes_to message outcome) mid (CarriesOut session mid (messages ++ second) conversation) run follows) [
       | inl shut ↦ inl (record {
         shut = ap (λ (r : Run). r.conversation) shut;
-        before = λ more after. (outcome, mid, steps, follows_shut (answer_to message outcome) mid (CarriesOut session mid (messages ++ more) after) run shut);
+        before = λ more after. (outcome, mid, steps, follows_shut (bytes_to message outcome) mid (CarriesOut session mid (messages ++ more) after) run shut);
       })
       | inr a ↦ elim (carries_cases session mid messages second conversation a.others a.behind) [
         | inl stops ↦ inl (record {
           shut = ap (λ (r : Run). r.conversation) a.both ∙ stops.shut;
-          before = λ more after. (outcome, mid, steps, follows_on (answer_to message outcome) mid (CarriesOut session mid (messages ++ more) after) a.bytes a.others run a.is (stops.before more after) a.both);
+          before = λ more after. (outcome, mid, steps, follows_on (bytes_to message outcome) mid (CarriesOut session mid (messages ++ more) after) a.bytes a.others run a.is (stops.before more after) a.both);
         })
         | inr d ↦ inr (record {
           bytes = a.bytes ++ d.bytes;
@@ -80,7 +80,7 @@ carries_cases session old (message ∷ messages) second conversation run (outcom
             outcome,
             mid,
             steps,
-            follows_on (answer_to message outcome) mid (CarriesOut session mid messages (reading [])) a.bytes (record { bytes = d.bytes; state = d.mid; conversation = reading [] })
+            follows_on (bytes_to message outcome) mid (CarriesOut session mid messages (reading [])) a.bytes (record { bytes = d.bytes; state = d.mid; conversation = reading [] })
                 (record { bytes = a.bytes ++ d.bytes; state = d.mid; conversation = reading [] }) a.is d.before refl,
           );
           behind = d.behind;
@@ -113,7 +113,7 @@ carries_behind session old mid [] second conversation one two before on is behin
     let nothing : in_front one.bytes two ≡ two = ap (λ (r : Run). in_front r.bytes two) before in
     subst (λ (r : Run). CarriesOut session old second conversation r) (sym nothing) (subst (λ (s : State). CarriesOut session s second conversation two) (sym same) behind)
 carries_behind session old mid (message ∷ messages) second conversation one two (outcome, from, steps, follows) on is behind =
-    elim (follows_cases (answer_to message outcome) from (CarriesOut session from messages (reading [])) one follows) [
+    elim (follows_cases (bytes_to message outcome) from (CarriesOut session from messages (reading [])) one follows) [
       | inl shut ↦ let e = sym on ∙ ap (λ (r : Run). r.conversation) shut in absurd cc
       | inr a ↦
           let others = carries_behind session from mid messages second conversation a.others two a.behind
@@ -121,7 +121,7 @@ carries_behind session old mid (message ∷ messages) second conversation one tw
             outcome,
             from,
             steps,
-            follows_on (answer_to message outcome) from (CarriesOut session from (messages ++ second) conversation) a.bytes (in_front a.others.bytes two) (in_front one.bytes two) a.is others
+            follows_on (bytes_to message outcome) from (CarriesOut session from (messages ++ second) conversation) a.bytes (in_front a.others.bytes two) (in_front one.bytes two) a.is others
                 (ap (λ (r : Run). in_front r.bytes two) a.both ∙ in_front_twice a.bytes a.others.bytes two),
           )
     ]

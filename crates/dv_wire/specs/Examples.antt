@@ -1,13 +1,14 @@
 -- Worked examples of messages and sessions: what closes a session, at each limit and on both sides of it.
-use Rattle.std.specs.Prelude.{◌≡◌, ℕ, Bool, true, false, List, [], ◌∷◌, ◌++◌, Some, Ok, Err, pos, codes}
-use Rattle.dv_bson.specs.Tree.{int32}
+use Rattle.std.specs.Prelude.{◌≡◌, ℕ, Bool, true, false, List, [], ◌∷◌, ◌++◌, Some, None, Ok, Err, pos, codes}
+use Rattle.dv_bson.specs.Tree.{string, int32, Field}
 use Rattle.dv_wire.specs.declared.fault.CloseFault.{CloseFault}
-use Rattle.dv_wire.specs.declared.fault.CloseFault.TheVariants.{BadLength, BadOpCode, BadFlag, Checksum, BadSection}
+use Rattle.dv_wire.specs.declared.fault.CloseFault.TheVariants.{BadLength, BadOpCode, BadFlag, Checksum, BadSection, NoMemory}
 use Rattle.dv_wire.specs.declared.fault.HubFault.TheVariants.{TooManySessions}
 use Rattle.dv_wire.specs.declared.hub.SessionId.{SessionId}
+use Rattle.dv_core.specs.declared.outcome.Outcome.TheVariants.{Reply, Wanting, NoReply}
 use Rattle.dv_core.specs.State.{State}
 use Rattle.dv_wire.specs.Message.{body, Message, Conversation, reading, closed, split}
-use Rattle.dv_wire.specs.Schedule.{World, Opens, reply_bytes, unfinished_in, end}
+use Rattle.dv_wire.specs.Schedule.{World, Opens, reply_bytes, bytes_to, CarriesOut, plain_run, silence, unfinished_in, end}
 
 -- ---- words for them
 
@@ -92,6 +93,23 @@ pub record SectionExamples : Type 0 where
 
 -- ---- sessions
 
+-- {ping: 1, $db: "t"}, its bytes, and a message with it and these flags
+abbrev pub ping_fields : List Field
+ping_fields = (codes "ping", int32 (pos 1)) ∷ (codes "$db", string (codes "t")) ∷ []
+
+abbrev pub ping_document : List ℕ
+ping_document = 26 ∷ 0 ∷ 0 ∷ 0 ∷ 16 ∷ 112 ∷ 105 ∷ 110 ∷ 103 ∷ 0 ∷ 1 ∷ 0 ∷ 0 ∷ 0 ∷ 2 ∷ 36 ∷ 100 ∷ 98 ∷ 0 ∷ 2 ∷ 0 ∷ 0 ∷ 0 ∷ 116 ∷ 0 ∷ 0 ∷ []
+
+abbrev pub ping : ℕ → List ℕ
+ping flags = op_msg_header 47 ++ flags ∷ 0 ∷ 0 ∷ 0 ∷ 0 ∷ ping_document
+
+-- the reply {ok: 1}, and the message with it
+abbrev pub ok : List Field
+ok = (codes "ok", int32 (pos 1)) ∷ []
+
+abbrev pub pong : List ℕ
+pong = 34 ∷ 0 ∷ 0 ∷ 0 ∷ 0 ∷ 0 ∷ 0 ∷ 0 ∷ 7 ∷ 0 ∷ 0 ∷ 0 ∷ 221 ∷ 7 ∷ 0 ∷ 0 ∷ 0 ∷ 0 ∷ 0 ∷ 0 ∷ 0 ∷ 13 ∷ 0 ∷ 0 ∷ 0 ∷ 16 ∷ 111 ∷ 107 ∷ 0 ∷ 1 ∷ 0 ∷ 0 ∷ 0 ∷ 0 ∷ []
+
 -- a world with these sessions
 abbrev pub world : State → ℕ → List (ℕ × Conversation) → World
 world state next sessions = record { state = state; next = next; sessions = sessions }
@@ -110,7 +128,15 @@ pub record SessionExamples : Type 0 where
   pub no_number : (state : State) (session : SessionId) (new : World) → Opens (world state 4294967296 []) (Ok session) new → ⊥
   pub unfinished : unfinished_in (Some (reading (26 ∷ 0 ∷ []))) ≡ 2
   pub none_unfinished : unfinished_in (Some (closed BadLength)) ≡ 0
-  -- the reply {ok: 1} to the request 7, and none where moreToCome leaves it out
-  pub reply : reply_bytes (asks false empty_document) ((codes "ok", int32 (pos 1)) ∷ [])
-      ≡ 34 ∷ 0 ∷ 0 ∷ 0 ∷ 0 ∷ 0 ∷ 0 ∷ 0 ∷ 7 ∷ 0 ∷ 0 ∷ 0 ∷ 0xdd ∷ 0x07 ∷ 0 ∷ 0 ∷ 0 ∷ 0 ∷ 0 ∷ 0 ∷ 0 ∷ 13 ∷ 0 ∷ 0 ∷ 0 ∷ 0x10 ∷ 111 ∷ 107 ∷ 0 ∷ 1 ∷ 0 ∷ 0 ∷ 0 ∷ 0 ∷ []
-  pub no_reply : reply_bytes (asks true empty_document) ((codes "ok", int32 (pos 1)) ∷ []) ≡ []
+  -- a ping is answered, and not where moreToCome leaves its reply out; the last one is not whole
+  pub pings : (state : State) (session : ℕ)
+      → plain_run session state (split (ping 0 ++ ping 2 ++ ping 0 ++ 47 ∷ [])) ≡ record { bytes = pong ++ pong; state = state; conversation = reading (47 ∷ []) }
+
+pub record WantExamples : Type 0 where
+  -- moreToCome leaves a reply out, but not one that tells of want of memory: its session can't go on
+  pub plain : (reply : List Field) → bytes_to (asks true empty_document) (Reply reply) ≡ Some []
+  pub untold : (reply : List Field) → bytes_to (asks true empty_document) (Wanting reply) ≡ None
+  pub told : (reply : List Field) → bytes_to (asks false empty_document) (Wanting reply) ≡ Some (reply_bytes (asks false empty_document) reply)
+  pub no_reply : (more_to_come : Bool) → bytes_to (asks more_to_come empty_document) NoReply ≡ None
+  -- a command that finds no memory, and waits for no reply
+  pub refused : (state : State) (session : ℕ) → CarriesOut session state (asks true empty_document ∷ []) (reading []) (silence state (closed NoMemory))

@@ -1,5 +1,5 @@
 -- Sessions, and what happens to them: one is opened, a piece of its bytes comes, it ends.
-use Rattle.std.specs.Prelude.{◌≡◌, ℕ, suc, ◌≤◌, ◌<◌, ◌^◌, ◌⊎◌, ◌&&◌, List, [], ◌∷◌, ◌++◌, length, take, Option, Some, None, Result, Ok, Err, MatchOption, ◌==◌, if◌then◌else◌}
+use Rattle.std.specs.Prelude.{◌≡◌, ℕ, suc, ◌≤◌, ◌<◌, ◌^◌, ◌⊎◌, List, [], ◌∷◌, ◌++◌, length, take, Option, Some, None, Result, Ok, Err, MatchOption, ◌==◌, if◌then◌else◌}
 use Rattle.dv_bson.specs.declared.fault.BsonFault.{BsonFault}
 use Rattle.dv_bson.specs.Tree.{Field}
 use Rattle.dv_bson.specs.Spelling.{spelling}
@@ -8,22 +8,21 @@ use Rattle.dv_wire.specs.declared.fault.CloseFault.TheVariants.{NoMemory}
 use Rattle.dv_wire.specs.declared.fault.HubFault.{HubFault}
 use Rattle.dv_wire.specs.declared.fault.HubFault.TheVariants as hub_faults
 use Rattle.dv_command.specs.declared.command.Command.{Command}
-use Rattle.dv_command.specs.declared.command.Command.TheVariants.{Body, Invalid}
-use Rattle.dv_core.specs.declared.store.Outcome.{Outcome}
-use Rattle.dv_core.specs.declared.store.Outcome.TheVariants.{Reply, NoReply}
+use Rattle.dv_command.specs.declared.command.Command.TheVariants.{Sections, Invalid}
+use Rattle.dv_core.specs.declared.outcome.Outcome.{Outcome}
+use Rattle.dv_core.specs.declared.outcome.Outcome.TheVariants.{Reply, Wanting, NoReply}
 use Rattle.dv_wire.specs.declared.hub.SessionId.{SessionId}
 use Rattle.dv_wire.specs.declared.hub.Fed.{Fed}
 use Rattle.dv_wire.specs.declared.hub.Fed.TheVariants as fed
 use Rattle.dv_wire.specs.Message.{body, section_spelling, body_among, Message, message_spelling, Conversation, reading, closed, Split, split}
 use Rattle.dv_core.specs.State.{State}
-use Rattle.dv_command.specs.Replies.{wants_memory}
-use Rattle.dv_core.specs.Step.{MemoryStep}
+use Rattle.dv_core.specs.Step.{Answer, step, MemoryStep}
 
 -- ---- the messages of a session, one after the other
 
--- the command that a body's bytes bring
+-- the command that a body's bytes bring: no list stands beside it
 abbrev pub command_read : Result (List Field × ℕ) BsonFault → Command
-command_read (Ok found) = Body found.0
+command_read (Ok found) = Sections found.0 []
 command_read (Err fault) = Invalid fault
 
 abbrev pub command_of : Message → Command
@@ -33,11 +32,12 @@ command_of message = command_read (document_at (body_among message.sections))
 abbrev pub reply_bytes : Message → List Field → List ℕ
 reply_bytes message reply = if message.more_to_come then [] else message_spelling 0 message.request_id 0 (section_spelling (body (spelling reply)))
 
--- What is answered to a message by its outcome. There is no answer, and the session can't go on, where there is no reply, and
+-- The bytes that are sent to a message for its outcome. There are none, and the session can't go on, where there is no reply, and
 -- where moreToCome would leave one out that tells of want of memory: so nothing is left undone and not told.
-abbrev pub answer_to : Message → Outcome → Option (List ℕ)
-answer_to message (Reply reply) = if message.more_to_come && wants_memory reply then None else Some (reply_bytes message reply)
-answer_to message NoReply = None
+abbrev pub bytes_to : Message → Outcome → Option (List ℕ)
+bytes_to message (Reply reply) = Some (reply_bytes message reply)
+bytes_to message (Wanting reply) = if message.more_to_come then None else Some (reply_bytes message reply)
+bytes_to message NoReply = None
 
 -- what messages come to: the bytes that are answered, the state that is left, and how the session then stands
 pub record Run : Type 0 where
@@ -53,18 +53,31 @@ in_front bytes others = record { bytes = bytes ++ others.bytes; state = others.s
 abbrev pub silence : State → Conversation → Run
 silence state conversation = record { bytes = []; state = state; conversation = conversation }
 
--- behind a step comes its answer, where there is one, and then what the others come to; or, where it finds no memory, the
--- session is closed in its place
+-- behind a step its bytes are sent, where there are such, and then comes what the others come to; or, where these bytes find
+-- no memory, the session is closed in their place
 abbrev pub Follows : Option (List ℕ) → State → (Run → Type 0) → Run → Type 0
 Follows None state Others run = run ≡ silence state (closed NoMemory)
-Follows (Some answer) state Others run = ((others : Run) × Others others × (run ≡ in_front answer others)) ⊎ (run ≡ silence state (closed NoMemory))
+Follows (Some bytes) state Others run = ((others : Run) × Others others × (run ≡ in_front bytes others)) ⊎ (run ≡ silence state (closed NoMemory))
 
 -- the messages of a session are carried out in order, and it stands as given behind them; or it was closed among them
 abbrev pub CarriesOut : ℕ → State → List Message → Conversation → Run → Type 0
 CarriesOut session old [] conversation run = run ≡ silence old conversation
 CarriesOut session old (message ∷ messages) conversation run =
     (outcome : Outcome) × (mid : State) × MemoryStep old session (command_of message) outcome mid
-    × Follows (answer_to message outcome) mid (CarriesOut session mid messages conversation) run
+    × Follows (bytes_to message outcome) mid (CarriesOut session mid messages conversation) run
+
+-- the same where memory is never wanting: each message is carried out by its step
+abbrev pub plain_behind : Message → Answer → (State → Run) → Run
+plain_behind message answer others = in_front (reply_bytes message answer.reply) (others answer.state)
+
+unfoldable pub plain_messages : ℕ → State → List Message → Conversation → Run
+plain_messages session state [] conversation = silence state conversation
+plain_messages session state (message ∷ messages) conversation =
+    plain_behind message (step state session (command_of message)) (λ behind. plain_messages session behind messages conversation)
+
+-- what a session's stream comes to then
+abbrev pub plain_run : ℕ → State → Split → Run
+plain_run session state stream = plain_messages session state stream.messages stream.conversation
 
 -- what a session may do with a stream
 pub data Takes (session : ℕ) (old : State) (stream : Split) (run : Run) : Type 0 where

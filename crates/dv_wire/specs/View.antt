@@ -44,11 +44,11 @@ left_or_closed (Err fault) stream = closed fault
 abbrev pub GoesOn : ℕ → State → List Message → List ℕ → State → Type 0
 GoesOn session old messages bytes new = CarriesOut session old messages (reading []) (record { bytes = bytes; state = new; conversation = reading [] })
 
--- the answer to a message: with this reply, or without; or there is none
-abbrev pub answer_seen : {E : Type 0} → Message → Result (Option (List Field)) E → Option (List ℕ)
-answer_seen message (Ok (Some reply)) = Some (message_spelling 0 message.request_id 0 (section_spelling (body (spelling reply))))
-answer_seen message (Ok None) = Some []
-answer_seen message (Err e) = None
+-- the bytes that are sent to a message: this reply, or nothing; or there are none
+abbrev pub bytes_seen : {E : Type 0} → Message → Result (Option (List Field)) E → Option (List ℕ)
+bytes_seen message (Ok (Some reply)) = Some (message_spelling 0 message.request_id 0 (section_spelling (body (spelling reply))))
+bytes_seen message (Ok None) = Some []
+bytes_seen message (Err e) = None
 
 -- one message is carried out; or the session is closed in place of its answer
 abbrev pub Carries : {A E : Type 0} → ℕ → State → Message → List ℕ → State → Result A E → Type 0

@@ -1,8 +1,9 @@
 //! What holds of streams and of sessions, however their bytes come.
 
-ghost use Rattle.std.specs.Prelude.{◌≡◌, ◌≢◌, ◌↔◌, ℕ, suc, List, [], ◌++◌, Some, None, Result, Ok, Err};
+ghost use Rattle.std.specs.Prelude.{◌≡◌, ◌≢◌, ◌↔◌, ℕ, suc, true, List, [], ◌∷◌, ◌++◌, Some, None, Result, Ok, Err};
 ghost use Rattle.dv_bson.specs.Spelling.{IsBytes};
 ghost use Rattle.dv_core.specs.State.{State};
+ghost use Rattle.dv_core.specs.Step.{step};
 ghost use Rattle.dv_wire.specs.Examples as examples;
 ghost use Rattle.dv_wire.specs.declared.fault.CloseFault.{CloseFault};
 ghost use Rattle.dv_wire.specs.declared.fault.HubFault.{HubFault};
@@ -10,7 +11,7 @@ ghost use Rattle.dv_wire.specs.declared.hub.Fed.{Fed};
 ghost use Rattle.dv_wire.specs.declared.hub.Fed.TheVariants as fed;
 ghost use Rattle.dv_wire.specs.declared.hub.SessionId.{SessionId};
 ghost use Rattle.dv_wire.specs.Message as wire;
-ghost use Rattle.dv_wire.specs.Schedule.{World, world_of, conversation_of, Opens, Feeds, FeedsAll, end, stream_of, IsNumbered};
+ghost use Rattle.dv_wire.specs.Schedule.{Run, CarriesOut, command_of, silence, World, world_of, conversation_of, Opens, Feeds, FeedsAll, end, fed_of, plain_run, stream_of, world_behind, IsNumbered};
 
 /// A stream of which more comes splits as before, and then as its rest with what comes; behind a fault nothing does.
 pub fn splitting_goes_on()
@@ -28,6 +29,21 @@ pub fn messages_are_spelled()
 pub fn cuts_do_not_matter()
     ensures { (old new : World) (session : ℕ) (piece : List ℕ) (pieces : List (List ℕ)) (bytes : List ℕ) (answer : Fed)
         → Feeds old session (stream_of piece pieces) bytes answer new ↔ FeedsAll old session piece pieces bytes answer new }
+{}
+
+/// The plain run is allowed: whatever the pieces are, a session that is open may answer what the steps of its messages
+/// answer, one after the other, those left out that moreToCome leaves out, and may then stand as its stream says.
+pub fn the_plain_run_is_allowed()
+    ensures { (world : World) (session : ℕ) (kept piece : List ℕ) (pieces : List (List ℕ)) → conversation_of session world.sessions ≡ Some (wire.reading kept)
+        → let run = plain_run session world.state (wire.split (kept ++ stream_of piece pieces)) in
+        FeedsAll world session piece pieces run.bytes (fed_of run.conversation) (world_behind session run world) }
+{}
+
+/// What moreToCome leaves untold was done: where a session goes on behind such a message, the message was carried out by
+/// its step, and nothing is answered.
+pub fn what_is_untold_is_done()
+    ensures { (session : ℕ) (old : State) (message : wire.Message) (kept : List ℕ) (run : Run) → message.more_to_come ≡ true → CarriesOut session old (message ∷ []) (wire.reading kept) run
+        → run.conversation ≡ wire.reading kept → run ≡ silence (step old session (command_of message)).state (wire.reading kept) }
 {}
 
 /// No number is used again: sessions ascend by their numbers, which are below the next one. So it is before the first
@@ -81,4 +97,9 @@ pub fn sections_by_example()
 /// How sessions are opened and end, and what is answered to a message, by worked examples.
 pub fn sessions_by_example()
     ensures { examples.SessionExamples }
+{}
+
+/// What is sent where memory is wanting, by worked examples.
+pub fn want_of_memory_by_example()
+    ensures { examples.WantExamples }
 {}

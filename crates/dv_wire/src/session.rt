@@ -2,17 +2,17 @@
 
 ghost use Rattle.std.specs.Prelude.{◌≡◌, ◌≤◌, ◌++◌, ◌⊎◌, IfOk, length, drop, vec_len};
 ghost use Rattle.dv_bson.specs.Reading.{document_at};
-ghost use Rattle.dv_wire.specs.Schedule.{Appends, Takes, answer_to, command_read};
+ghost use Rattle.dv_wire.specs.Schedule.{Appends, Takes, bytes_to, command_read};
 ghost use Rattle.dv_core.specs.Step.{MemoryStep};
 ghost use Rattle.dv_wire.specs.Message.{split};
-ghost use Rattle.dv_wire.specs.View.{kept_or_closed, left_or_closed, message_seen, answer_seen, Carries};
+ghost use Rattle.dv_wire.specs.View.{kept_or_closed, left_or_closed, message_seen, bytes_seen, Carries};
 
 use crate::fault::CloseFault;
 use crate::front::{Front, Message, front_of};
 use crate::hub::Fed;
-use crate::reply::{append_reply, wants_memory};
+use crate::reply::append_reply;
 use dv_bson::{BsonFault, Document, NoMemory, read_document};
-use dv_command::command::Command;
+use dv_command::{Command, DocumentLists};
 use dv_core::{Outcome, Store};
 use std::alloc::{AllocError, Global};
 
@@ -159,20 +159,14 @@ fn carry_out(
 /// The reply that is to be sent to a message, or none where moreToCome leaves it out. An error says that the session
 /// is to be closed: there is no reply, or moreToCome would leave one out that tells of want of memory.
 fn reply_to(message: &Message<'_>, outcome: Outcome) -> Result<Option<Document>, NoMemory>
-    ensures { answer_seen (message_seen message.now) result ≡ answer_to (message_seen message.now) outcome }
+    ensures { bytes_seen (message_seen message.now) result ≡ bytes_to (message_seen message.now) outcome }
 {
     match outcome {
+        Outcome::Reply(_) if message.more_to_come => Ok(None),
+        // Who waits for no reply is told of want of memory by the end of the session.
+        Outcome::Wanting(_) if message.more_to_come => Err(AllocError),
+        Outcome::Reply(reply) | Outcome::Wanting(reply) => Ok(Some(reply)),
         Outcome::NoReply => Err(AllocError),
-        Outcome::Reply(reply) => {
-            if !message.more_to_come {
-                return Ok(Some(reply));
-            }
-            // Who waits for no reply is told of want of memory by the end of the session.
-            if wants_memory(&reply) {
-                return Err(AllocError);
-            }
-            Ok(None)
-        }
     }
 }
 
@@ -189,7 +183,10 @@ fn command_in(alloc: Global, body: &[u8]) -> Command
     ensures { (command_read (document_at body.now) ≡ result) ⊎ (result ≡ Command.Invalid BsonFault.NoMemory) }
 {
     match read_document(alloc, body) {
-        Ok((document, _)) => Command::Body(document),
+        Ok((body, _)) => Command::Sections {
+            body,
+            lists: DocumentLists::new(alloc),
+        },
         Err(fault) => Command::Invalid(fault),
     }
 }
