@@ -70,7 +70,7 @@ module _ {Y : Type 0} where
 
 -- ---- a document more among those of a namespace
 
-without_key-none : (k : KeyTree) (ds : List (List Field)) → found k ds ≡ None → without_key k ds ≡ ds
+pub without_key-none : (k : KeyTree) (ds : List (List Field)) → found k ds ≡ None → without_key k ds ≡ ds
 without_key-none k [] none = refl
 without_key-none k (d ∷ ds) none = grind (arith, without_key-none k ds)
 

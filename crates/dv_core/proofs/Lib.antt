@@ -1,6 +1,13 @@
 mod Lists
 mod Spellings
-mod Stored
+pub mod Stored
+mod ByNamespace
 pub mod Statements
 mod Steps
-mod ByNamespace
+mod Changed
+mod Kept
+mod Texts
+mod Valid
+mod Asking
+mod Ordered
+mod Worked

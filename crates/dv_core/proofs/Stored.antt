@@ -54,7 +54,7 @@ without_field-none : (name : List ℕ) (fs : List Field) → has_name name fs �
 without_field-none name [] none = refl
 without_field-none name (f ∷ fs) none = grind (arith, without_field-none name fs)
 
-has_name-without_field : (other name : List ℕ) (fs : List Field) → has_name other fs ≡ false → has_name other (without_field name fs) ≡ false
+pub has_name-without_field : (other name : List ℕ) (fs : List Field) → has_name other fs ≡ false → has_name other (without_field name fs) ≡ false
 has_name-without_field other name [] none = refl
 has_name-without_field other name (f ∷ fs) none = grind (arith, has_name-without_field other name fs)
 
@@ -62,7 +62,7 @@ AreNamed-without_field : (name : List ℕ) (fs : List Field) → AreNamed fs →
 AreNamed-without_field name [] named = named
 AreNamed-without_field name (f ∷ fs) named = grind (arith, AreNamed-without_field name fs, has_name-without_field f.0 name fs)
 
-without_field-gone : (name : List ℕ) (fs : List Field) → AreNamed fs → has_name name (without_field name fs) ≡ false
+pub without_field-gone : (name : List ℕ) (fs : List Field) → AreNamed fs → has_name name (without_field name fs) ≡ false
 without_field-gone name [] named = refl
 without_field-gone name (f ∷ fs) named = grind (arith, without_field-gone name fs, (bytes_eq-Decides name f.0).0)
 
@@ -168,6 +168,15 @@ limits_told n m a b false within told = grind (arith, nat_tests)
 limits_of : (n m : ℕ) → (not (nat_lt 16777216 n) && not (nat_lt 100 m)) ≡ true → (n ≤ 16777216) × (m ≤ 100)
 limits_of n m e = grind (arith, nat_tests)
 
+limits_hold : (n m : ℕ) → n ≤ 16777216 → m ≤ 100 → (not (nat_lt 16777216 n) && not (nat_lt 100 m)) ≡ true
+limits_hold n m size depth = grind (arith, nat_tests)
+
+pub within_limits_fits : (d : List Field) → (is_within_limits d ≡ true) ↔ Fits d
+within_limits_fits d = (
+  (λ within. let both = limits_of (length (spelling d)) (levels (document (fields_of d))) within in record { size = both.0; depth = both.1 }),
+  (λ fits. limits_hold (length (spelling d)) (levels (document (fields_of d))) fits.size fits.depth),
+)
+
 pub moved_within : (id : Tree) (d : List Field) (told : Bool) → id_in (value_under (codes "_id") d) ≡ Ok id → IsTrue told ↔ Fits d → is_within_limits ((codes "_id", id) ∷ without_field (codes "_id") d) ≡ told
 moved_within id d told is fits =
     let same = moved_large (codes "_id") id d (id_shown (value_under (codes "_id") d) id is) in
@@ -176,9 +185,8 @@ moved_within id d told is fits =
 
 fits_within : (d stored : List Field) (b : Bool) → is_within_limits d ≡ b → (if b then Ok d else Err TooLarge) ≡ Ok stored → Fits stored
 fits_within d stored true within e =
-    let both = limits_of (length (spelling d)) (levels (document (fields_of d))) within in
     let same : d ≡ stored = cc in
-    subst Fits same (record { size = both.0; depth = both.1 })
+    subst Fits same ((within_limits_fits d).0 within)
 fits_within d stored false within e = absurd cc
 
 fits_first : (first : Result (List Field) Refusal) (stored : List Field) → (first >>= λ d. if is_within_limits d then Ok d else Err TooLarge) ≡ Ok stored → Fits stored

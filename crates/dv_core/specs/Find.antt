@@ -6,15 +6,16 @@ use Rattle.dv_bson.specs.Spelling.{spelling}
 use Rattle.dv_command.specs.declared.refusal.Refusal.{Refusal}
 use Rattle.dv_command.specs.declared.refusal.Refusal.TheVariants.{TooLarge}
 use Rattle.dv_command.specs.Replies.{document_of, rows_reply}
+use Rattle.dv_core.specs.Storable.{document_limit}
 
 -- how many bytes the documents are together
 abbrev pub total_size : List (List Field) → ℕ
 total_size [] = 0
 total_size (d ∷ ds) = length (spelling d) + total_size ds
 
--- how many bytes the documents of a reply may be together
+-- how many bytes the documents of a reply may be together: as many as one document
 abbrev pub batch_limit : ℕ
-batch_limit = 16777216
+batch_limit = document_limit
 
 -- the reply with these documents of a namespace
 abbrev pub batch_reply : List ℕ → List (List Field) → Result (List Field) Refusal

@@ -5,6 +5,8 @@ pub mod Statements
 pub mod Insert
 pub mod Find
 pub mod Step
+pub mod Sound
+pub mod Examples
 -- words that only bodies need
 pub mod StateCode
 pub mod View

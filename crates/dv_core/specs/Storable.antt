@@ -40,9 +40,16 @@ id_in None = Err BadValue
 id_in (Some (array vs)) = Err BadValue
 id_in (Some value) = Ok value
 
--- within the limits for what is stored, which are those for what is read: see `Fits`
+-- in bytes
+abbrev pub document_limit : ℕ
+document_limit = 16777216
+
+abbrev pub level_limit : ℕ
+level_limit = 100
+
+-- within the limits for what is stored, which are those for what is read: a law says that it is `Fits`
 abbrev pub is_within_limits : List Field → Bool
-is_within_limits d = not (nat_lt 16777216 (length (spelling d))) && not (nat_lt 100 (levels (document (fields_of d))))
+is_within_limits d = not (nat_lt document_limit (length (spelling d))) && not (nat_lt level_limit (levels (document (fields_of d))))
 
 -- with `_id` in front; refused for its names, without `_id`, or with an array as `_id`
 abbrev pub with_id_first : List Field → Result (List Field) Refusal

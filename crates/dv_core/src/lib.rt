@@ -5,6 +5,7 @@ mod answers;
 mod collections;
 mod find;
 mod insert;
+pub mod laws;
 mod outcome;
 mod storable;
 mod store;

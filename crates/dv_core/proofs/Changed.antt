@@ -1,0 +1,138 @@
+-- What a step may change: nothing, or what a write does.
+use Rattle.std.proofs.Common.{◌≡◌, ◌⊎◌, ◌≤◌, ℕ, Bool, true, false, cond, List, [], ◌∷◌, length, Option, Some, None, Result, Ok, Err, pos, inl, inr, refl, sym, ap, ◌∙◌, arith}
+use Rattle.std.specs.Prelude.{codes}
+use Rattle.dv_bson.specs.Names.{value_under}
+use Rattle.dv_bson.specs.Tree.{Tree, Field, int32}
+use Rattle.dv_command.specs.Asked.{Asked, ping, insert, find, asked_by}
+use Rattle.dv_command.specs.Refusals.{◌>>=◌}
+use Rattle.dv_command.specs.Replies.{reply_of, count, errors_field}
+use Rattle.dv_command.specs.declared.command.Command.{Command}
+use Rattle.dv_command.specs.declared.refusal.Refusal.{Refusal}
+use Rattle.dv_core.specs.declared.outcome.Outcome.{Outcome}
+use Rattle.dv_core.specs.declared.outcome.Outcome.TheVariants.{Reply, Wanting, NoReply}
+use Rattle.dv_core.specs.Changes.{Effect}
+use Rattle.dv_core.specs.Find.{batch_reply}
+use Rattle.dv_core.specs.Insert.{insert_write}
+use Rattle.dv_core.specs.State.{State, Namespaces, documents_of}
+use Rattle.dv_core.specs.Statements.{Statement, Write, Written, nothing_written, written, with_all, with_next, with_result, is_due, IsCut}
+use Rattle.dv_core.specs.Step.{Answer, answered, read_answer, write_answer, answer_to, step, write_of, WriteCut, Cut, Wants, MemoryStep}
+
+-- what a write did, be it cut
+abbrev pub Did : Write → State → Written → Type 0
+Did write old did = (did ≡ written write old.namespaces) ⊎ IsCut write old.namespaces did
+
+-- the answer of a write
+pub record Writes (old : State) (asked : Result Asked Refusal) (answer : Answer) : Type 0 where
+  pub what : Asked
+  pub write : Write
+  pub did : Written
+  pub asks : asked ≡ Ok what
+  pub is_write : write_of what ≡ Some write
+  pub did_so : Did write old did
+  pub answers : answer ≡ write_answer old did
+
+abbrev pub MayWrite : State → Result Asked Refusal → Answer → Type 0
+MayWrite old asked answer = (answer.state ≡ old) ⊎ Writes old asked answer
+
+read_leaves : (old : State) (result : Result (List Field) Refusal) → (answered old (read_answer old result)).state ≡ old
+read_leaves old (Ok reply) = refl
+read_leaves old (Err refusal) = refl
+
+step_may : (old : State) (session : ℕ) (asked : Result Asked Refusal) → MayWrite old asked (answered old (asked >>= answer_to old session))
+step_may old session (Err refusal) = inl refl
+step_may old session (Ok ping) = inl refl
+step_may old session (Ok (insert i)) =
+    inr (record { what = insert i; write = insert_write i; did = written (insert_write i) old.namespaces; asks = refl; is_write = refl; did_so = inl refl; answers = refl })
+step_may old session (Ok (find f)) = inl (read_leaves old (batch_reply f.namespace (documents_of f.namespace old.namespaces)))
+
+write_cut_may : (old : State) (what : Asked) (write : Option Write) → write_of what ≡ write → (answer : Answer) → WriteCut old write answer → MayWrite old (Ok what) answer
+write_cut_may old what None is answer cut = absurd cut
+write_cut_may old what (Some write) is answer (left, is_cut, answers) =
+    inr (record { what = what; write = write; did = left; asks = refl; is_write = is; did_so = inr is_cut; answers = answers })
+
+cut_may : (old : State) (asked : Result Asked Refusal) (answer : Answer) → Cut old asked answer → MayWrite old asked answer
+cut_may old (Ok what) answer cut = write_cut_may old what (write_of what) refl answer cut
+cut_may old (Err refusal) answer cut = absurd cut
+
+wants_may : (old : State) (command : Command) (answer : Answer) → Wants old command answer → MayWrite old (asked_by command) answer
+wants_may old command answer (inl refused) = inl (rw refused refl)
+wants_may old command answer (inr cut) = cut_may old (asked_by command) answer cut
+
+-- the answer that an outcome comes from
+pub outcome_may : (old new : State) (session : ℕ) (command : Command) (outcome : Outcome) → MemoryStep old session command outcome new
+    → (answer : Answer) × MayWrite old (asked_by command) answer × (new ≡ answer.state)
+outcome_may old new session command (Reply reply) is = (step old session command, step_may old session (asked_by command), ap (λ (a : Answer). a.state) (sym is))
+outcome_may old new session command (Wanting reply) wants = (record { reply = reply; state = new }, wants_may old command _ wants, refl)
+outcome_may old new session command NoReply (inl stands) = (step old session command, step_may old session (asked_by command), stands)
+outcome_may old new session command NoReply (inr (answer, wants, stands)) = (answer, wants_may old command answer wants, stands)
+
+-- ---- only writes change anything
+
+unchanged : (old : State) (asked : Result Asked Refusal) (answer : Answer) → MayWrite old asked answer → (Writes old asked answer → ⊥) → answer.state ≡ old
+unchanged old asked answer (inl same) is_not = same
+unchanged old asked answer (inr writes) is_not = absurd (is_not writes)
+
+pub others_leave : (old new : State) (session : ℕ) (command : Command) (asked : Asked) (outcome : Outcome) → asked_by command ≡ Ok asked → write_of asked ≡ None → MemoryStep old session command outcome new → new ≡ old
+others_leave old new session command asked outcome asks none steps =
+    let (answer, may, stands) = outcome_may old new session command outcome steps in
+    stands ∙ unchanged old (asked_by command) answer may (λ w. let same : w.what ≡ asked = cc (w.asks, asks) in let some : write_of asked ≡ Some w.write = rw (← same) w.is_write in cc (some, none))
+
+pub refused_leave : (old new : State) (session : ℕ) (command : Command) (refusal : Refusal) (outcome : Outcome) → asked_by command ≡ Err refusal → MemoryStep old session command outcome new → new ≡ old
+refused_leave old new session command refusal outcome asks steps =
+    let (answer, may, stands) = outcome_may old new session command outcome steps in
+    stands ∙ unchanged old (asked_by command) answer may (λ w. cc (w.asks, asks))
+
+-- ---- what is told as refused
+
+-- what stands under "ok"
+abbrev told : List Field → Option Tree
+told reply = value_under (codes "ok") reply
+
+errors_told : (errors : List Tree) (n : Tree) → told (reply_of ((codes "n", n) ∷ errors_field errors)) ≡ Some (int32 (pos 1))
+errors_told [] n = refl
+errors_told (e ∷ es) n = refl
+
+refused_may : (old : State) (asked : Result Asked Refusal) (answer : Answer) → MayWrite old asked answer → told answer.reply ≡ Some (int32 (pos 0)) → answer.state ≡ old
+refused_may old asked answer (inl same) refused = same
+refused_may old asked answer (inr w) refused =
+    let carried : told answer.reply ≡ Some (int32 (pos 1)) = rw w.answers (errors_told w.did.errors (count w.did.n)) in
+    absurd cc
+
+pub refusal_leaves : (old new : State) (session : ℕ) (command : Command) (reply : List Field) → MemoryStep old session command (Reply reply) new → told reply ≡ Some (int32 (pos 0)) → new ≡ old
+refusal_leaves old new session command reply is refused =
+    let state : new ≡ (step old session command).state = ap (λ (a : Answer). a.state) (sym is) in
+    let replies : told (step old session command).reply ≡ Some (int32 (pos 0)) = ap (λ (a : Answer). told a.reply) is ∙ refused in
+    state ∙ refused_may old (asked_by command) (step old session command) (step_may old session (asked_by command)) replies
+
+pub want_leaves : (old new : State) (session : ℕ) (command : Command) (reply : List Field) → MemoryStep old session command (Wanting reply) new → told reply ≡ Some (int32 (pos 0)) → new ≡ old
+want_leaves old new session command reply wants refused = refused_may old (asked_by command) (record { reply = reply; state = new }) (wants_may old command _ wants) refused
+
+-- ---- an ordered write
+
+due_none : (ordered : Bool) (es : List Tree) → ordered ≡ true → is_due ordered es ≡ true → es ≡ []
+due_none ordered [] is due = refl
+due_none ordered (e ∷ es) is due = absurd cc
+
+module _ (write : Write) (ordered : write.ordered ≡ true) where
+  one_result : (so_far : Written) (result : Result Effect Refusal) → so_far.errors ≡ [] → length (with_result write.namespace write.ordered so_far result).errors ≤ 1
+  one_result so_far (Ok effect) none = rw none (omega arith)
+  one_result so_far (Err refusal) none = rw none (omega arith)
+
+  one_next : (so_far : Written) (statement : Statement) → length so_far.errors ≤ 1 → length (with_next write.namespace write.ordered so_far statement).errors ≤ 1
+  one_next so_far statement few = by_due (is_due write.ordered so_far.errors) refl
+    where
+      by_due : (b : Bool) → is_due write.ordered so_far.errors ≡ b → length (cond b (with_result write.namespace write.ordered so_far (statement (documents_of write.namespace so_far.namespaces))) so_far).errors ≤ 1
+      by_due true due = one_result so_far _ (due_none write.ordered so_far.errors ordered due)
+      by_due false due = few
+
+  one_all : (so_far : Written) (statements : List Statement) → length so_far.errors ≤ 1 → length (with_all write.namespace write.ordered so_far statements).errors ≤ 1
+  one_all so_far [] few = few
+  one_all so_far (statement ∷ statements) few = one_all (with_next write.namespace write.ordered so_far statement) statements (one_next so_far statement few)
+
+  pub one_error : (old : Namespaces) → length (written write old).errors ≤ 1
+  one_error old = one_all (nothing_written old) write.statements (omega arith)
+
+  pub cut_error_alone : (old : Namespaces) (left : Written) → IsCut write old left → length left.errors ≡ 1
+  cut_error_alone old left c =
+      let none = due_none write.ordered (with_all write.namespace write.ordered (nothing_written old) c.before).errors ordered c.reached in
+      rw c.left_so (rw none refl)

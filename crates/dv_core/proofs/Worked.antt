@@ -1,0 +1,187 @@
+-- The worked examples, computed: statement by statement, over the documents that each finds.
+use Rattle.std.proofs.Common.{◌≡◌, ℕ, suc, ◌+◌, Bool, true, false, cond, List, [], ◌∷◌, ◌++◌, map, pos, Option, None, Result, Ok, Err, inl, inr, refl, sym, ap, ◌∙◌}
+use Rattle.std.specs.Cmp.Lexicographic.{slice_cmp, nat_list_cmp_total}
+use Rattle.std.specs.Prelude.{codes}
+use Rattle.std.specs.FinMap as finite
+use Rattle.std.specs.Ordering.{nat_cmp, eq_by_cmp}
+use Rattle.dv_bson.specs.Tree.{Tree, Field, int64, boolean}
+use Rattle.dv_bson.specs.Spelling.{framed, element_spelling, payload, counted}
+use Rattle.dv_coll.specs.Collection.{id_key, inserted}
+use Rattle.dv_command.specs.Asked.{Insert}
+use Rattle.dv_command.specs.Replies.{document_of, write_error, cut_error, reply_of, refusal_reply}
+use Rattle.dv_command.specs.declared.refusal.Refusal.{Refusal}
+use Rattle.dv_command.specs.declared.refusal.Refusal.TheVariants.{DuplicateKey, WantOfMemory}
+use Rattle.dv_core.specs.Changes.{put, Effect, without_key}
+use Rattle.dv_core.specs.Examples.{only, one_field, number, holding, letters, InsertExamples, ReadExamples, RefusalExamples, WantExamples}
+use Rattle.dv_core.specs.Find.{batch_reply}
+use Rattle.dv_core.specs.Insert.{insert_one, insert_write}
+use Rattle.dv_core.specs.State.{State, Standing, Namespaces, documents_of, empty_state, with_documents}
+use Rattle.dv_core.specs.Statements.{Statement, Written, nothing_written, is_due, with_result, with_next, with_all, cut, IsCut}
+use Rattle.dv_core.specs.Step.{Answer, answered, read_answer, write_answer}
+use Rattle.dv_core.specs.View.{standing_seen}
+use Rattle.dv_core.proofs.ByNamespace.{same_namespaces, documents_there}
+
+-- ---- what stands under t.c
+
+abbrev t_c : List ℕ
+t_c = codes "t.c"
+
+nothing_in : (namespace : List ℕ) → documents_of namespace empty_state.namespaces ≡ []
+nothing_in namespace = documents_there empty_state.namespaces namespace _ (finite.get-empty (slice_cmp nat_cmp) namespace)
+
+put_there : (documents : List (List Field)) (namespaces : Namespaces) → documents_of t_c (with_documents t_c documents namespaces) ≡ documents
+put_there documents namespaces = documents_there _ t_c _ (finite.get-insert nat_list_cmp_total namespaces t_c (standing_seen documents) t_c)
+
+same_put : (b : Bool) (now before : Option Standing) (x : Option Standing) → cond b now (cond b before x) ≡ cond b now x
+same_put true now before x = refl
+same_put false now before x = refl
+
+-- documents that are put in the place of others
+put_twice : (now before : List (List Field)) (namespaces : Namespaces) → with_documents t_c now (with_documents t_c before namespaces) ≡ with_documents t_c now namespaces
+put_twice now before namespaces =
+    same_namespaces _ _ (λ q. simp (finite.get-insert {X = Standing} nat_list_cmp_total) (same_put (eq_by_cmp (slice_cmp nat_cmp) q t_c) _ _ _))
+
+-- under u.c there is nothing
+other_there : documents_of (codes "u.c") (holding (only 5 ∷ [])).namespaces ≡ []
+other_there =
+    documents_there _ (codes "u.c") None
+    (rw (finite.get-insert nat_list_cmp_total empty_state.namespaces t_c (standing_seen (only 5 ∷ [])) (codes "u.c")) (finite.get-empty (slice_cmp nat_cmp) (codes "u.c")))
+
+-- ---- one statement, by the documents that it finds
+
+abbrev wrote : ℕ → ℕ → List Tree → Namespaces → Written
+wrote statements n errors namespaces = record { statements = statements; n = n; errors = errors; namespaces = namespaces }
+
+module _ (namespace : List ℕ) (ordered : Bool) (w : Written) (documents : List (List Field)) (are : documents_of namespace w.namespaces ≡ documents) (due : is_due ordered w.errors ≡ true) where
+  looked_at : (statement : Statement) (result : Result Effect Refusal) → statement documents ≡ result → with_next namespace ordered w statement ≡ with_result namespace ordered w result
+  looked_at statement result gives =
+      (λ i. cond (due i) (with_result namespace ordered w (statement (are i))) w) ∙ ap (with_result namespace ordered w) gives
+
+  -- it is put among the documents
+  puts : (d stored : List Field) (after : List (List Field)) → insert_one d documents ≡ Ok (record { matched = 1; changes = put stored ∷ [] }) → inserted stored (without_key (id_key stored) documents) ≡ after
+      → with_next namespace ordered w (insert_one d) ≡ wrote (suc w.statements) (w.n + 1) w.errors (with_documents namespace after w.namespaces)
+  puts d stored after gives leaves =
+      looked_at (insert_one d) (Ok (record { matched = 1; changes = put stored ∷ [] })) gives
+      ∙ ap (λ (ds : List (List Field)). wrote (suc w.statements) (w.n + 1) w.errors (with_documents namespace ds w.namespaces))
+      (ap (λ (ds : List (List Field)). inserted stored (without_key (id_key stored) ds)) are ∙ leaves)
+
+  -- it is refused
+  refuses : (d : List Field) (refusal : Refusal) → insert_one d documents ≡ Err refusal
+      → with_next namespace ordered w (insert_one d) ≡ wrote (suc w.statements) w.n (w.errors ++ document_of (write_error w.statements refusal) ∷ []) w.namespaces
+  refuses d refusal gives = looked_at (insert_one d) (Err refusal) gives
+
+abbrev after : Bool → List (List Field) → Written → Written
+after ordered documents w = with_all t_c ordered w (map insert_one documents)
+
+abbrev nothing : Written
+nothing = nothing_written empty_state.namespaces
+
+abbrev duplicate : Tree
+duplicate = document_of (write_error 1 DuplicateKey)
+
+put_first : (ordered : Bool) → with_next t_c ordered nothing (insert_one (only 2)) ≡ wrote 1 1 [] (holding (only 2 ∷ [])).namespaces
+unfolding framed element_spelling payload counted
+put_first ordered = puts t_c ordered nothing [] (nothing_in t_c) refl (only 2) (only 2) (only 2 ∷ []) refl refl
+
+put_again : (ordered : Bool) → with_next t_c ordered (wrote 1 1 [] (holding (only 2 ∷ [])).namespaces) (insert_one (only 2)) ≡ wrote 2 1 (duplicate ∷ []) (holding (only 2 ∷ [])).namespaces
+unfolding framed element_spelling payload counted
+put_again ordered = refuses t_c ordered (wrote 1 1 [] (holding (only 2 ∷ [])).namespaces) (only 2 ∷ []) (put_there (only 2 ∷ []) empty_state.namespaces) refl (only 2) DuplicateKey refl
+
+put_third : with_next t_c false (wrote 2 1 (duplicate ∷ []) (holding (only 2 ∷ [])).namespaces) (insert_one (only 1)) ≡ wrote 3 2 (duplicate ∷ []) (holding (only 1 ∷ only 2 ∷ [])).namespaces
+unfolding framed element_spelling payload counted
+put_third =
+    puts t_c false (wrote 2 1 (duplicate ∷ []) (holding (only 2 ∷ [])).namespaces) (only 2 ∷ []) (put_there (only 2 ∷ []) empty_state.namespaces) refl (only 1) (only 1) (only 1 ∷ only 2 ∷ []) refl refl
+    ∙ ap (wrote 3 2 (duplicate ∷ [])) (put_twice (only 1 ∷ only 2 ∷ []) (only 2 ∷ []) empty_state.namespaces)
+
+-- ---- the examples
+
+abbrev falsely : List Field
+falsely = one_field (codes "_id") (boolean false)
+
+abbrev moved : List Field
+moved = (codes "_id", number 2) ∷ (codes "a", number 1) ∷ []
+
+pub inserts : InsertExamples
+unfolding framed element_spelling payload counted
+inserts = record {
+  first = λ session. ap (write_answer empty_state) (puts t_c true nothing [] (nothing_in t_c) refl (only 5) (only 5) (only 5 ∷ []) refl refl);
+  equal = λ session.
+      ap (write_answer (holding (only 5 ∷ [])))
+      (refuses t_c true (nothing_written (holding (only 5 ∷ [])).namespaces) (only 5 ∷ []) (put_there (only 5 ∷ []) empty_state.namespaces) refl ((codes "_id", int64 (pos 5)) ∷ []) DuplicateKey refl);
+  ordered = λ session. ap (write_answer empty_state) (ap (after true (only 2 ∷ only 1 ∷ [])) (put_first true) ∙ ap (after true (only 1 ∷ [])) (put_again true));
+  unordered = λ session. ap (write_answer empty_state) (ap (after false (only 2 ∷ only 1 ∷ [])) (put_first false) ∙ ap (after false (only 1 ∷ [])) (put_again false) ∙ put_third);
+  id_behind = λ session. ap (write_answer empty_state) (puts t_c true nothing [] (nothing_in t_c) refl ((codes "a", number 1) ∷ (codes "_id", number 2) ∷ []) moved (moved ∷ []) refl refl);
+  no_id = λ session. refl;
+  unfit = λ session. refl;
+  elsewhere = λ session. ap (write_answer (holding (only 5 ∷ []))) (puts (codes "u.c") true (nothing_written (holding (only 5 ∷ [])).namespaces) [] other_there refl (only 5) (only 5) (only 5 ∷ []) refl refl);
+  dotted = λ session. refl;
+  classes = λ session.
+      ap (write_answer empty_state)
+      (ap (after true (only 1 ∷ [])) (puts t_c true nothing [] (nothing_in t_c) refl falsely falsely (falsely ∷ []) refl refl)
+      ∙ puts t_c true (wrote 1 1 [] (holding (falsely ∷ [])).namespaces) (falsely ∷ []) (put_there (falsely ∷ []) empty_state.namespaces) refl (only 1) (only 1) (only 1 ∷ falsely ∷ []) refl refl
+      ∙ ap (wrote 2 2 []) (put_twice (only 1 ∷ falsely ∷ []) (falsely ∷ []) empty_state.namespaces));
+}
+
+finds : (old : State) (namespace : List ℕ) (documents : List (List Field)) → documents_of namespace old.namespaces ≡ documents
+    → answered old (read_answer old (batch_reply namespace (documents_of namespace old.namespaces))) ≡ answered old (read_answer old (batch_reply namespace documents))
+finds old namespace documents are = ap (λ (ds : List (List Field)). answered old (read_answer old (batch_reply namespace ds))) are
+
+pub reads : ReadExamples
+unfolding framed element_spelling payload counted
+reads = record {
+  pinged = λ state session. refl;
+  found = λ session. finds (holding (only 5 ∷ only 6 ∷ [])) t_c (only 5 ∷ only 6 ∷ []) (put_there (only 5 ∷ only 6 ∷ []) empty_state.namespaces);
+  not_found = λ session. finds empty_state t_c [] (nothing_in t_c);
+}
+
+pub refusals : RefusalExamples
+refusals = record {
+  no_database = λ state session. refl;
+  dotted_database = λ state session. refl;
+  unknown_command = λ state session. refl;
+  no_documents = λ state session. refl;
+  no_document = λ state session. refl;
+  no_collection = λ state session. refl;
+  typed_database = λ state session. refl;
+  database_first = λ state session. refl;
+  typed_ordered = λ state session. refl;
+  unknown_field = λ state session. refl;
+  filtered = λ state session. refl;
+  unreadable = λ state session. refl;
+  listed = λ state session list. refl;
+  zero_in_name = λ state session. refl;
+  longest_namespace = λ session. finds empty_state (codes "t." ++ letters 118) [] (nothing_in (codes "t." ++ letters 118));
+  namespace_too_long = λ state session. refl;
+}
+
+-- ---- want of memory
+
+abbrev two : Insert
+two = record { namespace = t_c; documents = only 5 ∷ only 6 ∷ []; ordered = true }
+
+put_five : with_next t_c true nothing (insert_one (only 5)) ≡ wrote 1 1 [] (holding (only 5 ∷ [])).namespaces
+unfolding framed element_spelling payload counted
+put_five = puts t_c true nothing [] (nothing_in t_c) refl (only 5) (only 5) (only 5 ∷ []) refl refl
+
+abbrev left : Written
+left = wrote 2 1 (document_of (cut_error 1 0) ∷ []) (holding (only 5 ∷ [])).namespaces
+
+cut_second : IsCut (insert_write two) empty_state.namespaces left
+cut_second = record {
+  before = insert_one (only 5) ∷ [];
+  statement = insert_one (only 6);
+  behind = [];
+  made = 0;
+  stands = refl;
+  reached = ap (λ (w : Written). is_due true w.errors) put_five;
+  fewer = inl refl;
+  left_so = ap (λ (w : Written). cut t_c true 0 w (insert_one (only 6))) (sym put_five);
+}
+
+pub wants : WantExamples
+wants = record {
+  refused = λ state session command. inl refl;
+  cut = λ session. inr (left, cut_second, refl);
+  untold = λ session. inr (write_answer empty_state left, inr (left, cut_second, refl), refl);
+  pinged = λ state new session is. let replies : reply_of [] ≡ refusal_reply WantOfMemory = ap (λ (a : Answer). a.reply) is in cc;
+}

@@ -1,0 +1,166 @@
+-- Worked examples of commands on the collection c of the database t. Integers are int32 where nothing else is said.
+use Rattle.std.specs.Prelude.{◌≡◌, ℕ, zero, suc, false, List, [], ◌∷◌, ◌++◌, map, pos, codes}
+use Rattle.dv_bson.specs.Tree.{Tree, string, int32, int64, document, no_fields, array, boolean, Field, elements_of}
+use Rattle.dv_bson.specs.declared.fault.BsonFault.TheVariants.{TooDeep}
+use Rattle.dv_command.specs.declared.command.Command.{Command}
+use Rattle.dv_command.specs.declared.command.Command.TheVariants.{Sections, Invalid}
+use Rattle.dv_command.specs.Replies.{document_of}
+use Rattle.dv_core.specs.declared.outcome.Outcome.TheVariants.{Reply, Wanting, NoReply}
+use Rattle.dv_core.specs.State.{State, empty_state, with_documents}
+use Rattle.dv_core.specs.Step.{step, MemoryStep}
+
+-- ---- words for them
+
+-- the command of a body alone
+abbrev pub of_body : List Field → Command
+of_body body = Sections body []
+
+-- a command of any session is answered by this reply, and leaves this state
+abbrev pub Does : State → List Field → List Field → State → Type 0
+Does old body reply new = (session : ℕ) → step old session (of_body body) ≡ record { reply = reply; state = new }
+
+abbrev pub refusal : ℕ → List ℕ → List Field
+refusal code name = (codes "ok", int32 (pos 0)) ∷ (codes "errmsg", string name) ∷ (codes "code", int32 (pos code)) ∷ (codes "codeName", string name) ∷ []
+
+-- a command is refused with this code and its name in any state, and leaves it
+abbrev pub IsRefused : List Field → ℕ → List ℕ → Type 0
+IsRefused body code name = (state : State) → Does state body (refusal code name) state
+
+-- with these documents in the collection of a namespace
+abbrev pub with_collection : List ℕ → List (List Field) → State → State
+with_collection namespace documents state = record { namespaces = with_documents namespace documents state.namespaces }
+
+-- the state with these documents alone
+abbrev pub holding : List (List Field) → State
+holding documents = with_collection (codes "t.c") documents empty_state
+
+abbrev pub number : ℕ → Tree
+number n = int32 (pos n)
+
+-- these fields, and the database they are for
+abbrev pub on : List ℕ → List Field → List Field
+on database fields = fields ++ (codes "$db", string database) ∷ []
+
+abbrev pub one_field : List ℕ → Tree → List Field
+one_field name value = (name, value) ∷ []
+
+abbrev pub ping : List Field
+ping = (codes "ping", number 1) ∷ []
+
+-- these values into a collection of t
+abbrev pub insert_values : List ℕ → List Tree → List Field
+insert_values collection values = on (codes "t") ((codes "insert", string collection) ∷ (codes "documents", array (elements_of values)) ∷ [])
+
+-- these documents into c
+abbrev pub insert : List (List Field) → List Field
+insert documents = insert_values (codes "c") (map document_of documents)
+
+abbrev pub unordered_insert : List (List Field) → List Field
+unordered_insert documents = insert documents ++ (codes "ordered", boolean false) ∷ []
+
+abbrev pub find_in : List ℕ → List Field
+find_in collection = on (codes "t") ((codes "find", string collection) ∷ [])
+
+abbrev pub find : List Field
+find = find_in (codes "c")
+
+-- a document with an `_id` alone
+abbrev pub only : ℕ → List Field
+only id = (codes "_id", number id) ∷ []
+
+abbrev pub error : ℕ → ℕ → List ℕ → Tree
+error index code message = document_of ((codes "index", number index) ∷ (codes "code", number code) ∷ (codes "errmsg", string message) ∷ [])
+
+-- so many documents were inserted
+abbrev pub insert_reply : ℕ → List Field
+insert_reply count = (codes "n", number count) ∷ (codes "ok", number 1) ∷ []
+
+-- so many documents were inserted, and the other statements that were looked at have these errors
+abbrev pub errors_reply : ℕ → List Tree → List Field
+errors_reply count errors = (codes "n", number count) ∷ (codes "writeErrors", array (elements_of errors)) ∷ (codes "ok", number 1) ∷ []
+
+-- these documents were found in a namespace
+abbrev pub find_reply : List ℕ → List (List Field) → List Field
+find_reply namespace documents =
+    (codes "cursor", document_of ((codes "firstBatch", array (elements_of (map document_of documents))) ∷ (codes "id", int64 (pos 0)) ∷ (codes "ns", string namespace) ∷ []))
+    ∷ (codes "ok", number 1) ∷ []
+
+-- a text of so many letters c
+abbrev pub letters : ℕ → List ℕ
+letters zero = []
+letters (suc count) = 99 ∷ letters count
+
+-- ---- the examples
+
+pub record InsertExamples : Type 0 where
+  -- {_id: 5} into nothing
+  pub first : Does empty_state (insert (only 5 ∷ [])) (insert_reply 1) (holding (only 5 ∷ []))
+  -- then {_id: 5} as an int64, whose _id is equal
+  pub equal : Does (holding (only 5 ∷ [])) (insert (((codes "_id", int64 (pos 5)) ∷ []) ∷ []))
+      (errors_reply 0 (error 0 11000 (codes "DuplicateKey") ∷ [])) (holding (only 5 ∷ []))
+  -- {_id: 2}, {_id: 2} and {_id: 1}: an ordered insert ends at its first error, and an unordered one goes on behind it
+  pub ordered : Does empty_state (insert (only 2 ∷ only 2 ∷ only 1 ∷ []))
+      (errors_reply 1 (error 1 11000 (codes "DuplicateKey") ∷ [])) (holding (only 2 ∷ []))
+  pub unordered : Does empty_state (unordered_insert (only 2 ∷ only 2 ∷ only 1 ∷ []))
+      (errors_reply 2 (error 1 11000 (codes "DuplicateKey") ∷ [])) (holding (only 1 ∷ only 2 ∷ []))
+  -- {a: 1, _id: 2} is stored with its _id in front
+  pub id_behind : Does empty_state (insert (((codes "a", number 1) ∷ (codes "_id", number 2) ∷ []) ∷ []))
+      (insert_reply 1) (holding (((codes "_id", number 2) ∷ (codes "a", number 1) ∷ []) ∷ []))
+  -- {a: 1} has no _id, and no collection is made
+  pub no_id : Does empty_state (insert (((codes "a", number 1) ∷ []) ∷ [])) (errors_reply 0 (error 0 2 (codes "BadValue") ∷ [])) empty_state
+  -- {_id: [1]}, {_id: 1, $a: 1} and {_id: 1, a: {b.c: 1}} are not stored
+  pub unfit : Does empty_state
+      (unordered_insert (one_field (codes "_id") (array (elements_of (number 1 ∷ []))) ∷ (only 1 ++ one_field (codes "$a") (number 1)) ∷ (only 1 ++ one_field (codes "a") (document_of (one_field (codes "b.c") (number 1)))) ∷ []))
+      (errors_reply 0 (error 0 2 (codes "BadValue") ∷ error 1 2 (codes "BadValue") ∷ error 2 2 (codes "BadValue") ∷ [])) empty_state
+  -- a document of a database that has none, where another has {_id: 5} in a collection of the same name
+  pub elsewhere : Does (holding (only 5 ∷ [])) (on (codes "u") ((codes "insert", string (codes "c")) ∷ (codes "documents", array (elements_of (document_of (only 5) ∷ []))) ∷ []))
+      (insert_reply 1) (with_collection (codes "u.c") (only 5 ∷ []) (holding (only 5 ∷ [])))
+  -- nor is {_id: 1, a: [{b.c: 1}]}
+  pub dotted : Does empty_state (insert ((only 1 ++ one_field (codes "a") (array (elements_of (document_of (one_field (codes "b.c") (number 1)) ∷ [])))) ∷ []))
+      (errors_reply 0 (error 0 2 (codes "BadValue") ∷ [])) empty_state
+  -- numbers stand before booleans
+  pub classes : Does empty_state (insert (one_field (codes "_id") (boolean false) ∷ only 1 ∷ [])) (insert_reply 2) (holding (only 1 ∷ one_field (codes "_id") (boolean false) ∷ []))
+
+pub record ReadExamples : Type 0 where
+  pub pinged : (state : State) → Does state (on (codes "t") ping) ((codes "ok", number 1) ∷ []) state
+  pub found : Does (holding (only 5 ∷ only 6 ∷ [])) find (find_reply (codes "t.c") (only 5 ∷ only 6 ∷ [])) (holding (only 5 ∷ only 6 ∷ []))
+  -- no collection is made; a comment is ignored, whatever it is
+  pub not_found : Does empty_state (find ++ (codes "filter", document no_fields) ∷ (codes "comment", number 1) ∷ []) (find_reply (codes "t.c") []) empty_state
+
+pub record RefusalExamples : Type 0 where
+  pub no_database : IsRefused ping 9 (codes "FailedToParse")
+  pub dotted_database : IsRefused (on (codes "a.b") ping) 2 (codes "BadValue")
+  pub unknown_command : IsRefused (on (codes "t") ((codes "drop", string (codes "c")) ∷ [])) 59 (codes "CommandNotFound")
+  pub no_documents : IsRefused (on (codes "t") ((codes "insert", string (codes "c")) ∷ [])) 9 (codes "FailedToParse")
+  -- 1 is to be inserted, which is no document
+  pub no_document : IsRefused (insert_values (codes "c") (number 1 ∷ [])) 14 (codes "TypeMismatch")
+  pub no_collection : IsRefused (insert_values [] []) 2 (codes "BadValue")
+  pub typed_database : IsRefused (ping ++ one_field (codes "$db") (number 1)) 14 (codes "TypeMismatch")
+  -- the database is looked at before the other fields
+  pub database_first : IsRefused (on (codes "a.b") (one_field (codes "find") (number 1))) 2 (codes "BadValue")
+  pub typed_ordered : IsRefused (insert (only 1 ∷ []) ++ one_field (codes "ordered") (number 1)) 14 (codes "TypeMismatch")
+  pub unknown_field : IsRefused (insert (only 1 ∷ []) ++ one_field (codes "upsert") (boolean false)) 9 (codes "FailedToParse")
+  pub filtered : IsRefused (find ++ one_field (codes "filter") (document_of (only 1))) 9 (codes "FailedToParse")
+  pub unreadable : (state : State) (session : ℕ) → step state session (Invalid TooDeep)
+      ≡ record { reply = (codes "ok", int32 (pos 0)) ∷ (codes "errmsg", string (codes "InvalidBSON: TooDeep")) ∷ (codes "code", int32 (pos 22)) ∷ (codes "codeName", string (codes "InvalidBSON")) ∷ []; state = state }
+  -- a list beside the body
+  pub listed : (state : State) (session : ℕ) (list : List ℕ × List (List Field)) → step state session (Sections find (list ∷ []))
+      ≡ record { reply = refusal 9 (codes "FailedToParse"); state = state }
+  -- a zero byte in a collection's name
+  pub zero_in_name : IsRefused (find_in (99 ∷ 0 ∷ [])) 2 (codes "BadValue")
+  -- a namespace of 120 bytes, and one of 121
+  pub longest_namespace : Does empty_state (find_in (letters 118)) (find_reply (codes "t." ++ letters 118) []) empty_state
+  pub namespace_too_long : IsRefused (find_in (letters 119)) 2 (codes "BadValue")
+
+-- what is told of want of memory
+pub record WantExamples : Type 0 where
+  -- any command may be refused for it; then nothing is changed
+  pub refused : (state : State) (session : ℕ) (command : Command) → MemoryStep state session command (Wanting (refusal 900 (codes "WantOfMemory"))) state
+  -- an insert that finds no memory at its second document
+  pub cut : (session : ℕ) → MemoryStep empty_state session (of_body (insert (only 5 ∷ only 6 ∷ [])))
+      (Wanting (errors_reply 1 (document_of ((codes "index", number 1) ∷ (codes "code", number 900) ∷ (codes "errmsg", string (codes "WantOfMemory")) ∷ (codes "done", number 0) ∷ []) ∷ [])))
+      (holding (only 5 ∷ []))
+  -- and whose reply finds none
+  pub untold : (session : ℕ) → MemoryStep empty_state session (of_body (insert (only 5 ∷ only 6 ∷ []))) NoReply (holding (only 5 ∷ []))
+  -- the reply to a ping never tells of it
+  pub pinged : (state new : State) (session : ℕ) → MemoryStep state session (of_body (on (codes "t") ping)) (Reply (refusal 900 (codes "WantOfMemory"))) new → ⊥

@@ -1,0 +1,25 @@
+-- What holds of every state that is reached.
+use Rattle.std.specs.Prelude.{ℕ, List, ⊤}
+use Rattle.std.specs.List.{AllByRecursion}
+use Rattle.dv_bson.specs.Tree.{Field, fields_of}
+use Rattle.dv_bson.specs.Spelling.{AreFields, Fits}
+use Rattle.dv_command.specs.declared.command.Command.{Command}
+use Rattle.dv_command.specs.declared.command.Command.TheVariants.{Sections, Invalid}
+use Rattle.dv_core.specs.State.{State, documents_of, AreOrdered}
+
+-- a document that is valid at each of its levels, and within the limits for what is read and stored
+pub record IsSoundDocument (d : List Field) : Type 0 where
+  pub valid : AreFields (fields_of d)
+  pub fits : Fits d
+
+-- in the order of their `_id`s, with which they begin, and each sound
+abbrev pub AreSound : List (List Field) → Type 0
+AreSound documents = AreOrdered documents × AllByRecursion IsSoundDocument documents
+
+abbrev pub IsSound : State → Type 0
+IsSound state = (namespace : List ℕ) → AreSound (documents_of namespace state.namespaces)
+
+-- the documents that a command brings are sound, as those that were read are
+abbrev pub IsSoundCommand : Command → Type 0
+IsSoundCommand (Sections body lists) = IsSoundDocument body × AllByRecursion (λ list. AllByRecursion IsSoundDocument list.1) lists
+IsSoundCommand (Invalid fault) = ⊤

@@ -1,0 +1,92 @@
+//! What holds of every step of the machine.
+
+ghost use Rattle.std.specs.Prelude.{◌≡◌, ◌≤◌, ◌↔◌, ℕ, List, Some, None, Ok, Err, true, codes, pos, length};
+ghost use Rattle.dv_bson.specs.Names.{value_under};
+ghost use Rattle.dv_bson.specs.Spelling.{Fits};
+ghost use Rattle.dv_bson.specs.Tree.{Field, int32};
+ghost use Rattle.dv_command.specs.Asked.{Asked, asked_by};
+ghost use Rattle.dv_command.specs.declared.command.Command.{Command};
+ghost use Rattle.dv_command.specs.declared.refusal.Refusal.{Refusal};
+ghost use Rattle.dv_core.specs.declared.outcome.Outcome.{Outcome};
+ghost use Rattle.dv_core.specs.declared.outcome.Outcome.TheVariants.{Reply, Wanting};
+ghost use Rattle.dv_core.specs.Examples as examples;
+ghost use Rattle.dv_core.specs.Sound.{IsSound, IsSoundCommand};
+ghost use Rattle.dv_core.specs.State.{State, Namespaces, IsOrdered, empty_state};
+ghost use Rattle.dv_core.specs.Statements.{Write, Written, written, IsCut};
+ghost use Rattle.dv_core.specs.Step.{MemoryStep, write_of};
+ghost use Rattle.dv_core.specs.Storable.{storable, is_within_limits};
+
+/// A command that is told as refused, with `ok: 0`, changed nothing, be it for want of memory.
+pub fn a_refused_command_changes_nothing()
+    ensures plain { (old new : State) (session : ℕ) (command : Command) (reply : List Field) → MemoryStep old session command (Reply reply) new
+        → value_under (codes "ok") reply ≡ Some (int32 (pos 0)) → new ≡ old }
+    ensures wanting { (old new : State) (session : ℕ) (command : Command) (reply : List Field) → MemoryStep old session command (Wanting reply) new
+        → value_under (codes "ok") reply ≡ Some (int32 (pos 0)) → new ≡ old }
+{}
+
+/// Only a write changes anything: not another command, whatever it is answered, and not one that asks nothing, as it is
+/// refused.
+pub fn only_writes_change_documents()
+    ensures others { (old new : State) (session : ℕ) (command : Command) (asked : Asked) (outcome : Outcome) → asked_by command ≡ Ok asked → write_of asked ≡ None
+        → MemoryStep old session command outcome new → new ≡ old }
+    ensures refused { (old new : State) (session : ℕ) (command : Command) (refusal : Refusal) (outcome : Outcome) → asked_by command ≡ Err refusal
+        → MemoryStep old session command outcome new → new ≡ old }
+{}
+
+/// The documents of each namespace stay in the order of their `_id`s, no two of which are equal, whatever the width of
+/// their integers: so it is before the first command, and so after each.
+pub fn documents_stay_in_order()
+    ensures before { IsOrdered empty_state }
+    ensures after { (old new : State) (session : ℕ) (command : Command) (outcome : Outcome) → IsOrdered old
+        → MemoryStep old session command outcome new → IsOrdered new }
+{
+    dv_coll::laws::inserted_documents_ascend();
+    dv_coll::laws::inserted_documents_begin_with_ids();
+}
+
+/// Every state that is reached is sound, if the documents that commands bring are: so it is before the first command,
+/// and so after each.
+pub fn states_stay_sound()
+    ensures before { IsSound empty_state }
+    ensures after { (old new : State) (session : ℕ) (command : Command) (outcome : Outcome) → IsSoundCommand command → IsSound old
+        → MemoryStep old session command outcome new → IsSound new }
+{
+    dv_coll::laws::inserted_documents_ascend();
+    dv_coll::laws::inserted_documents_begin_with_ids();
+}
+
+/// An ordered write tells of one error at most; and where it is cut, of that alone.
+pub fn an_ordered_write_ends_at_its_first_error()
+    ensures whole { (write : Write) (old : Namespaces) → write.ordered ≡ true → length (written write old).errors ≤ 1 }
+    ensures cut { (write : Write) (old : Namespaces) (left : Written) → write.ordered ≡ true → IsCut write old left → length left.errors ≡ 1 }
+{}
+
+/// What is stored is within the limits: 16,777,216 bytes and 100 levels.
+pub fn stored_documents_fit()
+    ensures { (d stored : List Field) → storable d ≡ Ok stored → Fits stored }
+{}
+
+/// The limits for what is stored are those for what is read.
+pub fn limits_are_those_of_reading()
+    ensures { (d : List Field) → (is_within_limits d ≡ true) ↔ Fits d }
+{}
+
+/// What inserts answer and leave, by worked examples.
+pub fn inserts_by_example()
+    ensures { examples.InsertExamples }
+{}
+
+/// What a ping and a find answer, by worked examples.
+pub fn reads_by_example()
+    ensures { examples.ReadExamples }
+{}
+
+/// What is refused, and with which code, by worked examples.
+pub fn refusals_by_example()
+    ensures { examples.RefusalExamples }
+{}
+
+/// What is told of want of memory, by worked examples.
+pub fn wants_by_example()
+    ensures { examples.WantExamples }
+{}
