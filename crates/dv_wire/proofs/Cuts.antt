@@ -1,270 +1,229 @@
 -- A piece of a session's bytes, and the same bytes in two pieces.
-use Rattle.std.proofs.Common.{◌≡◌, ℕ, suc, ◌+◌, ◌-◌, ◌≤◌, ◌⊎◌, ◌&&◌, min, Bool, true, false, List, [], ◌∷◌, ◌++◌, length, take, Option, Some, None, refl, sym, ap, subst, ◌∙◌, append_assoc, zero-add, arith, inl, inr}
+use Rattle.std.proofs.Common.{◌≡◌, ℕ, suc, ◌+◌, ◌-◌, ◌≤◌, min, List, [], ◌∷◌, ◌++◌, length, take, Option, Some, None, refl, sym, ap, subst, ◌∙◌, append_assoc, zero-add, arith, inl, inr}
 use Rattle.std.proofs.lemmas.Bool.{cases_lt, eq-eqb}
 use Rattle.std.proofs.lemmas.List.{append-nil, take-append-le, take_min}
-use Rattle.dv_bson.specs.Tree.{Field}
 use Rattle.dv_wire.specs.declared.fault.CloseFault.{CloseFault}
 use Rattle.dv_wire.specs.declared.fault.CloseFault.TheVariants.{NoMemory}
 use Rattle.dv_wire.specs.declared.hub.Fed.{Fed}
 use Rattle.dv_wire.specs.declared.hub.Fed.TheVariants.{Unknown}
-use Rattle.dv_core.specs.declared.store.Outcome.{Outcome}
-use Rattle.dv_core.specs.declared.store.Outcome.TheVariants.{Reply, NoReply}
 use Rattle.dv_core.specs.State.{State}
-use Rattle.dv_wire.specs.Message.{Message, Ending, rest, closed, Split, split, continued}
-use Rattle.dv_command.specs.Replies.{wants_memory}
-use Rattle.dv_core.specs.Step.{MemoryStep}
-use Rattle.dv_wire.specs.Schedule.{command_of, GoesOn, CarriesOut, sent, Takes, Conversation, reading, shut, conversation_after, fed_of, World, conversation_of, with_conversation, Hears, Feeds, FeedsAll, pieces_joined}
-use Rattle.dv_wire.proofs.Streams.{carries_then, stops}
+use Rattle.dv_wire.specs.Message.{Message, Conversation, reading, closed, Split, split, continuation}
+use Rattle.dv_wire.specs.Schedule.{Run, in_front, silence, CarriesOut, Takes, takes_all, takes_some, Hears, fed_of, World, conversation_of, with_conversation, world_behind, plain_run, Feeds, FeedsAll, stream_of}
+use Rattle.dv_wire.specs.View.{GoesOn}
+use Rattle.dv_wire.proofs.Runs.{in_front-silence, carries_then, carries_to, carries_cases, carries_all, carries_shut, stops_so, Divides}
 use Rattle.dv_wire.proofs.Growth.{split_continues}
-
--- ---- messages
-
--- the first messages are carried out, and then the second
-record Carried (session : ℕ) (old new : State) (first second : List Message) (bytes : List ℕ) (b : Bool) : Type 0 where
-  mid : State
-  one : List ℕ
-  two : List ℕ
-  both : bytes ≡ one ++ two
-  before : CarriesOut session old first one mid true
-  behind : CarriesOut session mid second two new b
-
--- or the session is closed among the first
-abbrev Cut : ℕ → State → State → List Message → List Message → List ℕ → Bool → Type 0
-Cut session old new first second bytes b = ((b ≡ false) × CarriesOut session old first bytes new false) ⊎ Carried session old new first second bytes b
-
-cut_behind : (session : ℕ) (old from new : State) (message : Message) (messages second : List Message) (reply : List Field) (bytes others : List ℕ) (b : Bool)
-    → MemoryStep old session (command_of message) (Reply reply) from → bytes ≡ sent message reply ++ others → message.more_to_come && wants_memory reply ≡ false → Cut session from new messages second others b → Cut session old new (message ∷ messages) second bytes b
-cut_behind session old from new message messages second reply bytes others b steps e told (inl stopped) = inl (stopped.0, (from, Reply reply, steps, inl (others, e, stopped.1, told)))
-cut_behind session old from new message messages second reply bytes others b steps e told (inr c) =
-    inr (record {
-      mid = c.mid;
-      one = sent message reply ++ c.one;
-      two = c.two;
-      both = e ∙ ap (λ (x : List ℕ). sent message reply ++ x) c.both ∙ sym (append_assoc (sent message reply) c.one c.two);
-      before = (from, Reply reply, steps, inl (c.one, refl, c.before, told));
-      behind = c.behind;
-    })
-
-goes_cut : (session : ℕ) (old from new : State) (message : Message) (outcome : Outcome) (messages second : List Message) (bytes : List ℕ) (b : Bool)
-    → MemoryStep old session (command_of message) outcome from
-    → ((others : List ℕ) → CarriesOut session from (messages ++ second) others new b → Cut session from new messages second others b)
-    → GoesOn message outcome from (λ mid others. CarriesOut session mid (messages ++ second) others new b) bytes new b → Cut session old new (message ∷ messages) second bytes b
-goes_cut session old from new message NoReply messages second bytes b steps f goes = inl (goes.2, (from, NoReply, steps, (goes.0, goes.1, refl)))
-goes_cut session old from new message (Reply reply) messages second bytes b steps f (inl goes) =
-    cut_behind session old from new message messages second reply bytes goes.0 b steps goes.1 goes.3 (f goes.0 goes.2)
-goes_cut session old from new message (Reply reply) messages second bytes b steps f (inr goes) = inl (goes.2, (from, Reply reply, steps, inr (goes.0, goes.1, refl)))
-
-carries_cut : (session : ℕ) (old new : State) (first second : List Message) (bytes : List ℕ) (b : Bool) → CarriesOut session old (first ++ second) bytes new b → Cut session old new first second bytes b
-carries_cut session old new [] second bytes b h = inr (record { mid = old; one = []; two = bytes; both = refl; before = (refl, refl, refl); behind = h })
-carries_cut session old new (message ∷ messages) second bytes b h =
-    goes_cut session old h.0 new message h.1 messages second bytes b h.2 (λ others. carries_cut session h.0 new messages second others b) h.3
-
-carries_true : (session : ℕ) (old new : State) (first second : List Message) (bytes : List ℕ) → CarriesOut session old (first ++ second) bytes new true → Carried session old new first second bytes true
-carries_true session old new first second bytes h = elim (carries_cut session old new first second bytes true h) [ inl stopped ↦ let e = stopped.0 in absurd cc | inr c ↦ c ]
+use Rattle.dv_wire.proofs.Replies.{plain_carries}
+use Rattle.dv_wire.proofs.Worlds.{conversation_of-with}
 
 take_past : (n : ℕ) (xs ys : List Message) → take (length xs + n) (xs ++ ys) ≡ xs ++ take n ys
 take_past n [] ys = rw zero-add refl
 take_past n (x ∷ xs) ys = let e : suc (length xs) + n ≡ suc (length xs + n) = omega arith in rw e (ap (λ (ms : List Message). x ∷ ms) (take_past n xs ys))
 
--- ---- streams
+-- ---- one piece as two
 
--- what may come of a stream that is split so
-abbrev TakesSplit : ℕ → State → Split → List ℕ → State → Conversation → Type 0
-TakesSplit session old s bytes new after =
-    (CarriesOut session old s.messages bytes new true × (after ≡ conversation_after s.ending))
-    ⊎ (CarriesOut session old s.messages bytes new false × (after ≡ shut NoMemory))
-    ⊎ ((count : ℕ) × CarriesOut session old (take count s.messages) bytes new true × (after ≡ shut NoMemory))
+-- a stream is taken, and then the next piece
+record TakesTwo (session : ℕ) (old : State) (s : Split) (more : List ℕ) (run : Run) : Type 0 where
+  one : Run
+  two : Run
+  before : Takes session old s one
+  behind : Hears session one.state one.conversation more two
+  both : run ≡ in_front one.bytes two
 
--- a piece is taken, and then the next one
-record TakesTwo (session : ℕ) (old : State) (s : Split) (more bytes : List ℕ) (new : State) (after : Conversation) : Type 0 where
-  one : List ℕ
-  two : List ℕ
-  mid : State
-  between : Conversation
-  both : bytes ≡ one ++ two
-  before : TakesSplit session old s one mid between
-  behind : Hears session mid between more two new after
+-- a session that is closed takes no more
+hears_nothing : (session : ℕ) (run : Run) (fault : CloseFault) (more : List ℕ) → run.conversation ≡ closed fault → Hears session run.state run.conversation more (silence run.state run.conversation)
+hears_nothing session run fault more shut = rw shut refl
 
-module _ (session : ℕ) (old new : State) (more bytes : List ℕ) where
-  ends_there : (s : Split) (fault : CloseFault) (after : Conversation) → after ≡ shut fault → TakesSplit session old s bytes new (shut fault) → TakesTwo session old s more bytes new after
-  ends_there s fault after e takes = record { one = bytes; two = []; mid = new; between = shut fault; both = sym (append-nil bytes); before = takes; behind = (refl, refl, e) }
+module _ (session : ℕ) (old : State) (more : List ℕ) (run : Run) where
+  shut_there : (s : Split) (fault : CloseFault) → run.conversation ≡ closed fault → Takes session old s run → TakesTwo session old s more run
+  shut_there s fault shut takes =
+      record { one = run; two = silence run.state run.conversation; before = takes; behind = hears_nothing session run fault more shut; both = sym (in_front-silence run) }
 
-  goes_behind : (messages : List Message) (kept : List ℕ) (after : Conversation) (c : Carried session old new messages (split (kept ++ more)).messages bytes true)
-      → after ≡ conversation_after (split (kept ++ more)).ending → TakesTwo session old (record { messages = messages; ending = rest kept }) more bytes new after
-  goes_behind messages kept after c e =
-      record { one = c.one; two = c.two; mid = c.mid; between = reading kept; both = c.both; before = inl (c.before, refl); behind = inl (c.behind, e) }
+  goes_behind : (messages others : List Message) (conversation : Conversation) (kept : List ℕ) (d : Divides session old messages others conversation run) → Takes session d.mid (split (kept ++ more)) d.two
+      → TakesTwo session old (record { messages = messages; conversation = reading kept }) more run
+  goes_behind messages others conversation kept d behind =
+      record { one = record { bytes = d.bytes; state = d.mid; conversation = reading kept }; two = d.two; before = takes_all (carries_to session old d.mid messages d.bytes (reading kept) d.before); behind = behind; both = d.both }
 
-  two_of : (messages : List Message) (ending : Ending) (after : Conversation) → TakesSplit session old (continued (record { messages = messages; ending = ending }) more) bytes new after
-      → TakesTwo session old (record { messages = messages; ending = ending }) more bytes new after
-  two_of messages (closed fault) after (inl all) = ends_there _ fault after all.1 (inl (all.0, refl))
-  two_of messages (closed fault) after (inr (inl stopped)) = ends_there _ NoMemory after stopped.1 (inr (inl (stopped.0, refl)))
-  two_of messages (closed fault) after (inr (inr some)) = ends_there _ NoMemory after some.2 (inr (inr (some.0, some.1, refl)))
-  two_of messages (rest kept) after (inl all) = goes_behind messages kept after (carries_true session old new messages (split (kept ++ more)).messages bytes all.0) all.1
-  two_of messages (rest kept) after (inr (inl stopped)) =
-      elim (carries_cut session old new messages (split (kept ++ more)).messages bytes false stopped.0) [
-        | inl first ↦ ends_there _ NoMemory after stopped.1 (inr (inl (first.1, refl)))
-        | inr c ↦ record { one = c.one; two = c.two; mid = c.mid; between = reading kept; both = c.both; before = inl (c.before, refl); behind = inr (inl (c.behind, stopped.1)) }
+  two_of : (messages : List Message) (conversation : Conversation) → Takes session old (continuation (record { messages = messages; conversation = conversation }) more) run
+      → TakesTwo session old (record { messages = messages; conversation = conversation }) more run
+  two_of messages (closed fault) (takes_all carried) = let shut = carries_shut session old messages fault run carried in shut_there _ shut.0 shut.1 (takes_all carried)
+  two_of messages (closed fault) (takes_some count carried) = let shut = carries_shut session old (take count messages) NoMemory run carried in shut_there _ shut.0 shut.1 (takes_some count carried)
+  two_of messages (reading kept) (takes_all carried) =
+      elim (carries_cases session old messages (split (kept ++ more)).messages (split (kept ++ more)).conversation run carried) [
+        | inl stops ↦ shut_there _ NoMemory stops.shut (takes_all (stops_so session old messages run (reading kept) stops))
+        | inr d ↦ goes_behind messages (split (kept ++ more)).messages (split (kept ++ more)).conversation kept d (takes_all d.behind)
       ]
-  two_of messages (rest kept) after (inr (inr some)) =
-      elim (cases_lt some.0 (length messages)) [
-        | inl lt ↦ ends_there _ NoMemory after some.2 (inr (inr (some.0, rw (← take-append-le some.0 messages (split (kept ++ more)).messages (omega arith)) some.1, refl)))
+  two_of messages (reading kept) (takes_some count carried) =
+      let others = (split (kept ++ more)).messages in
+      elim (cases_lt count (length messages)) [
+        | inl lt ↦
+            let some = subst (λ (ms : List Message). CarriesOut session old ms (closed NoMemory) run) (take-append-le count messages others (omega arith)) carried in
+            let shut = carries_shut session old (take count messages) NoMemory run some in
+            shut_there _ shut.0 shut.1 (takes_some count some)
         | inr le ↦
-            let n = some.0 - length messages in
-            let past : take some.0 (messages ++ (split (kept ++ more)).messages) ≡ messages ++ take n (split (kept ++ more)).messages =
-            (let e : some.0 ≡ length messages + n = omega arith in ap (λ (k : ℕ). take k (messages ++ (split (kept ++ more)).messages)) e) ∙ take_past n messages (split (kept ++ more)).messages in
-            let c = carries_true session old new messages (take n (split (kept ++ more)).messages) bytes (subst (λ (ms : List Message). CarriesOut session old ms bytes new true) past some.1) in
-            record { one = c.one; two = c.two; mid = c.mid; between = reading kept; both = c.both; before = inl (c.before, refl); behind = inr (inr (n, c.behind, some.2)) }
+            let n = count - length messages in
+            let past : take count (messages ++ others) ≡ messages ++ take n others =
+            (let e : count ≡ length messages + n = omega arith in ap (λ (k : ℕ). take k (messages ++ others)) e) ∙ take_past n messages others in
+            elim (carries_cases session old messages (take n others) (closed NoMemory) run (subst (λ (ms : List Message). CarriesOut session old ms (closed NoMemory) run) past carried)) [
+              | inl stops ↦ shut_there _ NoMemory stops.shut (takes_all (stops_so session old messages run (reading kept) stops))
+              | inr d ↦ goes_behind messages (take n others) (closed NoMemory) kept d (takes_some n d.behind)
+            ]
       ]
 
--- ---- and back
+-- ---- and two as one
 
 -- behind the same messages there are others, or none
-messages_more : (s : Split) (more : List ℕ) (ending : Ending) → s.ending ≡ ending → (others : List Message) × ((continued s more).messages ≡ s.messages ++ others)
-messages_more s more (rest kept) e = ((split (kept ++ more)).messages, rw e refl)
+messages_more : (s : Split) (more : List ℕ) (conversation : Conversation) → s.conversation ≡ conversation → (others : List Message) × ((continuation s more).messages ≡ s.messages ++ others)
+messages_more s more (reading kept) e = ((split (kept ++ more)).messages, rw e refl)
 messages_more s more (closed fault) e = ([], rw e (sym (append-nil s.messages)))
 
-module _ (session : ℕ) (old new : State) (more bytes : List ℕ) where
-  behind_rest : (messages : List Message) (kept one two : List ℕ) (mid : State) (after : Conversation) → CarriesOut session old messages one mid true → Takes session mid (kept ++ more) two new after
-      → TakesSplit session old (continued (record { messages = messages; ending = rest kept }) more) (one ++ two) new after
-  behind_rest messages kept one two mid after before (inl all) = inl (carries_then session old mid new messages (split (kept ++ more)).messages one two true before all.0, all.1)
-  behind_rest messages kept one two mid after before (inr (inl stopped)) =
-      inr (inl (carries_then session old mid new messages (split (kept ++ more)).messages one two false before stopped.0, stopped.1))
-  behind_rest messages kept one two mid after before (inr (inr some)) =
-      inr (inr (
-        length messages + some.0,
-        subst (λ (ms : List Message). CarriesOut session old ms (one ++ two) new true) (sym (take_past some.0 messages (split (kept ++ more)).messages))
-            (carries_then session old mid new messages (take some.0 (split (kept ++ more)).messages) one two true before some.1),
-        some.2,
-      ))
+module _ (session : ℕ) (old : State) (more : List ℕ) where
+  -- a session that was closed answers nothing more
+  shut_in_front : (s : Split) (one two : Run) (fault : CloseFault) → one.conversation ≡ closed fault → Hears session one.state one.conversation more two → Takes session old s one
+      → Takes session old s (in_front one.bytes two)
+  shut_in_front s one two fault shut hears takes =
+      let nothing : two ≡ silence one.state one.conversation = rw shut (rw shut at hears) in
+      subst (λ (r : Run). Takes session old s r) (sym (ap (in_front one.bytes) nothing ∙ in_front-silence one)) takes
 
-  behind_all : (messages : List Message) (ending : Ending) (one two : List ℕ) (mid : State) (between after : Conversation) → CarriesOut session old messages one mid true
-      → between ≡ conversation_after ending → Hears session mid between more two new after
-      → TakesSplit session old (continued (record { messages = messages; ending = ending }) more) (one ++ two) new after
-  behind_all messages (rest kept) one two mid between after before e hears =
-      behind_rest messages kept one two mid after before (subst (λ (c : Conversation). Hears session mid c more two new after) e hears)
-  behind_all messages (closed fault) one two mid between after before e hears =
-      let nothing = subst (λ (c : Conversation). Hears session mid c more two new after) e hears in
-      inl (rw (nothing.0, append-nil, nothing.1) before, nothing.2)
+  behind_reading : (messages : List Message) (kept bytes : List ℕ) (mid : State) (two : Run) → GoesOn session old messages bytes mid → Takes session mid (split (kept ++ more)) two
+      → Takes session old (continuation (record { messages = messages; conversation = reading kept }) more) (in_front bytes two)
+  behind_reading messages kept bytes mid two before (takes_all behind) =
+      takes_all (carries_then session old mid messages (split (kept ++ more)).messages bytes (split (kept ++ more)).conversation two before behind)
+  behind_reading messages kept bytes mid two before (takes_some count behind) =
+      takes_some (length messages + count)
+      (subst (λ (ms : List Message). CarriesOut session old ms (closed NoMemory) (in_front bytes two)) (sym (take_past count messages (split (kept ++ more)).messages))
+      (carries_then session old mid messages (take count (split (kept ++ more)).messages) bytes (closed NoMemory) two before behind))
 
-  behind_shut : (s : Split) (one two : List ℕ) (mid : State) (between after : Conversation) → between ≡ shut NoMemory → Hears session mid between more two new after
-      → (two ≡ []) × (new ≡ mid) × (after ≡ shut NoMemory)
-  behind_shut s one two mid between after e hears = subst (λ (c : Conversation). Hears session mid c more two new after) e hears
+  behind_all : (messages : List Message) (conversation : Conversation) (bytes : List ℕ) (mid : State) (two : Run) → GoesOn session old messages bytes mid → Hears session mid conversation more two
+      → Takes session old (continuation (record { messages = messages; conversation = conversation }) more) (in_front bytes two)
+  behind_all messages (reading kept) bytes mid two before hears = behind_reading messages kept bytes mid two before hears
+  behind_all messages (closed fault) bytes mid two before hears =
+      let one : Run = record { bytes = bytes; state = mid; conversation = closed fault } in
+      shut_in_front (record { messages = messages; conversation = closed fault }) one two fault refl hears (takes_all (carries_to session old mid messages bytes (closed fault) before))
 
-  one_of : (s : Split) (one two : List ℕ) (mid : State) (between after : Conversation) → TakesSplit session old s one mid between → Hears session mid between more two new after
-      → TakesSplit session old (continued s more) (one ++ two) new after
-  one_of s one two mid between after (inl all) hears = behind_all s.messages s.ending one two mid between after all.0 all.1 hears
-  one_of s one two mid between after (inr (inl stopped)) hears =
-      let nothing = behind_shut s one two mid between after stopped.1 hears in
-      let others = messages_more s more s.ending refl in
-      inr (inl (rw (others.1, nothing.0, append-nil, nothing.1) (stops session old mid s.messages others.0 one stopped.0), nothing.2))
-  one_of s one two mid between after (inr (inr some)) hears =
-      let nothing = behind_shut s one two mid between after some.2 hears in
-      let others = messages_more s more s.ending refl in
-      let n = min some.0 (length s.messages) in
+  one_of : (s : Split) (one two : Run) → Takes session old s one → Hears session one.state one.conversation more two → Takes session old (continuation s more) (in_front one.bytes two)
+  one_of s one two (takes_all carried) hears =
+      elim (carries_all session old s.messages s.conversation one carried) [
+        | inl stops ↦
+            let others = messages_more s more s.conversation refl in
+            let so : CarriesOut session old (continuation s more).messages (continuation s more).conversation one =
+            subst (λ (ms : List Message). CarriesOut session old ms (continuation s more).conversation one) (sym others.1) (stops.before others.0 (continuation s more).conversation) in
+            shut_in_front (continuation s more) one two NoMemory stops.shut hears (takes_all so)
+        | inr d ↦
+            let is : one ≡ record { bytes = d.bytes ++ []; state = d.mid; conversation = s.conversation } = d.both ∙ ap (in_front d.bytes) d.behind in
+            let bytes : one.bytes ≡ d.bytes = ap (λ (r : Run). r.bytes) is ∙ append-nil d.bytes in
+            subst (λ (b : List ℕ). Takes session old (continuation s more) (in_front b two)) (sym bytes)
+            (behind_all s.messages s.conversation d.bytes d.mid two d.before (subst (λ (r : Run). Hears session r.state r.conversation more two) is hears))
+      ]
+  one_of s one two (takes_some count carried) hears =
+      let shut = carries_shut session old (take count s.messages) NoMemory one carried in
+      let others = messages_more s more s.conversation refl in
+      let n = min count (length s.messages) in
       let le : n ≤ length s.messages = omega arith in
-      let same : take n (continued s more).messages ≡ take some.0 s.messages = ap (take n) others.1 ∙ take-append-le n s.messages others.0 le ∙ take_min some.0 s.messages in
-      inr (inr (n, rw (same, nothing.0, append-nil, nothing.1) some.1, nothing.2))
+      let same : take n (continuation s more).messages ≡ take count s.messages = ap (take n) others.1 ∙ take-append-le n s.messages others.0 le ∙ take_min count s.messages in
+      shut_in_front (continuation s more) one two shut.0 shut.1 hears (takes_some n (subst (λ (ms : List Message). CarriesOut session old ms (closed NoMemory) one) (sym same) carried))
 
 -- ---- one session
 
-record HearsTwo (session : ℕ) (old : State) (before : Conversation) (piece more bytes : List ℕ) (new : State) (after : Conversation) : Type 0 where
-  one : List ℕ
-  two : List ℕ
-  mid : State
-  between : Conversation
-  both : bytes ≡ one ++ two
-  first : Hears session old before piece one mid between
-  second : Hears session mid between more two new after
+record HearsTwo (session : ℕ) (old : State) (before : Conversation) (piece more : List ℕ) (run : Run) : Type 0 where
+  one : Run
+  two : Run
+  first : Hears session old before piece one
+  second : Hears session one.state one.conversation more two
+  both : run ≡ in_front one.bytes two
 
-hears_two : (session : ℕ) (old new : State) (before after : Conversation) (piece more bytes : List ℕ) → Hears session old before (piece ++ more) bytes new after → HearsTwo session old before piece more bytes new after
-hears_two session old new (shut fault) after piece more bytes hears =
-    record { one = []; two = []; mid = old; between = shut fault; both = hears.0; first = (refl, refl, refl); second = (refl, hears.1, hears.2) }
-hears_two session old new (reading kept) after piece more bytes hears =
+cut_at : (kept piece more : List ℕ) → split (kept ++ (piece ++ more)) ≡ continuation (split (kept ++ piece)) more
+cut_at kept piece more = ap split (sym (append_assoc kept piece more)) ∙ split_continues (kept ++ piece) more
+
+hears_two : (session : ℕ) (old : State) (before : Conversation) (piece more : List ℕ) (run : Run) → Hears session old before (piece ++ more) run → HearsTwo session old before piece more run
+hears_two session old (closed fault) piece more run hears =
+    record { one = silence old (closed fault); two = silence old (closed fault); first = refl; second = refl; both = hears }
+hears_two session old (reading kept) piece more run hears =
     let s = split (kept ++ piece) in
-    let cut : split (kept ++ (piece ++ more)) ≡ continued s more = ap split (sym (append_assoc kept piece more)) ∙ split_continues (kept ++ piece) more in
-    let two = two_of session old new more bytes s.messages s.ending after (subst (λ (t : Split). TakesSplit session old t bytes new after) cut hears) in
-    record { one = two.one; two = two.two; mid = two.mid; between = two.between; both = two.both; first = two.before; second = two.behind }
+    let two = two_of session old more run s.messages s.conversation (subst (λ (t : Split). Takes session old t run) (cut_at kept piece more) hears) in
+    record { one = two.one; two = two.two; first = two.before; second = two.behind; both = two.both }
 
-hears_one : (session : ℕ) (old new : State) (before after : Conversation) (piece more bytes : List ℕ) → HearsTwo session old before piece more bytes new after → Hears session old before (piece ++ more) bytes new after
-hears_one session old new (shut fault) after piece more bytes two =
-    let nothing = subst (λ (c : Conversation). Hears session two.mid c more two.two new after) two.first.2 two.second in
-    (two.both ∙ rw (two.first.0, nothing.0) refl, nothing.1 ∙ two.first.1, nothing.2)
-hears_one session old new (reading kept) after piece more bytes two =
-    let cut : split (kept ++ (piece ++ more)) ≡ continued (split (kept ++ piece)) more = ap split (sym (append_assoc kept piece more)) ∙ split_continues (kept ++ piece) more in
-    let taken = one_of session old new more bytes (split (kept ++ piece)) two.one two.two two.mid two.between after two.first two.second in
-    subst (λ (t : Split). TakesSplit session old t bytes new after) (sym cut) (rw two.both taken)
+hears_one : (session : ℕ) (old : State) (before : Conversation) (piece more : List ℕ) (run : Run) → HearsTwo session old before piece more run → Hears session old before (piece ++ more) run
+hears_one session old (closed fault) piece more run two =
+    let nothing = subst (λ (r : Run). Hears session r.state r.conversation more two.two) two.first two.second in
+    two.both ∙ ap (λ (r : Run). in_front r.bytes two.two) two.first ∙ nothing
+hears_one session old (reading kept) piece more run two =
+    let taken = one_of session old more (split (kept ++ piece)) two.one two.two two.first two.second in
+    subst (λ (t : Split). Takes session old t run) (sym (cut_at kept piece more)) (subst (λ (r : Run). Takes session old (continuation (split (kept ++ piece)) more) r) (sym two.both) taken)
 
 -- ---- the world
 
-module _ (session : ℕ) where
-  is_now : (ss : List (ℕ × Conversation)) (before now : Conversation) → conversation_of session ss ≡ Some before → conversation_of session (with_conversation session now ss) ≡ Some now
-  is_now [] before now e = absurd cc
-  is_now (s ∷ ss) before now e = grind (arith, is_now ss before now, eq-eqb session session refl)
+is_last : (session : ℕ) (ss : List (ℕ × Conversation)) (first now : Conversation) → with_conversation session now (with_conversation session first ss) ≡ with_conversation session now ss
+is_last session [] first now = refl
+is_last session (s ∷ ss) first now = grind (arith, is_last session ss first now, eq-eqb session session refl)
 
-  is_last : (ss : List (ℕ × Conversation)) (first now : Conversation) → with_conversation session now (with_conversation session first ss) ≡ with_conversation session now ss
-  is_last [] first now = refl
-  is_last (s ∷ ss) first now = grind (arith, is_last ss first now, eq-eqb session session refl)
+-- a session that stood in another way between stands as it did last
+world_twice : (old : World) (session : ℕ) (one two : Run) → world_behind session two (world_behind session one old) ≡ world_behind session two old
+world_twice old session one two =
+    ap (λ (ss : List (ℕ × Conversation)). record { state = two.state; next = old.next; sessions = ss }) (is_last session old.sessions one.conversation two.conversation)
 
-abbrev in_world : World → ℕ → State → Conversation → World
-in_world old session state now = record { state = state; next = old.next; sessions = with_conversation session now old.sessions }
-
--- a session that is set twice is what it was set to last
-set_again : (old new : World) (session : ℕ) (first state : State) (between now : Conversation) → new ≡ in_world old session state now → new ≡ in_world (in_world old session first between) session state now
-set_again old new session first state between now e =
-    e ∙ ap (λ (ss : List (ℕ × Conversation)). record { state = state; next = old.next; sessions = ss }) (sym (is_last session old.sessions between now))
-
-set_once : (old new : World) (session : ℕ) (first state : State) (between now : Conversation) → new ≡ in_world (in_world old session first between) session state now → new ≡ in_world old session state now
-set_once old new session first state between now e =
-    e ∙ ap (λ (ss : List (ℕ × Conversation)). record { state = state; next = old.next; sessions = ss }) (is_last session old.sessions between now)
-
-fed_first : (old : World) (session : ℕ) (piece bytes : List ℕ) (state : State) (before now : Conversation) → conversation_of session old.sessions ≡ Some before → Hears session old.state before piece bytes state now
-    → Feeds old session piece bytes (fed_of now) (in_world old session state now)
-fed_first old session piece bytes state before now e hears = rw e (state, now, hears, refl, refl)
-
-pub feeds_two : (old new : World) (session : ℕ) (piece more bytes : List ℕ) (answer : Fed) (found : Option Conversation) → conversation_of session old.sessions ≡ found
+feeds_two : (old new : World) (session : ℕ) (piece more bytes : List ℕ) (answer : Fed) (here : Option Conversation) → conversation_of session old.sessions ≡ here
     → Feeds old session (piece ++ more) bytes answer new → FeedsAll old session piece (more ∷ []) bytes answer new
 feeds_two old new session piece more bytes answer None e feeds =
     let nothing = rw e at feeds in
     ([], [], old, Unknown, nothing.0, rw e (refl, refl, refl), rw e (refl, nothing.1, nothing.2))
 feeds_two old new session piece more bytes answer (Some before) e feeds =
-    let fed = rw e at feeds in
-    let two = hears_two session old.state fed.0 before fed.1 piece more bytes fed.2 in
-    let there : conversation_of session (in_world old session two.mid two.between).sessions ≡ Some two.between = is_now session old.sessions before two.between e in (
-      two.one,
-      two.two,
-      in_world old session two.mid two.between,
-      fed_of two.between,
-      two.both,
-      fed_first old session piece two.one two.mid before two.between e two.first,
-      rw there (fed.0, fed.1, two.second, fed.3, set_again old new session two.mid fed.0 two.between fed.1 fed.4),
+    let (run, hears, are, told, world) = rw e at feeds in
+    let two = hears_two session old.state before piece more run hears in
+    let between : conversation_of session (world_behind session two.one old).sessions ≡ Some two.one.conversation = conversation_of-with session old.sessions before two.one.conversation e in
+    let same = ap (λ (r : Run). r.conversation) two.both in (
+      two.one.bytes,
+      two.two.bytes,
+      world_behind session two.one old,
+      fed_of two.one.conversation,
+      are ∙ ap (λ (r : Run). r.bytes) two.both,
+      rw e (two.one, two.first, refl, refl, refl),
+      rw between (two.two, two.second, refl, told ∙ ap fed_of same, world ∙ ap (λ (r : Run). world_behind session r old) two.both ∙ sym (world_twice old session two.one two.two)),
     )
 
-pub feeds_one : (old new : World) (session : ℕ) (piece more bytes : List ℕ) (answer : Fed) (found : Option Conversation) → conversation_of session old.sessions ≡ found
+parts_same : (bytes first others one two : List ℕ) → bytes ≡ first ++ others → first ≡ one → others ≡ two → bytes ≡ one ++ two
+parts_same bytes first others one two both same_one same_two = cc
+
+feeds_so : (old new : World) (session : ℕ) (before : Conversation) (piece more bytes : List ℕ) (answer : Fed) (one two : Run) → conversation_of session old.sessions ≡ Some before
+    → Hears session old.state before piece one → Hears session one.state one.conversation more two → bytes ≡ one.bytes ++ two.bytes → answer ≡ fed_of two.conversation
+    → new ≡ world_behind session two (world_behind session one old) → Feeds old session (piece ++ more) bytes answer new
+feeds_so old new session before piece more bytes answer one two e first second are told world =
+    let joint : HearsTwo session old.state before piece more (in_front one.bytes two) = record { one = one; two = two; first = first; second = second; both = refl } in
+    rw e (in_front one.bytes two, hears_one session old.state before piece more (in_front one.bytes two) joint, are, told, world ∙ world_twice old session one two)
+
+feeds_one : (old new : World) (session : ℕ) (piece more bytes : List ℕ) (answer : Fed) (here : Option Conversation) → conversation_of session old.sessions ≡ here
     → FeedsAll old session piece (more ∷ []) bytes answer new → Feeds old session (piece ++ more) bytes answer new
-feeds_one old new session piece more bytes answer None e two =
-    let first = rw e at two.5 in
-    let second = rw (first.2, e) at two.6 in
-    rw e (two.4 ∙ rw (first.0, second.0) refl, second.1, second.2)
-feeds_one old new session piece more bytes answer (Some before) e two =
-    let first = rw e at two.5 in
-    let there : conversation_of session (in_world old session first.0 first.1).sessions ≡ Some first.1 = is_now session old.sessions before first.1 e in
-    let second = rw there at (subst (λ (w : World). Feeds w session more two.1 answer new) first.4 two.6) in
-    let both : HearsTwo session old.state before piece more bytes second.0 second.1 =
-    record { one = two.0; two = two.1; mid = first.0; between = first.1; both = two.4; first = first.2; second = second.2 } in
-    rw e (second.0, second.1, hears_one session old.state second.0 before second.1 piece more bytes both, second.3, set_once old new session first.0 second.0 first.1 second.1 second.4)
+feeds_one old new session piece more bytes answer None e (first, others, mid, told, both, before, behind) =
+    let one = rw e at before in
+    let two = rw (one.2, e) at behind in
+    rw e (both ∙ rw (one.0, two.0) refl, two.1, two.2)
+feeds_one old new session piece more bytes answer (Some before) e (first, others, mid, told, both, feeds, behind) =
+    let (one, hears, are, told_one, world) = rw e at feeds in
+    let between : conversation_of session (world_behind session one old).sessions ≡ Some one.conversation = conversation_of-with session old.sessions before one.conversation e in
+    let (two, hears_more, are_more, told_two, world_two) = rw between at (subst (λ (w : World). Feeds w session more others answer new) world behind) in
+    feeds_so old new session before piece more bytes answer one two e hears hears_more (parts_same bytes first others one.bytes two.bytes both are are_more) told_two world_two
 
 -- ---- any number of pieces
 
 pub feeds_joined : (old new : World) (session : ℕ) (piece : List ℕ) (pieces : List (List ℕ)) (bytes : List ℕ) (answer : Fed)
-    → FeedsAll old session piece pieces bytes answer new → Feeds old session (pieces_joined piece pieces) bytes answer new
+    → FeedsAll old session piece pieces bytes answer new → Feeds old session (stream_of piece pieces) bytes answer new
 feeds_joined old new session piece [] bytes answer feeds = feeds
 feeds_joined old new session piece (next ∷ pieces) bytes answer (first, others, mid, told, both, feeds, behind) =
-    feeds_one old new session piece (pieces_joined next pieces) bytes answer (conversation_of session old.sessions) refl
+    feeds_one old new session piece (stream_of next pieces) bytes answer (conversation_of session old.sessions) refl
     (first, others, mid, told, both, feeds, feeds_joined mid new session next pieces others answer behind)
 
 pub feeds_all : (old new : World) (session : ℕ) (piece : List ℕ) (pieces : List (List ℕ)) (bytes : List ℕ) (answer : Fed)
-    → Feeds old session (pieces_joined piece pieces) bytes answer new → FeedsAll old session piece pieces bytes answer new
+    → Feeds old session (stream_of piece pieces) bytes answer new → FeedsAll old session piece pieces bytes answer new
 feeds_all old new session piece [] bytes answer feeds = feeds
 feeds_all old new session piece (next ∷ pieces) bytes answer feeds =
-    let (first, others, mid, told, both, before, behind) = feeds_two old new session piece (pieces_joined next pieces) bytes answer (conversation_of session old.sessions) refl feeds in
+    let (first, others, mid, told, both, before, behind) = feeds_two old new session piece (stream_of next pieces) bytes answer (conversation_of session old.sessions) refl feeds in
     (first, others, mid, told, both, before, feeds_all mid new session next pieces others answer behind)
+
+-- the plain run, however its bytes are cut
+pub plain_feeds : (world : World) (session : ℕ) (kept piece : List ℕ) (pieces : List (List ℕ)) → conversation_of session world.sessions ≡ Some (reading kept) →
+    let run = plain_run session world.state (split (kept ++ stream_of piece pieces)) in
+    FeedsAll world session piece pieces run.bytes (fed_of run.conversation) (world_behind session run world)
+plain_feeds world session kept piece pieces there =
+    let stream = split (kept ++ stream_of piece pieces) in
+    let run = plain_run session world.state stream in
+    feeds_all world (world_behind session run world) session piece pieces run.bytes (fed_of run.conversation)
+    (rw there (run, takes_all (plain_carries session world.state stream.messages stream.conversation), refl, refl, refl))

@@ -1,15 +1,16 @@
 -- What a whole message at the front of a stream shows.
-use Rattle.std.proofs.Common.{◌≡◌, ℕ, ◌≤◌, Bool, true, false, ◌||◌, ◌&&◌, not, cond, ltb, eqb, List, length, get_or, drop, refl}
-use Rattle.std.proofs.lemmas.Bool.{ltb-false, eqb-true, or_parts, and_parts, not-false}
-use Rattle.dv_wire.specs.declared.fault.CloseFault.TheVariants.{BadLength, BadOpCode, BadFlag, Checksum, BadSection}
-use Rattle.dv_wire.specs.Message.{Message, Front, unfinished, closing, whole, number_behind, message_in, front, has_checksum, has_unknown_flag, is_framed}
+use Rattle.std.proofs.Common.{◌≡◌, ℕ, ◌≤◌, Bool, true, false, ◌||◌, not, cond, ltb, eqb, List, length, take, drop, Option, Some, None, refl, sym, ap, ◌∙◌}
+use Rattle.std.proofs.lemmas.Bool.{ltb-false, eqb-true, or_parts, not-false}
+use Rattle.dv_wire.specs.declared.fault.CloseFault.TheVariants.{BadLength, BadOpCode, BadFlag, Checksum}
+use Rattle.dv_wire.specs.Message.{Section, sections_in, Message, message_of, Front, unfinished, closing, whole, number_behind, front_by, front, has_checksum, has_unknown_flag}
 
 -- the tests of a front, from the first to the last
-abbrev pub chain : (b1 b2 b3 b4 b5 b6 b7 b8 b9 : Bool) → Front → Front
-chain b1 b2 b3 b4 b5 b6 b7 b8 b9 found =
-    cond b1 unfinished (cond b2 (closing BadLength) (cond b3 unfinished (cond b4 (closing BadOpCode) (cond b5 unfinished (cond b6 (closing Checksum) (cond b7 (closing BadFlag) (cond b8 unfinished (cond b9 found (closing BadSection)))))))))
+abbrev pub chain : (b1 b2 b3 b4 b5 b6 b7 b8 : Bool) → Front → Front
+chain b1 b2 b3 b4 b5 b6 b7 b8 shown =
+    cond b1 unfinished (cond b2 (closing BadLength) (cond b3 unfinished (cond b4 (closing BadOpCode) (cond b5 unfinished (cond b6 (closing Checksum) (cond b7 (closing BadFlag) (cond b8 unfinished shown)))))))
 
-pub record Passed (b1 b2 b3 b4 b5 b6 b7 b8 b9 : Bool) : Type 0 where
+-- none of the tests ends them
+pub record AllFail (b1 b2 b3 b4 b5 b6 b7 b8 : Bool) : Type 0 where
   pub four : b1 ≡ false
   pub limits : b2 ≡ false
   pub sixteen : b3 ≡ false
@@ -18,24 +19,30 @@ pub record Passed (b1 b2 b3 b4 b5 b6 b7 b8 b9 : Bool) : Type 0 where
   pub checksum : b6 ≡ false
   pub flags : b7 ≡ false
   pub all : b8 ≡ false
-  pub section : b9 ≡ true
 
-passed : (b1 b2 b3 b4 b5 b6 b7 b8 b9 : Bool) (m message : Message) (r following : List ℕ) → chain b1 b2 b3 b4 b5 b6 b7 b8 b9 (whole m r) ≡ whole message following
-    → Passed b1 b2 b3 b4 b5 b6 b7 b8 b9 × (m ≡ message) × (r ≡ following)
-passed true b2 b3 b4 b5 b6 b7 b8 b9 m message r following e = absurd cc
-passed false true b3 b4 b5 b6 b7 b8 b9 m message r following e = absurd cc
-passed false false true b4 b5 b6 b7 b8 b9 m message r following e = absurd cc
-passed false false false true b5 b6 b7 b8 b9 m message r following e = absurd cc
-passed false false false false true b6 b7 b8 b9 m message r following e = absurd cc
-passed false false false false false true b7 b8 b9 m message r following e = absurd cc
-passed false false false false false false true b8 b9 m message r following e = absurd cc
-passed false false false false false false false true b9 m message r following e = absurd cc
-passed false false false false false false false false false m message r following e = absurd cc
-passed false false false false false false false false true m message r following e =
-    (record { four = refl; limits = refl; sixteen = refl; code = refl; twenty = refl; checksum = refl; flags = refl; all = refl; section = refl }, cc, cc)
+whole-fails : (b1 b2 b3 b4 b5 b6 b7 b8 : Bool) (shown : Front) (message : Message) (following : List ℕ) → chain b1 b2 b3 b4 b5 b6 b7 b8 shown ≡ whole message following
+    → AllFail b1 b2 b3 b4 b5 b6 b7 b8 × (shown ≡ whole message following)
+whole-fails true b2 b3 b4 b5 b6 b7 b8 shown message following e = absurd cc
+whole-fails false true b3 b4 b5 b6 b7 b8 shown message following e = absurd cc
+whole-fails false false true b4 b5 b6 b7 b8 shown message following e = absurd cc
+whole-fails false false false true b5 b6 b7 b8 shown message following e = absurd cc
+whole-fails false false false false true b6 b7 b8 shown message following e = absurd cc
+whole-fails false false false false false true b7 b8 shown message following e = absurd cc
+whole-fails false false false false false false true b8 shown message following e = absurd cc
+whole-fails false false false false false false false true shown message following e = absurd cc
+whole-fails false false false false false false false false shown message following e =
+    (record { four = refl; limits = refl; sixteen = refl; code = refl; twenty = refl; checksum = refl; flags = refl; all = refl }, e)
 
-pub passes : (b1 b2 b3 b4 b5 b6 b7 b8 b9 : Bool) (found : Front) → Passed b1 b2 b3 b4 b5 b6 b7 b8 b9 → chain b1 b2 b3 b4 b5 b6 b7 b8 b9 found ≡ found
-passes b1 b2 b3 b4 b5 b6 b7 b8 b9 found p = rw (p.four, p.limits, p.sixteen, p.code, p.twenty, p.checksum, p.flags, p.all, p.section) refl
+pub chain-fails : (b1 b2 b3 b4 b5 b6 b7 b8 : Bool) (shown : Front) → AllFail b1 b2 b3 b4 b5 b6 b7 b8 → chain b1 b2 b3 b4 b5 b6 b7 b8 shown ≡ shown
+chain-fails b1 b2 b3 b4 b5 b6 b7 b8 shown p = rw (p.four, p.limits, p.sixteen, p.code, p.twenty, p.checksum, p.flags, p.all) refl
+
+front_by-whole : (request_id flags : ℕ) (read : Option (List Section)) (rest following : List ℕ) (message : Message) → front_by request_id flags read rest ≡ whole message following
+    → (read ≡ Some message.sections) × (message_of request_id flags message.sections ≡ message) × (rest ≡ following)
+front_by-whole request_id flags None rest following message e = absurd cc
+front_by-whole request_id flags (Some sections) rest following message e =
+    let same : message_of request_id flags sections ≡ message = cc in
+    let are : sections ≡ message.sections = ap (λ (m : Message). m.sections) same in
+    (ap Some are, ap (message_of request_id flags) (sym are) ∙ same, cc)
 
 pub record IsFront (bytes : List ℕ) (message : Message) (following : List ℕ) : Type 0 where
   pub all : number_behind 0 bytes ≤ length bytes
@@ -44,20 +51,18 @@ pub record IsFront (bytes : List ℕ) (message : Message) (following : List ℕ)
   pub code : number_behind 12 bytes ≡ 2013
   pub checksum : has_checksum (number_behind 16 bytes) ≡ false
   pub known_flags : has_unknown_flag (number_behind 16 bytes) ≡ false
-  pub kind : get_or bytes 20 0 ≡ 0
-  pub framed : is_framed message.body ≡ true
-  pub message_is : message_in (number_behind 0 bytes) bytes ≡ message
+  pub sections_are : sections_in (drop 20 (take (number_behind 0 bytes) bytes)) ≡ Some message.sections
+  pub message_is : message_of (number_behind 4 bytes) (number_behind 16 bytes) message.sections ≡ message
   pub following_is : drop (number_behind 0 bytes) bytes ≡ following
 
 pub front_shows : (bytes : List ℕ) (message : Message) (following : List ℕ) → front bytes ≡ whole message following → IsFront bytes message following
 unfolding front
 front_shows bytes message following e =
     let n = number_behind 0 bytes in
-    let p = passed (ltb (length bytes) 4) (ltb n 26 || ltb 48000000 n) (ltb (length bytes) 16) (not (eqb (number_behind 12 bytes) 2013)) (ltb (length bytes) 20)
-    (has_checksum (number_behind 16 bytes)) (has_unknown_flag (number_behind 16 bytes)) (ltb (length bytes) n) (eqb (get_or bytes 20 0) 0 && is_framed (message_in n bytes).body)
-    (message_in n bytes) message (drop n bytes) following e in
+    let p = whole-fails (ltb (length bytes) 4) (ltb n 26 || ltb 48000000 n) (ltb (length bytes) 16) (not (eqb (number_behind 12 bytes) 2013)) (ltb (length bytes) 20)
+    (has_checksum (number_behind 16 bytes)) (has_unknown_flag (number_behind 16 bytes)) (ltb (length bytes) n) _ message following e in
     let limits = or_parts _ _ p.0.limits in
-    let section = and_parts _ _ p.0.section in
+    let by = front_by-whole (number_behind 4 bytes) (number_behind 16 bytes) (sections_in (drop 20 (take n bytes))) (drop n bytes) following message p.1 in
     record {
       all = ltb-false _ _ p.0.all;
       least = ltb-false _ _ limits.0;
@@ -65,8 +70,7 @@ front_shows bytes message following e =
       code = eqb-true _ _ (not-false _ p.0.code);
       checksum = p.0.checksum;
       known_flags = p.0.flags;
-      kind = eqb-true _ _ section.0;
-      framed = rw (← p.1) section.1;
-      message_is = p.1;
-      following_is = p.2;
+      sections_are = by.0;
+      message_is = by.1;
+      following_is = by.2;
     }

@@ -1,11 +1,11 @@
 -- What the front of a stream shows stays where more bytes come.
-use Rattle.std.proofs.Common.{◌≡◌, ℕ, zero, suc, ◌+◌, ◌≤◌, ◌<◌, ◌⊎◌, Bool, true, false, ◌||◌, ◌&&◌, not, cond, ltb, eqb, List, ◌++◌, length, get_or, take, drop, refl, sym, ap, subst, ◌∙◌, arith, inl, inr}
+use Rattle.std.proofs.Common.{◌≡◌, ℕ, zero, suc, ◌+◌, ◌≤◌, ◌<◌, ◌⊎◌, Bool, true, false, ◌||◌, not, cond, ltb, eqb, List, ◌++◌, length, take, drop, Option, Some, None, refl, sym, ap, subst, ◌∙◌, arith, inl, inr}
 use Rattle.std.specs.Int.{w32, from_le_bytes}
-use Rattle.std.proofs.lemmas.Bool.{cases_Bool, ltb-false, le-ltb, or_parts}
-use Rattle.std.proofs.lemmas.List.{length-append, length-drop, drop-append-le, take-append-le, get_or_append_left}
+use Rattle.std.proofs.lemmas.Bool.{cases_Bool, ltb-false, le-ltb}
+use Rattle.std.proofs.lemmas.List.{length-append, length-drop, drop-append-le, take-append-le}
 use Rattle.dv_wire.specs.declared.fault.CloseFault.{CloseFault}
-use Rattle.dv_wire.specs.declared.fault.CloseFault.TheVariants.{BadLength, BadOpCode, BadFlag, Checksum, BadSection}
-use Rattle.dv_wire.specs.Message.{Message, Front, unfinished, closing, whole, number_behind, message_in, front, has_checksum, has_more_to_come, has_unknown_flag, is_framed, Ending, rest, closed, Split, behind, split, continued}
+use Rattle.dv_wire.specs.declared.fault.CloseFault.TheVariants.{BadLength, BadOpCode, BadFlag, Checksum}
+use Rattle.dv_wire.specs.Message.{Section, sections_in, Message, Front, unfinished, closing, whole, number_behind, front_by, front, has_checksum, has_unknown_flag, Conversation, reading, closed, Split, split_behind, split, continuation}
 use Rattle.dv_wire.proofs.Streams.{following_shorter, split_unfinished, split_closing, split_whole}
 
 abbrev longer : Front → List ℕ → Front
@@ -29,23 +29,20 @@ tests : (before_test now_test : Bool) (fault : CloseFault) (before now : Front) 
 tests true now_test fault before now more e stays = rw e (inr refl)
 tests false now_test fault before now more e stays = rw e (stays refl)
 
-last : (before_test now_test : Bool) (fault : CloseFault) (m message : Message) (r following more : List ℕ) → now_test ≡ before_test → m ≡ message → r ≡ following ++ more
-    → Stays (cond before_test (whole message following) (closing fault)) (cond now_test (whole m r) (closing fault)) more
-last true now_test fault m message r following more e same behind_is = inr (rw (e, same, behind_is) refl)
-last false now_test fault m message r following more e same behind_is = inr (rw e refl)
+-- the sections show the same
+sections_stay : (id id' flags flags' : ℕ) (read read' : Option (List Section)) (r r' more : List ℕ) → id' ≡ id → flags' ≡ flags → read' ≡ read → r' ≡ r ++ more
+    → Stays (front_by id flags read r) (front_by id' flags' read' r') more
+sections_stay id id' flags flags' None read' r r' more same_id same_flags same_read same_rest = inr (rw same_read refl)
+sections_stay id id' flags flags' (Some sections) read' r r' more same_id same_flags same_read same_rest = inr (rw (same_id, same_flags, same_read, same_rest) refl)
 
 pub number_same : (n : ℕ) (a b : List ℕ) → n + 4 ≤ length a → number_behind n (a ++ b) ≡ number_behind n a
 number_same n a b le =
     ap (from_le_bytes w32) (ap (take 4) (drop-append-le n a b (omega arith)) ∙ take-append-le 4 (drop n a) b (omega (arith, length-drop n a)))
 
-abbrev pub made : ℕ → ℕ → List ℕ → Message
-made id flags body = record { request_id = id; more_to_come = has_more_to_come flags; body = body }
-
-pub message_same : (n m : ℕ) (a b : List ℕ) → n ≡ m → m ≤ length a → 20 ≤ length a → message_in n (a ++ b) ≡ message_in m a
-message_same n m a b e le twenty =
-    ap (λ (id : ℕ). made id (number_behind 16 (a ++ b)) (drop 21 (take n (a ++ b)))) (number_same 4 a b (omega arith))
-    ∙ ap (λ (flags : ℕ). made (number_behind 4 a) flags (drop 21 (take n (a ++ b)))) (number_same 16 a b (omega arith))
-    ∙ ap (λ (text : List ℕ). made (number_behind 4 a) (number_behind 16 a) (drop 21 text)) (ap (λ (k : ℕ). take k (a ++ b)) e ∙ take-append-le m a b le)
+-- what is shown behind the flags
+abbrev shown_by : ℕ → List ℕ → Front
+shown_by n bytes =
+    cond (ltb (length bytes) n) unfinished (front_by (number_behind 4 bytes) (number_behind 16 bytes) (sections_in (drop 20 (take n bytes))) (drop n bytes))
 
 pub front_stays : (a b : List ℕ) → Stays (front a) (front (a ++ b)) b
 unfolding front
@@ -57,14 +54,10 @@ front_stays a b =
     needs 20 a b _ _ (λ twenty. let flags_same = number_same 16 a b twenty in
     tests _ _ Checksum _ _ b (ap has_checksum flags_same) (λ checksum.
     tests _ _ BadFlag _ _ b (ap has_unknown_flag flags_same) (λ known.
-    subst (λ (n : ℕ). Stays (cond (ltb (length a) (number_behind 0 a)) unfinished (cond (eqb (get_or a 20 0) 0 && is_framed (message_in (number_behind 0 a) a).body) (whole (message_in (number_behind 0 a) a) (drop (number_behind 0 a) a)) (closing BadSection)))
-    (cond (ltb (length (a ++ b)) n) unfinished (cond (eqb (get_or (a ++ b) 20 0) 0 && is_framed (message_in n (a ++ b)).body) (whole (message_in n (a ++ b)) (drop n (a ++ b))) (closing BadSection))) b) (sym n_same)
+    subst (λ (n : ℕ). Stays (shown_by (number_behind 0 a) a) (shown_by n (a ++ b)) b) (sym n_same)
     (needs (number_behind 0 a) a b _ _ (λ all.
-    let least : 26 ≤ number_behind 0 a = ltb-false _ _ (or_parts _ _ limits).0 in
-    let m_same = message_same (number_behind 0 a) (number_behind 0 a) a b refl all twenty in
-    last _ _ BadSection _ _ _ _ b
-    (ap (λ (kind : ℕ). eqb kind 0 && is_framed (message_in (number_behind 0 a) (a ++ b)).body) (get_or_append_left a b 0 20 (omega arith)) ∙ ap (λ (m : Message). eqb (get_or a 20 0) 0 && is_framed m.body) m_same)
-    m_same (drop-append-le (number_behind 0 a) a b all))))))))))
+    sections_stay _ _ _ _ _ _ _ _ b (number_same 4 a b (omega arith)) flags_same
+    (ap (λ (x : List ℕ). sections_in (drop 20 x)) (take-append-le (number_behind 0 a) a b all)) (drop-append-le (number_behind 0 a) a b all))))))))))
 
 -- ---- splitting goes on
 
@@ -72,11 +65,11 @@ shown : (f : Front) (now : Front) (more : List ℕ) → Stays f now more → (f 
 shown f now more (inl e) another = absurd (another e)
 shown f now more (inr e) another = e
 
-continued-behind : (message : Message) (s : Split) (e : Ending) (more : List ℕ) → s.ending ≡ e → continued (behind message s) more ≡ behind message (continued s more)
-continued-behind message s (rest bytes) more e = rw e refl
-continued-behind message s (closed fault) more e = rw e refl
+continuation-behind : (message : Message) (s : Split) (c : Conversation) (more : List ℕ) → s.conversation ≡ c → continuation (split_behind message s) more ≡ split_behind message (continuation s more)
+continuation-behind message s (reading bytes) more e = rw e refl
+continuation-behind message s (closed fault) more e = rw e refl
 
-goes : (steps : ℕ) (a b : List ℕ) → length a < steps → (f : Front) → front a ≡ f → split (a ++ b) ≡ continued (split a) b
+goes : (steps : ℕ) (a b : List ℕ) → length a < steps → (f : Front) → front a ≡ f → split (a ++ b) ≡ continuation (split a) b
 goes zero a b lt f e = absurd (omega arith)
 goes (suc steps) a b lt unfinished e = rw (split_unfinished a e) refl
 goes (suc steps) a b lt (closing fault) e =
@@ -85,8 +78,8 @@ goes (suc steps) a b lt (closing fault) e =
 goes (suc steps) a b lt (whole message following) e =
     let now : front (a ++ b) ≡ whole message (following ++ b) = shown (whole message following) (front (a ++ b)) b (subst (λ (f : Front). Stays f (front (a ++ b)) b) e (front_stays a b)) (λ same. cc) in
     let shorter = following_shorter a message following e in
-    split_whole (a ++ b) message (following ++ b) now ∙ ap (behind message) (goes steps following b (omega arith) (front following) refl)
-    ∙ sym (ap (λ (s : Split). continued s b) (split_whole a message following e) ∙ continued-behind message (split following) (split following).ending b refl)
+    split_whole (a ++ b) message (following ++ b) now ∙ ap (split_behind message) (goes steps following b (omega arith) (front following) refl)
+    ∙ sym (ap (λ (s : Split). continuation s b) (split_whole a message following e) ∙ continuation-behind message (split following) (split following).conversation b refl)
 
-pub split_continues : (a b : List ℕ) → split (a ++ b) ≡ continued (split a) b
+pub split_continues : (a b : List ℕ) → split (a ++ b) ≡ continuation (split a) b
 split_continues a b = goes (suc (length a)) a b (omega arith) (front a) refl

@@ -1,7 +1,11 @@
 mod Sessions
-mod Replies
+mod Sections
 mod Fronts
+mod Runs
+mod Replies
 mod Streams
 mod Growth
 mod Spelled
+mod Worlds
 mod Cuts
+mod Worked

@@ -1,44 +1,51 @@
 -- The bytes of a reply, and what carrying out one message answers.
-use Rattle.std.proofs.Common.{◌≡◌, ℕ, ◌+◌, ◌-◌, ◌⊎◌, true, false, List, [], ◌∷◌, ◌++◌, length, take, drop, Some, Result, Ok, Err, refl, sym, ap, ◌∙◌, append_assoc, arith, inl, inr}
+use Rattle.std.proofs.Common.{true, ◌≡◌, ℕ, ◌+◌, ◌-◌, ◌⊎◌, List, [], ◌∷◌, ◌++◌, length, take, drop, Some, Result, Ok, Err, refl, sym, ap, ◌∙◌, append_assoc, arith, inl, inr}
 use Rattle.std.specs.Prelude.{OnOk, OnErr}
 use Rattle.std.specs.Int.{w32, to_le_bytes}
 use Rattle.std.proofs.lemmas.List.{append-nil, take_at, drop_at, drop-drop, length-append}
 use Rattle.dv_bson.specs.declared.fault.BsonFault.{BsonFault}
 use Rattle.dv_bson.specs.declared.fault.BsonFault.TheVariants as bson
 use Rattle.dv_bson.specs.Tree.{Field}
-use Rattle.dv_bson.specs.Spelling.{spelling}
 use Rattle.dv_bson.specs.Reading.{document_at, first_fault, fault_of}
 use Rattle.dv_command.specs.declared.command.Command.{Command}
 use Rattle.dv_command.specs.declared.command.Command.TheVariants.{Invalid}
-use Rattle.dv_core.specs.declared.store.Outcome.{Outcome}
-use Rattle.dv_core.specs.declared.store.Outcome.TheVariants.{Reply}
+use Rattle.dv_command.specs.declared.refusal.Refusal.TheVariants.{WantOfMemory}
+use Rattle.dv_core.specs.declared.outcome.Outcome.{Outcome}
+use Rattle.dv_core.specs.declared.outcome.Outcome.TheVariants.{Reply, Wanting, NoReply}
 use Rattle.dv_core.specs.State.{State}
-use Rattle.dv_wire.specs.Message.{Message, message_spelling}
-use Rattle.dv_command.specs.Replies.{wants_memory}
-use Rattle.dv_core.specs.Step.{MemoryStep}
-use Rattle.dv_wire.specs.Schedule.{Appends, CarriesOut, command_read, command_of}
-use Rattle.dv_wire.specs.View.{Carries, unmeasured}
+use Rattle.dv_wire.specs.declared.fault.CloseFault.TheVariants.{NoMemory}
+use Rattle.dv_wire.specs.Message.{Message, message_spelling, Conversation, reading, closed}
+use Rattle.dv_core.specs.Step.{Answer, step, answered, MemoryStep, TellsOfWant}
+use Rattle.dv_wire.specs.Schedule.{Appends, Run, in_front, silence, bytes_to, CarriesOut, plain_messages, command_read, command_of}
+use Rattle.dv_wire.specs.View.{GoesOn, Carries, unmeasured}
+use Rattle.dv_wire.proofs.Runs.{follows_shut, follows_on, follows_cases, in_front-silence}
 
 -- ---- bytes
 
+-- the rest stands behind the header
+pub behind_header : (old header body : List ℕ) (response_to : ℕ) → header ≡ unmeasured response_to (0 ∷ []) → (old ++ header) ++ body ≡ old ++ unmeasured response_to (0 ∷ body)
+behind_header old header body response_to is_header = ap (λ (h : List ℕ). (old ++ h) ++ body) is_header ∙ append_assoc old (unmeasured response_to (0 ∷ [])) body
+
+pub unmeasured-length : (old all body : List ℕ) (response_to : ℕ) → all ≡ old ++ unmeasured response_to (0 ∷ body) → length all ≡ length old + (length body + 21)
+unmeasured-length old all body response_to is_all = omega (arith, ap length is_all, length-append old (unmeasured response_to (0 ∷ body)))
+
 -- the length is put in behind what was there
-pub measured : (old body : List ℕ) (response_to : ℕ) →
-    let all = (old ++ unmeasured response_to (0 ∷ [])) ++ body in
+measure : (old body : List ℕ) (response_to : ℕ) →
+    let all = old ++ unmeasured response_to (0 ∷ body) in
     take (length old) all ++ (to_le_bytes w32 (length all - length old) ++ drop (length old + 4) all) ≡ old ++ message_spelling 0 response_to 0 (0 ∷ body)
 unfolding message_spelling
-measured old body response_to =
+measure old body response_to =
     let whole : List ℕ = unmeasured response_to (0 ∷ body) in
-    let regrouped : (old ++ unmeasured response_to (0 ∷ [])) ++ body ≡ old ++ whole = append_assoc old (unmeasured response_to (0 ∷ [])) body in
     let long : length (old ++ whole) - length old ≡ length (0 ∷ body) + 20 = omega (arith, length-append old whole) in
     let behind : drop (length old + 4) (old ++ whole) ≡ drop 4 whole = sym (drop-drop 4 (length old) (old ++ whole)) ∙ ap (drop 4) (drop_at old whole (length old) refl) in
-    rw (regrouped, take_at old whole (length old) refl, long, behind) refl
+    rw (take_at old whole (length old) refl, long, behind) refl
 
 -- the same, as a vector's length and its items say it
-pub put_in : (old header body all put : List ℕ) (response_to start len : ℕ) → header ≡ unmeasured response_to (0 ∷ []) → all ≡ (old ++ header) ++ body → start ≡ length old → len ≡ length all
+pub put_in : (old body all put : List ℕ) (response_to start len : ℕ) → all ≡ old ++ unmeasured response_to (0 ∷ body) → start ≡ length old → len ≡ length all
     → put ≡ take start all ++ (to_le_bytes w32 (length all - start) ++ drop (start + 4) all) → length put ≡ length all
     → take len (put ++ drop (length put) all) ≡ old ++ message_spelling 0 response_to 0 (0 ∷ body)
-put_in old header body all put response_to start len is_header is_all is_start is_len is_put same =
-    let whole : put ≡ old ++ message_spelling 0 response_to 0 (0 ∷ body) = is_put ∙ rw (is_start, is_all, is_header) (measured old body response_to) in
+put_in old body all put response_to start len is_all is_start is_len is_put same =
+    let whole : put ≡ old ++ message_spelling 0 response_to 0 (0 ∷ body) = is_put ∙ rw (is_start, is_all) (measure old body response_to) in
     take_at put (drop (length put) all) len (same ∙ sym is_len) ∙ whole
 
 -- ---- the command that a body brings
@@ -53,31 +60,69 @@ unfolding first_fault
 invalid bytes fault (inl e) = inr (ap Invalid e)
 invalid bytes fault (inr e) = inl (read_is (document_at bytes) fault e)
 
--- a step that is refused because memory was wanting to read its command
-unread : (session : ℕ) (old new : State) (command : Command) (outcome : Outcome) → MemoryStep old session (Invalid bson.NoMemory) outcome new → MemoryStep old session command outcome new
-unread session old new command outcome (inl told) = inr (inl told)
-unread session old new command outcome (inr (inl told)) = inr (inl told)
-unread session old new command outcome (inr (inr cut)) = absurd cut.1
+-- where memory was wanting to read a command, that is told of it which may be told of any command
+unread : (session : ℕ) (old new : State) (command : Command) (outcome : Outcome) → MemoryStep old session (Invalid bson.NoMemory) outcome new → TellsOfWant outcome → MemoryStep old session command outcome new
+unread session old new command (Reply reply) steps told = absurd told
+unread session old new command (Wanting reply) (inl refused) told = inl refused
+unread session old new command (Wanting reply) (inr cut) told = absurd cut
+unread session old new command NoReply (inl same) told = inr (answered old (Err WantOfMemory), inl refl, same)
+unread session old new command NoReply (inr (answer, inl refused, same)) told = inr (answer, inl refused, same)
+unread session old new command NoReply (inr (answer, inr cut, same)) told = absurd cut
 
 pub steps_as : (session : ℕ) (old new : State) (meant read : Command) (outcome : Outcome) → (meant ≡ read) ⊎ (read ≡ Invalid bson.NoMemory)
-    → MemoryStep old session read outcome new → MemoryStep old session meant outcome new
-steps_as session old new meant read outcome (inl e) steps = rw e steps
-steps_as session old new meant read outcome (inr e) steps = unread session old new meant outcome (rw e at steps)
+    → MemoryStep old session read outcome new → (read ≡ Invalid bson.NoMemory → TellsOfWant outcome) → MemoryStep old session meant outcome new
+steps_as session old new meant read outcome (inl e) steps told = rw e steps
+steps_as session old new meant read outcome (inr e) steps told = unread session old new meant outcome (rw e at steps) (told e)
 
 -- ---- one message
 
-module _ (session : ℕ) (old new : State) (message : Message) (reply : List Field) (steps : MemoryStep old session (command_of message) (Reply reply) new) where
-  -- moreToCome is carried out and not answered
-  pub silent : message.more_to_come ≡ true → wants_memory reply ≡ false → CarriesOut session old (message ∷ []) [] new true
-  silent more told = (new, Reply reply, steps, inl ([], rw more refl, (refl, refl, refl), rw (more, told) refl))
+module _ (session : ℕ) (old new : State) (message : Message) (outcome : Outcome) (steps : MemoryStep old session (command_of message) outcome new) where
+  -- its answer, and the session goes on
+  pub told : (bytes : List ℕ) → bytes_to message outcome ≡ Some bytes → GoesOn session old (message ∷ []) bytes new
+  told bytes is = (
+    outcome,
+    new,
+    steps,
+    follows_on (bytes_to message outcome) new (CarriesOut session new [] (reading [])) bytes (silence new (reading [])) (record { bytes = bytes; state = new; conversation = reading [] }) is refl
+        (sym (in_front-silence (record { bytes = bytes; state = new; conversation = reading [] }))),
+  )
 
-  -- in place of a reply the session is closed
-  pub shuts : CarriesOut session old (message ∷ []) [] new false
-  shuts = (new, Reply reply, steps, inr (refl, refl, refl))
+  -- in place of its answer the session is closed
+  pub closes : CarriesOut session old (message ∷ []) (reading []) (silence new (closed NoMemory))
+  closes = (outcome, new, steps, follows_shut (bytes_to message outcome) new (CarriesOut session new [] (reading [])) (silence new (closed NoMemory)) refl)
 
-  pub answers : {A E : Type 0} (sent : Result A E) (before after : List ℕ) → message.more_to_come ≡ false
-      → OnOk sent (after ≡ before ++ message_spelling 0 message.request_id 0 (0 ∷ spelling reply)) → OnErr sent (after ≡ before)
+  pub answers : {A E : Type 0} (sent : Result A E) (bytes before after : List ℕ) → bytes_to message outcome ≡ Some bytes → OnOk sent (after ≡ before ++ bytes) → OnErr sent (after ≡ before)
       → Appends before after (λ bytes. Carries session old message bytes new sent)
-  answers (Ok x) before after more ok err =
-      (message_spelling 0 message.request_id 0 (0 ∷ spelling reply), ok, (new, Reply reply, steps, inl ([], rw more (sym (append-nil _)), (refl, refl, refl), rw more refl)))
-  answers (Err e) before after more ok err = ([], err ∙ sym (append-nil before), inl shuts)
+  answers (Ok x) bytes before after is ok err = (bytes, ok, told bytes is)
+  answers (Err e) bytes before after is ok err = ([], err ∙ sym (append-nil before), closes)
+
+-- ---- the plain run
+
+-- it is one of those that are allowed
+pub plain_carries : (session : ℕ) (old : State) (messages : List Message) (conversation : Conversation) → CarriesOut session old messages conversation (plain_messages session old messages conversation)
+unfolding plain_messages
+plain_carries session old [] conversation = refl
+plain_carries session old (message ∷ messages) conversation =
+    let answer = step old session (command_of message) in
+    (Reply answer.reply, answer.state, refl, inl (plain_messages session answer.state messages conversation, plain_carries session answer.state messages conversation, refl))
+
+-- ---- a message with moreToCome
+
+goes_on_done : (session : ℕ) (old mid : State) (message : Message) (outcome : Outcome) (conversation : Conversation) (run : Run) (bytes : List ℕ) → message.more_to_come ≡ true
+    → MemoryStep old session (command_of message) outcome mid → bytes_to message outcome ≡ Some bytes → run ≡ in_front bytes (silence mid conversation)
+    → run ≡ silence (step old session (command_of message)).state conversation
+goes_on_done session old mid message (Reply reply) conversation run bytes more steps is e =
+    let nothing : [] ≡ bytes = (let sent : Some [] ≡ Some bytes = rw more at is in cc) in
+    let same : (step old session (command_of message)).state ≡ mid = ap (λ (a : Answer). a.state) steps in
+    e ∙ ap (λ (b : List ℕ). in_front b (silence mid conversation)) (sym nothing) ∙ ap (λ (s : State). silence s conversation) (sym same)
+goes_on_done session old mid message (Wanting reply) conversation run bytes more steps is e = let sent = rw more at is in absurd cc
+goes_on_done session old mid message NoReply conversation run bytes more steps is e = absurd cc
+
+-- where the session goes on, its step was carried out
+pub silent_done : (session : ℕ) (old : State) (message : Message) (kept : List ℕ) (run : Run) → message.more_to_come ≡ true → CarriesOut session old (message ∷ []) (reading kept) run
+    → run.conversation ≡ reading kept → run ≡ silence (step old session (command_of message)).state (reading kept)
+silent_done session old message kept run more (outcome, mid, steps, follows) on =
+    elim (follows_cases (bytes_to message outcome) mid (CarriesOut session mid [] (reading kept)) run follows) [
+      | inl shut ↦ let e = sym on ∙ ap (λ (r : Run). r.conversation) shut in absurd cc
+      | inr a ↦ goes_on_done session old mid message outcome (reading kept) run a.bytes more steps a.is (a.both ∙ ap (in_front a.bytes) a.behind)
+    ]

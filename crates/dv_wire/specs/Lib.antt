@@ -2,6 +2,7 @@
 pub mod Message
 pub mod Schedule
 pub mod Fault
+pub mod Examples
 -- words that only bodies need
 pub mod View
 pub mod WorldCode

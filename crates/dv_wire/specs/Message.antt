@@ -1,19 +1,107 @@
 -- Messages on the wire: OP_MSG with the standard message header (MongoDB manual, "MongoDB Wire Protocol").
-use Rattle.std.specs.Prelude.{◌≡◌, ℕ, zero, suc, ◌+◌, ◌/◌, ◌%◌, ◌^◌, ◌≤◌, ◌<◌, Bool, true, false, ◌||◌, ◌&&◌, not, List, [], ◌∷◌, ◌++◌, length, take, drop, slice_index, nat_lt, ◌==◌, if◌then◌else◌}
+use Rattle.std.specs.Prelude.{◌≡◌, ℕ, zero, suc, ◌+◌, ◌/◌, ◌%◌, ◌^◌, ◌≤◌, ◌<◌, Bool, true, false, ◌||◌, ◌&&◌, not, List, [], ◌∷◌, ◌++◌, length, take, drop, Option, Some, None, nat_lt, nat_le, ◌==◌, if◌then◌else◌}
 use Rattle.std.specs.Int.{w32, from_le_bytes, to_le_bytes}
+use Rattle.std.specs.List.{list_all}
 use Rattle.dv_wire.specs.declared.fault.CloseFault.{CloseFault}
 use Rattle.dv_wire.specs.declared.fault.CloseFault.TheVariants.{BadLength, BadOpCode, BadFlag, Checksum, BadSection}
 
--- what a message asks: its requestID, as the unsigned number of its four bytes; whether no reply is to be sent; the bytes of its body
+-- the operation code of OP_MSG
+abbrev pub op_msg : ℕ
+op_msg = 2013
+
+-- how many bytes a message has at least: those of the header, the flags, a kind byte and the smallest document
+abbrev pub shortest_message : ℕ
+shortest_message = 26
+
+-- and at most
+abbrev pub longest_message : ℕ
+longest_message = 48000000
+
+-- the number in the four bytes behind the first n
+abbrev pub number_behind : ℕ → List ℕ → ℕ
+number_behind n bytes = from_le_bytes w32 (take 4 (drop n bytes))
+
+-- ---- sections
+
+-- a section, by its kind: 0, the bytes of the document that is the message's body
+pub data Section : Type 0 where
+  body : List ℕ → Section
+
+-- its kind, and what stands behind it
+abbrev pub section_spelling : Section → List ℕ
+section_spelling (body document) = 0 ∷ document
+
+abbrev pub sections_spelling : List Section → List ℕ
+sections_spelling [] = []
+sections_spelling (section ∷ sections) = section_spelling section ++ sections_spelling sections
+
+-- a document is framed where its length, at least 5, is that of the bytes
+abbrev pub is_framed : List ℕ → Bool
+is_framed bytes = nat_lt 4 (length bytes) && number_behind 0 bytes == length bytes
+
+abbrev pub is_section : Section → Bool
+is_section (body document) = is_framed document
+
+abbrev pub body_count : List Section → ℕ
+body_count [] = 0
+body_count (body document ∷ sections) = suc (body_count sections)
+
+-- the sections of a message: exactly one is a body
+abbrev pub are_sections : List Section → Bool
+are_sections sections = list_all is_section sections && body_count sections == 1
+
+-- the document in the body
+abbrev pub body_among : List Section → List ℕ
+body_among [] = []
+body_among (body document ∷ sections) = document
+
+-- ---- the sections that bytes are
+
+-- a body, as its document's length frames it, and what follows it
+abbrev pub body_at : List ℕ → Option (Section × List ℕ)
+body_at bytes =
+    if nat_lt 4 (number_behind 0 bytes) && nat_le (number_behind 0 bytes) (length bytes)
+    then Some (body (take (number_behind 0 bytes) bytes), drop (number_behind 0 bytes) bytes)
+    else None
+
+-- the section behind the byte of its kind, and what follows it
+abbrev pub section_at : ℕ → List ℕ → Option (Section × List ℕ)
+section_at kind bytes = if kind == 0 then body_at bytes else None
+
+abbrev pub onto_sections : Section → Option (List Section) → Option (List Section)
+onto_sections section None = None
+onto_sections section (Some sections) = Some (section ∷ sections)
+
+abbrev pub sections_from : Option (Section × List ℕ) → (List ℕ → Option (List Section)) → Option (List Section)
+sections_from None others = None
+sections_from (Some found) others = onto_sections found.0 (others found.1)
+
+-- A section takes up a byte at least, so as many steps as there are bytes are enough.
+unfoldable pub sections_within : ℕ → List ℕ → Option (List Section)
+sections_within steps [] = Some []
+sections_within zero (kind ∷ bytes) = None
+sections_within (suc steps) (kind ∷ bytes) = sections_from (section_at kind bytes) (sections_within steps)
+
+abbrev pub with_one_body : Option (List Section) → Option (List Section)
+with_one_body None = None
+with_one_body (Some sections) = if body_count sections == 1 then Some sections else None
+
+-- the sections, one behind the other, that the bytes are, where exactly one is a body
+unfoldable pub sections_in : List ℕ → Option (List Section)
+sections_in bytes = with_one_body (sections_within (length bytes) bytes)
+
+-- ---- messages
+
+-- what a message asks: its requestID, as the unsigned number of its four bytes; whether no reply is to be sent; its sections
 pub record Message : Type 0 where
   pub request_id : ℕ
   pub more_to_come : Bool
-  pub body : List ℕ
+  pub sections : List Section
 
 -- header: messageLength, requestID, responseTo, opCode; then flagBits and the sections
 unfoldable pub message_spelling : ℕ → ℕ → ℕ → List ℕ → List ℕ
 message_spelling request_id response_to flags sections =
-    to_le_bytes w32 (length sections + 20) ++ (to_le_bytes w32 request_id ++ (to_le_bytes w32 response_to ++ (to_le_bytes w32 2013 ++ (to_le_bytes w32 flags ++ sections))))
+    to_le_bytes w32 (length sections + 20) ++ (to_le_bytes w32 request_id ++ (to_le_bytes w32 response_to ++ (to_le_bytes w32 op_msg ++ (to_le_bytes w32 flags ++ sections))))
 
 -- bit 0, checksumPresent; bit 1, moreToCome; bits 2 to 15, which nobody knows. Bits from 16 on may be set
 abbrev pub has_checksum : ℕ → Bool
@@ -25,11 +113,7 @@ has_more_to_come flags = flags / 2 % 2 == 1
 abbrev pub has_unknown_flag : ℕ → Bool
 has_unknown_flag flags = not (flags / 4 % 2 ^ 14 == 0)
 
--- a document is framed where its length, at least 5, is that of the bytes
-abbrev pub is_framed : List ℕ → Bool
-is_framed bytes = nat_lt 4 (length bytes) && from_le_bytes w32 (take 4 bytes) == length bytes
-
--- the bytes spell the message: one section, of kind 0, with the body; whatever responseTo says
+-- the bytes spell the message, whatever responseTo says
 pub record IsMessage (message : Message) (bytes : List ℕ) : Type 0 where
   pub response_to : ℕ
   pub flags : ℕ
@@ -37,9 +121,9 @@ pub record IsMessage (message : Message) (bytes : List ℕ) : Type 0 where
   pub no_checksum : has_checksum flags ≡ false
   pub known_flags : has_unknown_flag flags ≡ false
   pub more : message.more_to_come ≡ has_more_to_come flags
-  pub body : is_framed message.body ≡ true
-  pub whole : bytes ≡ message_spelling message.request_id response_to flags (0 ∷ message.body)
-  pub limits : length bytes ≤ 48000000
+  pub sections : are_sections message.sections ≡ true
+  pub whole : bytes ≡ message_spelling message.request_id response_to flags (sections_spelling message.sections)
+  pub limits : length bytes ≤ longest_message
 
 -- what stands at the front of a stream: less than a message, a fault that the bytes show already, or a message and what follows
 pub data Front : Type 0 where
@@ -47,49 +131,50 @@ pub data Front : Type 0 where
   closing : CloseFault → Front
   whole : Message → List ℕ → Front
 
--- the number in the four bytes behind the first n
-abbrev pub number_behind : ℕ → List ℕ → ℕ
-number_behind n bytes = from_le_bytes w32 (take 4 (drop n bytes))
+abbrev pub message_of : ℕ → ℕ → List Section → Message
+message_of request_id flags sections = record { request_id = request_id; more_to_come = has_more_to_come flags; sections = sections }
 
-abbrev pub message_in : ℕ → List ℕ → Message
-message_in n bytes =
-    record { request_id = number_behind 4 bytes; more_to_come = has_more_to_come (number_behind 16 bytes); body = drop 21 (take n bytes) }
+-- what the sections of a message show, if they are such
+abbrev pub front_by : ℕ → ℕ → Option (List Section) → List ℕ → Front
+front_by request_id flags None following = closing BadSection
+front_by request_id flags (Some sections) following = whole (message_of request_id flags sections) following
 
 -- A message's length is shown by its fourth byte, its code by the sixteenth, its flags by the twentieth, its sections by its last.
 unfoldable pub front : List ℕ → Front
 front bytes =
     if nat_lt (length bytes) 4 then unfinished
-    else if nat_lt (number_behind 0 bytes) 26 || nat_lt 48000000 (number_behind 0 bytes) then closing BadLength
+    else if nat_lt (number_behind 0 bytes) shortest_message || nat_lt longest_message (number_behind 0 bytes) then closing BadLength
     else if nat_lt (length bytes) 16 then unfinished
-    else if not (number_behind 12 bytes == 2013) then closing BadOpCode
+    else if not (number_behind 12 bytes == op_msg) then closing BadOpCode
     else if nat_lt (length bytes) 20 then unfinished
     else if has_checksum (number_behind 16 bytes) then closing Checksum
     else if has_unknown_flag (number_behind 16 bytes) then closing BadFlag
     else if nat_lt (length bytes) (number_behind 0 bytes) then unfinished
-    else if slice_index bytes 20 == 0 && is_framed (message_in (number_behind 0 bytes) bytes).body
-    then whole (message_in (number_behind 0 bytes) bytes) (drop (number_behind 0 bytes) bytes)
-    else closing BadSection
+    else front_by (number_behind 4 bytes) (number_behind 16 bytes) (sections_in (drop 20 (take (number_behind 0 bytes) bytes))) (drop (number_behind 0 bytes) bytes)
 
--- how a stream goes on behind its whole messages: with less than a message, or with a fault
-pub data Ending : Type 0 where
-  rest : List ℕ → Ending
-  closed : CloseFault → Ending
+-- ---- streams
 
+-- how a session stands behind its messages: it is open, with the bytes of a message that isn't whole; or closed
+pub data Conversation : Type 0 where
+  reading : List ℕ → Conversation
+  closed : CloseFault → Conversation
+
+-- a stream's whole messages, and how its session stands behind them
 pub record Split : Type 0 where
   pub messages : List Message
-  pub ending : Ending
+  pub conversation : Conversation
 
-abbrev pub behind : Message → Split → Split
-behind message others = record { messages = message ∷ others.messages; ending = others.ending }
+abbrev pub split_behind : Message → Split → Split
+split_behind message others = record { messages = message ∷ others.messages; conversation = others.conversation }
 
 abbrev pub split_from : List ℕ → Front → (List ℕ → Split) → Split
-split_from bytes unfinished others = record { messages = []; ending = rest bytes }
-split_from bytes (closing fault) others = record { messages = []; ending = closed fault }
-split_from bytes (whole message following) others = behind message (others following)
+split_from bytes unfinished others = record { messages = []; conversation = reading bytes }
+split_from bytes (closing fault) others = record { messages = []; conversation = closed fault }
+split_from bytes (whole message following) others = split_behind message (others following)
 
 -- the whole messages that begin the bytes, at most so many, and how they go on
 unfoldable pub split_within : ℕ → List ℕ → Split
-split_within zero bytes = record { messages = []; ending = rest bytes }
+split_within zero bytes = record { messages = []; conversation = reading bytes }
 split_within (suc steps) bytes = split_from bytes (front bytes) (split_within steps)
 
 -- A message takes up a byte at least, so as many steps as there are bytes, and one to look at the rest, are enough.
@@ -97,9 +182,9 @@ unfoldable pub split : List ℕ → Split
 split bytes = split_within (suc (length bytes)) bytes
 
 -- how a stream that was split goes on where more bytes come: behind a fault nothing does
-abbrev pub continued_behind : List Message → Ending → List ℕ → Split
-continued_behind messages (rest bytes) more = record { messages = messages ++ (split (bytes ++ more)).messages; ending = (split (bytes ++ more)).ending }
-continued_behind messages (closed fault) more = record { messages = messages; ending = closed fault }
+abbrev pub continuation_behind : List Message → Conversation → List ℕ → Split
+continuation_behind messages (reading bytes) more = record { messages = messages ++ (split (bytes ++ more)).messages; conversation = (split (bytes ++ more)).conversation }
+continuation_behind messages (closed fault) more = record { messages = messages; conversation = closed fault }
 
-abbrev pub continued : Split → List ℕ → Split
-continued stream more = continued_behind stream.messages stream.ending more
+abbrev pub continuation : Split → List ℕ → Split
+continuation stream more = continuation_behind stream.messages stream.conversation more

@@ -4,20 +4,22 @@ use Rattle.std.proofs.Common.{inl, inr}
 use Rattle.std.specs.Coded.{Coded, code_by, coded×, coded⊎, coded_list, coded_ℕ}
 use Rattle.dv_wire.specs.declared.fault.CloseFault.{CloseFault}
 use Rattle.dv_wire.specs.contracts.fault.CloseFault as fault
-use Rattle.dv_core.specs.State.{State, coded_state}
-use Rattle.dv_wire.specs.Schedule.{Conversation, reading, shut, World}
+use Rattle.dv_core.specs.State.{State}
+use Rattle.dv_core.specs.StateCode.{coded_state}
+use Rattle.dv_wire.specs.Message.{Conversation, reading, closed}
+use Rattle.dv_wire.specs.Schedule.{World}
 
 abbrev either : Conversation → List ℕ ⊎ CloseFault
 either (reading bytes) = inl bytes
-either (shut fault) = inr fault
+either (closed fault) = inr fault
 
 abbrev conversation_from : List ℕ ⊎ CloseFault → Conversation
 conversation_from (inl bytes) = reading bytes
-conversation_from (inr fault) = shut fault
+conversation_from (inr fault) = closed fault
 
 abbrev same_conversation : (c : Conversation) → conversation_from (either c) ≡ c
 same_conversation (reading bytes) = refl
-same_conversation (shut fault) = refl
+same_conversation (closed fault) = refl
 
 abbrev coded_conversation : Coded Conversation
 coded_conversation = code_by (List ℕ ⊎ CloseFault) (coded⊎ (coded_list coded_ℕ) fault.the_row.coded) either conversation_from same_conversation

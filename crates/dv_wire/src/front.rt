@@ -1,6 +1,6 @@
 //! The front of a stream: an OP_MSG message with the standard message header (MongoDB manual, "MongoDB Wire Protocol").
 
-ghost use Rattle.std.specs.Prelude.{◌≡◌, ◌+◌, ◌≤◌, length};
+ghost use Rattle.std.specs.Prelude.{◌≡◌, ◌+◌, ◌≤◌, ◌∷◌, [], length, MatchOption};
 ghost use Rattle.dv_wire.specs.Message as wire;
 ghost use Rattle.dv_wire.specs.View.{front_seen};
 
@@ -71,17 +71,31 @@ pub(crate) fn front_of(bytes: &[u8]) -> Front<'_>
         return Front::Unfinished;
     }
     let (whole, rest) = bytes.split_at(length);
-    let (header, body) = whole.split_at(21);
-    if header[20] != 0 || !is_framed(body) {
-        return Front::Closing(CloseFault::BadSection);
-    }
-    Front::Whole {
-        message: Message {
-            request_id: number_behind(4, bytes),
-            more_to_come: has_more_to_come(flags),
-            body,
+    let (_, sections) = whole.split_at(20);
+    match body_in(sections) {
+        Some(body) => Front::Whole {
+            message: Message {
+                request_id: number_behind(4, bytes),
+                more_to_come: has_more_to_come(flags),
+                body,
+            },
+            rest,
         },
-        rest,
+        None => Front::Closing(CloseFault::BadSection),
+    }
+}
+
+/// The document in the body, where the bytes are the sections of a message: one section of kind 0.
+fn body_in(sections: &[u8]) -> Option<&[u8]>
+    ensures { MatchOption result (wire.sections_in sections.now ≡ None) (λ document. wire.sections_in sections.now ≡ Some (wire.body document.now ∷ [])) }
+{
+    let [kind, document @ ..] = sections else {
+        return None;
+    };
+    if *kind == 0 && is_framed(document) {
+        Some(document)
+    } else {
+        None
     }
 }
 

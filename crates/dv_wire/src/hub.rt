@@ -1,10 +1,10 @@
 //! The sessions, and the bytes that come from them.
 
-ghost use Rattle.std.specs.Prelude.{◌≡◌, ◌==◌};
+ghost use Rattle.std.specs.Prelude.{◌≡◌, ◌==◌, IfOk, suc};
 ghost use Rattle.std.specs.List.{position_from};
 
 use crate::fault::{CloseFault, HubFault};
-use crate::session::{Session, Stage};
+use crate::session::{Conversation, Session};
 use dv_core::Store;
 use std::alloc::Global;
 use std::marker::Model;
@@ -48,13 +48,13 @@ impl Model for Hub {
 
     ghost coded = { coded_world };
 
-    ghost use Rattle.dv_wire.specs.View.{session_of};
+    ghost use Rattle.dv_wire.specs.View.{session_seen};
 
-    ghost view = { λ h. record { state = h.store; next = h.next; sessions = map session_of h.sessions.items } };
+    ghost view = { λ h. record { state = h.store; next = h.next; sessions = map session_seen h.sessions.items } };
 }
 
 impl Hub {
-    ghost use Rattle.dv_wire.specs.Schedule.{world_of, conversation_of, Opens, Feeds, Appends, unfinished_in, ended};
+    ghost use Rattle.dv_wire.specs.Schedule.{world_of, conversation_of, Opens, Feeds, Appends, unfinished_in, end as end_of};
 
     /// A store without any session. Sessions and their bytes are allocated by `alloc`.
     pub fn new(alloc: Global, store: Store) -> Self
@@ -71,7 +71,9 @@ impl Hub {
     /// Opens a session, and answers its number. Refused with `TooManySessions` where one was opened and hasn't ended,
     /// be it closed, or no number is left, and with `NoMemory`; then nothing is changed.
     pub fn open(&mut self) -> Result<SessionId, HubFault>
-        ensures { Opens self.old result self.new }
+        ensures world { Opens self.old result self.new }
+        ensures state { self.new.state ≡ self.old.state }
+        ensures numbers { IfOk result (λ session. (session.number ≡ self.old.next) × (self.new.next ≡ suc self.old.next)) }
     {
         if self.sessions.len() >= SESSION_LIMIT {
             return Err(HubFault::TooManySessions);
@@ -79,7 +81,7 @@ impl Hub {
         let number = u32::try_from(self.next).map_err(|_| HubFault::TooManySessions)?;
         let session = Session {
             number,
-            stage: Stage::Reading(Vec::new(self.alloc)),
+            conversation: Conversation::Reading(Vec::new(self.alloc)),
         };
         self.sessions.push(session).map_err(|_| HubFault::NoMemory)?;
         self.next += 1;
@@ -104,13 +106,15 @@ impl Hub {
     /// never opened, or has ended, has none. Takes no memory.
     pub fn end(&mut self, session: SessionId) -> usize
         ensures unfinished { result ≡ unfinished_in (conversation_of session.number self.old.sessions) }
-        ensures ended { self.new ≡ ended session.number self.old }
+        ensures world { self.new ≡ end_of session.number self.old }
+        ensures state { self.new.state ≡ self.old.state }
+        ensures numbers { self.new.next ≡ self.old.next }
     {
         let Some(place) = place_of(&self.sessions, session.number) else {
             return 0;
         };
         let session = self.sessions.remove(place);
-        session.stage.unfinished()
+        session.conversation.unfinished_len()
     }
 }
 

@@ -1,14 +1,21 @@
 //! What holds of streams and of sessions, however their bytes come.
 
-ghost use Rattle.std.specs.Prelude.{◌≡◌, ◌↔◌, ℕ, List, ◌++◌};
+ghost use Rattle.std.specs.Prelude.{◌≡◌, ◌≢◌, ◌↔◌, ℕ, suc, true, List, [], ◌∷◌, ◌++◌, Some, None, Result, Ok, Err};
 ghost use Rattle.dv_bson.specs.Spelling.{IsBytes};
+ghost use Rattle.dv_core.specs.State.{State};
+ghost use Rattle.dv_core.specs.Step.{step};
+ghost use Rattle.dv_wire.specs.Examples as examples;
+ghost use Rattle.dv_wire.specs.declared.fault.CloseFault.{CloseFault};
+ghost use Rattle.dv_wire.specs.declared.fault.HubFault.{HubFault};
 ghost use Rattle.dv_wire.specs.declared.hub.Fed.{Fed};
+ghost use Rattle.dv_wire.specs.declared.hub.Fed.TheVariants as fed;
+ghost use Rattle.dv_wire.specs.declared.hub.SessionId.{SessionId};
 ghost use Rattle.dv_wire.specs.Message as wire;
-ghost use Rattle.dv_wire.specs.Schedule.{World, Feeds, FeedsAll, pieces_joined};
+ghost use Rattle.dv_wire.specs.Schedule.{Run, CarriesOut, command_of, silence, World, world_of, conversation_of, Opens, Feeds, FeedsAll, end, fed_of, plain_run, stream_of, world_behind, IsNumbered};
 
 /// A stream of which more comes splits as before, and then as its rest with what comes; behind a fault nothing does.
 pub fn splitting_goes_on()
-    ensures { (bytes more : List ℕ) → wire.split (bytes ++ more) ≡ wire.continued (wire.split bytes) more }
+    ensures { (bytes more : List ℕ) → wire.split (bytes ++ more) ≡ wire.continuation (wire.split bytes) more }
 {}
 
 /// A message is split off exactly where its spelling begins the stream.
@@ -21,5 +28,78 @@ pub fn messages_are_spelled()
 /// all their bytes as one piece may do, and nothing else.
 pub fn cuts_do_not_matter()
     ensures { (old new : World) (session : ℕ) (piece : List ℕ) (pieces : List (List ℕ)) (bytes : List ℕ) (answer : Fed)
-        → Feeds old session (pieces_joined piece pieces) bytes answer new ↔ FeedsAll old session piece pieces bytes answer new }
+        → Feeds old session (stream_of piece pieces) bytes answer new ↔ FeedsAll old session piece pieces bytes answer new }
+{}
+
+/// The plain run is allowed: whatever the pieces are, a session that is open may answer what the steps of its messages
+/// answer, one after the other, those left out that moreToCome leaves out, and may then stand as its stream says.
+pub fn the_plain_run_is_allowed()
+    ensures { (world : World) (session : ℕ) (kept piece : List ℕ) (pieces : List (List ℕ)) → conversation_of session world.sessions ≡ Some (wire.reading kept)
+        → let run = plain_run session world.state (wire.split (kept ++ stream_of piece pieces)) in
+        FeedsAll world session piece pieces run.bytes (fed_of run.conversation) (world_behind session run world) }
+{}
+
+/// What moreToCome leaves untold was done: where a session goes on behind such a message, the message was carried out by
+/// its step, and nothing is answered.
+pub fn what_is_untold_is_done()
+    ensures { (session : ℕ) (old : State) (message : wire.Message) (kept : List ℕ) (run : Run) → message.more_to_come ≡ true → CarriesOut session old (message ∷ []) (wire.reading kept) run
+        → run.conversation ≡ wire.reading kept → run ≡ silence (step old session (command_of message)).state (wire.reading kept) }
+{}
+
+/// No number is used again: sessions ascend by their numbers, which are below the next one. So it is before the first
+/// session is opened, and so after each event, and the next number grows where a session is opened and stays else.
+pub fn numbers_are_never_used_again()
+    ensures before { (state : State) → IsNumbered (world_of state) }
+    ensures opened { (old new : World) (session : SessionId) → IsNumbered old → Opens old (Ok session) new → IsNumbered new × (session.number ≡ old.next) × (new.next ≡ suc old.next) }
+    ensures refused { (old new : World) (fault : HubFault) → Opens old (Err fault) new → new ≡ old }
+    ensures fed { (old new : World) (session : ℕ) (piece bytes : List ℕ) (answer : Fed) → IsNumbered old → Feeds old session piece bytes answer new → IsNumbered new × (new.next ≡ old.next) }
+    ensures ended { (old : World) (session : ℕ) → IsNumbered old → IsNumbered (end session old) × ((end session old).next ≡ old.next) }
+{}
+
+/// A session is there from when it is opened, without any bytes, until it ends.
+pub fn sessions_come_and_go()
+    ensures opened { (old new : World) (session : SessionId) → IsNumbered old → Opens old (Ok session) new
+        → (conversation_of session.number old.sessions ≡ None) × (conversation_of session.number new.sessions ≡ Some (wire.reading [])) }
+    ensures ended { (old : World) (session : ℕ) → IsNumbered old → conversation_of session (end session old).sessions ≡ None }
+{}
+
+/// What happens to a session leaves the others as they are.
+pub fn sessions_keep_to_themselves()
+    ensures opened { (old new : World) (session : SessionId) (other : ℕ) → Opens old (Ok session) new → session.number ≢ other
+        → conversation_of other new.sessions ≡ conversation_of other old.sessions }
+    ensures fed { (old new : World) (session other : ℕ) (piece bytes : List ℕ) (answer : Fed) → Feeds old session piece bytes answer new → session ≢ other
+        → conversation_of other new.sessions ≡ conversation_of other old.sessions }
+    ensures ended { (old : World) (session other : ℕ) → session ≢ other → conversation_of other (end session old).sessions ≡ conversation_of other old.sessions }
+{}
+
+/// Documents change only where a session that is open takes its bytes: not where one is opened or ends, nor where bytes
+/// come for one that is closed, which stays closed by the same fault, or that isn't there.
+pub fn only_open_sessions_change_documents()
+    ensures opened { (old new : World) (result : Result SessionId HubFault) → Opens old result new → new.state ≡ old.state }
+    ensures ended { (old : World) (session : ℕ) → (end session old).state ≡ old.state }
+    ensures closed { (old new : World) (session : ℕ) (piece bytes : List ℕ) (answer : Fed) (fault : CloseFault) → conversation_of session old.sessions ≡ Some (wire.closed fault)
+        → Feeds old session piece bytes answer new
+        → (bytes ≡ []) × (answer ≡ fed.Closed fault) × (new.state ≡ old.state) × (conversation_of session new.sessions ≡ Some (wire.closed fault)) }
+    ensures unknown { (old new : World) (session : ℕ) (piece bytes : List ℕ) (answer : Fed) → conversation_of session old.sessions ≡ None
+        → Feeds old session piece bytes answer new → (bytes ≡ []) × (answer ≡ fed.Unknown) × (new ≡ old) }
+{}
+
+/// Where a message's length, code and flags close its session, by worked examples.
+pub fn headers_by_example()
+    ensures { examples.HeaderExamples }
+{}
+
+/// Which sections close a session, by worked examples.
+pub fn sections_by_example()
+    ensures { examples.SectionExamples }
+{}
+
+/// How sessions are opened and end, and what is answered to a message, by worked examples.
+pub fn sessions_by_example()
+    ensures { examples.SessionExamples }
+{}
+
+/// What is sent where memory is wanting, by worked examples.
+pub fn want_of_memory_by_example()
+    ensures { examples.WantExamples }
 {}

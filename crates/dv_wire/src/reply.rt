@@ -1,56 +1,14 @@
 //! Replies: their bytes.
 
-ghost use Rattle.std.specs.Prelude.{◌≡◌, ◌+◌, ◌-◌, ◌^◌, ◌<◌, ◌≤◌, ◌∷◌, [], ◌++◌, length, take, drop, OnOk, OnErr};
+ghost use Rattle.std.specs.Prelude.{◌≡◌, ◌+◌, ◌-◌, ◌^◌, ◌<◌, ◌≤◌, ℕ, List, ◌∷◌, [], ◌++◌, length, take, drop, OnOk, OnErr};
 ghost use Rattle.std.specs.Int.{w32, to_le_bytes};
 ghost use Rattle.dv_bson.specs.Spelling.{spelling};
-ghost use Rattle.dv_bson.specs.Tree.{elements_of};
-ghost use Rattle.std.specs.List.{list_any};
-ghost use Rattle.dv_command.specs.Fields.{documents_among};
 ghost use Rattle.dv_wire.specs.Message.{message_spelling};
 ghost use Rattle.dv_wire.specs.View.{unmeasured};
-ghost use Rattle.dv_command.specs.Replies as replies;
 
 use crate::front::OP_MSG;
-use dv_bson::{Document, List, NoMemory, Value, write_document};
-use dv_command::refusal::Refusal;
+use dv_bson::{Document, NoMemory, write_document};
 use std::alloc::AllocError;
-
-/// Whether a reply tells of want of memory: that of its command, or of one of its statements.
-pub(crate) fn wants_memory(reply: &Document) -> bool
-    ensures { result ≡ replies.wants_memory reply.now }
-{
-    if has_want(reply) {
-        return true;
-    }
-    match reply.get("writeErrors") {
-        Some(Value::Array(errors)) => any_wants(errors),
-        _ => false,
-    }
-}
-
-/// Whether the code among the fields of a refusal, or of a write error, is that of want of memory.
-fn has_want(fields: &Document) -> bool
-    ensures { result ≡ replies.has_want fields.now }
-{
-    match fields.get("code") {
-        Some(Value::Int32(code)) => *code == Refusal::WantOfMemory.code(),
-        _ => false,
-    }
-}
-
-/// Whether one of the write errors is for want of memory.
-fn any_wants(errors: &List) -> bool
-    ensures { result ≡ list_any replies.has_want (documents_among (elements_of errors.now)) }
-{
-    'errors: for value in errors.as_slice() {
-        if let Value::Doc(error) = value {
-            if has_want(error) {
-                return true;
-            }
-        }
-    }
-    false
-}
 
 /// Appends a message with this body as the reply to a request. Where memory is wanting nothing is appended.
 pub(crate) fn append_reply(
@@ -62,16 +20,24 @@ pub(crate) fn append_reply(
     ensures err { OnErr result (out.new.items ≡ out.old.items) }
 {
     let start = out.len();
+    let appended = append_unmeasured(request_id, reply, out);
+    match appended {
+        Ok(()) => put_length(out, start),
+        Err(_) => out.truncate(start),
+    }
+    appended
+}
+
+/// Appends the same with 0 as the message's length. Where memory is wanting a part of it may be appended.
+fn append_unmeasured(request_id: u32, reply: &Document, out: &mut Vec<u8>) -> Result<(), NoMemory>
+    ensures ok { OnOk result (out.new.items ≡ out.old.items ++ unmeasured request_id (0 ∷ spelling reply.now)) }
+    ensures within { OnOk result (length (spelling reply.now) ≤ 2147483647) }
+    ensures err { OnErr result ((part : List ℕ) × (out.new.items ≡ out.old.items ++ part)) }
+{
     out.extend_from_slice(&header(request_id))?;
     match write_document(reply, out) {
-        Ok(()) => {
-            put_length(out, start);
-            Ok(())
-        }
-        Err(_) => {
-            out.truncate(start);
-            Err(AllocError)
-        }
+        Ok(()) => Ok(()),
+        Err(_) => Err(AllocError),
     }
 }
 

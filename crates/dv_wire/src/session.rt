@@ -2,48 +2,50 @@
 
 ghost use Rattle.std.specs.Prelude.{◌≡◌, ◌≤◌, ◌++◌, ◌⊎◌, IfOk, length, drop, vec_len};
 ghost use Rattle.dv_bson.specs.Reading.{document_at};
-ghost use Rattle.dv_wire.specs.Schedule.{Appends, Takes, command_read};
+ghost use Rattle.dv_wire.specs.Schedule.{Appends, Takes, bytes_to, command_read};
 ghost use Rattle.dv_core.specs.Step.{MemoryStep};
-ghost use Rattle.dv_wire.specs.View.{kept_or_shut, left_or_shut, message_seen, Carries};
+ghost use Rattle.dv_wire.specs.Message.{split};
+ghost use Rattle.dv_wire.specs.View.{kept_or_closed, left_or_closed, message_seen, bytes_seen, Carries};
 
 use crate::fault::CloseFault;
 use crate::front::{Front, Message, front_of};
 use crate::hub::Fed;
-use crate::reply::{append_reply, wants_memory};
-use dv_bson::{BsonFault, NoMemory, read_document};
-use dv_command::command::Command;
+use crate::reply::append_reply;
+use dv_bson::{BsonFault, Document, NoMemory, read_document};
+use dv_command::{Command, DocumentLists};
 use dv_core::{Outcome, Store};
 use std::alloc::{AllocError, Global};
 
 /// How a session stands.
 #[derive(Debug, Drop)]
-pub(crate) enum Stage {
+pub(crate) enum Conversation {
     /// The session is open, with the bytes of a message that isn't whole.
     Reading(Vec<u8>),
     Closed(CloseFault),
 }
 
-impl Stage {
+impl Conversation {
     ghost use Rattle.std.specs.Prelude.{Some};
     ghost use Rattle.dv_wire.specs.Schedule.{unfinished_in, fed_of};
-    ghost use Rattle.dv_wire.specs.View.{conversation};
+    ghost use Rattle.dv_wire.specs.View.{conversation_seen};
 
-    fn fed(&self) -> Fed
-        ensures { result ≡ fed_of (conversation self.now) }
+    /// What is told of the session.
+    fn answer(&self) -> Fed
+        ensures { result ≡ fed_of (conversation_seen self.now) }
     {
         match self {
-            Stage::Reading(_) => Fed::Open,
-            Stage::Closed(fault) => Fed::Closed(*fault),
+            Conversation::Reading(_) => Fed::Open,
+            Conversation::Closed(fault) => Fed::Closed(*fault),
         }
     }
 
     /// How many bytes of an unfinished message are kept.
-    pub(crate) fn unfinished(&self) -> usize
-        ensures { result ≡ unfinished_in (Some (conversation self.now)) }
+    pub(crate) fn unfinished_len(&self) -> usize
+        ensures { result ≡ unfinished_in (Some (conversation_seen self.now)) }
     {
         match self {
-            Stage::Reading(kept) => kept.len(),
-            Stage::Closed(_) => 0,
+            Conversation::Reading(kept) => kept.len(),
+            Conversation::Closed(_) => 0,
         }
     }
 }
@@ -52,12 +54,12 @@ impl Stage {
 #[derive(Debug, Drop)]
 pub(crate) struct Session {
     pub(crate) number: u32,
-    pub(crate) stage: Stage,
+    pub(crate) conversation: Conversation,
 }
 
 impl Session {
     ghost use Rattle.dv_wire.specs.Schedule.{Appends, Hears, fed_of};
-    ghost use Rattle.dv_wire.specs.View.{conversation};
+    ghost use Rattle.dv_wire.specs.View.{conversation_seen};
 
     /// Takes the next piece of the session's bytes. A closed session takes none.
     pub(crate) fn hear(
@@ -67,16 +69,16 @@ impl Session {
         piece: &[u8],
         out: &mut Vec<u8>,
     ) -> Fed
-        ensures heard { Appends out.old.items out.new.items (λ bytes. Hears self.old.number store.old (conversation self.old.stage) piece.now bytes store.new (conversation self.new.stage)) }
-        ensures answer { result ≡ fed_of (conversation self.new.stage) }
+        ensures heard { Appends out.old.items out.new.items (λ bytes. Hears self.old.number store.old (conversation_seen self.old.conversation) piece.now (record { bytes = bytes; state = store.new; conversation = conversation_seen self.new.conversation })) }
+        ensures answer { result ≡ fed_of (conversation_seen self.new.conversation) }
         ensures number { self.new.number ≡ self.old.number }
     {
-        if let Stage::Reading(kept) = &mut self.stage {
+        if let Conversation::Reading(kept) = &mut self.conversation {
             if let Err(fault) = take_in(alloc, store, self.number, kept, piece, out) {
-                self.stage = Stage::Closed(fault);
+                self.conversation = Conversation::Closed(fault);
             }
         }
-        self.stage.fed()
+        self.conversation.answer()
     }
 }
 
@@ -90,7 +92,7 @@ fn take_in(
     piece: &[u8],
     out: &mut Vec<u8>,
 ) -> Result<(), CloseFault>
-    ensures { Appends out.old.items out.new.items (λ bytes. Takes session store.old (kept.old.items ++ piece.now) bytes store.new (kept_or_shut result kept.new.items)) }
+    ensures { Appends out.old.items out.new.items (λ bytes. Takes session store.old (split (kept.old.items ++ piece.now)) (record { bytes = bytes; state = store.new; conversation = kept_or_closed result kept.new.items })) }
 {
     kept.extend_from_slice(piece)?;
     let taken = carry_out_all(alloc, store, session, kept, out)?;
@@ -118,7 +120,7 @@ fn carry_out_all(
     out: &mut Vec<u8>,
 ) -> Result<usize, CloseFault>
     ensures taken { IfOk result (λ taken. taken ≤ length stream.now) }
-    ensures carried { Appends out.old.items out.new.items (λ bytes. Takes session store.old stream.now bytes store.new (left_or_shut result stream.now)) }
+    ensures carried { Appends out.old.items out.new.items (λ bytes. Takes session store.old (split stream.now) (record { bytes = bytes; state = store.new; conversation = left_or_closed result stream.now })) }
 {
     let mut rest = stream;
     'messages: loop {
@@ -147,18 +149,24 @@ fn carry_out(
 ) -> Result<(), NoMemory>
     ensures { Appends out.old.items out.new.items (λ bytes. Carries session store.old (message_seen message.now) bytes store.new result) }
 {
-    match step(alloc, store, session, message.body) {
+    let outcome = step(alloc, store, session, message.body);
+    match reply_to(message, outcome)? {
+        Some(reply) => append_reply(message.request_id, &reply, out),
+        None => Ok(()),
+    }
+}
+
+/// The reply that is to be sent to a message, or none where moreToCome leaves it out. An error says that the session
+/// is to be closed: there is no reply, or moreToCome would leave one out that tells of want of memory.
+fn reply_to(message: &Message<'_>, outcome: Outcome) -> Result<Option<Document>, NoMemory>
+    ensures { bytes_seen (message_seen message.now) result ≡ bytes_to (message_seen message.now) outcome }
+{
+    match outcome {
+        Outcome::Reply(_) if message.more_to_come => Ok(None),
+        // Who waits for no reply is told of want of memory by the end of the session.
+        Outcome::Wanting(_) if message.more_to_come => Err(AllocError),
+        Outcome::Reply(reply) | Outcome::Wanting(reply) => Ok(Some(reply)),
         Outcome::NoReply => Err(AllocError),
-        Outcome::Reply(reply) => {
-            if message.more_to_come {
-                // Who waits for no reply is told of want of memory by the end of the session.
-                if wants_memory(&reply) {
-                    return Err(AllocError);
-                }
-                return Ok(());
-            }
-            append_reply(message.request_id, &reply, out)
-        }
     }
 }
 
@@ -175,7 +183,10 @@ fn command_in(alloc: Global, body: &[u8]) -> Command
     ensures { (command_read (document_at body.now) ≡ result) ⊎ (result ≡ Command.Invalid BsonFault.NoMemory) }
 {
     match read_document(alloc, body) {
-        Ok((document, _)) => Command::Body(document),
+        Ok((body, _)) => Command::Sections {
+            body,
+            lists: DocumentLists::new(alloc),
+        },
         Err(fault) => Command::Invalid(fault),
     }
 }

@@ -1,22 +1,20 @@
-use Rattle.std.proofs.Common.{[], sym, refl, inl, ◌∙◌}
+use Rattle.std.proofs.Common.{[], sym}
 use Rattle.std.proofs.lemmas.List.{append-nil}
-use Rattle.dv_core.specs.declared.store.Outcome.TheVariants.{NoReply}
+use Rattle.std.proofs.lemmas.Result.{err_from_is_err_and}
 use Rattle.dv_wire.specs.View.{message_seen}
-use Rattle.dv_wire.proofs.Replies.{silent, shuts, answers}
+use Rattle.dv_wire.proofs.Replies.{told, closes, answers}
 use Rattle.dv_wire.proofs.session.carry_out.Goals as goal
 
-pub returns-in-NoReply : goal.returns-in-NoReply
-returns-in-NoReply c = ([], sym (append-nil _), inl (c.step.new.store, NoReply, c.in-NoReply.ensures, (refl, refl, refl)))
+pub returns-in_err-reply : goal.returns-in_err-reply
+returns-in_err-reply c =
+    let p = err_from_is_err_and c.from_residual.result c.from_residual.ensures.1 in
+    rw p.1 ([], sym (append-nil _), closes c.args.session c.args.store.now c.step-outcome.new.store (message_seen c.args.message.now) c.step-outcome.result c.step-outcome.ensures)
 
-pub returns-then-wants_memory : goal.returns-then-wants_memory
-returns-then-wants_memory c =
-    ([], sym (append-nil _), inl (shuts c.args.session c.args.store.now c.step.new.store (message_seen c.args.message.now) c.in-Reply.reply c.in-Reply.ensures))
+pub returns-in-Some : goal.returns-in-Some
+returns-in-Some c =
+    answers c.args.session c.args.store.now c.step-outcome.new.store (message_seen c.args.message.now) c.step-outcome.result c.step-outcome.ensures
+    c.append_reply.result _ c.args.out.now.items c.append_reply.new.out.items (sym (rw c.in-Some.is at c.in_ok-reply.ensures)) c.append_reply.ensures.ok c.append_reply.ensures.err
 
-pub returns-then-message : goal.returns-then-message
-returns-then-message c =
-    ([], sym (append-nil _), silent c.args.session c.args.store.now c.step.new.store (message_seen c.args.message.now) c.in-Reply.reply c.in-Reply.ensures c.if-message.true (sym c.wants_memory.ensures ∙ c.if-wants_memory.false))
-
-pub returns-else-message : goal.returns-else-message
-returns-else-message c =
-    answers c.args.session c.args.store.now c.step.new.store (message_seen c.args.message.now) c.in-Reply.reply c.in-Reply.ensures
-    c.append_reply.result c.args.out.now.items c.append_reply.new.out.items c.if-message.false c.append_reply.ensures.ok c.append_reply.ensures.err
+pub returns-in-None : goal.returns-in-None
+returns-in-None c =
+    ([], sym (append-nil _), told c.args.session c.args.store.now c.step-outcome.new.store (message_seen c.args.message.now) c.step-outcome.result c.step-outcome.ensures [] (sym (rw c.in-None.is at c.in_ok-reply.ensures)))

@@ -5,4 +5,4 @@ use Rattle.dv_wire.proofs.session.step.Goals as goal
 
 pub returns : goal.returns
 returns c =
-    steps_as c.args.session c.args.store.now c.execute.new.self (command_read (document_at c.args.body.now)) c.command_in-command.result c.execute.result c.command_in-command.ensures c.execute.ensures.step
+    steps_as c.args.session c.args.store.now c.execute.new.self (command_read (document_at c.args.body.now)) c.command_in-command.result c.execute.result c.command_in-command.ensures c.execute.ensures.step c.execute.ensures.unread

@@ -1,10 +1,20 @@
-use Rattle.std.proofs.Common.{[], sym, refl, inr}
+use Rattle.std.proofs.Common.{[], sym, refl}
 use Rattle.std.proofs.lemmas.List.{append-nil}
 use Rattle.std.proofs.lemmas.Result.{err_from_is_err_and}
+use Rattle.dv_wire.specs.Schedule.{takes_some}
 use Rattle.dv_wire.proofs.session.take_in.Goals as goal
 
 -- no message is carried out
 pub returns-in_err-extend_from_slice : goal.returns-in_err-extend_from_slice
 returns-in_err-extend_from_slice c =
     let p = err_from_is_err_and c.from_residual.result c.from_residual.ensures.1 in
-    rw (p.1, p.2) ([], sym (append-nil _), inr (inr (0, (refl, refl, refl), refl)))
+    rw (p.1, p.2) ([], sym (append-nil _), takes_some 0 refl)
+
+pub returns-in_err-taken : goal.returns-in_err-taken
+returns-in_err-taken c =
+    let p = err_from_is_err_and c.from_residual-in_err-taken.result c.from_residual-in_err-taken.ensures.1 in
+    rw (p.1, p.2, ← c.in_ok-extend_from_slice.ensures.items, ← c.deref.ensures.value) c.in_err-taken.ensures.carried
+
+pub returns : goal.returns
+returns c =
+    rw (c.drop_front.ensures, ← c.in_ok-extend_from_slice.ensures.items, ← c.deref.ensures.value) c.in_ok-taken.ensures.carried

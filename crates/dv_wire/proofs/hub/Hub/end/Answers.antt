@@ -1,14 +1,14 @@
 use Rattle.std.proofs.Common.{refl, sym, ap, ◌∙◌, arith}
 use Rattle.dv_wire.specs.Schedule.{unfinished_in}
-use Rattle.dv_wire.proofs.Sessions.{nowhere, within, found, removed}
+use Rattle.dv_wire.proofs.Sessions.{nowhere, within, there, sessions_but-remove}
 use Rattle.dv_wire.proofs.hub.Hub.end.Goals as goal
 
 pub returns-in_default-clause-unfinished : goal.returns-in_default-clause-unfinished
 returns-in_default-clause-unfinished c =
     rw (← c.self.view_is, ← c.deref.ensures.value) (sym (ap unfinished_in (nowhere c.args.session.number c.deref.result.now (sym c.place_of.ensures ∙ c.in_default.is)).0))
 
-pub returns-in_default-clause-ended : goal.returns-in_default-clause-ended
-returns-in_default-clause-ended c =
+pub returns-in_default-clause-world : goal.returns-in_default-clause-world
+returns-in_default-clause-world c =
     let none = nowhere c.args.session.number c.deref.result.now (sym c.place_of.ensures ∙ c.in_default.is) in
     rw (← c.self.view_is, ← c.deref.ensures.value) (rw none.1 refl)
 
@@ -18,10 +18,10 @@ remove-session-requires c =
 
 pub returns-clause-unfinished : goal.returns-clause-unfinished
 returns-clause-unfinished c =
-    let there = found c.args.session.number c.in-Some.place c.deref.result.now c.remove-session.result (sym c.place_of.ensures ∙ c.in-Some.is) in
-    rw (← c.self.view_is, ← c.deref.ensures.value) (rw (there.0, c.deref.ensures.value, ← c.remove-session.ensures.value) c.unfinished.ensures)
+    let seen = there c.args.session.number c.in-Some.place c.deref.result.now c.remove-session.result (sym c.place_of.ensures ∙ c.in-Some.is) in
+    rw (← c.self.view_is, ← c.deref.ensures.value) (rw (seen.0, c.deref.ensures.value, ← c.remove-session.ensures.value) c.unfinished_len.ensures)
 
-pub returns-clause-ended : goal.returns-clause-ended
-returns-clause-ended c =
-    let less = removed c.args.session.number c.in-Some.place c.deref.result.now (sym c.place_of.ensures ∙ c.in-Some.is) in
+pub returns-clause-world : goal.returns-clause-world
+returns-clause-world c =
+    let less = sessions_but-remove c.args.session.number c.in-Some.place c.deref.result.now (sym c.place_of.ensures ∙ c.in-Some.is) in
     rw (← c.self.view_is, c.remove-session.ensures.items, ← c.deref.ensures.value) (rw less refl)

@@ -1,0 +1,140 @@
+-- Messages carried out in order: one list, and then another.
+use Rattle.std.proofs.Common.{◌≡◌, ℕ, ◌⊎◌, List, [], ◌∷◌, ◌++◌, Option, Some, None, refl, sym, ap, subst, ◌∙◌, append_assoc, inl, inr}
+use Rattle.std.proofs.lemmas.List.{append-nil}
+use Rattle.dv_wire.specs.declared.fault.CloseFault.{CloseFault}
+use Rattle.dv_wire.specs.declared.fault.CloseFault.TheVariants.{NoMemory}
+use Rattle.dv_core.specs.State.{State}
+use Rattle.dv_wire.specs.Message.{Message, Conversation, reading, closed}
+use Rattle.dv_wire.specs.Schedule.{Run, in_front, silence, bytes_to, Follows, CarriesOut}
+use Rattle.dv_wire.specs.View.{GoesOn}
+
+pub in_front_twice : (one two : List ℕ) (run : Run) → in_front (one ++ two) run ≡ in_front one (in_front two run)
+in_front_twice one two run = ap (λ (bytes : List ℕ). record { bytes = bytes; state = run.state; conversation = run.conversation }) (append_assoc one two run.bytes)
+
+-- a run behind which nothing is answered any more
+pub in_front-silence : (run : Run) → in_front run.bytes (silence run.state run.conversation) ≡ run
+in_front-silence run = ap (λ (bytes : List ℕ). record { bytes = bytes; state = run.state; conversation = run.conversation }) (append-nil run.bytes)
+
+-- ---- behind one step
+
+pub follows_shut : (answer : Option (List ℕ)) (state : State) (Others : Run → Type 0) (run : Run) → run ≡ silence state (closed NoMemory) → Follows answer state Others run
+follows_shut None state Others run shut = shut
+follows_shut (Some bytes) state Others run shut = inr shut
+
+pub follows_on : (answer : Option (List ℕ)) (state : State) (Others : Run → Type 0) (bytes : List ℕ) (others run : Run) → answer ≡ Some bytes → Others others → run ≡ in_front bytes others
+    → Follows answer state Others run
+follows_on answer state Others bytes others run is behind e = subst (λ (a : Option (List ℕ)). Follows a state Others run) (sym is) (inl (others, behind, e))
+
+-- an answer, and then the others
+pub record Answers (answer : Option (List ℕ)) (Others : Run → Type 0) (run : Run) : Type 0 where
+  pub bytes : List ℕ
+  pub others : Run
+  pub is : answer ≡ Some bytes
+  pub behind : Others others
+  pub both : run ≡ in_front bytes others
+
+pub follows_cases : (answer : Option (List ℕ)) (state : State) (Others : Run → Type 0) (run : Run) → Follows answer state Others run → (run ≡ silence state (closed NoMemory)) ⊎ Answers answer Others run
+follows_cases None state Others run follows = inl follows
+follows_cases (Some bytes) state Others run (inl (others, behind, both)) = inr (record { bytes = bytes; others = others; is = refl; behind = behind; both = both })
+follows_cases (Some bytes) state Others run (inr shut) = inl shut
+
+-- ---- a session that is closed among its messages
+
+-- it is closed, whatever other messages there are, and however it would stand behind them
+pub record Stops (session : ℕ) (old : State) (messages : List Message) (run : Run) : Type 0 where
+  pub shut : run.conversation ≡ closed NoMemory
+  pub before : (others : List Message) (conversation : Conversation) → CarriesOut session old (messages ++ others) conversation run
+
+pub stops_so : (session : ℕ) (old : State) (messages : List Message) (run : Run) (conversation : Conversation) → Stops session old messages run → CarriesOut session old messages conversation run
+stops_so session old messages run conversation stops =
+    subst (λ (ms : List Message). CarriesOut session old ms conversation run) (append-nil messages) (stops.before [] conversation)
+
+-- or the first of its messages are carried out, and then the second
+pub record Divides (session : ℕ) (old : State) (first second : List Message) (conversation : Conversation) (run : Run) : Type 0 where
+  pub bytes : List ℕ
+  pub mid : State
+  pub two : Run
+  pub before : GoesOn session old first bytes mid
+  pub behind : CarriesOut session mid second conversation two
+  pub both : run ≡ in_front bytes two
+
+pub carries_cases : (session : ℕ) (old : State) (first second : List Message) (conversation : Conversation) (run : Run) → CarriesOut session old (first ++ second) conversation run
+    → Stops session old first run ⊎ Divides session old first second conversation run
+carries_cases session old [] second conversation run h = inr (record { bytes = []; mid = old; two = run; before = refl; behind = h; both = refl })
+carries_cases session old (message ∷ messages) second conversation run (outcome, mid, steps, follows) =
+    elim (follows_cases (bytes_to message outcome) mid (CarriesOut session mid (messages ++ second) conversation) run follows) [
+      | inl shut ↦ inl (record {
+        shut = ap (λ (r : Run). r.conversation) shut;
+        before = λ more after. (outcome, mid, steps, follows_shut (bytes_to message outcome) mid (CarriesOut session mid (messages ++ more) after) run shut);
+      })
+      | inr a ↦ elim (carries_cases session mid messages second conversation a.others a.behind) [
+        | inl stops ↦ inl (record {
+          shut = ap (λ (r : Run). r.conversation) a.both ∙ stops.shut;
+          before = λ more after. (outcome, mid, steps, follows_on (bytes_to message outcome) mid (CarriesOut session mid (messages ++ more) after) a.bytes a.others run a.is (stops.before more after) a.both);
+        })
+        | inr d ↦ inr (record {
+          bytes = a.bytes ++ d.bytes;
+          mid = d.mid;
+          two = d.two;
+          before = (
+            outcome,
+            mid,
+            steps,
+            follows_on (bytes_to message outcome) mid (CarriesOut session mid messages (reading [])) a.bytes (record { bytes = d.bytes; state = d.mid; conversation = reading [] })
+                (record { bytes = a.bytes ++ d.bytes; state = d.mid; conversation = reading [] }) a.is d.before refl,
+          );
+          behind = d.behind;
+          both = a.both ∙ ap (in_front a.bytes) d.both ∙ sym (in_front_twice a.bytes d.bytes d.two);
+        })
+      ]
+    ]
+
+-- all messages are one part, and none the other
+pub carries_all : (session : ℕ) (old : State) (messages : List Message) (conversation : Conversation) (run : Run) → CarriesOut session old messages conversation run
+    → Stops session old messages run ⊎ Divides session old messages [] conversation run
+carries_all session old messages conversation run h =
+    carries_cases session old messages [] conversation run (subst (λ (ms : List Message). CarriesOut session old ms conversation run) (sym (append-nil messages)) h)
+
+-- behind which a session is closed in any case
+pub carries_shut : (session : ℕ) (old : State) (messages : List Message) (fault : CloseFault) (run : Run) → CarriesOut session old messages (closed fault) run
+    → (shown : CloseFault) × (run.conversation ≡ closed shown)
+carries_shut session old messages fault run h =
+    elim (carries_all session old messages (closed fault) run h) [
+      | inl stops ↦ (NoMemory, stops.shut)
+      | inr d ↦ (fault, ap (λ (r : Run). r.conversation) d.both ∙ ap (λ (r : Run). r.conversation) d.behind)
+    ]
+
+-- ---- one list, and then another
+
+carries_behind : (session : ℕ) (old mid : State) (first second : List Message) (conversation : Conversation) (one two : Run) → CarriesOut session old first (reading []) one
+    → one.conversation ≡ reading [] → one.state ≡ mid → CarriesOut session mid second conversation two → CarriesOut session old (first ++ second) conversation (in_front one.bytes two)
+carries_behind session old mid [] second conversation one two before on is behind =
+    let same : old ≡ mid = sym (ap (λ (r : Run). r.state) before) ∙ is in
+    let nothing : in_front one.bytes two ≡ two = ap (λ (r : Run). in_front r.bytes two) before in
+    subst (λ (r : Run). CarriesOut session old second conversation r) (sym nothing) (subst (λ (s : State). CarriesOut session s second conversation two) (sym same) behind)
+carries_behind session old mid (message ∷ messages) second conversation one two (outcome, from, steps, follows) on is behind =
+    elim (follows_cases (bytes_to message outcome) from (CarriesOut session from messages (reading [])) one follows) [
+      | inl shut ↦ let e = sym on ∙ ap (λ (r : Run). r.conversation) shut in absurd cc
+      | inr a ↦
+          let others = carries_behind session from mid messages second conversation a.others two a.behind
+          (sym (ap (λ (r : Run). r.conversation) a.both) ∙ on) (sym (ap (λ (r : Run). r.state) a.both) ∙ is) behind in (
+            outcome,
+            from,
+            steps,
+            follows_on (bytes_to message outcome) from (CarriesOut session from (messages ++ second) conversation) a.bytes (in_front a.others.bytes two) (in_front one.bytes two) a.is others
+                (ap (λ (r : Run). in_front r.bytes two) a.both ∙ in_front_twice a.bytes a.others.bytes two),
+          )
+    ]
+
+pub carries_then : (session : ℕ) (old mid : State) (first second : List Message) (bytes : List ℕ) (conversation : Conversation) (two : Run)
+    → GoesOn session old first bytes mid → CarriesOut session mid second conversation two → CarriesOut session old (first ++ second) conversation (in_front bytes two)
+carries_then session old mid first second bytes conversation two before behind =
+    carries_behind session old mid first second conversation (record { bytes = bytes; state = mid; conversation = reading [] }) two before refl refl behind
+
+-- a session whose messages are carried out stands as given behind them
+pub carries_to : (session : ℕ) (old mid : State) (messages : List Message) (bytes : List ℕ) (conversation : Conversation) → GoesOn session old messages bytes mid
+    → CarriesOut session old messages conversation (record { bytes = bytes; state = mid; conversation = conversation })
+carries_to session old mid messages bytes conversation before =
+    subst (λ (ms : List Message). CarriesOut session old ms conversation (record { bytes = bytes; state = mid; conversation = conversation })) (append-nil messages)
+    (subst (λ (r : Run). CarriesOut session old (messages ++ []) conversation r) (in_front-silence (record { bytes = bytes; state = mid; conversation = conversation }))
+    (carries_then session old mid messages [] bytes conversation (silence mid conversation) before refl))

@@ -1,0 +1,145 @@
+-- The worked examples, computed.
+use Rattle.std.proofs.Common.{◌≡◌, ℕ, Bool, true, false, ltb, List, [], ◌∷◌, ◌++◌, Result, Ok, Err, refl, ap, ◌∙◌, arith, lit<, inl, inr}
+use Rattle.std.specs.Prelude.{pos, codes}
+use Rattle.std.specs.List.{list_all}
+use Rattle.std.specs.Str.{is_utf8, IsAscii}
+use Rattle.std.proofs.lemmas.Bool.{ltb-true, and_parts}
+use Rattle.std.proofs.lemmas.Str.{is_utf8-from_IsUtf8, IsUtf8-from_ascii}
+use Rattle.std.proofs.lemmas.Str.Ascii.{IsAscii-nil, IsAscii-cons}
+use Rattle.dv_bson.specs.declared.fault.BsonFault.{BsonFault}
+use Rattle.dv_bson.specs.Tree.{int32, Field}
+use Rattle.dv_bson.specs.Spelling.{framed, element_spelling, payload}
+use Rattle.dv_bson.specs.Reading.{document_at, count_at, body_at, Inside, ◌>>=◌, fields_at, kind_at, kind_of_byte, name_at, cut_at_zero, value_at, text_at}
+use Rattle.dv_command.specs.declared.refusal.Refusal.TheVariants.{WantOfMemory}
+use Rattle.dv_core.specs.declared.outcome.Outcome.TheVariants.{NoReply}
+use Rattle.dv_core.specs.State.{State}
+use Rattle.dv_core.specs.Step.{Answer, step, answered}
+use Rattle.dv_wire.specs.Message.{Message, Conversation, reading, front, sections_in, sections_within, split_within, split, message_spelling}
+use Rattle.dv_wire.specs.Schedule.{command_read, command_of, reply_bytes, in_front, silence, plain_behind, plain_messages, plain_run}
+use Rattle.dv_wire.specs.Examples.{asks, ping_document, ping_fields, ok, ping, pong, HeaderExamples, SectionExamples, SessionExamples, WantExamples}
+
+pub headers : HeaderExamples
+unfolding split split_within front sections_in sections_within
+headers = record {
+  shown_later = refl;
+  too_short = refl;
+  shortest = refl;
+  longest = refl;
+  too_long = refl;
+  length_first = refl;
+  code_later = refl;
+  code_below = refl;
+  code_right = refl;
+  code_above = refl;
+  flags_later = refl;
+  bit_0 = refl;
+  bit_1 = refl;
+  bit_2 = refl;
+  bit_15 = refl;
+  bit_16 = refl;
+  bits_above = refl;
+  checksum_first = refl;
+}
+
+pub sections : SectionExamples
+unfolding split split_within front sections_in sections_within
+sections = record {
+  shown_later = refl;
+  kind_2 = refl;
+  kind_0 = refl;
+  kind_1 = refl;
+  kind_1_behind = refl;
+  two_bodies = refl;
+  too_short = refl;
+  too_long = refl;
+  unreadable = refl;
+  two = refl;
+  fault_behind = refl;
+}
+
+is_ascii_text : (bytes : List ℕ) → list_all (λ b. ltb b 128) bytes ≡ true → IsAscii bytes
+is_ascii_text [] all = IsAscii-nil
+is_ascii_text (b ∷ bytes) all = let parts = and_parts (ltb b 128) (list_all (λ c. ltb c 128) bytes) all in IsAscii-cons b bytes (ltb-true b 128 parts.0) (is_ascii_text bytes parts.1)
+
+-- text below 128 is UTF-8
+is_text : (bytes : List ℕ) → list_all (λ b. ltb b 128) bytes ≡ true → is_utf8 bytes ≡ true
+is_text bytes all = is_utf8-from_IsUtf8 bytes (IsUtf8-from_ascii bytes (is_ascii_text bytes all))
+
+-- ---- a ping, from its bytes
+
+read_name : name_at false [] (112 ∷ 105 ∷ 110 ∷ 103 ∷ 0 ∷ 1 ∷ 0 ∷ 0 ∷ 0 ∷ 2 ∷ 36 ∷ 100 ∷ 98 ∷ 0 ∷ 2 ∷ 0 ∷ 0 ∷ 0 ∷ 116 ∷ 0 ∷ []) ≡ Ok (codes "ping", 1 ∷ 0 ∷ 0 ∷ 0 ∷ 2 ∷ 36 ∷ 100 ∷ 98 ∷ 0 ∷ 2 ∷ 0 ∷ 0 ∷ 0 ∷ 116 ∷ 0 ∷ [])
+unfolding name_at cut_at_zero
+read_name = rw (is_text (codes "ping") refl) refl
+
+read_second : name_at false ((codes "ping", int32 (pos 1)) ∷ []) (36 ∷ 100 ∷ 98 ∷ 0 ∷ 2 ∷ 0 ∷ 0 ∷ 0 ∷ 116 ∷ 0 ∷ []) ≡ Ok (codes "$db", 2 ∷ 0 ∷ 0 ∷ 0 ∷ 116 ∷ 0 ∷ [])
+unfolding name_at cut_at_zero
+read_second = rw (is_text (codes "$db") refl) refl
+
+read_text : text_at (2 ∷ 0 ∷ 0 ∷ 0 ∷ 116 ∷ 0 ∷ []) ≡ Ok (codes "t", [])
+unfolding text_at count_at
+read_text = rw (is_text (codes "t") refl) refl
+
+module _ (inside : Inside) where
+  read_first : fields_at inside 21 false 4 [] (16 ∷ 112 ∷ 105 ∷ 110 ∷ 103 ∷ 0 ∷ 1 ∷ 0 ∷ 0 ∷ 0 ∷ 2 ∷ 36 ∷ 100 ∷ 98 ∷ 0 ∷ 2 ∷ 0 ∷ 0 ∷ 0 ∷ 116 ∷ 0 ∷ []) 0 ≡ fields_at inside 20 false 14 ((codes "ping", int32 (pos 1)) ∷ []) (2 ∷ 36 ∷ 100 ∷ 98 ∷ 0 ∷ 2 ∷ 0 ∷ 0 ∷ 0 ∷ 116 ∷ 0 ∷ []) 0
+  unfolding fields_at kind_at kind_of_byte value_at
+  read_first = rw read_name refl
+
+  read_last : fields_at inside 20 false 14 ((codes "ping", int32 (pos 1)) ∷ []) (2 ∷ 36 ∷ 100 ∷ 98 ∷ 0 ∷ 2 ∷ 0 ∷ 0 ∷ 0 ∷ 116 ∷ 0 ∷ []) 0 ≡ Ok ping_fields
+  unfolding fields_at kind_at kind_of_byte value_at
+  read_last = rw (read_second, read_text) refl
+
+read_ping : document_at ping_document ≡ Ok (ping_fields, 26)
+unfolding document_at count_at body_at
+read_ping = ap (λ (fields : Result (List Field) BsonFault). fields >>= λ fs. Ok (fs, 26)) (read_first (body_at 99) ∙ read_last (body_at 99))
+
+answer_ping : (state : State) (session : ℕ) (more_to_come : Bool) → step state session (command_of (asks more_to_come ping_document)) ≡ record { reply = ok; state = state }
+answer_ping state session more_to_come = ap (λ (read : Result (List Field × ℕ) BsonFault). step state session (command_read read)) read_ping ∙ refl
+
+split_pings : split (ping 0 ++ ping 2 ++ ping 0 ++ 47 ∷ []) ≡ record { messages = asks false ping_document ∷ asks true ping_document ∷ asks false ping_document ∷ []; conversation = reading (47 ∷ []) }
+unfolding split split_within front sections_in sections_within
+split_pings = refl
+
+plain_next : (session : ℕ) (state : State) (message : Message) (messages : List Message) (conversation : Conversation) (reply : List Field) → step state session (command_of message) ≡ record { reply = reply; state = state }
+    → plain_messages session state (message ∷ messages) conversation ≡ in_front (reply_bytes message reply) (plain_messages session state messages conversation)
+unfolding plain_messages
+plain_next session state message messages conversation reply e = ap (λ (a : Answer). plain_behind message a (λ behind. plain_messages session behind messages conversation)) e
+
+pong_bytes : reply_bytes (asks false ping_document) ok ≡ pong
+unfolding message_spelling framed element_spelling payload
+pong_bytes = refl
+
+plain_none : (session : ℕ) (state : State) (conversation : Conversation) → plain_messages session state [] conversation ≡ silence state conversation
+unfolding plain_messages
+plain_none session state conversation = refl
+
+pub pinged : (state : State) (session : ℕ) → plain_run session state (split (ping 0 ++ ping 2 ++ ping 0 ++ 47 ∷ [])) ≡ record { bytes = pong ++ pong; state = state; conversation = reading (47 ∷ []) }
+pinged state session =
+    ap (plain_run session state) split_pings
+    ∙ plain_next session state (asks false ping_document) (asks true ping_document ∷ asks false ping_document ∷ []) (reading (47 ∷ [])) ok (answer_ping state session false)
+    ∙ ap (in_front (reply_bytes (asks false ping_document) ok))
+    (plain_next session state (asks true ping_document) (asks false ping_document ∷ []) (reading (47 ∷ [])) ok (answer_ping state session true)
+    ∙ plain_next session state (asks false ping_document) [] (reading (47 ∷ [])) ok (answer_ping state session false)
+    ∙ ap (in_front (reply_bytes (asks false ping_document) ok)) (plain_none session state (reading (47 ∷ []))))
+    ∙ ap (λ (b : List ℕ). in_front b (in_front b (silence state (reading (47 ∷ []))))) pong_bytes
+
+pub sessions : SessionExamples
+sessions = record {
+  first = λ state. (lit< tt, lit< tt, refl, refl);
+  second = λ state session new opens. omega (arith, opens.0);
+  not_too_many = λ state new refused. elim refused.0 [ inl many ↦ omega (arith, many) | inr none ↦ omega (arith, none) ];
+  after_an_end = λ state. (lit< tt, lit< tt, refl, refl);
+  last_number = λ state. (lit< tt, lit< tt, refl, refl);
+  no_number = λ state session new opens. omega (arith, opens.1);
+  unfinished = refl;
+  none_unfinished = refl;
+  pings = pinged;
+}
+
+pub wants : WantExamples
+wants = record {
+  plain = λ reply. refl;
+  untold = λ reply. refl;
+  told = λ reply. refl;
+  no_reply = λ more_to_come. refl;
+  refused = λ state session. (NoReply, state, inr (answered state (Err WantOfMemory), inl refl, refl), refl);
+}

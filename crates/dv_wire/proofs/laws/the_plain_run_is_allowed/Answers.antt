@@ -1,0 +1,5 @@
+use Rattle.dv_wire.proofs.Cuts.{plain_feeds}
+use Rattle.dv_wire.proofs.laws.the_plain_run_is_allowed.Goals as goal
+
+pub returns : goal.returns
+returns c = plain_feeds

@@ -1,0 +1,12 @@
+use Rattle.std.proofs.Common.{List, ℕ, ◌++◌, ap, ◌∙◌}
+use Rattle.dv_bson.specs.Spelling.{spelling}
+use Rattle.dv_wire.proofs.Replies.{behind_header}
+use Rattle.dv_wire.proofs.reply.append_unmeasured.Goals as goal
+
+pub returns-in-Ok-clause-ok : goal.returns-in-Ok-clause-ok
+returns-in-Ok-clause-ok c =
+    c.in-Ok.ensures.ok ∙ ap (λ (x : List ℕ). x ++ spelling c.args.reply.now) c.in_ok-extend_from_slice.ensures.items
+    ∙ behind_header c.args.out.now.items c.header.result (spelling c.args.reply.now) c.args.request_id c.header.ensures
+
+pub returns-in-Ok-clause-within : goal.returns-in-Ok-clause-within
+returns-in-Ok-clause-within c = c.in-Ok.ensures.spelled.within

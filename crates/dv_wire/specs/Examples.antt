@@ -1,0 +1,142 @@
+-- Worked examples of messages and sessions: what closes a session, at each limit and on both sides of it.
+use Rattle.std.specs.Prelude.{◌≡◌, ℕ, Bool, true, false, List, [], ◌∷◌, ◌++◌, Some, None, Ok, Err, pos, codes}
+use Rattle.dv_bson.specs.Tree.{string, int32, Field}
+use Rattle.dv_wire.specs.declared.fault.CloseFault.{CloseFault}
+use Rattle.dv_wire.specs.declared.fault.CloseFault.TheVariants.{BadLength, BadOpCode, BadFlag, Checksum, BadSection, NoMemory}
+use Rattle.dv_wire.specs.declared.fault.HubFault.TheVariants.{TooManySessions}
+use Rattle.dv_wire.specs.declared.hub.SessionId.{SessionId}
+use Rattle.dv_core.specs.declared.outcome.Outcome.TheVariants.{Reply, Wanting, NoReply}
+use Rattle.dv_core.specs.State.{State}
+use Rattle.dv_wire.specs.Message.{body, Message, Conversation, reading, closed, split}
+use Rattle.dv_wire.specs.Schedule.{World, Opens, reply_bytes, bytes_to, CarriesOut, plain_run, silence, unfinished_in, end}
+
+-- ---- words for them
+
+-- the bytes bring these messages, and then their session stands so
+abbrev pub Brings : List ℕ → List Message → Conversation → Type 0
+Brings bytes messages conversation = split bytes ≡ record { messages = messages; conversation = conversation }
+
+-- they are less than a message, and are kept
+abbrev pub IsKept : List ℕ → Type 0
+IsKept bytes = Brings bytes [] (reading bytes)
+
+-- their session is closed
+abbrev pub Closes : List ℕ → CloseFault → Type 0
+Closes bytes fault = Brings bytes [] (closed fault)
+
+-- a header: messageLength, requestID 7, responseTo 0, and opCode in two bytes
+abbrev pub header : ℕ → List ℕ → List ℕ
+header length code = length ∷ 0 ∷ 0 ∷ 0 ∷ 7 ∷ 0 ∷ 0 ∷ 0 ∷ 0 ∷ 0 ∷ 0 ∷ 0 ∷ (code ++ 0 ∷ 0 ∷ [])
+
+-- a header of OP_MSG, 2013
+abbrev pub op_msg_header : ℕ → List ℕ
+op_msg_header length = header length (0xdd ∷ 0x07 ∷ [])
+
+-- a message of 26 bytes with these flags, and without any
+abbrev pub flagged : List ℕ → List ℕ
+flagged flags = op_msg_header 26 ++ flags ++ 0 ∷ 5 ∷ 0 ∷ 0 ∷ 0 ∷ 0 ∷ []
+
+-- a message without flags, with these sections, which are short
+abbrev pub sectioned : ℕ → List ℕ → List ℕ
+sectioned length sections = op_msg_header length ++ 0 ∷ 0 ∷ 0 ∷ 0 ∷ sections
+
+abbrev pub empty_document : List ℕ
+empty_document = 5 ∷ 0 ∷ 0 ∷ 0 ∷ 0 ∷ []
+
+-- what such a message asks
+abbrev pub asks : Bool → List ℕ → Message
+asks more_to_come document = record { request_id = 7; more_to_come = more_to_come; sections = body document ∷ [] }
+
+-- ---- messages
+
+pub record HeaderExamples : Type 0 where
+  -- the length is shown by the fourth byte
+  pub shown_later : IsKept (25 ∷ 0 ∷ 0 ∷ [])
+  pub too_short : Closes (25 ∷ 0 ∷ 0 ∷ 0 ∷ []) BadLength
+  pub shortest : IsKept (26 ∷ 0 ∷ 0 ∷ 0 ∷ [])
+  pub longest : IsKept (0x00 ∷ 0x6c ∷ 0xdc ∷ 0x02 ∷ [])
+  pub too_long : Closes (0x01 ∷ 0x6c ∷ 0xdc ∷ 0x02 ∷ []) BadLength
+  -- the length first
+  pub length_first : Closes (header 25 (0xdc ∷ 0x07 ∷ [])) BadLength
+  -- the code by the sixteenth
+  pub code_later : IsKept (26 ∷ 0 ∷ 0 ∷ 0 ∷ 7 ∷ 0 ∷ 0 ∷ 0 ∷ 0 ∷ 0 ∷ 0 ∷ 0 ∷ 0xdc ∷ 0x07 ∷ 0 ∷ [])
+  pub code_below : Closes (header 26 (0xdc ∷ 0x07 ∷ [])) BadOpCode
+  pub code_right : IsKept (op_msg_header 26)
+  pub code_above : Closes (header 26 (0xde ∷ 0x07 ∷ [])) BadOpCode
+  -- the flags by the twentieth
+  pub flags_later : IsKept (op_msg_header 26 ++ 1 ∷ 0 ∷ 0 ∷ [])
+  pub bit_0 : Closes (op_msg_header 26 ++ 1 ∷ 0 ∷ 0 ∷ 0 ∷ []) Checksum
+  pub bit_1 : Brings (flagged (2 ∷ 0 ∷ 0 ∷ 0 ∷ [])) (asks true empty_document ∷ []) (reading [])
+  pub bit_2 : Closes (op_msg_header 26 ++ 4 ∷ 0 ∷ 0 ∷ 0 ∷ []) BadFlag
+  pub bit_15 : Closes (op_msg_header 26 ++ 0 ∷ 0x80 ∷ 0 ∷ 0 ∷ []) BadFlag
+  pub bit_16 : Brings (flagged (0 ∷ 0 ∷ 1 ∷ 0 ∷ [])) (asks false empty_document ∷ []) (reading [])
+  pub bits_above : Brings (flagged (0 ∷ 0 ∷ 0xff ∷ 0xff ∷ [])) (asks false empty_document ∷ []) (reading [])
+  pub checksum_first : Closes (op_msg_header 26 ++ 5 ∷ 0 ∷ 0 ∷ 0 ∷ []) Checksum
+
+pub record SectionExamples : Type 0 where
+  -- the sections are shown by the last byte
+  pub shown_later : IsKept (sectioned 26 (2 ∷ 5 ∷ 0 ∷ 0 ∷ 0 ∷ []))
+  pub kind_2 : Closes (sectioned 26 (2 ∷ 5 ∷ 0 ∷ 0 ∷ 0 ∷ 0 ∷ [])) BadSection
+  pub kind_0 : Brings (sectioned 26 (0 ∷ empty_document)) (asks false empty_document ∷ []) (reading [])
+  -- a list under the identifier d, before a body and behind it
+  pub kind_1 : Closes (sectioned 33 (1 ∷ 6 ∷ 0 ∷ 0 ∷ 0 ∷ 100 ∷ 0 ∷ 0 ∷ empty_document)) BadSection
+  pub kind_1_behind : Closes (sectioned 33 (0 ∷ 5 ∷ 0 ∷ 0 ∷ 0 ∷ 0 ∷ 1 ∷ 6 ∷ 0 ∷ 0 ∷ 0 ∷ 100 ∷ 0 ∷ [])) BadSection
+  pub two_bodies : Closes (sectioned 32 (0 ∷ 5 ∷ 0 ∷ 0 ∷ 0 ∷ 0 ∷ 0 ∷ empty_document)) BadSection
+  -- a document's length is that of the body, and 5 at least
+  pub too_short : Closes (sectioned 26 (0 ∷ 4 ∷ 0 ∷ 0 ∷ 0 ∷ 0 ∷ [])) BadSection
+  pub too_long : Closes (sectioned 26 (0 ∷ 6 ∷ 0 ∷ 0 ∷ 0 ∷ 0 ∷ [])) BadSection
+  -- what is in it is for the command to say
+  pub unreadable : Brings (sectioned 26 (0 ∷ 5 ∷ 0 ∷ 0 ∷ 0 ∷ 9 ∷ [])) (asks false (5 ∷ 0 ∷ 0 ∷ 0 ∷ 9 ∷ []) ∷ []) (reading [])
+  -- behind a message comes the next, or a fault that closes the session behind it
+  pub two : Brings (sectioned 26 (0 ∷ empty_document) ++ flagged (2 ∷ 0 ∷ 0 ∷ 0 ∷ []) ++ 26 ∷ []) (asks false empty_document ∷ asks true empty_document ∷ []) (reading (26 ∷ []))
+  pub fault_behind : Brings (sectioned 26 (0 ∷ empty_document) ++ 25 ∷ 0 ∷ 0 ∷ 0 ∷ []) (asks false empty_document ∷ []) (closed BadLength)
+
+-- ---- sessions
+
+-- {ping: 1, $db: "t"}, its bytes, and a message with it and these flags
+abbrev pub ping_fields : List Field
+ping_fields = (codes "ping", int32 (pos 1)) ∷ (codes "$db", string (codes "t")) ∷ []
+
+abbrev pub ping_document : List ℕ
+ping_document = 26 ∷ 0 ∷ 0 ∷ 0 ∷ 16 ∷ 112 ∷ 105 ∷ 110 ∷ 103 ∷ 0 ∷ 1 ∷ 0 ∷ 0 ∷ 0 ∷ 2 ∷ 36 ∷ 100 ∷ 98 ∷ 0 ∷ 2 ∷ 0 ∷ 0 ∷ 0 ∷ 116 ∷ 0 ∷ 0 ∷ []
+
+abbrev pub ping : ℕ → List ℕ
+ping flags = op_msg_header 47 ++ flags ∷ 0 ∷ 0 ∷ 0 ∷ 0 ∷ ping_document
+
+-- the reply {ok: 1}, and the message with it
+abbrev pub ok : List Field
+ok = (codes "ok", int32 (pos 1)) ∷ []
+
+abbrev pub pong : List ℕ
+pong = 34 ∷ 0 ∷ 0 ∷ 0 ∷ 0 ∷ 0 ∷ 0 ∷ 0 ∷ 7 ∷ 0 ∷ 0 ∷ 0 ∷ 221 ∷ 7 ∷ 0 ∷ 0 ∷ 0 ∷ 0 ∷ 0 ∷ 0 ∷ 0 ∷ 13 ∷ 0 ∷ 0 ∷ 0 ∷ 16 ∷ 111 ∷ 107 ∷ 0 ∷ 1 ∷ 0 ∷ 0 ∷ 0 ∷ 0 ∷ []
+
+-- a world with these sessions
+abbrev pub world : State → ℕ → List (ℕ × Conversation) → World
+world state next sessions = record { state = state; next = next; sessions = sessions }
+
+abbrev pub id : ℕ → SessionId
+id number = record { number = number }
+
+pub record SessionExamples : Type 0 where
+  pub first : (state : State) → Opens (world state 0 []) (Ok (id 0)) (world state 1 ((0, reading []) ∷ []))
+  -- another one only once it has ended, be it closed
+  pub second : (state : State) (session : SessionId) (new : World) → Opens (world state 1 ((0, closed BadLength) ∷ [])) (Ok session) new → ⊥
+  pub not_too_many : (state : State) (new : World) → Opens (world state 0 []) (Err TooManySessions) new → ⊥
+  pub after_an_end : (state : State) → Opens (end 0 (world state 1 ((0, closed BadLength) ∷ []))) (Ok (id 1)) (world state 2 ((1, reading []) ∷ []))
+  -- there are 4,294,967,296 numbers
+  pub last_number : (state : State) → Opens (world state 4294967295 []) (Ok (id 4294967295)) (world state 4294967296 ((4294967295, reading []) ∷ []))
+  pub no_number : (state : State) (session : SessionId) (new : World) → Opens (world state 4294967296 []) (Ok session) new → ⊥
+  pub unfinished : unfinished_in (Some (reading (26 ∷ 0 ∷ []))) ≡ 2
+  pub none_unfinished : unfinished_in (Some (closed BadLength)) ≡ 0
+  -- a ping is answered, and not where moreToCome leaves its reply out; the last one is not whole
+  pub pings : (state : State) (session : ℕ)
+      → plain_run session state (split (ping 0 ++ ping 2 ++ ping 0 ++ 47 ∷ [])) ≡ record { bytes = pong ++ pong; state = state; conversation = reading (47 ∷ []) }
+
+pub record WantExamples : Type 0 where
+  -- moreToCome leaves a reply out, but not one that tells of want of memory: its session can't go on
+  pub plain : (reply : List Field) → bytes_to (asks true empty_document) (Reply reply) ≡ Some []
+  pub untold : (reply : List Field) → bytes_to (asks true empty_document) (Wanting reply) ≡ None
+  pub told : (reply : List Field) → bytes_to (asks false empty_document) (Wanting reply) ≡ Some (reply_bytes (asks false empty_document) reply)
+  pub no_reply : (more_to_come : Bool) → bytes_to (asks more_to_come empty_document) NoReply ≡ None
+  -- a command that finds no memory, and waits for no reply
+  pub refused : (state : State) (session : ℕ) → CarriesOut session state (asks true empty_document ∷ []) (reading []) (silence state (closed NoMemory))
