@@ -1,3 +1,4 @@
 mod Lines
 mod Numbers
 mod Pairs
+mod Replies

@@ -1,9 +1,76 @@
--- What a script answers where a hub opens no session.
+-- What a script does, line by line, and what is written.
+use Rattle.std.specs.Prelude.{◌≡◌, ℕ, ◌<◌, ◌⊎◌, Bool, true, false, List, [], ◌∷◌, ◌++◌, Option, Some, None, Ok, Err, count_by, is_some, slice_get, slice_set, if◌then◌else◌}
+use Rattle.dv_wire.specs.declared.hub.Fed.{Fed}
+use Rattle.dv_wire.specs.declared.hub.Fed.TheVariants as fed
 use Rattle.dv_wire.specs.declared.fault.HubFault.{HubFault}
 use Rattle.dv_wire.specs.declared.fault.HubFault.TheVariants as hub_faults
+use Rattle.dv_wire.specs.Schedule.{World, Opens, Feeds, unfinished_in, conversation_of, ended}
+use Rattle.docd.specs.Line.{IsLine}
+use Rattle.docd.specs.Output.{AreReplies, end_line, fed_text}
+use Rattle.docd.specs.declared.said.Line.{Line}
+use Rattle.docd.specs.declared.said.Line.TheVariants.{Skip, Bytes, End}
 use Rattle.docd.specs.declared.script.ScriptFault.{ScriptFault}
-use Rattle.docd.specs.declared.script.ScriptFault.TheVariants.{Sessions, NoMemory}
+use Rattle.docd.specs.declared.script.ScriptFault.TheVariants as script_faults
+use Rattle.docd.specs.declared.sessions.Session.{Session}
+use Rattle.docd.specs.declared.sessions.Sessions.{Sessions}
 
+-- a script that opens no session ends with this fault
 abbrev pub open_fault : HubFault → ScriptFault
-open_fault hub_faults.TooManySessions = Sessions
-open_fault hub_faults.NoMemory = NoMemory
+open_fault hub_faults.TooManySessions = script_faults.Sessions
+open_fault hub_faults.NoMemory = script_faults.NoMemory
+
+-- the sessions that were opened and haven't ended, by their numbers in the script, and the hub
+pub record State : Type 0 where
+  pub sessions : List (Option Session)
+  pub hub : World
+
+abbrev pub state_of : Sessions → World → State
+state_of sessions hub = record { sessions = sessions.places; hub = hub }
+
+-- how many sessions of a script may be opened and not ended
+abbrev pub open_limit : ℕ
+open_limit = 1
+
+-- the session of a number: the one that stands under it, or one that is opened and put there
+abbrev pub Finds : State → ℕ → Session → State → Type 0
+Finds old number session new =
+    ((slice_get old.sessions number ≡ Some (Some session)) × (new ≡ old))
+    ⊎ ((slice_get old.sessions number ≡ Some None) × (count_by is_some old.sessions < open_limit) × (session.is_closed ≡ false)
+    × Opens old.hub (Ok session.id) new.hub × (new.sessions ≡ slice_set old.sessions number (Some session)))
+
+-- no session is opened for the number, since another one is open
+abbrev pub IsSecond : State → ℕ → Type 0
+IsSecond old number = (slice_get old.sessions number ≡ Some None) × (0 < count_by is_some old.sessions)
+
+-- whether a session takes no more bytes
+abbrev pub is_shut : Fed → Bool
+is_shut fed.Open = false
+is_shut (fed.Closed fault) = true
+is_shut fed.Unknown = false
+
+-- bytes come from a session: its replies are written, and then that it is closed; one that is closed takes none
+abbrev pub Hears : State → ℕ → Session → List ℕ → List ℕ → State → Type 0
+Hears old number session bytes text new =
+    ((session.is_closed ≡ true) × (text ≡ []) × (new ≡ old))
+    ⊎ ((session.is_closed ≡ false) × ((answered : List ℕ) × (replies : List (List ℕ)) × (told : Fed)
+    × Feeds old.hub session.id.number bytes answered told new.hub × AreReplies replies answered
+    × (text ≡ fed_text number replies told) × (new.sessions ≡ slice_set old.sessions number (Some (record session { is_closed = is_shut told })))))
+
+-- a session ends: it is written how many bytes of an unfinished message are dropped
+abbrev pub Ends : State → ℕ → Session → List ℕ → State → Type 0
+Ends old number session text new =
+    (text ≡ end_line number (unfinished_in (conversation_of session.id.number old.hub.sessions)))
+    × (new ≡ record { sessions = slice_set old.sessions number None; hub = ended session.id.number old.hub })
+
+-- what a line does, and what is written of it
+abbrev pub Does : State → Line → List ℕ → State → Type 0
+Does old Skip text new = (text ≡ []) × (new ≡ old)
+Does old (Bytes number bytes) text new = (session : Session) × (mid : State) × Finds old number session mid × Hears mid number session bytes text new
+Does old (End number) text new = (session : Session) × (mid : State) × Finds old number session mid × Ends mid number session text new
+
+-- the lines of a script are done one after the other
+abbrev pub Runs : State → List (List ℕ) → List ℕ → State → Type 0
+Runs old [] text new = (text ≡ []) × (new ≡ old)
+Runs old (line ∷ lines) text new =
+    (meant : Line) × (mid : State) × (first : List ℕ) × (others : List ℕ)
+    × IsLine meant line × Does old meant first mid × Runs mid lines others new × (text ≡ first ++ others)

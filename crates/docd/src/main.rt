@@ -2,9 +2,10 @@
 #![tactic(auto)]
 
 mod line;
-mod replies;
+mod output;
 mod said;
 mod script;
+mod sessions;
 #[cfg(test)]
 mod tests;
 mod words;

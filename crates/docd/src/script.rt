@@ -1,12 +1,15 @@
 //! Scripts: lines that bring bytes to the sessions of a hub.
 
-ghost use Rattle.std.specs.Prelude.{◌≡◌, ◌<◌, ◌+◌, ◌↔◌, ◌++◌, length, IfOk, OnOk, is_some, count_by, slice_get};
+ghost use Rattle.std.specs.Prelude.{◌≡◌, ◌<◌, ◌+◌, ◌↔◌, ◌++◌, [], length, string_bytes, IfOk, OnOk};
 ghost use Rattle.dv_wire.specs.Schedule.{Opens};
+ghost use Rattle.docd.specs.Line.{IsLine};
+ghost use Rattle.docd.specs.Script.{Does, Ends, Finds, Hears, IsSecond, state_of};
 
-use crate::line::{LONGEST_LINE, NUMBERS, line};
-use crate::replies::write_replies;
+use crate::line::{LONGEST_LINE, line};
+use crate::output::{end_text, fed_text};
 use crate::said::{Line, LineFault};
-use dv_wire::{Fed, Hub, HubFault, SessionId};
+use crate::sessions::{Session, Sessions};
+use dv_wire::{Fed, Hub, HubFault};
 use std::alloc::{AllocError, Global};
 use std::io::{BufWriter, Read, Write};
 use thiserror::Error;
@@ -16,9 +19,6 @@ const MOST_READS: u64 = 4_294_967_296;
 
 /// The most bytes that one read takes.
 const PIECE: usize = 65_536;
-
-/// How many places the table of sessions has: one for each number.
-const PLACES: usize = NUMBERS as usize;
 
 /// How many sessions of a script may be opened and not ended.
 const OPEN_LIMIT: usize = 1;
@@ -87,35 +87,24 @@ pub fn script<R: Read, W: Write>(
     flushed
 }
 
-/// A number's session.
-#[derive(Clone, Copy)]
-struct Session {
-    id: SessionId,
-    is_closed: bool,
-}
-
 /// How far a script is done.
 #[derive(Drop)]
 struct Progress {
     alloc: Global,
-    /// The sessions that were opened and haven't ended, by their numbers in the script.
-    sessions: [Option<Session>; PLACES],
+    sessions: Sessions,
     /// The number of the line that is being read, from 1.
     number: u64,
     /// The bytes of that line so far.
     line: Vec<u8>,
-    /// The replies to a line.
-    replies: Vec<u8>,
 }
 
 impl Progress {
     fn new(alloc: Global) -> Self {
         Progress {
             alloc,
-            sessions: [None; PLACES],
+            sessions: Sessions::new(),
             number: 1,
             line: Vec::new(alloc),
-            replies: Vec::new(alloc),
         }
     }
 
@@ -178,87 +167,86 @@ impl Progress {
 
     // Does the line that was read. At the script's end that is an empty one, where the last line has its LF.
     fn finish_line<W: Write>(&mut self, hub: &mut Hub, writer: &mut W) -> Result<(), ScriptFault> {
-        match line(self.alloc, self.line.as_slice()) {
-            Ok(Line::Skip) => {}
-            Ok(Line::Bytes(number, bytes)) => self.feed(hub, number, bytes.as_slice(), writer)?,
-            Ok(Line::End(number)) => self.end(hub, number, writer)?,
-            Err(LineFault::BadLine) => return Err(self.bad_line()),
-            Err(LineFault::NoMemory) => return Err(ScriptFault::NoMemory),
-        }
+        let text = self.do_line(hub)?;
+        writer
+            .write_all(text.as_bytes())
+            .map_err(|_| ScriptFault::Write)?;
         self.line.clear();
         self.number = self.number.saturating_add(1);
         Ok(())
     }
 
-    fn feed<W: Write>(
-        &mut self,
-        hub: &mut Hub,
-        number: u32,
-        bytes: &[u8],
-        writer: &mut W,
-    ) -> Result<(), ScriptFault>
+    // Does the line that was read, and answers what is to be written of it.
+    fn do_line(&mut self, hub: &mut Hub) -> Result<String, ScriptFault>
+        ensures kept { self.new ≡ record self.old { sessions = self.new.sessions } }
+        ensures done { IfOk result (λ text. (meant : Line) × IsLine meant self.old.line.items
+            × Does (state_of self.old.sessions hub.old) meant (string_bytes text) (state_of self.new.sessions hub.new)) }
+    {
+        match line(self.alloc, self.line.as_slice()) {
+            Ok(Line::Skip) => Ok(String::new(self.alloc)),
+            Ok(Line::Bytes(number, bytes)) => self.feed(hub, number, bytes.as_slice()),
+            Ok(Line::End(number)) => self.end(hub, number),
+            Err(LineFault::BadLine) => Err(self.bad_line()),
+            Err(LineFault::NoMemory) => Err(ScriptFault::NoMemory),
+        }
+    }
+
+    fn feed(&mut self, hub: &mut Hub, number: u32, bytes: &[u8]) -> Result<String, ScriptFault>
         requires { number < 1000 }
+        ensures kept { self.new ≡ record self.old { sessions = self.new.sessions } }
+        ensures done { IfOk result (λ text.
+            Does (state_of self.old.sessions hub.old) (Line.Bytes number bytes.now) (string_bytes text) (state_of self.new.sessions hub.new)) }
     {
         let session = self.session(hub, number)?;
         if session.is_closed {
-            return Ok(());
+            return Ok(String::new(self.alloc));
         }
-        self.replies.clear();
-        let fed = hub.feed(session.id, bytes, &mut self.replies);
-        write_replies(self.alloc, number, self.replies.as_slice(), writer)?;
-        if let Fed::Closed(fault) = fed {
-            self.sessions[number as usize] = Some(Session {
+        let mut replies = Vec::new(self.alloc);
+        let fed = hub.feed(session.id, bytes, &mut replies);
+        let is_closed = matches!(fed, Fed::Closed(_));
+        self.sessions.set(
+            number,
+            Some(Session {
                 id: session.id,
-                is_closed: true,
-            });
-            let fault = fault.number();
-            writeln!(writer, "{number} closed {fault}").map_err(|_| ScriptFault::Write)?;
-        }
-        Ok(())
+                is_closed,
+            }),
+        );
+        Ok(fed_text(self.alloc, number, replies.as_slice(), fed)?)
     }
 
-    fn end<W: Write>(
-        &mut self,
-        hub: &mut Hub,
-        number: u32,
-        writer: &mut W,
-    ) -> Result<(), ScriptFault>
+    fn end(&mut self, hub: &mut Hub, number: u32) -> Result<String, ScriptFault>
         requires { number < 1000 }
-        ensures { OnOk result (slice_get self.new.sessions number ≡ Some None) }
+        ensures kept { self.new ≡ record self.old { sessions = self.new.sessions } }
+        ensures done { IfOk result (λ text.
+            Does (state_of self.old.sessions hub.old) (Line.End number) (string_bytes text) (state_of self.new.sessions hub.new)) }
     {
         let session = self.session(hub, number)?;
         let unfinished = hub.end(session.id);
-        self.sessions[number as usize] = None;
-        writeln!(writer, "{number} end {unfinished}").map_err(|_| ScriptFault::Write)
+        self.sessions.set(number, None);
+        Ok(end_text(self.alloc, number, unfinished)?)
     }
 
     // The session of a number, which is opened if it isn't open.
     fn session(&mut self, hub: &mut Hub, number: u32) -> Result<Session, ScriptFault>
         requires { number < 1000 }
-        ensures open { IfOk result (λ session. slice_get self.new.sessions number ≡ Some (Some session)) }
-        ensures again { (session : Session) → slice_get self.old.sessions number ≡ Some (Some session)
-            → (result ≡ Ok session) × (self.new ≡ self.old) × (hub.new ≡ hub.old) }
-        ensures second { slice_get self.old.sessions number ≡ Some None → 0 < count_by is_some self.old.sessions
+        ensures kept { self.new ≡ record self.old { sessions = self.new.sessions } }
+        ensures found { IfOk result (λ session.
+            Finds (state_of self.old.sessions hub.old) number session (state_of self.new.sessions hub.new)) }
+        ensures second { IsSecond (state_of self.old.sessions hub.old) number
             → result ≡ Err (ScriptFault.BadLine self.old.number) }
         ensures full { result ≡ Err ScriptFault.Sessions → Opens hub.old (Err HubFault.TooManySessions) hub.new }
     {
-        if let Some(session) = self.sessions[number as usize] {
+        if let Some(session) = self.sessions.get(number) {
             return Ok(session);
         }
-        if self
-            .sessions
-            .iter()
-            .filter(|session| session.is_some())
-            .count()
-            >= OPEN_LIMIT
-        {
+        if self.sessions.count() >= OPEN_LIMIT {
             return Err(self.bad_line());
         }
         let session = Session {
             id: hub.open()?,
             is_closed: false,
         };
-        self.sessions[number as usize] = Some(session);
+        self.sessions.set(number, Some(session));
         Ok(session)
     }
 }
