@@ -1,4 +1,5 @@
 mod Lines
 mod Numbers
 mod Pairs
+mod Pieces
 mod Replies

@@ -1,5 +1,7 @@
 -- What a script does, line by line, and what is written.
-use Rattle.std.specs.Prelude.{◌≡◌, ℕ, ◌<◌, ◌⊎◌, Bool, true, false, List, [], ◌∷◌, ◌++◌, Option, Some, None, Ok, Err, count_by, is_some, slice_get, slice_set, if◌then◌else◌}
+use Rattle.std.specs.Prelude.{◌≡◌, ℕ, ◌<◌, ◌⊎◌, Bool, true, false, List, [], ◌∷◌, ◌++◌, ◌==◌, Option, Some, None, Ok, Err, count_by, is_some, replicate, slice_get, slice_set}
+use Rattle.std.specs.Bool.{MatchBool}
+use Rattle.std.specs.List.{All, slice_split}
 use Rattle.dv_wire.specs.declared.hub.Fed.{Fed}
 use Rattle.dv_wire.specs.declared.hub.Fed.TheVariants as fed
 use Rattle.dv_wire.specs.declared.fault.HubFault.{HubFault}
@@ -68,9 +70,36 @@ Does old Skip text new = (text ≡ []) × (new ≡ old)
 Does old (Bytes number bytes) text new = (session : Session) × (mid : State) × Finds old number session mid × Hears mid number session bytes text new
 Does old (End number) text new = (session : Session) × (mid : State) × Finds old number session mid × Ends mid number session text new
 
--- the lines of a script are done one after the other
-abbrev pub Runs : State → List (List ℕ) → List ℕ → State → Type 0
-Runs old [] text new = (text ≡ []) × (new ≡ old)
-Runs old (line ∷ lines) text new =
-    (meant : Line) × (mid : State) × (first : List ℕ) × (others : List ℕ)
-    × IsLine meant line × Does old meant first mid × Runs mid lines others new × (text ≡ first ++ others)
+-- a line as it stands in a script is done
+abbrev pub DoesLine : State → List ℕ → List ℕ → State → Type 0
+DoesLine old line text new = (meant : Line) × IsLine meant line × Does old meant text new
+
+-- lines are done one after the other
+abbrev pub DoesLines : State → List (List ℕ) → List ℕ → State → Type 0
+DoesLines old [] text new = (text ≡ []) × (new ≡ old)
+DoesLines old (line ∷ lines) text new =
+    (mid : State) × (first : List ℕ) × (others : List ℕ) × DoesLine old line first mid × DoesLines mid lines others new × (text ≡ first ++ others)
+
+abbrev pub is_lf : ℕ → Bool
+is_lf b = b == 10
+
+abbrev pub HasNoLf : List ℕ → Type 0
+HasNoLf bytes = All (λ b. is_lf b ≡ false) bytes
+
+-- A script is the lines between its LFs, the last one behind the last LF. They are done, and this is written.
+abbrev pub Runs : State → List ℕ → List ℕ → State → Type 0
+Runs old script text new = DoesLines old (slice_split is_lf script) text new
+
+-- before a script: no number has a session
+abbrev pub begun : World → State
+begun hub = record { sessions = replicate 1000 None; hub = hub }
+
+-- ---- a script that comes in pieces
+
+-- behind a line's first bytes come these: each LF ends a line, which is done, and what stands behind the last one is kept
+abbrev pub Takes : State → List ℕ → List ℕ → List ℕ → State → List ℕ → Type 0
+Takes old line [] text new kept = (text ≡ []) × (new ≡ old) × (kept ≡ line)
+Takes old line (b ∷ bytes) text new kept =
+    MatchBool (is_lf b)
+    ((mid : State) × (first : List ℕ) × (others : List ℕ) × DoesLine old line first mid × Takes mid [] bytes others new kept × (text ≡ first ++ others))
+    (Takes old (line ++ b ∷ []) bytes text new kept)

@@ -11,7 +11,7 @@ mod tests;
 mod words;
 
 use dv_wire::{Hub, Store};
-use std::io::ErrorKind;
+use std::io::{BufWriter, ErrorKind};
 use std::process::ExitCode;
 use std::rt::Env;
 use std::{env, io};
@@ -38,7 +38,10 @@ fn docd<R: Env + Input + Print + AllocGlobal>(rt: &R) -> Result<(), DocdFault> {
     match words::words(alloc, words.as_slice())? {
         Job::Script => {
             let mut hub = Hub::new(alloc, Store::new(alloc));
-            script::script(alloc, &mut hub, &mut rt.reader(), &mut io::writer(rt))?;
+            let mut writer = BufWriter::new(alloc, io::writer(rt)).map_err(
+                |_| DocdFault::NoMemory,
+            )?;
+            script::script(alloc, &mut hub, &mut rt.reader(), &mut writer)?;
         }
     }
     Ok(())

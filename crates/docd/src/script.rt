@@ -1,9 +1,9 @@
 //! Scripts: lines that bring bytes to the sessions of a hub.
 
-ghost use Rattle.std.specs.Prelude.{◌≡◌, ◌<◌, ◌+◌, ◌↔◌, ◌++◌, [], length, string_bytes, IfOk, OnOk};
+ghost use Rattle.std.specs.Prelude.{◌≡◌, ◌<◌, ◌≤◌, ◌+◌, ◌↔◌, ◌++◌, ◌∷◌, ℕ, List, [], length, replicate, string_bytes, take, IfOk, IfSome, MatchOption, OnOk};
+ghost use Rattle.std.specs.Io.KnownBytes.{Appends, Consumes, IsAtEnd, Keeps};
 ghost use Rattle.dv_wire.specs.Schedule.{Opens};
-ghost use Rattle.docd.specs.Line.{IsLine};
-ghost use Rattle.docd.specs.Script.{Does, Ends, Finds, Hears, IsSecond, state_of};
+ghost use Rattle.docd.specs.Script.{Does, DoesLine, Finds, HasNoLf, IsSecond, Runs, State, Takes, begun, state_of};
 
 use crate::line::{LONGEST_LINE, line};
 use crate::output::{end_text, fed_text};
@@ -11,7 +11,7 @@ use crate::said::{Line, LineFault};
 use crate::sessions::{Session, Sessions};
 use dv_wire::{Fed, Hub, HubFault};
 use std::alloc::{AllocError, Global};
-use std::io::{BufWriter, Read, Write};
+use std::io::{Read, Write};
 use thiserror::Error;
 
 /// The most reads that a script takes.
@@ -70,7 +70,7 @@ impl From<HubFault> for ScriptFault {
 /// Reads a script to its end and does each line as it comes. A number's session is opened at the number's first line,
 /// and anew after its end. Each reply is written as the number, a space and the reply's bytes in lower case; a session
 /// that is closed as `N closed F`, once, with the fault's number; an end as `N end R`, with the bytes of an unfinished
-/// message. Bytes for a closed session are dropped.
+/// message. Bytes for a closed session are dropped. What is written is flushed before each read, and at the end.
 ///
 /// The first fault ends the script; what was written before stays written. The hub keeps the sessions that the script
 /// hasn't ended.
@@ -79,10 +79,13 @@ pub fn script<R: Read, W: Write>(
     hub: &mut Hub,
     reader: &mut R,
     writer: &mut W,
-) -> Result<(), ScriptFault> {
-    let mut writer = BufWriter::new(alloc, writer).map_err(|_| ScriptFault::NoMemory)?;
-    let done = Progress::new(alloc).read(hub, reader, &mut writer);
-    let flushed = writer.flush().map_err(|_| ScriptFault::Write);
+) -> Result<(), ScriptFault>
+    ensures { OnOk result (IfSome (R.remaining reader.old) (λ text. (said : List ℕ) × (end : State)
+        × Appends (W.contents writer.old) (W.contents writer.new) said × Runs (begun hub.old) text said end × (end.hub ≡ hub.new))) }
+{
+    let mut progress = Progress::new(alloc);
+    let done = progress.read(hub, reader, writer);
+    let flushed = flush(writer);
     done?;
     flushed
 }
@@ -99,7 +102,10 @@ struct Progress {
 }
 
 impl Progress {
-    fn new(alloc: Global) -> Self {
+    fn new(alloc: Global) -> Self
+        ensures none { result.sessions.places ≡ replicate 1000 None }
+        ensures line { result.line.items ≡ [] }
+    {
         Progress {
             alloc,
             sessions: Sessions::new(),
@@ -113,12 +119,17 @@ impl Progress {
         hub: &mut Hub,
         reader: &mut R,
         writer: &mut W,
-    ) -> Result<(), ScriptFault> {
+    ) -> Result<(), ScriptFault>
+        requires { self.old.line.items ≡ [] }
+        ensures { OnOk result (IfSome (R.remaining reader.old) (λ text. (said : List ℕ)
+            × Appends (W.contents writer.old) (W.contents writer.new) said
+            × Runs (state_of self.old.sessions hub.old) text said (state_of self.new.sessions hub.new))) }
+    {
         let mut piece = room(self.alloc)?;
-        for _ in 0..MOST_READS {
+        'reads: for _ in 0..MOST_READS {
             // The next read may wait for someone who waits for these replies.
-            writer.flush().map_err(|_| ScriptFault::Write)?;
-            let count = reader.read(&mut piece).map_err(|_| ScriptFault::Read)?;
+            flush(writer)?;
+            let count = read_some(reader, &mut piece)?;
             if count == 0 {
                 return self.finish_line(hub, writer);
             }
@@ -133,16 +144,17 @@ impl Progress {
         hub: &mut Hub,
         piece: &[u8],
         writer: &mut W,
-    ) -> Result<(), ScriptFault> {
-        for part in piece.split_inclusive(|byte| *byte == b'\n') {
-            match part.strip_suffix(b"\n".as_slice()) {
-                Some(end) => {
-                    self.keep(end)?;
-                    self.finish_line(hub, writer)?;
-                }
-                None => self.keep(part)?,
-            }
+    ) -> Result<(), ScriptFault>
+        ensures { OnOk result ((said : List ℕ) × Appends (W.contents writer.old) (W.contents writer.new) said
+            × Takes (state_of self.old.sessions hub.old) self.old.line.items piece.now said (state_of self.new.sessions hub.new) self.new.line.items) }
+    {
+        let mut rest = piece;
+        'lines: while let Some((end, behind)) = line_end(rest) {
+            self.keep(end)?;
+            self.finish_line(hub, writer)?;
+            rest = behind;
         }
+        self.keep(rest)?;
         Ok(())
     }
 
@@ -166,7 +178,11 @@ impl Progress {
     }
 
     // Does the line that was read. At the script's end that is an empty one, where the last line has its LF.
-    fn finish_line<W: Write>(&mut self, hub: &mut Hub, writer: &mut W) -> Result<(), ScriptFault> {
+    fn finish_line<W: Write>(&mut self, hub: &mut Hub, writer: &mut W) -> Result<(), ScriptFault>
+        ensures next { OnOk result (self.new.line.items ≡ []) }
+        ensures done { OnOk result ((said : List ℕ) × Appends (W.contents writer.old) (W.contents writer.new) said
+            × DoesLine (state_of self.old.sessions hub.old) self.old.line.items said (state_of self.new.sessions hub.new)) }
+    {
         let text = self.do_line(hub)?;
         writer
             .write_all(text.as_bytes())
@@ -179,8 +195,8 @@ impl Progress {
     // Does the line that was read, and answers what is to be written of it.
     fn do_line(&mut self, hub: &mut Hub) -> Result<String, ScriptFault>
         ensures kept { self.new ≡ record self.old { sessions = self.new.sessions } }
-        ensures done { IfOk result (λ text. (meant : Line) × IsLine meant self.old.line.items
-            × Does (state_of self.old.sessions hub.old) meant (string_bytes text) (state_of self.new.sessions hub.new)) }
+        ensures done { IfOk result (λ text.
+            DoesLine (state_of self.old.sessions hub.old) self.old.line.items (string_bytes text) (state_of self.new.sessions hub.new)) }
     {
         match line(self.alloc, self.line.as_slice()) {
             Ok(Line::Skip) => Ok(String::new(self.alloc)),
@@ -251,7 +267,33 @@ impl Progress {
     }
 }
 
+// Puts the next bytes of a script at the front of the piece, and answers how many they are: none at its end.
+fn read_some<R: Read>(reader: &mut R, piece: &mut [u8]) -> Result<usize, ScriptFault>
+    requires { 0 < length piece.old }
+    ensures few { IfOk result (λ count. count ≤ length piece.new) }
+    ensures bytes { IfOk result (λ count. Consumes (R.remaining reader.old) (R.remaining reader.new) (take count piece.new)) }
+    ensures end { IfOk result (λ count. count ≡ 0 → IsAtEnd (R.remaining reader.new)) }
+{
+    reader.read(piece).map_err(|_| ScriptFault::Read)
+}
+
+fn flush<W: Write>(writer: &mut W) -> Result<(), ScriptFault>
+    ensures { OnOk result (Keeps (W.contents writer.old) (W.contents writer.new)) }
+{
+    writer.flush().map_err(|_| ScriptFault::Write)
+}
+
+// What stands in front of the first LF, and behind it.
+fn line_end(bytes: &[u8]) -> Option<(&[u8], &[u8])>
+    ensures { MatchOption result (HasNoLf bytes.now) (λ found. HasNoLf found.0.now × (bytes.now ≡ found.0.now ++ 10 ∷ found.1.now)) }
+{
+    let at = bytes.iter().position(|byte| *byte == b'\n')?;
+    Some((&bytes[..at], &bytes[at + 1..]))
+}
+
 // Room for one read's bytes. Apart, so that no proof spells all of them out.
-fn room(alloc: Global) -> Result<Vec<u8>, AllocError> {
+fn room(alloc: Global) -> Result<Vec<u8>, AllocError>
+    ensures { IfOk result (λ piece. 0 < length piece.items) }
+{
     vec![in alloc; 0u8; PIECE]
 }
