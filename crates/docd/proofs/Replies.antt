@@ -1,12 +1,12 @@
 -- Replies, one behind the other.
-use Rattle.std.proofs.Common.{◌≡◌, ℕ, ◌<◌, ◌≤◌, Bool, List, ◌∷◌, ◌++◌, length, take, drop, nat_le, ◌&&◌, false, [], refl, sym, ap, ◌∙◌, arith, append_assoc, length-drop}
+use Rattle.std.proofs.Common.{◌≡◌, ℕ, ◌<◌, ◌≤◌, Bool, List, ◌∷◌, length, take, drop, nat_le, ◌&&◌, false, [], refl, sym, ap, ◌∙◌, arith, length-drop}
 use Rattle.std.proofs.lemmas.Bool.{cond_both, leb-true, and_parts}
 use Rattle.std.proofs.lemmas.List.{take-append-drop, length-take-le}
 use Rattle.dv_wire.specs.declared.fault.CloseFault.{CloseFault}
 use Rattle.dv_wire.specs.declared.hub.Fed.{Fed}
 use Rattle.dv_wire.specs.declared.hub.Fed.TheVariants as fed
 use Rattle.docd.specs.Output.{AreReplies, fate_line, first_length, length_told}
-use Rattle.docd.specs.Script.{is_shut}
+use Rattle.docd.specs.Script.{is_closing}
 
 abbrev tells_own : List ℕ → Bool
 tells_own bytes = nat_le 4 (length_told bytes) && nat_le (length_told bytes) (length bytes)
@@ -45,7 +45,7 @@ no_fate number fed.Open other = refl
 no_fate number (fed.Closed fault) other = absurd (other fault refl)
 no_fate number fed.Unknown other = refl
 
-pub not_shut : (told : Fed) → ((fault : CloseFault) → told ≡ fed.Closed fault → ⊥) → is_shut told ≡ false
-not_shut fed.Open other = refl
-not_shut (fed.Closed fault) other = absurd (other fault refl)
-not_shut fed.Unknown other = refl
+pub not_closing : (told : Fed) → ((fault : CloseFault) → told ≡ fed.Closed fault → ⊥) → is_closing told ≡ false
+not_closing fed.Open other = refl
+not_closing (fed.Closed fault) other = absurd (other fault refl)
+not_closing fed.Unknown other = refl

@@ -3,7 +3,7 @@
 ghost use Rattle.std.specs.Prelude.{◌≡◌, ◌<◌, ◌≤◌, ◌+◌, ◌↔◌, ◌++◌, ◌∷◌, ℕ, List, [], length, replicate, string_bytes, take, IfOk, IfSome, MatchOption, OnOk};
 ghost use Rattle.std.specs.Io.KnownBytes.{Appends, Consumes, IsAtEnd, Keeps};
 ghost use Rattle.dv_wire.specs.Schedule.{Opens};
-ghost use Rattle.docd.specs.Script.{Does, DoesLine, Finds, HasNoLf, IsSecond, Runs, State, Takes, begun, state_of};
+ghost use Rattle.docd.specs.Script.{Does, DoesLine, Finds, HasNoLf, IsBad, IsSecond, Runs, Standing, TakesPiece, begun, standing_of};
 
 use crate::line::{LONGEST_LINE, line};
 use crate::output::{end_text, fed_text};
@@ -80,7 +80,7 @@ pub fn script<R: Read, W: Write>(
     reader: &mut R,
     writer: &mut W,
 ) -> Result<(), ScriptFault>
-    ensures { OnOk result (IfSome (R.remaining reader.old) (λ text. (said : List ℕ) × (end : State)
+    ensures { OnOk result (IfSome (R.remaining reader.old) (λ text. (said : List ℕ) × (end : Standing)
         × Appends (W.contents writer.old) (W.contents writer.new) said × Runs (begun hub.old) text said end × (end.hub ≡ hub.new))) }
 {
     let mut progress = Progress::new(alloc);
@@ -123,7 +123,7 @@ impl Progress {
         requires { self.old.line.items ≡ [] }
         ensures { OnOk result (IfSome (R.remaining reader.old) (λ text. (said : List ℕ)
             × Appends (W.contents writer.old) (W.contents writer.new) said
-            × Runs (state_of self.old.sessions hub.old) text said (state_of self.new.sessions hub.new))) }
+            × Runs (standing_of self.old.sessions hub.old) text said (standing_of self.new.sessions hub.new))) }
     {
         let mut piece = room(self.alloc)?;
         'reads: for _ in 0..MOST_READS {
@@ -138,7 +138,7 @@ impl Progress {
         Err(ScriptFault::Read)
     }
 
-    // Takes the next piece of the script, which may end any number of lines.
+    // TakesPiece the next piece of the script, which may end any number of lines.
     fn take<W: Write>(
         &mut self,
         hub: &mut Hub,
@@ -146,7 +146,7 @@ impl Progress {
         writer: &mut W,
     ) -> Result<(), ScriptFault>
         ensures { OnOk result ((said : List ℕ) × Appends (W.contents writer.old) (W.contents writer.new) said
-            × Takes (state_of self.old.sessions hub.old) self.old.line.items piece.now said (state_of self.new.sessions hub.new) self.new.line.items) }
+            × TakesPiece (standing_of self.old.sessions hub.old) self.old.line.items piece.now said (standing_of self.new.sessions hub.new) self.new.line.items) }
     {
         let mut rest = piece;
         'lines: while let Some((end, behind)) = line_end(rest) {
@@ -181,7 +181,7 @@ impl Progress {
     fn finish_line<W: Write>(&mut self, hub: &mut Hub, writer: &mut W) -> Result<(), ScriptFault>
         ensures next { OnOk result (self.new.line.items ≡ []) }
         ensures done { OnOk result ((said : List ℕ) × Appends (W.contents writer.old) (W.contents writer.new) said
-            × DoesLine (state_of self.old.sessions hub.old) self.old.line.items said (state_of self.new.sessions hub.new)) }
+            × DoesLine (standing_of self.old.sessions hub.old) self.old.line.items said (standing_of self.new.sessions hub.new)) }
     {
         let text = self.do_line(hub)?;
         writer
@@ -196,7 +196,8 @@ impl Progress {
     fn do_line(&mut self, hub: &mut Hub) -> Result<String, ScriptFault>
         ensures kept { self.new ≡ record self.old { sessions = self.new.sessions } }
         ensures done { IfOk result (λ text.
-            DoesLine (state_of self.old.sessions hub.old) self.old.line.items (string_bytes text) (state_of self.new.sessions hub.new)) }
+            DoesLine (standing_of self.old.sessions hub.old) self.old.line.items (string_bytes text) (standing_of self.new.sessions hub.new)) }
+        ensures bad { (n : ℕ) → result ≡ Err (ScriptFault.BadLine n) → (n ≡ self.old.number) × IsBad (standing_of self.old.sessions hub.old) self.old.line.items }
     {
         match line(self.alloc, self.line.as_slice()) {
             Ok(Line::Skip) => Ok(String::new(self.alloc)),
@@ -211,7 +212,8 @@ impl Progress {
         requires { number < 1000 }
         ensures kept { self.new ≡ record self.old { sessions = self.new.sessions } }
         ensures done { IfOk result (λ text.
-            Does (state_of self.old.sessions hub.old) (Line.Bytes number bytes.now) (string_bytes text) (state_of self.new.sessions hub.new)) }
+            Does (standing_of self.old.sessions hub.old) (Line.Bytes number bytes.now) (string_bytes text) (standing_of self.new.sessions hub.new)) }
+        ensures bad { (n : ℕ) → result ≡ Err (ScriptFault.BadLine n) → (n ≡ self.old.number) × IsSecond (standing_of self.old.sessions hub.old) number }
     {
         let session = self.session(hub, number)?;
         if session.is_closed {
@@ -234,7 +236,8 @@ impl Progress {
         requires { number < 1000 }
         ensures kept { self.new ≡ record self.old { sessions = self.new.sessions } }
         ensures done { IfOk result (λ text.
-            Does (state_of self.old.sessions hub.old) (Line.End number) (string_bytes text) (state_of self.new.sessions hub.new)) }
+            Does (standing_of self.old.sessions hub.old) (Line.End number) (string_bytes text) (standing_of self.new.sessions hub.new)) }
+        ensures bad { (n : ℕ) → result ≡ Err (ScriptFault.BadLine n) → (n ≡ self.old.number) × IsSecond (standing_of self.old.sessions hub.old) number }
     {
         let session = self.session(hub, number)?;
         let unfinished = hub.end(session.id);
@@ -247,10 +250,11 @@ impl Progress {
         requires { number < 1000 }
         ensures kept { self.new ≡ record self.old { sessions = self.new.sessions } }
         ensures found { IfOk result (λ session.
-            Finds (state_of self.old.sessions hub.old) number session (state_of self.new.sessions hub.new)) }
-        ensures second { IsSecond (state_of self.old.sessions hub.old) number
+            Finds (standing_of self.old.sessions hub.old) number session (standing_of self.new.sessions hub.new)) }
+        ensures second { IsSecond (standing_of self.old.sessions hub.old) number
             → result ≡ Err (ScriptFault.BadLine self.old.number) }
         ensures full { result ≡ Err ScriptFault.Sessions → Opens hub.old (Err HubFault.TooManySessions) hub.new }
+        ensures bad { (n : ℕ) → result ≡ Err (ScriptFault.BadLine n) → (n ≡ self.old.number) × IsSecond (standing_of self.old.sessions hub.old) number }
     {
         if let Some(session) = self.sessions.get(number) {
             return Ok(session);

@@ -26,9 +26,10 @@ fn serves_session_after_session(rt: HostRuntime) -> Result<(), Fail> {
     let mut output = String::new(alloc);
     let mut identities = Vec::new(alloc);
     for number in 0..300u32 {
-        identities.push(number * 2)?;
-        let last = &identities.as_slice()[number as usize..];
-        let digits = insert(alloc, documents(alloc, last)?.as_slice(), true, 0)?;
+        let identity = number * 2;
+        identities.push(identity)?;
+        let one = documents(alloc, &[identity])?;
+        let digits = insert(alloc, one.as_slice(), true, 0)?;
         writeln!(
             input,
             "{number} {PING}\n{number} {digits}\n{number} {FIND_OTHER}\n{number} end"
