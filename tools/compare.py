@@ -8,6 +8,7 @@ model is cut down and printed with both answers, and the exit status is 1.
 
     python3 tools/compare.py
     python3 tools/compare.py --seed 7 --count 10000 --program crates/docd/out/docd
+    python3 tools/compare.py --kinds all        values of every kind; else those of the six first ones
 """
 import argparse
 import os
@@ -64,8 +65,9 @@ FIND = [(b"find", text(b"c")), (b"$db", text(b"t"))]
 class Maker:
     """Makes random scripts, and counts their messages and the documents that these insert."""
 
-    def __init__(self, rng):
+    def __init__(self, rng, has_all_kinds=False):
         self.rng, self.messages, self.documents = rng, 0, 0
+        self.has_all_kinds = has_all_kinds
         self.reach = rng.choice([4, 12, 500])  # the greatest of the usual numbers
 
     def often(self, share):
@@ -84,7 +86,19 @@ class Maker:
             return self.rng.choice([b"a.b", b".", b"$x", b"$"])
         return self.rng.choice([b"", b"a", b"b", b"c", b"x$", b"0", b"1", "é".encode(), b"_ID", b"name" * 20])
 
+    def other(self):
+        """A value of a kind beyond the first six; few of each, so that many are equal or stand beside each other."""
+        small = self.rng.choice([-2**63, -1, 0, 1, 2**63 - 1])
+        data = self.rng.choice([b"", b"a", b"b", b"aa", b"ab", b"\0"])
+        return self.rng.choice([
+            (machine.NULL, b""), (machine.MIN_KEY, b""), (machine.MAX_KEY, b""), (machine.DATETIME, struct.pack("<q", small)),
+            (machine.TIMESTAMP, struct.pack("<Q", small % 2**64)), (machine.OBJECT_ID, bytes([self.rng.randrange(3)]) * 12),
+            (machine.BINARY, struct.pack("<iB", len(data), self.rng.choice([0, 1, 2, 128, 255])) + data),
+        ])
+
     def value(self, level=0):
+        if self.has_all_kinds and self.often(0.4):
+            return self.other()
         kind = self.rng.randrange(6 if level < 4 else 4)
         if kind < 2:
             return self.number()
@@ -106,6 +120,12 @@ class Maker:
             for _ in range(self.rng.randint(94, 100)):
                 value = document([(b"d", value)]) if self.often(0.5) else array([value])
             return value
+        if self.has_all_kinds and self.often(0.3):
+            return self.rng.choice([
+                (machine.BINARY, b"\xff\xff\xff\xff\0"), (machine.BINARY, b"\2\0\0\0\0a"), (machine.BINARY, b"\0\0\0\0"),
+                (machine.BINARY, b"\xff\xff\xff\x7f\0a"), (machine.OBJECT_ID, b"x" * self.rng.choice([0, 11])),
+                (machine.DATETIME, b"\0" * 7), (machine.TIMESTAMP, b""), (machine.NULL, b"\0"), (machine.MIN_KEY, b"a"),
+            ])
         return self.rng.choice([
             (self.rng.randrange(256), self.rng.randbytes(8)), (0x08, b"\2"), (0x0A, b""), (0x02, b"\0\0\0\0"),
             (0x02, b"\2\0\0\0ab"), (0x02, b"\3\0\0\0\xed\xa0\0"), (0x02, b"\xff\xff\xff\x7fa\0"), (0x03, b"\5\0\0\0\1"),
@@ -115,6 +135,8 @@ class Maker:
 
     def identity(self):
         kind = self.rng.randrange(20)
+        if self.has_all_kinds and self.often(0.4):
+            return self.other()
         if kind < 14:
             return self.number()
         if kind < 17:
@@ -308,12 +330,14 @@ def main():
     options.add_argument("--seed", type=int, default=1)
     options.add_argument("--count", type=int, default=2_000, help="how many random scripts")
     options.add_argument("--program", default=DOCD)
+    options.add_argument("--kinds", choices=["first", "all"], default="first", help="which kinds of values docd knows")
     given = options.parse_args()
+    machine.kinds = machine.ALL_KINDS if given.kinds == "all" else machine.FIRST_KINDS
     if not os.path.exists(given.program):
         sys.exit("compare: build the program first, by running ./docd once")
     messages = documents = 0
     for place in range(given.count):
-        maker = Maker(random.Random("%d/%d" % (given.seed, place)))
+        maker = Maker(random.Random("%d/%d" % (given.seed, place)), given.kinds == "all")
         cut, plain = maker.script()
         if differs(given.program, cut):
             print("compare: seed %d, script %d differs:" % (given.seed, place))

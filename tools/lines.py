@@ -2,23 +2,40 @@
 """Makes a script's lines of commands that are written as JSON, and reads docd's lines back as JSON.
 
 One command a line on standard input, its name first; `#` begins a comment. Whole numbers that fit are int32, others
-int64, which may also be written {"$numberLong": "5"}, as int64 values are when they are read.
+int64; kinds that JSON lacks are written as MongoDB's drivers write them (Extended JSON, relaxed or canonical):
+
+    {"$numberInt": "5"}  {"$numberLong": "5"}  {"$oid": "24 hexadecimal digits"}
+    {"$binary": {"base64": "AP8=", "subType": "00"}}  {"$date": {"$numberLong": "0"}}  {"$date": "1970-01-01T00:00:00.000Z"}
+    {"$timestamp": {"t": 1, "i": 2}}  {"$minKey": 1}  {"$maxKey": 1}  null
+
+Replies are read with int32 as plain numbers, int64 as $numberLong and datetimes as $date with $numberLong, so that each
+kind is seen. Numbers with a fraction, doubles, are refused.
 
     printf '%s\n' '{"insert": "c", "documents": [{"_id": 1, "a": "x"}], "$db": "t"}' '{"find": "c", "$db": "t"}' |
         tools/lines.py | ./docd run --hex | tools/lines.py --read
 """
+import base64
+import datetime
 import json
+import re
 import struct
 import sys
 
-from machine import ARRAY, BOOLEAN, DOCUMENT, INT32, INT64, TEXT, read_document, spelling
+import machine
+from machine import (ALL_KINDS, ARRAY, BINARY, BOOLEAN, DATETIME, DOCUMENT, INT32, INT64, MAX_KEY, MIN_KEY, NULL, OBJECT_ID,
+                     TEXT, TIMESTAMP, read_document, spelling)
 
 HEADER = 21  # the bytes in front of a message's body
 MOST_DIGITS = 100_000  # in a line, which may have 131,200 bytes
 
 
+START = datetime.datetime(1970, 1, 1, tzinfo=datetime.timezone.utc)
+
+
 def value_of(held):
     """A value as the model of the machine has it, of what JSON holds."""
+    if held is None:
+        return NULL, None
     if isinstance(held, bool):
         return BOOLEAN, held
     if isinstance(held, int):
@@ -27,15 +44,48 @@ def value_of(held):
         return TEXT, held.encode()
     if isinstance(held, list):
         return ARRAY, [value_of(one) for one in held]
-    if isinstance(held, dict) and list(held) == ["$numberLong"]:
-        return INT64, int(held["$numberLong"])
     if isinstance(held, dict):
-        return DOCUMENT, fields_of(held)
-    raise ValueError("%r has no type that docd knows yet" % (held,))
+        words = tuple(held)
+        return EXTENDED[words](held[words[0]]) if words in EXTENDED else (DOCUMENT, fields_of(held))
+    raise ValueError("%r is a double, or of another type that docd doesn't have" % (held,))
 
 
 def fields_of(held):
     return [(name.encode(), value_of(one)) for name, one in held.items()]
+
+
+def date_of(held):
+    """A datetime, of milliseconds since 1970 or of a text as 1970-01-01T00:00:00.000Z."""
+    if isinstance(held, dict):
+        return DATETIME, int(held["$numberLong"])
+    time = datetime.datetime.fromisoformat(re.sub("Z$", "+00:00", held))
+    return DATETIME, (time - START) // datetime.timedelta(milliseconds=1)
+
+
+def object_id_of(held):
+    if not re.fullmatch("[0-9A-Fa-f]{24}", held):
+        raise ValueError("%r is no ObjectId's 24 digits" % held)
+    return OBJECT_ID, bytes.fromhex(held)
+
+
+def binary_of(held):
+    return BINARY, (int(held["subType"], 16), base64.b64decode(held["base64"], validate=True))
+
+
+def timestamp_of(held):
+    return TIMESTAMP, held["t"] << 32 | held["i"]
+
+
+EXTENDED = {
+    ("$numberInt",): lambda held: (INT32, int(held)),
+    ("$numberLong",): lambda held: (INT64, int(held)),
+    ("$oid",): object_id_of,
+    ("$binary",): binary_of,
+    ("$date",): date_of,
+    ("$timestamp",): timestamp_of,
+    ("$minKey",): lambda held: (MIN_KEY, None),
+    ("$maxKey",): lambda held: (MAX_KEY, None),
+}
 
 
 def json_of(kind, held):
@@ -45,6 +95,16 @@ def json_of(kind, held):
         return [json_of(*one) for one in held]
     if kind == INT64:
         return {"$numberLong": str(held)}
+    if kind == OBJECT_ID:
+        return {"$oid": held.hex()}
+    if kind == BINARY:
+        return {"$binary": {"base64": base64.b64encode(held[1]).decode(), "subType": "%02x" % held[0]}}
+    if kind == DATETIME:
+        return {"$date": {"$numberLong": str(held)}}
+    if kind == TIMESTAMP:
+        return {"$timestamp": {"t": held >> 32, "i": held & 0xFFFFFFFF}}
+    if kind in (MIN_KEY, MAX_KEY):
+        return {"$minKey" if kind == MIN_KEY else "$maxKey": 1}
     return held.decode() if kind == TEXT else held
 
 
@@ -64,6 +124,7 @@ def read(line):
 
 
 def main():
+    machine.kinds = ALL_KINDS
     if sys.argv[1:] == ["--read"]:
         for line in sys.stdin:
             print(read(line.rstrip("\n")))
@@ -72,7 +133,7 @@ def main():
     for number, command in enumerate(commands, 1):
         try:
             print("\n".join(written(number, command)))
-        except (ValueError, AttributeError, struct.error) as error:
+        except (ValueError, AttributeError, KeyError, TypeError, struct.error) as error:
             sys.exit("lines: command %d: %s" % (number, error))
 
 

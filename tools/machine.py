@@ -6,9 +6,11 @@ It reads a script on standard input and prints each reply, closing and end as do
 Memory is never wanting here. `tools/compare.py` runs random scripts through both.
 
     python3 tools/machine.py < examples/inserts.hex
+    python3 tools/machine.py --kinds all < examples/inserts.hex     values of every kind; else those of the six first ones
 
-A value is a pair of its type byte and what it holds: a number, a boolean, a text's bytes, a document's list of fields
-(pairs of a name's bytes and a value) or an array's list of values.
+A value is a pair of its type byte and what it holds: a number (also of a datetime or a timestamp), a boolean, the bytes
+of a text or an ObjectId, a binary's pair of subtype and bytes, a document's list of fields (pairs of a name's bytes and a
+value), an array's list of values, or nothing.
 """
 import bisect
 import re
@@ -16,6 +18,10 @@ import struct
 import sys
 
 TEXT, DOCUMENT, ARRAY, BOOLEAN, INT32, INT64 = 0x02, 0x03, 0x04, 0x08, 0x10, 0x12
+BINARY, OBJECT_ID, DATETIME, NULL, TIMESTAMP, MIN_KEY, MAX_KEY = 0x05, 0x07, 0x09, 0x0A, 0x11, 0xFF, 0x7F
+FIRST_KINDS = {TEXT, DOCUMENT, ARRAY, BOOLEAN, INT32, INT64}
+ALL_KINDS = FIRST_KINDS | {BINARY, OBJECT_ID, DATETIME, NULL, TIMESTAMP, MIN_KEY, MAX_KEY}
+kinds = FIRST_KINDS  # those that are read; another one is refused
 MOST_BYTES = 16_777_216  # of a document that is read, and of the documents of one answer
 MOST_LEVELS = 100
 MOST_STATEMENTS = 100_000
@@ -64,7 +70,7 @@ def read_fields(data, start, end, level, is_array):
         kind = data[at]
         if kind == 0:
             raise BsonFault(b"BadLength")
-        if kind not in (TEXT, DOCUMENT, ARRAY, BOOLEAN, INT32, INT64):
+        if kind not in kinds:
             raise BsonFault(b"RefusedType 0x%02x at %d" % (kind, at))
         zero = data.find(0, at + 1, last)
         if zero < 0:
@@ -80,31 +86,51 @@ def read_fields(data, start, end, level, is_array):
     return fields
 
 
+# How many bytes a value has, where that is fixed, and how `struct` reads it.
+SIZES = {BOOLEAN: 1, OBJECT_ID: 12, DATETIME: 8, INT64: 8, TIMESTAMP: 8, NULL: 0, MIN_KEY: 0, MAX_KEY: 0}
+NUMBERS = {INT32: "<i", DATETIME: "<q", INT64: "<q", TIMESTAMP: "<Q"}
+
+
 def read_value(data, kind, at, last, level):
     """The value of this kind at a place, and where it ends, which is not behind its document's last byte."""
-    if at + {BOOLEAN: 1, INT64: 8}.get(kind, 4) > last:
+    end = at + SIZES.get(kind, 4)
+    if end > last:
         raise BsonFault(b"BadLength")
     if kind == BOOLEAN:
         if data[at] > 1:
             raise BsonFault(b"BadBool")
-        return (BOOLEAN, data[at] == 1), at + 1
-    if kind == INT64:
-        return (INT64, struct.unpack_from("<q", data, at)[0]), at + 8
-    number = int32(data, at)
-    if kind == INT32:
-        return (INT32, number), at + 4
+        return (BOOLEAN, data[at] == 1), end
+    if kind in NUMBERS:
+        return (kind, struct.unpack_from(NUMBERS[kind], data, at)[0]), end
+    if kind in SIZES:
+        return (kind, data[at:end] if kind == OBJECT_ID else None), end
     if kind == TEXT:
-        end = at + 4 + number
-        if number < 1 or end > last or data[end - 1] != 0:
-            raise BsonFault(b"BadLength")
-        return (TEXT, utf8(data[at + 4:end - 1])), end
-    end = at + number
-    if number < 5 or end > last:
+        return read_text(data, at, last)
+    if kind == BINARY:
+        return read_binary(data, at, last)
+    end = at + int32(data, at)
+    if end < at + 5 or end > last:
         raise BsonFault(b"BadLength")
     if level == MOST_LEVELS:
         raise BsonFault(b"TooDeep")
     fields = read_fields(data, at, end, level + 1, kind == ARRAY)
     return (kind, [value for _, value in fields] if kind == ARRAY else fields), end
+
+
+def read_text(data, at, last):
+    count = int32(data, at)
+    end = at + 4 + count
+    if count < 1 or end > last or data[end - 1] != 0:
+        raise BsonFault(b"BadLength")
+    return (TEXT, utf8(data[at + 4:end - 1])), end
+
+
+def read_binary(data, at, last):
+    count = int32(data, at)
+    end = at + 5 + count
+    if count < 0 or end > last:
+        raise BsonFault(b"BadLength")
+    return (BINARY, (data[at + 4], data[at + 5:end])), end
 
 
 def utf8(text):
@@ -128,22 +154,29 @@ def payload(kind, held):
         return spelling(held)
     if kind == ARRAY:
         return spelling([(b"%d" % i, value) for i, value in enumerate(held)])
-    return struct.pack({BOOLEAN: "<?", INT32: "<i", INT64: "<q"}[kind], held)
+    if kind == BINARY:
+        return struct.pack("<iB", len(held[1]), held[0]) + held[1]
+    if kind in (NULL, MIN_KEY, MAX_KEY):
+        return b""
+    return held if kind == OBJECT_ID else struct.pack("<?" if kind == BOOLEAN else NUMBERS[kind], held)
+
+
+# From low to high; both widths of integers are one class.
+CLASSES = [MIN_KEY, NULL, INT32, TEXT, DOCUMENT, ARRAY, BINARY, OBJECT_ID, BOOLEAN, DATETIME, TIMESTAMP, MAX_KEY]
 
 
 def key(value):
     """Equal for values that differ in the width of integers alone; keys compare as their values."""
     kind, held = value
-    if kind in (INT32, INT64):
-        return 0, held
-    if kind == TEXT:
-        return 1, held
+    rank = CLASSES.index(INT32 if kind == INT64 else kind)
     if kind == DOCUMENT:
         inner = [(name, key(value)) for name, value in held]
-        return 2, tuple((rank, name, value) for name, (rank, value) in inner)
+        return rank, tuple((rank, name, value) for name, (rank, value) in inner)
     if kind == ARRAY:
-        return 3, tuple(key(inner) for inner in held)
-    return 4, held
+        return rank, tuple(key(inner) for inner in held)
+    if kind == BINARY:
+        return rank, (len(held[1]), *held)
+    return rank, held
 
 
 def execute(collections, body):
@@ -343,6 +376,8 @@ def run(script):
 
 
 if __name__ == "__main__":
+    if sys.argv[1:] == ["--kinds", "all"]:
+        kinds = ALL_KINDS
     output, told = run(sys.stdin.buffer.read())
     sys.stdout.buffer.write(output)
     sys.stderr.buffer.write(told)

@@ -1,3 +1,5 @@
 mod Lines
 mod Numbers
 mod Pairs
+mod Pieces
+mod Replies

@@ -1,3 +1,4 @@
 pub mod Line
+pub mod Output
 pub mod Reading
 pub mod Script

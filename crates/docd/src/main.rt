@@ -2,15 +2,16 @@
 #![tactic(auto)]
 
 mod line;
-mod replies;
+mod output;
 mod said;
 mod script;
+mod sessions;
 #[cfg(test)]
 mod tests;
 mod words;
 
 use dv_wire::{Hub, Store};
-use std::io::ErrorKind;
+use std::io::{BufWriter, ErrorKind};
 use std::process::ExitCode;
 use std::rt::Env;
 use std::{env, io};
@@ -37,7 +38,10 @@ fn docd<R: Env + Input + Print + AllocGlobal>(rt: &R) -> Result<(), DocdFault> {
     match words::words(alloc, words.as_slice())? {
         Job::Script => {
             let mut hub = Hub::new(alloc, Store::new(alloc));
-            script::script(alloc, &mut hub, &mut rt.reader(), &mut io::writer(rt))?;
+            let mut writer = BufWriter::new(alloc, io::writer(rt)).map_err(
+                |_| DocdFault::NoMemory,
+            )?;
+            script::script(alloc, &mut hub, &mut rt.reader(), &mut writer)?;
         }
     }
     Ok(())

@@ -1,5 +1,6 @@
 //! Lines and scripts, with readers and writers in memory.
 
+mod ample;
 mod inserts;
 
 use crate::line::{LONGEST_LINE, line};
@@ -118,7 +119,7 @@ impl Read for Drops<'_> {
 
 #[test]
 fn runs_scripts(rt: HostRuntime) -> Result<(), Fail> {
-    let runs: [(&str, Result<(), ScriptFault>, &str); 8] = [
+    let runs: [(&str, Result<(), ScriptFault>, &str); 10] = [
         ("", Ok(()), ""),
         ("# nothing\n\n", Ok(()), ""),
         ("0 end", Ok(()), "0 end 0\n"),
@@ -137,6 +138,13 @@ fn runs_scripts(rt: HostRuntime) -> Result<(), Fail> {
             Err(ScriptFault::BadLine { line: 3 }),
             "0 end 0\n",
         ),
+        // A CR belongs to its line.
+        (
+            "0 end\n0 end\r\n",
+            Err(ScriptFault::BadLine { line: 2 }),
+            "0 end 0\n",
+        ),
+        ("# 0 end\r\n300 end\n", Ok(()), "300 end 0\n"),
         ("0 2f\n1 end\n", Err(ScriptFault::BadLine { line: 2 }), ""),
         (
             "0 19000000\n1 2f\n",

@@ -5,10 +5,10 @@ use std::alloc::{AllocError, Global};
 use std::test::Fail;
 
 // {insert: "c", documents: [{_id: 1}], $db: "t"}, of the request 1, and its reply {n: 1, ok: 1}.
-const INSERT: &str =
+pub(super) const INSERT: &str =
     "540000000100000000000000dd07000000000000003f00000002696e736572740002000000630004646f63756d656e747300160000000330000e000000105f696400010000000000022464620002000000740000";
 
-const INSERTED: &str =
+pub(super) const INSERTED: &str =
     "290000000000000001000000dd070000000000000014000000106e0001000000106f6b000100000000";
 
 // The same with the flag moreToCome.
@@ -16,7 +16,7 @@ const INSERT_UNANSWERED: &str =
     "540000000100000000000000dd07000002000000003f00000002696e736572740002000000630004646f63756d656e747300160000000330000e000000105f696400010000000000022464620002000000740000";
 
 // {find: "c", $db: "t"}, of the request 2, and the reply with {_id: 1}, and the one with no document.
-const FIND: &str =
+pub(super) const FIND: &str =
     "310000000200000000000000dd07000000000000001c0000000266696e6400020000006300022464620002000000740000";
 
 const FOUND: &str =
@@ -89,7 +89,7 @@ fn identities(alloc: Global) -> Result<Vec<u32>, AllocError> {
 }
 
 // A document's bytes around those of its fields.
-fn document(alloc: Global, fields: &[u8]) -> Result<Vec<u8>, AllocError> {
+pub(super) fn document(alloc: Global, fields: &[u8]) -> Result<Vec<u8>, AllocError> {
     let length = fields.len().saturating_add(5).to_le_bytes();
     [&length[..4], fields, b"\0"].concat(alloc)
 }
@@ -104,29 +104,46 @@ fn with_identity(alloc: Global, identity: u32) -> Result<Vec<u8>, AllocError> {
     document(alloc, field.as_slice())
 }
 
-// An array of documents with these `_id`s.
-fn array(alloc: Global, identities: &[u32]) -> Result<Vec<u8>, AllocError> {
+// Documents with these `_id`s.
+pub(super) fn documents(alloc: Global, identities: &[u32]) -> Result<Vec<Vec<u8>>, AllocError> {
+    let mut all = Vec::new(alloc);
+    for identity in identities {
+        all.push(with_identity(alloc, *identity)?)?;
+    }
+    Ok(all)
+}
+
+// An array of documents.
+fn array(alloc: Global, documents: &[Vec<u8>]) -> Result<Vec<u8>, AllocError> {
     let mut elements = Vec::new(alloc);
-    for (index, identity) in identities.iter().enumerate() {
+    for (index, one) in documents.iter().enumerate() {
         let name = format!(in alloc; "\x03{index}\0")?;
         elements.extend_from_slice(name.as_bytes())?;
-        elements.extend_from_slice(with_identity(alloc, *identity)?.as_slice())?;
+        elements.extend_from_slice(one.as_slice())?;
     }
     document(alloc, elements.as_slice())
 }
 
-// The line of a message: what stands in its header from the requestID to the flagBits, and its body's fields.
-fn message(alloc: Global, header: &[u8; 16], fields: &[u8]) -> Result<String, AllocError> {
+// A message's digits: what stands in its header from the requestID to the flagBits, and its body's fields.
+pub(super) fn message(
+    alloc: Global,
+    header: &[u8; 16],
+    fields: &[u8],
+) -> Result<String, AllocError> {
     let body = document(alloc, fields)?;
     let length = body.len().saturating_add(21).to_le_bytes();
     let bytes = [&length[..4], header, b"\0", body.as_slice()].concat(alloc)?;
-    let digits = hex::encode(alloc, bytes.as_slice())?;
-    format!(in alloc; "0 {digits}\n")
+    hex::encode(alloc, bytes.as_slice())
 }
 
-// An insert that isn't answered.
-fn insert(alloc: Global, identities: &[u32], ordered: bool) -> Result<String, AllocError> {
-    let documents = array(alloc, identities)?;
+// An insert by the request 1, with these flag bits.
+pub(super) fn insert(
+    alloc: Global,
+    documents: &[Vec<u8>],
+    ordered: bool,
+    flags: u8,
+) -> Result<String, AllocError> {
+    let documents = array(alloc, documents)?;
     let fields = [
         b"\x02insert\0\x02\0\0\0c\0\x04documents\0".as_slice(),
         documents.as_slice(),
@@ -135,16 +152,14 @@ fn insert(alloc: Global, identities: &[u32], ordered: bool) -> Result<String, Al
         b"\x02$db\0\x02\0\0\0t\0",
     ]
     .concat(alloc)?;
-    message(
-        alloc,
-        b"\x01\0\0\0\0\0\0\0\xdd\x07\0\0\x02\0\0\0",
-        fields.as_slice(),
-    )
+    let mut header = *b"\x01\0\0\0\0\0\0\0\xdd\x07\0\0\0\0\0\0";
+    header[12] = flags;
+    message(alloc, &header, fields.as_slice())
 }
 
 // The reply to the request 2, a find.
-fn found(alloc: Global, identities: &[u32]) -> Result<String, AllocError> {
-    let documents = array(alloc, identities)?;
+pub(super) fn found(alloc: Global, documents: &[Vec<u8>]) -> Result<String, AllocError> {
+    let documents = array(alloc, documents)?;
     let cursor = [
         b"\x04firstBatch\0".as_slice(),
         documents.as_slice(),
@@ -187,11 +202,13 @@ fn finds_a_thousand_inserts_in_order(rt: HostRuntime) -> Result<(), Fail> {
     let mut input = String::new(alloc);
     for (number, some) in identities.chunks(10).enumerate() {
         let ordered = number % 2 == 0;
-        input.push_str(insert(alloc, some, ordered)?.as_str())?;
+        let digits = insert(alloc, documents(alloc, some)?.as_slice(), ordered, 2)?;
+        writeln!(input, "0 {digits}")?;
         take(&mut stored, some, ordered)?;
     }
     stored.sort()?;
     let input = format!(in alloc; "{input}0 {FIND}\n")?;
-    let output = found(alloc, stored.as_slice())?;
+    let digits = found(alloc, documents(alloc, stored.as_slice())?.as_slice())?;
+    let output = format!(in alloc; "0 {digits}\n")?;
     assert_script(&rt, &mut input.as_bytes(), Ok(()), output.as_str())
 }

@@ -1,0 +1,59 @@
+//! The sessions of a script, by their numbers in it.
+
+ghost use Rattle.std.specs.Prelude.{◌≡◌, ◌<◌, None, count_by, is_some, length, replicate, slice_get, slice_set};
+
+use crate::line::NUMBERS;
+use dv_wire::SessionId;
+
+/// How many places the table has: one for each number.
+const PLACES: usize = NUMBERS as usize;
+
+/// What stands under a number of the script.
+#[derive(Clone, Copy)]
+pub struct Session {
+    /// The session's number in the hub.
+    pub id: SessionId,
+    pub is_closed: bool,
+}
+
+/// The sessions that were opened and haven't ended, by their numbers in the script.
+#[derive(Drop)]
+pub struct Sessions {
+    places: [Option<Session>; PLACES],
+}
+
+impl Sessions {
+    pub fn new() -> Self
+        ensures { result.places ≡ replicate 1000 None }
+    {
+        Sessions {
+            places: [None; PLACES],
+        }
+    }
+
+    /// The session under a number.
+    pub fn get(&self, number: u32) -> Option<Session>
+        requires { number < 1000 }
+        ensures { slice_get self.now.places number ≡ Some result }
+    {
+        self.places[number as usize]
+    }
+
+    /// Puts a session, or none, under a number.
+    pub fn set(&mut self, number: u32, session: Option<Session>)
+        requires { number < 1000 }
+        ensures { self.new.places ≡ slice_set self.old.places number session }
+    {
+        self.places[number as usize] = session;
+    }
+
+    /// How many there are.
+    pub fn count(&self) -> usize
+        ensures { result ≡ count_by is_some self.now.places }
+    {
+        self.places
+            .iter()
+            .filter(|session| session.is_some())
+            .count()
+    }
+}
