@@ -1,0 +1,7 @@
+pub mod Asked
+pub mod Bits
+pub mod Folds
+pub mod Items
+pub mod Parsing
+pub mod Reach
+pub mod Walks

@@ -1,0 +1,6 @@
+pub mod Path
+pub mod Candidates
+pub mod View
+pub mod Fold
+pub mod Fault
+pub mod Places

@@ -1,0 +1,19 @@
+//! Paths into BSON documents.
+#![tactic(auto)]
+
+mod any;
+mod candidate;
+mod component;
+mod fault;
+mod listed;
+mod path;
+mod places;
+mod walk;
+
+pub use any::{any_leaf, any_whole};
+pub use candidate::Candidate;
+pub use component::Component;
+pub use fault::PathFault;
+pub use listed::{leaves, whole};
+pub use path::Path;
+pub use walk::fold_whole;
