@@ -9,7 +9,7 @@ use Rattle.std.specs.Ordering.{ordering_then, nat_cmp, is_ne}
 use Rattle.std.specs.Cmp.{nat_cmp_is}
 use Rattle.std.specs.Cmp.Lexicographic.{slice_cmp}
 use Rattle.dv_bson.specs.Tree.{Tree, Field, fields_of, elements_of}
-use Rattle.dv_order.specs.Order.{class, within, field_order, fields_order, elements_order, order}
+use Rattle.dv_order.specs.Order.{class, field_order, fields_order, elements_order, order}
 use Rattle.dv_order.specs.TotalOrder.{then_assoc}
 
 -- the first answer counts where it tells the two apart, and else the second
@@ -76,14 +76,12 @@ fields_order-fields_of (f ∷ fs) (g ∷ gs) =
     let classes = nat_cmp (class f.1) (class g.1) in
     let names = slice_cmp nat_cmp f.0 g.0 in
     let rest = slice_cmp field_order fs gs in
-    ap (λ r. ordering_then classes (ordering_then names (ordering_then (within f.1 g.1) r))) (fields_order-fields_of fs gs)
-    ∙ ap (ordering_then classes) (sym (then_assoc names (within f.1 g.1) rest))
-    ∙ sym (then_assoc classes (ordering_then names (within f.1 g.1)) rest)
+    ap (λ r. ordering_then classes (ordering_then names (ordering_then (order f.1 g.1) r))) (fields_order-fields_of fs gs)
+    ∙ ap (ordering_then classes) (sym (then_assoc names (order f.1 g.1) rest))
+    ∙ sym (then_assoc classes (ordering_then names (order f.1 g.1)) rest)
 
 pub elements_order-elements_of : (vs ws : List Tree) → elements_order (elements_of vs) (elements_of ws) ≡ slice_cmp order vs ws
 elements_order-elements_of [] [] = refl
 elements_order-elements_of [] (w ∷ ws) = refl
 elements_order-elements_of (v ∷ vs) [] = refl
-elements_order-elements_of (v ∷ vs) (w ∷ ws) =
-    ap (λ r. ordering_then (nat_cmp (class v) (class w)) (ordering_then (within v w) r)) (elements_order-elements_of vs ws)
-    ∙ sym (then_assoc (nat_cmp (class v) (class w)) (within v w) (slice_cmp order vs ws))
+elements_order-elements_of (v ∷ vs) (w ∷ ws) = ap (ordering_then (order v w)) (elements_order-elements_of vs ws)

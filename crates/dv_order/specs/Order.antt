@@ -1,11 +1,11 @@
 -- The order in which BSON values stand, as a database sorts them and keeps them under an index:
 -- first by the class of their type, and within a class by what they say (MongoDB manual, "Comparison/Sort Order").
-use Rattle.std.specs.Prelude.{◌≡◌, ℕ, ℤ, pos}
+use Rattle.std.specs.Prelude.{◌≡◌, ℕ, length}
 use Rattle.std.specs.declared.cmp.Ordering.{Ordering}
 use Rattle.std.specs.declared.cmp.Ordering.TheVariants.{Less, Equal, Greater}
 use Rattle.std.specs.Ordering.{ordering_then, nat_cmp, int_cmp, bool_cmp}
 use Rattle.std.specs.Cmp.Lexicographic.{slice_cmp}
-use Rattle.dv_bson.specs.Tree.{Tree, int32, int64, string, document, array, boolean, Fields, no_fields, field, Elements, no_elements, element, Field}
+use Rattle.dv_bson.specs.Tree.{Tree, int32, int64, string, document, array, boolean, binary, object_id, date, null, timestamp, min_key, max_key, Fields, no_fields, field, Elements, no_elements, element, Field}
 
 -- the value with the width of its integers forgotten, at every depth
 abbrev mutual
@@ -16,6 +16,13 @@ abbrev mutual
   canon (document fs) = document (fields_canon fs)
   canon (array vs) = array (elements_canon vs)
   canon (boolean b) = boolean b
+  canon (binary subtype bytes) = binary subtype bytes
+  canon (object_id id) = object_id id
+  canon (date n) = date n
+  canon null = null
+  canon (timestamp n) = timestamp n
+  canon min_key = min_key
+  canon max_key = max_key
 
   pub fields_canon : Fields → Fields
   fields_canon no_fields = no_fields
@@ -28,28 +35,46 @@ abbrev mutual
 -- where the type of a value stands among: 0 MinKey, 1 no element, 2 null, 3 numbers, 4 strings, 5 documents, 6 arrays,
 -- 7 binary, 8 ObjectId, 9 booleans, 10 dates, 11 timestamps, 12 MaxKey
 abbrev pub class : Tree → ℕ
+class min_key = 0
+class null = 2
 class (int32 n) = 3
 class (int64 n) = 3
 class (string s) = 4
 class (document fs) = 5
 class (array vs) = 6
+class (binary subtype bytes) = 7
+class (object_id id) = 8
 class (boolean b) = 9
+class (date n) = 10
+class (timestamp n) = 11
+class max_key = 12
 
--- the number that an integer of either width is, and 0 for what is no integer
-abbrev pub integer : Tree → ℤ
-integer (int32 n) = n
-integer (int64 n) = n
-integer v = pos 0
-
--- the order of two values of one class; of documents, pair by pair as written, and of arrays, element by element
+-- the order of two values; of documents, pair by pair as written, and of arrays, element by element
 abbrev mutual
-  -- strings by their bytes, false before true, integers by the number whatever their width
-  pub within : Tree → Tree → Ordering
-  within (string s) (string t) = slice_cmp nat_cmp s t
-  within (document fs) (document gs) = fields_order fs gs
-  within (array vs) (array ws) = elements_order vs ws
-  within (boolean a) (boolean b) = bool_cmp a b
-  within v w = int_cmp (integer v) (integer w)
+  pub order : Tree → Tree → Ordering
+  -- integers by the number, whatever their width
+  order (int32 m) (int32 n) = int_cmp m n
+  order (int32 m) (int64 n) = int_cmp m n
+  order (int64 m) (int32 n) = int_cmp m n
+  order (int64 m) (int64 n) = int_cmp m n
+  -- strings by their bytes
+  order (string s) (string t) = slice_cmp nat_cmp s t
+  order (document fs) (document gs) = fields_order fs gs
+  order (array vs) (array ws) = elements_order vs ws
+  -- binary data by its length, then by the subtype, then by the bytes
+  order (binary s bs) (binary t cs) = ordering_then (nat_cmp (length bs) (length cs)) (ordering_then (nat_cmp s t) (slice_cmp nat_cmp bs cs))
+  order (object_id a) (object_id b) = slice_cmp nat_cmp a b
+  -- false before true
+  order (boolean a) (boolean b) = bool_cmp a b
+  order (date m) (date n) = int_cmp m n
+  order (timestamp m) (timestamp n) = nat_cmp m n
+  -- there is one of each
+  order null null = Equal
+  order min_key min_key = Equal
+  order max_key max_key = Equal
+  -- Two values of different classes stand as these do. Two of one class have their line above: without it they would be
+  -- equal here, and the law that equal values are the same but for widths would fail.
+  order v w = nat_cmp (class v) (class w)
 
   -- the class of the value decides, then the bytes of the name, then the value, then the fields that follow
   pub fields_order : Fields → Fields → Ordering
@@ -57,23 +82,18 @@ abbrev mutual
   fields_order no_fields gs = Less
   fields_order fs no_fields = Greater
   fields_order (field a v fs) (field b w gs) =
-      ordering_then (nat_cmp (class v) (class w)) (ordering_then (slice_cmp nat_cmp a b) (ordering_then (within v w) (fields_order fs gs)))
+      ordering_then (nat_cmp (class v) (class w)) (ordering_then (slice_cmp nat_cmp a b) (ordering_then (order v w) (fields_order fs gs)))
 
-  -- the class of the element decides, then the element, then the elements that follow
+  -- the element decides, then the elements that follow
   pub elements_order : Elements → Elements → Ordering
   elements_order no_elements no_elements = Equal
   elements_order no_elements ws = Less
   elements_order vs no_elements = Greater
-  elements_order (element v vs) (element w ws) =
-      ordering_then (nat_cmp (class v) (class w)) (ordering_then (within v w) (elements_order vs ws))
-
--- the order of two values: their classes decide, and else the values within their class
-abbrev pub order : Tree → Tree → Ordering
-order v w = ordering_then (nat_cmp (class v) (class w)) (within v w)
+  elements_order (element v vs) (element w ws) = ordering_then (order v w) (elements_order vs ws)
 
 -- the order of two fields alone: by the class of the value, then by the name, then by the value
 abbrev pub field_order : Field → Field → Ordering
-field_order f g = ordering_then (nat_cmp (class f.1) (class g.1)) (ordering_then (slice_cmp nat_cmp f.0 g.0) (within f.1 g.1))
+field_order f g = ordering_then (nat_cmp (class f.1) (class g.1)) (ordering_then (slice_cmp nat_cmp f.0 g.0) (order f.1 g.1))
 
 -- the first value stands before the second
 abbrev pub below : Tree → Tree → Type 0

@@ -1,46 +1,61 @@
 //! The order of two values.
 
 ghost use Rattle.std.specs.Prelude.{◌≡◌};
-ghost use Rattle.dv_bson.specs.Tree.{fields_of, elements_of};
+ghost use Rattle.dv_bson.specs.Tree.{binary, fields_of, elements_of};
 ghost use Rattle.dv_bson.specs.View.{tree};
-ghost use Rattle.dv_order.specs.Order.{class, integer, within, field_order, fields_order, elements_order, order};
+ghost use Rattle.dv_order.specs.Order.{class, field_order, fields_order, elements_order, order};
 
 use dv_bson::{Document, List, Value};
 use std::cmp::Ordering;
 
 /// Whether `a` stands before `b` (`Less`), beside it (`Equal`) or after it (`Greater`).
 ///
-/// The classes of the two types decide first, from low to high: numbers, strings, documents, arrays, booleans.
-/// Within a class integers stand by their number, whatever their width, strings by their bytes, and `false` before
-/// `true`. Documents stand by their fields in written order (the class of the value, then the name, then the value) and
-/// arrays by their elements; where one ends first, it stands before the other. Takes no memory, and time at most linear
-/// in the smaller of the two.
+/// The classes of the two types decide first, from low to high: MinKey, null, numbers, strings, documents, arrays,
+/// binary data, ObjectIds, booleans, datetimes, timestamps, MaxKey. Within a class integers stand by their number,
+/// whatever their width, strings and ObjectIds by their bytes, binary data by its length, then its subtype, then its
+/// bytes, `false` before `true`, datetimes and timestamps by their number. Documents stand by their fields in written
+/// order (the class of the value, then the name, then the value) and arrays by their elements; where one ends first, it
+/// stands before the other. Takes no memory, and time at most linear in the smaller of the two.
 #[cycle(compare)]
 pub fn compare(a: &Value, b: &Value) -> Ordering
     ensures { result ≡ order (tree a.now) (tree b.now) }
 {
     match (a, b) {
-        // The keys that a search compares are mostly integers of one width, whose classes needn't be looked up.
         (Value::Int32(a), Value::Int32(b)) => a.cmp(b),
+        (Value::Int32(a), Value::Int64(b)) => i64::from(*a).cmp(b),
+        (Value::Int64(a), Value::Int32(b)) => a.cmp(&i64::from(*b)),
         (Value::Int64(a), Value::Int64(b)) => a.cmp(b),
-        _ => match class_of(a).cmp(&class_of(b)) {
-            Ordering::Equal => compare_within(a, b),
-            unequal => unequal,
-        },
-    }
-}
-
-/// The order of two values whose classes are equal.
-#[cycle(compare)]
-fn compare_within(a: &Value, b: &Value) -> Ordering
-    ensures { result ≡ within (tree a.now) (tree b.now) }
-{
-    match (a, b) {
         (Value::Text(a), Value::Text(b)) => a.as_str().cmp(b.as_str()),
         (Value::Doc(a), Value::Doc(b)) => compare_documents(a, b),
         (Value::Array(a), Value::Array(b)) => compare_lists(a, b),
+        (
+            Value::Binary { subtype, bytes },
+            Value::Binary {
+                subtype: other_subtype,
+                bytes: other_bytes,
+            },
+        ) => compare_binaries(
+            *subtype,
+            bytes.as_slice(),
+            *other_subtype,
+            other_bytes.as_slice(),
+        ),
+        (Value::ObjectId(a), Value::ObjectId(b)) => a.cmp(b),
         (Value::Bool(a), Value::Bool(b)) => a.cmp(b),
-        _ => integer_of(a).cmp(&integer_of(b)),
+        (Value::Date(a), Value::Date(b)) => a.cmp(b),
+        (Value::Timestamp(a), Value::Timestamp(b)) => a.cmp(b),
+        _ => class_of(a).cmp(&class_of(b)),
+    }
+}
+
+/// The order of two values of binary data: the lengths decide, then the subtypes, then the bytes.
+fn compare_binaries(subtype: u8, bytes: &[u8], other_subtype: u8, other_bytes: &[u8]) -> Ordering
+    ensures { result ≡ order (binary subtype bytes.now) (binary other_subtype other_bytes.now) }
+{
+    let lengths = bytes.len().cmp(&other_bytes.len());
+    match lengths.then(subtype.cmp(&other_subtype)) {
+        Ordering::Equal => bytes.cmp(other_bytes),
+        unequal => unequal,
     }
 }
 
@@ -69,7 +84,7 @@ fn compare_fields(name: &str, a: &Value, other_name: &str, b: &Value) -> Orderin
     ensures { result ≡ field_order (name.now, tree a.now) (other_name.now, tree b.now) }
 {
     match class_of(a).cmp(&class_of(b)).then(name.cmp(other_name)) {
-        Ordering::Equal => compare_within(a, b),
+        Ordering::Equal => compare(a, b),
         unequal => unequal,
     }
 }
@@ -92,27 +107,23 @@ fn compare_lists(a: &List, b: &List) -> Ordering
     xs.len().cmp(&ys.len())
 }
 
-/// The place of the value's class among the classes of all BSON types, least first. Places are left for types that are
-/// not there yet.
-fn class_of(value: &Value) -> u8
+/// The place of the value's class among the classes of all BSON types, least first. No value has 1, which is left for
+/// the key of what is no element.
+pub(crate) fn class_of(value: &Value) -> u8
     ensures { result ≡ class (tree value.now) }
 {
     match value {
+        Value::MinKey => 0,
+        Value::Null => 2,
         Value::Int32(_) | Value::Int64(_) => 3,
         Value::Text(_) => 4,
         Value::Doc(_) => 5,
         Value::Array(_) => 6,
+        Value::Binary { .. } => 7,
+        Value::ObjectId(_) => 8,
         Value::Bool(_) => 9,
-    }
-}
-
-/// The number that an integer is, and 0 for what is no integer.
-fn integer_of(value: &Value) -> i64
-    ensures { result ≡ integer (tree value.now) }
-{
-    match value {
-        Value::Int32(n) => i64::from(*n),
-        Value::Int64(n) => *n,
-        _ => 0,
+        Value::Date(_) => 10,
+        Value::Timestamp(_) => 11,
+        Value::MaxKey => 12,
     }
 }

@@ -1,5 +1,5 @@
 use super::*;
-use dv_bson::{Document, List, Str, Value};
+use dv_bson::{Bytes, Document, List, Str, Value};
 use std::alloc::Global;
 use std::cmp::max;
 use std::test::*;
@@ -11,13 +11,24 @@ enum Sample {
     Text(&'static str),
     Doc(&'static [&'static str], &'static [Sample]),
     Array(&'static [Sample]),
+    Binary(u8, &'static [u8]),
+    ObjectId([u8; 12]),
     Bool(bool),
+    Date(i64),
+    Null,
+    Timestamp(u64),
+    MinKey,
+    MaxKey,
 }
 
-use Sample::{Array, Bool, Doc, Int32, Int64, Text};
+use Sample::{
+    Array, Binary, Bool, Date, Doc, Int32, Int64, MaxKey, MinKey, Null, ObjectId, Text, Timestamp,
+};
 
 /// From low to high; the values of one row are equal.
-const ROWS: [&[Sample]; 35] = [
+const ROWS: [&[Sample]; 52] = [
+    &[MinKey],
+    &[Null],
     &[Int64(i64::MIN)],
     &[Int32(i32::MIN), Int64(-2147483648)],
     &[Int32(-1), Int64(-1)],
@@ -31,6 +42,7 @@ const ROWS: [&[Sample]; 35] = [
     &[Text("ab")],
     &[Text("\u{e9}")],
     &[Doc(&[], &[])],
+    &[Doc(&["a"], &[Null])],
     &[Doc(&["a"], &[Int32(1)]), Doc(&["a"], &[Int64(1)])],
     &[Doc(&["a", "b"], &[Int32(1), Int32(2)])],
     &[Doc(&["a"], &[Int32(2)])],
@@ -45,6 +57,7 @@ const ROWS: [&[Sample]; 35] = [
     &[Doc(&["a"], &[Array(&[])])],
     &[Doc(&["a"], &[Bool(false)])],
     &[Array(&[])],
+    &[Array(&[Null])],
     &[Array(&[Int32(1)])],
     &[Array(&[Int32(1), Int64(2)]), Array(&[Int64(1), Int32(2)])],
     &[Array(&[Int32(1), Int32(2), Int32(3)])],
@@ -54,8 +67,21 @@ const ROWS: [&[Sample]; 35] = [
     &[Array(&[Doc(&[], &[])])],
     &[Array(&[Array(&[])])],
     &[Array(&[Array(&[Int32(5)])]), Array(&[Array(&[Int64(5)])])],
+    &[Binary(0, b"")],
+    &[Binary(5, b"")],
+    &[Binary(0, b"a")],
+    &[Binary(0, b"b")],
+    &[Binary(128, b"a")],
+    &[Binary(0, b"\0\0")],
+    &[ObjectId(*b"aaaaaaaaaaab")],
+    &[ObjectId(*b"aaaaaaaaaaba")],
     &[Bool(false)],
     &[Bool(true)],
+    &[Date(-1)],
+    &[Date(0)],
+    &[Timestamp(0)],
+    &[Timestamp(u64::MAX)],
+    &[MaxKey],
 ];
 
 fn value_of(alloc: Global, sample: &Sample) -> Result<Value, Fail> {
@@ -79,7 +105,17 @@ fn value_of(alloc: Global, sample: &Sample) -> Result<Value, Fail> {
             }
             Value::Array(List::of(values))
         }
+        Binary(subtype, bytes) => Value::Binary {
+            subtype: *subtype,
+            bytes: Bytes::of(Vec::from_slice(alloc, bytes)?),
+        },
+        ObjectId(id) => Value::ObjectId(*id),
         Bool(truth) => Value::Bool(*truth),
+        Date(milliseconds) => Value::Date(*milliseconds),
+        Null => Value::Null,
+        Timestamp(number) => Value::Timestamp(*number),
+        MinKey => Value::MinKey,
+        MaxKey => Value::MaxKey,
     })
 }
 
@@ -104,5 +140,10 @@ fn keys_forget_widths(rt: HostRuntime) -> Result<(), Fail> {
     assert!(rt; five == long_five);
     let greatest = max(long_five, key_of(&Value::Bool(false))?);
     assert!(rt; five < greatest);
+
+    let none = Key::no_element().try_clone()?;
+    assert!(rt; none == Key::no_element());
+    assert!(rt; key_of(&Value::MinKey)? < none);
+    assert!(rt; none < key_of(&Value::Null)?);
     Ok(())
 }

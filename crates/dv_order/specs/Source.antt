@@ -1,0 +1,10 @@
+-- The value that a key in memory is made of.
+use Rattle.std.specs.Prelude.{Option, None, Some}
+use Rattle.dv_bson.specs.Tree.{Tree}
+use Rattle.dv_bson.specs.View.{tree}
+use Rattle.dv_order.specs.declared.key.Source.{Source}
+use Rattle.dv_order.specs.declared.key.Source.TheVariants.{NoElement, Element}
+
+abbrev pub source_value : Source → Option Tree
+source_value NoElement = None
+source_value (Element v) = Some (tree v)
