@@ -43,7 +43,7 @@ module _ {T X E : Type 0} {seen : X → Candidate} (call : T → X → Result T 
       sym (some.only test (any-right test some.taken (some.last ∷ []) (or_left (test some.last) false last))).passes
 
 -- a test of some candidate behind each of a list
-pub any-flat_map : (test : Candidate → Bool) (f : Candidate → List Candidate) (cs : List Candidate) → list_any test (flat_map f cs) ≡ list_any (λ c. list_any test (f c)) cs
+pub any-flat_map : {X Y : Type 0} (test : Y → Bool) (f : X → List Y) (cs : List X) → list_any test (flat_map f cs) ≡ list_any (λ c. list_any test (f c)) cs
 any-flat_map test f [] = refl
 any-flat_map test f (c ∷ cs) = list_any-append test (f c) (flat_map f cs) ∙ ap (λ b. list_any test (f c) || b) (any-flat_map test f cs)
 

@@ -5,3 +5,4 @@ pub mod Items
 pub mod Parsing
 pub mod Reach
 pub mod Walks
+pub mod Earliest

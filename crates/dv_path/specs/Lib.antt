@@ -4,3 +4,5 @@ pub mod View
 pub mod Fold
 pub mod Fault
 pub mod Places
+pub mod SortKey
+pub mod SortSpec
