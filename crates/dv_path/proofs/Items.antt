@@ -1,5 +1,5 @@
 -- Items that a loop or a call reads, as what is seen of them.
-use Rattle.std.proofs.Common.{◌≡◌, ℕ, zero, suc, ◌≤◌, ◌<◌, List, [], ◌∷◌, length, map, get_or, Option, Some, None, slice_get, refl, sym, ◌∙◌, ap, arith, Bool, true, false, if◌then◌else◌}
+use Rattle.std.proofs.Common.{◌≡◌, ℕ, zero, suc, ◌+◌, ◌≤◌, ◌<◌, List, [], ◌∷◌, length, map, drop, add-one, get_or, Option, Some, None, slice_get, refl, sym, ◌∙◌, ap, arith, Bool, true, false, if◌then◌else◌}
 use Rattle.std.specs.Str.{bytes_eq}
 use Rattle.std.proofs.lemmas.Option.{slice_get_read, slice_get-map}
 use Rattle.dv_bson.specs.declared.value.Value.{Value}
@@ -44,3 +44,15 @@ a_document v d e = rw e tt
 
 pub document_tree : (v : Value) (d : List Field) → v ≡ Value.Doc d → document (fields_of d) ≡ tree v
 document_tree v d e = ap tree (sym e)
+
+-- what is left from a place on begins with the item there
+pub drop_at : {X : Type 0} (xs : List X) (place : ℕ) (x : X) → slice_get xs place ≡ Some x → drop place xs ≡ x ∷ drop (place + 1) xs
+drop_at [] place x e = absurd cc
+drop_at (y ∷ ys) zero x e = cc
+drop_at (y ∷ ys) (suc place) x e = rw (drop_at ys place x e, add-one, add-one) refl
+
+-- no item at a place, so the list ends before it
+pub none_there : {X : Type 0} (xs : List X) (place : ℕ) → slice_get xs place ≡ None → length xs ≤ place
+none_there [] place e = omega arith
+none_there (x ∷ xs) zero e = absurd cc
+none_there (x ∷ xs) (suc place) e = omega (arith, none_there xs place e)

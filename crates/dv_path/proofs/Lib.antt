@@ -4,5 +4,6 @@ pub mod Folds
 pub mod Items
 pub mod Parsing
 pub mod Reach
+pub mod SpecParts
 pub mod Walks
 pub mod Earliest

@@ -6,3 +6,4 @@ pub mod Fault
 pub mod Places
 pub mod SortKey
 pub mod SortSpec
+pub mod Parts

@@ -9,6 +9,7 @@ mod fault;
 mod listed;
 mod path;
 mod places;
+mod sort_spec;
 mod sorting;
 mod walk;
 
@@ -19,5 +20,6 @@ pub use direction::Direction;
 pub use fault::PathFault;
 pub use listed::{leaves, whole};
 pub use path::Path;
+pub use sort_spec::{SortPart, SortSpec};
 pub use sorting::sort_key;
 pub use walk::fold_whole;
