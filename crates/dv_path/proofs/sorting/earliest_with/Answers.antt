@@ -1,0 +1,13 @@
+use Rattle.std.proofs.Common.{◌≡◌, ◌∙◌, ap}
+use Rattle.dv_bson.specs.Tree.{array, elements_of}
+use Rattle.dv_bson.specs.View.{tree}
+use Rattle.dv_path.specs.SortKey.{keys_of, array_keys}
+use Rattle.dv_path.specs.View.{seen}
+use Rattle.dv_path.proofs.Asked.{seen-at}
+use Rattle.dv_path.proofs.Walks.{list_of_elements_of}
+use Rattle.dv_path.proofs.sorting.earliest_with.Goals as goal
+
+pub returns-in-Array : goal.returns-in-Array
+returns-in-Array c =
+    let here : keys_of (seen c.args.candidate) ≡ array_keys c.in-Array.list = ap keys_of (seen-at c.args.candidate c.in-Found.value c.in-Found.is (array (elements_of c.in-Array.list)) (ap tree c.in-Array.is)) ∙ ap array_keys (list_of_elements_of c.in-Array.list) in
+    rw here c.earliest_with_elements.ensures

@@ -1,0 +1,9 @@
+pub mod Path
+pub mod Candidates
+pub mod View
+pub mod Fold
+pub mod Fault
+pub mod Places
+pub mod SortKey
+pub mod SortSpec
+pub mod Parts
