@@ -14,12 +14,12 @@ use Rattle.dv_core.specs.Changes.{Effect}
 use Rattle.dv_core.specs.Find.{batch_reply}
 use Rattle.dv_core.specs.Insert.{insert_write}
 use Rattle.dv_core.specs.State.{State, Namespaces, documents_of}
-use Rattle.dv_core.specs.Statements.{Statement, Write, Written, nothing_written, written, with_all, with_next, with_result, is_due, IsCut}
+use Rattle.dv_core.specs.Statements.{Statement, Write, Written, nothing_written, carry_out, with_all, with_next, with_result, is_due, IsCut}
 use Rattle.dv_core.specs.Step.{Answer, answered, read_answer, write_answer, answer_to, step, write_of, WriteCut, Cut, Wants, MemoryStep}
 
 -- what a write did, be it cut
 abbrev pub Did : Write → State → Written → Type 0
-Did write old did = (did ≡ written write old.namespaces) ⊎ IsCut write old.namespaces did
+Did write old did = (did ≡ carry_out write old.namespaces) ⊎ IsCut write old.namespaces did
 
 -- the answer of a write
 pub record Writes (old : State) (asked : Result Asked Refusal) (answer : Answer) : Type 0 where
@@ -42,7 +42,7 @@ step_may : (old : State) (session : ℕ) (asked : Result Asked Refusal) → MayW
 step_may old session (Err refusal) = inl refl
 step_may old session (Ok ping) = inl refl
 step_may old session (Ok (insert i)) =
-    inr (record { what = insert i; write = insert_write i; did = written (insert_write i) old.namespaces; asks = refl; is_write = refl; did_so = inl refl; answers = refl })
+    inr (record { what = insert i; write = insert_write i; did = carry_out (insert_write i) old.namespaces; asks = refl; is_write = refl; did_so = inl refl; answers = refl })
 step_may old session (Ok (find f)) = inl (read_leaves old (batch_reply f.namespace (documents_of f.namespace old.namespaces)))
 
 write_cut_may : (old : State) (what : Asked) (write : Option Write) → write_of what ≡ write → (answer : Answer) → WriteCut old write answer → MayWrite old (Ok what) answer
@@ -129,7 +129,7 @@ module _ (write : Write) (ordered : write.ordered ≡ true) where
   one_all so_far [] few = few
   one_all so_far (statement ∷ statements) few = one_all (with_next write.namespace write.ordered so_far statement) statements (one_next so_far statement few)
 
-  pub one_error : (old : Namespaces) → length (written write old).errors ≤ 1
+  pub one_error : (old : Namespaces) → length (carry_out write old).errors ≤ 1
   one_error old = one_all (nothing_written old) write.statements (omega arith)
 
   pub cut_error_alone : (old : Namespaces) (left : Written) → IsCut write old left → length left.errors ≡ 1

@@ -11,7 +11,7 @@ use Rattle.dv_command.specs.declared.refusal.Refusal.{Refusal}
 use Rattle.dv_command.specs.declared.refusal.Refusal.TheVariants.{DuplicateKey}
 use Rattle.dv_command.specs.Refusals.{◌>>=◌}
 use Rattle.dv_core.specs.declared.outcome.Outcome.{Outcome}
-use Rattle.dv_core.specs.Changes.{Change, put, Effect, changed, with_changes, changes_of, without_key}
+use Rattle.dv_core.specs.Changes.{Change, put, Effect, apply, with_changes, changes_of, without_key}
 use Rattle.dv_core.specs.Insert.{insert_one, put_new}
 use Rattle.dv_core.specs.State.{State, Standing, Namespaces, collection_at, documents_of, with_documents, collection}
 use Rattle.dv_core.specs.Statements.{Statement, Write, Written, nothing_written, with_all, with_next, with_result, is_due}
@@ -46,7 +46,7 @@ module _ (P : List (List Field) → Type 0) where
       subst (λ (there : Option Standing). P (collection_at there).documents) (sym (get-insert namespaces namespace (collection (record { documents = documents })) other))
       (put_holds (bytes_eq namespace other) (finite.get namespaces other) documents (h other) i)
 
-  changed_holds : (namespace : List ℕ) (changes : List Change) (namespaces : Namespaces) → Holds namespaces → P (with_changes (documents_of namespace namespaces) changes) → Holds (changed namespace changes namespaces)
+  changed_holds : (namespace : List ℕ) (changes : List Change) (namespaces : Namespaces) → Holds namespaces → P (with_changes (documents_of namespace namespaces) changes) → Holds (apply namespace changes namespaces)
   changed_holds namespace [] namespaces h i = h
   changed_holds namespace (change ∷ changes) namespaces h i = with_holds namespace (with_changes (documents_of namespace namespaces) (change ∷ changes)) namespaces h i
 

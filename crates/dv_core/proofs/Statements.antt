@@ -13,8 +13,8 @@ use Rattle.dv_core.specs.declared.outcome.Outcome.TheVariants.{Reply, Wanting, N
 use Rattle.dv_core.specs.declared.written.Next.{Next}
 use Rattle.dv_core.specs.declared.written.Next.TheVariants.{Due, Ended}
 use Rattle.dv_core.specs.State.{Namespaces, documents_of}
-use Rattle.dv_core.specs.Changes.{Change, put, Effect, changed}
-use Rattle.dv_core.specs.Statements.{Statement, Write, Written, nothing_written, written, with_next, with_all, with_result, is_due, next_changes, cut, AreCut, IsCut}
+use Rattle.dv_core.specs.Changes.{Change, put, Effect, apply}
+use Rattle.dv_core.specs.Statements.{Statement, Write, Written, nothing_written, carry_out, with_next, with_all, with_result, is_due, next_changes, cut, AreCut, IsCut}
 use Rattle.dv_core.specs.WriteParts.{with_refusal, next_behind, reply_seen, Notes, CutsNext, NextStep, Writes}
 
 is_due-push : (ordered : Bool) (es : List Tree) (e : Tree) → is_due ordered (es ++ e ∷ []) ≡ not ordered
@@ -32,7 +32,7 @@ module _ (namespace : List ℕ) (ordered : Bool) where
   module _ (so_far now : Written) (statement : Statement) where
     -- it was carried out
     pub next_made : (matched : ℕ) (changes : List Change) → is_due ordered so_far.errors ≡ true → statement (documents_of namespace so_far.namespaces) ≡ Ok (record { matched = matched; changes = changes })
-        → now ≡ record { statements = suc so_far.statements; n = so_far.n + matched; errors = so_far.errors; namespaces = changed namespace changes so_far.namespaces }
+        → now ≡ record { statements = suc so_far.statements; n = so_far.n + matched; errors = so_far.errors; namespaces = apply namespace changes so_far.namespaces }
         → NextStep namespace ordered so_far statement (Ok Due) now
     next_made matched changes due made is = (rw (due, made) is, rw is due)
 
@@ -145,10 +145,10 @@ insert_counts d documents = stored_counts (storable d) documents
 
 -- what an ended write answers
 module _ (write : Write) (old : Namespaces) (left : Written) where
-  pub done_replied : (reply : List Field) → left ≡ written write old → reply ≡ reply_seen left → Writes write old (Reply reply) left.namespaces
+  pub done_replied : (reply : List Field) → left ≡ carry_out write old → reply ≡ reply_seen left → Writes write old (Reply reply) left.namespaces
   done_replied reply is replies = (replies ∙ ap reply_seen is, ap (λ (w : Written). w.namespaces) is)
 
-  pub done_untold : left ≡ written write old → Writes write old NoReply left.namespaces
+  pub done_untold : left ≡ carry_out write old → Writes write old NoReply left.namespaces
   done_untold is = inl (ap (λ (w : Written). w.namespaces) is)
 
   pub cut_replied : (reply : List Field) → IsCut write old left → reply ≡ reply_seen left → Writes write old (Wanting reply) left.namespaces

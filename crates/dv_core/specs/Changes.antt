@@ -24,9 +24,9 @@ with_changes documents [] = documents
 with_changes documents (change ∷ changes) = with_changes (with_change documents change) changes
 
 -- the documents of a namespace after these changes, one after the other; without any, all is left as it is, and no collection is made
-abbrev pub changed : List ℕ → List Change → Namespaces → Namespaces
-changed namespace [] namespaces = namespaces
-changed namespace (change ∷ changes) namespaces =
+abbrev pub apply : List ℕ → List Change → Namespaces → Namespaces
+apply namespace [] namespaces = namespaces
+apply namespace (change ∷ changes) namespaces =
     with_documents namespace (with_changes (documents_of namespace namespaces) (change ∷ changes)) namespaces
 
 -- what a statement does: how many documents it is counted for, and its changes in order

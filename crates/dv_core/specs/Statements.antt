@@ -5,7 +5,7 @@ use Rattle.dv_bson.specs.Tree.{Tree, Field}
 use Rattle.dv_command.specs.declared.refusal.Refusal.{Refusal}
 use Rattle.dv_command.specs.Replies.{document_of, write_error, cut_error}
 use Rattle.dv_core.specs.State.{Namespaces, documents_of}
-use Rattle.dv_core.specs.Changes.{Change, Effect, changed, changes_of}
+use Rattle.dv_core.specs.Changes.{Change, Effect, apply, changes_of}
 
 -- a statement: what it does to the documents of a namespace, or why it is refused
 abbrev pub Statement : Type 0
@@ -32,7 +32,7 @@ module _ (namespace : List ℕ) (ordered : Bool) where
   -- one statement more, which did this; one that is refused changes nothing
   abbrev pub with_result : Written → Result Effect Refusal → Written
   with_result so_far (Ok effect) =
-      record { statements = suc so_far.statements; n = so_far.n + effect.matched; errors = so_far.errors; namespaces = changed namespace effect.changes so_far.namespaces }
+      record { statements = suc so_far.statements; n = so_far.n + effect.matched; errors = so_far.errors; namespaces = apply namespace effect.changes so_far.namespaces }
   with_result so_far (Err refusal) =
       record { statements = suc so_far.statements; n = so_far.n; errors = so_far.errors ++ document_of (write_error so_far.statements refusal) ∷ []; namespaces = so_far.namespaces }
 
@@ -54,7 +54,7 @@ module _ (namespace : List ℕ) (ordered : Bool) where
   -- the next statement finds no memory behind the first so many of its changes: these stand, and it isn't counted
   abbrev pub cut : ℕ → Written → Statement → Written
   cut made so_far statement =
-      record { statements = suc so_far.statements; n = so_far.n; errors = so_far.errors ++ document_of (cut_error so_far.statements made) ∷ []; namespaces = changed namespace (take made (next_changes so_far statement)) so_far.namespaces }
+      record { statements = suc so_far.statements; n = so_far.n; errors = so_far.errors ++ document_of (cut_error so_far.statements made) ∷ []; namespaces = apply namespace (take made (next_changes so_far statement)) so_far.namespaces }
 
   -- these statements are cut at one of them: those before it were carried out, and it was to be looked at; not all of its changes
   -- were made, or none where it would make none
@@ -76,8 +76,8 @@ pub record Write : Type 0 where
   pub statements : List Statement
 
 -- what its statements do
-abbrev pub written : Write → Namespaces → Written
-written write old = with_all write.namespace write.ordered (nothing_written old) write.statements
+abbrev pub carry_out : Write → Namespaces → Written
+carry_out write old = with_all write.namespace write.ordered (nothing_written old) write.statements
 
 abbrev pub IsCut : Write → Namespaces → Written → Type 0
 IsCut write old left = AreCut write.namespace write.ordered write.statements old left

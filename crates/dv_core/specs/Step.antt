@@ -10,7 +10,7 @@ use Rattle.dv_command.specs.Replies.{reply_of, refusal_reply, write_reply}
 use Rattle.dv_core.specs.declared.outcome.Outcome.{Outcome}
 use Rattle.dv_core.specs.declared.outcome.Outcome.TheVariants.{Reply, Wanting, NoReply}
 use Rattle.dv_core.specs.State.{State, documents_of}
-use Rattle.dv_core.specs.Statements.{Write, Written, written, IsCut}
+use Rattle.dv_core.specs.Statements.{Write, Written, carry_out, IsCut}
 use Rattle.dv_core.specs.Insert.{insert_write}
 use Rattle.dv_core.specs.Find.{batch_reply}
 
@@ -32,7 +32,7 @@ write_answer old did = record { reply = write_reply did.n did.errors; state = re
 -- what a command of a session answers, by what it asks
 abbrev pub answer_to : State → ℕ → Asked → Result Answer Refusal
 answer_to state session ping = read_answer state (Ok (reply_of []))
-answer_to state session (insert asked) = Ok (write_answer state (written (insert_write asked) state.namespaces))
+answer_to state session (insert asked) = Ok (write_answer state (carry_out (insert_write asked) state.namespaces))
 answer_to state session (find asked) = read_answer state (batch_reply asked.namespace (documents_of asked.namespace state.namespaces))
 
 -- a refusal leaves the state

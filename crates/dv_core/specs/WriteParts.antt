@@ -12,8 +12,8 @@ use Rattle.dv_core.specs.declared.written.Written as declared
 use Rattle.dv_core.specs.declared.written.Next.{Next}
 use Rattle.dv_core.specs.declared.written.Next.TheVariants.{Due, Ended, Cut}
 use Rattle.dv_core.specs.State.{Namespaces, documents_of}
-use Rattle.dv_core.specs.Changes.{Change, changed}
-use Rattle.dv_core.specs.Statements.{Statement, Write, Written, written, with_next, is_due, next_changes, cut, IsCut}
+use Rattle.dv_core.specs.Changes.{Change, apply}
+use Rattle.dv_core.specs.Statements.{Statement, Write, Written, carry_out, with_next, is_due, next_changes, cut, IsCut}
 
 -- what statements did, and what they left
 abbrev pub written_seen : declared.Written → Namespaces → Written
@@ -50,7 +50,7 @@ outcome_of (Err e) = NoReply
 -- a statement makes its changes, and is counted for so many documents; or it is refused, if only for want of memory, and nothing is changed
 abbrev pub Makes : {B : Type 0} → List ℕ → Statement → ℕ → Namespaces → Result B Refusal → Namespaces → Type 0
 Makes namespace statement matched old (Ok x) new =
-    (changes : List Change) × (statement (documents_of namespace old) ≡ Ok (record { matched = matched; changes = changes })) × (new ≡ changed namespace changes old)
+    (changes : List Change) × (statement (documents_of namespace old) ≡ Ok (record { matched = matched; changes = changes })) × (new ≡ apply namespace changes old)
 Makes namespace statement matched old (Err refusal) new = ((statement (documents_of namespace old) ≡ Err refusal) ⊎ (refusal ≡ WantOfMemory)) × (new ≡ old)
 
 module _ (namespace : List ℕ) (ordered : Bool) where
@@ -70,6 +70,6 @@ module _ (namespace : List ℕ) (ordered : Bool) where
 
 -- a write: the statements as they are defined, or cut at one of them; no reply after either
 abbrev pub Writes : Write → Namespaces → Outcome → Namespaces → Type 0
-Writes write old (Reply reply) new = (reply ≡ reply_seen (written write old)) × (new ≡ (written write old).namespaces)
+Writes write old (Reply reply) new = (reply ≡ reply_seen (carry_out write old)) × (new ≡ (carry_out write old).namespaces)
 Writes write old (Wanting reply) new = (left : Written) × IsCut write old left × (reply ≡ reply_seen left) × (new ≡ left.namespaces)
-Writes write old NoReply new = (new ≡ (written write old).namespaces) ⊎ ((left : Written) × IsCut write old left × (new ≡ left.namespaces))
+Writes write old NoReply new = (new ≡ (carry_out write old).namespaces) ⊎ ((left : Written) × IsCut write old left × (new ≡ left.namespaces))

@@ -12,7 +12,7 @@ ghost use Rattle.dv_core.specs.declared.outcome.Outcome.TheVariants.{Reply, Want
 ghost use Rattle.dv_core.specs.Examples as examples;
 ghost use Rattle.dv_core.specs.Sound.{IsSound, IsSoundCommand};
 ghost use Rattle.dv_core.specs.State.{State, Namespaces, IsOrdered, empty_state};
-ghost use Rattle.dv_core.specs.Statements.{Write, Written, written, IsCut};
+ghost use Rattle.dv_core.specs.Statements.{Write, Written, carry_out, IsCut};
 ghost use Rattle.dv_core.specs.Step.{MemoryStep, write_of};
 ghost use Rattle.dv_core.specs.Storable.{storable, is_within_limits};
 
@@ -57,7 +57,7 @@ pub fn states_stay_sound()
 
 /// An ordered write tells of one error at most; and where it is cut, of that alone.
 pub fn an_ordered_write_ends_at_its_first_error()
-    ensures whole { (write : Write) (old : Namespaces) → write.ordered ≡ true → length (written write old).errors ≤ 1 }
+    ensures whole { (write : Write) (old : Namespaces) → write.ordered ≡ true → length (carry_out write old).errors ≤ 1 }
     ensures cut { (write : Write) (old : Namespaces) (left : Written) → write.ordered ≡ true → IsCut write old left → length left.errors ≡ 1 }
 {}
 

@@ -13,3 +13,6 @@ mod written;
 
 pub use outcome::Outcome;
 pub use store::Store;
+
+#[cfg(test)]
+mod tests;

@@ -3,7 +3,7 @@ use Rattle.dv_bson.specs.Tree.{Field}
 use Rattle.std.proofs.lemmas.Result.{err_from_is_err_and}
 use Rattle.dv_command.specs.View.{insert_seen}
 use Rattle.dv_core.specs.Insert.{insert_one, insert_write}
-use Rattle.dv_core.specs.Statements.{Written, written}
+use Rattle.dv_core.specs.Statements.{Written, carry_out}
 use Rattle.dv_core.specs.WriteParts.{written_seen}
 use Rattle.dv_core.proofs.Statements.{starts, at_end, due_behind, ends, cut_here, counts, counts_n, insert_counts, done_replied, done_untold, cut_replied, cut_untold}
 use Rattle.dv_core.proofs.insert.insert_each.Goals as goal
@@ -56,7 +56,7 @@ pub returns-in_err-reply : goal.returns-in_err-reply
 returns-in_err-reply c =
     let p = err_from_is_err_and c.from_residual-in_err-reply.result c.from_residual-in_err-reply.ensures.1 in
     let write = insert_write (insert_seen c.args.insert) in
-    let all : written_seen c.match-next.written c.match-next.collections ≡ written write c.args.collections.now =
+    let all : written_seen c.match-next.written c.match-next.collections ≡ carry_out write c.args.collections.now =
     elim c.match-next.branch [
       | in-None w ↦
           let here = rw w.in-None.ensures.steps.0 at c.documents.invariant.reached in
@@ -71,7 +71,7 @@ returns-in_err-reply c =
 pub returns : goal.returns
 returns c =
     let write = insert_write (insert_seen c.args.insert) in
-    let all : written_seen c.match-next.written c.match-next.collections ≡ written write c.args.collections.now =
+    let all : written_seen c.match-next.written c.match-next.collections ≡ carry_out write c.args.collections.now =
     elim c.match-next.branch [
       | in-None w ↦
           let here = rw w.in-None.ensures.steps.0 at c.documents.invariant.reached in

@@ -1,0 +1,252 @@
+//! Commands carried out with ample memory, and documents as they are stored.
+
+use super::*;
+use crate::storable::storable;
+use dv_bson::{Document, List, Str, Value, read_document, write_document};
+use dv_command::{Command, DocumentLists};
+use std::alloc::Global;
+use std::test::*;
+
+/// The bytes of the document that these bytes spell, as it is stored; or the name of the refusal.
+fn stored(alloc: Global, body: &[u8]) -> Result<Vec<u8>, Fail> {
+    let (document, _) = read_document(alloc, body)?;
+    let mut told = Vec::new(alloc);
+    match storable(alloc, &document) {
+        Ok(stored) => write_document(&stored, &mut told)?,
+        Err(refusal) => told.extend_from_slice(refusal.name().as_bytes())?,
+    }
+    Ok(told)
+}
+
+#[test]
+fn documents_are_stored_with_their_id_in_front(rt: HostRuntime) -> Result<(), Fail> {
+    let bad = b"BadValue".as_slice();
+    let id_in_front = b"\x15\0\0\0\x10_id\0\x02\0\0\0\x10a\0\x01\0\0\0\0".as_slice();
+    let deep_in_id = b"\x17\0\0\0\x03_id\0\x0d\0\0\0\x10$x\0\x01\0\0\0\0\0".as_slice();
+    for (document, wanted) in [
+        (
+            b"\x15\0\0\0\x10a\0\x01\0\0\0\x10_id\0\x02\0\0\0\0".as_slice(),
+            id_in_front,
+        ),
+        (id_in_front, id_in_front),
+        (deep_in_id, deep_in_id),
+        (
+            b"\x1e\0\0\0\x03a\0\x0d\0\0\0\x10$x\0\x01\0\0\0\0\x10_id\0\x01\0\0\0\0".as_slice(),
+            b"\x1e\0\0\0\x10_id\0\x01\0\0\0\x03a\0\x0d\0\0\0\x10$x\0\x01\0\0\0\0\0".as_slice(),
+        ),
+        (b"\x05\0\0\0\0".as_slice(), bad),
+        (b"\x0c\0\0\0\x10a\0\x01\0\0\0\0".as_slice(), bad),
+        (
+            b"\x16\0\0\0\x04_id\0\x0c\0\0\0\x100\0\x01\0\0\0\0\0".as_slice(),
+            bad,
+        ),
+        (
+            b"\x16\0\0\0\x10$a\0\x01\0\0\0\x10_id\0\x01\0\0\0\0".as_slice(),
+            bad,
+        ),
+        (
+            b"\x17\0\0\0\x10_id\0\x01\0\0\0\x10a.b\0\x01\0\0\0\0".as_slice(),
+            bad,
+        ),
+        (
+            b"\x2f\0\0\0\x10_id\0\x01\0\0\0\x04a\0\x1e\0\0\0\x040\0\x16\0\0\0\x030\0\x0e\0\0\0\x10x.y\0\x01\0\0\0\0\0\0\0".as_slice(),
+            bad,
+        ),
+    ] {
+        let told = stored(rt.alloc(), document)?;
+        assert_eq!(rt; told.as_slice(), wanted);
+    }
+    Ok(())
+}
+
+/// 39 fields, each `true` under its number, and `_id` in front of them or behind them.
+fn numbered(alloc: Global, id_in_front: bool) -> Result<Document, Fail> {
+    let mut document = Document::new(alloc);
+    if id_in_front {
+        document.push("_id", Value::Bool(false))?;
+    }
+    for number in 0..39 {
+        let name = format!(in alloc; "{number}")?;
+        document.push(&name, Value::Bool(true))?;
+    }
+    if !id_in_front {
+        document.push("_id", Value::Bool(false))?;
+    }
+    Ok(document)
+}
+
+#[test]
+fn the_last_of_forty_fields_moves_to_the_front(rt: HostRuntime) -> Result<(), Fail> {
+    let document = numbered(rt.alloc(), false)?;
+    let stored = storable(rt.alloc(), &document).ok().ok_or("it is stored")?;
+    let mut told = Vec::new(rt.alloc());
+    let mut wanted = Vec::new(rt.alloc());
+    write_document(&stored, &mut told)?;
+    write_document(&numbered(rt.alloc(), true)?, &mut wanted)?;
+    assert_eq!(rt; told, wanted);
+    Ok(())
+}
+
+fn text(alloc: Global, text: &str) -> Result<Value, Fail> {
+    Ok(Value::Text(Str::of(String::from_str(alloc, text)?)))
+}
+
+/// The value `{_id: id, t: text}`, where the text is the letter "a" so many times. It has 22 bytes more than the text.
+fn document(alloc: Global, id: i32, length: usize) -> Result<Value, Fail> {
+    let mut document = Document::new(alloc);
+    document.push("_id", Value::Int32(id))?;
+    document.push("t", Value::Text(Str::of("a".repeat(alloc, length)?)))?;
+    Ok(Value::Doc(document))
+}
+
+/// `{insert: collection, documents: documents, ordered: ordered, $db: "t"}`.
+fn insert(
+    alloc: Global,
+    collection: &str,
+    documents: Vec<Value>,
+    ordered: bool,
+) -> Result<Document, Fail> {
+    let mut body = Document::new(alloc);
+    body.push("insert", text(alloc, collection)?)?;
+    body.push("documents", Value::Array(List::of(documents)))?;
+    body.push("ordered", Value::Bool(ordered))?;
+    body.push("$db", text(alloc, "t")?)?;
+    Ok(body)
+}
+
+/// `{name: value, $db: "t"}`.
+fn command(alloc: Global, name: &str, value: Value) -> Result<Document, Fail> {
+    let mut body = Document::new(alloc);
+    body.push(name, value)?;
+    body.push("$db", text(alloc, "t")?)?;
+    Ok(body)
+}
+
+/// The reply to a command of session 7, which no want of memory is told of.
+fn reply_to(alloc: Global, store: &mut Store, body: Document) -> Result<Document, Fail> {
+    let lists = DocumentLists::new(alloc);
+    match store.execute(7, &Command::Sections { body, lists }) {
+        Outcome::Reply(reply) => Ok(reply),
+        Outcome::Wanting(_) | Outcome::NoReply => Err("memory is wanting".into()),
+    }
+}
+
+/// The bytes of that reply.
+fn told(alloc: Global, store: &mut Store, body: Document) -> Result<Vec<u8>, Fail> {
+    let mut bytes = Vec::new(alloc);
+    write_document(&reply_to(alloc, store, body)?, &mut bytes)?;
+    Ok(bytes)
+}
+
+const TOO_LARGE: &[u8] =
+    b"C\0\0\0\x10ok\0\0\0\0\0\x02errmsg\0\x09\0\0\0TooLarge\0\x10code\0\x85\x03\0\0\x02codeName\0\x09\0\0\0TooLarge\0\0";
+
+const LIMIT_REACHED: &[u8] =
+    b"K\0\0\0\x10ok\0\0\0\0\0\x02errmsg\0\x0d\0\0\0LimitReached\0\x10code\0\x87\x03\0\0\x02codeName\0\x0d\0\0\0LimitReached\0\0";
+
+const INSERTED: &[u8] = b"\x14\0\0\0\x10n\0\x01\0\0\0\x10ok\0\x01\0\0\0\0";
+
+#[test]
+fn documents_are_found_in_their_namespace(rt: HostRuntime) -> Result<(), Fail> {
+    let alloc = rt.alloc();
+    let mut store = Store::new(alloc);
+    for (collection, id, length) in [("c", 2, 2), ("d", 7, 1), ("c", 1, 0)] {
+        let mut documents = Vec::new(alloc);
+        documents.push(document(alloc, id, length)?)?;
+        let body = insert(alloc, collection, documents, true)?;
+        assert_eq!(rt; told(alloc, &mut store, body)?.as_slice(), INSERTED);
+    }
+    let both =
+        b"w\0\0\0\x03cursor\0b\0\0\0\x04firstBatch\09\0\0\0\x030\0\x16\0\0\0\x10_id\0\x01\0\0\0\x02t\0\x01\0\0\0\0\0\x031\0\x18\0\0\0\x10_id\0\x02\0\0\0\x02t\0\x03\0\0\0aa\0\0\0\x12id\0\0\0\0\0\0\0\0\0\x02ns\0\x04\0\0\0t.c\0\0\x10ok\0\x01\0\0\0\0".as_slice();
+    let none =
+        b"C\0\0\0\x03cursor\0.\0\0\0\x04firstBatch\0\x05\0\0\0\0\x12id\0\0\0\0\0\0\0\0\0\x02ns\0\x04\0\0\0t.x\0\0\x10ok\0\x01\0\0\0\0".as_slice();
+    for (collection, wanted) in [("c", both), ("x", none)] {
+        let body = command(alloc, "find", text(alloc, collection)?)?;
+        assert_eq!(rt; told(alloc, &mut store, body)?.as_slice(), wanted);
+    }
+    Ok(())
+}
+
+#[test]
+fn many_documents_are_inserted_and_found(rt: HostRuntime) -> Result<(), Fail> {
+    let alloc = rt.alloc();
+    let mut store = Store::new(alloc);
+    let pong = told(alloc, &mut store, command(alloc, "ping", Value::Int32(1))?)?;
+    assert_eq!(rt;
+        pong.as_slice(),
+        b"\x0d\0\0\0\x10ok\0\x01\0\0\0\0".as_slice()
+    );
+
+    // 1,001 documents, and two that have the `_id`s of the first ones.
+    let mut documents = Vec::new(alloc);
+    for id in 0..1003 {
+        let mut document = Document::new(alloc);
+        document.push("_id", Value::Int32(id % 1001))?;
+        documents.push(Value::Doc(document))?;
+    }
+    let errors =
+        b"\x92\0\0\0\x10n\0\xe9\x03\0\0\x04writeErrors\0q\0\0\0\x030\03\0\0\0\x10index\0\xe9\x03\0\0\x10code\0\xf8*\0\0\x02errmsg\0\x0d\0\0\0DuplicateKey\0\0\x031\03\0\0\0\x10index\0\xea\x03\0\0\x10code\0\xf8*\0\0\x02errmsg\0\x0d\0\0\0DuplicateKey\0\0\0\x10ok\0\x01\0\0\0\0".as_slice();
+    let body = insert(alloc, "c", documents, false)?;
+    assert_eq!(rt; told(alloc, &mut store, body)?.as_slice(), errors);
+
+    let body = command(alloc, "find", text(alloc, "c")?)?;
+    assert_eq!(rt; told(alloc, &mut store, body)?.len(), 18_977);
+    Ok(())
+}
+
+// No message brings so long a document, but a command may be made without one.
+#[test]
+fn a_document_has_at_most_16_mebibytes(rt: HostRuntime) -> Result<(), Fail> {
+    let alloc = rt.alloc();
+    let refused =
+        b"X\0\0\0\x10n\0\0\0\0\0\x04writeErrors\07\0\0\0\x030\0/\0\0\0\x10index\0\0\0\0\0\x10code\0\x85\x03\0\0\x02errmsg\0\x09\0\0\0TooLarge\0\0\0\x10ok\0\x01\0\0\0\0".as_slice();
+    for (length, wanted) in [(16_777_194, INSERTED), (16_777_195, refused)] {
+        let mut documents = Vec::new(alloc);
+        documents.push(document(alloc, 1, length)?)?;
+        let body = insert(alloc, "c", documents, true)?;
+        assert_eq!(rt;
+            told(alloc, &mut Store::new(alloc), body)?.as_slice(),
+            wanted
+        );
+    }
+    Ok(())
+}
+
+#[test]
+fn a_reply_has_at_most_16_mebibytes_of_documents(rt: HostRuntime) -> Result<(), Fail> {
+    let alloc = rt.alloc();
+    let mut store = Store::new(alloc);
+    for (id, length, found) in [(1, 16_777_150, 16_777_242), (2, 22, 16_777_289)] {
+        let mut documents = Vec::new(alloc);
+        documents.push(document(alloc, id, length)?)?;
+        reply_to(alloc, &mut store, insert(alloc, "c", documents, true)?)?;
+        let body = command(alloc, "find", text(alloc, "c")?)?;
+        assert_eq!(rt; told(alloc, &mut store, body)?.len(), found);
+    }
+    let mut documents = Vec::new(alloc);
+    documents.push(document(alloc, 3, 0)?)?;
+    reply_to(alloc, &mut store, insert(alloc, "c", documents, true)?)?;
+    let body = command(alloc, "find", text(alloc, "c")?)?;
+    assert_eq!(rt; told(alloc, &mut store, body)?.as_slice(), TOO_LARGE);
+    Ok(())
+}
+
+#[test]
+fn a_command_has_at_most_100000_statements(rt: HostRuntime) -> Result<(), Fail> {
+    let alloc = rt.alloc();
+    // Empty documents have no `_id`: the first one ends the command.
+    let refused =
+        b"X\0\0\0\x10n\0\0\0\0\0\x04writeErrors\07\0\0\0\x030\0/\0\0\0\x10index\0\0\0\0\0\x10code\0\x02\0\0\0\x02errmsg\0\x09\0\0\0BadValue\0\0\0\x10ok\0\x01\0\0\0\0".as_slice();
+    for (count, wanted) in [(100_000, refused), (100_001, LIMIT_REACHED)] {
+        let mut documents = Vec::new(alloc);
+        for _ in 0..count {
+            documents.push(Value::Doc(Document::new(alloc)))?;
+        }
+        let body = insert(alloc, "c", documents, true)?;
+        assert_eq!(rt;
+            told(alloc, &mut Store::new(alloc), body)?.as_slice(),
+            wanted
+        );
+    }
+    Ok(())
+}
