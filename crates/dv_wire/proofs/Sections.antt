@@ -116,7 +116,7 @@ sections_spelled (kind ∷ document) sections e =
 one_if : (b : Bool) (document : List ℕ) → b ≡ true → cond b (Some (body document ∷ [])) None ≡ Some (body document ∷ [])
 one_if b document e = rw e refl
 
-two_counted : (sections : List Section) (n : ℕ) → body_count sections ≡ suc (suc n) → are_sections sections ≡ true → ⊥
+pub two_counted : (sections : List Section) (n : ℕ) → body_count sections ≡ suc (suc n) → are_sections sections ≡ true → ⊥
 two_counted sections n two are =
     let counted = and_parts (list_all is_section sections) (eqb (body_count sections) 1) are in
     let one : body_count sections ≡ 1 = eqb-true (body_count sections) 1 counted.1 in omega arith

@@ -173,14 +173,3 @@ unfinished_in (Some (reading kept)) = length kept
 -- a session ends: its unfinished bytes are dropped, and no document changes
 abbrev pub end : ℕ → World → World
 end session old = record { state = old.state; next = old.next; sessions = sessions_but session old.sessions }
-
--- ---- what stands in each world that is reached
-
--- the numbers ascend from the first one, and stand below the next
-abbrev pub AreNumbered : ℕ → List (ℕ × Conversation) → ℕ → Type 0
-AreNumbered first [] next = first ≤ next
-AreNumbered first (s ∷ ss) next = (first ≤ s.0) × AreNumbered (suc s.0) ss next
-
--- sessions stand in the order in which they were opened
-abbrev pub IsNumbered : World → Type 0
-IsNumbered world = AreNumbered 0 world.sessions world.next
