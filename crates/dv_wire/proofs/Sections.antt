@@ -94,8 +94,8 @@ module _ (bytes : List ℕ) where
   pub another_kind : 1 ≤ length bytes → (get_or bytes 0 0 ≡ 0 → ⊥) → sections_in bytes ≡ None
   another_kind some kind = by_parts bytes refl some ∙ rw (ne_eqb _ 0 kind) refl
 
-  pub unframed : 1 ≤ length bytes → is_framed behind_kind ≡ false → sections_in bytes ≡ None
-  unframed some unfit = by_parts bytes refl some ∙ rw (unfit, and-false) refl
+  pub another_frame : 1 ≤ length bytes → is_framed behind_kind ≡ false → sections_in bytes ≡ None
+  another_frame some unfit = by_parts bytes refl some ∙ rw (unfit, and-false) refl
 
 -- ---- and their spellings
 

@@ -16,7 +16,7 @@ use Rattle.dv_wire.specs.declared.fault.CloseFault.TheVariants.{NoMemory}
 use Rattle.dv_wire.specs.declared.hub.Fed.{Fed}
 use Rattle.dv_wire.specs.declared.hub.SessionId.{SessionId}
 use Rattle.dv_wire.specs.Message.{Section, body, body_among, sections_spelling, are_sections, Message, Front, unfinished, closing, whole, number_behind, front, Conversation, reading, closed, Split, split}
-use Rattle.dv_wire.specs.Schedule.{Run, World, world_of, conversation_of, with_conversation, sessions_but, command_read, command_of, bytes_to, CarriesOut, Takes, takes_all, takes_some, Hears, Opens, Feeds, end}
+use Rattle.dv_wire.specs.Schedule.{Run, World, world_of, conversation_of, with_conversation, sessions_but, command_from, command_of, bytes_to, CarriesOut, Takes, takes_all, takes_some, Hears, Opens, Feeds, end}
 use Rattle.dv_wire.specs.Sound.{KeepsBytes, IsSoundWorld, ReadsSound}
 use Rattle.dv_wire.proofs.Fronts.{front_shows}
 use Rattle.dv_wire.proofs.Sections.{sections_spelled, two_counted}
@@ -88,7 +88,7 @@ record IsSoundRun (run : Run) : Type 0 where
   keeps : KeepsBytes run.conversation
 
 module _ (reads : ReadsSound) (stays : StaysSound) where
-  command_sound : (bytes : List ℕ) (read : Result (List Field × ℕ) BsonFault) → IsBytes bytes → document_at bytes ≡ read → IsSoundCommand (command_read read)
+  command_sound : (bytes : List ℕ) (read : Result (List Field × ℕ) BsonFault) → IsBytes bytes → document_at bytes ≡ read → IsSoundCommand (command_from read)
   command_sound bytes (Ok found) h e = (reads bytes found.0 found.1 h e, tt)
   command_sound bytes (Err fault) h e = tt
 

@@ -21,12 +21,12 @@ use Rattle.dv_core.specs.Step.{Answer, step, MemoryStep}
 -- ---- the messages of a session, one after the other
 
 -- the command that a body's bytes bring: no list stands beside it
-abbrev pub command_read : Result (List Field × ℕ) BsonFault → Command
-command_read (Ok found) = Sections found.0 []
-command_read (Err fault) = Invalid fault
+abbrev pub command_from : Result (List Field × ℕ) BsonFault → Command
+command_from (Ok found) = Sections found.0 []
+command_from (Err fault) = Invalid fault
 
 abbrev pub command_of : Message → Command
-command_of message = command_read (document_at (body_among message.sections))
+command_of message = command_from (document_at (body_among message.sections))
 
 -- a reply on the wire; none is sent to a message with moreToCome
 abbrev pub reply_bytes : Message → List Field → List ℕ
