@@ -61,9 +61,9 @@ front_stays a b =
 
 -- ---- splitting goes on
 
-shown : (f : Front) (now : Front) (more : List ℕ) → Stays f now more → (f ≡ unfinished → ⊥) → now ≡ longer f more
-shown f now more (inl e) another = absurd (another e)
-shown f now more (inr e) another = e
+stays_shown : (f : Front) (now : Front) (more : List ℕ) → Stays f now more → (f ≡ unfinished → ⊥) → now ≡ longer f more
+stays_shown f now more (inl e) another = absurd (another e)
+stays_shown f now more (inr e) another = e
 
 continuation-behind : (message : Message) (s : Split) (c : Conversation) (more : List ℕ) → s.conversation ≡ c → continuation (split_behind message s) more ≡ split_behind message (continuation s more)
 continuation-behind message s (reading bytes) more e = rw e refl
@@ -73,10 +73,10 @@ goes : (steps : ℕ) (a b : List ℕ) → length a < steps → (f : Front) → f
 goes zero a b lt f e = absurd (omega arith)
 goes (suc steps) a b lt unfinished e = rw (split_unfinished a e) refl
 goes (suc steps) a b lt (closing fault) e =
-    let now : front (a ++ b) ≡ closing fault = shown (closing fault) (front (a ++ b)) b (subst (λ (f : Front). Stays f (front (a ++ b)) b) e (front_stays a b)) (λ same. cc) in
+    let now : front (a ++ b) ≡ closing fault = stays_shown (closing fault) (front (a ++ b)) b (subst (λ (f : Front). Stays f (front (a ++ b)) b) e (front_stays a b)) (λ same. cc) in
     split_closing (a ++ b) fault now ∙ sym (rw (split_closing a fault e) refl)
 goes (suc steps) a b lt (whole message following) e =
-    let now : front (a ++ b) ≡ whole message (following ++ b) = shown (whole message following) (front (a ++ b)) b (subst (λ (f : Front). Stays f (front (a ++ b)) b) e (front_stays a b)) (λ same. cc) in
+    let now : front (a ++ b) ≡ whole message (following ++ b) = stays_shown (whole message following) (front (a ++ b)) b (subst (λ (f : Front). Stays f (front (a ++ b)) b) e (front_stays a b)) (λ same. cc) in
     let shorter = following_shorter a message following e in
     split_whole (a ++ b) message (following ++ b) now ∙ ap (split_behind message) (goes steps following b (omega arith) (front following) refl)
     ∙ sym (ap (λ (s : Split). continuation s b) (split_whole a message following e) ∙ continuation-behind message (split following) (split following).conversation b refl)

@@ -7,5 +7,6 @@ mod Streams
 mod Growth
 mod Spelled
 mod Worlds
+mod Soundness
 mod Cuts
 mod Worked

@@ -16,7 +16,7 @@ use Rattle.dv_core.specs.State.{State}
 use Rattle.dv_wire.specs.declared.fault.CloseFault.TheVariants.{NoMemory}
 use Rattle.dv_wire.specs.Message.{Message, message_spelling, Conversation, reading, closed}
 use Rattle.dv_core.specs.Step.{Answer, step, answered, MemoryStep, TellsOfWant}
-use Rattle.dv_wire.specs.Schedule.{Appends, Run, in_front, silence, bytes_to, CarriesOut, plain_messages, command_read, command_of}
+use Rattle.dv_wire.specs.Schedule.{Appends, Run, in_front, silence, bytes_to, CarriesOut, plain_messages, command_from, command_of}
 use Rattle.dv_wire.specs.View.{GoesOn, Carries, unmeasured}
 use Rattle.dv_wire.proofs.Runs.{follows_shut, follows_on, follows_cases, in_front-silence}
 
@@ -50,36 +50,36 @@ put_in old body all put response_to start len is_all is_start is_len is_put same
 
 -- ---- the command that a body brings
 
-read_is : (read : Result (List Field × ℕ) BsonFault) (fault : BsonFault) → fault_of read ≡ Some fault → command_read read ≡ Invalid fault
+read_is : (read : Result (List Field × ℕ) BsonFault) (fault : BsonFault) → fault_of read ≡ Some fault → command_from read ≡ Invalid fault
 read_is (Ok found) fault e = absurd cc
 read_is (Err f) fault e = cc
 
 pub invalid : (bytes : List ℕ) (fault : BsonFault) → (fault ≡ bson.NoMemory) ⊎ (first_fault bytes ≡ Some fault)
-    → (command_read (document_at bytes) ≡ Invalid fault) ⊎ (Invalid fault ≡ Invalid bson.NoMemory)
+    → (command_from (document_at bytes) ≡ Invalid fault) ⊎ (Invalid fault ≡ Invalid bson.NoMemory)
 unfolding first_fault
 invalid bytes fault (inl e) = inr (ap Invalid e)
 invalid bytes fault (inr e) = inl (read_is (document_at bytes) fault e)
 
 -- where memory was wanting to read a command, that is told of it which may be told of any command
-unread : (session : ℕ) (old new : State) (command : Command) (outcome : Outcome) → MemoryStep old session (Invalid bson.NoMemory) outcome new → TellsOfWant outcome → MemoryStep old session command outcome new
-unread session old new command (Reply reply) steps told = absurd told
-unread session old new command (Wanting reply) (inl refused) told = inl refused
-unread session old new command (Wanting reply) (inr cut) told = absurd cut
-unread session old new command NoReply (inl same) told = inr (answered old (Err WantOfMemory), inl refl, same)
-unread session old new command NoReply (inr (answer, inl refused, same)) told = inr (answer, inl refused, same)
-unread session old new command NoReply (inr (answer, inr cut, same)) told = absurd cut
+steps_unread : (session : ℕ) (old new : State) (command : Command) (outcome : Outcome) → MemoryStep old session (Invalid bson.NoMemory) outcome new → TellsOfWant outcome → MemoryStep old session command outcome new
+steps_unread session old new command (Reply reply) steps told = absurd told
+steps_unread session old new command (Wanting reply) (inl refused) told = inl refused
+steps_unread session old new command (Wanting reply) (inr cut) told = absurd cut
+steps_unread session old new command NoReply (inl same) told = inr (answered old (Err WantOfMemory), inl refl, same)
+steps_unread session old new command NoReply (inr (answer, inl refused, same)) told = inr (answer, inl refused, same)
+steps_unread session old new command NoReply (inr (answer, inr cut, same)) told = absurd cut
 
 pub steps_as : (session : ℕ) (old new : State) (meant read : Command) (outcome : Outcome) → (meant ≡ read) ⊎ (read ≡ Invalid bson.NoMemory)
     → MemoryStep old session read outcome new → (read ≡ Invalid bson.NoMemory → TellsOfWant outcome) → MemoryStep old session meant outcome new
 steps_as session old new meant read outcome (inl e) steps told = rw e steps
-steps_as session old new meant read outcome (inr e) steps told = unread session old new meant outcome (rw e at steps) (told e)
+steps_as session old new meant read outcome (inr e) steps told = steps_unread session old new meant outcome (rw e at steps) (told e)
 
 -- ---- one message
 
 module _ (session : ℕ) (old new : State) (message : Message) (outcome : Outcome) (steps : MemoryStep old session (command_of message) outcome new) where
   -- its answer, and the session goes on
-  pub told : (bytes : List ℕ) → bytes_to message outcome ≡ Some bytes → GoesOn session old (message ∷ []) bytes new
-  told bytes is = (
+  pub carries_on : (bytes : List ℕ) → bytes_to message outcome ≡ Some bytes → GoesOn session old (message ∷ []) bytes new
+  carries_on bytes is = (
     outcome,
     new,
     steps,
@@ -93,7 +93,7 @@ module _ (session : ℕ) (old new : State) (message : Message) (outcome : Outcom
 
   pub answers : {A E : Type 0} (sent : Result A E) (bytes before after : List ℕ) → bytes_to message outcome ≡ Some bytes → OnOk sent (after ≡ before ++ bytes) → OnErr sent (after ≡ before)
       → Appends before after (λ bytes. Carries session old message bytes new sent)
-  answers (Ok x) bytes before after is ok err = (bytes, ok, told bytes is)
+  answers (Ok x) bytes before after is ok err = (bytes, ok, carries_on bytes is)
   answers (Err e) bytes before after is ok err = ([], err ∙ sym (append-nil before), closes)
 
 -- ---- the plain run

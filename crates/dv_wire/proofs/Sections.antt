@@ -94,8 +94,8 @@ module _ (bytes : List ℕ) where
   pub another_kind : 1 ≤ length bytes → (get_or bytes 0 0 ≡ 0 → ⊥) → sections_in bytes ≡ None
   another_kind some kind = by_parts bytes refl some ∙ rw (ne_eqb _ 0 kind) refl
 
-  pub unframed : 1 ≤ length bytes → is_framed behind_kind ≡ false → sections_in bytes ≡ None
-  unframed some unfit = by_parts bytes refl some ∙ rw (unfit, and-false) refl
+  pub another_frame : 1 ≤ length bytes → is_framed behind_kind ≡ false → sections_in bytes ≡ None
+  another_frame some unfit = by_parts bytes refl some ∙ rw (unfit, and-false) refl
 
 -- ---- and their spellings
 
@@ -116,7 +116,7 @@ sections_spelled (kind ∷ document) sections e =
 one_if : (b : Bool) (document : List ℕ) → b ≡ true → cond b (Some (body document ∷ [])) None ≡ Some (body document ∷ [])
 one_if b document e = rw e refl
 
-two_counted : (sections : List Section) (n : ℕ) → body_count sections ≡ suc (suc n) → are_sections sections ≡ true → ⊥
+pub two_counted : (sections : List Section) (n : ℕ) → body_count sections ≡ suc (suc n) → are_sections sections ≡ true → ⊥
 two_counted sections n two are =
     let counted = and_parts (list_all is_section sections) (eqb (body_count sections) 1) are in
     let one : body_count sections ≡ 1 = eqb-true (body_count sections) 1 counted.1 in omega arith

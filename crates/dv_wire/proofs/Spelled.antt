@@ -10,7 +10,7 @@ use Rattle.dv_wire.proofs.Fronts.{front_shows, chain-fails}
 use Rattle.dv_wire.proofs.Growth.{number_same}
 use Rattle.dv_wire.proofs.Sections.{sections_spelled, sections_found, sections_long}
 
-IsBytes-take : (n : ℕ) (bytes : List ℕ) → IsBytes bytes → IsBytes (take n bytes)
+pub IsBytes-take : (n : ℕ) (bytes : List ℕ) → IsBytes bytes → IsBytes (take n bytes)
 IsBytes-take n bytes h i =
     elim (cases_lt i n) [
       | inl lt ↦ rw (get_or-take n bytes i 0 lt) (h i)

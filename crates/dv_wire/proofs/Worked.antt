@@ -15,7 +15,7 @@ use Rattle.dv_core.specs.declared.outcome.Outcome.TheVariants.{NoReply}
 use Rattle.dv_core.specs.State.{State}
 use Rattle.dv_core.specs.Step.{Answer, step, answered}
 use Rattle.dv_wire.specs.Message.{Message, Conversation, reading, front, sections_in, sections_within, split_within, split, message_spelling}
-use Rattle.dv_wire.specs.Schedule.{command_read, command_of, reply_bytes, in_front, silence, plain_behind, plain_messages, plain_run}
+use Rattle.dv_wire.specs.Schedule.{command_from, command_of, reply_bytes, in_front, silence, plain_behind, plain_messages, plain_run}
 use Rattle.dv_wire.specs.Examples.{asks, ping_document, ping_fields, ok, ping, pong, HeaderExamples, SectionExamples, SessionExamples, WantExamples}
 
 pub headers : HeaderExamples
@@ -93,7 +93,7 @@ unfolding document_at count_at body_at
 read_ping = ap (λ (fields : Result (List Field) BsonFault). fields >>= λ fs. Ok (fs, 26)) (read_first (body_at 99) ∙ read_last (body_at 99))
 
 answer_ping : (state : State) (session : ℕ) (more_to_come : Bool) → step state session (command_of (asks more_to_come ping_document)) ≡ record { reply = ok; state = state }
-answer_ping state session more_to_come = ap (λ (read : Result (List Field × ℕ) BsonFault). step state session (command_read read)) read_ping ∙ refl
+answer_ping state session more_to_come = ap (λ (read : Result (List Field × ℕ) BsonFault). step state session (command_from read)) read_ping ∙ refl
 
 split_pings : split (ping 0 ++ ping 2 ++ ping 0 ++ 47 ∷ []) ≡ record { messages = asks false ping_document ∷ asks true ping_document ∷ asks false ping_document ∷ []; conversation = reading (47 ∷ []) }
 unfolding split split_within front sections_in sections_within
@@ -112,8 +112,8 @@ plain_none : (session : ℕ) (state : State) (conversation : Conversation) → p
 unfolding plain_messages
 plain_none session state conversation = refl
 
-pub pinged : (state : State) (session : ℕ) → plain_run session state (split (ping 0 ++ ping 2 ++ ping 0 ++ 47 ∷ [])) ≡ record { bytes = pong ++ pong; state = state; conversation = reading (47 ∷ []) }
-pinged state session =
+pub ping_run : (state : State) (session : ℕ) → plain_run session state (split (ping 0 ++ ping 2 ++ ping 0 ++ 47 ∷ [])) ≡ record { bytes = pong ++ pong; state = state; conversation = reading (47 ∷ []) }
+ping_run state session =
     ap (plain_run session state) split_pings
     ∙ plain_next session state (asks false ping_document) (asks true ping_document ∷ asks false ping_document ∷ []) (reading (47 ∷ [])) ok (answer_ping state session false)
     ∙ ap (in_front (reply_bytes (asks false ping_document) ok))
@@ -132,7 +132,7 @@ sessions = record {
   no_number = λ state session new opens. omega (arith, opens.1);
   unfinished = refl;
   none_unfinished = refl;
-  pings = pinged;
+  pings = ping_run;
 }
 
 pub wants : WantExamples

@@ -9,7 +9,8 @@ use Rattle.dv_wire.specs.declared.hub.Fed.{Fed}
 use Rattle.dv_wire.specs.declared.hub.Fed.TheVariants as fed
 use Rattle.dv_core.specs.State.{State}
 use Rattle.dv_wire.specs.Message.{Conversation, reading, closed}
-use Rattle.dv_wire.specs.Schedule.{World, conversation_of, with_conversation, sessions_but, Opens, Feeds, end, AreNumbered, IsNumbered}
+use Rattle.dv_wire.specs.Schedule.{World, conversation_of, with_conversation, sessions_but, Opens, Feeds, end}
+use Rattle.dv_wire.specs.Sound.{AreNumbered, IsNumbered}
 
 -- ---- numbers
 

@@ -1,6 +1,7 @@
 -- messages and sessions
 pub mod Message
 pub mod Schedule
+pub mod Sound
 pub mod Fault
 pub mod Examples
 -- words that only bodies need

@@ -21,12 +21,12 @@ use Rattle.dv_core.specs.Step.{Answer, step, MemoryStep}
 -- ---- the messages of a session, one after the other
 
 -- the command that a body's bytes bring: no list stands beside it
-abbrev pub command_read : Result (List Field × ℕ) BsonFault → Command
-command_read (Ok found) = Sections found.0 []
-command_read (Err fault) = Invalid fault
+abbrev pub command_from : Result (List Field × ℕ) BsonFault → Command
+command_from (Ok found) = Sections found.0 []
+command_from (Err fault) = Invalid fault
 
 abbrev pub command_of : Message → Command
-command_of message = command_read (document_at (body_among message.sections))
+command_of message = command_from (document_at (body_among message.sections))
 
 -- a reply on the wire; none is sent to a message with moreToCome
 abbrev pub reply_bytes : Message → List Field → List ℕ
@@ -173,14 +173,3 @@ unfinished_in (Some (reading kept)) = length kept
 -- a session ends: its unfinished bytes are dropped, and no document changes
 abbrev pub end : ℕ → World → World
 end session old = record { state = old.state; next = old.next; sessions = sessions_but session old.sessions }
-
--- ---- what stands in each world that is reached
-
--- the numbers ascend from the first one, and stand below the next
-abbrev pub AreNumbered : ℕ → List (ℕ × Conversation) → ℕ → Type 0
-AreNumbered first [] next = first ≤ next
-AreNumbered first (s ∷ ss) next = (first ≤ s.0) × AreNumbered (suc s.0) ss next
-
--- sessions stand in the order in which they were opened
-abbrev pub IsNumbered : World → Type 0
-IsNumbered world = AreNumbered 0 world.sessions world.next

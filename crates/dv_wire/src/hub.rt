@@ -71,7 +71,7 @@ impl Hub {
     /// Opens a session, and answers its number. Refused with `TooManySessions` where one was opened and hasn't ended,
     /// be it closed, or no number is left, and with `NoMemory`; then nothing is changed.
     pub fn open(&mut self) -> Result<SessionId, HubFault>
-        ensures world { Opens self.old result self.new }
+        ensures opened { Opens self.old result self.new }
         ensures state { self.new.state ≡ self.old.state }
         ensures numbers { IfOk result (λ session. (session.number ≡ self.old.next) × (self.new.next ≡ suc self.old.next)) }
     {
@@ -106,7 +106,7 @@ impl Hub {
     /// never opened, or has ended, has none. Takes no memory.
     pub fn end(&mut self, session: SessionId) -> usize
         ensures unfinished { result ≡ unfinished_in (conversation_of session.number self.old.sessions) }
-        ensures world { self.new ≡ end_of session.number self.old }
+        ensures ended { self.new ≡ end_of session.number self.old }
         ensures state { self.new.state ≡ self.old.state }
         ensures numbers { self.new.next ≡ self.old.next }
     {

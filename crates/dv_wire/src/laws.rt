@@ -2,16 +2,18 @@
 
 ghost use Rattle.std.specs.Prelude.{◌≡◌, ◌≢◌, ◌↔◌, ℕ, suc, true, List, [], ◌∷◌, ◌++◌, Some, None, Result, Ok, Err};
 ghost use Rattle.dv_bson.specs.Spelling.{IsBytes};
+ghost use Rattle.dv_core.specs.Sound.{IsSound};
 ghost use Rattle.dv_core.specs.State.{State};
 ghost use Rattle.dv_core.specs.Step.{step};
 ghost use Rattle.dv_wire.specs.Examples as examples;
+ghost use Rattle.dv_wire.specs.Sound.{IsNumbered, IsSoundWorld, ReadsSound};
 ghost use Rattle.dv_wire.specs.declared.fault.CloseFault.{CloseFault};
 ghost use Rattle.dv_wire.specs.declared.fault.HubFault.{HubFault};
 ghost use Rattle.dv_wire.specs.declared.hub.Fed.{Fed};
 ghost use Rattle.dv_wire.specs.declared.hub.Fed.TheVariants as fed;
 ghost use Rattle.dv_wire.specs.declared.hub.SessionId.{SessionId};
 ghost use Rattle.dv_wire.specs.Message as wire;
-ghost use Rattle.dv_wire.specs.Schedule.{Run, CarriesOut, command_of, silence, World, world_of, conversation_of, Opens, Feeds, FeedsAll, end, fed_of, plain_run, stream_of, world_behind, IsNumbered};
+ghost use Rattle.dv_wire.specs.Schedule.{Run, CarriesOut, command_of, silence, World, world_of, conversation_of, Opens, Feeds, FeedsAll, end, fed_of, plain_run, stream_of, world_behind};
 
 /// A stream of which more comes splits as before, and then as its rest with what comes; behind a fault nothing does.
 pub fn splitting_goes_on()
@@ -83,6 +85,17 @@ pub fn only_open_sessions_change_documents()
     ensures unknown { (old new : World) (session : ℕ) (piece bytes : List ℕ) (answer : Fed) → conversation_of session old.sessions ≡ None
         → Feeds old session piece bytes answer new → (bytes ≡ []) × (answer ≡ fed.Unknown) × (new ≡ old) }
 {}
+
+/// Worlds stay sound: so it is before the first session is opened, if the store's documents are sound, and so after each
+/// event, as what is read from bytes is sound.
+pub fn worlds_stay_sound()
+    ensures before { (state : State) → IsSound state → IsSoundWorld (world_of state) }
+    ensures opened { (old new : World) (session : SessionId) → IsSoundWorld old → Opens old (Ok session) new → IsSoundWorld new }
+    ensures fed { ReadsSound → (old new : World) (session : ℕ) (piece bytes : List ℕ) (answer : Fed) → IsSoundWorld old → IsBytes piece → Feeds old session piece bytes answer new → IsSoundWorld new }
+    ensures ended { (old : World) (session : ℕ) → IsSoundWorld old → IsSoundWorld (end session old) }
+{
+    dv_core::laws::states_stay_sound();
+}
 
 /// Where a message's length, code and flags close its session, by worked examples.
 pub fn headers_by_example()

@@ -31,7 +31,7 @@ pub(crate) fn append_reply(
 /// Appends the same with 0 as the message's length. Where memory is wanting a part of it may be appended.
 fn append_unmeasured(request_id: u32, reply: &Document, out: &mut Vec<u8>) -> Result<(), NoMemory>
     ensures ok { OnOk result (out.new.items ≡ out.old.items ++ unmeasured request_id (0 ∷ spelling reply.now)) }
-    ensures within { OnOk result (length (spelling reply.now) ≤ 2147483647) }
+    ensures within { OnOk result (length (spelling reply.now) + 21 < 2 ^ 32) }
     ensures err { OnErr result ((part : List ℕ) × (out.new.items ≡ out.old.items ++ part)) }
 {
     out.extend_from_slice(&header(request_id))?;

@@ -2,7 +2,7 @@
 
 ghost use Rattle.std.specs.Prelude.{◌≡◌, ◌≤◌, ◌++◌, ◌⊎◌, IfOk, length, drop, vec_len};
 ghost use Rattle.dv_bson.specs.Reading.{document_at};
-ghost use Rattle.dv_wire.specs.Schedule.{Appends, Takes, bytes_to, command_read};
+ghost use Rattle.dv_wire.specs.Schedule.{Appends, Takes, bytes_to, command_from};
 ghost use Rattle.dv_core.specs.Step.{MemoryStep};
 ghost use Rattle.dv_wire.specs.Message.{split};
 ghost use Rattle.dv_wire.specs.View.{kept_or_closed, left_or_closed, message_seen, bytes_seen, Carries};
@@ -172,7 +172,7 @@ fn reply_to(message: &Message<'_>, outcome: Outcome) -> Result<Option<Document>,
 
 /// Carries out the command that a body's bytes bring.
 fn step(alloc: Global, store: &mut Store, session: u32, body: &[u8]) -> Outcome
-    ensures { MemoryStep store.old session (command_read (document_at body.now)) result store.new }
+    ensures { MemoryStep store.old session (command_from (document_at body.now)) result store.new }
 {
     let command = command_in(alloc, body);
     store.execute(session, &command)
@@ -180,7 +180,7 @@ fn step(alloc: Global, store: &mut Store, session: u32, body: &[u8]) -> Outcome
 
 /// The command that a body's bytes bring, or that memory is wanting to read them.
 fn command_in(alloc: Global, body: &[u8]) -> Command
-    ensures { (command_read (document_at body.now) ≡ result) ⊎ (result ≡ Command.Invalid BsonFault.NoMemory) }
+    ensures { (command_from (document_at body.now) ≡ result) ⊎ (result ≡ Command.Invalid BsonFault.NoMemory) }
 {
     match read_document(alloc, body) {
         Ok((body, _)) => Command::Sections {

@@ -1,4 +1,4 @@
-use Rattle.std.proofs.Common.{List, ℕ, ◌++◌, ap, ◌∙◌}
+use Rattle.std.proofs.Common.{List, ℕ, ◌++◌, ap, ◌∙◌, arith}
 use Rattle.dv_bson.specs.Spelling.{spelling}
 use Rattle.dv_wire.proofs.Replies.{behind_header}
 use Rattle.dv_wire.proofs.reply.append_unmeasured.Goals as goal
@@ -9,4 +9,4 @@ returns-in-Ok-clause-ok c =
     ∙ behind_header c.args.out.now.items c.header.result (spelling c.args.reply.now) c.args.request_id c.header.ensures
 
 pub returns-in-Ok-clause-within : goal.returns-in-Ok-clause-within
-returns-in-Ok-clause-within c = c.in-Ok.ensures.spelled.within
+returns-in-Ok-clause-within c = omega (arith, c.in-Ok.ensures.spelled.within)

@@ -2,7 +2,7 @@ use Rattle.std.proofs.Common.{[], sym}
 use Rattle.std.proofs.lemmas.List.{append-nil}
 use Rattle.std.proofs.lemmas.Result.{err_from_is_err_and}
 use Rattle.dv_wire.specs.View.{message_seen}
-use Rattle.dv_wire.proofs.Replies.{told, closes, answers}
+use Rattle.dv_wire.proofs.Replies.{carries_on, closes, answers}
 use Rattle.dv_wire.proofs.session.carry_out.Goals as goal
 
 pub returns-in_err-reply : goal.returns-in_err-reply
@@ -17,4 +17,4 @@ returns-in-Some c =
 
 pub returns-in-None : goal.returns-in-None
 returns-in-None c =
-    ([], sym (append-nil _), told c.args.session c.args.store.now c.step-outcome.new.store (message_seen c.args.message.now) c.step-outcome.result c.step-outcome.ensures [] (sym (rw c.in-None.is at c.in_ok-reply.ensures)))
+    ([], sym (append-nil _), carries_on c.args.session c.args.store.now c.step-outcome.new.store (message_seen c.args.message.now) c.step-outcome.result c.step-outcome.ensures [] (sym (rw c.in-None.is at c.in_ok-reply.ensures)))

@@ -7,8 +7,8 @@ pub returns-in_default-clause-unfinished : goal.returns-in_default-clause-unfini
 returns-in_default-clause-unfinished c =
     rw (← c.self.view_is, ← c.deref.ensures.value) (sym (ap unfinished_in (nowhere c.args.session.number c.deref.result.now (sym c.place_of.ensures ∙ c.in_default.is)).0))
 
-pub returns-in_default-clause-world : goal.returns-in_default-clause-world
-returns-in_default-clause-world c =
+pub returns-in_default-clause-ended : goal.returns-in_default-clause-ended
+returns-in_default-clause-ended c =
     let none = nowhere c.args.session.number c.deref.result.now (sym c.place_of.ensures ∙ c.in_default.is) in
     rw (← c.self.view_is, ← c.deref.ensures.value) (rw none.1 refl)
 
@@ -21,7 +21,7 @@ returns-clause-unfinished c =
     let seen = there c.args.session.number c.in-Some.place c.deref.result.now c.remove-session.result (sym c.place_of.ensures ∙ c.in-Some.is) in
     rw (← c.self.view_is, ← c.deref.ensures.value) (rw (seen.0, c.deref.ensures.value, ← c.remove-session.ensures.value) c.unfinished_len.ensures)
 
-pub returns-clause-world : goal.returns-clause-world
-returns-clause-world c =
+pub returns-clause-ended : goal.returns-clause-ended
+returns-clause-ended c =
     let less = sessions_but-remove c.args.session.number c.in-Some.place c.deref.result.now (sym c.place_of.ensures ∙ c.in-Some.is) in
     rw (← c.self.view_is, c.remove-session.ensures.items, ← c.deref.ensures.value) (rw less refl)

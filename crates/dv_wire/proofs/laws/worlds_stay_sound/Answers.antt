@@ -1,0 +1,14 @@
+use Rattle.dv_wire.proofs.Soundness.{first_sound, opened_sound, fed_sound, ended_sound}
+use Rattle.dv_wire.proofs.laws.worlds_stay_sound.Goals as goal
+
+pub returns-clause-before : goal.returns-clause-before
+returns-clause-before c = first_sound
+
+pub returns-clause-opened : goal.returns-clause-opened
+returns-clause-opened c = opened_sound
+
+pub returns-clause-fed : goal.returns-clause-fed
+returns-clause-fed c = fed_sound c.states_stay_sound.ensures.after
+
+pub returns-clause-ended : goal.returns-clause-ended
+returns-clause-ended c = ended_sound

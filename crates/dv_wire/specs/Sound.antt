@@ -1,0 +1,31 @@
+-- What holds of every world that is reached.
+use Rattle.std.specs.Prelude.{◌≡◌, ℕ, suc, ◌≤◌, List, [], ◌∷◌, Ok, ⊤}
+use Rattle.std.specs.List.{AllByRecursion}
+use Rattle.dv_bson.specs.Tree.{Field}
+use Rattle.dv_bson.specs.Spelling.{IsBytes}
+use Rattle.dv_bson.specs.Reading.{document_at}
+use Rattle.dv_core.specs.Sound.{IsSoundDocument, IsSound}
+use Rattle.dv_wire.specs.Message.{Conversation, reading, closed}
+use Rattle.dv_wire.specs.Schedule.{World}
+
+-- the numbers ascend from the first one, and stand below the next
+abbrev pub AreNumbered : ℕ → List (ℕ × Conversation) → ℕ → Type 0
+AreNumbered first [] next = first ≤ next
+AreNumbered first (s ∷ ss) next = (first ≤ s.0) × AreNumbered (suc s.0) ss next
+
+-- sessions stand in the order in which they were opened
+abbrev pub IsNumbered : World → Type 0
+IsNumbered world = AreNumbered 0 world.sessions world.next
+
+abbrev pub KeepsBytes : Conversation → Type 0
+KeepsBytes (reading kept) = IsBytes kept
+KeepsBytes (closed fault) = ⊤
+
+-- its documents are sound, and its sessions keep bytes
+pub record IsSoundWorld (world : World) : Type 0 where
+  pub documents : IsSound world.state
+  pub keeping : AllByRecursion (λ s. KeepsBytes s.1) world.sessions
+
+-- a document that is read is sound
+abbrev pub ReadsSound : Type 0
+ReadsSound = (bytes : List ℕ) (document : List Field) (count : ℕ) → IsBytes bytes → document_at bytes ≡ Ok (document, count) → IsSoundDocument document
