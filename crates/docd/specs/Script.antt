@@ -6,7 +6,7 @@ use Rattle.dv_wire.specs.declared.hub.Fed.{Fed}
 use Rattle.dv_wire.specs.declared.hub.Fed.TheVariants as fed
 use Rattle.dv_wire.specs.declared.fault.HubFault.{HubFault}
 use Rattle.dv_wire.specs.declared.fault.HubFault.TheVariants as hub_faults
-use Rattle.dv_wire.specs.Schedule.{World, Opens, Feeds, unfinished_in, conversation_of, ended}
+use Rattle.dv_wire.specs.Schedule.{World, Opens, Feeds, unfinished_in, conversation_of, end}
 use Rattle.docd.specs.Line.{IsLine}
 use Rattle.docd.specs.Output.{AreReplies, end_line, fed_text}
 use Rattle.docd.specs.declared.said.Line.{Line}
@@ -62,7 +62,7 @@ Brings old number session bytes text new =
 abbrev pub EndsSession : Standing → ℕ → Session → List ℕ → Standing → Type 0
 EndsSession old number session text new =
     (text ≡ end_line number (unfinished_in (conversation_of session.id.number old.hub.sessions)))
-    × (new ≡ record { sessions = slice_set old.sessions number None; hub = ended session.id.number old.hub })
+    × (new ≡ record { sessions = slice_set old.sessions number None; hub = end session.id.number old.hub })
 
 -- what a line does, and what is written of it
 abbrev pub Does : Standing → Line → List ℕ → Standing → Type 0
