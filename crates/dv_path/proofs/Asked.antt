@@ -1,17 +1,19 @@
 -- What a fold says that stops where a test passes, and lists of candidates built one by one.
-use Rattle.std.proofs.Common.{◌≡◌, ◌||◌, Bool, true, false, List, [], ◌∷◌, ◌++◌, map, Option, Some, None, slice_get, Result, Ok, Err, ℕ, zero, suc, ◌+◌, ◌<◌, ◌≤◌, length, take, drop, drop_of_length-le, get_or, refl, ap, sym, ◌∙◌, arith, add-one, append_assoc, append-nil}
+use Rattle.std.proofs.Common.{◌≡◌, ◌||◌, Bool, true, false, List, [], ◌∷◌, ◌++◌, map, Option, Some, None, slice_get, Result, Ok, Err, ℕ, zero, suc, ◌+◌, ◌<◌, ◌≤◌, length, take, drop, drop_of_length-le, get_or, refl, ap, sym, ◌∙◌, arith, add-one, append_assoc, append-nil, option_and_then}
 use Rattle.std.specs.Result.{is_err}
-use Rattle.std.specs.List.{list_any, flat_map, FoldsTo}
+use Rattle.std.specs.List.{list_any, flat_map, filter_map, FoldsTo}
 use Rattle.std.proofs.lemmas.Bool.{or_left, or_right}
 use Rattle.std.proofs.lemmas.List.Folds.{list_any-append}
 use Rattle.std.proofs.lemmas.List.{map-append}
 use Rattle.std.proofs.lemmas.Grind.{flat_map-append}
+use Rattle.std.proofs.lemmas.List.Elements.{filter_map-append}
 use Rattle.dv_bson.specs.Names.{value_under}
 use Rattle.dv_bson.specs.declared.value.Value.{Value}
 use Rattle.dv_bson.specs.Tree.{Tree, document, array, Field, fields_of, elements_of}
 use Rattle.dv_bson.specs.View.{tree}
 use Rattle.dv_path.specs.Candidates.{Candidate, entered, found, picked, step, candidates, whole, with_elements}
 use Rattle.dv_path.specs.Path.{index_of}
+use Rattle.dv_path.specs.Expression.{expression, expr}
 use Rattle.dv_path.specs.View.{seen}
 use Rattle.dv_path.specs.declared.candidate.Candidate as memory
 use Rattle.dv_path.specs.declared.candidate.Candidate.TheVariants.{Found}
@@ -47,15 +49,19 @@ pub any-flat_map : {X Y : Type 0} (test : Y → Bool) (f : X → List Y) (cs : L
 any-flat_map test f [] = refl
 any-flat_map test f (c ∷ cs) = list_any-append test (f c) (flat_map f cs) ∙ ap (λ b. list_any test (f c) || b) (any-flat_map test f cs)
 
+take_one_more : {X : Type 0} (xs : List X) (i : ℕ) (x : X) → i < length xs → x ≡ get_or xs i x → take (i + 1) xs ≡ take i xs ++ x ∷ []
+take_one_more [] i x within is = absurd (omega arith)
+take_one_more (y ∷ ys) zero x within is = ap (λ z. z ∷ []) (sym is)
+take_one_more (y ∷ ys) (suc i) x within is = let rest = rw add-one at (take_one_more ys i x (omega arith) is) in rw add-one (ap (λ zs. y ∷ zs) rest)
+
 -- one more item of a list that is gone through
 pub flat_more : {X Y Z : Type 0} (f : Y → List Z) (view : X → Y) (xs : List X) (i : ℕ) (x : X) → i < length xs → x ≡ get_or xs i x → flat_map f (map view (take (i + 1) xs)) ≡ flat_map f (map view (take i xs)) ++ f (view x)
 flat_more f view xs i x within is =
     ap (λ ys. flat_map f (map view ys)) (take_one_more xs i x within is) ∙ ap (flat_map f) (map-append view (take i xs) (x ∷ [])) ∙ flat_map-append f (map view (take i xs)) (view x ∷ []) ∙ ap (λ zs. flat_map f (map view (take i xs)) ++ zs) (append-nil (f (view x)))
-  where
-    take_one_more : {X : Type 0} (xs : List X) (i : ℕ) (x : X) → i < length xs → x ≡ get_or xs i x → take (i + 1) xs ≡ take i xs ++ x ∷ []
-    take_one_more [] i x within is = absurd (omega arith)
-    take_one_more (y ∷ ys) zero x within is = ap (λ z. z ∷ []) (sym is)
-    take_one_more (y ∷ ys) (suc i) x within is = let rest = rw add-one at (take_one_more ys i x (omega arith) is) in rw add-one (ap (λ zs. y ∷ zs) rest)
+
+pub filter_more : {X Y Z : Type 0} (f : Y → Option Z) (view : X → Y) (xs : List X) (i : ℕ) (x : X) → i < length xs → x ≡ get_or xs i x → filter_map f (map view (take (i + 1) xs)) ≡ filter_map f (map view (take i xs)) ++ filter_map f (view x ∷ [])
+filter_more f view xs i x within is =
+    ap (λ ys. filter_map f (map view ys)) (take_one_more xs i x within is) ∙ ap (filter_map f) (map-append view (take i xs) (x ∷ [])) ∙ filter_map-append f (map view (take i xs)) (view x ∷ [])
 
 -- what is added behind what there was
 pub grown : {X : Type 0} (now before start far added : List X) → now ≡ before ++ added → before ≡ start ++ far → now ≡ start ++ (far ++ added)
@@ -117,3 +123,11 @@ candidates-more names i name cs within is =
 
 pub candidates-end : (names : List (List ℕ)) (i : ℕ) (cs : List Candidate) → length names ≤ i → flat_map (candidates (drop i names)) cs ≡ cs
 candidates-end names i cs past = ap (λ ns. flat_map (candidates ns) cs) (drop_of_length-le names past) ∙ flat_one cs
+
+pub expr-first : (names : List (List ℕ)) (fs : List Field) (name : List ℕ) → 0 < length names → name ≡ get_or names 0 name → option_and_then (expression (drop 1 names)) (value_under name fs) ≡ expr fs names
+unfolding expr
+expr-first [] fs name some is = absurd (omega arith)
+expr-first (n ∷ names) fs name some is = ap (λ m. option_and_then (expression names) (value_under m fs)) is ∙ ap (λ gs. option_and_then (expression names) (value_under n gs)) (sym (list_of_fields_of fs))
+
+pub filter-one : {Y Z : Type 0} (f : Y → Option Z) (y : Y) (o : Option Z) → f y ≡ o → filter_map f (y ∷ []) ≡ filter_map (λ p. p) (o ∷ [])
+filter-one f y o e = ap (λ p. filter_map (λ q. q) (p ∷ [])) e

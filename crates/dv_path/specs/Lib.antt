@@ -7,3 +7,4 @@ pub mod Places
 pub mod SortKey
 pub mod SortSpec
 pub mod Parts
+pub mod Expression

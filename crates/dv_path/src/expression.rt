@@ -1,0 +1,95 @@
+//! What a path gives where an expression names it.
+
+ghost use Rattle.std.specs.Prelude.{◌≡◌, IfOk, option_and_then};
+ghost use Rattle.std.specs.List.{filter_map};
+ghost use Rattle.std.specs.Option.{option_map};
+ghost use Rattle.dv_bson.specs.Names.{value_under};
+ghost use Rattle.dv_bson.specs.View.{tree};
+ghost use Rattle.dv_path.specs.Expression.{through, expr};
+ghost use Rattle.dv_path.specs.Expression as expressions;
+
+use crate::component::Component;
+use crate::path::Path;
+use crate::walk::behind;
+use dv_bson::{Document, List, NoMemory, Value};
+use std::alloc::Global;
+
+/// The value of the path in the document, as an expression means it; `None` where it is missing.
+///
+/// A document's field is entered, and an array gives the array of what its elements that are documents give, without
+/// those that give nothing. A component never picks an element. Any other value on the way gives nothing. Fails where
+/// memory is wanting.
+pub fn expr_value(
+    alloc: Global,
+    document: &Document,
+    path: &Path,
+) -> Result<Option<Value>, NoMemory>
+    ensures { IfOk result (λ found. option_map tree found ≡ expr document.now path.now) }
+{
+    let components = path.components();
+    enter(alloc, document, &components[0], behind(components))
+}
+
+#[cycle(expression)]
+fn enter(
+    alloc: Global,
+    document: &Document,
+    component: &Component,
+    rest: &[Component],
+) -> Result<Option<Value>, NoMemory>
+    ensures { IfOk result (λ found. option_map tree found ≡ option_and_then (expressions.expression rest.now) (value_under component.now document.now)) }
+{
+    match document.get(component.as_str()) {
+        Some(value) => within(alloc, value, rest),
+        None => Ok(None),
+    }
+}
+
+/// The value of what is left of the path.
+#[cycle(expression)]
+fn within(alloc: Global, value: &Value, path: &[Component]) -> Result<Option<Value>, NoMemory>
+    ensures { IfOk result (λ found. option_map tree found ≡ expressions.expression path.now (tree value.now)) }
+{
+    let Some((component, rest)) = path.split_first() else {
+        return Ok(Some(value.try_clone()?));
+    };
+    match value {
+        Value::Doc(document) => enter(alloc, document, component, rest),
+        Value::Array(list) => Ok(Some(Value::Array(of_elements(alloc, list, component, rest)?))),
+        _ => Ok(None),
+    }
+}
+
+/// What the elements that are documents give.
+#[cycle(expression)]
+fn of_elements(
+    alloc: Global,
+    list: &List,
+    component: &Component,
+    rest: &[Component],
+) -> Result<List, NoMemory>
+    ensures { IfOk result (λ found. found ≡ filter_map (through (expressions.expression rest.now) component.now) list.now) }
+{
+    let mut found = Vec::new(alloc);
+    'elements: for element in list.as_slice() {
+        if let Some(value) = of_element(alloc, element, component, rest)? {
+            found.push(value)?;
+        }
+    }
+    Ok(List::of(found))
+}
+
+#[cycle(expression)]
+fn of_element(
+    alloc: Global,
+    element: &Value,
+    component: &Component,
+    rest: &[Component],
+) -> Result<Option<Value>, NoMemory>
+    ensures { IfOk result (λ found. option_map tree found ≡ through (expressions.expression rest.now) component.now (tree element.now)) }
+{
+    match element {
+        Value::Doc(document) => enter(alloc, document, component, rest),
+        _ => Ok(None),
+    }
+}
