@@ -47,7 +47,6 @@ AreNamed-moved (g ∷ before) after f named =
 abbrev IsSound : Field → Type 0
 IsSound f = IsUtf8 f.0 × IsValue f.1
 
-
 pub each_valid : (fs : List Field) → AreFields (fields_of fs) → All (λ f. IsUtf8 f.0 × IsValue f.1) fs × AreNamed fs
 each_valid [] valid = (All-nil IsSound, tt)
 each_valid (f ∷ fs) valid =

@@ -216,6 +216,7 @@ fn list_of(
         rest = after;
     }
     closed(last, at)?;
+    values.shrink_to_fit();
     Ok(List::of(values))
 }
 

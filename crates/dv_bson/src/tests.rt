@@ -51,23 +51,6 @@ fn number_under(document: &Document, name: &str) -> Option<i32> {
 }
 
 #[test]
-fn refuses_names(rt: HostRuntime) -> Result<(), Fail> {
-    let mut document = Document::new(rt.alloc());
-    document.push("", Value::Bool(true))?;
-    document.push("a", Value::Int64(-1))?;
-    assert_eq!(rt;
-        document.push("a", Value::Int32(2)),
-        Err(BsonFault::RepeatedName)
-    );
-    assert_eq!(rt;
-        document.push("b\0c", Value::Int32(2)),
-        Err(BsonFault::BadName)
-    );
-    assert_eq!(rt; document.len(), 2);
-    Ok(())
-}
-
-#[test]
 fn finds_each_name(rt: HostRuntime) -> Result<(), Fail> {
     let alloc = rt.alloc();
     let document = numbered(alloc, 100)?;
@@ -111,31 +94,6 @@ fn shares_names(rt: HostRuntime) -> Result<(), Fail> {
     assert_eq!(rt; number_under(&document, "other"), Some(7));
     assert_eq!(rt; number_under(&longer, "name 2"), Some(2));
     assert_eq!(rt; number_under(&longer, "other"), None);
-    Ok(())
-}
-
-#[test]
-fn takes_many_names(rt: HostRuntime) -> Result<(), Fail> {
-    let document = numbered(rt.alloc(), 100_000)?;
-    assert_eq!(rt; document.len(), 100_000);
-    assert_eq!(rt; number_under(&document, "name 99999"), Some(99_999));
-    Ok(())
-}
-
-/// With an allocation that fails, whichever it is, the name can be added at the second try.
-#[test]
-fn keeps_what_stands_where_memory_is_wanting(rt: HostRuntime) -> Result<(), Fail> {
-    let letters = "aaaaaaaaaaaaaaaaaaaaaaaaaaaaaaaaaaaaaaaa";
-    let mut document = Document::new(rt.alloc());
-    for length in 0..letters.len() {
-        let name = letters.get(..length).unwrap_or("");
-        if document.push(name, Value::Bool(true)).is_err() {
-            assert_eq!(rt; document.len(), length);
-            assert!(rt; document.get(name).is_none());
-            document.push(name, Value::Bool(true))?;
-        }
-        assert!(rt; document.get(name).is_some());
-    }
     Ok(())
 }
 

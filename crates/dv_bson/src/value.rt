@@ -14,6 +14,7 @@ use crate::name_list::Names;
 use crate::text::Str;
 use std::alloc::Global;
 use std::marker::Model;
+use std::mem::size_of;
 use std::rc::Rc;
 
 /// A value of a field or of an array. In quotes: its type's name in the BSON specification, version 1.1
@@ -53,6 +54,9 @@ pub enum Value {
     /// "Max key", which comes behind all other values.
     MaxKey,
 }
+
+/// What a value takes inside a list or a document, beside the memory that it owns.
+const _: () = prove!(size_of::<Value>() == 32);
 
 /// The fields of a document and of its copies, in the order in which they were added.
 #[cycle(value)]

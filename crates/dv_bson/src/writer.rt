@@ -142,6 +142,3 @@ fn put_list(list: &List, out: &mut Vec<u8>) -> Result<(), NoMemory>
     }
     close(out, start)
 }
-
-#[cfg(test)]
-mod tests;

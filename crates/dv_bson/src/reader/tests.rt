@@ -1,62 +1,6 @@
 use super::*;
+use crate::fits;
 use std::test::*;
-
-const HELLO: &[u8] = b"\x16\0\0\0\x02hello\0\x06\0\0\0world\0\0";
-
-#[test]
-fn reads_the_front(rt: HostRuntime) -> Result<(), Fail> {
-    let (empty, len) = read_document(rt.alloc(), b"\x05\0\0\0\0")?;
-    assert!(rt; empty.is_empty());
-    assert_eq!(rt; len, 5);
-
-    let mut bytes = Vec::from_slice(rt.alloc(), HELLO)?;
-    bytes.push(7)?;
-    let (hello, len) = read_document(rt.alloc(), &bytes)?;
-    assert_eq!(rt; len, 22);
-    assert_eq!(rt; hello.len(), 1);
-    match hello.get("hello") {
-        Some(Value::Text(world)) => assert_eq!(rt; world.as_str(), "world"),
-        _ => return Err("no text".into()),
-    }
-    Ok(())
-}
-
-#[test]
-fn reads_each_type(rt: HostRuntime) -> Result<(), Fail> {
-    let bytes =
-        b"\x37\0\0\0\x10i\0\xff\xff\xff\xff\x12l\0\0\0\0\0\0\0\0\x80\x08b\0\x01\x03d\0\x05\0\0\0\0\x04a\0\x11\0\0\0\x02\x30\0\x01\0\0\0\0\x08\x31\0\0\0\0";
-    let (read, len) = read_document(rt.alloc(), bytes)?;
-    assert_eq!(rt; len, 55);
-    assert_eq!(rt; read.len(), 5);
-    assert!(rt; matches!(read.entry(0), Some(("i", Value::Int32(-1)))));
-    assert!(rt; matches!(read.entry(1), Some(("l", Value::Int64(i64::MIN)))));
-    assert!(rt; matches!(read.entry(2), Some(("b", Value::Bool(true)))));
-    match read.entry(3) {
-        Some(("d", Value::Doc(inner))) => assert!(rt; inner.is_empty()),
-        _ => return Err("no document".into()),
-    }
-    assert!(rt; matches!(read.entry(4), Some(("a", Value::Array(_)))));
-    Ok(())
-}
-
-#[test]
-fn reads_short_long_and_foreign_names(rt: HostRuntime) -> Result<(), Fail> {
-    let bytes =
-        b"\x31\0\0\0\x08aaaaaaaaaaaaaaaa\0\x01\x08aaaaaaaaaaaaaaaaa\0\x01\x08\xc3\xa9\0\x01\0";
-    let (read, len) = read_document(rt.alloc(), bytes)?;
-    assert_eq!(rt; len, 49);
-    let copy = read.try_clone()?;
-    let names = ["aaaaaaaaaaaaaaaa", "aaaaaaaaaaaaaaaaa", "é"];
-    for (place, want) in names.iter().enumerate() {
-        for document in [&read, &copy] {
-            match document.entry(place) {
-                Some((name, Value::Bool(true))) => assert_eq!(rt; name, *want),
-                _ => return Err("no boolean".into()),
-            }
-        }
-    }
-    Ok(())
-}
 
 fn is_refused(rt: &HostRuntime, bytes: &[u8], want: BsonFault) -> bool {
     match read_document(rt.alloc(), bytes) {
@@ -169,7 +113,11 @@ fn nested(alloc: Global, others: u8) -> Result<Vec<u8>, std::alloc::AllocError> 
 
 #[test]
 fn counts_levels(rt: HostRuntime) -> Result<(), Fail> {
-    assert!(rt; read_document(rt.alloc(), &nested(rt.alloc(), 99)?).is_ok());
+    let (deepest, _len) = read_document(rt.alloc(), &nested(rt.alloc(), 99)?)?;
+    assert!(rt; fits(&deepest));
+    let mut deeper = Document::new(rt.alloc());
+    deeper.push("", Value::Doc(deepest))?;
+    assert!(rt; !fits(&deeper));
     assert!(rt; is_refused(&rt, &nested(rt.alloc(), 100)?, BsonFault::TooDeep));
     Ok(())
 }

@@ -2,7 +2,7 @@
 
 /// Documents as their bytes and as text.
 #[rattlefmt::skip]
-pub static VECTORS: [(&[u8], &str); 67] = [
+pub static VECTORS: [(&[u8], &str); 68] = [
     (b"\x05\x00\x00\x00\x00", "{}"),
     (b"\x16\x00\x00\x00\x02hello\x00\x06\x00\x00\x00world\x00\x00", "{hello: 'world'}"),
     (b"\x0c\x00\x00\x00\x02\x00\x01\x00\x00\x00\x00\x00", "{: ''}"),
@@ -18,6 +18,7 @@ pub static VECTORS: [(&[u8], &str); 67] = [
     (b"\x11\x00\x00\x00\x02text\x00\x02\x00\x00\x00\x00\x00\x00", "{text: '\x00'}"),
     (b"\x17\x00\x00\x00\x02\xc3\xa4\x00\x0a\x00\x00\x00\xc3\xa9\xe2\x82\xac\xf0\x9f\x98\x80\x00\x00", "{ä: 'é€😀'}"),
     (b"<\x01\x00\x00\x02long\x00-\x01\x00\x00xxxxxxxxxxxxxxxxxxxxxxxxxxxxxxxxxxxxxxxxxxxxxxxxxxxxxxxxxxxxxxxxxxxxxxxxxxxxxxxxxxxxxxxxxxxxxxxxxxxxxxxxxxxxxxxxxxxxxxxxxxxxxxxxxxxxxxxxxxxxxxxxxxxxxxxxxxxxxxxxxxxxxxxxxxxxxxxxxxxxxxxxxxxxxxxxxxxxxxxxxxxxxxxxxxxxxxxxxxxxxxxxxxxxxxxxxxxxxxxxxxxxxxxxxxxxxxxxxxxxxxxxxxxxxxxxxxxxxxxxxxxxxxxxxxxxxxxxxxxx\x00\x00", "{long: 'xxxxxxxxxxxxxxxxxxxxxxxxxxxxxxxxxxxxxxxxxxxxxxxxxxxxxxxxxxxxxxxxxxxxxxxxxxxxxxxxxxxxxxxxxxxxxxxxxxxxxxxxxxxxxxxxxxxxxxxxxxxxxxxxxxxxxxxxxxxxxxxxxxxxxxxxxxxxxxxxxxxxxxxxxxxxxxxxxxxxxxxxxxxxxxxxxxxxxxxxxxxxxxxxxxxxxxxxxxxxxxxxxxxxxxxxxxxxxxxxxxxxxxxxxxxxxxxxxxxxxxxxxxxxxxxxxxxxxxxxxxxxxxxxxxxxxxxxxxxx'}"),
+    (b"H\x00\x00\x00\x10aaaaaaaaaaaaaaaa\x00\x01\x00\x00\x00\x10aaaaaaaaaaaaaaaaa\x00\x02\x00\x00\x00\x10\xc3\xa9\xc3\xa9\xc3\xa9\xc3\xa9\xc3\xa9\xc3\xa9\xc3\xa9\xc3\xa9\x00\x03\x00\x00\x00\x00", "{aaaaaaaaaaaaaaaa: 1, aaaaaaaaaaaaaaaaa: 2, éééééééé: 3}"),
     (b"\x16\x00\x00\x00\x10a.b\x00\x01\x00\x00\x00\x10$c\x00\x02\x00\x00\x00\x00", "{a.b: 1, $c: 2}"),
     (b"\x13\x00\x00\x00\x100\x00\x01\x00\x00\x00\x101\x00\x02\x00\x00\x00\x00", "{0: 1, 1: 2}"),
     (b"\x13\x00\x00\x00\x10b\x00\x01\x00\x00\x00\x10a\x00\x02\x00\x00\x00\x00", "{b: 1, a: 2}"),

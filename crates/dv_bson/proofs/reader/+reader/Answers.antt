@@ -121,4 +121,4 @@ list_of-returns-in_err-closed t c =
 pub list_of-returns : goal.list_of-returns
 list_of-returns t c =
     let done = is_done _ _ _ _ _ _ _ (none_left _ (sym c.is_empty.ensures ∙ c.elements-test.false)) c.elements.invariant.read in
-    rw c.of.ensures (sym done ∙ c.in_ok-closed.ensures (numbered 0 (map tree c.elements.values.items)))
+    rw (c.of.ensures, c.shrink_to_fit.ensures.items) (sym done ∙ c.in_ok-closed.ensures (numbered 0 (map tree c.elements.values.items)))
