@@ -10,4 +10,5 @@ mod Texts
 mod Valid
 mod Asking
 mod Ordered
+mod Spelled
 mod Worked

@@ -1,10 +1,13 @@
 -- What holds of every state that is reached.
-use Rattle.std.specs.Prelude.{ℕ, List, ⊤}
+use Rattle.std.specs.Prelude.{ℕ, ◌<◌, ◌^◌, List, ⊤}
 use Rattle.std.specs.List.{AllByRecursion}
 use Rattle.dv_bson.specs.Tree.{Field, fields_of}
-use Rattle.dv_bson.specs.Spelling.{AreFields, Fits}
+use Rattle.dv_bson.specs.Spelling.{AreFields, Fits, Spells, spelling}
 use Rattle.dv_command.specs.declared.command.Command.{Command}
 use Rattle.dv_command.specs.declared.command.Command.TheVariants.{Sections, Invalid}
+use Rattle.dv_bson.specs.declared.fault.BsonFault.TheVariants.{RefusedType}
+use Rattle.dv_command.specs.declared.refusal.Refusal.{Refusal}
+use Rattle.dv_command.specs.declared.refusal.Refusal.TheVariants.{InvalidBson}
 use Rattle.dv_core.specs.State.{State, documents_of, AreOrdered}
 
 -- a document that is valid at each of its levels, and within the limits for what is read and stored
@@ -23,3 +26,12 @@ IsSound state = (namespace : List ℕ) → AreSound (documents_of namespace stat
 abbrev pub IsSoundCommand : Command → Type 0
 IsSoundCommand (Sections body lists) = IsSoundDocument body × AllByRecursion (λ list. AllByRecursion IsSoundDocument list.1) lists
 IsSoundCommand (Invalid fault) = ⊤
+
+-- a refusal whose numbers are those of a byte and of a place in memory
+abbrev pub IsTold : Refusal → Type 0
+IsTold (InvalidBson (RefusedType byte at)) = (byte < 256) × (at < 2 ^ 64)
+IsTold refusal = ⊤
+
+-- a document that can be written
+abbrev pub HasSpelling : List Field → Type 0
+HasSpelling d = Spells d (spelling d)

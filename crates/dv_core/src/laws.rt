@@ -5,15 +5,16 @@ ghost use Rattle.dv_bson.specs.Names.{value_under};
 ghost use Rattle.dv_bson.specs.Spelling.{Fits};
 ghost use Rattle.dv_bson.specs.Tree.{Field, int32};
 ghost use Rattle.dv_command.specs.Asked.{Asked, asked_by};
+ghost use Rattle.dv_command.specs.Replies.{refusal_reply};
 ghost use Rattle.dv_command.specs.declared.command.Command.{Command};
 ghost use Rattle.dv_command.specs.declared.refusal.Refusal.{Refusal};
 ghost use Rattle.dv_core.specs.declared.outcome.Outcome.{Outcome};
 ghost use Rattle.dv_core.specs.declared.outcome.Outcome.TheVariants.{Reply, Wanting};
 ghost use Rattle.dv_core.specs.Examples as examples;
-ghost use Rattle.dv_core.specs.Sound.{IsSound, IsSoundCommand};
+ghost use Rattle.dv_core.specs.Sound.{HasSpelling, IsSound, IsSoundCommand, IsTold};
 ghost use Rattle.dv_core.specs.State.{State, Namespaces, IsOrdered, empty_state};
 ghost use Rattle.dv_core.specs.Statements.{Write, Written, carry_out, IsCut};
-ghost use Rattle.dv_core.specs.Step.{MemoryStep, write_of};
+ghost use Rattle.dv_core.specs.Step.{MemoryStep, step, write_of};
 ghost use Rattle.dv_core.specs.Storable.{storable, is_within_limits};
 
 /// A command that is told as refused, with `ok: 0`, changed nothing, be it for want of memory.
@@ -54,6 +55,14 @@ pub fn states_stay_sound()
     dv_coll::laws::inserted_documents_ascend();
     dv_coll::laws::inserted_documents_begin_with_ids();
 }
+
+/// Replies can be written: that to a command that asks something, in a sound state and if the command's documents are
+/// sound; and that to one that is refused.
+pub fn replies_have_a_spelling()
+    ensures answered { (state : State) (session : ℕ) (command : Command) (asked : Asked) → IsSound state → IsSoundCommand command → asked_by command ≡ Ok asked
+        → HasSpelling (step state session command).reply }
+    ensures refused { (refusal : Refusal) → IsTold refusal → HasSpelling (refusal_reply refusal) }
+{}
 
 /// An ordered write tells of one error at most; and where it is cut, of that alone.
 pub fn an_ordered_write_ends_at_its_first_error()

@@ -2,7 +2,7 @@
 
 use super::*;
 use crate::storable::storable;
-use dv_bson::{Document, List, Str, Value, read_document, write_document};
+use dv_bson::{BsonFault, Document, List, Str, Value, read_document, write_document};
 use dv_command::{Command, DocumentLists};
 use std::alloc::Global;
 use std::test::*;
@@ -191,6 +191,21 @@ fn many_documents_are_inserted_and_found(rt: HostRuntime) -> Result<(), Fail> {
 
     let body = command(alloc, "find", text(alloc, "c")?)?;
     assert_eq!(rt; told(alloc, &mut store, body)?.len(), 18_977);
+    Ok(())
+}
+
+#[test]
+fn a_document_that_is_too_deep_is_told(rt: HostRuntime) -> Result<(), Fail> {
+    let alloc = rt.alloc();
+    let wanted =
+        b"R\0\0\0\x10ok\0\0\0\0\0\x02errmsg\0\x15\0\0\0InvalidBSON: TooDeep\0\x10code\0\x16\0\0\0\x02codeName\0\x0c\0\0\0InvalidBSON\0\0".as_slice();
+    let told = match Store::new(alloc).execute(7, &Command::Invalid(BsonFault::TooDeep)) {
+        Outcome::Reply(reply) => reply,
+        Outcome::Wanting(_) | Outcome::NoReply => return Err("memory is wanting".into()),
+    };
+    let mut bytes = Vec::new(alloc);
+    write_document(&told, &mut bytes)?;
+    assert_eq!(rt; bytes.as_slice(), wanted);
     Ok(())
 }
 
