@@ -7,7 +7,7 @@ use Rattle.dv_wire.specs.declared.fault.HubFault.TheVariants.{TooManySessions}
 use Rattle.dv_wire.specs.declared.hub.SessionId.{SessionId}
 use Rattle.dv_core.specs.declared.outcome.Outcome.TheVariants.{Reply, Wanting, NoReply}
 use Rattle.dv_core.specs.State.{State}
-use Rattle.dv_wire.specs.Message.{body, Message, Conversation, reading, closed, split}
+use Rattle.dv_wire.specs.Message.{body, sections_in, Message, Conversation, reading, closed, split}
 use Rattle.dv_wire.specs.Schedule.{World, Opens, reply_bytes, bytes_to, CarriesOut, plain_run, silence, unfinished_in, end}
 
 -- ---- words for them
@@ -85,6 +85,8 @@ pub record SectionExamples : Type 0 where
   -- a document's length is that of the body, and 5 at least
   pub too_short : Closes (sectioned 26 (0 ∷ 4 ∷ 0 ∷ 0 ∷ 0 ∷ 0 ∷ [])) BadSection
   pub too_long : Closes (sectioned 26 (0 ∷ 6 ∷ 0 ∷ 0 ∷ 0 ∷ 0 ∷ [])) BadSection
+  pub least_document : sections_in (0 ∷ empty_document) ≡ Some (body empty_document ∷ [])
+  pub no_document : sections_in (0 ∷ 4 ∷ 0 ∷ 0 ∷ 0 ∷ []) ≡ None
   -- what is in it is for the command to say
   pub unreadable : Brings (sectioned 26 (0 ∷ 5 ∷ 0 ∷ 0 ∷ 0 ∷ 9 ∷ [])) (asks false (5 ∷ 0 ∷ 0 ∷ 0 ∷ 9 ∷ []) ∷ []) (reading [])
   -- behind a message comes the next, or a fault that closes the session behind it
