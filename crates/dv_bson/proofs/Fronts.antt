@@ -1,6 +1,6 @@
 -- What stands at the front of bytes.
-use Rattle.std.proofs.Common.{◌≡◌, ℕ, suc, ◌+◌, ◌-◌, ◌==◌, ◌||◌, if◌then◌else◌, Bool, true, false, cond, not, ltb, List, [], ◌∷◌, length, take, drop, map, Option, Some, None, Result, Ok, Err, Bor, refl, sym, ap, ◌∙◌, decimal, add-one, arith, inl, inr}
-use Rattle.std.specs.Option.{option_map, is_some}
+use Rattle.std.proofs.Common.{◌≡◌, ℕ, suc, ◌+◌, ◌-◌, ◌==◌, if◌then◌else◌, Bool, true, false, cond, not, ltb, List, [], ◌∷◌, length, take, drop, map, Option, Some, None, Result, Ok, Err, refl, sym, ap, ◌∙◌, decimal, add-one, arith, inl, inr}
+use Rattle.std.specs.Option.{option_map}
 use Rattle.std.specs.List.{position, position_or_len}
 use Rattle.std.specs.Str.{bytes_eq, IsUtf8, is_utf8}
 use Rattle.std.proofs.lemmas.Bool.{cases_lt, lt-ltb, le-ltb}
@@ -12,7 +12,7 @@ use Rattle.dv_bson.specs.declared.value.Value.{Value}
 use Rattle.dv_bson.specs.declared.fault.BsonFault.TheVariants.{BadUtf8, BadArrayName, RepeatedName}
 use Rattle.dv_bson.specs.Tree.{Field}
 use Rattle.dv_bson.specs.View.{tree}
-use Rattle.dv_bson.specs.Names.{value_under, has_name}
+use Rattle.dv_bson.specs.Names.{has_name}
 use Rattle.dv_bson.specs.Reading.{◌>>=◌, cut_at_zero, onto_name, named_by, name_at}
 use Rattle.dv_bson.specs.Parts.{utf8_name, any_name_at, numbered}
 

@@ -1,13 +1,13 @@
 -- A document's fields one by one: what a field adds, and that it is no matter where it stands.
-use Rattle.std.proofs.Common.{◌≡◌, ℕ, ◌+◌, ◌↔◌, ◌||◌, max, true, false, List, [], ◌∷◌, ◌++◌, length, refl, sym, ap, ◌∙◌, arith}
+use Rattle.std.proofs.Common.{◌≡◌, ◌+◌, List, [], ◌∷◌, ◌++◌, length, refl, sym, ap, ◌∙◌, arith}
 use Rattle.std.specs.List.{All}
-use Rattle.std.specs.Str.{bytes_eq, IsUtf8}
+use Rattle.std.specs.Str.{IsUtf8}
 use Rattle.std.proofs.lemmas.List.{length-append}
 use Rattle.std.proofs.lemmas.List.Elements.{All-nil, All-cons, All-head, All-tail}
-use Rattle.dv_bson.specs.Tree.{Field, document, fields_of}
+use Rattle.dv_bson.specs.Tree.{Field, fields_of}
 use Rattle.dv_bson.specs.Names.{AreNamed, has_name}
-use Rattle.dv_bson.specs.Spelling.{payload, spelling, fields_spelling, levels, fields_levels, IsValue, AreFields}
-use Rattle.dv_bson.proofs.Named.{has_name-append, bytes_eq-symmetric, named_apart}
+use Rattle.dv_bson.specs.Spelling.{payload, spelling, fields_spelling, fields_levels, IsValue, AreFields}
+use Rattle.dv_bson.proofs.Named.{has_name-append, bytes_eq-symmetric}
 use Rattle.dv_bson.proofs.Payloads.{length-document, length-element_spelling}
 use Rattle.dv_bson.proofs.Fields.{list_of_fields-fields_of}
 use Rattle.dv_bson.proofs.Rest.{fields_spelling-field}

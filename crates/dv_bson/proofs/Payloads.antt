@@ -4,7 +4,7 @@ use Rattle.std.specs.Prelude.{FitsSigned}
 use Rattle.std.specs.Int.{w32, w64, to_le_bytes, cast_unsigned, cast_signed, from_bool}
 use Rattle.std.proofs.lemmas.Int.{to_z-of_z}
 use Rattle.dv_bson.specs.declared.kind.Kind.{Kind}
-use Rattle.dv_bson.specs.Tree.{Tree, int32, int64, string, document, array, boolean, binary, object_id, date, null, timestamp, min_key, max_key, Fields, Elements}
+use Rattle.dv_bson.specs.Tree.{int32, int64, string, document, array, boolean, binary, object_id, date, null, timestamp, min_key, max_key, Fields, Elements}
 use Rattle.dv_bson.proofs.Binaries.{length-tagged}
 pub use Rattle.dv_bson.proofs.Frames.{length-counted, length-framed}
 use Rattle.dv_bson.specs.Spelling.{framed, counted, tagged, element_spelling, payload, fields_spelling, elements_spelling}

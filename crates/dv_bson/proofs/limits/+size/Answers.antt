@@ -1,4 +1,4 @@
-use Rattle.std.proofs.Common.{◌≡◌, length, refl, sym, ap, arith, rules}
+use Rattle.std.proofs.Common.{length, refl, sym, ap, arith, rules}
 use Rattle.std.proofs.lemmas.List.{drop_all}
 use Rattle.dv_bson.specs.Tree.{Field, fields_of, elements_of}
 use Rattle.dv_bson.specs.Spelling.{payload}

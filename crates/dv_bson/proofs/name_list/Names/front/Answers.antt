@@ -1,8 +1,7 @@
-use Rattle.std.proofs.Common.{◌≡◌, ℕ, List, take, map, arith, subst, sym, ◌∙◌}
+use Rattle.std.proofs.Common.{◌≡◌, ℕ, List, take, map, arith, subst}
 use Rattle.std.proofs.lemmas.Grind.{common_steps}
 use Rattle.std.specs.Option.{IfSome}
-use Rattle.dv_bson.specs.Tree.{Field}
-use Rattle.dv_bson.specs.Names.{bare, AreNamed}
+use Rattle.dv_bson.specs.Names.{bare}
 use Rattle.dv_bson.specs.Places.{IsIndexOf}
 use Rattle.dv_bson.proofs.Named.{AreNamed-take}
 use Rattle.dv_bson.proofs.name_list.Names.front.Goals as goal

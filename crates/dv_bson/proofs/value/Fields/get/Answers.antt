@@ -1,4 +1,4 @@
-use Rattle.std.proofs.Common.{◌≡◌, ◌<◌, Some, [], sym, ap, ◌∙◌, map, length, arith}
+use Rattle.std.proofs.Common.{◌≡◌, Some, [], sym, ap, ◌∙◌, map, arith}
 use Rattle.std.specs.List.{zip}
 use Rattle.std.proofs.lemmas.List.{length-map}
 use Rattle.std.proofs.lemmas.Slice.Zip.{length-zip, get_or-zip}

@@ -1,4 +1,4 @@
-use Rattle.std.proofs.Common.{◌≤◌, map, length, arith}
+use Rattle.std.proofs.Common.{map, arith}
 use Rattle.std.proofs.lemmas.List.{length-map}
 use Rattle.dv_bson.specs.View.{tree}
 use Rattle.dv_bson.proofs.Zipped.{AreNamed-zip, place_found, place_behind, place_nowhere}
