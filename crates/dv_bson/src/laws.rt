@@ -1,15 +1,20 @@
 //! What holds between the bytes of documents and reading them, and of documents whatever their bytes are.
 
-ghost use Rattle.std.specs.Prelude.{◌≡◌, ◌↔◌, ℕ, ◌+◌, ◌≤◌, List, [], ◌∷◌, ◌++◌, length, take, None, All};
+ghost use Rattle.std.specs.Prelude.{◌≡◌, ◌↔◌, ℕ, ◌+◌, ◌≤◌, List, [], ◌∷◌, ◌++◌, length, take, None, Ok, All};
 ghost use Rattle.std.specs.Str.{IsUtf8};
 ghost use Rattle.dv_bson.specs.Tree.{Field, document, fields_of};
 ghost use Rattle.dv_bson.specs.Names.{AreNamed};
 ghost use Rattle.dv_bson.specs.Spelling.{payload, spelling, levels, IsValue, AreFields, Spells, Fits, IsBytes};
-ghost use Rattle.dv_bson.specs.Reading.{first_fault};
+ghost use Rattle.dv_bson.specs.Reading.{document_at, first_fault};
 
 /// No spelling begins another one, and a spelling has one document: so what was written is read again, whatever follows it.
 pub fn no_spelling_begins_another()
     ensures { (d e : List Field) (a b x y : List ℕ) → Spells d a → Spells e b → a ++ x ≡ b ++ y → (a ≡ b) × (d ≡ e) }
+{}
+
+/// What reading gives at the front of bytes is spelled there, and fits.
+pub fn what_is_read_is_spelled()
+    ensures { (bytes : List ℕ) (d : List Field) (n : ℕ) → IsBytes bytes → document_at bytes ≡ Ok (d, n) → (n ≤ length bytes) × Spells d (take n bytes) × Fits d }
 {}
 
 /// There is a first fault exactly where the front of the bytes spells no document that fits.

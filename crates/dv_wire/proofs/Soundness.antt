@@ -1,28 +1,41 @@
 -- Worlds stay sound, by the law of each step.
-use Rattle.std.proofs.Common.{◌≡◌, ℕ, zero, suc, ◌+◌, ◌<◌, true, eqb, List, [], ◌∷◌, ◌++◌, length, get_or, take, drop, Option, Some, None, Result, Ok, Err, refl, sym, subst, arith, inl, inr}
+use Rattle.std.proofs.Common.{◌≡◌, ℕ, zero, suc, ◌+◌, ◌<◌, ◌≤◌, true, eqb, List, [], ◌∷◌, ◌++◌, length, get_or, take, drop, Option, Some, None, Result, Ok, Err, refl, sym, subst, arith, inl, inr}
 use Rattle.std.specs.List.{AllByRecursion}
 use Rattle.std.proofs.lemmas.Bool.{cases_Bool}
 use Rattle.std.proofs.lemmas.List.{append-nil, get_or-drop}
 use Rattle.dv_bson.specs.declared.fault.BsonFault.{BsonFault}
 use Rattle.dv_bson.specs.Tree.{Field}
-use Rattle.dv_bson.specs.Spelling.{IsBytes}
+use Rattle.dv_bson.specs.Spelling.{Spells, Fits, IsBytes}
 use Rattle.dv_bson.specs.Reading.{document_at}
 use Rattle.dv_command.specs.declared.command.Command.{Command}
 use Rattle.dv_core.specs.declared.outcome.Outcome.{Outcome}
 use Rattle.dv_core.specs.State.{State}
 use Rattle.dv_core.specs.Step.{MemoryStep}
-use Rattle.dv_core.specs.Sound.{IsSound, IsSoundCommand}
+use Rattle.dv_core.specs.Sound.{IsSoundDocument, IsSound, IsSoundCommand}
 use Rattle.dv_wire.specs.declared.fault.CloseFault.TheVariants.{NoMemory}
 use Rattle.dv_wire.specs.declared.hub.Fed.{Fed}
 use Rattle.dv_wire.specs.declared.hub.SessionId.{SessionId}
 use Rattle.dv_wire.specs.Message.{Section, body, body_among, sections_spelling, are_sections, Message, Front, unfinished, closing, whole, number_behind, front, Conversation, reading, closed, Split, split}
 use Rattle.dv_wire.specs.Schedule.{Run, World, world_of, conversation_of, with_conversation, sessions_but, command_from, command_of, bytes_to, CarriesOut, Takes, takes_all, takes_some, Hears, Opens, Feeds, end}
-use Rattle.dv_wire.specs.Sound.{KeepsBytes, IsSoundWorld, ReadsSound}
+use Rattle.dv_wire.specs.Sound.{KeepsBytes, IsSoundWorld}
 use Rattle.dv_wire.proofs.Fronts.{front_shows}
 use Rattle.dv_wire.proofs.Sections.{sections_spelled, two_counted}
 use Rattle.dv_wire.proofs.Spelled.{IsBytes-take}
 use Rattle.dv_wire.proofs.Streams.{following_shorter, split_unfinished, split_closing, split_whole}
 use Rattle.dv_wire.proofs.Runs.{follows_cases}
+
+-- ---- reading
+
+-- what is read is spelled, and fits
+abbrev pub ReadsSpelled : Type 0
+ReadsSpelled = (bytes : List ℕ) (document : List Field) (count : ℕ) → IsBytes bytes → document_at bytes ≡ Ok (document, count) → (count ≤ length bytes) × Spells document (take count bytes) × Fits document
+
+-- so it is sound
+abbrev pub ReadsSound : Type 0
+ReadsSound = (bytes : List ℕ) (document : List Field) (count : ℕ) → IsBytes bytes → document_at bytes ≡ Ok (document, count) → IsSoundDocument document
+
+pub spelled_sound : ReadsSpelled → ReadsSound
+spelled_sound reads bytes document count h e = let read = reads bytes document count h e in record { valid = read.1.valid; fits = read.2 }
 
 -- ---- bytes
 

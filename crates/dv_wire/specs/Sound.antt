@@ -1,10 +1,8 @@
 -- What holds of every world that is reached.
-use Rattle.std.specs.Prelude.{◌≡◌, ℕ, suc, ◌≤◌, List, [], ◌∷◌, Ok, ⊤}
+use Rattle.std.specs.Prelude.{ℕ, suc, ◌≤◌, List, [], ◌∷◌, ⊤}
 use Rattle.std.specs.List.{AllByRecursion}
-use Rattle.dv_bson.specs.Tree.{Field}
 use Rattle.dv_bson.specs.Spelling.{IsBytes}
-use Rattle.dv_bson.specs.Reading.{document_at}
-use Rattle.dv_core.specs.Sound.{IsSoundDocument, IsSound}
+use Rattle.dv_core.specs.Sound.{IsSound}
 use Rattle.dv_wire.specs.Message.{Conversation, reading, closed}
 use Rattle.dv_wire.specs.Schedule.{World}
 
@@ -25,7 +23,3 @@ KeepsBytes (closed fault) = ⊤
 pub record IsSoundWorld (world : World) : Type 0 where
   pub documents : IsSound world.state
   pub keeping : AllByRecursion (λ s. KeepsBytes s.1) world.sessions
-
--- a document that is read is sound
-abbrev pub ReadsSound : Type 0
-ReadsSound = (bytes : List ℕ) (document : List Field) (count : ℕ) → IsBytes bytes → document_at bytes ≡ Ok (document, count) → IsSoundDocument document

@@ -6,7 +6,7 @@ ghost use Rattle.dv_core.specs.Sound.{IsSound};
 ghost use Rattle.dv_core.specs.State.{State};
 ghost use Rattle.dv_core.specs.Step.{step};
 ghost use Rattle.dv_wire.specs.Examples as examples;
-ghost use Rattle.dv_wire.specs.Sound.{IsNumbered, IsSoundWorld, ReadsSound};
+ghost use Rattle.dv_wire.specs.Sound.{IsNumbered, IsSoundWorld};
 ghost use Rattle.dv_wire.specs.declared.fault.CloseFault.{CloseFault};
 ghost use Rattle.dv_wire.specs.declared.fault.HubFault.{HubFault};
 ghost use Rattle.dv_wire.specs.declared.hub.Fed.{Fed};
@@ -91,9 +91,10 @@ pub fn only_open_sessions_change_documents()
 pub fn worlds_stay_sound()
     ensures before { (state : State) → IsSound state → IsSoundWorld (world_of state) }
     ensures opened { (old new : World) (session : SessionId) → IsSoundWorld old → Opens old (Ok session) new → IsSoundWorld new }
-    ensures fed { ReadsSound → (old new : World) (session : ℕ) (piece bytes : List ℕ) (answer : Fed) → IsSoundWorld old → IsBytes piece → Feeds old session piece bytes answer new → IsSoundWorld new }
+    ensures fed { (old new : World) (session : ℕ) (piece bytes : List ℕ) (answer : Fed) → IsSoundWorld old → IsBytes piece → Feeds old session piece bytes answer new → IsSoundWorld new }
     ensures ended { (old : World) (session : ℕ) → IsSoundWorld old → IsSoundWorld (end session old) }
 {
+    dv_bson::laws::what_is_read_is_spelled();
     dv_core::laws::states_stay_sound();
 }
 

@@ -1,4 +1,4 @@
-use Rattle.dv_wire.proofs.Soundness.{first_sound, opened_sound, fed_sound, ended_sound}
+use Rattle.dv_wire.proofs.Soundness.{spelled_sound, first_sound, opened_sound, fed_sound, ended_sound}
 use Rattle.dv_wire.proofs.laws.worlds_stay_sound.Goals as goal
 
 pub returns-clause-before : goal.returns-clause-before
@@ -8,7 +8,7 @@ pub returns-clause-opened : goal.returns-clause-opened
 returns-clause-opened c = opened_sound
 
 pub returns-clause-fed : goal.returns-clause-fed
-returns-clause-fed c = fed_sound c.states_stay_sound.ensures.after
+returns-clause-fed c = fed_sound c.states_stay_sound.ensures.after (spelled_sound c.what_is_read_is_spelled.ensures)
 
 pub returns-clause-ended : goal.returns-clause-ended
 returns-clause-ended c = ended_sound
