@@ -11,7 +11,7 @@ use Rattle.dv_bson.specs.Names.{value_under}
 use Rattle.dv_bson.specs.declared.value.Value.{Value}
 use Rattle.dv_bson.specs.Tree.{Tree, document, array, Field, fields_of, elements_of}
 use Rattle.dv_bson.specs.View.{tree}
-use Rattle.dv_path.specs.Candidates.{Candidate, entered, found, picked, step, candidates, whole, with_elements}
+use Rattle.dv_path.specs.Candidates.{Candidate, entered, picked, step, candidates, whole, with_elements}
 use Rattle.dv_path.specs.Path.{index_of}
 use Rattle.dv_path.specs.Expression.{expression, expr}
 use Rattle.dv_path.specs.View.{seen}
@@ -19,7 +19,7 @@ use Rattle.dv_path.specs.declared.candidate.Candidate as memory
 use Rattle.dv_path.specs.declared.candidate.Candidate.TheVariants.{Found}
 use denote.Ref.{Bor}
 use Rattle.std.proofs.Math.Seq.{drop-cons}
-use Rattle.dv_path.specs.Fold.{Takes, Stops, Folded, Passes}
+use Rattle.dv_path.specs.Fold.{Takes, Folded, Passes}
 use Rattle.dv_path.proofs.Folds.{any-right}
 use Rattle.dv_path.proofs.Walks.{list_of_fields_of, list_of_elements_of}
 

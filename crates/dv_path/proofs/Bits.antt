@@ -2,8 +2,8 @@
 use Rattle.std.proofs.Common.{◌≡◌, ℕ, zero, suc, ◌+◌, ◌*◌, ◌/◌, ◌%◌, ◌^◌, ◌<◌, ◌≤◌, ◌==◌, ◌≢◌, ◌&&◌, ◌||◌, nat_lt, nat_eq, max, Bool, true, false, not, bit_and, bit_or, List, [], ◌∷◌, length, take, get_or, refl, ap, sym, ◌∙◌, arith, tests, add-one, w64}
 use Rattle.std.proofs.Math.Bool.{or-false, or-true}
 use Rattle.std.proofs.lemmas.Nat.{one_shl, pow_pos}
-use Rattle.std.proofs.lemmas.Nat.Bits.{and_pow, bit_at_or, bit_at_lowest, bit_at-suc, bit_at-zero, bit_at-lt, bit_at_set_same, bit_at_set_other, bit_at-trailing_zeros}
-use Rattle.std.specs.Int.{bit_at, trailing_zeros}
+use Rattle.std.proofs.lemmas.Nat.Bits.{and_pow, bit_at_or, bit_at_lowest, bit_at-suc, bit_at-zero, bit_at-lt, bit_at_set_same, bit_at_set_other}
+use Rattle.std.specs.Int.{bit_at}
 use Rattle.dv_path.specs.declared.places.Places.{Places}
 use Rattle.dv_path.specs.Places.{has, follows, passes_at}
 

@@ -1,5 +1,5 @@
 -- The earliest of some keys is known by the set of them.
-use Rattle.std.proofs.Common.{◌≡◌, ◌<◌, ◌||◌, Bool, true, false, cond, List, [], ◌∷◌, ◌++◌, length, map, fold, Option, Some, None, Result, Ok, Err, refl, ap, sym, ◌∙◌, arith, ◌↔◌, inl, inr}
+use Rattle.std.proofs.Common.{◌≡◌, ◌<◌, Bool, true, false, cond, List, [], ◌∷◌, ◌++◌, length, map, fold, Option, Some, None, Result, Ok, refl, ap, sym, ◌∙◌, arith, ◌↔◌, inl, inr}
 use Rattle.std.specs.Cmp.{IsStrictWeakOrder}
 use Rattle.std.specs.List.{list_any, flat_map, best_of, AllByRecursion, FoldsTo}
 use Rattle.std.specs.Ordering.{is_lt, is_ne, ordering_reverse}

@@ -1,10 +1,10 @@
 -- Folds, one after another.
-use Rattle.std.proofs.Common.{◌≡◌, Bool, true, false, List, [], ◌∷◌, ◌++◌, ◌||◌, ◌⊎◌, inl, inr, Result, Ok, Err, MatchResult, refl, ap, sym, ◌∙◌, append_assoc, subst}
+use Rattle.std.proofs.Common.{◌≡◌, Bool, true, false, List, [], ◌∷◌, ◌++◌, ◌⊎◌, inl, inr, Result, Ok, Err, refl, sym, ◌∙◌, append_assoc, subst}
 use Rattle.std.specs.List.{list_any, FoldsTo}
 use Rattle.std.proofs.lemmas.Bool.{or_cases, or_left, or_right}
 use Rattle.std.proofs.lemmas.List.Folds.{list_any-append}
 use Rattle.dv_path.specs.Candidates.{Candidate}
-use Rattle.dv_path.specs.Fold.{Takes, Stops, FoldsOver, StopsAmong, Folded}
+use Rattle.dv_path.specs.Fold.{FoldsOver, StopsAmong, Folded}
 
 -- what holds of tests
 abbrev pub Tests : Type 1

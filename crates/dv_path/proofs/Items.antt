@@ -1,5 +1,5 @@
 -- Items that a loop or a call reads, as what is seen of them.
-use Rattle.std.proofs.Common.{◌≡◌, ℕ, zero, suc, ◌+◌, ◌≤◌, ◌<◌, List, [], ◌∷◌, length, map, drop, add-one, get_or, Option, Some, None, slice_get, refl, sym, ◌∙◌, ap, arith, Bool, true, false, if◌then◌else◌}
+use Rattle.std.proofs.Common.{◌≡◌, ℕ, zero, suc, ◌+◌, ◌≤◌, ◌<◌, List, [], ◌∷◌, length, map, drop, add-one, get_or, Option, Some, None, slice_get, refl, sym, ap, arith, Bool, true, false, if◌then◌else◌}
 use Rattle.std.specs.Str.{bytes_eq}
 use Rattle.std.proofs.lemmas.Option.{slice_get_read, slice_get-map}
 use Rattle.dv_bson.specs.declared.value.Value.{Value}

@@ -1,15 +1,13 @@
 -- What the candidates of a path's rest are, one component on.
-use Rattle.std.proofs.Common.{◌≡◌, ℕ, zero, suc, ◌+◌, ◌<◌, ◌≤◌, ◌⊎◌, inl, inr, ◌||◌, Bool, true, false, List, [], ◌∷◌, ◌++◌, length, drop, get_or, Option, Some, None, slice_get, refl, ap, sym, ◌∙◌, arith, append-nil}
+use Rattle.std.proofs.Common.{◌≡◌, ℕ, zero, suc, ◌<◌, ◌⊎◌, inl, inr, ◌||◌, Bool, true, false, List, [], ◌∷◌, ◌++◌, length, drop, get_or, Option, Some, None, slice_get, refl, ap, sym, ◌∙◌, arith, append-nil}
 use Rattle.std.specs.List.{flat_map, list_any}
 use Rattle.std.proofs.Math.Seq.{drop-cons}
-use Rattle.std.proofs.lemmas.Bool.{or_cases, or_left, or_right}
-use Rattle.std.proofs.lemmas.List.Folds.{list_any-append}
 use Rattle.std.proofs.lemmas.Grind.{flat_map-append}
 use Rattle.dv_bson.specs.Tree.{Tree, document, array, Fields, list_of_fields, Elements, list_of_elements}
 use Rattle.dv_bson.specs.Names.{value_under}
 use Rattle.dv_path.specs.Path.{index_of}
 use Rattle.dv_path.specs.Candidates.{Candidate, entered, found, picked, step, candidates}
-use Rattle.dv_path.specs.Places.{passes_at, picks, IsDocument}
+use Rattle.dv_path.specs.Places.{passes_at, IsDocument}
 use Rattle.dv_path.proofs.Folds.{any-cases, any-left, any-right, either}
 
 -- the component at a place

@@ -1,5 +1,5 @@
 -- What a walk reaches, step by step.
-use Rattle.std.proofs.Common.{◌≡◌, ℕ, zero, suc, ◌+◌, ◌<◌, ◌≤◌, ◌==◌, ◌&&◌, ◌||◌, nat_lt, ◌⊎◌, inl, inr, Bool, true, false, List, [], ◌∷◌, length, map, drop, get_or, Option, Some, None, slice_get, refl, ap, sym, ◌∙◌, arith, tests, rules}
+use Rattle.std.proofs.Common.{◌≡◌, ℕ, zero, suc, ◌+◌, ◌<◌, ◌≤◌, ◌==◌, ◌&&◌, ◌||◌, nat_lt, ◌⊎◌, inl, inr, Bool, true, false, List, [], ◌∷◌, length, drop, Option, Some, None, slice_get, refl, ap, sym, ◌∙◌, arith, tests, rules}
 use Rattle.std.specs.Int.{bit_at}
 use Rattle.std.specs.Str.{bytes_eq}
 use Rattle.std.specs.List.{list_any}
@@ -9,12 +9,12 @@ use Rattle.std.proofs.lemmas.Bool.{or_cases, or_left, or_right, and_parts}
 use Rattle.std.proofs.lemmas.Slice.Eq.{bytes_eq-Decides}
 use Rattle.std.proofs.lemmas.Option.{slice_get_within}
 use Rattle.dv_bson.specs.declared.value.Value.{Value}
-use Rattle.dv_bson.specs.Tree.{Tree, document, array, Field, Fields, fields_of, list_of_fields, Elements, elements_of, list_of_elements}
+use Rattle.dv_bson.specs.Tree.{Tree, document, array, Field, fields_of, list_of_fields, elements_of, list_of_elements}
 use Rattle.dv_bson.specs.Names.{value_under}
 use Rattle.dv_bson.specs.View.{tree}
 use Rattle.dv_path.specs.declared.places.Places.{Places}
 use Rattle.dv_path.specs.Path.{index_of}
-use Rattle.dv_path.specs.Candidates.{Candidate, step, candidates, whole}
+use Rattle.dv_path.specs.Candidates.{Candidate, step, whole}
 use Rattle.dv_path.specs.Fold.{Passes}
 use Rattle.dv_path.specs.Places.{has, passes_at, picks, follows, IsWithin, IsBefore, IsDocument, Reaches, ReachesElement}
 use Rattle.dv_path.proofs.Bits.{none}

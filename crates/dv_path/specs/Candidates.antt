@@ -1,7 +1,7 @@
 -- Where a path leads in a document: a list of candidates, each a value or Missing.
-use Rattle.std.specs.Prelude.{◌≡◌, ℕ, List, [], ◌∷◌, ◌++◌, map, Option, Some, None, slice_get}
+use Rattle.std.specs.Prelude.{ℕ, List, [], ◌∷◌, ◌++◌, map, Option, Some, None, slice_get}
 use Rattle.std.specs.List.{flat_map}
-use Rattle.dv_bson.specs.Tree.{Tree, document, array, Field, fields_of, list_of_fields, Elements, list_of_elements}
+use Rattle.dv_bson.specs.Tree.{Tree, document, array, Field, fields_of, list_of_fields, list_of_elements}
 use Rattle.dv_bson.specs.Names.{value_under}
 use Rattle.dv_path.specs.Path.{index_of}
 

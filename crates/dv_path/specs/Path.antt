@@ -1,5 +1,5 @@
 -- Paths: a text cut at its dots into the components that lead into a document, one after the other.
-use Rattle.std.specs.Prelude.{ℕ, ◌==◌, ◌&&◌, ◌||◌, not, nat_le, Bool, true, false, List, [], ◌∷◌, length, slice_index, Option, Some, None, if◌then◌else◌, ◌+◌, ◌*◌, ◌-◌}
+use Rattle.std.specs.Prelude.{ℕ, ◌==◌, ◌&&◌, ◌||◌, not, nat_le, Bool, false, List, [], ◌∷◌, length, slice_index, Option, Some, None, if◌then◌else◌, ◌+◌, ◌*◌, ◌-◌}
 use Rattle.std.specs.Char.{is_ascii_digit}
 use Rattle.std.specs.List.{list_all, slice_split}
 use Rattle.dv_bson.specs.Names.{has_zero}

@@ -3,7 +3,7 @@ use Rattle.std.specs.Prelude.{◌≡◌, ℕ, zero, suc, ◌<◌, ◌≤◌, ◌
 use Rattle.std.specs.Int.{bit_at}
 use Rattle.std.specs.List.{list_any}
 use Rattle.dv_path.specs.declared.places.Places.{Places}
-use Rattle.dv_bson.specs.Tree.{Tree, document, array}
+use Rattle.dv_bson.specs.Tree.{Tree, document}
 use Rattle.dv_path.specs.Path.{index_of}
 use Rattle.dv_path.specs.Candidates.{Candidate, candidates}
 

@@ -25,3 +25,6 @@ pub use path::Path;
 pub use sort_spec::{SortPart, SortSpec};
 pub use sorting::sort_key;
 pub use walk::fold_whole;
+
+#[cfg(test)]
+mod tests;

@@ -1,4 +1,4 @@
-use Rattle.std.proofs.Common.{◌≡◌, ◌∙◌, sym, rules}
+use Rattle.std.proofs.Common.{◌∙◌, sym, rules}
 use Rattle.std.specs.List.{list_any}
 use Rattle.dv_path.specs.Candidates.{whole, leaves, with_elements}
 use Rattle.dv_path.proofs.Asked.{any-flat_map}

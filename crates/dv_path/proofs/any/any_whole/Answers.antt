@@ -1,5 +1,5 @@
 use Rattle.dv_path.proofs.Asked.{stopped-where}
-use Rattle.std.proofs.Common.{◌≡◌, ◌∙◌, rules}
+use Rattle.std.proofs.Common.{◌∙◌, rules}
 use Rattle.dv_path.specs.Candidates.{whole}
 use Rattle.dv_path.proofs.any.any_whole.Goals as goal
 

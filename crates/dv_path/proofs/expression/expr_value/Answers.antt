@@ -1,5 +1,4 @@
-use Rattle.std.proofs.Common.{◌≡◌, ◌∙◌, ap, sym}
-use Rattle.dv_path.specs.Expression.{expr}
+use Rattle.std.proofs.Common.{◌∙◌, sym}
 use Rattle.dv_path.proofs.Asked.{positive, expr-first}
 use Rattle.dv_path.proofs.expression.expr_value.Goals as goal
 

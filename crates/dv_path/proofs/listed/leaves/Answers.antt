@@ -1,4 +1,4 @@
-use Rattle.std.proofs.Common.{◌≡◌, ◌∙◌, map, ap, sym, take, take_all}
+use Rattle.std.proofs.Common.{◌≡◌, ◌∙◌, map, ap, take, take_all}
 use Rattle.std.specs.List.{flat_map}
 use Rattle.dv_path.specs.Candidates.{leaves, with_elements}
 use Rattle.dv_path.specs.View.{seen}

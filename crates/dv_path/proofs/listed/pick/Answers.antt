@@ -1,4 +1,4 @@
-use Rattle.std.proofs.Common.{◌≡◌, ◌∙◌, ◌++◌, ◌∷◌, ◌≤◌, [], Some, length, map, ap, sym, append-nil}
+use Rattle.std.proofs.Common.{◌∙◌, ◌++◌, ◌∷◌, ◌≤◌, [], length, map, ap, sym, append-nil}
 use Rattle.std.proofs.lemmas.List.{length-map, map-append}
 use Rattle.dv_bson.specs.View.{tree}
 use Rattle.dv_path.specs.Candidates.{picked, found}

@@ -1,4 +1,4 @@
-use Rattle.std.proofs.Common.{◌≡◌, ◌∙◌, ◌++◌, ◌∷◌, [], map, ap, sym, append_assoc}
+use Rattle.std.proofs.Common.{◌∙◌, ◌++◌, ◌∷◌, [], map, ap, sym}
 use Rattle.std.proofs.lemmas.List.{map-append}
 use Rattle.dv_path.specs.View.{seen}
 use Rattle.dv_path.proofs.Asked.{step-document, step-array, grown}

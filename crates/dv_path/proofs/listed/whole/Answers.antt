@@ -1,4 +1,4 @@
-use Rattle.std.proofs.Common.{◌≡◌, ◌∙◌, ◌++◌, ◌∷◌, [], map, drop, ap, sym, arith, ◌+◌}
+use Rattle.std.proofs.Common.{◌≡◌, ◌∙◌, ◌++◌, ◌∷◌, [], map, drop, ap, sym, ◌+◌}
 use Rattle.std.specs.List.{flat_map}
 use Rattle.dv_bson.specs.Names.{value_under}
 use Rattle.dv_path.specs.Candidates.{candidates, step, whole}

@@ -1,4 +1,4 @@
-use Rattle.std.proofs.Common.{◌≡◌, ◌==◌, false, sym, ◌∙◌, inr, refl, lit<}
+use Rattle.std.proofs.Common.{◌≡◌, ◌==◌, sym, inr, refl, lit<}
 use Rattle.std.specs.List.{slice_split}
 use Rattle.std.specs.Str.Iter.{split_steps}
 use Rattle.std.specs.Str.Pattern.{FindsChar}

@@ -1,4 +1,4 @@
-use Rattle.std.proofs.Common.{◌≡◌, ◌∙◌, ◌&&◌, ◌||◌, ◌==◌, ◌<◌, ℕ, sym, ap, arith, tests, true, false, Bool, List, [], length, take, get_or, ◌⊎◌, inl, inr, ◌+◌, refl}
+use Rattle.std.proofs.Common.{◌≡◌, ◌∙◌, ◌&&◌, ◌||◌, ◌==◌, ℕ, sym, arith, tests, true, false, Bool, take, ◌+◌, refl}
 use Rattle.std.proofs.Math.Bool.{and-false}
 use Rattle.dv_path.specs.declared.places.Places.{Places}
 use Rattle.dv_path.specs.Places.{has, passes_at}

@@ -1,4 +1,4 @@
-use Rattle.std.proofs.Common.{◌≡◌, ◌∙◌, ◌||◌, ap}
+use Rattle.std.proofs.Common.{◌∙◌, ◌||◌, ap}
 use Rattle.dv_path.specs.Places.{has}
 use Rattle.dv_path.proofs.Bits.{joined, moved}
 use Rattle.dv_path.proofs.places.Places.with_behind.Goals as goal
