@@ -1,0 +1,6 @@
+pub mod Fault
+pub mod Filter
+pub mod FilterCode
+pub mod Match
+pub mod View
+pub mod ViewFalls

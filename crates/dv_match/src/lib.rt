@@ -1,0 +1,10 @@
+//! Filters of BSON documents.
+#![tactic(auto)]
+
+mod fault;
+mod form;
+mod range;
+
+pub use fault::FilterFault;
+pub use form::{Condition, Conditions, Filter, Filters, Member, Test};
+pub use range::Range;
