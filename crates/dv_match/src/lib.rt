@@ -3,6 +3,9 @@
 
 mod fault;
 mod form;
+mod leaf;
+mod matching;
+mod place;
 mod range;
 
 pub use fault::FilterFault;
