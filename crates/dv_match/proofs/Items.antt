@@ -58,13 +58,13 @@ module _ {X Y : Type 0} (p : Y → Bool) (view : X → Y) (xs : List X) (ys : Li
   pub all-over : length xs ≤ i → list_all (λ x. p (view x)) (take i xs) ≡ true → list_all p ys ≡ true
   all-over end h = seen-all ∙ ap (list_all (λ x. p (view x))) (sym (take_all i xs end)) ∙ h
 
-pub elements-again : (vs : List Tree) → list_of_elements (elements_of vs) ≡ vs
-elements-again [] = refl
-elements-again (v ∷ vs) = ap (λ ws. v ∷ ws) (elements-again vs)
+pub elements_again : (vs : List Tree) → list_of_elements (elements_of vs) ≡ vs
+elements_again [] = refl
+elements_again (v ∷ vs) = ap (λ ws. v ∷ ws) (elements_again vs)
 
-pub fields-again : (fs : List Field) → list_of_fields (fields_of fs) ≡ fs
-fields-again [] = refl
-fields-again (f ∷ fs) = ap (λ gs. f ∷ gs) (fields-again fs)
+pub fields_again : (fs : List Field) → list_of_fields (fields_of fs) ≡ fs
+fields_again [] = refl
+fields_again (f ∷ fs) = ap (λ gs. f ∷ gs) (fields_again fs)
 
 pub length-seen : (vs : List Value) → length (map tree vs) ≡ length vs
 length-seen [] = refl

@@ -1,3 +1,5 @@
 pub mod Items
 pub mod Loops
 pub mod Arrays
+pub mod First
+pub mod Collected

@@ -9,7 +9,7 @@ use Rattle.dv_match.specs.declared.form.Test as tests
 use Rattle.dv_match.specs.declared.form.Test.TheVariants as kinds
 use Rattle.dv_bson.specs.declared.value.Value.{Value}
 use Rattle.dv_bson.specs.View.{tree}
-use Rattle.dv_match.proofs.Items.{fields-again}
+use Rattle.dv_match.proofs.Items.{fields_again}
 use Rattle.dv_match.specs.Filter.{member_weight, members_weight, filters_weight, condition_weight, conditions_weight, Members, members_of, filters_of, conditions_of}
 use Rattle.dv_match.specs.Match.{matches, matches_member, matches_all, matches_any, meets, meets_all, passes}
 use Rattle.dv_match.specs.View.{member, condition, test}
@@ -51,4 +51,4 @@ condition-weighs (d ∷ cs) (suc i) c within is = omega (arith, condition-weighs
 
 pub passes-document : (t : tests.Test) (ms : Members) (v : Value) (d : List Field) → t ≡ kinds.Matches ms → v ≡ Value.Doc d → passes (test t) (tree v) ≡ matches ms d
 unfolding passes
-passes-document t ms v d e f = ap (λ x. passes (test x) (tree v)) e ∙ ap (λ x. passes (test (kinds.Matches ms)) (tree x)) f ∙ ap (matches ms) (fields-again d)
+passes-document t ms v d e f = ap (λ x. passes (test x) (tree v)) e ∙ ap (λ x. passes (test (kinds.Matches ms)) (tree x)) f ∙ ap (matches ms) (fields_again d)

@@ -3,5 +3,7 @@ pub mod Fault
 pub mod Filter
 pub mod FilterCode
 pub mod Match
+pub mod Parsing
+pub mod PathFault
 pub mod View
 pub mod ViewFalls

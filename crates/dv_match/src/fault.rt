@@ -3,6 +3,7 @@
 ghost use Rattle.std.specs.Prelude.{◌≡◌};
 ghost use Rattle.dv_match.specs.declared.fault.FilterFault.TheVariants.{NoMemory};
 
+use dv_path::PathFault;
 use std::alloc::{AllocError, AllocFailed};
 use std::error::Error;
 use std::fmt;
@@ -71,5 +72,18 @@ impl<T: Drop> From<AllocFailed<T>> for FilterFault {
 
     fn from(_e: AllocFailed<T>) -> FilterFault {
         FilterFault::NoMemory
+    }
+}
+
+impl From<PathFault> for FilterFault {
+    ghost use Rattle.dv_match.specs.PathFault.{of_path};
+
+    ghost from_gives = { λ fault e. e ≡ of_path fault };
+
+    fn from(fault: PathFault) -> FilterFault {
+        match fault {
+            PathFault::NoMemory => FilterFault::NoMemory,
+            _ => FilterFault::BadPath,
+        }
     }
 }

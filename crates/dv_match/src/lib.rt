@@ -5,6 +5,9 @@ mod fault;
 mod form;
 mod leaf;
 mod matching;
+mod operand;
+mod operator;
+mod parsing;
 mod place;
 mod range;
 
