@@ -3,3 +3,4 @@ pub mod Loops
 pub mod Arrays
 pub mod First
 pub mod Collected
+pub mod Few

@@ -143,6 +143,57 @@ impl Model for Conditions {
     ghost size_decreases = { λ c h. omega (arith, conditions_fall c.conditions.items) };
 }
 
+impl Member {
+    /// A copy of its own. Fails where memory is wanting.
+    #[cycle(copying)]
+    pub fn try_clone(&self) -> Result<Self, NoMemory>
+        ensures { IfOk result (λ copy. copy ≡ self.now) }
+    {
+        match self {
+            Member::And(filters) => Ok(Member::And(filters.try_clone()?)),
+            Member::Or(filters) => Ok(Member::Or(filters.try_clone()?)),
+            Member::Nor(filters) => Ok(Member::Nor(filters.try_clone()?)),
+            Member::At(path, conditions) => {
+                Ok(Member::At(path.try_clone()?, conditions.try_clone()?))
+            }
+        }
+    }
+}
+
+impl Condition {
+    /// A copy of its own. Fails where memory is wanting.
+    #[cycle(copying)]
+    pub fn try_clone(&self) -> Result<Self, NoMemory>
+        ensures { IfOk result (λ copy. copy ≡ self.now) }
+    {
+        match self {
+            Condition::Eq(value) => Ok(Condition::Eq(value.try_clone()?)),
+            Condition::Ne(value) => Ok(Condition::Ne(value.try_clone()?)),
+            Condition::Bound(range, value) => Ok(Condition::Bound(*range, value.try_clone()?)),
+            Condition::In(values) => Ok(Condition::In(values.try_clone()?)),
+            Condition::Nin(values) => Ok(Condition::Nin(values.try_clone()?)),
+            Condition::Not(conditions) => Ok(Condition::Not(conditions.try_clone()?)),
+            Condition::All(values) => Ok(Condition::All(values.try_clone()?)),
+            Condition::Exists(wanted) => Ok(Condition::Exists(*wanted)),
+            Condition::Size(size) => Ok(Condition::Size(*size)),
+            Condition::ElemMatch(test) => Ok(Condition::ElemMatch(test.try_clone()?)),
+        }
+    }
+}
+
+impl Test {
+    /// A copy of its own. Fails where memory is wanting.
+    #[cycle(copying)]
+    pub fn try_clone(&self) -> Result<Self, NoMemory>
+        ensures { IfOk result (λ copy. copy ≡ self.now) }
+    {
+        match self {
+            Test::Meets(conditions) => Ok(Test::Meets(conditions.try_clone()?)),
+            Test::Matches(filter) => Ok(Test::Matches(filter.try_clone()?)),
+        }
+    }
+}
+
 impl Filter {
     /// The filter of these members. Takes no memory.
     pub fn of(members: Vec<Member>) -> Self
@@ -156,6 +207,18 @@ impl Filter {
         ensures { members_of (map member result.now) ≡ self.now }
     {
         self.members.as_slice()
+    }
+
+    /// A copy of its own. Fails where memory is wanting.
+    #[cycle(copying)]
+    pub fn try_clone(&self) -> Result<Self, NoMemory>
+        ensures { IfOk result (λ copy. copy ≡ self.now) }
+    {
+        let mut members = Vec::with_capacity(*self.members.allocator(), self.members.len())?;
+        for member in &self.members {
+            members.push(member.try_clone()?)?;
+        }
+        Ok(Filter { members })
     }
 }
 
@@ -173,6 +236,18 @@ impl Filters {
     {
         self.filters.as_slice()
     }
+
+    /// A copy of its own. Fails where memory is wanting.
+    #[cycle(copying)]
+    pub fn try_clone(&self) -> Result<Self, NoMemory>
+        ensures { IfOk result (λ copy. copy ≡ self.now) }
+    {
+        let mut filters = Vec::with_capacity(*self.filters.allocator(), self.filters.len())?;
+        for filter in &self.filters {
+            filters.push(filter.try_clone()?)?;
+        }
+        Ok(Filters { filters })
+    }
 }
 
 impl Conditions {
@@ -188,5 +263,17 @@ impl Conditions {
         ensures { conditions_of (map condition result.now) ≡ self.now }
     {
         self.conditions.as_slice()
+    }
+
+    /// A copy of its own. Fails where memory is wanting.
+    #[cycle(copying)]
+    pub fn try_clone(&self) -> Result<Self, NoMemory>
+        ensures { IfOk result (λ copy. copy ≡ self.now) }
+    {
+        let mut conditions = Vec::with_capacity(*self.conditions.allocator(), self.conditions.len())?;
+        for condition in &self.conditions {
+            conditions.push(condition.try_clone()?)?;
+        }
+        Ok(Conditions { conditions })
     }
 }
