@@ -270,7 +270,10 @@ impl Conditions {
     pub fn try_clone(&self) -> Result<Self, NoMemory>
         ensures { IfOk result (λ copy. copy ≡ self.now) }
     {
-        let mut conditions = Vec::with_capacity(*self.conditions.allocator(), self.conditions.len())?;
+        let mut conditions = Vec::with_capacity(
+            *self.conditions.allocator(),
+            self.conditions.len(),
+        )?;
         for condition in &self.conditions {
             conditions.push(condition.try_clone()?)?;
         }

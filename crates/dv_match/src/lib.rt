@@ -15,3 +15,6 @@ mod range;
 pub use fault::FilterFault;
 pub use form::{Condition, Conditions, Filter, Filters, Member, Test};
 pub use range::Range;
+
+#[cfg(test)]
+mod tests;

@@ -10,8 +10,8 @@ ghost use Rattle.dv_match.specs.View.{member, condition, test};
 
 use crate::form::{Condition, Conditions, Filter, Filters, Member, Test};
 use crate::leaf::{has_size, is_among, is_equal, is_found, is_in_range};
-use crate::range::Range;
 use crate::place::{Place, any_candidate, any_part};
+use crate::range::Range;
 use dv_bson::{Document, List, Value};
 use dv_path::Candidate;
 
@@ -102,9 +102,12 @@ impl Condition {
             Condition::All(values) => has_every(place, values),
             Condition::Exists(wanted) => has_any(place) == *wanted,
             Condition::Size(size) => has_sized(place, *size),
-            Condition::ElemMatch(wanted) => any_candidate(place, |candidate: Candidate<'_>| -> bool
-                ensures { result ≡ list_any (defined.passes (test wanted.entry.now)) (defined.elements_in (seen candidate.entry)) }
-            { wanted.passes_in(candidate) }),
+            Condition::ElemMatch(wanted) => any_candidate(
+                place,
+                |candidate: Candidate<'_>| -> bool
+                    ensures { result ≡ list_any (defined.passes (test wanted.entry.now)) (defined.elements_in (seen candidate.entry)) }
+                { wanted.passes_in(candidate) },
+            ),
         }
     }
 }

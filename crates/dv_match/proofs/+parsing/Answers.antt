@@ -79,7 +79,7 @@ parsing::each_filter-returns t c =
     filters-end c.as_slice-value-items.result.now c.args.list.now c.as_slice-value-items.ensures c.filters.value-index c.filters.filters.items c.filters.invariant c.filters-test.false ∙ ap Ok (sym c.of.ensures)
 
 pub parsing::filters_of-returns : goal.parsing::filters_of-returns
-parsing::filters_of-returns t c = 
+parsing::filters_of-returns t c =
     rw (filters-some c.args.value.now c.as_slice.result.now c.in-Array.list c.in-Array.is c.as_slice.ensures c.if-is_empty.ensures) c.each_filter.ensures
 
 pub parsing::each_filter-returns-in_err-filter_of : goal.parsing::each_filter-returns-in_err-filter_of
