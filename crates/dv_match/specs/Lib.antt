@@ -1,4 +1,5 @@
 pub mod Asked
+pub mod Examples
 pub mod Fault
 pub mod Filter
 pub mod FilterCode

@@ -1,10 +1,12 @@
 //! What holds of filters and of the documents that match them, each the contract of a function that does nothing.
 
-ghost use Rattle.std.specs.Prelude.{◌≡◌, not, true, false, List, [], ◌∷◌};
+ghost use Rattle.std.specs.Prelude.{◌≡◌, ◌&&◌, not, true, false, List, [], ◌∷◌, codes, Ok};
 ghost use Rattle.dv_bson.specs.Tree.{Tree, Field};
 ghost use Rattle.dv_path.specs.Candidates.{Candidate};
-ghost use Rattle.dv_match.specs.Filter.{Members, no_members, more_members, none_of, no_filters, more_filters, Conditions, equal, unequal, among, not_among, unmet};
-ghost use Rattle.dv_match.specs.Match.{matches, matches_member, meets, meets_all};
+ghost use Rattle.dv_match.specs.Examples.{answer, one, doc, list, int};
+ghost use Rattle.dv_match.specs.declared.range.Range.{Range};
+ghost use Rattle.dv_match.specs.Filter.{Members, no_members, more_members, none_of, no_filters, more_filters, Conditions, equal, unequal, among, not_among, unmet, in_range, no_conditions, more_conditions};
+ghost use Rattle.dv_match.specs.Match.{is_in_range, matches, matches_member, meets, meets_all};
 
 /// `$ne`, `$nin` and `$not` are what they deny.
 #[tactic(auto, unfolding(crate::specs::Match::meets))]
@@ -31,4 +33,16 @@ pub fn nor_of_one()
 #[tactic(auto, unfolding(crate::specs::Match::matches))]
 pub fn no_member_matches_all()
     ensures { (d : List Field) → matches no_members d ≡ true }
+{}
+
+/// Where a path leads to one leaf alone, two bounds on it are an interval.
+#[tactic(auto, using(crate::proofs::Few::interval))]
+pub fn bounds_on_one_leaf()
+    ensures { (r s : Range) (v w : Tree) (wholes : List Candidate) (c : Candidate) → meets_all (more_conditions (in_range r v) (more_conditions (in_range s w) no_conditions)) wholes (c ∷ []) ≡ (is_in_range r v c && is_in_range s w c) }
+{}
+
+/// On an array they aren't: each bound may be met by another element.
+#[tactic(auto, using(crate::proofs::Few::bounds_apart))]
+pub fn bounds_on_an_array()
+    ensures { answer (one (codes "a") (doc ((codes "$gt", int 1) ∷ (codes "$lt", int 3) ∷ []))) (one (codes "a") (list (int 0 ∷ int 5 ∷ []))) ≡ Ok true }
 {}
