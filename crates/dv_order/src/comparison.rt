@@ -1,6 +1,6 @@
 //! The order of two values.
 
-ghost use Rattle.std.specs.Prelude.{◌≡◌};
+ghost use Rattle.std.specs.Prelude.{◌≡◌, ◌==◌};
 ghost use Rattle.dv_bson.specs.Tree.{binary, fields_of, elements_of};
 ghost use Rattle.dv_bson.specs.View.{tree};
 ghost use Rattle.dv_order.specs.Order.{class, field_order, fields_order, elements_order, order};
@@ -105,6 +105,14 @@ fn compare_lists(a: &List, b: &List) -> Ordering
         }
     }
     xs.len().cmp(&ys.len())
+}
+
+/// Whether the classes of the two types are one, as `compare` tells them apart: int32 and int64 are both numbers, and
+/// any other two types differ. Takes no memory.
+pub fn same_class(a: &Value, b: &Value) -> bool
+    ensures { result ≡ (class (tree a.now) == class (tree b.now)) }
+{
+    class_of(a) == class_of(b)
 }
 
 /// The place of the value's class among the classes of all BSON types, least first. No value has 1, which is left for

@@ -5,7 +5,7 @@ mod comparison;
 mod key;
 pub mod laws;
 
-pub use comparison::compare;
+pub use comparison::{compare, same_class};
 pub use key::{Key, key_of, replace_under_first};
 
 #[cfg(test)]

@@ -1,0 +1,21 @@
+-- A candidate that is an array.
+use Rattle.std.proofs.Common.{Bor, ◌≡◌, ◌∙◌, ap, Some, List, refl}
+use Rattle.dv_bson.specs.declared.value.Value.{Value}
+use Rattle.dv_bson.specs.Tree.{Tree, array, elements_of, document, list_of_fields, fields_of}
+use Rattle.dv_bson.specs.View.{tree}
+use Rattle.dv_path.specs.declared.candidate.Candidate as memory
+use Rattle.dv_path.specs.declared.candidate.Candidate.TheVariants.{Found}
+use Rattle.dv_path.specs.View.{seen}
+use Rattle.dv_match.specs.Match.{has_size, elements_in}
+use Rattle.dv_match.proofs.Items.{elements_again}
+use Rattle.std.specs.Prelude.{ℕ, length, ◌==◌}
+
+module _ (c : memory.Candidate) (value : Bor Value) (at : c ≡ Found value) (l : List Tree) (is : value.now ≡ Value.Array l) where
+  array-seen : seen c ≡ Some (array (elements_of l))
+  array-seen = ap seen at ∙ ap (λ v. Some (tree v)) is
+
+  pub array-elements : elements_in (seen c) ≡ l
+  array-elements = ap elements_in array-seen ∙ elements_again l
+
+  pub array-size : (n : ℕ) → has_size n (seen c) ≡ (length l == n)
+  array-size n = ap (has_size n) array-seen ∙ ap (λ vs. length vs == n) (elements_again l)

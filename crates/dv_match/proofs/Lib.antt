@@ -1,0 +1,6 @@
+pub mod Items
+pub mod Loops
+pub mod Arrays
+pub mod First
+pub mod Collected
+pub mod Few

@@ -1,0 +1,54 @@
+-- A filter's parts, one after the other.
+use Rattle.std.proofs.Common.{◌≡◌, ◌∙◌, ℕ, zero, suc, ◌+◌, ◌*◌, ◌<◌, ◌≤◌, get_or, length, arith, sym, List, [], ◌∷◌, map, refl, ap, ◌||◌, ◌&&◌}
+use Rattle.std.specs.List.{list_any, list_all}
+use Rattle.dv_bson.specs.Tree.{Field}
+use Rattle.dv_path.specs.Candidates.{Candidate}
+use Rattle.dv_match.specs.declared.form.Member as memory
+use Rattle.dv_match.specs.declared.form.Condition as conditions
+use Rattle.dv_match.specs.declared.form.Test as tests
+use Rattle.dv_match.specs.declared.form.Test.TheVariants as kinds
+use Rattle.dv_bson.specs.declared.value.Value.{Value}
+use Rattle.dv_bson.specs.View.{tree}
+use Rattle.dv_match.proofs.Items.{fields_again}
+use Rattle.dv_match.specs.Filter.{member_weight, members_weight, filters_weight, condition_weight, conditions_weight, Members, members_of, filters_of, conditions_of}
+use Rattle.dv_match.specs.Match.{matches, matches_member, matches_all, matches_any, meets, meets_all, passes}
+use Rattle.dv_match.specs.View.{member, condition, test}
+
+pub matches-each : (ms : List memory.Member) (d : List Field) → matches (members_of (map member ms)) d ≡ list_all (λ m. matches_member (member m) d) ms
+unfolding matches
+matches-each [] d = refl
+matches-each (m ∷ ms) d = ap (λ b. matches_member (member m) d && b) (matches-each ms d)
+
+pub all-each : (fs : List Members) (d : List Field) → matches_all (filters_of fs) d ≡ list_all (λ f. matches f d) fs
+unfolding matches_all
+all-each [] d = refl
+all-each (f ∷ fs) d = ap (λ b. matches f d && b) (all-each fs d)
+
+pub any-each : (fs : List Members) (d : List Field) → matches_any (filters_of fs) d ≡ list_any (λ f. matches f d) fs
+unfolding matches_any
+any-each [] d = refl
+any-each (f ∷ fs) d = ap (λ b. matches f d || b) (any-each fs d)
+
+pub meets-each : (cs : List conditions.Condition) (wholes parts : List Candidate) → meets_all (conditions_of (map condition cs)) wholes parts ≡ list_all (λ c. meets (condition c) wholes parts) cs
+unfolding meets_all
+meets-each [] wholes parts = refl
+meets-each (c ∷ cs) wholes parts = ap (λ b. meets (condition c) wholes parts && b) (meets-each cs wholes parts)
+
+pub member-weighs : (ms : List memory.Member) (i : ℕ) (m : memory.Member) → i < length ms → m ≡ get_or ms i m → member_weight (member m) ≤ members_weight (members_of (map member ms))
+member-weighs [] i m within is = absurd (omega arith)
+member-weighs (n ∷ ms) zero m within is = omega (arith, ap (λ x. member_weight (member x)) is)
+member-weighs (n ∷ ms) (suc i) m within is = omega (arith, member-weighs ms i m (omega arith) is)
+
+pub filter-weighs : (fs : List Members) (i : ℕ) (f : Members) → i < length fs → f ≡ get_or fs i f → members_weight f < filters_weight (filters_of fs)
+filter-weighs [] i f within is = absurd (omega arith)
+filter-weighs (g ∷ fs) zero f within is = omega (arith, ap members_weight is)
+filter-weighs (g ∷ fs) (suc i) f within is = omega (arith, filter-weighs fs i f (omega arith) is)
+
+pub condition-weighs : (cs : List conditions.Condition) (i : ℕ) (c : conditions.Condition) → i < length cs → c ≡ get_or cs i c → condition_weight (condition c) ≤ conditions_weight (conditions_of (map condition cs))
+condition-weighs [] i c within is = absurd (omega arith)
+condition-weighs (d ∷ cs) zero c within is = omega (arith, ap (λ x. condition_weight (condition x)) is)
+condition-weighs (d ∷ cs) (suc i) c within is = omega (arith, condition-weighs cs i c (omega arith) is)
+
+pub passes-document : (t : tests.Test) (ms : Members) (v : Value) (d : List Field) → t ≡ kinds.Matches ms → v ≡ Value.Doc d → passes (test t) (tree v) ≡ matches ms d
+unfolding passes
+passes-document t ms v d e f = ap (λ x. passes (test x) (tree v)) e ∙ ap (λ x. passes (test (kinds.Matches ms)) (tree x)) f ∙ ap (matches ms) (fields_again d)

@@ -1,0 +1,10 @@
+pub mod Asked
+pub mod Examples
+pub mod Fault
+pub mod Filter
+pub mod FilterCode
+pub mod Match
+pub mod Parsing
+pub mod PathFault
+pub mod View
+pub mod ViewFalls

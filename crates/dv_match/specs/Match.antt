@@ -1,0 +1,97 @@
+-- Which documents a filter matches (MongoDB manual, "Query and Projection Operators", "Query an Array"). That Missing counts as null
+-- under each comparison, and that MinKey and MaxKey are classes like others, are this server's own.
+use Rattle.std.specs.Prelude.{ℕ, ◌==◌, ◌&&◌, ◌||◌, not, Bool, true, false, List, [], ◌∷◌, length, Option, Some, None, is_some}
+use Rattle.std.specs.List.{list_any, list_all}
+use Rattle.std.specs.Ordering.{is_eq, is_gt, is_ge, is_lt, is_le}
+use Rattle.dv_bson.specs.Tree.{Tree, null, document, array, Field, list_of_fields, list_of_elements}
+use Rattle.dv_order.specs.Order.{class, order}
+use Rattle.dv_path.specs.Candidates.{Candidate, whole, leaves}
+use Rattle.dv_match.specs.declared.range.Range.{Range}
+use Rattle.dv_match.specs.declared.range.Range.TheVariants.{Above, AtLeast, Below, AtMost}
+use Rattle.dv_match.specs.Filter.{Member, all_of, any_of, none_of, at_path, Members, no_members, more_members, Filters, no_filters, more_filters, Condition, equal, unequal, in_range, among, not_among, unmet, contains, exists, sized, has_element, Conditions, no_conditions, more_conditions, Test, by_operators, by_filter}
+
+-- a candidate as a comparison sees it: Missing counts as null
+abbrev pub or_null : Candidate → Tree
+or_null None = null
+or_null (Some v) = v
+
+-- the candidate compares equal to the value
+abbrev pub is_equal : Tree → Candidate → Bool
+is_equal v c = is_eq (order (or_null c) v)
+
+-- a value stands so to the bound
+abbrev pub stands : Range → Tree → Tree → Bool
+stands Above bound v = is_gt (order v bound)
+stands AtLeast bound v = is_ge (order v bound)
+stands Below bound v = is_lt (order v bound)
+stands AtMost bound v = is_le (order v bound)
+
+-- the candidate is of the bound's class, and stands so to it
+abbrev pub is_in_range : Range → Tree → Candidate → Bool
+is_in_range r bound c = class (or_null c) == class bound && stands r bound (or_null c)
+
+-- the candidate compares equal to one of the values
+abbrev pub is_among : List Tree → Candidate → Bool
+is_among vs c = list_any (λ v. is_equal v c) vs
+
+-- there are values, and to each some candidate compares equal
+abbrev pub holds_every : List Tree → List Candidate → Bool
+holds_every vs cs = not (length vs == 0) && list_all (λ v. list_any (is_equal v) cs) vs
+
+-- the candidate is an array of so many elements
+abbrev pub has_size : ℕ → Candidate → Bool
+has_size n (Some (array vs)) = length (list_of_elements vs) == n
+has_size n c = false
+
+-- the elements of a candidate, where it is an array
+abbrev pub elements_in : Candidate → List Tree
+elements_in (Some (array vs)) = list_of_elements vs
+elements_in c = []
+
+-- a fact that is wanted, or whose opposite is
+abbrev pub agrees : Bool → Bool → Bool
+agrees true b = b
+agrees false b = not b
+
+unfoldable mutual
+  -- a document matches a filter where it matches all its members
+  pub matches : Members → List Field → Bool
+  matches no_members d = true
+  matches (more_members m ms) d = matches_member m d && matches ms d
+
+  pub matches_member : Member → List Field → Bool
+  matches_member (all_of fs) d = matches_all fs d
+  matches_member (any_of fs) d = matches_any fs d
+  matches_member (none_of fs) d = not (matches_any fs d)
+  matches_member (at_path path cs) d = meets_all cs (whole d path) (leaves d path)
+
+  pub matches_all : Filters → List Field → Bool
+  matches_all no_filters d = true
+  matches_all (more_filters f fs) d = matches f d && matches_all fs d
+
+  pub matches_any : Filters → List Field → Bool
+  matches_any no_filters d = false
+  matches_any (more_filters f fs) d = matches f d || matches_any fs d
+
+  -- what a path leads to meets all conditions: first its candidates, then these with the elements of arrays
+  pub meets_all : Conditions → List Candidate → List Candidate → Bool
+  meets_all no_conditions wholes parts = true
+  meets_all (more_conditions c cs) wholes parts = meets c wholes parts && meets_all cs wholes parts
+
+  pub meets : Condition → List Candidate → List Candidate → Bool
+  meets (equal v) wholes parts = list_any (is_equal v) parts
+  meets (unequal v) wholes parts = not (list_any (is_equal v) parts)
+  meets (in_range r v) wholes parts = list_any (is_in_range r v) parts
+  meets (among vs) wholes parts = list_any (is_among vs) parts
+  meets (not_among vs) wholes parts = not (list_any (is_among vs) parts)
+  meets (unmet cs) wholes parts = not (meets_all cs wholes parts)
+  meets (contains vs) wholes parts = holds_every vs parts
+  meets (exists b) wholes parts = agrees b (list_any is_some wholes)
+  meets (sized n) wholes parts = list_any (has_size n) wholes
+  meets (has_element test) wholes parts = list_any (λ c. list_any (passes test) (elements_in c)) wholes
+
+  -- an element meets operators by itself, and not by its items; a filter is for documents
+  pub passes : Test → Tree → Bool
+  passes (by_operators cs) v = meets_all cs (Some v ∷ []) (Some v ∷ [])
+  passes (by_filter ms) (document fs) = matches ms (list_of_fields fs)
+  passes (by_filter ms) v = false

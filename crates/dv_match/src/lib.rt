@@ -1,0 +1,20 @@
+//! Filters of BSON documents.
+#![tactic(auto)]
+
+mod fault;
+mod form;
+pub mod laws;
+mod leaf;
+mod matching;
+mod operand;
+mod operator;
+mod parsing;
+mod place;
+mod range;
+
+pub use fault::FilterFault;
+pub use form::{Condition, Conditions, Filter, Filters, Member, Test};
+pub use range::Range;
+
+#[cfg(test)]
+mod tests;

@@ -1,0 +1,43 @@
+//! Where conditions are asked.
+
+ghost use Rattle.std.specs.Prelude.{◌≡◌, Bool};
+ghost use Rattle.std.specs.List.{list_any};
+ghost use Rattle.dv_path.specs.Candidates as candidates;
+ghost use Rattle.dv_path.specs.Fold.{Answers};
+ghost use Rattle.dv_path.specs.View.{seen};
+ghost use Rattle.dv_match.specs.Asked.{wholes, parts};
+
+use dv_bson::{Document, Value};
+use dv_path::{Candidate, Path, any_leaf, any_whole};
+
+/// What conditions are asked of.
+#[derive(Clone, Copy)]
+pub(crate) enum Place<'a> {
+    /// What the path leads to in the document.
+    Path(&'a Document, &'a Path),
+    /// An element by itself.
+    Element(&'a Value),
+}
+
+/// Whether one of the place's candidates passes.
+pub(crate) fn any_candidate<F: Fn(Candidate<'_>) -> bool>(place: Place<'_>, passes: F) -> bool
+    requires { F.IsAlwaysCallable passes }
+    ensures { (test : candidates.Candidate → Bool) → Answers seen (λ x b. F.post passes x b) test → result ≡ list_any test (wholes place.entry) }
+{
+    match place {
+        Place::Path(document, path) => any_whole(document, path, passes),
+        Place::Element(element) => passes(Candidate::Found(element)),
+    }
+}
+
+/// Whether one of the place's leaves passes: a candidate of the path, or an element of one that is an array; or the
+/// element by itself.
+pub(crate) fn any_part<F: Fn(Candidate<'_>) -> bool>(place: Place<'_>, passes: F) -> bool
+    requires { F.IsAlwaysCallable passes }
+    ensures { (test : candidates.Candidate → Bool) → Answers seen (λ x b. F.post passes x b) test → result ≡ list_any test (parts place.entry) }
+{
+    match place {
+        Place::Path(document, path) => any_leaf(document, path, passes),
+        Place::Element(element) => passes(Candidate::Found(element)),
+    }
+}

@@ -1,0 +1,14 @@
+//! How a range operator compares.
+
+/// How a value stands to a bound, within the bound's class.
+#[derive(Clone, Copy, Debug, PartialEq, Eq)]
+pub enum Range {
+    /// `$gt`.
+    Above,
+    /// `$gte`.
+    AtLeast,
+    /// `$lt`.
+    Below,
+    /// `$lte`.
+    AtMost,
+}

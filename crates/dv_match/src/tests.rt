@@ -1,0 +1,135 @@
+use super::*;
+use dv_bson::{Document, List, Value};
+use std::alloc::Global;
+use std::process::Abort;
+use std::test::*;
+
+/// A value as the tables write it: a document by its names and their values.
+enum Sample {
+    Int(i32),
+    Null,
+    Doc(&'static [&'static str], &'static [Sample]),
+    Array(&'static [Sample]),
+}
+
+use Sample::{Array, Doc, Int, Null};
+
+fn value_of(alloc: Global, sample: &Sample) -> Result<Value, Fail> {
+    Ok(match sample {
+        Int(number) => Value::Int32(*number),
+        Null => Value::Null,
+        Doc(names, samples) => {
+            let mut document = Document::new(alloc);
+            for (name, sample) in names.iter().zip(*samples) {
+                let pushed = document.push(name, value_of(alloc, sample)?);
+                pushed.ok().ok_or("each name stands once")?;
+            }
+            Value::Doc(document)
+        }
+        Array(samples) => {
+            let mut values = Vec::new(alloc);
+            for sample in *samples {
+                values.push(value_of(alloc, sample)?)?;
+            }
+            Value::Array(List::of(values))
+        }
+    })
+}
+
+/// A filter by its one name and the value under it, and which of the documents match, or why it is no filter.
+struct Row(&'static str, Sample, Result<&'static [bool], FilterFault>);
+
+const NESTED: [Sample; 3] = [
+    Doc(
+        &["a"],
+        &[Array(&[Doc(&["b"], &[Int(1)]), Doc(&["b"], &[Int(2)])])],
+    ),
+    Doc(&["a"], &[Doc(&["b"], &[Int(2)])]),
+    Doc(&["a"], &[Array(&[Int(5)])]),
+];
+
+const NESTED_ROWS: [Row; 10] = [
+    Row("a.b", Int(2), Ok(&[true, true, false])),
+    Row("a.0.b", Int(1), Ok(&[true, false, false])),
+    Row("a.b", Null, Ok(&[false, false, false])),
+    Row("a.b", Doc(&["$ne"], &[Int(2)]), Ok(&[false, false, true])),
+    Row(
+        "a",
+        Doc(&["$elemMatch"], &[Doc(&["b"], &[Doc(&["$gt"], &[Int(1)])])]),
+        Ok(&[true, false, false]),
+    ),
+    Row(
+        "a",
+        Doc(&["$elemMatch"], &[Doc(&["$gt"], &[Int(4)])]),
+        Ok(&[false, false, true]),
+    ),
+    Row("a", Doc(&["$size"], &[Int(1)]), Ok(&[false, false, true])),
+    Row(
+        "a",
+        Doc(&["$all"], &[Array(&[])]),
+        Ok(&[false, false, false]),
+    ),
+    Row("$and", Array(&[]), Err(FilterFault::EmptyList)),
+    Row(
+        "a",
+        Doc(&["$gt", "b"], &[Int(1), Int(2)]),
+        Err(FilterFault::UnknownOperator),
+    ),
+];
+
+const SPARSE: [Sample; 4] = [
+    Doc(&[], &[]),
+    Doc(&["a"], &[Null]),
+    Doc(&["a"], &[Array(&[])]),
+    Doc(&["a"], &[Array(&[Null])]),
+];
+
+const SPARSE_ROWS: [Row; 1] = [Row("a", Null, Ok(&[true, true, false, true]))];
+
+const RANGED: [Sample; 3] = [
+    Doc(&["a"], &[Array(&[Int(0), Int(5)])]),
+    Doc(&["a"], &[Int(4)]),
+    Doc(&["a"], &[Int(1)]),
+];
+
+const RANGED_ROWS: [Row; 1] = [Row(
+    "a",
+    Doc(&["$gt", "$lt"], &[Int(1), Int(3)]),
+    Ok(&[true, false, false]),
+)];
+
+fn is_matched(alloc: Global, filter: &Filter, sample: &Sample) -> Result<bool, Fail> {
+    match value_of(alloc, sample)? {
+        Value::Doc(document) => Ok(filter.matches(&document)),
+        _ => Err("a document".into()),
+    }
+}
+
+fn check(rt: &impl Abort, alloc: Global, rows: &[Row], documents: &[Sample]) -> Result<(), Fail> {
+    for (i, Row(name, sample, expected)) in rows.iter().enumerate() {
+        let mut document = Document::new(alloc);
+        let pushed = document.push(name, value_of(alloc, sample)?);
+        pushed.ok().ok_or("a name")?;
+        match (Filter::parse(alloc, &document), expected) {
+            (Ok(filter), Ok(matched)) => {
+                let copy = filter.try_clone()?;
+                for (j, (sample, wanted)) in documents.iter().zip(*matched).enumerate() {
+                    let is_matched = is_matched(alloc, &copy, sample)?;
+                    assert_eq!(rt; is_matched, *wanted, "row {i}, document {j}");
+                }
+            }
+            (Err(fault), Err(wanted)) => {
+                assert_eq!(rt; fault.number(), wanted.number(), "row {i}");
+            }
+            _ => assert!(rt; false, "row {i}"),
+        }
+    }
+    Ok(())
+}
+
+#[test]
+fn filters_match_as_the_manual_says(rt: HostRuntime) -> Result<(), Fail> {
+    check(&rt, rt.alloc(), &NESTED_ROWS, &NESTED)?;
+    check(&rt, rt.alloc(), &SPARSE_ROWS, &SPARSE)?;
+    check(&rt, rt.alloc(), &RANGED_ROWS, &RANGED)
+}
