@@ -1,7 +1,7 @@
 -- A candidate that is an array.
-use Rattle.std.proofs.Common.{Bor, ◌≡◌, ◌∙◌, ap, Some, List, refl}
+use Rattle.std.proofs.Common.{Bor, ◌≡◌, ◌∙◌, ap, Some, List}
 use Rattle.dv_bson.specs.declared.value.Value.{Value}
-use Rattle.dv_bson.specs.Tree.{Tree, array, elements_of, document, list_of_fields, fields_of}
+use Rattle.dv_bson.specs.Tree.{Tree, array, elements_of}
 use Rattle.dv_bson.specs.View.{tree}
 use Rattle.dv_path.specs.declared.candidate.Candidate as memory
 use Rattle.dv_path.specs.declared.candidate.Candidate.TheVariants.{Found}

@@ -1,5 +1,5 @@
 -- The first name of a document.
-use Rattle.std.proofs.Common.{◌≡◌, ◌∙◌, ap, sym, List, [], ◌∷◌, ℕ, Some, None, slice_get, false, ◌&&◌, not, refl}
+use Rattle.std.proofs.Common.{◌≡◌, ap, sym, List, [], ◌∷◌, ℕ, Some, None, slice_get, false, ◌&&◌, not, refl}
 use Rattle.dv_bson.specs.Tree.{Tree, Field, fields_of}
 use Rattle.dv_match.specs.Parsing.{begins_with_dollar, takes_filters, lists_operators, lists_conditions}
 

@@ -1,5 +1,5 @@
 -- A filter's parts, one after the other.
-use Rattle.std.proofs.Common.{◌≡◌, ◌∙◌, ℕ, zero, suc, ◌+◌, ◌*◌, ◌<◌, ◌≤◌, get_or, length, arith, sym, List, [], ◌∷◌, map, refl, ap, ◌||◌, ◌&&◌}
+use Rattle.std.proofs.Common.{◌≡◌, ◌∙◌, ℕ, zero, suc, ◌<◌, ◌≤◌, get_or, length, arith, List, [], ◌∷◌, map, refl, ap, ◌||◌, ◌&&◌}
 use Rattle.std.specs.List.{list_any, list_all}
 use Rattle.dv_bson.specs.Tree.{Field}
 use Rattle.dv_path.specs.Candidates.{Candidate}

@@ -1,5 +1,5 @@
 -- Worked examples: what a filter answers of a document, both as they are written.
-use Rattle.std.specs.Prelude.{ℕ, pos, Bool, List, [], ◌∷◌, codes, Result, Ok}
+use Rattle.std.specs.Prelude.{ℕ, pos, Bool, List, [], ◌∷◌, Result, Ok}
 use Rattle.dv_bson.specs.Tree.{Tree, int32, document, array, Field, fields_of, elements_of}
 use Rattle.dv_match.specs.declared.fault.FilterFault.{FilterFault}
 use Rattle.dv_match.specs.Match.{matches}

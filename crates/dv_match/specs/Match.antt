@@ -1,6 +1,6 @@
 -- Which documents a filter matches (MongoDB manual, "Query and Projection Operators", "Query an Array"). That Missing counts as null
 -- under each comparison, and that MinKey and MaxKey are classes like others, are this server's own.
-use Rattle.std.specs.Prelude.{ℕ, ◌==◌, ◌&&◌, ◌||◌, not, Bool, true, false, List, [], ◌∷◌, length, Option, Some, None, is_some}
+use Rattle.std.specs.Prelude.{ℕ, ◌==◌, ◌&&◌, ◌||◌, not, Bool, true, false, List, [], ◌∷◌, length, Some, None, is_some}
 use Rattle.std.specs.List.{list_any, list_all}
 use Rattle.std.specs.Ordering.{is_eq, is_gt, is_ge, is_lt, is_le}
 use Rattle.dv_bson.specs.Tree.{Tree, null, document, array, Field, list_of_fields, list_of_elements}

@@ -1,7 +1,9 @@
 //! What holds of filters and of the documents that match them, each the contract of a function that does nothing.
 
-ghost use Rattle.std.specs.Prelude.{◌≡◌, ◌&&◌, not, true, false, List, [], ◌∷◌, codes, Ok};
-ghost use Rattle.dv_bson.specs.Tree.{Tree, Field};
+ghost use Rattle.std.specs.Prelude.{◌≡◌, ◌&&◌, not, true, false, List, [], ◌∷◌, codes, Ok, Err};
+ghost use Rattle.dv_bson.specs.Tree.{Tree, Field, fields_of, null};
+ghost use Rattle.dv_match.specs.declared.fault.FilterFault.TheVariants.{EmptyList, UnknownOperator};
+ghost use Rattle.dv_match.specs.Parsing.{filter_in};
 ghost use Rattle.dv_path.specs.Candidates.{Candidate};
 ghost use Rattle.dv_match.specs.Examples.{answer, one, doc, list, int};
 ghost use Rattle.dv_match.specs.declared.range.Range.{Range};
@@ -45,4 +47,44 @@ pub fn bounds_on_one_leaf()
 #[tactic(auto, using(crate::proofs::Few::bounds_apart))]
 pub fn bounds_on_an_array()
     ensures { answer (one (codes "a") (doc ((codes "$gt", int 1) ∷ (codes "$lt", int 3) ∷ []))) (one (codes "a") (list (int 0 ∷ int 5 ∷ []))) ≡ Ok true }
+{}
+
+/// Filters over three documents: an array of documents, a document, and an array of a number.
+#[tactic(auto, unfolding(crate::specs::Parsing::filter_in, crate::specs::Parsing::filters_in, crate::specs::Parsing::each_filter, crate::specs::Parsing::filter_of, crate::specs::Parsing::conditions_in, crate::specs::Parsing::operators_in, crate::specs::Parsing::negated_in, crate::specs::Parsing::test_in, crate::specs::Parsing::member_named, crate::specs::Parsing::operator_named, crate::specs::Match::matches, crate::specs::Match::matches_member, crate::specs::Match::meets_all, crate::specs::Match::meets, crate::specs::Match::passes, dv_path::specs::Path::path_of, dv_path::specs::Path::index_of, dv_path::specs::Candidates::whole, dv_path::specs::Candidates::leaves))]
+pub fn worked_examples()
+    ensures some_element_first { answer (one (codes "a.b") (int 2)) (one (codes "a") (list ((doc ((codes "b", int 1) ∷ [])) ∷ (doc ((codes "b", int 2) ∷ [])) ∷ []))) ≡ Ok true }
+    ensures some_element_second { answer (one (codes "a.b") (int 2)) (one (codes "a") (doc ((codes "b", int 2) ∷ []))) ≡ Ok true }
+    ensures some_element_third { answer (one (codes "a.b") (int 2)) (one (codes "a") (list (int 5 ∷ []))) ≡ Ok false }
+    ensures an_element_by_its_place_first { answer (one (codes "a.0.b") (int 1)) (one (codes "a") (list ((doc ((codes "b", int 1) ∷ [])) ∷ (doc ((codes "b", int 2) ∷ [])) ∷ []))) ≡ Ok true }
+    ensures an_element_by_its_place_second { answer (one (codes "a.0.b") (int 1)) (one (codes "a") (doc ((codes "b", int 2) ∷ []))) ≡ Ok false }
+    ensures an_element_by_its_place_third { answer (one (codes "a.0.b") (int 1)) (one (codes "a") (list (int 5 ∷ []))) ≡ Ok false }
+    ensures nothing_in_an_array_is_not_missing_first { answer (one (codes "a.b") null) (one (codes "a") (list ((doc ((codes "b", int 1) ∷ [])) ∷ (doc ((codes "b", int 2) ∷ [])) ∷ []))) ≡ Ok false }
+    ensures nothing_in_an_array_is_not_missing_second { answer (one (codes "a.b") null) (one (codes "a") (doc ((codes "b", int 2) ∷ []))) ≡ Ok false }
+    ensures nothing_in_an_array_is_not_missing_third { answer (one (codes "a.b") null) (one (codes "a") (list (int 5 ∷ []))) ≡ Ok false }
+    ensures no_element_first { answer (one (codes "a.b") (doc ((codes "$ne", int 2) ∷ []))) (one (codes "a") (list ((doc ((codes "b", int 1) ∷ [])) ∷ (doc ((codes "b", int 2) ∷ [])) ∷ []))) ≡ Ok false }
+    ensures no_element_second { answer (one (codes "a.b") (doc ((codes "$ne", int 2) ∷ []))) (one (codes "a") (doc ((codes "b", int 2) ∷ []))) ≡ Ok false }
+    ensures no_element_third { answer (one (codes "a.b") (doc ((codes "$ne", int 2) ∷ []))) (one (codes "a") (list (int 5 ∷ []))) ≡ Ok true }
+    ensures an_element_that_matches_first { answer (one (codes "a") (doc ((codes "$elemMatch", (doc ((codes "b", (doc ((codes "$gt", int 1) ∷ []))) ∷ []))) ∷ []))) (one (codes "a") (list ((doc ((codes "b", int 1) ∷ [])) ∷ (doc ((codes "b", int 2) ∷ [])) ∷ []))) ≡ Ok true }
+    ensures an_element_that_matches_second { answer (one (codes "a") (doc ((codes "$elemMatch", (doc ((codes "b", (doc ((codes "$gt", int 1) ∷ []))) ∷ []))) ∷ []))) (one (codes "a") (doc ((codes "b", int 2) ∷ []))) ≡ Ok false }
+    ensures an_element_that_matches_third { answer (one (codes "a") (doc ((codes "$elemMatch", (doc ((codes "b", (doc ((codes "$gt", int 1) ∷ []))) ∷ []))) ∷ []))) (one (codes "a") (list (int 5 ∷ []))) ≡ Ok false }
+    ensures an_element_that_meets_first { answer (one (codes "a") (doc ((codes "$elemMatch", (doc ((codes "$gt", int 4) ∷ []))) ∷ []))) (one (codes "a") (list ((doc ((codes "b", int 1) ∷ [])) ∷ (doc ((codes "b", int 2) ∷ [])) ∷ []))) ≡ Ok false }
+    ensures an_element_that_meets_second { answer (one (codes "a") (doc ((codes "$elemMatch", (doc ((codes "$gt", int 4) ∷ []))) ∷ []))) (one (codes "a") (doc ((codes "b", int 2) ∷ []))) ≡ Ok false }
+    ensures an_element_that_meets_third { answer (one (codes "a") (doc ((codes "$elemMatch", (doc ((codes "$gt", int 4) ∷ []))) ∷ []))) (one (codes "a") (list (int 5 ∷ []))) ≡ Ok true }
+    ensures size_first { answer (one (codes "a") (doc ((codes "$size", int 1) ∷ []))) (one (codes "a") (list ((doc ((codes "b", int 1) ∷ [])) ∷ (doc ((codes "b", int 2) ∷ [])) ∷ []))) ≡ Ok false }
+    ensures size_second { answer (one (codes "a") (doc ((codes "$size", int 1) ∷ []))) (one (codes "a") (doc ((codes "b", int 2) ∷ []))) ≡ Ok false }
+    ensures size_third { answer (one (codes "a") (doc ((codes "$size", int 1) ∷ []))) (one (codes "a") (list (int 5 ∷ []))) ≡ Ok true }
+    ensures all_of_none_first { answer (one (codes "a") (doc ((codes "$all", list []) ∷ []))) (one (codes "a") (list ((doc ((codes "b", int 1) ∷ [])) ∷ (doc ((codes "b", int 2) ∷ [])) ∷ []))) ≡ Ok false }
+    ensures all_of_none_second { answer (one (codes "a") (doc ((codes "$all", list []) ∷ []))) (one (codes "a") (doc ((codes "b", int 2) ∷ []))) ≡ Ok false }
+    ensures all_of_none_third { answer (one (codes "a") (doc ((codes "$all", list []) ∷ []))) (one (codes "a") (list (int 5 ∷ []))) ≡ Ok false }
+    ensures and_of_none { filter_in (fields_of (one (codes "$and") (list []))) ≡ Err EmptyList }
+    ensures another_name_among_operators { filter_in (fields_of (one (codes "a") (doc ((codes "$gt", int 1) ∷ (codes "b", int 2) ∷ [])))) ≡ Err UnknownOperator }
+{}
+
+/// A missing field counts as null, an empty array doesn't.
+#[tactic(auto, unfolding(crate::specs::Parsing::filter_in, crate::specs::Parsing::filters_in, crate::specs::Parsing::each_filter, crate::specs::Parsing::filter_of, crate::specs::Parsing::conditions_in, crate::specs::Parsing::operators_in, crate::specs::Parsing::negated_in, crate::specs::Parsing::test_in, crate::specs::Parsing::member_named, crate::specs::Parsing::operator_named, crate::specs::Match::matches, crate::specs::Match::matches_member, crate::specs::Match::meets_all, crate::specs::Match::meets, crate::specs::Match::passes, dv_path::specs::Path::path_of, dv_path::specs::Path::index_of, dv_path::specs::Candidates::whole, dv_path::specs::Candidates::leaves))]
+pub fn null_examples()
+    ensures missing { answer (one (codes "a") null) [] ≡ Ok true }
+    ensures null_itself { answer (one (codes "a") null) (one (codes "a") null) ≡ Ok true }
+    ensures an_empty_array { answer (one (codes "a") null) (one (codes "a") (list [])) ≡ Ok false }
+    ensures an_array_of_null { answer (one (codes "a") null) (one (codes "a") (list (null ∷ []))) ≡ Ok true }
 {}

@@ -1,9 +1,7 @@
 use Rattle.std.proofs.Common.{◌≡◌, ◌∙◌, ap, sym, arith, slice_get, map, Ok, Err, None, rules}
-use Rattle.dv_bson.specs.Tree.{Field, fields_weight, elements_weight, elements_of, array}
+use Rattle.dv_bson.specs.Tree.{Field}
 use Rattle.dv_bson.specs.View.{tree}
 use Rattle.dv_bson.specs.Weight.{field_weighs_less, value_weighs_less}
-use Rattle.dv_match.specs.Filter.{members_of, conditions_of}
-use Rattle.dv_match.specs.Parsing.{filters_in, each_filter}
 use Rattle.dv_match.specs.View.{member, condition}
 use Rattle.dv_match.proofs.Collected.{member_of_field, condition_of_field, filter_of_value, kept, within-some, filter-fault, filter-end, operators-fault, operators-end, filters-fault, filters-end, none-of, gives-fault, filters-some}
 use Rattle.dv_match.proofs.+parsing.Goals as goal

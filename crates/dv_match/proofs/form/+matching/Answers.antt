@@ -1,4 +1,4 @@
-use Rattle.std.proofs.Common.{◌≡◌, ◌∙◌, ap, sym, arith}
+use Rattle.std.proofs.Common.{◌∙◌, ap, sym, arith}
 use Rattle.std.specs.List.{list_any, list_all}
 use Rattle.dv_bson.specs.View.{tree}
 use Rattle.dv_match.specs.Asked.{wholes, parts}
@@ -6,7 +6,7 @@ use Rattle.dv_match.specs.Filter.{members_weight, filters_weight, conditions_wei
 use Rattle.dv_match.specs.Match.{matches, matches_all, matches_any, matches_member, meets, meets_all, passes}
 use Rattle.dv_match.specs.View.{member, condition, test}
 use Rattle.dv_match.proofs.Arrays.{array-elements}
-use Rattle.dv_match.proofs.Items.{any-here, any-nowhere, all-but-here, all-over, any-at, all-at, whole-list}
+use Rattle.dv_match.proofs.Items.{any-here, any-nowhere, any-at, all-at, whole-list}
 use Rattle.dv_match.proofs.Loops.{matches-each, all-each, any-each, meets-each, member-weighs, filter-weighs, condition-weighs, passes-document}
 use Rattle.dv_match.proofs.form.+matching.Goals as goal
 

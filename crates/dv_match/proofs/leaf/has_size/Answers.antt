@@ -1,5 +1,4 @@
-use Rattle.std.proofs.Common.{◌≡◌, ◌∙◌, ◌==◌, ap, sym, length, map}
-use Rattle.dv_bson.specs.View.{tree}
+use Rattle.std.proofs.Common.{◌≡◌, ◌∙◌, ◌==◌, ap, sym, length}
 use Rattle.dv_match.proofs.Items.{length-seen}
 use Rattle.dv_match.proofs.Arrays.{array-size}
 use Rattle.dv_match.proofs.leaf.has_size.Goals as goal

@@ -1,8 +1,8 @@
-use Rattle.std.proofs.Common.{◌≡◌, ◌∙◌, ◌&&◌, ◌==◌, not, ap, sym, true, false, map, length}
+use Rattle.std.proofs.Common.{◌≡◌, ◌∙◌, ◌&&◌, ◌==◌, not, ap, sym, true, length}
 use Rattle.std.specs.List.{list_any, list_all}
 use Rattle.dv_bson.specs.View.{tree}
 use Rattle.dv_match.specs.Asked.{parts}
-use Rattle.dv_match.specs.Match.{is_equal, holds_every}
+use Rattle.dv_match.specs.Match.{is_equal}
 use Rattle.dv_match.proofs.Items.{length-seen, all-but-here, all-over, and-false, and-true}
 use Rattle.dv_match.proofs.matching.has_every.Goals as goal
 
