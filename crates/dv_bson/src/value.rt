@@ -371,12 +371,14 @@ impl Document {
         Ok(before)
     }
 
-    /// Lets the names of the fields lie where those of the other document do, if these are the same, or more of them
-    /// follow there. Nothing that a caller sees changes but how much memory is taken. Fields that a copy shares stay
+    /// Lets the names of the fields lie where those of the other document do, if these are the same, or no more than as
+    /// many follow there. Nothing that a caller sees changes but how much memory is taken. Fields that a copy shares are
+    /// copied first, where no other document has their names; where others have them, or memory is wanting, they stay
     /// where they are.
     pub fn share_names(&mut self, with: &Document)
         ensures { self.new ≡ self.old }
     {
+        let alloc = self.alloc;
         let Some(shared) = &mut self.fields else {
             return;
         };
@@ -385,6 +387,14 @@ impl Document {
         };
         if let Some(own) = Rc::get_mut(shared) {
             own.share_names(others);
+            return;
+        }
+        if Rc::strong_count(&shared.names) == 1
+            && shared.names.begins_as(&others.names, shared.values.len())
+        {
+            if let Ok(copy) = shared.copy_beside(alloc, others) {
+                *shared = copy;
+            }
         }
     }
 
@@ -553,6 +563,15 @@ impl Fields {
         }
     }
 
+    /// A copy that shares the other's names, where they are the same. Fails where memory is wanting.
+    fn copy_beside(&self, alloc: Global, other: &Fields) -> Result<Rc<Fields>, NoMemory>
+        ensures { IfOk result (λ copy. copy.value ≡ self.now) }
+    {
+        let mut copy = self.try_clone()?;
+        copy.share_names(other);
+        Ok(Rc::new(alloc, copy)?)
+    }
+
     /// Gives back what room is left, where that can be done.
     fn trim(&mut self)
         ensures { self.new ≡ self.old }
@@ -560,6 +579,20 @@ impl Fields {
         self.values.shrink_to_fit();
         if let Some(names) = Rc::get_mut(&mut self.names) {
             names.trim();
+            return;
+        }
+        if self.names.len() / 2 > self.values.len() {
+            self.leave_names();
+        }
+    }
+
+    /// Keeps names of its own, so that those of a longer document can go with it; if memory is wanting, all stays.
+    fn leave_names(&mut self)
+        ensures { self.new ≡ self.old }
+    {
+        let alloc = *self.values.allocator();
+        if let Ok(names) = own_names(alloc, &self.names, self.values.len()) {
+            self.names = names;
         }
     }
 
@@ -574,6 +607,14 @@ impl Fields {
         let names = self.names.clone()?;
         Ok(Fields { names, values })
     }
+}
+
+/// A copy of the first `count` names, to be shared. Fails where memory is wanting.
+fn own_names(alloc: Global, names: &Names, count: usize) -> Result<Rc<Names>, NoMemory>
+    requires { count ≤ length names.now }
+    ensures { IfOk result (λ own. own.value ≡ take count names.now) }
+{
+    Ok(Rc::new(alloc, names.front(count)?)?)
 }
 
 /// Puts the name behind the first `count`, if it doesn't stand there. Names that are shared are copied first.
