@@ -11,3 +11,4 @@ pub mod Expression
 pub mod Slots
 pub mod Placing
 pub mod Removing
+pub mod Ways
