@@ -10,3 +10,5 @@ pub mod Earliest
 pub mod Slotted
 pub mod Fielded
 pub mod Placed
+pub mod Exchanged
+pub mod Vectors

@@ -1,8 +1,8 @@
 -- What is put, and what is taken away, component by component.
-use Rattle.std.proofs.Common.{◌≡◌, ◌∙◌, ℕ, zero, suc, ◌+◌, ◌<◌, ◌≤◌, Bool, true, false, ◌||◌, nat_lt, nat_le, List, [], ◌∷◌, ◌++◌, length, Option, Some, None, slice_get, Result, Ok, Err, refl, ap, sym, subst, arith, append-nil, option_and_then, if◌then◌else◌}
+use Rattle.std.proofs.Common.{◌≡◌, ◌∙◌, ℕ, zero, suc, ◌+◌, ◌<◌, ◌≤◌, Bool, true, false, ◌||◌, nat_lt, nat_le, List, [], ◌∷◌, ◌++◌, length, get_or, drop, Option, Some, None, slice_get, Result, Ok, Err, refl, ap, sym, subst, arith, append-nil, option_and_then, if◌then◌else◌}
 use Rattle.std.specs.Option.{unwrap_or}
 use Rattle.std.specs.List.{flat_map}
-use Rattle.dv_bson.specs.Tree.{Tree, document, array, null, Field, fields_of, list_of_fields, Elements, elements_of, list_of_elements}
+use Rattle.dv_bson.specs.Tree.{Tree, document, array, null, Field, Fields, no_fields, field, fields_of, list_of_fields, Elements, no_elements, element, elements_of, list_of_elements}
 use Rattle.dv_bson.specs.Names.{value_under}
 use Rattle.dv_path.specs.declared.fault.PathFault.{PathFault}
 use Rattle.dv_path.specs.declared.fault.PathFault.TheVariants.{NotViable, IndexTooLarge}
@@ -139,5 +139,47 @@ pub within-put : (inner : Candidate → Result Tree PathFault) (place : ℕ) (vs
 within-put inner place vs within = ap (λ b. if b || nat_le place 100000 then result_map (λ v. with_element place v vs) (inner (slice_get vs place)) else Err IndexTooLarge) (lt-ltb place (length vs) within)
 
 -- where a value is, another can be put
-element-taken : (inner : Candidate → Result Tree PathFault) (place : ℕ) (vs : List Tree) (c : Candidate) (w : Tree) → slice_get vs place ≡ c → c ≡ Some w → (r : Result Tree PathFault) → inner (Some w) ≡ r → put_element inner (Some place) vs ≡ result_map (λ v. with_element place v vs) r
+pub element-taken : (inner : Candidate → Result Tree PathFault) (place : ℕ) (vs : List Tree) (c : Candidate) (w : Tree) → slice_get vs place ≡ c → c ≡ Some w → (r : Result Tree PathFault) → inner (Some w) ≡ r → put_element inner (Some place) vs ≡ result_map (λ v. with_element place v vs) r
 element-taken inner place vs c w at is r e = within-put inner place vs (there-within vs place w (at ∙ is)) ∙ ap (λ d. result_map (λ v. with_element place v vs) (inner d)) (at ∙ is) ∙ ap (result_map (λ v. with_element place v vs)) e
+
+fields-back : (fs : Fields) → fields_of (list_of_fields fs) ≡ fs
+fields-back no_fields = refl
+fields-back (field name v fs) = ap (field name v) (fields-back fs)
+
+elements-back : (vs : Elements) → elements_of (list_of_elements vs) ≡ vs
+elements-back no_elements = refl
+elements-back (element v vs) = ap (element v) (elements-back vs)
+
+kept-field : (left : Tree → Candidate) (name : List ℕ) (fs : List Field) (c : Candidate) → value_under name fs ≡ c → ((w : Tree) → c ≡ Some w → left w ≡ Some w) → remove_field left name fs ≡ fs
+kept-field left name fs None at keeps = ap (λ c. with_field name (option_and_then left c) fs) at ∙ field-missing name fs at
+kept-field left name fs (Some w) at keeps = ap (λ c. with_field name (option_and_then left c) fs) at ∙ ap (λ c. with_field name c fs) (keeps w refl) ∙ field-again name w fs at
+
+kept-at : (left : Tree → Candidate) (place : ℕ) (vs : List Tree) (c : Candidate) → slice_get vs place ≡ c → ((w : Tree) → c ≡ Some w → left w ≡ Some w) → changed_at place (λ v. unwrap_or (left v) null) vs ≡ vs
+kept-at left place vs None at keeps = changed-missing place (λ v. unwrap_or (left v) null) vs at
+kept-at left place vs (Some w) at keeps = changed-same place (λ v. unwrap_or (left v) null) vs w at (ap (λ c. unwrap_or c null) (keeps w refl))
+
+kept-element : (left : Tree → Candidate) (index : Option ℕ) (vs : List Tree) → ((w : Tree) → element_slot index vs ≡ taken w → left w ≡ Some w) → remove_element left index vs ≡ vs
+kept-element left None vs keeps = refl
+kept-element left (Some place) vs keeps = kept-at left place vs (slice_get vs place) refl (λ w at. keeps w (ap slot_of at))
+
+kept-behind : (names : List (List ℕ)) (t : Tree) → ((w : Tree) → slot_behind names (taken t) ≡ taken w → ⊥) → left_behind names t ≡ Some t
+kept-behind [] t none = absurd (none t refl)
+kept-behind (name ∷ names) (document fs) none = ap (λ gs. Some (document (fields_of gs))) (kept-field (left_behind names) name (list_of_fields fs) (value_under name (list_of_fields fs)) refl (λ w at. kept-behind names w (λ u there. none u (ap (λ c. slot_behind names (slot_of c)) at ∙ there)))) ∙ ap (λ gs. Some (document gs)) (fields-back fs)
+kept-behind (name ∷ names) (array vs) none = ap (λ ws. Some (array (elements_of ws))) (kept-element (left_behind names) (index_of name) (list_of_elements vs) (λ w at. kept-behind names w (λ u there. none u (ap (slot_behind names) at ∙ there)))) ∙ ap (λ ws. Some (array ws)) (elements-back vs)
+kept-behind (name ∷ names) t none = refl
+
+-- where nothing stands, nothing is taken away
+pub remove_nothing : (fields : List Field) (path : List (List ℕ)) → ((w : Tree) → slot fields path ≡ taken w → ⊥) → remove fields path ≡ fields
+unfolding remove slot
+remove_nothing fields [] none = refl
+remove_nothing fields (name ∷ names) none = kept-field (left_behind names) name fields (value_under name fields) refl (λ w at. kept-behind names w (λ u there. none u (ap (λ gs. slot_behind names (slot_of (value_under name gs))) (list_of_fields_of fields) ∙ ap (λ c. slot_behind names (slot_of c)) at ∙ there)))
+
+pub put-first : (names : List (List ℕ)) (fs : List Field) (name : List ℕ) (v : Tree) → 0 < length names → name ≡ get_or names 0 name → put_field (put_behind (drop 1 names) v) name fs ≡ put fs names v
+unfolding put
+put-first [] fs name v some is = absurd (omega arith)
+put-first (n ∷ names) fs name v some is = ap (λ m. put_field (put_behind names v) m fs) is
+
+pub remove-first : (names : List (List ℕ)) (fs : List Field) (name : List ℕ) → 0 < length names → name ≡ get_or names 0 name → remove_field (left_behind (drop 1 names)) name fs ≡ remove fs names
+unfolding remove
+remove-first [] fs name some is = absurd (omega arith)
+remove-first (n ∷ names) fs name some is = ap (λ m. remove_field (left_behind names) m fs) is
