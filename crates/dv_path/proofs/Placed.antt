@@ -1,11 +1,10 @@
 -- What is put, and what is taken away, component by component.
-use Rattle.std.proofs.Common.{◌≡◌, ◌∙◌, ℕ, zero, suc, ◌+◌, ◌<◌, ◌≤◌, Bool, true, false, ◌||◌, nat_lt, nat_le, List, [], ◌∷◌, ◌++◌, length, get_or, drop, Option, Some, None, slice_get, Result, Ok, Err, refl, ap, sym, subst, arith, append-nil, option_and_then, if◌then◌else◌}
+use Rattle.std.proofs.Common.{◌≡◌, ◌∙◌, ℕ, zero, suc, ◌<◌, Bool, true, false, ◌||◌, nat_lt, nat_le, List, [], ◌∷◌, ◌++◌, length, get_or, drop, Option, Some, None, slice_get, Result, Ok, Err, refl, ap, sym, subst, arith, append-nil, option_and_then, if◌then◌else◌}
 use Rattle.std.specs.Option.{unwrap_or}
-use Rattle.std.specs.List.{flat_map}
 use Rattle.dv_bson.specs.Tree.{Tree, document, array, null, Field, Fields, no_fields, field, fields_of, list_of_fields, Elements, no_elements, element, elements_of, list_of_elements}
 use Rattle.dv_bson.specs.Names.{value_under}
 use Rattle.dv_path.specs.declared.fault.PathFault.{PathFault}
-use Rattle.dv_path.specs.declared.fault.PathFault.TheVariants.{NotViable, IndexTooLarge}
+use Rattle.dv_path.specs.declared.fault.PathFault.TheVariants.{IndexTooLarge}
 use Rattle.std.proofs.lemmas.Bool.{lt-ltb}
 use Rattle.dv_path.specs.Candidates.{Candidate, candidates, whole}
 use Rattle.dv_path.specs.Expression.{expression, expr}

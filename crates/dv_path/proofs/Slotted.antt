@@ -3,7 +3,7 @@ use Rattle.std.proofs.Common.{◌≡◌, ◌∙◌, ℕ, suc, ◌+◌, ◌<◌, 
 use Rattle.std.proofs.Math.Seq.{drop-cons}
 use denote.Ref.{Bor}
 use Rattle.dv_bson.specs.declared.value.Value.{Value}
-use Rattle.dv_bson.specs.Tree.{Tree, document, Field, fields_of}
+use Rattle.dv_bson.specs.Tree.{Tree, Field}
 use Rattle.dv_bson.specs.Names.{value_under}
 use Rattle.dv_path.specs.Slots.{Slot, taken, slot_of, next_slot, slot_behind, slot}
 use Rattle.dv_path.specs.declared.slot.Slot as memory

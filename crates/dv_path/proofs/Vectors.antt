@@ -9,7 +9,7 @@ use Rattle.dv_path.specs.declared.fault.PathFault.{PathFault}
 use Rattle.dv_path.specs.declared.fault.PathFault.TheVariants.{IndexTooLarge, NoMemory}
 use Rattle.dv_path.specs.Candidates.{Candidate}
 use Rattle.dv_path.specs.Placing.{result_map, with_element, put_element, Gives}
-use Rattle.dv_path.specs.Removing.{changed_at, remove_element}
+use Rattle.dv_path.specs.Removing.{remove_element}
 use Rattle.dv_path.proofs.Asked.{none-past}
 use Rattle.dv_path.proofs.Fielded.{changed-missing}
 use Rattle.dv_path.proofs.Placed.{element-taken}

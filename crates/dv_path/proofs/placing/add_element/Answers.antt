@@ -1,4 +1,4 @@
-use Rattle.std.proofs.Common.{◌≡◌, ◌∙◌, ◌++◌, ◌∷◌, [], ◌<◌, ◌≤◌, length, ap, arith}
+use Rattle.std.proofs.Common.{◌∙◌, ◌++◌, ◌∷◌, [], ◌<◌, ◌≤◌, length, ap, arith}
 use Rattle.dv_path.proofs.Vectors.{null-pushed, element-pushed}
 use Rattle.dv_path.proofs.placing.add_element.Goals as goal
 

@@ -1,5 +1,4 @@
 use Rattle.std.proofs.Common.{◌≡◌, ◌∙◌, ap, sym}
-use Rattle.dv_bson.specs.Tree.{list_of_fields, list_of_elements}
 use Rattle.dv_bson.specs.Names.{value_under}
 use Rattle.dv_bson.specs.View.{tree}
 use Rattle.dv_path.specs.Path.{index_of}
