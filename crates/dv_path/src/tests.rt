@@ -1,8 +1,8 @@
 //! Paths in use.
 
 use crate::{
-    Candidate, Direction, Path, PathFault, SortSpec, any_leaf, any_whole, expr_value, leaves,
-    sort_key, whole,
+    Candidate, Direction, Path, PathFault, Slot, SortSpec, any_leaf, any_whole, expr_value, leaves,
+    put_at, remove_at, slot_at, sort_key, whole,
 };
 use dv_bson::{Document, List, Str, Value};
 use dv_order::{Key, key_of};
@@ -17,9 +17,10 @@ enum Sample<'a> {
     Text(&'a str),
     Doc(&'a [&'a str], &'a [Sample<'a>]),
     Array(&'a [Sample<'a>]),
+    Null,
 }
 
-use Sample::{Array, Doc, Int, Long, Text};
+use Sample::{Array, Doc, Int, Long, Null, Text};
 
 fn value_of(alloc: Global, sample: &Sample) -> Result<Value, Fail> {
     Ok(match sample {
@@ -42,6 +43,7 @@ fn value_of(alloc: Global, sample: &Sample) -> Result<Value, Fail> {
             }
             Value::Array(List::of(values))
         }
+        Null => Value::Null,
     })
 }
 
@@ -208,5 +210,81 @@ fn an_expression_never_picks(rt: HostRuntime) -> Result<(), Fail> {
     let none = key_of(&value_of(alloc, &Array(&[]))?)?;
     assert!(rt; expression_key(alloc, "a.0", Array(&elements))? == Some(none));
     assert!(rt; expression_key(alloc, "d.b", Array(&elements))?.is_none());
+    Ok(())
+}
+
+/// The key of `{_id: 1, x: sample}` with 1 put where the path leads, or the fault.
+fn put_one(alloc: Global, text: &str, sample: Sample) -> Result<Result<Key, PathFault>, Fail> {
+    let document = document_of(alloc, &["_id", "x"], &[Int(1), sample])?;
+    match put_at(alloc, document, &Path::parse(alloc, text)?, Value::Int32(1)) {
+        Ok(changed) => Ok(Ok(key_of(&Value::Doc(changed))?)),
+        Err(fault) => Ok(Err(fault)),
+    }
+}
+
+#[test]
+fn values_are_put_where_paths_lead(rt: HostRuntime) -> Result<(), Fail> {
+    let alloc = rt.alloc();
+    let mut document = document_of(alloc, &["_id"], &[Int(1)])?;
+    for (text, number) in [("b", 3), ("x.2", 2), ("x.10", 1)] {
+        let path = Path::parse(alloc, text)?;
+        document = put_at(alloc, document, &path, Value::Int32(number))?;
+    }
+    let inner = Doc(&["2", "10"], &[Int(2), Int(1)]);
+    let whole = value_of(alloc, &Doc(&["_id", "b", "x"], &[Int(1), Int(3), inner]))?;
+    assert!(rt; key_of(&Value::Doc(document))? == key_of(&whole)?);
+
+    let filled = Array(&[Int(0), Null, Null, Int(1)]);
+    let expected = key_of(&value_of(alloc, &Doc(&["_id", "x"], &[Int(1), filled]))?)?;
+    assert!(rt; put_one(alloc, "x.3", Array(&[Int(0)]))? == Ok(expected));
+    assert!(rt; put_one(alloc, "x.y", Array(&[]))? == Err(PathFault::NotViable));
+    assert!(rt; put_one(alloc, "x.y", Int(1))? == Err(PathFault::NotViable));
+    assert!(rt; put_one(alloc, "x.100000", Array(&[]))?.is_ok());
+    assert!(rt; put_one(alloc, "x.100001", Array(&[]))? == Err(PathFault::IndexTooLarge));
+    Ok(())
+}
+
+#[test]
+fn values_are_taken_away(rt: HostRuntime) -> Result<(), Fail> {
+    let alloc = rt.alloc();
+    let rows = [
+        ("a.1", Array(&[Int(1), Null, Long(2), Int(3)])),
+        ("a.4", Array(&[Int(1), Int(2), Long(2), Int(3)])),
+        ("a.b", Array(&[Int(1), Int(2), Long(2), Int(3)])),
+        ("a.0.b", Array(&[Int(1), Int(2), Long(2), Int(3)])),
+    ];
+    for (text, left) in rows {
+        let numbers = Array(&[Int(1), Int(2), Long(2), Int(3)]);
+        let document = document_of(alloc, &["_id", "a"], &[Int(1), numbers])?;
+        let document = remove_at(document, &Path::parse(alloc, text)?)?;
+        let expected = value_of(alloc, &Doc(&["_id", "a"], &[Int(1), left]))?;
+        assert!(rt;
+            key_of(&Value::Doc(document))? == key_of(&expected)?,
+            "{text}"
+        );
+    }
+    let document = document_of(alloc, &["_id", "a"], &[Int(1), Int(2)])?;
+    let document = remove_at(document, &Path::parse(alloc, "a")?)?;
+    assert_eq!(rt; document.len(), 1);
+    assert!(rt; document.get("_id").is_some());
+    Ok(())
+}
+
+#[test]
+fn slots_are_taken_free_or_blocked(rt: HostRuntime) -> Result<(), Fail> {
+    let alloc = rt.alloc();
+    let document = document_of(alloc, &["a", "b"], &[Array(&[Int(1)]), Int(2)])?;
+    for text in ["a", "a.0", "b"] {
+        let slot = slot_at(&document, &Path::parse(alloc, text)?);
+        assert!(rt; matches!(slot, Slot::Taken(_)), "{text}");
+    }
+    for text in ["c", "c.d", "a.1", "a.1.b"] {
+        let slot = slot_at(&document, &Path::parse(alloc, text)?);
+        assert!(rt; matches!(slot, Slot::Free), "{text}");
+    }
+    for text in ["a.b", "a.0.b", "b.0", "b.c.d"] {
+        let slot = slot_at(&document, &Path::parse(alloc, text)?);
+        assert!(rt; matches!(slot, Slot::Blocked), "{text}");
+    }
     Ok(())
 }
