@@ -48,11 +48,21 @@ const NESTED: [Sample; 3] = [
     Doc(&["a"], &[Array(&[Int(5)])]),
 ];
 
-const NESTED_ROWS: [Row; 10] = [
+const NESTED_ROWS: [Row; 12] = [
     Row("a.b", Int(2), Ok(&[true, true, false])),
     Row("a.0.b", Int(1), Ok(&[true, false, false])),
     Row("a.b", Null, Ok(&[false, false, false])),
     Row("a.b", Doc(&["$ne"], &[Int(2)]), Ok(&[false, false, true])),
+    Row(
+        "a.b",
+        Doc(&["$in"], &[Array(&[Int(7), Int(2), Int(3)])]),
+        Ok(&[true, true, false]),
+    ),
+    Row(
+        "a.b",
+        Doc(&["$nin"], &[Array(&[Int(2), Int(1)])]),
+        Ok(&[false, false, true]),
+    ),
     Row(
         "a",
         Doc(&["$elemMatch"], &[Doc(&["b"], &[Doc(&["$gt"], &[Int(1)])])]),
@@ -84,7 +94,14 @@ const SPARSE: [Sample; 4] = [
     Doc(&["a"], &[Array(&[Null])]),
 ];
 
-const SPARSE_ROWS: [Row; 1] = [Row("a", Null, Ok(&[true, true, false, true]))];
+const SPARSE_ROWS: [Row; 2] = [
+    Row("a", Null, Ok(&[true, true, false, true])),
+    Row(
+        "a",
+        Doc(&["$in"], &[Array(&[Int(3), Null])]),
+        Ok(&[true, true, false, true]),
+    ),
+];
 
 const RANGED: [Sample; 3] = [
     Doc(&["a"], &[Array(&[Int(0), Int(5)])]),
@@ -132,4 +149,17 @@ fn filters_match_as_the_manual_says(rt: HostRuntime) -> Result<(), Fail> {
     check(&rt, rt.alloc(), &NESTED_ROWS, &NESTED)?;
     check(&rt, rt.alloc(), &SPARSE_ROWS, &SPARSE)?;
     check(&rt, rt.alloc(), &RANGED_ROWS, &RANGED)
+}
+
+#[test]
+fn choices_keep_their_order(rt: HostRuntime) -> Result<(), Fail> {
+    let mut values = Vec::new(rt.alloc());
+    values.push(Value::Int32(3))?;
+    values.push(Value::Int32(1))?;
+    let choices = Choices::of(List::of(values))?.try_clone()?;
+    let first = choices.values().as_slice().first();
+    assert!(rt; matches!(first, Some(Value::Int32(3))));
+    assert!(rt; choices.contains(&Value::Int64(1)));
+    assert!(rt; !choices.contains(&Value::Int32(2)));
+    Ok(())
 }
