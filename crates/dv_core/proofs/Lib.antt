@@ -2,6 +2,7 @@ mod Lists
 mod Spellings
 pub mod Stored
 mod ByNamespace
+pub mod Scanned
 pub mod Statements
 mod Steps
 mod Changed

@@ -2,6 +2,7 @@ pub mod State
 pub mod Storable
 pub mod Changes
 pub mod Statements
+pub mod Scan
 pub mod Insert
 pub mod Find
 pub mod Step
@@ -12,3 +13,4 @@ pub mod StateCode
 pub mod View
 pub mod StepParts
 pub mod WriteParts
+pub mod WritesView

@@ -60,7 +60,7 @@ impl Collections {
     /// collection is made.
     pub(crate) fn insert(&mut self, namespace: &str, document: Document) -> Result<(), Refusal>
         requires { HasId document }
-        ensures { Makes namespace.now (put_new document) 1 self.old result self.new }
+        ensures { Makes (λ _. 1) namespace.now (put_new document) self.old result self.new }
     {
         match self.collections.get_mut(namespace) {
             Some(collection) => Ok(collection.insert(document)?),
@@ -73,7 +73,7 @@ impl Collections {
     fn insert_first(&mut self, namespace: &str, document: Document) -> Result<(), Refusal>
         requires identified { HasId document }
         requires fresh { finite.get self.old namespace.now ≡ None }
-        ensures { Makes namespace.now (put_new document) 1 self.old result self.new }
+        ensures { Makes (λ _. 1) namespace.now (put_new document) self.old result self.new }
     {
         let mut collection = Collection::new(self.alloc);
         collection.insert(document)?;

@@ -3,10 +3,10 @@
 use crate::answers::{outcome_of, ping, refuse};
 use crate::collections::Collections;
 use crate::find::batch_reply;
-use crate::insert::insert_all;
 use crate::outcome::Outcome;
+use crate::writes::{Kind, Terms, write_all};
 use dv_bson::Document;
-use dv_command::{Asked, Command, Find, Refusal, parse};
+use dv_command::{Asked, Command, Find, Insert, Refusal, parse};
 use std::alloc::Global;
 use std::marker::Model;
 
@@ -37,7 +37,10 @@ impl Store {
     ghost use Rattle.dv_command.specs.Replies as replies;
     ghost use Rattle.dv_core.specs.Find as finding;
     ghost use Rattle.dv_core.specs.State.{documents_of, empty_state};
+    ghost use Rattle.dv_command.specs.View.{insert_seen};
+    ghost use Rattle.dv_core.specs.Insert.{insert_write};
     ghost use Rattle.dv_core.specs.Step.{MemoryStep, TellsOfWant};
+    ghost use Rattle.dv_core.specs.WriteParts.{Writes};
 
     /// A store without any collection.
     pub fn new(alloc: Global) -> Self
@@ -59,10 +62,18 @@ impl Store {
     {
         match parse(self.alloc, command) {
             Ok(Asked::Ping) => outcome_of(self.alloc, ping(self.alloc)),
-            Ok(Asked::Insert(insert)) => insert_all(self.alloc, &mut self.collections, insert),
+            Ok(Asked::Insert(insert)) => self.write(Kind::Insert, insert),
             Ok(Asked::Find(find)) => outcome_of(self.alloc, self.find(find)),
             Err(refusal) => refuse(self.alloc, refusal),
         }
+    }
+
+    fn write(&mut self, kind: Kind, entries: Insert<'_>) -> Outcome
+        ensures { Writes (insert_write (insert_seen entries.entry)) self.old.namespaces result self.new.namespaces }
+    {
+        let Insert { namespace, documents, ordered } = entries;
+        let terms = Terms { kind, namespace, ordered };
+        write_all(self.alloc, &mut self.collections, &terms, documents)
     }
 
     fn find(&self, find: Find) -> Result<Document, Refusal>
