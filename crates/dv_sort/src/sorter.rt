@@ -1,0 +1,100 @@
+//! Sorting documents as they come.
+
+ghost use Rattle.std.specs.Prelude.{◌≡◌, IfOk, OnErr, OnOk, Some, map, take};
+ghost use Rattle.dv_path.specs.Parts.{part};
+ghost use Rattle.dv_sort.specs.Front.{no_rows, with_row};
+ghost use Rattle.dv_sort.specs.Keys.{AreKeyed, documents};
+ghost use Rattle.dv_sort.specs.Sorting.{stable};
+
+use crate::row::{Row, documents_of, row_keys, sort_rows};
+use dv_bson::{Document, NoMemory};
+use dv_path::{SortPart, SortSpec};
+use std::alloc::Global;
+use std::marker::Model;
+
+/// The first documents of all that came, in the order of a sort; documents that the sort doesn't tell apart keep their
+/// order.
+///
+/// Each document's keys are made once, and documents aren't copied. Where `most` are wanted, at most twice as many are
+/// kept, and a document costs a number of comparisons logarithmic in `most`; else all are kept, and sorted at the end.
+#[derive(Debug, Drop)]
+pub struct Sorter<'a> {
+    spec: &'a SortSpec,
+    most: Option<usize>,
+    rows: Vec<Row>,
+}
+
+impl<'a> Model for Sorter<'a> {
+    ghost use Rattle.dv_sort.specs.Front.{Front, front_of, coded_front};
+
+    ghost Value = { Front };
+
+    ghost coded = { coded_front };
+
+    ghost use Rattle.dv_sort.specs.Keys.{AreKeyed, documents};
+
+    ghost view = { λ s. front_of s.spec.now s.most (documents s.rows.items) };
+
+    ghost invariant = { λ s. AreKeyed s.spec.now s.rows.items };
+}
+
+impl<'a> Sorter<'a> {
+    /// A sorter to which no document came yet, and of which the first `most` are wanted, or all. Takes no memory; what it
+    /// takes later is allocated by `alloc`.
+    pub fn new(alloc: Global, spec: &'a SortSpec, most: Option<usize>) -> Self
+        ensures { result ≡ no_rows spec.now most }
+    {
+        Sorter {
+            spec,
+            most,
+            rows: Vec::new(alloc),
+        }
+    }
+
+    /// Takes a document, which comes behind all others. Fails where memory is wanting: then the document is dropped, and
+    /// nothing else is changed.
+    pub fn push(&mut self, document: Document) -> Result<(), NoMemory>
+        ensures ok { OnOk result (self.new ≡ with_row self.old document) }
+        ensures err { OnErr result (self.new ≡ self.old) }
+    {
+        let parts = self.spec.parts();
+        let keys = row_keys(*self.rows.allocator(), parts, &document)?;
+        if let Some(most) = self.most {
+            keep_front(&mut self.rows, parts, most)?;
+        }
+        self.rows.push(Row { keys, document })?;
+        Ok(())
+    }
+
+    /// The first documents of all that came, in order. Fails where memory is wanting.
+    pub fn into_rows(self) -> Result<Vec<Document>, NoMemory>
+        ensures { IfOk result (λ rows. rows.items ≡ self.rows) }
+    {
+        let Sorter {
+            spec,
+            most,
+            mut rows,
+        } = self;
+        sort_rows(&mut rows, spec.parts())?;
+        if let Some(most) = most {
+            rows.truncate(most);
+        }
+        documents_of(*rows.allocator(), rows)
+    }
+}
+
+/// Keeps the first `most` rows in order, where there are twice as many. Fails where memory is wanting, and then leaves the
+/// rows as they are.
+fn keep_front(rows: &mut Vec<Row>, parts: &[SortPart], most: usize) -> Result<(), NoMemory>
+    requires { AreKeyed (map part parts.now) rows.old.items }
+    ensures keyed { AreKeyed (map part parts.now) rows.new.items }
+    ensures same { take most (stable (map part parts.now) (documents rows.new.items)) ≡ take most (stable (map part parts.now) (documents rows.old.items)) }
+    ensures err { OnErr result (rows.new.items ≡ rows.old.items) }
+{
+    if rows.len() / 2 < most {
+        return Ok(());
+    }
+    sort_rows(rows, parts)?;
+    rows.truncate(most);
+    Ok(())
+}
