@@ -1,4 +1,4 @@
 mod Lists
 pub mod Checks
-mod Among
+pub mod Among
 pub mod Errors
