@@ -26,7 +26,7 @@ use Rattle.dv_core.proofs.Changed.{Did, outcome_may, MayWrite}
 
 -- of a property of the documents of a namespace, and changes that keep it
 module _ (P : List ℕ → List (List Field) → Type 0) (IsGood : Change → Type 0)
-  (keeps : (namespace : List ℕ) (documents : List (List Field)) (change : Change) → P namespace documents → IsGood change → P namespace (with_change documents change)) where
+    (keeps : (namespace : List ℕ) (documents : List (List Field)) (change : Change) → P namespace documents → IsGood change → P namespace (with_change documents change)) where
   abbrev pub Holds : Namespaces → Type 0
   Holds namespaces = (namespace : List ℕ) → P namespace (documents_of namespace namespaces)
 

@@ -4,6 +4,7 @@ pub mod Changes
 pub mod Statements
 pub mod Scan
 pub mod Insert
+pub mod Delete
 pub mod Find
 pub mod Step
 pub mod Sound
@@ -12,5 +13,6 @@ pub mod Examples
 pub mod StateCode
 pub mod View
 pub mod StepParts
+pub mod ScanParts
 pub mod WriteParts
 pub mod WritesView

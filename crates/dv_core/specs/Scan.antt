@@ -3,8 +3,10 @@
 use Rattle.std.specs.Prelude.{ℕ, zero, suc, List, take, drop}
 use Rattle.std.specs.List.{filter}
 use Rattle.dv_bson.specs.Tree.{Field}
+use Rattle.dv_path.specs.SortSpec.{Part}
 use Rattle.dv_match.specs.Filter.{Members}
 use Rattle.dv_match.specs.Match.{matches}
+use Rattle.dv_sort.specs.Sorting.{stable}
 
 -- the documents that match a filter
 abbrev pub matching : Members → List (List Field) → List (List Field)
@@ -15,3 +17,6 @@ abbrev pub limited : ℕ → List (List Field) → List (List Field)
 limited zero documents = documents
 limited (suc n) documents = take (suc n) documents
 
+-- those that match, sorted, without the first so many, and not more than so many
+abbrev pub scan : Members → List Part → ℕ → ℕ → List (List Field) → List (List Field)
+scan form sort skip limit documents = limited limit (drop skip (stable sort (matching form documents)))

@@ -12,7 +12,7 @@ use Rattle.dv_core.specs.declared.written.Written as declared
 use Rattle.dv_core.specs.declared.next.Next.{Next}
 use Rattle.dv_core.specs.declared.next.Next.TheVariants.{Due, Ended, Cut}
 use Rattle.dv_core.specs.State.{Namespaces, documents_of}
-use Rattle.dv_core.specs.Changes.{Change, apply}
+use Rattle.dv_core.specs.Changes.{Change, apply, with_changes}
 use Rattle.dv_core.specs.Statements.{Statement, Write, Written, carry_out, with_next, is_due, next_changes, cut, IsCut}
 
 -- what statements did, and what they left
@@ -57,6 +57,11 @@ abbrev pub Makes : {B : Type 0} → (B → ℕ) → List ℕ → Statement → N
 Makes matched namespace statement old (Ok x) new =
     (changes : List Change) × (statement (documents_of namespace old) ≡ Ok (record { matched = matched x; changes = changes })) × (new ≡ apply namespace changes old)
 Makes matched namespace statement old (Err refusal) new = ((statement (documents_of namespace old) ≡ Err refusal) ⊎ (refusal ≡ WantOfMemory)) × (new ≡ old)
+
+-- the same, on the documents of a collection
+abbrev pub Alters : Statement → List (List Field) → Result ℕ Refusal → List (List Field) → Type 0
+Alters statement old (Ok matched) new = (changes : List Change) × (statement old ≡ Ok (record { matched = matched; changes = changes })) × (new ≡ with_changes old changes)
+Alters statement old (Err refusal) new = ((statement old ≡ Err refusal) ⊎ (refusal ≡ WantOfMemory)) × (new ≡ old)
 
 module _ (namespace : List ℕ) (ordered : Bool) where
   -- the next statement is cut behind some of its changes

@@ -3,12 +3,34 @@
 ghost use Rattle.std.specs.Prelude.{◌≡◌, map, IfOk};
 ghost use Rattle.std.specs.List.{AllByRecursion};
 ghost use Rattle.dv_coll.specs.Collection.{HasId, id_key};
+ghost use Rattle.dv_command.specs.View.{deletion_seen};
 ghost use Rattle.dv_core.specs.Changes.{gone, with_changes};
+ghost use Rattle.dv_core.specs.Delete.{delete_chosen};
+ghost use Rattle.dv_core.specs.WriteParts.{Alters};
 
+use crate::scan::matching;
 use dv_bson::{Document, NoMemory};
 use dv_coll::Collection;
+use dv_command::{Deletion, Refusal};
 use dv_order::{Key, key_of};
 use std::alloc::Global;
+
+/// Takes out the documents that a deletion is for, and answers how many they are. Refused where memory is wanting; then
+/// nothing is changed.
+pub(crate) fn delete_in(
+    alloc: Global,
+    collection: &mut Collection,
+    deletion: &Deletion,
+) -> Result<usize, Refusal>
+    ensures { Alters (delete_chosen (deletion_seen deletion.now)) collection.old result collection.new }
+{
+    let limit = if deletion.only_first { 1 } else { 0 };
+    let documents = matching(alloc, collection, &deletion.filter, 0, limit)?;
+    // The keys are made first: behind them nothing takes memory.
+    let keys = keys_of(alloc, &documents)?;
+    remove_each(collection, &keys);
+    Ok(keys.len())
+}
 
 /// The keys of the documents' `_id`s. Fails where memory is wanting.
 fn keys_of(alloc: Global, documents: &[Document]) -> Result<Vec<Key>, NoMemory>

@@ -9,18 +9,19 @@ ghost use Rattle.dv_core.specs.WriteParts.{written_seen, outcome_of, Makes, Next
 ghost use Rattle.dv_core.specs.WritesView.{statement_of, write_seen};
 
 use crate::collections::Collections;
+use crate::next::Next;
 use crate::outcome::Outcome;
 use crate::storable::storable;
-use crate::next::Next;
 use crate::written::Written;
 use dv_bson::{Document, NoMemory};
-use dv_command::{Documents, Refusal};
+use dv_command::{Documents, Refusal, deletion_of};
 use std::alloc::Global;
 
 /// What a write does with its entries.
 #[derive(Clone, Copy, Debug, PartialEq, Eq)]
 pub(crate) enum Kind {
     Insert,
+    Delete,
 }
 
 /// A write but for its entries.
@@ -106,5 +107,6 @@ fn write_one(
             collections.insert(&terms.namespace, storable(alloc, entry)?)?;
             Ok(1)
         }
+        Kind::Delete => collections.delete(&terms.namespace, &deletion_of(alloc, entry)?),
     }
 }

@@ -69,6 +69,6 @@ impl Written {
         ensures { IfOk result (λ reply. reply ≡ reply_seen (written_seen self empty_state.namespaces)) }
     {
         let Written { n, errors, .. } = self;
-        write_reply(alloc, n as usize, errors)
+        write_reply(alloc, n, errors)
     }
 }
