@@ -1,4 +1,5 @@
 mod Lists
+mod Sounding
 pub mod Checks
 pub mod Among
 pub mod Errors
