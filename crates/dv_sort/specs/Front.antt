@@ -1,5 +1,5 @@
 -- The front of documents in the order of a sort, as documents come one by one.
-use Rattle.std.specs.Prelude.{◌≡◌, ℕ, Bool, true, false, List, [], ◌∷◌, Option, refl}
+use Rattle.std.specs.Prelude.{◌≡◌, ℕ, Bool, true, false, List, [], Option, refl}
 use Rattle.std.specs.Coded.{Coded, code_by, coded×, coded_list, coded_ℕ, coded_bool, coded_option}
 use Rattle.dv_bson.specs.Tree.{Field}
 use Rattle.dv_bson.specs.TreeCode.{coded_tree}

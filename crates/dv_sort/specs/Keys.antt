@@ -1,5 +1,5 @@
 -- Rows in memory, which keep the keys that they are sorted by.
-use Rattle.std.specs.Prelude.{◌≡◌, ℕ, Bool, List, [], ◌∷◌, length, map, All}
+use Rattle.std.specs.Prelude.{◌≡◌, Bool, List, ◌∷◌, length, map, All}
 use Rattle.std.specs.Ordering.{nat_cmp, is_lt, ordering_then}
 use Rattle.std.specs.declared.cmp.Ordering.{Ordering}
 use Rattle.dv_bson.specs.Tree.{Field}

@@ -8,6 +8,7 @@ ghost use Rattle.dv_sort.specs.Front.{with_row, front_of};
 ghost use Rattle.dv_sort.specs.Sorting.{stands_before, stable, front};
 
 /// Sorting loses no row and makes none.
+#[tactic(auto, using(crate::proofs::Told::permuted))]
 pub fn rows_are_the_same()
     ensures { (parts : List Part) (rows : List (List Field)) → IsPermutation rows (stable parts rows) }
 {}
@@ -25,16 +26,19 @@ pub fn order_is_all()
 {}
 
 /// Sorting twice is sorting once.
+#[tactic(auto, using(crate::proofs::Told::again))]
 pub fn sorting_again()
     ensures { (parts : List Part) (rows : List (List Field)) → stable parts (stable parts rows) ≡ stable parts rows }
 {}
 
 /// Without a path rows stay as they are.
+#[tactic(auto, using(crate::proofs::Told::no_path))]
 pub fn without_a_path()
     ensures { (rows : List (List Field)) → stable [] rows ≡ rows }
 {}
 
 /// The front of a front is that of the lesser number.
+#[tactic(auto, using(crate::proofs::Told::lesser_front))]
 pub fn front_of_a_front()
     ensures { (m n : ℕ) (rows : List (List Field)) → front (Some m) (front (Some n) rows) ≡ front (Some (min m n)) rows }
 {}

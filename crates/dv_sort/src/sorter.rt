@@ -1,14 +1,13 @@
 //! Sorting documents as they come.
 
-ghost use Rattle.std.specs.Prelude.{◌≡◌, IfOk, OnErr, OnOk, Some, map, take};
-ghost use Rattle.dv_path.specs.Parts.{part};
+ghost use Rattle.std.specs.Prelude.{◌≡◌, IfOk, OnErr, OnOk};
 ghost use Rattle.dv_sort.specs.Front.{no_rows, with_row};
 ghost use Rattle.dv_sort.specs.Keys.{AreKeyed, documents};
-ghost use Rattle.dv_sort.specs.Sorting.{stable};
+ghost use Rattle.dv_sort.specs.Sorting.{front, stable};
 
 use crate::row::{Row, documents_of, row_keys, sort_rows};
 use dv_bson::{Document, NoMemory};
-use dv_path::{SortPart, SortSpec};
+use dv_path::SortSpec;
 use std::alloc::Global;
 use std::marker::Model;
 
@@ -57,25 +56,22 @@ impl<'a> Sorter<'a> {
         ensures ok { OnOk result (self.new ≡ with_row self.old document) }
         ensures err { OnErr result (self.new ≡ self.old) }
     {
-        let parts = self.spec.parts();
-        let keys = row_keys(*self.rows.allocator(), parts, &document)?;
-        if let Some(most) = self.most {
-            keep_front(&mut self.rows, parts, most)?;
-        }
+        let keys = row_keys(*self.rows.allocator(), self.spec, &document)?;
+        keep_front(&mut self.rows, self.spec, self.most)?;
         self.rows.push(Row { keys, document })?;
         Ok(())
     }
 
     /// The first documents of all that came, in order. Fails where memory is wanting.
     pub fn into_rows(self) -> Result<Vec<Document>, NoMemory>
-        ensures { IfOk result (λ rows. rows.items ≡ self.rows) }
+        ensures { IfOk result (λ rows. rows.items ≡ self.entry.rows) }
     {
         let Sorter {
             spec,
             most,
             mut rows,
         } = self;
-        sort_rows(&mut rows, spec.parts())?;
+        sort_rows(&mut rows, spec)?;
         if let Some(most) = most {
             rows.truncate(most);
         }
@@ -85,16 +81,19 @@ impl<'a> Sorter<'a> {
 
 /// Keeps the first `most` rows in order, where there are twice as many. Fails where memory is wanting, and then leaves the
 /// rows as they are.
-fn keep_front(rows: &mut Vec<Row>, parts: &[SortPart], most: usize) -> Result<(), NoMemory>
-    requires { AreKeyed (map part parts.now) rows.old.items }
-    ensures keyed { AreKeyed (map part parts.now) rows.new.items }
-    ensures same { take most (stable (map part parts.now) (documents rows.new.items)) ≡ take most (stable (map part parts.now) (documents rows.old.items)) }
+fn keep_front(rows: &mut Vec<Row>, spec: &SortSpec, most: Option<usize>) -> Result<(), NoMemory>
+    requires { AreKeyed spec.now rows.old.items }
+    ensures keyed { AreKeyed spec.now rows.new.items }
+    ensures same { front most (stable spec.now (documents rows.new.items)) ≡ front most (stable spec.now (documents rows.old.items)) }
     ensures err { OnErr result (rows.new.items ≡ rows.old.items) }
 {
+    let Some(most) = most else {
+        return Ok(());
+    };
     if rows.len() / 2 < most {
         return Ok(());
     }
-    sort_rows(rows, parts)?;
+    sort_rows(rows, spec)?;
     rows.truncate(most);
     Ok(())
 }
