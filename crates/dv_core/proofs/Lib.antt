@@ -4,6 +4,8 @@ pub mod Stored
 mod ByNamespace
 pub mod Scanned
 pub mod Statements
+mod Deleted
+mod Plain
 mod Steps
 mod Changed
 mod Kept
@@ -11,5 +13,6 @@ mod Texts
 mod Valid
 mod Asking
 mod Ordered
+mod Parts
 mod Spelled
 mod Worked

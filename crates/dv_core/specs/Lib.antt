@@ -7,6 +7,7 @@ pub mod Insert
 pub mod Delete
 pub mod Find
 pub mod Step
+pub mod Part
 pub mod Sound
 pub mod Examples
 -- words that only bodies need

@@ -23,6 +23,7 @@ const BATCH_LIMIT: u32 = 16_777_216;
 
 /// The reply of a find that reads this collection, or none where the namespace isn't there. Refused with `TooLarge`
 /// where the documents are over 16,777,216 bytes together, and with `WantOfMemory`.
+#[tactic(auto, using(crate::proofs::Scanned::scan_none))]
 pub(crate) fn find_reply(
     alloc: Global,
     find: Find,

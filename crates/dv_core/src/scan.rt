@@ -35,7 +35,7 @@ pub(crate) fn scan(
         sort,
         most_of(find.skip, find.limit),
     )?;
-    window(alloc, rows, find.skip, find.limit)
+    Ok(window(rows, find.skip, find.limit))
 }
 
 /// The documents that match the filter, in the order of their `_id`s, without the first `skip` of them, and not more
@@ -99,21 +99,15 @@ fn sorted(
     sorter.into_rows()
 }
 
-/// The rows without the first `skip`, and not more than `limit`, where 0 stands for all. Fails where memory is wanting.
-fn window(
-    alloc: Global,
-    mut rows: Vec<Document>,
-    skip: u64,
-    limit: u64,
-) -> Result<Vec<Document>, NoMemory>
-    ensures { IfOk result (λ left. left.items ≡ scans.limited limit (drop skip rows.items)) }
+/// The rows without the first `skip`, and not more than `limit`, where 0 stands for all. Takes no memory.
+fn window(mut rows: Vec<Document>, skip: u64, limit: u64) -> Vec<Document>
+    ensures { result.items ≡ scans.limited limit (drop skip rows.items) }
 {
-    if skip as usize >= rows.len() {
-        return Ok(Vec::new(alloc));
-    }
-    let mut left = rows.split_off(skip as usize)?;
+    let skip = rows.len().min(skip as usize);
+    rows.rotate_left(skip);
+    rows.truncate(rows.len() - skip);
     if limit > 0 {
-        left.truncate(limit as usize);
+        rows.truncate(limit as usize);
     }
-    Ok(left)
+    rows
 }
