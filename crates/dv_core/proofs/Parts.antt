@@ -22,14 +22,14 @@ filter_whole : (ds : List (List Field)) → ds ≡ filter (λ d. true) ds
 filter_whole [] = refl
 filter_whole (d ∷ ds) = ap (λ (rest : List (List Field)). d ∷ rest) (filter_whole ds)
 
+filter_step : (p : List Field → Bool) (b c : Bool) (d : List Field) (xs ys : List (List Field)) → p d ≡ c → filter p xs ≡ ys → filter p (cond b (d ∷ xs) xs) ≡ cond (b && c) (d ∷ ys) ys
+filter_step p true true d xs ys test same = rw test (ap (λ (rest : List (List Field)). d ∷ rest) same)
+filter_step p true false d xs ys test same = rw test same
+filter_step p false c d xs ys test same = same
+
 filter_both : (p q : List Field → Bool) (ds : List (List Field)) → filter p (filter q ds) ≡ filter (λ d. q d && p d) ds
 filter_both p q [] = refl
-filter_both p q (d ∷ ds) = by_tests (q d) (p d) refl
-  where
-    by_tests : (b c : Bool) → p d ≡ c → filter p (cond b (d ∷ filter q ds) (filter q ds)) ≡ cond (b && c) (d ∷ filter (λ e. q e && p e) ds) (filter (λ e. q e && p e) ds)
-    by_tests true true test = rw test (ap (λ (rest : List (List Field)). d ∷ rest) (filter_both p q ds))
-    by_tests true false test = rw test (filter_both p q ds)
-    by_tests false c test = filter_both p q ds
+filter_both p q (d ∷ ds) = filter_step p (q d) (p d) d (filter q ds) (filter (λ e. q e && p e) ds) refl (filter_both p q ds)
 
 module _ (old : State) where
   abbrev LeftOf : List ℕ → List (List Field) → Type 0

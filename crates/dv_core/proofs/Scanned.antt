@@ -109,9 +109,12 @@ front_none None = refl
 front_none (Some zero) = refl
 front_none (Some (suc n)) = refl
 
-pub sorting_nothing : (form : Members) (parts : List Part) (most : Option ℕ) (all : List (List Field)) → IsSorting form parts most (no_rows parts most) all all
+sorting_nothing : (form : Members) (parts : List Part) (most : Option ℕ) (all : List (List Field)) → IsSorting form parts most (no_rows parts most) all all
 unfolding stable
 sorting_nothing form parts most all = record { came = []; holds = λ i. record { parts = parts; most = most; rows = sym (front_none most) i }; whole = refl }
+
+pub sorting_starts : (form : Members) (parts : List Part) (most : Option ℕ) (sorter : Front) (left all : List (List Field)) → sorter ≡ no_rows parts most → left ≡ all → IsSorting form parts most sorter left all
+sorting_starts form parts most sorter left all is same = rw (is, same) (sorting_nothing form parts most all)
 
 module _ (form : Members) (parts : List Part) (most : Option ℕ) (sorter : Front) (d : List Field) (left all : List (List Field)) (sorting : IsSorting form parts most sorter (d ∷ left) all) where
   here : (b : Bool) → matches form d ≡ b → sorting.came ++ cond b (d ∷ matching form left) (matching form left) ≡ matching form all

@@ -91,7 +91,7 @@ impl Collections {
         ensures { Makes (λ matched. matched) namespace.now (delete_chosen (deletion_seen deletion.now)) self.old result self.new }
     {
         match self.collections.get_mut(namespace) {
-            Some(collection) => Ok(delete_in(self.alloc, collection, deletion)?),
+            Some(collection) => delete_in(self.alloc, collection, deletion),
             None => Ok(0),
         }
     }
