@@ -5,25 +5,25 @@ use Rattle.dv_bson.specs.declared.value.Value.{Value}
 use Rattle.dv_bson.specs.declared.value.Value.TheVariants.{Doc}
 use Rattle.dv_bson.specs.Tree.{Field, elements_of, fields_of, list_of_fields}
 use Rattle.dv_bson.specs.View.{tree}
-use Rattle.dv_command.specs.Fields.{documents_in}
+use Rattle.dv_command.specs.Fields.{each_document}
 use Rattle.dv_command.specs.declared.refusal.Refusal.TheVariants.{TypeMismatch}
 use Rattle.dv_command.specs.DocumentsView.{is_document, AreDocuments, documents_seen}
 
-list_of_fields-fields_of : (fs : List Field) → list_of_fields (fields_of fs) ≡ fs
-list_of_fields-fields_of [] = refl
-list_of_fields-fields_of (f ∷ fs) = ap (λ (rest : List Field). f ∷ rest) (list_of_fields-fields_of fs)
+pub same_fields : (fs : List Field) → list_of_fields (fields_of fs) ≡ fs
+same_fields [] = refl
+same_fields (f ∷ fs) = ap (λ (rest : List Field). f ∷ rest) (same_fields fs)
 
 pub all_documents : (vs : List Value) → list_all is_document vs ≡ true → AreDocuments vs
 all_documents [] e = tt
 all_documents (Doc d ∷ vs) e = all_documents vs e
 all_documents (v ∷ vs) e = absurd cc
 
-pub documents_all : (vs : List Value) → AreDocuments vs → documents_in (elements_of (map tree vs)) ≡ Ok (documents_seen vs)
+pub documents_all : (vs : List Value) → AreDocuments vs → each_document (elements_of (map tree vs)) ≡ Ok (documents_seen vs)
 documents_all [] h = refl
-documents_all (Doc d ∷ vs) h = rw (documents_all vs h, list_of_fields-fields_of d) refl
+documents_all (Doc d ∷ vs) h = rw (documents_all vs h, same_fields d) refl
 documents_all (v ∷ vs) h = absurd h
 
-pub documents_not_all : (vs : List Value) → list_all is_document vs ≡ false → documents_in (elements_of (map tree vs)) ≡ Err TypeMismatch
+pub documents_not_all : (vs : List Value) → list_all is_document vs ≡ false → each_document (elements_of (map tree vs)) ≡ Err TypeMismatch
 documents_not_all [] e = absurd cc
 documents_not_all (Doc d ∷ vs) e = rw (documents_not_all vs e) refl
 documents_not_all (v ∷ vs) e = refl

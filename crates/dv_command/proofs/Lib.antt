@@ -1,4 +1,5 @@
 mod Lists
+mod Sounding
 pub mod Checks
-mod Among
+pub mod Among
 pub mod Errors

@@ -1,18 +1,19 @@
--- The fields of commands: which there may be, what their values have to be, and what is read out of them. Their names and types are the
--- MongoDB manual's ("insert", "find"); which of them are there yet and which are ignored are this server's own.
-use Rattle.std.specs.Prelude.{ℕ, ◌||◌, Bool, false, List, [], ◌∷◌, Option, Some, None, Result, Ok, Err, codes, if◌then◌else◌, ⊤}
+-- The fields of commands and of their entries: which there may be, what their values have to be, and what is read out of them. Their names
+-- and types are the MongoDB manual's ("insert", "delete", "find"); which of them are there yet and which are ignored are this server's own.
+use Rattle.std.specs.Prelude.{ℕ, ℤ, pos, negsuc, ◌||◌, Bool, true, false, List, [], ◌∷◌, Option, Some, None, Result, Ok, Err, codes, if◌then◌else◌, ⊤}
+use Rattle.std.specs.Ordering.{int_eq}
 use Rattle.std.specs.Str.{bytes_eq}
-use Rattle.dv_bson.specs.Tree.{Tree, string, document, array, boolean, no_fields, field, Elements, no_elements, element, Field, list_of_fields}
+use Rattle.dv_bson.specs.Tree.{Tree, int32, int64, string, document, array, boolean, no_fields, Elements, no_elements, element, Field, list_of_fields}
 use Rattle.dv_bson.specs.Names.{value_under}
-use Rattle.dv_command.specs.Kinds.{Kind}
+use Rattle.dv_command.specs.Kinds.{Kind, Place}
 use Rattle.dv_command.specs.Kinds as kinds
 use Rattle.dv_command.specs.declared.refusal.Refusal.{Refusal}
-use Rattle.dv_command.specs.declared.refusal.Refusal.TheVariants.{FailedToParse, TypeMismatch}
+use Rattle.dv_command.specs.declared.refusal.Refusal.TheVariants.{BadValue, FailedToParse, TypeMismatch}
 use Rattle.dv_command.specs.Refusals.{◌>>=◌}
 
 -- ---- which fields there may be
 
--- the fields that a command may have, and what the value of each has to be
+-- the fields that may stand in a place, and what the value of each has to be
 abbrev pub Table : Type 0
 Table = List (List ℕ × Kind)
 
@@ -20,11 +21,17 @@ Table = List (List ℕ × Kind)
 abbrev pub database_field : List ℕ × Kind
 database_field = (codes "$db", kinds.anything)
 
-abbrev pub insert_table : Table
-insert_table = database_field ∷ (codes "insert", kinds.text) ∷ (codes "documents", kinds.documents) ∷ (codes "ordered", kinds.boolean) ∷ []
+-- the fields of a command of statements, by its name and that of their list
+abbrev pub write_table : List ℕ → List ℕ → Table
+write_table command list = database_field ∷ (command, kinds.text) ∷ (list, kinds.documents) ∷ (codes "ordered", kinds.boolean) ∷ []
 
 abbrev pub find_table : Table
-find_table = database_field ∷ (codes "find", kinds.text) ∷ (codes "filter", kinds.empty_document) ∷ []
+find_table =
+    database_field ∷ (codes "find", kinds.text) ∷ (codes "filter", kinds.document) ∷ (codes "sort", kinds.document) ∷ (codes "skip", kinds.natural)
+    ∷ (codes "limit", kinds.natural) ∷ (codes "projection", kinds.empty_document) ∷ []
+
+abbrev pub deletion_table : Table
+deletion_table = (codes "q", kinds.document) ∷ (codes "limit", kinds.how_many) ∷ []
 
 -- what is ignored in every command, whatever it holds
 abbrev pub ignored_names : List (List ℕ)
@@ -36,38 +43,92 @@ abbrev pub is_among : List ℕ → List (List ℕ) → Bool
 is_among name [] = false
 is_among name (n ∷ ns) = bytes_eq name n || is_among name ns
 
+-- nothing is ignored in an entry
+abbrev pub is_ignored : Place → List ℕ → Bool
+is_ignored kinds.command name = is_among name ignored_names
+is_ignored kinds.entry name = false
+
 abbrev pub kind_in : Table → List ℕ → Option Kind
 kind_in [] name = None
 kind_in (f ∷ fs) name = if bytes_eq name f.0 then Some f.1 else kind_in fs name
 
--- the values of an array that may only hold documents
-abbrev pub documents_in : Elements → Result (List (List Field)) Refusal
-documents_in no_elements = Ok []
-documents_in (element (document fs) vs) = documents_in vs >>= λ ds. Ok (list_of_fields fs ∷ ds)
-documents_in (element v vs) = Err TypeMismatch
+-- ---- what is read out of a value
 
--- a value that has to be of a kind; of a document that may only be empty yet, the fields are unknown
+abbrev pub text_in : Tree → Result (List ℕ) Refusal
+text_in (string s) = Ok s
+text_in value = Err TypeMismatch
+
+abbrev pub boolean_in : Tree → Result Bool Refusal
+boolean_in (boolean b) = Ok b
+boolean_in value = Err TypeMismatch
+
+abbrev pub document_in : Tree → Result (List Field) Refusal
+document_in (document fs) = Ok (list_of_fields fs)
+document_in value = Err TypeMismatch
+
+-- elements that may only be documents
+abbrev pub each_document : Elements → Result (List (List Field)) Refusal
+each_document no_elements = Ok []
+each_document (element (document fs) vs) = each_document vs >>= λ ds. Ok (list_of_fields fs ∷ ds)
+each_document (element v vs) = Err TypeMismatch
+
+abbrev pub documents_in : Tree → Result (List (List Field)) Refusal
+documents_in (array vs) = each_document vs
+documents_in value = Err TypeMismatch
+
+-- an integer of either width
+abbrev pub integer_in : Tree → Result ℤ Refusal
+integer_in (int32 n) = Ok n
+integer_in (int64 n) = Ok n
+integer_in value = Err TypeMismatch
+
+abbrev pub not_negative : ℤ → Result ℕ Refusal
+not_negative (pos n) = Ok n
+not_negative (negsuc n) = Err BadValue
+
+abbrev pub natural_in : Tree → Result ℕ Refusal
+natural_in value = integer_in value >>= not_negative
+
+-- whether only the first document: 1, and not 0
+abbrev pub one_or_all : ℤ → Result Bool Refusal
+one_or_all n = if int_eq n (pos 1) then Ok true else if int_eq n (pos 0) then Ok false else Err BadValue
+
+abbrev pub only_first_in : Tree → Result Bool Refusal
+only_first_in value = integer_in value >>= one_or_all
+
+-- ---- fields as they stand
+
+-- that something can be read
+abbrev pub is_read : {A : Type 0} → Result A Refusal → Result ⊤ Refusal
+is_read reading = reading >>= λ _. Ok tt
+
+abbrev pub check_empty : Tree → Result ⊤ Refusal
+check_empty (document no_fields) = Ok tt
+check_empty value = Err FailedToParse
+
+-- a value that has to be of a kind
 abbrev pub check_value : Kind → Tree → Result ⊤ Refusal
 check_value kinds.anything value = Ok tt
-check_value kinds.text (string s) = Ok tt
-check_value kinds.boolean (boolean b) = Ok tt
-check_value kinds.documents (array vs) = documents_in vs >>= λ _. Ok tt
-check_value kinds.empty_document (document no_fields) = Ok tt
-check_value kinds.empty_document (document (field name value fs)) = Err FailedToParse
-check_value kind value = Err TypeMismatch
+check_value kinds.text value = is_read (text_in value)
+check_value kinds.boolean value = is_read (boolean_in value)
+check_value kinds.document value = is_read (document_in value)
+check_value kinds.documents value = is_read (documents_in value)
+check_value kinds.natural value = is_read (natural_in value)
+check_value kinds.how_many value = is_read (only_first_in value)
+check_value kinds.empty_document value = check_empty value
 
 -- a field that the table doesn't name is unknown
 abbrev pub check_known : Option Kind → Tree → Result ⊤ Refusal
 check_known None value = Err FailedToParse
 check_known (Some kind) value = check_value kind value
 
-abbrev pub check_field : Table → Field → Result ⊤ Refusal
-check_field table f = if is_among f.0 ignored_names then Ok tt else check_known (kind_in table f.0) f.1
+abbrev pub check_field : Place → Table → Field → Result ⊤ Refusal
+check_field place table f = if is_ignored place f.0 then Ok tt else check_known (kind_in table f.0) f.1
 
--- a command's fields as they stand: the first that is unknown or has a value of another kind is told
-abbrev pub check_fields : Table → List Field → Result ⊤ Refusal
-check_fields table [] = Ok tt
-check_fields table (f ∷ fs) = check_field table f >>= λ _. check_fields table fs
+-- fields as they stand: the first that is unknown or has a value of another kind is told
+abbrev pub check_fields : Place → Table → List Field → Result ⊤ Refusal
+check_fields place table [] = Ok tt
+check_fields place table (f ∷ fs) = check_field place table f >>= λ _. check_fields place table fs
 
 -- lists of documents that a message brings beside the body, by their names
 abbrev pub Lists : Type 0
@@ -78,28 +139,36 @@ abbrev pub check_lists : Lists → Result ⊤ Refusal
 check_lists [] = Ok tt
 check_lists (list ∷ lists) = Err FailedToParse
 
--- ---- what is read out of them: a field that has to be there, or one that stands for this where it isn't
+-- ---- what is read out of fields
 
-abbrev pub text_in : Option Tree → Result (List ℕ) Refusal
-text_in None = Err FailedToParse
-text_in (Some (string s)) = Ok s
-text_in (Some other) = Err TypeMismatch
+-- a field that has to be there
+abbrev pub required : {A : Type 0} → (Tree → Result A Refusal) → Option Tree → Result A Refusal
+required read None = Err FailedToParse
+required read (Some value) = read value
+
+-- a field in place of which something else stands where it isn't there
+abbrev pub optional : {A : Type 0} → A → (Tree → Result A Refusal) → Option Tree → Result A Refusal
+optional default read None = Ok default
+optional default read (Some value) = read value
 
 abbrev pub text_under : List ℕ → List Field → Result (List ℕ) Refusal
-text_under name body = text_in (value_under name body)
-
-abbrev pub boolean_or : Bool → Option Tree → Result Bool Refusal
-boolean_or default None = Ok default
-boolean_or default (Some (boolean b)) = Ok b
-boolean_or default (Some other) = Err TypeMismatch
+text_under name fields = required text_in (value_under name fields)
 
 abbrev pub boolean_under : List ℕ → Bool → List Field → Result Bool Refusal
-boolean_under name default body = boolean_or default (value_under name body)
+boolean_under name default fields = optional default boolean_in (value_under name fields)
 
-abbrev pub documents_of : Option Tree → Result (List (List Field)) Refusal
-documents_of None = Err FailedToParse
-documents_of (Some (array vs)) = documents_in vs
-documents_of (Some other) = Err TypeMismatch
+abbrev pub natural_under : List ℕ → List Field → Result ℕ Refusal
+natural_under name fields = optional 0 natural_in (value_under name fields)
+
+abbrev pub document_under : List ℕ → List Field → Result (List Field) Refusal
+document_under name fields = required document_in (value_under name fields)
+
+-- where it isn't there, the document without fields
+abbrev pub document_or_none : List ℕ → List Field → Result (List Field) Refusal
+document_or_none name fields = optional [] document_in (value_under name fields)
 
 abbrev pub documents_under : List ℕ → List Field → Result (List (List Field)) Refusal
-documents_under name body = documents_of (value_under name body)
+documents_under name fields = required documents_in (value_under name fields)
+
+abbrev pub only_first_under : List ℕ → List Field → Result Bool Refusal
+only_first_under name fields = required only_first_in (value_under name fields)

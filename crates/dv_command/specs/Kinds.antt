@@ -1,10 +1,20 @@
--- What the value of a command's field has to be.
+-- Where fields stand, and what the value of a field has to be.
+
+-- in a command, or in an entry of its list
+pub data Place : Type 0 where
+  command : Place
+  entry : Place
 
 pub data Kind : Type 0 where
   anything : Kind
   text : Kind
   boolean : Kind
+  document : Kind
   -- an array of documents
   documents : Kind
-  -- a document, which may only be empty yet
+  -- an integer of either width, from 0
+  natural : Kind
+  -- how many documents a statement deletes: 0 for all that match, 1 for the first
+  how_many : Kind
+  -- a document without fields, and nothing else yet
   empty_document : Kind

@@ -5,6 +5,8 @@ use Rattle.dv_bson.specs.declared.fault.BsonFault.TheVariants.{NoMemory}
 use Rattle.dv_bson.specs.Fault.{fault_text}
 use Rattle.dv_coll.specs.declared.fault.InsertFault.{InsertFault}
 use Rattle.dv_coll.specs.declared.fault.InsertFault.TheVariants as inserting
+use Rattle.dv_match.specs.declared.fault.FilterFault.{FilterFault}
+use Rattle.dv_match.specs.declared.fault.FilterFault.TheVariants as filtering
 use Rattle.dv_command.specs.declared.refusal.Refusal.{Refusal}
 use Rattle.dv_command.specs.declared.refusal.Refusal.TheVariants.{BadValue, FailedToParse, TypeMismatch, InvalidBson, CommandNotFound, DuplicateKey, WantOfMemory, TooLarge, LimitReached}
 
@@ -44,6 +46,16 @@ refusal_of fault = InvalidBson fault
 abbrev pub insert_refusal : InsertFault → Refusal
 insert_refusal inserting.Duplicate = DuplicateKey
 insert_refusal inserting.NoMemory = WantOfMemory
+
+-- why a document is no filter
+abbrev pub filter_refusal : FilterFault → Refusal
+filter_refusal filtering.NoMemory = WantOfMemory
+filter_refusal fault = BadValue
+
+-- the same, with a refusal in place of a fault
+abbrev pub refused_by : {A E : Type 0} → (E → Refusal) → Result A E → Result A Refusal
+refused_by refusal (Ok x) = Ok x
+refused_by refusal (Err fault) = Err (refusal fault)
 
 -- one thing after another: the first refusal is told
 infixl 10 ◌>>=◌

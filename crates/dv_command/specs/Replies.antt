@@ -1,7 +1,7 @@
--- The documents of replies (MongoDB manual, "insert", "find": their output). The codes from 900 on and what stands beside them are this
--- server's own.
-use Rattle.std.specs.Prelude.{ℕ, ◌^◌, List, [], ◌∷◌, ◌++◌, pos, codes, nat_lt, if◌then◌else◌}
-use Rattle.dv_bson.specs.Tree.{Tree, string, int32, int64, document, array, Field, fields_of, elements_of}
+-- The documents of replies (MongoDB manual, "hello", "insert", "delete", "find": their output). The codes from 900 on and what stands
+-- beside them, and the versions of the wire, are this server's own.
+use Rattle.std.specs.Prelude.{ℕ, ◌^◌, ◌-◌, min, List, [], ◌∷◌, ◌++◌, pos, true, false, codes, nat_lt, if◌then◌else◌}
+use Rattle.dv_bson.specs.Tree.{Tree, string, int32, int64, boolean, document, array, Field, fields_of, elements_of}
 use Rattle.dv_command.specs.declared.refusal.Refusal.{Refusal}
 use Rattle.dv_command.specs.declared.refusal.Refusal.TheVariants.{WantOfMemory}
 use Rattle.dv_command.specs.Refusals.{code, code_name, message_of}
@@ -10,13 +10,20 @@ use Rattle.dv_command.specs.Refusals.{code, code_name, message_of}
 abbrev pub document_of : List Field → Tree
 document_of d = document (fields_of d)
 
--- a number as int32 where it fits, else as int64
+-- a number as int32 where it fits, else as int64; one beyond the greatest int64 is told as that
 abbrev pub count : ℕ → Tree
-count n = if nat_lt n (2 ^ 31) then int32 (pos n) else int64 (pos n)
+count n = if nat_lt n (2 ^ 31) then int32 (pos n) else int64 (pos (min n (2 ^ 63 - 1)))
 
 -- the reply to a command that was carried out: these fields, and that it was
 abbrev pub reply_of : List Field → List Field
 reply_of fields = fields ++ (codes "ok", int32 (pos 1)) ∷ []
+
+-- the reply to a greeting: what this server takes at most, and the versions of the wire that it speaks
+abbrev pub hello_reply : List Field
+hello_reply =
+    reply_of (
+    (codes "isWritablePrimary", boolean true) ∷ (codes "maxBsonObjectSize", int32 (pos 16777216)) ∷ (codes "maxMessageSizeBytes", int32 (pos 48000000))
+    ∷ (codes "maxWriteBatchSize", int32 (pos 100000)) ∷ (codes "minWireVersion", int32 (pos 0)) ∷ (codes "maxWireVersion", int32 (pos 17)) ∷ (codes "readOnly", boolean false) ∷ [])
 
 -- the reply to a command that is refused
 abbrev pub refusal_reply : Refusal → List Field

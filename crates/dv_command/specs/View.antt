@@ -1,30 +1,64 @@
 -- What stands in memory for what is defined.
-use Rattle.std.specs.Prelude.{ℕ, List}
+use Rattle.std.specs.Prelude.{ℕ, List, [], Option, Some, None}
 use Rattle.std.specs.String.{string_bytes}
-use Rattle.dv_command.specs.Asked.{Asked, Insert}
+use Rattle.dv_path.specs.SortSpec.{Part}
+use Rattle.dv_command.specs.Asked.{Asked, Statements, Insert, Delete, Find}
 use Rattle.dv_command.specs.Asked as asking
+use Rattle.dv_command.specs.Entries.{Deletion}
 use Rattle.dv_command.specs.Kinds as kinds
 use Rattle.dv_command.specs.declared.asking.Asked as declared
-use Rattle.dv_command.specs.declared.asking.Asked.TheVariants.{Ping, Insert as Inserts, Find as Finds}
+use Rattle.dv_command.specs.declared.asking.Asked.TheVariants.{Hello, Ping, Insert as Inserts, Delete as Deletes, Find as Finds}
 use Rattle.dv_command.specs.declared.asking.Insert as inserting
+use Rattle.dv_command.specs.declared.asking.Delete as deleting
+use Rattle.dv_command.specs.declared.asking.Find as finding
+use Rattle.dv_command.specs.declared.entries.Deletion as declared_entries
 use Rattle.dv_command.specs.declared.fields.Kind as code
-use Rattle.dv_command.specs.declared.fields.Kind.TheVariants.{Anything, Text, Boolean, Documents, EmptyDocument}
+use Rattle.dv_command.specs.declared.fields.Kind.TheVariants.{Anything, Text, Boolean, Document, Documents, Natural, HowMany, EmptyDocument}
+use Rattle.dv_command.specs.declared.fields.Place as places
+use Rattle.dv_command.specs.declared.fields.Place.TheVariants.{Command, Entry}
 use Rattle.dv_command.specs.declared.fields.Rule.{Rule}
+use Rattle.dv_command.specs.declared.asking.Statements as reading
 
 abbrev pub kind_seen : code.Kind → kinds.Kind
 kind_seen Anything = kinds.anything
 kind_seen Text = kinds.text
 kind_seen Boolean = kinds.boolean
+kind_seen Document = kinds.document
 kind_seen Documents = kinds.documents
+kind_seen Natural = kinds.natural
+kind_seen HowMany = kinds.how_many
 kind_seen EmptyDocument = kinds.empty_document
 
+abbrev pub place_seen : places.Place → kinds.Place
+place_seen Command = kinds.command
+place_seen Entry = kinds.entry
+
 abbrev pub rule_seen : Rule → List ℕ × kinds.Kind
-rule_seen r = (r.name.now, kind_seen r.kind)
+rule_seen r = (r.0.now, kind_seen r.1)
+
+-- no sort has no paths
+abbrev pub sort_seen : Option (List Part) → List Part
+sort_seen None = []
+sort_seen (Some parts) = parts
+
+abbrev pub statements_seen : reading.Statements → Statements
+statements_seen s = record { namespace = string_bytes s.namespace; list = s.list; ordered = s.ordered }
 
 abbrev pub insert_seen : inserting.Insert → Insert
 insert_seen i = record { namespace = string_bytes i.namespace; documents = i.documents; ordered = i.ordered }
 
+abbrev pub delete_seen : deleting.Delete → Delete
+delete_seen d = record { namespace = string_bytes d.namespace; entries = d.entries; ordered = d.ordered }
+
+abbrev pub find_seen : finding.Find → Find
+find_seen f = record { namespace = string_bytes f.namespace; filter = f.filter; sort = sort_seen f.sort; skip = f.skip; limit = f.limit }
+
+abbrev pub deletion_seen : declared_entries.Deletion → Deletion
+deletion_seen d = record { filter = d.filter; only_first = d.only_first }
+
 abbrev pub asked_seen : declared.Asked → Asked
+asked_seen Hello = asking.hello
 asked_seen Ping = asking.ping
 asked_seen (Inserts i) = asking.insert (insert_seen i)
-asked_seen (Finds f) = asking.find (record { namespace = string_bytes f.namespace })
+asked_seen (Deletes d) = asking.delete (delete_seen d)
+asked_seen (Finds f) = asking.find (find_seen f)

@@ -4,12 +4,16 @@ ghost use Rattle.std.specs.Prelude.{◌≤◌, length};
 ghost use Rattle.dv_command.specs.Asked.{statement_limit};
 
 use crate::documents::Documents;
+use dv_match::Filter;
+use dv_path::SortSpec;
 
 /// What a command asks.
 #[derive(Drop)]
 pub enum Asked<'a> {
+    Hello,
     Ping,
     Insert(Insert<'a>),
+    Delete(Delete<'a>),
     Find(Find),
 }
 
@@ -24,8 +28,35 @@ pub struct Insert<'a> {
     pub ghost few: { length documents ≤ statement_limit },
 }
 
-/// All documents of a namespace.
+/// What these entries say goes out of a namespace, in order. Each is read by `deletion_of` when its turn comes.
+#[derive(Drop)]
+pub struct Delete<'a> {
+    pub namespace: String,
+    pub entries: Documents<'a>,
+    /// Whether the first entry that is refused ends the command.
+    pub ordered: bool,
+    // As many as a command may have.
+    pub ghost few: { length entries ≤ statement_limit },
+}
+
+/// The documents of a namespace that match, in the order of a sort, or else of their `_id`s.
 #[derive(Drop)]
 pub struct Find {
     pub namespace: String,
+    pub filter: Filter,
+    pub sort: Option<SortSpec>,
+    /// How many documents are left out in front.
+    pub skip: u64,
+    /// How many documents there are at most; 0 is no limit.
+    pub limit: u64,
+}
+
+/// What a command of statements says, whichever it is.
+pub(crate) struct Statements<'a> {
+    pub(crate) namespace: String,
+    pub(crate) list: Documents<'a>,
+    /// Whether the first statement that is refused ends the command.
+    pub(crate) ordered: bool,
+    // As many as a command may have.
+    ghost few: { length list ≤ statement_limit },
 }

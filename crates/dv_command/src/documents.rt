@@ -36,7 +36,7 @@ impl<'a> Model for Documents<'a> {
 impl<'a> Documents<'a> {
     /// The documents of an array. Refused with `TypeMismatch` where another value stands among them.
     pub(crate) fn of(list: &'a List) -> Result<Self, Refusal>
-        ensures { MatchResult result (λ documents. fields.documents_in (elements_of list.now) ≡ Ok documents) (λ refusal. fields.documents_in (elements_of list.now) ≡ Err refusal) }
+        ensures { MatchResult result (λ documents. fields.each_document (elements_of list.now) ≡ Ok documents) (λ refusal. fields.each_document (elements_of list.now) ≡ Err refusal) }
     {
         let values = list.as_slice();
         if are_documents(values) {

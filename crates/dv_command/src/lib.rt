@@ -4,14 +4,18 @@
 mod asking;
 mod command;
 mod documents;
+mod entries;
 mod fields;
+mod forms;
+pub mod laws;
 pub mod namespaces;
 mod parsing;
 mod refusal;
 pub mod replies;
 
-pub use asking::{Asked, Find, Insert};
+pub use asking::{Asked, Delete, Find, Insert};
 pub use command::{Command, DocumentList, DocumentLists};
 pub use documents::Documents;
+pub use entries::{Deletion, deletion_of};
 pub use parsing::parse;
 pub use refusal::Refusal;

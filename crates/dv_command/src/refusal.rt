@@ -7,6 +7,7 @@ ghost use Rattle.dv_command.specs.declared.refusal.Refusal.TheVariants.{WantOfMe
 
 use dv_bson::BsonFault;
 use dv_coll::InsertFault;
+use dv_match::FilterFault;
 use std::alloc::{AllocError, AllocFailed, Global};
 
 /// Why a command is refused: the server error codes of the MongoDB manual, and this server's own from 900 on.
@@ -117,6 +118,19 @@ impl From<InsertFault> for Refusal {
         match fault {
             InsertFault::Duplicate => Refusal::DuplicateKey,
             InsertFault::NoMemory => Refusal::WantOfMemory,
+        }
+    }
+}
+
+impl From<FilterFault> for Refusal {
+    ghost use Rattle.dv_command.specs.Refusals as refusals;
+
+    ghost from_gives = { λ fault refusal. refusal ≡ refusals.filter_refusal fault };
+
+    fn from(fault: FilterFault) -> Refusal {
+        match fault {
+            FilterFault::NoMemory => Refusal::WantOfMemory,
+            _ => Refusal::BadValue,
         }
     }
 }

@@ -19,6 +19,22 @@ pub fn reply_of(mut fields: Document) -> Result<Document, NoMemory>
     Ok(fields)
 }
 
+/// The reply to a greeting: what this server takes at most, and the versions of the wire that it speaks. Fails where
+/// memory is wanting.
+pub fn hello_reply(alloc: Global) -> Result<Document, NoMemory>
+    ensures { IfOk result (λ reply. reply ≡ replies.hello_reply) }
+{
+    let mut fields = Document::new(alloc);
+    add(&mut fields, "isWritablePrimary", Value::Bool(true))?;
+    add(&mut fields, "maxBsonObjectSize", Value::Int32(16_777_216))?;
+    add(&mut fields, "maxMessageSizeBytes", Value::Int32(48_000_000))?;
+    add(&mut fields, "maxWriteBatchSize", Value::Int32(100_000))?;
+    add(&mut fields, "minWireVersion", Value::Int32(0))?;
+    add(&mut fields, "maxWireVersion", Value::Int32(17))?;
+    add(&mut fields, "readOnly", Value::Bool(false))?;
+    reply_of(fields)
+}
+
 /// The reply to a command that is refused. Fails where memory is wanting.
 pub fn refusal_reply(alloc: Global, refusal: &Refusal) -> Result<Document, NoMemory>
     ensures { IfOk result (λ reply. reply ≡ replies.refusal_reply refusal.now) }
@@ -47,22 +63,20 @@ pub fn write_error(alloc: Global, place: usize, refusal: &Refusal) -> Result<Doc
 }
 
 /// The error of the statement at a place, counted from 0 and below 2^31, that found no memory behind so many of its
-/// changes, fewer than 2^63. Fails where memory is wanting.
+/// changes. Fails where memory is wanting.
 pub fn cut_error(alloc: Global, place: usize, changes: usize) -> Result<Document, NoMemory>
-    requires place { place < 2 ^ 31 }
-    requires changes { changes < 2 ^ 63 }
+    requires { place < 2 ^ 31 }
     ensures { IfOk result (λ error. error ≡ replies.cut_error place changes) }
 {
     let mut error = write_error(alloc, place, &Refusal::WantOfMemory)?;
-    add(&mut error, "done", count(changes))?;
+    add(&mut error, "done", count(changes as u128))?;
     Ok(error)
 }
 
-/// The reply to a write: the number that it counts, below 2^63, and the errors of its statements where there are any.
-/// Fails where memory is wanting.
+/// The reply to a write: the number that it counts, and the errors of its statements where there are any. Fails where
+/// memory is wanting.
 #[tactic(auto, using(crate::proofs::Errors::no_errors, crate::proofs::Errors::some_errors))]
-pub fn write_reply(alloc: Global, n: usize, errors: Vec<Value>) -> Result<Document, NoMemory>
-    requires { n < 2 ^ 63 }
+pub fn write_reply(alloc: Global, n: u128, errors: Vec<Value>) -> Result<Document, NoMemory>
     ensures { IfOk result (λ reply. reply ≡ replies.write_reply n (map tree errors.items)) }
 {
     let mut fields = Document::new(alloc);
@@ -86,14 +100,13 @@ pub fn rows_reply(alloc: Global, namespace: String, rows: List) -> Result<Docume
     reply_of(fields)
 }
 
-/// A number below 2^63 as int32 where it fits, else as int64.
-fn count(number: usize) -> Value
-    requires { number < 2 ^ 63 }
+/// A number as int32 where it fits, else as int64; one beyond the greatest int64 is told as that.
+fn count(number: u128) -> Value
     ensures { tree result ≡ replies.count number }
 {
     match i32::try_from(number) {
         Ok(number) => Value::Int32(number),
-        Err(_) => Value::Int64(number as i64),
+        Err(_) => Value::Int64(number.min(i64::MAX as u128) as i64),
     }
 }
 

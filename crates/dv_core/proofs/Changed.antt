@@ -3,7 +3,7 @@ use Rattle.std.proofs.Common.{◌≡◌, ◌⊎◌, ◌≤◌, ℕ, Bool, true, 
 use Rattle.std.specs.Prelude.{codes}
 use Rattle.dv_bson.specs.Names.{value_under}
 use Rattle.dv_bson.specs.Tree.{Tree, Field, int32}
-use Rattle.dv_command.specs.Asked.{Asked, ping, insert, find, asked_by}
+use Rattle.dv_command.specs.Asked.{Asked, hello, ping, insert, delete, find, asked_by}
 use Rattle.dv_command.specs.Refusals.{◌>>=◌}
 use Rattle.dv_command.specs.Replies.{reply_of, count, errors_field}
 use Rattle.dv_command.specs.declared.command.Command.{Command}
@@ -11,8 +11,10 @@ use Rattle.dv_command.specs.declared.refusal.Refusal.{Refusal}
 use Rattle.dv_core.specs.declared.outcome.Outcome.{Outcome}
 use Rattle.dv_core.specs.declared.outcome.Outcome.TheVariants.{Reply, Wanting, NoReply}
 use Rattle.dv_core.specs.Changes.{Effect}
+use Rattle.dv_core.specs.Delete.{delete_write}
 use Rattle.dv_core.specs.Find.{batch_reply}
 use Rattle.dv_core.specs.Insert.{insert_write}
+use Rattle.dv_core.specs.Scan.{scan}
 use Rattle.dv_core.specs.State.{State, Namespaces, documents_of}
 use Rattle.dv_core.specs.Statements.{Statement, Write, Written, nothing_written, carry_out, with_all, with_next, with_result, is_due, IsCut}
 use Rattle.dv_core.specs.Step.{Answer, answered, read_answer, write_answer, answer_to, step, write_of, WriteCut, Cut, Wants, MemoryStep}
@@ -40,10 +42,13 @@ read_leaves old (Err refusal) = refl
 
 step_may : (old : State) (session : ℕ) (asked : Result Asked Refusal) → MayWrite old asked (answered old (asked >>= answer_to old session))
 step_may old session (Err refusal) = inl refl
+step_may old session (Ok hello) = inl refl
 step_may old session (Ok ping) = inl refl
 step_may old session (Ok (insert i)) =
     inr (record { what = insert i; write = insert_write i; did = carry_out (insert_write i) old.namespaces; asks = refl; is_write = refl; did_so = inl refl; answers = refl })
-step_may old session (Ok (find f)) = inl (read_leaves old (batch_reply f.namespace (documents_of f.namespace old.namespaces)))
+step_may old session (Ok (delete d)) =
+    inr (record { what = delete d; write = delete_write d; did = carry_out (delete_write d) old.namespaces; asks = refl; is_write = refl; did_so = inl refl; answers = refl })
+step_may old session (Ok (find f)) = inl (read_leaves old (batch_reply f.namespace (scan f.filter f.sort f.skip f.limit (documents_of f.namespace old.namespaces))))
 
 write_cut_may : (old : State) (what : Asked) (write : Option Write) → write_of what ≡ write → (answer : Answer) → WriteCut old write answer → MayWrite old (Ok what) answer
 write_cut_may old what None is answer cut = absurd cut

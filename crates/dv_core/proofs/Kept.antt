@@ -1,77 +1,80 @@
 -- What statements keep of the documents of each namespace.
-use Rattle.std.proofs.Common.{◌≡◌, ℕ, zero, suc, Bool, true, false, cond, List, [], ◌∷◌, ◌++◌, take, Option, Some, None, Result, Ok, Err, is_some, if◌then◌else◌, inl, inr, refl, sym, subst}
+use Rattle.std.proofs.Common.{◌≡◌, ℕ, zero, suc, Bool, true, false, cond, List, [], ◌∷◌, ◌++◌, map, take, Option, Some, None, Result, Ok, Err, is_some, if◌then◌else◌, inl, inr, refl, sym, subst}
+use Rattle.std.proofs.lemmas.Slice.Eq.{bytes_eq-Decides}
 use Rattle.std.specs.List.{AllByRecursion}
 use Rattle.std.specs.FinMap as finite
 use Rattle.std.specs.Str.{bytes_eq}
 use Rattle.dv_bson.specs.Tree.{Field}
-use Rattle.dv_coll.specs.Collection.{found, id_key, inserted}
+use Rattle.dv_coll.specs.Collection.{found, id_key}
+use Rattle.dv_order.specs.Key.{KeyTree}
 use Rattle.dv_command.specs.Asked.{Asked, asked_by}
+use Rattle.dv_command.specs.Entries.{Deletion, deletion_of}
 use Rattle.dv_command.specs.declared.command.Command.{Command}
 use Rattle.dv_command.specs.declared.refusal.Refusal.{Refusal}
 use Rattle.dv_command.specs.declared.refusal.Refusal.TheVariants.{DuplicateKey}
 use Rattle.dv_command.specs.Refusals.{◌>>=◌}
 use Rattle.dv_core.specs.declared.outcome.Outcome.{Outcome}
-use Rattle.dv_core.specs.Changes.{Change, put, Effect, apply, with_changes, changes_of, without_key}
+use Rattle.dv_core.specs.Changes.{Change, put, gone, Effect, apply, with_change, with_changes, changes_of}
+use Rattle.dv_core.specs.Delete.{delete_one, delete_chosen, without}
 use Rattle.dv_core.specs.Insert.{insert_one, put_new}
 use Rattle.dv_core.specs.State.{State, Standing, Namespaces, collection_at, documents_of, with_documents, collection}
 use Rattle.dv_core.specs.Statements.{Statement, Write, Written, nothing_written, with_all, with_next, with_result, is_due}
 use Rattle.dv_core.specs.Step.{Answer, write_of, MemoryStep}
 use Rattle.dv_core.specs.Storable.{storable}
-use Rattle.dv_core.proofs.ByNamespace.{get-insert, without_key-none}
+use Rattle.dv_core.proofs.ByNamespace.{get-insert}
 use Rattle.dv_core.proofs.Changed.{Did, outcome_may, MayWrite}
 
--- of a property of the documents of a namespace
-module _ (P : List (List Field) → Type 0) where
+-- of a property of the documents of a namespace, and changes that keep it
+module _ (P : List ℕ → List (List Field) → Type 0) (IsGood : Change → Type 0)
+    (keeps : (namespace : List ℕ) (documents : List (List Field)) (change : Change) → P namespace documents → IsGood change → P namespace (with_change documents change)) where
   abbrev pub Holds : Namespaces → Type 0
-  Holds namespaces = (namespace : List ℕ) → P (documents_of namespace namespaces)
+  Holds namespaces = (namespace : List ℕ) → P namespace (documents_of namespace namespaces)
 
-  -- changes keep it, whether all are made or the first of them
-  pub record AreKept (documents : List (List Field)) (changes : List Change) : Type 0 where
-    pub all : P (with_changes documents changes)
-    pub first : (made : ℕ) → P (with_changes documents (take made changes))
-
-  abbrev pub GivesKept : List (List Field) → Result Effect Refusal → Type 0
-  GivesKept documents (Ok effect) = AreKept documents effect.changes
-  GivesKept documents (Err refusal) = Unit {0}
-
+  -- a statement that makes no others
   pub record Keeps (statement : Statement) : Type 0 where
-    pub kept : (documents : List (List Field)) → P documents → GivesKept documents (statement documents)
+    pub good : (namespace : List ℕ) (documents : List (List Field)) → P namespace documents → AllByRecursion IsGood (changes_of (statement documents))
 
-  put_holds : (b : Bool) (there : Option Standing) (c : List (List Field)) → P (collection_at there).documents → P c → P (collection_at (cond b (Some (collection (record { documents = c }))) there)).documents
-  put_holds true there c h i = i
-  put_holds false there c h i = h
+  changes_hold : (namespace : List ℕ) (documents : List (List Field)) (changes : List Change) → P namespace documents → AllByRecursion IsGood changes → P namespace (with_changes documents changes)
+  changes_hold namespace documents [] h good = h
+  changes_hold namespace documents (change ∷ changes) h good = changes_hold namespace (with_change documents change) changes (keeps namespace documents change h good.0) good.1
 
-  with_holds : (namespace : List ℕ) (documents : List (List Field)) (namespaces : Namespaces) → Holds namespaces → P documents → Holds (with_documents namespace documents namespaces)
+  first_good : (made : ℕ) (changes : List Change) → AllByRecursion IsGood changes → AllByRecursion IsGood (take made changes)
+  first_good zero [] good = tt
+  first_good zero (change ∷ changes) good = tt
+  first_good (suc made) [] good = tt
+  first_good (suc made) (change ∷ changes) good = (good.0, first_good made changes good.1)
+
+  put_holds : (other : List ℕ) (b : Bool) (there : Option Standing) (c : List (List Field)) → P other (collection_at there).documents → (b ≡ true → P other c) → P other (collection_at (cond b (Some (collection (record { documents = c }))) there)).documents
+  put_holds other true there c h i = i refl
+  put_holds other false there c h i = h
+
+  with_holds : (namespace : List ℕ) (documents : List (List Field)) (namespaces : Namespaces) → Holds namespaces → P namespace documents → Holds (with_documents namespace documents namespaces)
   with_holds namespace documents namespaces h i other =
-      subst (λ (there : Option Standing). P (collection_at there).documents) (sym (get-insert namespaces namespace (collection (record { documents = documents })) other))
-      (put_holds (bytes_eq namespace other) (finite.get namespaces other) documents (h other) i)
+      subst (λ (there : Option Standing). P other (collection_at there).documents) (sym (get-insert namespaces namespace (collection (record { documents = documents })) other))
+      (put_holds other (bytes_eq namespace other) (finite.get namespaces other) documents (h other) (λ same. subst (λ (name : List ℕ). P name documents) ((bytes_eq-Decides namespace other).0 same) i))
 
-  changed_holds : (namespace : List ℕ) (changes : List Change) (namespaces : Namespaces) → Holds namespaces → P (with_changes (documents_of namespace namespaces) changes) → Holds (apply namespace changes namespaces)
-  changed_holds namespace [] namespaces h i = h
-  changed_holds namespace (change ∷ changes) namespaces h i = with_holds namespace (with_changes (documents_of namespace namespaces) (change ∷ changes)) namespaces h i
+  apply_holds : (namespace : List ℕ) (changes : List Change) (namespaces : Namespaces) → Holds namespaces → AllByRecursion IsGood changes → Holds (apply namespace changes namespaces)
+  apply_holds namespace [] namespaces h good = h
+  apply_holds namespace (change ∷ changes) namespaces h good =
+      with_holds namespace (with_changes (documents_of namespace namespaces) (change ∷ changes)) namespaces h (changes_hold namespace (documents_of namespace namespaces) (change ∷ changes) (h namespace) good)
 
   module _ (namespace : List ℕ) (ordered : Bool) where
-    result_holds : (so_far : Written) (result : Result Effect Refusal) → Holds so_far.namespaces → GivesKept (documents_of namespace so_far.namespaces) result → Holds (with_result namespace ordered so_far result).namespaces
-    result_holds so_far (Ok effect) h kept = changed_holds namespace effect.changes so_far.namespaces h kept.all
-    result_holds so_far (Err refusal) h kept = h
+    result_holds : (so_far : Written) (result : Result Effect Refusal) → Holds so_far.namespaces → AllByRecursion IsGood (changes_of result) → Holds (with_result namespace ordered so_far result).namespaces
+    result_holds so_far (Ok effect) h good = apply_holds namespace effect.changes so_far.namespaces h good
+    result_holds so_far (Err refusal) h good = h
 
     looked_holds : (b : Bool) (one other : Written) → Holds one.namespaces → Holds other.namespaces → Holds (cond b one other).namespaces
     looked_holds true one other h i = h
     looked_holds false one other h i = i
 
     next_holds : (so_far : Written) (statement : Statement) → Holds so_far.namespaces → Keeps statement → Holds (with_next namespace ordered so_far statement).namespaces
-    next_holds so_far statement h keeps =
+    next_holds so_far statement h keep =
         looked_holds (is_due ordered so_far.errors) (with_result namespace ordered so_far (statement (documents_of namespace so_far.namespaces))) so_far
-        (result_holds so_far (statement (documents_of namespace so_far.namespaces)) h (keeps.kept (documents_of namespace so_far.namespaces) (h namespace))) h
+        (result_holds so_far (statement (documents_of namespace so_far.namespaces)) h (keep.good namespace (documents_of namespace so_far.namespaces) (h namespace))) h
 
     all_holds : (so_far : Written) (statements : List Statement) → Holds so_far.namespaces → AllByRecursion Keeps statements → Holds (with_all namespace ordered so_far statements).namespaces
     all_holds so_far [] h keep = h
     all_holds so_far (statement ∷ statements) h keep = all_holds (with_next namespace ordered so_far statement) statements (next_holds so_far statement h keep.0) keep.1
-
-  first_kept : (documents : List (List Field)) (result : Result Effect Refusal) (made : ℕ) → P documents → GivesKept documents result → P (with_changes documents (take made (changes_of result)))
-  first_kept documents (Ok effect) made h kept = kept.first made
-  first_kept documents (Err refusal) zero h kept = h
-  first_kept documents (Err refusal) (suc made) h kept = h
 
   split_keep : (before : List Statement) (statement : Statement) (behind : List Statement) → AllByRecursion Keeps (before ++ statement ∷ behind) → AllByRecursion Keeps before × Keeps statement
   split_keep [] statement behind keep = (tt, keep.0)
@@ -84,15 +87,15 @@ module _ (P : List (List Field) → Type 0) where
       let parts = split_keep c.before c.statement c.behind keeps in
       let before : Written = with_all write.namespace write.ordered (nothing_written old.namespaces) c.before in
       let held : Holds before.namespaces = all_holds write.namespace write.ordered (nothing_written old.namespaces) c.before h parts.0 in
-      let here : List (List Field) = documents_of write.namespace before.namespaces in
-      rw c.left_so (changed_holds write.namespace (take c.made (changes_of (c.statement here))) before.namespaces held (first_kept here (c.statement here) c.made (held write.namespace) (parts.1.kept here (held write.namespace))))
+      let changes : List Change = changes_of (c.statement (documents_of write.namespace before.namespaces)) in
+      rw c.left_so (apply_holds write.namespace (take c.made changes) before.namespaces held (first_good c.made changes (parts.1.good write.namespace (documents_of write.namespace before.namespaces) (held write.namespace))))
 
   may_hold : (old : State) (asked : Result Asked Refusal) (answer : Answer) → ((what : Asked) (write : Write) → asked ≡ Ok what → write_of what ≡ Some write → AllByRecursion Keeps write.statements)
       → MayWrite old asked answer → Holds old.namespaces → Holds answer.state.namespaces
   may_hold old asked answer keep (inl same) h = rw same h
   may_hold old asked answer keep (inr w) h = rw w.answers (did_holds w.write old w.did (keep w.what w.write w.asks w.is_write) w.did_so h)
 
-  -- so does a step whose statements do
+  -- a step whose statements keep it does
   pub step_holds : (old new : State) (session : ℕ) (command : Command) (outcome : Outcome)
       → ((what : Asked) (write : Write) → asked_by command ≡ Ok what → write_of what ≡ Some write → AllByRecursion Keeps write.statements)
       → Holds old.namespaces → MemoryStep old session command outcome new → Holds new.namespaces
@@ -102,26 +105,30 @@ module _ (P : List (List Field) → Type 0) where
 
   -- ---- the statements of an insert
 
-  put_kept : (d : List Field) (documents : List (List Field)) → P documents → P (inserted d (without_key (id_key d) documents)) → AreKept documents (put d ∷ [])
-  put_kept d documents h i = record { all = i; first = firsts }
-    where
-      firsts : (made : ℕ) → P (with_changes documents (take made (put d ∷ [])))
-      firsts zero = h
-      firsts (suc zero) = i
-      firsts (suc (suc made)) = i
+  new_good : (b : Bool) (d : List Field) → IsGood (put d) → AllByRecursion IsGood (changes_of (if b then Err DuplicateKey else Ok (record { matched = 1; changes = put d ∷ [] })))
+  new_good true d good = tt
+  new_good false d good = (good, tt)
 
-  new_kept : (d : List Field) (documents : List (List Field)) (place : Option (List Field)) → found (id_key d) documents ≡ place → P documents → (found (id_key d) documents ≡ None → P (inserted d documents))
-      → GivesKept documents (if is_some place then Err DuplicateKey else Ok (record { matched = 1; changes = put d ∷ [] }))
-  new_kept d documents None none h keeps = put_kept d documents h (rw (without_key-none (id_key d) documents none) (keeps none))
-  new_kept d documents (Some e) there h keeps = tt
+  stored_good : (d : List Field) (result : Result (List Field) Refusal) → storable d ≡ result → ((stored : List Field) → storable d ≡ Ok stored → IsGood (put stored)) → (documents : List (List Field))
+      → AllByRecursion IsGood (changes_of (result >>= λ stored. put_new stored documents))
+  stored_good d (Ok stored) is good documents = new_good (is_some (found (id_key stored) documents)) stored (good stored is)
+  stored_good d (Err refusal) is good documents = tt
 
-  -- a document is kept where what is stored of it keeps the property
-  pub record KeepsStored (d : List Field) : Type 0 where
-    pub stored_keeps : (stored : List Field) (documents : List (List Field)) → storable d ≡ Ok stored → P documents → found (id_key stored) documents ≡ None → P (inserted stored documents)
+  -- one that puts what is stored
+  pub insert_keeps : (d : List Field) → ((stored : List Field) → storable d ≡ Ok stored → IsGood (put stored)) → Keeps (insert_one d)
+  insert_keeps d good = record { good = λ namespace documents h. stored_good d (storable d) refl good documents }
 
-  insert_kept : (d : List Field) (result : Result (List Field) Refusal) → storable d ≡ result → KeepsStored d → (documents : List (List Field)) → P documents → GivesKept documents (result >>= λ stored. put_new stored documents)
-  insert_kept d (Ok stored) is keeps documents h = new_kept stored documents (found (id_key stored) documents) refl h (keeps.stored_keeps stored documents is h)
-  insert_kept d (Err refusal) is keeps documents h = tt
+  -- ---- the statements of a delete
 
-  pub insert_keeps : (d : List Field) → KeepsStored d → Keeps (insert_one d)
-  insert_keeps d keeps = record { kept = insert_kept d (storable d) refl keeps }
+  module _ (gone_good : (k : KeyTree) → IsGood (gone k)) where
+    all_gone_good : (documents : List (List Field)) → AllByRecursion IsGood (map (λ d. gone (id_key d)) documents)
+    all_gone_good [] = tt
+    all_gone_good (d ∷ ds) = (gone_good (id_key d), all_gone_good ds)
+
+    entry_good : (result : Result Deletion Refusal) (documents : List (List Field)) → AllByRecursion IsGood (changes_of (result >>= λ deletion. delete_chosen deletion documents))
+    entry_good (Ok deletion) documents = all_gone_good _
+    entry_good (Err refusal) documents = tt
+
+    pub deletes_keep : (entries : List (List Field)) → AllByRecursion Keeps (map delete_one entries)
+    deletes_keep [] = tt
+    deletes_keep (entry ∷ entries) = (record { good = λ namespace documents h. entry_good (deletion_of entry) documents }, deletes_keep entries)

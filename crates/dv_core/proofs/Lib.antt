@@ -2,7 +2,10 @@ mod Lists
 mod Spellings
 pub mod Stored
 mod ByNamespace
+pub mod Scanned
 pub mod Statements
+mod Deleted
+mod Plain
 mod Steps
 mod Changed
 mod Kept
@@ -10,5 +13,6 @@ mod Texts
 mod Valid
 mod Asking
 mod Ordered
+mod Parts
 mod Spelled
 mod Worked

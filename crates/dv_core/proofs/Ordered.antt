@@ -1,5 +1,5 @@
 -- The documents of each namespace stay in the order of their `_id`s, and sound.
-use Rattle.std.proofs.Common.{◌≡◌, ℕ, Bool, true, false, cond, ◌||◌, List, [], ◌∷◌, map, Option, Some, None, Result, Ok, Err, refl, sym, subst}
+use Rattle.std.proofs.Common.{◌≡◌, ℕ, Bool, true, false, cond, ◌||◌, not, List, [], ◌∷◌, map, Option, Some, None, Result, Ok, Err, is_some, refl, sym, subst}
 use Rattle.std.specs.Prelude.{codes}
 use Rattle.std.specs.Cmp.Lexicographic.{slice_cmp}
 use Rattle.std.specs.FinMap as finite
@@ -8,23 +8,26 @@ use Rattle.std.specs.List.Sorted.{IsStrictlySortedBy}
 use Rattle.std.specs.Ordering.{nat_cmp, is_lt}
 use Rattle.dv_bson.specs.Names.{value_under}
 use Rattle.dv_bson.specs.Tree.{Tree, array, Field, fields_of}
-use Rattle.dv_order.specs.Key.{key_order}
-use Rattle.dv_coll.specs.Collection.{HasId, found, id_key, inserted}
-use Rattle.dv_command.specs.Asked.{Asked, ping, insert, find, asked_by}
+use Rattle.dv_order.specs.Key.{KeyTree, key_order}
+use Rattle.dv_coll.specs.Collection.{HasId, IsAscending, found, has_key, id_key, inserted, removed, replaced}
+use Rattle.dv_command.specs.Asked.{Asked, hello, ping, insert, delete, find, asked_by}
 use Rattle.dv_command.specs.Refusals.{◌>>=◌}
+use Rattle.dv_command.specs.Sound.{AreValid}
 use Rattle.dv_command.specs.declared.command.Command.{Command}
 use Rattle.dv_command.specs.declared.refusal.Refusal.{Refusal}
 use Rattle.dv_command.specs.declared.refusal.Refusal.TheVariants.{BadValue, TooLarge}
 use Rattle.dv_core.specs.declared.outcome.Outcome.{Outcome}
+use Rattle.dv_core.specs.Changes.{Change, put, gone, with_change}
+use Rattle.dv_core.specs.Delete.{delete_write}
 use Rattle.dv_core.specs.Insert.{insert_one, insert_write}
 use Rattle.dv_core.specs.Sound.{IsSoundDocument, AreSound, IsSound, IsSoundCommand}
 use Rattle.dv_core.specs.State.{State, empty_state, documents_of, AreOrdered, IsOrdered}
 use Rattle.dv_core.specs.Statements.{Write}
 use Rattle.dv_core.specs.Step.{write_of, MemoryStep}
 use Rattle.dv_core.specs.Storable.{are_fields_dotted, has_dollar, id_in, is_within_limits, storable, with_id_first, without_field}
-use Rattle.dv_core.proofs.Asking.{AreValid, asked_valid}
+use Rattle.dv_core.proofs.Asking.{AsksSoundly, soundly_asked}
 use Rattle.dv_core.proofs.ByNamespace.{documents_there}
-use Rattle.dv_core.proofs.Kept.{Keeps, insert_keeps, step_holds}
+use Rattle.dv_core.proofs.Kept.{Keeps, insert_keeps, deletes_keep, step_holds}
 use Rattle.dv_core.proofs.Stored.{storable_fits}
 use Rattle.dv_core.proofs.Valid.{storable_valid}
 
@@ -67,24 +70,51 @@ stored_id d stored is =
     subst GivesId is
     (within_limits (with_id_first d) (first_with_id (has_dollar d || are_fields_dotted (fields_of d)) _ (id_given (codes "_id") refl (value_under (codes "_id") d) (without_field (codes "_id") d))))
 
--- ---- if what an insertion leaves is in order
+-- ---- what changes keep, by the laws of collections
 
--- documents are in order after one that begins with a new `_id` is put among them
-abbrev pub KeepsOrder : Type 0
-KeepsOrder = (d : List Field) (ds : List (List Field)) → HasId d → AreOrdered ds → found (id_key d) ds ≡ None → AreOrdered (inserted d ds)
+pub record CollectionLaws : Type 0 where
+  pub inserted_ascend : (d : List Field) (ds : List (List Field)) → IsAscending ds → found (id_key d) ds ≡ None → IsAscending (inserted d ds)
+  pub inserted_ids : (d : List Field) (ds : List (List Field)) → HasId d → AllByRecursion HasId ds → AllByRecursion HasId (inserted d ds)
+  pub removed_ascend : (k : KeyTree) (ds : List (List Field)) → IsAscending ds → IsAscending (removed k ds)
+  pub removed_ids : (k : KeyTree) (ds : List (List Field)) → AllByRecursion HasId ds → AllByRecursion HasId (removed k ds)
+  pub replaced_ascend : (d : List Field) (ds : List (List Field)) → HasId d → AllByRecursion HasId ds → IsAscending ds → IsAscending (replaced d ds)
+  pub replaced_ids : (d : List Field) (ds : List (List Field)) → HasId d → AllByRecursion HasId ds → AllByRecursion HasId (replaced d ds)
 
-module _ (keeps : KeepsOrder) where
-  order_kept : (documents : List (List Field)) → AllByRecursion (Keeps AreOrdered) (map insert_one documents)
-  order_kept [] = tt
-  order_kept (d ∷ ds) = (insert_keeps AreOrdered d (record { stored_keeps = λ stored documents is h none. keeps stored documents (stored_id d stored is) h none }), order_kept ds)
+-- a document that is put begins with its `_id`
+abbrev pub BeginsWithId : Change → Type 0
+BeginsWithId (put d) = HasId d
+BeginsWithId (gone k) = Unit {0}
 
-  writes_order : (what : Asked) (write : Write) → write_of what ≡ Some write → AllByRecursion (Keeps AreOrdered) write.statements
+-- and is sound
+abbrev pub IsSoundChange : Change → Type 0
+IsSoundChange (put d) = HasId d × IsSoundDocument d
+IsSoundChange (gone k) = Unit {0}
+
+module _ (laws : CollectionLaws) where
+  put_ordered : (d : List Field) (ds : List (List Field)) (there : Option (List Field)) → found (id_key d) ds ≡ there → HasId d → AreOrdered ds → AreOrdered (cond (is_some there) (replaced d ds) (inserted d ds))
+  put_ordered d ds None none has_id ordered = (laws.inserted_ascend d ds ordered.0 none, laws.inserted_ids d ds has_id ordered.1)
+  put_ordered d ds (Some e) there has_id ordered = (laws.replaced_ascend d ds has_id ordered.1 ordered.0, laws.replaced_ids d ds has_id ordered.1)
+
+  changes_order : (namespace : List ℕ) (ds : List (List Field)) (change : Change) → AreOrdered ds → BeginsWithId change → AreOrdered (with_change ds change)
+  changes_order namespace ds (put d) ordered has_id = put_ordered d ds (found (id_key d) ds) refl has_id ordered
+  changes_order namespace ds (gone k) ordered good = (laws.removed_ascend k ds ordered.0, laws.removed_ids k ds ordered.1)
+
+  abbrev KeepsOrder : Write → Type 0
+  KeepsOrder write = AllByRecursion (Keeps (λ namespace ds. AreOrdered ds) BeginsWithId changes_order) write.statements
+
+  inserts_order : (documents : List (List Field)) → AllByRecursion (Keeps (λ namespace ds. AreOrdered ds) BeginsWithId changes_order) (map insert_one documents)
+  inserts_order [] = tt
+  inserts_order (d ∷ ds) = (insert_keeps (λ namespace ds. AreOrdered ds) BeginsWithId changes_order d (λ stored is. stored_id d stored is), inserts_order ds)
+
+  writes_order : (what : Asked) (write : Write) → write_of what ≡ Some write → KeepsOrder write
+  writes_order hello write is = absurd cc
   writes_order ping write is = absurd cc
-  writes_order (insert i) write is = let same : insert_write i ≡ write = cc in subst (λ (w : Write). AllByRecursion (Keeps AreOrdered) w.statements) same (order_kept i.documents)
+  writes_order (insert i) write is = let same : insert_write i ≡ write = cc in subst KeepsOrder same (inserts_order i.documents)
+  writes_order (delete d) write is = let same : delete_write d ≡ write = cc in subst KeepsOrder same (deletes_keep (λ namespace ds. AreOrdered ds) BeginsWithId changes_order (λ k. tt) d.entries)
   writes_order (find f) write is = absurd cc
 
   pub steps_ordered : (old new : State) (session : ℕ) (command : Command) (outcome : Outcome) → IsOrdered old → MemoryStep old session command outcome new → IsOrdered new
-  steps_ordered old new session command outcome h steps = step_holds AreOrdered old new session command outcome (λ what write asks is. writes_order what write is) h steps
+  steps_ordered old new session command outcome h steps = step_holds (λ namespace ds. AreOrdered ds) BeginsWithId changes_order old new session command outcome (λ what write asks is. writes_order what write is) h steps
 
   -- ---- and sound, if the documents of commands are
 
@@ -96,24 +126,51 @@ module _ (keeps : KeepsOrder) where
   all_inserted d [] sound all = (sound, tt)
   all_inserted d (e ∷ ds) sound all = by_order (is_lt (key_order (id_key d) (id_key e))) d e ds (inserted d ds) sound all (all_inserted d ds sound all.1)
 
-  sound_kept : (documents : List (List Field)) → AreValid documents → AllByRecursion (Keeps AreSound) (map insert_one documents)
-  sound_kept [] valid = tt
-  sound_kept (d ∷ ds) valid = (
-    insert_keeps AreSound d (record {
-      stored_keeps = λ stored documents is h none. (
-        keeps stored documents (stored_id d stored is) h.0 none,
-        all_inserted stored documents (record { valid = storable_valid d stored valid.0 is; fits = storable_fits d stored is }) h.1,
-      );
-    }),
-    sound_kept ds valid.1,
+  either_sound : (b : Bool) (d e : List Field) → IsSoundDocument d → IsSoundDocument e → IsSoundDocument (cond b d e)
+  either_sound true d e sound other = sound
+  either_sound false d e sound other = other
+
+  all_replaced : (d : List Field) (ds : List (List Field)) → IsSoundDocument d → AllByRecursion IsSoundDocument ds → AllByRecursion IsSoundDocument (replaced d ds)
+  all_replaced d [] sound all = tt
+  all_replaced d (e ∷ ds) sound all = (either_sound (has_key (id_key d) e) d e sound all.0, all_replaced d ds sound all.1)
+
+  all_kept : (b : Bool) (d : List Field) (ds : List (List Field)) → IsSoundDocument d → AllByRecursion IsSoundDocument ds → AllByRecursion IsSoundDocument (cond b (d ∷ ds) ds)
+  all_kept true d ds sound all = (sound, all)
+  all_kept false d ds sound all = all
+
+  all_removed : (k : KeyTree) (ds : List (List Field)) → AllByRecursion IsSoundDocument ds → AllByRecursion IsSoundDocument (removed k ds)
+  all_removed k [] all = tt
+  all_removed k (d ∷ ds) all = all_kept (not (has_key k d)) d (removed k ds) all.0 (all_removed k ds all.1)
+
+  put_sound : (b : Bool) (d : List Field) (ds : List (List Field)) → IsSoundDocument d → AllByRecursion IsSoundDocument ds → AllByRecursion IsSoundDocument (cond b (replaced d ds) (inserted d ds))
+  put_sound true d ds sound all = all_replaced d ds sound all
+  put_sound false d ds sound all = all_inserted d ds sound all
+
+  changes_sound : (namespace : List ℕ) (ds : List (List Field)) (change : Change) → AreSound ds → IsSoundChange change → AreSound (with_change ds change)
+  changes_sound namespace ds (put d) sound good = (changes_order namespace ds (put d) sound.0 good.0, put_sound (is_some (found (id_key d) ds)) d ds good.1 sound.1)
+  changes_sound namespace ds (gone k) sound good = (changes_order namespace ds (gone k) sound.0 tt, all_removed k ds sound.1)
+
+  abbrev KeepsSound : Write → Type 0
+  KeepsSound write = AllByRecursion (Keeps (λ namespace ds. AreSound ds) IsSoundChange changes_sound) write.statements
+
+  inserts_sound : (documents : List (List Field)) → AreValid documents → AllByRecursion (Keeps (λ namespace ds. AreSound ds) IsSoundChange changes_sound) (map insert_one documents)
+  inserts_sound [] valid = tt
+  inserts_sound (d ∷ ds) valid = (
+    insert_keeps (λ namespace ds. AreSound ds) IsSoundChange changes_sound d (λ stored is. (stored_id d stored is, record { valid = storable_valid d stored valid.0 is; fits = storable_fits d stored is })),
+    inserts_sound ds valid.1,
   )
 
-  writes_sound : (command : Command) → IsSoundCommand command → (what : Asked) (write : Write) → asked_by command ≡ Ok what → write_of what ≡ Some write → AllByRecursion (Keeps AreSound) write.statements
-  writes_sound command sound ping write asks is = absurd cc
-  writes_sound command sound (insert i) write asks is =
-      let same : insert_write i ≡ write = cc in
-      subst (λ (w : Write). AllByRecursion (Keeps AreSound) w.statements) same (sound_kept i.documents (asked_valid command i sound asks))
-  writes_sound command sound (find f) write asks is = absurd cc
+  module _ (asks : AsksSoundly) where
+    writes_sound : (command : Command) → IsSoundCommand command → (what : Asked) (write : Write) → asked_by command ≡ Ok what → write_of what ≡ Some write → KeepsSound write
+    writes_sound command sound hello write asked is = absurd cc
+    writes_sound command sound ping write asked is = absurd cc
+    writes_sound command sound (insert i) write asked is =
+        let same : insert_write i ≡ write = cc in
+        subst KeepsSound same (inserts_sound i.documents (soundly_asked asks command (insert i) sound asked).1)
+    writes_sound command sound (delete d) write asked is =
+        let same : delete_write d ≡ write = cc in
+        subst KeepsSound same (deletes_keep (λ namespace ds. AreSound ds) IsSoundChange changes_sound (λ k. tt) d.entries)
+    writes_sound command sound (find f) write asked is = absurd cc
 
-  pub steps_sound : (old new : State) (session : ℕ) (command : Command) (outcome : Outcome) → IsSoundCommand command → IsSound old → MemoryStep old session command outcome new → IsSound new
-  steps_sound old new session command outcome sound h steps = step_holds AreSound old new session command outcome (writes_sound command sound) h steps
+    pub steps_sound : (old new : State) (session : ℕ) (command : Command) (outcome : Outcome) → IsSoundCommand command → IsSound old → MemoryStep old session command outcome new → IsSound new
+    steps_sound old new session command outcome sound h steps = step_holds (λ namespace ds. AreSound ds) IsSoundChange changes_sound old new session command outcome (writes_sound command sound) h steps

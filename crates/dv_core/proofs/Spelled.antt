@@ -1,6 +1,7 @@
 -- Replies have a spelling.
-use Rattle.std.proofs.Common.{◌≡◌, ℕ, suc, ◌+◌, ◌*◌, ◌≤◌, ◌<◌, ◌^◌, ◌/◌, ◌%◌, decimal, Bool, true, false, ◌||◌, nat_lt, Option, Some, None, is_some, List, [], ◌∷◌, ◌++◌, length, map, pos, Result, Ok, Err, if◌then◌else◌, length-append, refl, sym, ap, subst, arith}
+use Rattle.std.proofs.Common.{◌≡◌, ℕ, suc, ◌+◌, ◌*◌, ◌≤◌, ◌<◌, ◌^◌, ◌/◌, ◌%◌, ◌-◌, min, decimal, Bool, true, false, ◌||◌, nat_lt, Option, Some, None, is_some, List, [], ◌∷◌, ◌++◌, length, map, pos, Result, Ok, Err, if◌then◌else◌, length-append, refl, sym, ap, subst, arith}
 use Rattle.std.proofs.lemmas.Bool.Decides.{nat_tests}
+use Rattle.std.proofs.lemmas.List.{length-map}
 use Rattle.std.proofs.lemmas.Int.{fits_signed_from_abs}
 use Rattle.std.proofs.lemmas.Fmt.{IsAscii-decimal, length-decimal-le}
 use Rattle.std.proofs.lemmas.Str.{IsUtf8-append, IsUtf8-from_ascii}
@@ -14,22 +15,25 @@ use Rattle.dv_bson.specs.declared.fault.BsonFault.{BsonFault}
 use Rattle.dv_bson.specs.declared.fault.BsonFault.TheVariants as bson
 use Rattle.dv_bson.specs.declared.fault.BsonFault.TheVariants.{Truncated, BadLength, RefusedType, BadUtf8, BadBool, BadArrayName, RepeatedName, TooDeep, NoMemory, BadName}
 use Rattle.dv_bson.specs.Names.{value_under, has_name, has_zero}
-use Rattle.dv_bson.specs.Spelling.{payload, spelling, IsValue, AreFields, AreElements, Spells}
-use Rattle.dv_bson.specs.Tree.{Tree, int32, int64, string, array, Field, fields_of, list_of_fields, elements_of}
-use Rattle.dv_coll.specs.Collection.{id_key, found}
-use Rattle.dv_command.specs.Asked.{Asked, Insert, ping, insert, find, asked_by}
-use Rattle.dv_command.specs.Replies.{document_of, count, reply_of, refusal_reply, rows_reply, write_error, write_reply, errors_field}
+use Rattle.dv_bson.specs.Spelling.{framed, element_spelling, counted, payload, spelling, IsValue, AreFields, AreElements, Spells}
+use Rattle.dv_bson.specs.Tree.{Tree, int32, int64, boolean, string, array, Field, fields_of, list_of_fields, elements_of}
+use Rattle.dv_command.specs.Asked.{Asked, hello, ping, insert, delete, find, asked_by}
+use Rattle.dv_command.specs.Replies.{document_of, count, hello_reply, reply_of, refusal_reply, rows_reply, write_error, write_reply, errors_field}
 use Rattle.dv_command.specs.Refusals.{code, code_name, message_of, ◌>>=◌}
 use Rattle.dv_command.specs.declared.command.Command.{Command}
 use Rattle.dv_command.specs.declared.refusal.Refusal.{Refusal}
 use Rattle.dv_command.specs.declared.refusal.Refusal.TheVariants.{BadValue, FailedToParse, TypeMismatch, InvalidBson, CommandNotFound, DuplicateKey, WantOfMemory, TooLarge, LimitReached}
-use Rattle.dv_core.specs.Changes.{put, Effect}
-use Rattle.dv_core.specs.Insert.{insert_one, put_new, insert_write}
+use Rattle.dv_core.specs.Changes.{Effect}
+use Rattle.dv_core.specs.Delete.{delete_one, delete_write}
+use Rattle.dv_core.specs.Insert.{insert_one, insert_write}
+use Rattle.dv_core.specs.Scan.{scan}
 use Rattle.dv_core.specs.State.{State, Namespaces, documents_of}
-use Rattle.dv_core.specs.Statements.{Written, nothing_written, is_due, with_result, with_next, with_all, carry_out}
+use Rattle.dv_core.specs.Statements.{Statement, Write, Written, nothing_written, is_due, with_result, with_next, with_all, carry_out}
 use Rattle.dv_core.specs.Step.{answered, read_answer, answer_to, step}
-use Rattle.dv_core.specs.Storable.{are_fields_dotted, has_dollar, without_field, id_in, is_within_limits, with_id_first, storable}
-use Rattle.dv_core.proofs.Asking.{IsNamespace, asked_few, asked_namespace}
+use Rattle.dv_command.specs.Sound.{IsNamespace, IsSoundlyAsked}
+use Rattle.dv_core.proofs.Asking.{AsksSoundly, soundly_asked}
+use Rattle.dv_core.proofs.Plain.{IsPlain, IsPlainly, IsPlainStatement, inserts_plain, deletes_plain}
+use Rattle.dv_core.proofs.Scanned.{all_scanned}
 use Rattle.dv_core.specs.Find.{total_size, batch_limit, batch_reply}
 use Rattle.dv_core.specs.Sound.{HasSpelling, IsTold, IsSound, IsSoundCommand, IsSoundDocument}
 use Rattle.dv_core.proofs.Spellings.{spelling-field, spelling-nil, spelling-long, length-int32, length-int64, length-string, sizes, array-bound}
@@ -109,12 +113,7 @@ module _ (namespace : List ℕ) (text : IsUtf8 namespace) (short : length namesp
       (more_valid (codes "cursor") (document_of cursor) ok_fields refl refl refl cursor_valid ok_valid)
       (omega (arith, spelling-field (codes "cursor", document_of cursor) ok_fields, ok_size, spelling-field (codes "firstBatch", rows) behind, rows_size, behind_size))
 
--- ---- the errors of an insert
-
--- a refusal of a statement, which tells of no fault in bytes
-abbrev pub IsPlain : Refusal → Type 0
-IsPlain (InvalidBson fault) = ⊥
-IsPlain refusal = Unit {0}
+-- ---- the errors of statements
 
 record IsShort (refusal : Refusal) : Type 0 where
   text : IsUtf8 (message_of refusal)
@@ -218,50 +217,9 @@ error_small place refusal within plain =
       ),
     )
 
-abbrev IsPlainResult : Result Effect Refusal → Type 0
-IsPlainResult (Ok effect) = effect.matched ≤ 1
-IsPlainResult (Err refusal) = IsPlain refusal
-
--- the statements of an insert are refused so, or counted for one document
-put_plain : (b : Bool) (d : List Field) → IsPlainResult (if b then Err DuplicateKey else Ok (record { matched = 1; changes = put d ∷ [] }))
-put_plain true d = tt
-put_plain false d = omega arith
-
-abbrev IsPlainStored : Result (List Field) Refusal → Type 0
-IsPlainStored (Ok d) = Unit {0}
-IsPlainStored (Err refusal) = IsPlain refusal
-
-id_plain : (id : Option Tree) (d : List Field) → IsPlainStored (id_in id >>= λ given. Ok ((codes "_id", given) ∷ d))
-id_plain None d = tt
-id_plain (Some (array vs)) d = tt
-id_plain (Some v) d = tt
-
-named_plain : (b : Bool) (r : Result (List Field) Refusal) → IsPlainStored r → IsPlainStored (if b then Err BadValue else r)
-named_plain true r plain = tt
-named_plain false r plain = plain
-
-sized_plain : (b : Bool) (d : List Field) → IsPlainStored (if b then Ok d else Err TooLarge)
-sized_plain true d = tt
-sized_plain false d = tt
-
-limited_plain : (r : Result (List Field) Refusal) → IsPlainStored r → IsPlainStored (r >>= λ stored. if is_within_limits stored then Ok stored else Err TooLarge)
-limited_plain (Ok d) plain = sized_plain (is_within_limits d) d
-limited_plain (Err refusal) plain = plain
-
-storable_plain : (d : List Field) → IsPlainStored (storable d)
-storable_plain d = limited_plain (with_id_first d) (named_plain (has_dollar d || are_fields_dotted (fields_of d)) _ (id_plain (value_under (codes "_id") d) (without_field (codes "_id") d)))
-
-stored_plain : (r : Result (List Field) Refusal) (documents : List (List Field)) → IsPlainStored r → IsPlainResult (r >>= λ stored. put_new stored documents)
-stored_plain (Ok stored) documents plain = put_plain (is_some (found (id_key stored) documents)) stored
-stored_plain (Err refusal) documents plain = plain
-
-insert_plain : (d : List Field) (documents : List (List Field)) → IsPlainResult (insert_one d documents)
-insert_plain d documents = stored_plain (storable d) documents (storable_plain d)
-
 -- what statements did so far, of which there are at most so many
 record AreFew (count : ℕ) (w : Written) : Type 0 where
   statements : w.statements ≤ count
-  n : w.n ≤ count
   errors : length w.errors ≤ count
   small : AllByRecursion IsSmall w.errors
 
@@ -270,25 +228,26 @@ small-push [] e all h = (h, tt)
 small-push (x ∷ es) e all h = (all.0, small-push es e all.1 h)
 
 module _ (namespace : List ℕ) (ordered : Bool) where
-  few_result : (count : ℕ) (w : Written) (result : Result Effect Refusal) → count < 2 ^ 31 → AreFew count w → IsPlainResult result → AreFew (suc count) (with_result namespace ordered w result)
-  few_result count w (Ok effect) within few plain = record { statements = omega (arith, few.statements); n = omega (arith, few.n, plain); errors = omega (arith, few.errors); small = few.small }
+  few_result : (count : ℕ) (w : Written) (result : Result Effect Refusal) → count < 2 ^ 31 → AreFew count w → IsPlainly result → AreFew (suc count) (with_result namespace ordered w result)
+  few_result count w (Ok effect) within few plain = record { statements = omega (arith, few.statements); errors = omega (arith, few.errors); small = few.small }
   few_result count w (Err refusal) within few plain = record {
     statements = omega (arith, few.statements);
-    n = omega (arith, few.n);
     errors = omega (arith, few.errors, length-append w.errors (document_of (write_error w.statements refusal) ∷ []));
     small = small-push w.errors _ few.small (error_small w.statements refusal (omega (arith, few.statements)) plain);
   }
 
   few_looked : (b : Bool) (count : ℕ) (one other : Written) → AreFew (suc count) one → AreFew count other → AreFew (suc count) (if b then one else other)
   few_looked true count one other few less = few
-  few_looked false count one other few less = record { statements = omega (arith, less.statements); n = omega (arith, less.n); errors = omega (arith, less.errors); small = less.small }
+  few_looked false count one other few less = record { statements = omega (arith, less.statements); errors = omega (arith, less.errors); small = less.small }
 
-  few_all : (count : ℕ) (w : Written) (documents : List (List Field)) → count + length documents ≤ 100000 → AreFew count w → AreFew (count + length documents) (with_all namespace ordered w (map insert_one documents))
-  few_all count w [] within few = record { statements = omega (arith, few.statements); n = omega (arith, few.n); errors = omega (arith, few.errors); small = few.small }
-  few_all count w (d ∷ ds) within few =
-      let next = few_looked (is_due ordered w.errors) count (with_result namespace ordered w (insert_one d (documents_of namespace w.namespaces))) w (few_result count w _ (omega arith) few (insert_plain d (documents_of namespace w.namespaces))) few in
-      let rest = few_all (suc count) (with_next namespace ordered w (insert_one d)) ds (omega arith) next in
-      record { statements = omega (arith, rest.statements); n = omega (arith, rest.n); errors = omega (arith, rest.errors); small = rest.small }
+  few_all : (count : ℕ) (w : Written) (statements : List Statement) → count + length statements ≤ 100000 → AllByRecursion IsPlainStatement statements → AreFew count w
+      → AreFew (count + length statements) (with_all namespace ordered w statements)
+  few_all count w [] within plain few = record { statements = omega (arith, few.statements); errors = omega (arith, few.errors); small = few.small }
+  few_all count w (statement ∷ statements) within plain few =
+      let documents : List (List Field) = documents_of namespace w.namespaces in
+      let next = few_looked (is_due ordered w.errors) count (with_result namespace ordered w (statement documents)) w (few_result count w (statement documents) (omega arith) few (plain.0.plain documents)) few in
+      let rest = few_all (suc count) (with_next namespace ordered w statement) statements (omega arith) plain.1 next in
+      record { statements = omega (arith, rest.statements); errors = omega (arith, rest.errors); small = rest.small }
 
 small_elements : (es : List Tree) → AllByRecursion IsSmall es → AreElements (elements_of es)
 small_elements [] all = tt
@@ -298,27 +257,57 @@ small_sizes : (es : List Tree) → AllByRecursion IsSmall es → sizes es ≤ 12
 small_sizes [] all = omega arith
 small_sizes (e ∷ es) all = omega (arith, all.0.1, small_sizes es all.1)
 
-count_small : (n : ℕ) → n ≤ 100000 → count n ≡ int32 (pos n)
-count_small n h = grind (arith, nat_tests)
+-- every count has a value that is valid
+abbrev pub CountsAreValid : Type 0
+CountsAreValid = (n : ℕ) → IsValue (count n)
 
-errors_spelled : (n : ℕ) (es : List Tree) → n ≤ 100000 → length es ≤ 100000 → AllByRecursion IsSmall es → HasSpelling (reply_of ((codes "n", int32 (pos n)) ∷ errors_field es))
-errors_spelled n [] h few all =
-    spelled ((codes "n", int32 (pos n)) ∷ ok_fields) (more_valid (codes "n") (int32 (pos n)) ok_fields refl refl refl (number_valid n (omega arith)) ok_valid)
-    (omega (arith, spelling-field (codes "n", int32 (pos n)) ok_fields, length-int32 (pos n), ok_size))
-errors_spelled n (e ∷ es) h few all =
+count_size : (n : ℕ) → length (payload (count n)) ≤ 8
+count_size n = by_size (nat_lt n (2 ^ 31))
+  where
+    by_size : (b : Bool) → length (payload (if b then int32 (pos n) else int64 (pos (min n (2 ^ 63 - 1))))) ≤ 8
+    by_size true = omega (arith, length-int32 (pos n))
+    by_size false = omega (arith, length-int64 (pos (min n (2 ^ 63 - 1))))
+
+errors_spelled : CountsAreValid → (n : ℕ) (es : List Tree) → length es ≤ 100000 → AllByRecursion IsSmall es → HasSpelling (reply_of ((codes "n", count n) ∷ errors_field es))
+errors_spelled counts n [] few all =
+    spelled ((codes "n", count n) ∷ ok_fields) (more_valid (codes "n") (count n) ok_fields refl refl refl (counts n) ok_valid)
+    (omega (arith, spelling-field (codes "n", count n) ok_fields, count_size n, ok_size))
+errors_spelled counts n (e ∷ es) few all =
     let told : Tree = array (elements_of (e ∷ es)) in
     let errors : List Field = (codes "writeErrors", told) ∷ ok_fields in
-    spelled ((codes "n", int32 (pos n)) ∷ errors)
-    (more_valid (codes "n") (int32 (pos n)) errors refl refl refl (number_valid n (omega arith)) (more_valid (codes "writeErrors") told ok_fields refl refl refl (small_elements (e ∷ es) all) ok_valid))
-    (omega (arith, spelling-field (codes "n", int32 (pos n)) errors, length-int32 (pos n), spelling-field (codes "writeErrors", told) ok_fields, ok_size, array-bound (e ∷ es) (omega arith), small_sizes (e ∷ es) all))
+    spelled ((codes "n", count n) ∷ errors)
+    (more_valid (codes "n") (count n) errors refl refl refl (counts n) (more_valid (codes "writeErrors") told ok_fields refl refl refl (small_elements (e ∷ es) all) ok_valid))
+    (omega (arith, spelling-field (codes "n", count n) errors, count_size n, spelling-field (codes "writeErrors", told) ok_fields, ok_size, array-bound (e ∷ es) (omega arith), small_sizes (e ∷ es) all))
 
-few_spelled : (w : Written) → AreFew 100000 w → HasSpelling (write_reply w.n w.errors)
-few_spelled w few = rw (count_small w.n few.n) (errors_spelled w.n w.errors few.n few.errors few.small)
+write_spelled : CountsAreValid → (write : Write) (old : Namespaces) → length write.statements ≤ 100000 → AllByRecursion IsPlainStatement write.statements → HasSpelling (write_reply (carry_out write old).n (carry_out write old).errors)
+write_spelled counts write old within plain =
+    let nothing : AreFew 0 (nothing_written old) = record { statements = omega arith; errors = omega arith; small = tt } in
+    let all = few_all write.namespace write.ordered 0 (nothing_written old) write.statements (omega arith) plain nothing in
+    errors_spelled counts (carry_out write old).n (carry_out write old).errors (omega (arith, all.errors)) all.small
 
-insert_spelled : (i : Insert) (old : Namespaces) → length i.documents ≤ 100000 → HasSpelling (write_reply (carry_out (insert_write i) old).n (carry_out (insert_write i) old).errors)
-insert_spelled i old within =
-    let all = few_all i.namespace i.ordered 0 (nothing_written old) i.documents (omega arith) (record { statements = omega arith; n = omega arith; errors = omega arith; small = tt }) in
-    few_spelled (carry_out (insert_write i) old) (record { statements = omega (arith, all.statements); n = omega (arith, all.n); errors = omega (arith, all.errors); small = all.small })
+-- ---- a greeting
+
+hello_size : length (spelling hello_reply) ≡ 155
+unfolding framed element_spelling payload counted
+hello_size = refl
+
+hello_spelled : HasSpelling hello_reply
+hello_spelled =
+    let fields6 : List Field = (codes "readOnly", boolean false) ∷ ok_fields in
+    let valid6 : AreFields (fields_of fields6) = more_valid (codes "readOnly") (boolean false) ok_fields refl refl refl (tt) ok_valid in
+    let fields5 : List Field = (codes "maxWireVersion", int32 (pos 17)) ∷ fields6 in
+    let valid5 : AreFields (fields_of fields5) = more_valid (codes "maxWireVersion") (int32 (pos 17)) fields6 refl refl refl (number_valid 17 (omega arith)) valid6 in
+    let fields4 : List Field = (codes "minWireVersion", int32 (pos 0)) ∷ fields5 in
+    let valid4 : AreFields (fields_of fields4) = more_valid (codes "minWireVersion") (int32 (pos 0)) fields5 refl refl refl (number_valid 0 (omega arith)) valid5 in
+    let fields3 : List Field = (codes "maxWriteBatchSize", int32 (pos 100000)) ∷ fields4 in
+    let valid3 : AreFields (fields_of fields3) = more_valid (codes "maxWriteBatchSize") (int32 (pos 100000)) fields4 refl refl refl (number_valid 100000 (omega arith)) valid4 in
+    let fields2 : List Field = (codes "maxMessageSizeBytes", int32 (pos 48000000)) ∷ fields3 in
+    let valid2 : AreFields (fields_of fields2) = more_valid (codes "maxMessageSizeBytes") (int32 (pos 48000000)) fields3 refl refl refl (number_valid 48000000 (omega arith)) valid3 in
+    let fields1 : List Field = (codes "maxBsonObjectSize", int32 (pos 16777216)) ∷ fields2 in
+    let valid1 : AreFields (fields_of fields1) = more_valid (codes "maxBsonObjectSize") (int32 (pos 16777216)) fields2 refl refl refl (number_valid 16777216 (omega arith)) valid2 in
+    let fields0 : List Field = (codes "isWritablePrimary", boolean true) ∷ fields1 in
+    let valid0 : AreFields (fields_of fields0) = more_valid (codes "isWritablePrimary") (boolean true) fields1 refl refl refl (tt) valid1 in
+    spelled hello_reply valid0 (omega (arith, hello_size))
 
 -- ---- every command
 
@@ -355,12 +344,17 @@ find_spelled old namespace ds named sound = by_size (nat_lt batch_limit (total_s
     by_size true test = refusal_spelled TooLarge tt
     by_size false test = rows_spelled namespace named.0 named.1 ds sound (grind (arith, nat_tests))
 
-asked_spelled : (state : State) (session : ℕ) (command : Command) (asked : Asked) → IsSound state → IsSoundCommand command → asked_by command ≡ Ok asked → HasSpelling (answered state (answer_to state session asked)).reply
-asked_spelled state session command ping sound valid asks = ping_spelled
-asked_spelled state session command (insert i) sound valid asks = insert_spelled i state.namespaces (asked_few command i asks)
-asked_spelled state session command (find f) sound valid asks = find_spelled state f.namespace (documents_of f.namespace state.namespaces) (asked_namespace command f valid asks) (sound f.namespace).1
+module _ (asks : AsksSoundly) (counts : CountsAreValid) where
+  asked_spelled : (state : State) (session : ℕ) (command : Command) (asked : Asked) → IsSound state → IsSoundlyAsked asked → HasSpelling (answered state (answer_to state session asked)).reply
+  asked_spelled state session command hello sound asked = hello_spelled
+  asked_spelled state session command ping sound asked = ping_spelled
+  asked_spelled state session command (insert i) sound asked = write_spelled counts (insert_write i) state.namespaces (omega (arith, length-map i.documents insert_one, asked.2)) (inserts_plain i.documents)
+  asked_spelled state session command (delete d) sound asked = write_spelled counts (delete_write d) state.namespaces (omega (arith, length-map d.entries delete_one, asked.2)) (deletes_plain d.entries)
+  asked_spelled state session command (find f) sound asked =
+      let documents : List (List Field) = documents_of f.namespace state.namespaces in
+      find_spelled state f.namespace (scan f.filter f.sort f.skip f.limit documents) asked (all_scanned IsSoundDocument f.filter f.sort f.skip f.limit documents (sound f.namespace).1)
 
-pub replies_spelled : (state : State) (session : ℕ) (command : Command) (asked : Asked) → IsSound state → IsSoundCommand command → asked_by command ≡ Ok asked → HasSpelling (step state session command).reply
-replies_spelled state session command asked sound valid asks =
-    let carried : (step state session command).reply ≡ (answered state (answer_to state session asked)).reply = ap (λ (r : Result Asked Refusal). (answered state (r >>= answer_to state session)).reply) asks in
-    subst HasSpelling (sym carried) (asked_spelled state session command asked sound valid asks)
+  pub replies_spelled : (state : State) (session : ℕ) (command : Command) (asked : Asked) → IsSound state → IsSoundCommand command → asked_by command ≡ Ok asked → HasSpelling (step state session command).reply
+  replies_spelled state session command asked sound valid is =
+      let carried : (step state session command).reply ≡ (answered state (answer_to state session asked)).reply = ap (λ (r : Result Asked Refusal). (answered state (r >>= answer_to state session)).reply) is in
+      subst HasSpelling (sym carried) (asked_spelled state session command asked sound (soundly_asked asks command asked valid is))

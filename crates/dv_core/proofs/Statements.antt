@@ -10,8 +10,8 @@ use Rattle.dv_coll.specs.Collection.{id_key, found}
 use Rattle.dv_core.specs.Insert.{insert_one, put_new}
 use Rattle.dv_core.specs.Storable.{storable}
 use Rattle.dv_core.specs.declared.outcome.Outcome.TheVariants.{Reply, Wanting, NoReply}
-use Rattle.dv_core.specs.declared.written.Next.{Next}
-use Rattle.dv_core.specs.declared.written.Next.TheVariants.{Due, Ended}
+use Rattle.dv_core.specs.declared.next.Next.{Next}
+use Rattle.dv_core.specs.declared.next.Next.TheVariants.{Due, Ended}
 use Rattle.dv_core.specs.State.{Namespaces, documents_of}
 use Rattle.dv_core.specs.Changes.{Change, put, Effect, apply}
 use Rattle.dv_core.specs.Statements.{Statement, Write, Written, nothing_written, carry_out, with_next, with_all, with_result, is_due, next_changes, cut, AreCut, IsCut}
@@ -20,11 +20,6 @@ use Rattle.dv_core.specs.WriteParts.{with_refusal, next_behind, reply_seen, Note
 is_due-push : (ordered : Bool) (es : List Tree) (e : Tree) → is_due ordered (es ++ e ∷ []) ≡ not ordered
 is_due-push ordered [] e = refl
 is_due-push ordered (x ∷ es) e = refl
-
--- a statement is counted for one document at most
-abbrev pub CountsOne : Result Effect Refusal → Type 0
-CountsOne (Ok effect) = effect.matched ≤ 1
-CountsOne (Err refusal) = Unit {0}
 
 module _ (namespace : List ℕ) (ordered : Bool) where
   -- ---- one statement
@@ -60,10 +55,6 @@ module _ (namespace : List ℕ) (ordered : Bool) where
   counts_result : (so_far : Written) (result : Result Effect Refusal) → (with_result namespace ordered so_far result).statements ≡ suc so_far.statements
   counts_result so_far (Ok effect) = refl
   counts_result so_far (Err refusal) = refl
-
-  counts_n-result : (so_far : Written) (result : Result Effect Refusal) → CountsOne result → so_far.n ≤ so_far.statements → (with_result namespace ordered so_far result).n ≤ suc so_far.statements
-  counts_n-result so_far (Ok effect) one within = omega arith
-  counts_n-result so_far (Err refusal) one within = omega arith
 
   -- ---- where a write stands
 
@@ -125,23 +116,6 @@ module _ (namespace : List ℕ) (ordered : Bool) where
 
         pub counts : (now : Written) → NextStep namespace ordered so_far statement (Ok Due) now → now.statements ≡ suc so_far.statements
         counts now next = ap (λ (w : Written). w.statements) next.0 ∙ rw reached.due (counts_result so_far _)
-
-        pub counts_n : (now : Written) → NextStep namespace ordered so_far statement (Ok Due) now → CountsOne (statement (documents_of namespace so_far.namespaces)) → so_far.n ≤ so_far.statements → now.n ≤ now.statements
-        counts_n now next one within =
-            let n : now.n ≡ (with_result namespace ordered so_far (statement (documents_of namespace so_far.namespaces))).n = ap (λ (w : Written). w.n) next.0 ∙ rw reached.due refl in
-            omega (arith, n, counts now next, counts_n-result so_far (statement (documents_of namespace so_far.namespaces)) one within)
-
--- an insert's statement is counted for one document
-put_counts : (b : Bool) (d : List Field) → CountsOne (if b then Err DuplicateKey else Ok (record { matched = 1; changes = put d ∷ [] }))
-put_counts true d = tt
-put_counts false d = omega arith
-
-stored_counts : (r : Result (List Field) Refusal) (documents : List (List Field)) → CountsOne (r >>= λ stored. put_new stored documents)
-stored_counts (Ok stored) documents = put_counts (is_some (found (id_key stored) documents)) stored
-stored_counts (Err refusal) documents = tt
-
-pub insert_counts : (d : List Field) (documents : List (List Field)) → CountsOne (insert_one d documents)
-insert_counts d documents = stored_counts (storable d) documents
 
 -- what an ended write answers
 module _ (write : Write) (old : Namespaces) (left : Written) where

@@ -6,15 +6,19 @@ use Rattle.std.specs.FinMap as finite
 use Rattle.std.specs.Ordering.{nat_cmp, eq_by_cmp}
 use Rattle.dv_bson.specs.Tree.{Tree, Field, int64, boolean}
 use Rattle.dv_bson.specs.Spelling.{framed, element_spelling, payload, counted}
-use Rattle.dv_coll.specs.Collection.{id_key, inserted}
+use Rattle.dv_match.specs.Filter.{no_members}
+use Rattle.dv_match.specs.Match.{matches}
+use Rattle.dv_match.specs.Parsing.{filter_in}
+use Rattle.dv_sort.specs.Sorting.{stable}
 use Rattle.dv_command.specs.Asked.{Insert}
 use Rattle.dv_command.specs.Replies.{document_of, write_error, cut_error, reply_of, refusal_reply}
 use Rattle.dv_command.specs.declared.refusal.Refusal.{Refusal}
 use Rattle.dv_command.specs.declared.refusal.Refusal.TheVariants.{DuplicateKey, WantOfMemory}
-use Rattle.dv_core.specs.Changes.{put, Effect, without_key}
+use Rattle.dv_core.specs.Changes.{put, Effect, with_put}
 use Rattle.dv_core.specs.Examples.{only, one_field, number, holding, letters, InsertExamples, ReadExamples, RefusalExamples, WantExamples}
 use Rattle.dv_core.specs.Find.{batch_reply}
 use Rattle.dv_core.specs.Insert.{insert_one, insert_write}
+use Rattle.dv_core.specs.Scan.{scan}
 use Rattle.dv_core.specs.State.{State, Standing, Namespaces, documents_of, empty_state, with_documents}
 use Rattle.dv_core.specs.Statements.{Statement, Written, nothing_written, is_due, with_result, with_next, with_all, cut, IsCut}
 use Rattle.dv_core.specs.Step.{Answer, answered, read_answer, write_answer}
@@ -58,12 +62,12 @@ module _ (namespace : List ℕ) (ordered : Bool) (w : Written) (documents : List
       (λ i. cond (due i) (with_result namespace ordered w (statement (are i))) w) ∙ ap (with_result namespace ordered w) gives
 
   -- it is put among the documents
-  puts : (d stored : List Field) (after : List (List Field)) → insert_one d documents ≡ Ok (record { matched = 1; changes = put stored ∷ [] }) → inserted stored (without_key (id_key stored) documents) ≡ after
+  puts : (d stored : List Field) (after : List (List Field)) → insert_one d documents ≡ Ok (record { matched = 1; changes = put stored ∷ [] }) → with_put stored documents ≡ after
       → with_next namespace ordered w (insert_one d) ≡ wrote (suc w.statements) (w.n + 1) w.errors (with_documents namespace after w.namespaces)
   puts d stored after gives leaves =
       looked_at (insert_one d) (Ok (record { matched = 1; changes = put stored ∷ [] })) gives
       ∙ ap (λ (ds : List (List Field)). wrote (suc w.statements) (w.n + 1) w.errors (with_documents namespace ds w.namespaces))
-      (ap (λ (ds : List (List Field)). inserted stored (without_key (id_key stored) ds)) are ∙ leaves)
+      (ap (with_put stored) are ∙ leaves)
 
   -- it is refused
   refuses : (d : List Field) (refusal : Refusal) → insert_one d documents ≡ Err refusal
@@ -122,12 +126,13 @@ inserts = record {
       ∙ ap (wrote 2 2 []) (put_twice (only 1 ∷ falsely ∷ []) (falsely ∷ []) empty_state.namespaces));
 }
 
+-- a find of all documents
 finds : (old : State) (namespace : List ℕ) (documents : List (List Field)) → documents_of namespace old.namespaces ≡ documents
-    → answered old (read_answer old (batch_reply namespace (documents_of namespace old.namespaces))) ≡ answered old (read_answer old (batch_reply namespace documents))
-finds old namespace documents are = ap (λ (ds : List (List Field)). answered old (read_answer old (batch_reply namespace ds))) are
+    → answered old (read_answer old (batch_reply namespace (scan no_members [] 0 0 (documents_of namespace old.namespaces)))) ≡ answered old (read_answer old (batch_reply namespace (scan no_members [] 0 0 documents)))
+finds old namespace documents are = ap (λ (ds : List (List Field)). answered old (read_answer old (batch_reply namespace (scan no_members [] 0 0 ds)))) are
 
 pub reads : ReadExamples
-unfolding framed element_spelling payload counted
+unfolding framed element_spelling payload counted filter_in matches stable
 reads = record {
   pinged = λ state session. refl;
   found = λ session. finds (holding (only 5 ∷ only 6 ∷ [])) t_c (only 5 ∷ only 6 ∷ []) (put_there (only 5 ∷ only 6 ∷ []) empty_state.namespaces);
@@ -135,6 +140,7 @@ reads = record {
 }
 
 pub refusals : RefusalExamples
+unfolding filter_in matches stable
 refusals = record {
   no_database = λ state session. refl;
   dotted_database = λ state session. refl;
@@ -146,7 +152,7 @@ refusals = record {
   database_first = λ state session. refl;
   typed_ordered = λ state session. refl;
   unknown_field = λ state session. refl;
-  filtered = λ state session. refl;
+  projected = λ state session. refl;
   unreadable = λ state session. refl;
   listed = λ state session list. refl;
   zero_in_name = λ state session. refl;

@@ -1,23 +1,23 @@
 -- What statements change: one document after the other.
-use Rattle.std.specs.Prelude.{ℕ, List, [], ◌∷◌, Result, Ok, Err, if◌then◌else◌}
+use Rattle.std.specs.Prelude.{ℕ, List, [], ◌∷◌, Result, Ok, Err, is_some, if◌then◌else◌}
 use Rattle.dv_bson.specs.Tree.{Field}
 use Rattle.dv_order.specs.Key.{KeyTree}
-use Rattle.dv_coll.specs.Collection.{id_key, has_key, inserted}
+use Rattle.dv_coll.specs.Collection.{id_key, found, inserted, removed, replaced}
 use Rattle.dv_command.specs.declared.refusal.Refusal.{Refusal}
 use Rattle.dv_core.specs.State.{Namespaces, documents_of, with_documents}
 
--- a document put in its place, in place of one with an equal `_id` if there is one; or the document under a key gone
+-- a document put among the others, or the document under a key gone
 pub data Change : Type 0 where
   put : List Field → Change
   gone : KeyTree → Change
 
-abbrev pub without_key : KeyTree → List (List Field) → List (List Field)
-without_key k [] = []
-without_key k (d ∷ ds) = if has_key k d then ds else d ∷ without_key k ds
+-- a document in place of the one that has an equal `_id`, or where none has in a place of its own
+abbrev pub with_put : List Field → List (List Field) → List (List Field)
+with_put d documents = if is_some (found (id_key d) documents) then replaced d documents else inserted d documents
 
 abbrev pub with_change : List (List Field) → Change → List (List Field)
-with_change documents (put d) = inserted d (without_key (id_key d) documents)
-with_change documents (gone k) = without_key k documents
+with_change documents (put d) = with_put d documents
+with_change documents (gone k) = removed k documents
 
 abbrev pub with_changes : List (List Field) → List Change → List (List Field)
 with_changes documents [] = documents

@@ -140,7 +140,7 @@ pub record RefusalExamples : Type 0 where
   pub database_first : IsRefused (on (codes "a.b") (one_field (codes "find") (number 1))) 2 (codes "BadValue")
   pub typed_ordered : IsRefused (insert (only 1 ∷ []) ++ one_field (codes "ordered") (number 1)) 14 (codes "TypeMismatch")
   pub unknown_field : IsRefused (insert (only 1 ∷ []) ++ one_field (codes "upsert") (boolean false)) 9 (codes "FailedToParse")
-  pub filtered : IsRefused (find ++ one_field (codes "filter") (document_of (only 1))) 9 (codes "FailedToParse")
+  pub projected : IsRefused (find ++ one_field (codes "projection") (document_of (only 1))) 9 (codes "FailedToParse")
   pub unreadable : (state : State) (session : ℕ) → step state session (Invalid TooDeep)
       ≡ record { reply = (codes "ok", int32 (pos 0)) ∷ (codes "errmsg", string (codes "InvalidBSON: TooDeep")) ∷ (codes "code", int32 (pos 22)) ∷ (codes "codeName", string (codes "InvalidBSON")) ∷ []; state = state }
   -- a list beside the body

@@ -1,5 +1,5 @@
--- Finding documents (MongoDB manual, "find"). That all documents of a namespace come, at once and in the order of their `_id`s, and
--- how large they may be together are this server's own.
+-- What a find replies (MongoDB manual, "find": its output). That all documents come at once, and how large they may be together, are
+-- this server's own.
 use Rattle.std.specs.Prelude.{ℕ, ◌+◌, List, [], ◌∷◌, map, Result, Ok, Err, nat_lt, length, if◌then◌else◌}
 use Rattle.dv_bson.specs.Tree.{Field}
 use Rattle.dv_bson.specs.Spelling.{spelling}

@@ -4,15 +4,17 @@ use Rattle.dv_bson.specs.Tree.{Field}
 use Rattle.dv_command.specs.declared.command.Command.{Command}
 use Rattle.dv_command.specs.declared.refusal.Refusal.{Refusal}
 use Rattle.dv_command.specs.declared.refusal.Refusal.TheVariants.{WantOfMemory}
-use Rattle.dv_command.specs.Asked.{Asked, ping, insert, find, asked_by}
+use Rattle.dv_command.specs.Asked.{Asked, hello, ping, insert, delete, find, asked_by}
 use Rattle.dv_command.specs.Refusals.{◌>>=◌}
-use Rattle.dv_command.specs.Replies.{reply_of, refusal_reply, write_reply}
+use Rattle.dv_command.specs.Replies.{reply_of, hello_reply, refusal_reply, write_reply}
 use Rattle.dv_core.specs.declared.outcome.Outcome.{Outcome}
 use Rattle.dv_core.specs.declared.outcome.Outcome.TheVariants.{Reply, Wanting, NoReply}
 use Rattle.dv_core.specs.State.{State, documents_of}
 use Rattle.dv_core.specs.Statements.{Write, Written, carry_out, IsCut}
 use Rattle.dv_core.specs.Insert.{insert_write}
+use Rattle.dv_core.specs.Delete.{delete_write}
 use Rattle.dv_core.specs.Find.{batch_reply}
+use Rattle.dv_core.specs.Scan.{scan}
 
 -- the reply to a command, and the state after it
 pub record Answer : Type 0 where
@@ -31,9 +33,12 @@ write_answer old did = record { reply = write_reply did.n did.errors; state = re
 
 -- what a command of a session answers, by what it asks
 abbrev pub answer_to : State → ℕ → Asked → Result Answer Refusal
+answer_to state session hello = read_answer state (Ok hello_reply)
 answer_to state session ping = read_answer state (Ok (reply_of []))
 answer_to state session (insert asked) = Ok (write_answer state (carry_out (insert_write asked) state.namespaces))
-answer_to state session (find asked) = read_answer state (batch_reply asked.namespace (documents_of asked.namespace state.namespaces))
+answer_to state session (delete asked) = Ok (write_answer state (carry_out (delete_write asked) state.namespaces))
+answer_to state session (find asked) =
+    read_answer state (batch_reply asked.namespace (scan asked.filter asked.sort asked.skip asked.limit (documents_of asked.namespace state.namespaces)))
 
 -- a refusal leaves the state
 abbrev pub answered : State → Result Answer Refusal → Answer
@@ -48,8 +53,10 @@ step state session command = answered state (asked_by command >>= answer_to stat
 
 -- the write that a command is, if it is one; no other command changes a document
 abbrev pub write_of : Asked → Option Write
+write_of hello = None
 write_of ping = None
 write_of (insert asked) = Some (insert_write asked)
+write_of (delete asked) = Some (delete_write asked)
 write_of (find asked) = None
 
 -- the answers of a write that is cut at one of its statements

@@ -1,5 +1,5 @@
 -- What the parts of a write give.
-use Rattle.std.specs.Prelude.{◌≡◌, ℕ, suc, ◌<◌, ◌⊎◌, Bool, true, false, List, [], ◌∷◌, ◌++◌, length, map, Result, Ok, Err, if◌then◌else◌, ⊤}
+use Rattle.std.specs.Prelude.{◌≡◌, ℕ, suc, ◌+◌, ◌<◌, ◌⊎◌, Bool, true, false, List, [], ◌∷◌, ◌++◌, length, map, Result, Ok, Err, if◌then◌else◌, ⊤}
 use Rattle.std.specs.declared.alloc.AllocError.{AllocError}
 use Rattle.dv_bson.specs.Tree.{Field}
 use Rattle.dv_bson.specs.View.{tree}
@@ -9,10 +9,10 @@ use Rattle.dv_command.specs.Replies.{document_of, write_error, cut_error, write_
 use Rattle.dv_core.specs.declared.outcome.Outcome.{Outcome}
 use Rattle.dv_core.specs.declared.outcome.Outcome.TheVariants.{Reply, Wanting, NoReply}
 use Rattle.dv_core.specs.declared.written.Written as declared
-use Rattle.dv_core.specs.declared.written.Next.{Next}
-use Rattle.dv_core.specs.declared.written.Next.TheVariants.{Due, Ended, Cut}
+use Rattle.dv_core.specs.declared.next.Next.{Next}
+use Rattle.dv_core.specs.declared.next.Next.TheVariants.{Due, Ended, Cut}
 use Rattle.dv_core.specs.State.{Namespaces, documents_of}
-use Rattle.dv_core.specs.Changes.{Change, apply}
+use Rattle.dv_core.specs.Changes.{Change, apply, with_changes}
 use Rattle.dv_core.specs.Statements.{Statement, Write, Written, carry_out, with_next, is_due, next_changes, cut, IsCut}
 
 -- what statements did, and what they left
@@ -21,6 +21,10 @@ written_seen w namespaces = record { statements = w.statements; n = w.n; errors 
 
 abbrev pub reply_seen : Written → List Field
 reply_seen did = write_reply did.n did.errors
+
+-- one statement more, which was carried out, and is counted for so many documents
+abbrev pub with_matched : Written → ℕ → Written
+with_matched so_far matched = record so_far { statements = suc so_far.statements; n = so_far.n + matched }
 
 -- the error of a statement that was refused; one that found no memory made none of its changes
 abbrev pub error_of : ℕ → Refusal → List Field
@@ -47,11 +51,17 @@ abbrev pub outcome_of : Result Outcome AllocError → Outcome
 outcome_of (Ok outcome) = outcome
 outcome_of (Err e) = NoReply
 
--- a statement makes its changes, and is counted for so many documents; or it is refused, if only for want of memory, and nothing is changed
-abbrev pub Makes : {B : Type 0} → List ℕ → Statement → ℕ → Namespaces → Result B Refusal → Namespaces → Type 0
-Makes namespace statement matched old (Ok x) new =
-    (changes : List Change) × (statement (documents_of namespace old) ≡ Ok (record { matched = matched; changes = changes })) × (new ≡ apply namespace changes old)
-Makes namespace statement matched old (Err refusal) new = ((statement (documents_of namespace old) ≡ Err refusal) ⊎ (refusal ≡ WantOfMemory)) × (new ≡ old)
+-- a statement makes its changes, and tells for how many documents it is counted; or it is refused, if only for want of memory, and
+-- nothing is changed
+abbrev pub Makes : {B : Type 0} → (B → ℕ) → List ℕ → Statement → Namespaces → Result B Refusal → Namespaces → Type 0
+Makes matched namespace statement old (Ok x) new =
+    (changes : List Change) × (statement (documents_of namespace old) ≡ Ok (record { matched = matched x; changes = changes })) × (new ≡ apply namespace changes old)
+Makes matched namespace statement old (Err refusal) new = ((statement (documents_of namespace old) ≡ Err refusal) ⊎ (refusal ≡ WantOfMemory)) × (new ≡ old)
+
+-- the same, on the documents of a collection
+abbrev pub Alters : Statement → List (List Field) → Result ℕ Refusal → List (List Field) → Type 0
+Alters statement old (Ok matched) new = (changes : List Change) × (statement old ≡ Ok (record { matched = matched; changes = changes })) × (new ≡ with_changes old changes)
+Alters statement old (Err refusal) new = ((statement old ≡ Err refusal) ⊎ (refusal ≡ WantOfMemory)) × (new ≡ old)
 
 module _ (namespace : List ℕ) (ordered : Bool) where
   -- the next statement is cut behind some of its changes

@@ -9,7 +9,7 @@ ghost use Rattle.dv_core.specs.StepParts.{Refuses, Tells};
 use crate::outcome::Outcome;
 use dv_bson::Document;
 use dv_command::Refusal;
-use dv_command::replies::{refusal_reply, reply_of};
+use dv_command::replies::{hello_reply, refusal_reply, reply_of};
 use std::alloc::Global;
 
 /// The outcome of a command that changes nothing: its reply, or why it is refused.
@@ -50,4 +50,11 @@ pub(crate) fn ping(alloc: Global) -> Result<Document, Refusal>
     ensures { UnlessWanting (λ reply. reply) (Ok (replies.reply_of [])) result }
 {
     Ok(reply_of(Document::new(alloc))?)
+}
+
+/// The reply to a greeting. Refused where memory is wanting.
+pub(crate) fn hello(alloc: Global) -> Result<Document, Refusal>
+    ensures { UnlessWanting (λ reply. reply) (Ok replies.hello_reply) result }
+{
+    Ok(hello_reply(alloc)?)
 }

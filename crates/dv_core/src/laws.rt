@@ -4,15 +4,16 @@ ghost use Rattle.std.specs.Prelude.{◌≡◌, ◌≤◌, ◌↔◌, ℕ, List, 
 ghost use Rattle.dv_bson.specs.Names.{value_under};
 ghost use Rattle.dv_bson.specs.Spelling.{Fits};
 ghost use Rattle.dv_bson.specs.Tree.{Field, int32};
-ghost use Rattle.dv_command.specs.Asked.{Asked, asked_by};
+ghost use Rattle.dv_command.specs.Asked.{Asked, Delete, delete, asked_by};
 ghost use Rattle.dv_command.specs.Replies.{refusal_reply};
 ghost use Rattle.dv_command.specs.declared.command.Command.{Command};
 ghost use Rattle.dv_command.specs.declared.refusal.Refusal.{Refusal};
 ghost use Rattle.dv_core.specs.declared.outcome.Outcome.{Outcome};
 ghost use Rattle.dv_core.specs.declared.outcome.Outcome.TheVariants.{Reply, Wanting};
 ghost use Rattle.dv_core.specs.Examples as examples;
+ghost use Rattle.dv_core.specs.Part.{IsPart};
 ghost use Rattle.dv_core.specs.Sound.{HasSpelling, IsSound, IsSoundCommand, IsTold};
-ghost use Rattle.dv_core.specs.State.{State, Namespaces, IsOrdered, empty_state};
+ghost use Rattle.dv_core.specs.State.{State, Namespaces, IsOrdered, documents_of, empty_state};
 ghost use Rattle.dv_core.specs.Statements.{Write, Written, carry_out, IsCut};
 ghost use Rattle.dv_core.specs.Step.{MemoryStep, step, write_of};
 ghost use Rattle.dv_core.specs.Storable.{storable, is_within_limits};
@@ -34,6 +35,12 @@ pub fn only_writes_change_documents()
         → MemoryStep old session command outcome new → new ≡ old }
 {}
 
+/// A delete leaves some of the documents of each namespace, in their order, whatever it is answered.
+pub fn a_delete_leaves_a_part()
+    ensures { (old new : State) (session : ℕ) (command : Command) (asked : Delete) (outcome : Outcome) → asked_by command ≡ Ok (delete asked)
+        → MemoryStep old session command outcome new → (namespace : List ℕ) → IsPart (documents_of namespace new.namespaces) (documents_of namespace old.namespaces) }
+{}
+
 /// The documents of each namespace stay in the order of their `_id`s, no two of which are equal, whatever the width of
 /// their integers: so it is before the first command, and so after each.
 pub fn documents_stay_in_order()
@@ -43,6 +50,10 @@ pub fn documents_stay_in_order()
 {
     dv_coll::laws::inserted_documents_ascend();
     dv_coll::laws::inserted_documents_begin_with_ids();
+    dv_coll::laws::removed_documents_ascend();
+    dv_coll::laws::removed_documents_begin_with_ids();
+    dv_coll::laws::replaced_documents_ascend();
+    dv_coll::laws::replaced_documents_begin_with_ids();
 }
 
 /// Every state that is reached is sound, if the documents that commands bring are: so it is before the first command,
@@ -54,6 +65,11 @@ pub fn states_stay_sound()
 {
     dv_coll::laws::inserted_documents_ascend();
     dv_coll::laws::inserted_documents_begin_with_ids();
+    dv_coll::laws::removed_documents_ascend();
+    dv_coll::laws::removed_documents_begin_with_ids();
+    dv_coll::laws::replaced_documents_ascend();
+    dv_coll::laws::replaced_documents_begin_with_ids();
+    dv_command::laws::what_is_asked_is_sound();
 }
 
 /// Replies can be written: that to a command that asks something, in a sound state and if the command's documents are
@@ -62,7 +78,10 @@ pub fn replies_have_a_spelling()
     ensures answered { (state : State) (session : ℕ) (command : Command) (asked : Asked) → IsSound state → IsSoundCommand command → asked_by command ≡ Ok asked
         → HasSpelling (step state session command).reply }
     ensures refused { (refusal : Refusal) → IsTold refusal → HasSpelling (refusal_reply refusal) }
-{}
+{
+    dv_command::laws::what_is_asked_is_sound();
+    dv_command::laws::a_count_has_a_spelling();
+}
 
 /// An ordered write tells of one error at most; and where it is cut, of that alone.
 pub fn an_ordered_write_ends_at_its_first_error()

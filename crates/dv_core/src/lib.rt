@@ -3,12 +3,15 @@
 
 mod answers;
 mod collections;
+mod delete;
 mod find;
-mod insert;
 pub mod laws;
+mod next;
 mod outcome;
+mod scan;
 mod storable;
 mod store;
+mod writes;
 mod written;
 
 pub use outcome::Outcome;

@@ -1,12 +1,12 @@
 //! The commands, and what they are carried out on.
 
-use crate::answers::{outcome_of, ping, refuse};
+use crate::answers::{hello, outcome_of, ping, refuse};
 use crate::collections::Collections;
-use crate::find::batch_reply;
-use crate::insert::insert_all;
+use crate::find::find_reply;
 use crate::outcome::Outcome;
+use crate::writes::{Kind, Terms, write_all};
 use dv_bson::Document;
-use dv_command::{Asked, Command, Find, Refusal, parse};
+use dv_command::{Asked, Command, Delete, Find, Insert, Refusal, parse};
 use std::alloc::Global;
 use std::marker::Model;
 
@@ -30,14 +30,18 @@ impl Model for Store {
 
 impl Store {
     ghost use Rattle.std.specs.Prelude.{◌≡◌, [], Ok};
-    ghost use Rattle.std.specs.String.{string_bytes};
     ghost use Rattle.dv_bson.specs.declared.fault.BsonFault.TheVariants.{NoMemory};
     ghost use Rattle.dv_command.specs.declared.command.Command.TheVariants.{Invalid};
     ghost use Rattle.dv_command.specs.Refusals.{UnlessWanting};
     ghost use Rattle.dv_command.specs.Replies as replies;
     ghost use Rattle.dv_core.specs.Find as finding;
     ghost use Rattle.dv_core.specs.State.{documents_of, empty_state};
+    ghost use Rattle.dv_command.specs.View.{delete_seen, find_seen, insert_seen};
+    ghost use Rattle.dv_core.specs.Delete.{delete_write};
+    ghost use Rattle.dv_core.specs.Insert.{insert_write};
+    ghost use Rattle.dv_core.specs.Scan.{scan};
     ghost use Rattle.dv_core.specs.Step.{MemoryStep, TellsOfWant};
+    ghost use Rattle.dv_core.specs.WriteParts.{Writes};
 
     /// A store without any collection.
     pub fn new(alloc: Global) -> Self
@@ -58,19 +62,52 @@ impl Store {
         ensures unread { command.now ≡ Invalid NoMemory → TellsOfWant result }
     {
         match parse(self.alloc, command) {
+            Ok(Asked::Hello) => outcome_of(self.alloc, hello(self.alloc)),
             Ok(Asked::Ping) => outcome_of(self.alloc, ping(self.alloc)),
-            Ok(Asked::Insert(insert)) => insert_all(self.alloc, &mut self.collections, insert),
+            Ok(Asked::Insert(insert)) => self.insert(insert),
+            Ok(Asked::Delete(delete)) => self.delete(delete),
             Ok(Asked::Find(find)) => outcome_of(self.alloc, self.find(find)),
             Err(refusal) => refuse(self.alloc, refusal),
         }
     }
 
-    fn find(&self, find: Find) -> Result<Document, Refusal>
-        ensures { let namespace = string_bytes find.namespace in
-            UnlessWanting (λ reply. reply) (finding.batch_reply namespace (documents_of namespace self.now.namespaces)) result }
+    fn insert(&mut self, insert: Insert<'_>) -> Outcome
+        ensures { Writes (insert_write (insert_seen insert.entry)) self.old.namespaces result self.new.namespaces }
     {
-        let Find { namespace } = find;
-        let collection = self.collections.get(&namespace);
-        batch_reply(self.alloc, namespace, collection)
+        let Insert {
+            namespace,
+            documents,
+            ordered,
+        } = insert;
+        let terms = Terms {
+            kind: Kind::Insert,
+            namespace,
+            ordered,
+        };
+        write_all(self.alloc, &mut self.collections, &terms, documents)
+    }
+
+    fn delete(&mut self, delete: Delete<'_>) -> Outcome
+        ensures { Writes (delete_write (delete_seen delete.entry)) self.old.namespaces result self.new.namespaces }
+    {
+        let Delete {
+            namespace,
+            entries,
+            ordered,
+        } = delete;
+        let terms = Terms {
+            kind: Kind::Delete,
+            namespace,
+            ordered,
+        };
+        write_all(self.alloc, &mut self.collections, &terms, entries)
+    }
+
+    fn find(&self, find: Find) -> Result<Document, Refusal>
+        ensures { let asked = find_seen find in
+            UnlessWanting (λ reply. reply) (finding.batch_reply asked.namespace (scan asked.filter asked.sort asked.skip asked.limit (documents_of asked.namespace self.now.namespaces))) result }
+    {
+        let collection = self.collections.get(&find.namespace);
+        find_reply(self.alloc, find, collection)
     }
 }

@@ -1,4 +1,4 @@
-use Rattle.std.proofs.Common.{◌≡◌, ◌+◌, ◌≤◌}
+use Rattle.std.proofs.Common.{◌≡◌, ◌+◌, ◌≤◌, drop}
 use Rattle.dv_core.specs.Find as finding
 use Rattle.dv_core.proofs.find.is_too_large.Given as goal
 
@@ -6,5 +6,5 @@ use Rattle.dv_core.proofs.find.is_too_large.Given as goal
 abbrev pub invariant-documents : goal.invariant-documents
 invariant-documents l = record {
   within : l.room ≤ finding.batch_limit;
-  left : finding.batch_limit + finding.total_size l.document-iterator ≡ l.room + finding.total_size l.fn.collection;
+  left : finding.batch_limit + finding.total_size (drop l.document-index l.documents) ≡ l.room + finding.total_size l.fn.documents;
 }

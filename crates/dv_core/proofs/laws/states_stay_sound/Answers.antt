@@ -1,4 +1,4 @@
-use Rattle.dv_core.proofs.Ordered.{empty_sound, steps_sound}
+use Rattle.dv_core.proofs.Ordered.{CollectionLaws, empty_sound, steps_sound}
 use Rattle.dv_core.proofs.laws.states_stay_sound.Goals as goal
 
 pub returns-clause-before : goal.returns-clause-before
@@ -6,5 +6,12 @@ returns-clause-before c = empty_sound
 
 pub returns-clause-after : goal.returns-clause-after
 returns-clause-after c =
-    steps_sound
-    (λ d ds has_id ordered fresh. (c.inserted_documents_ascend.ensures d ds ordered.0 fresh, c.inserted_documents_begin_with_ids.ensures d ds has_id ordered.1))
+    let laws : CollectionLaws = record {
+      inserted_ascend = c.inserted_documents_ascend.ensures;
+      inserted_ids = c.inserted_documents_begin_with_ids.ensures;
+      removed_ascend = c.removed_documents_ascend.ensures;
+      removed_ids = c.removed_documents_begin_with_ids.ensures;
+      replaced_ascend = c.replaced_documents_ascend.ensures;
+      replaced_ids = c.replaced_documents_begin_with_ids.ensures;
+    } in
+    steps_sound laws c.what_is_asked_is_sound.ensures

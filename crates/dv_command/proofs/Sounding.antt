@@ -1,0 +1,176 @@
+-- What a body with valid fields asks is sound.
+use Rattle.std.proofs.Common.{◌≡◌, ◌<◌, ◌≤◌, ◌&&◌, not, nat_lt, ℕ, zero, suc, Bool, true, false, if◌then◌else◌, List, [], ◌∷◌, length, get_or, Option, Some, None, Result, Ok, Err, refl, ap, subst, arith}
+use Rattle.std.proofs.lemmas.Bool.Decides.{nat_tests}
+use Rattle.std.proofs.lemmas.Str.{IsUtf8-append, IsUtf8-from_ascii}
+use Rattle.std.specs.Prelude.{codes, ⊤}
+use Rattle.std.specs.Str.{IsUtf8, bytes_eq}
+use Rattle.dv_bson.specs.Names.{value_under}
+use Rattle.dv_bson.specs.Spelling.{IsValue, AreFields, AreElements}
+use Rattle.dv_bson.specs.Tree.{Tree, string, document, array, Fields, no_fields, field, Elements, no_elements, element, Field, fields_of, list_of_fields}
+use Rattle.dv_command.specs.Asked.{Asked, hello, ping, insert, delete, find, asked_under, hello_of, ping_of, insert_of, delete_of, find_of, Statements, statements_of, checked_database, check_count, statement_limit}
+use Rattle.dv_command.specs.Fields.{Table, Lists, write_table, find_table, check_fields, check_lists, text_in, each_document, documents_in, required, text_under, boolean_under, natural_under, documents_under}
+use Rattle.dv_command.specs.Forms.{filter_under, sort_under}
+use Rattle.dv_command.specs.Kinds as kinds
+use Rattle.dv_command.specs.Namespaces.{database, database_in, namespace, dotted, is_database_name, is_collection_name, longest_namespace}
+use Rattle.dv_command.specs.Refusals.{◌>>=◌}
+use Rattle.dv_command.specs.Sound.{AreValid, IsNamespace, AreStatements, IsSoundlyAsked}
+use Rattle.dv_command.specs.declared.refusal.Refusal.{Refusal}
+use Rattle.dv_command.specs.declared.refusal.Refusal.TheVariants.{BadValue, CommandNotFound, LimitReached}
+
+-- ---- one thing after another that succeeds
+
+record Succeeds {A B : Type 0} (first : Result A Refusal) (rest : A → Result B Refusal) (end : B) : Type 0 where
+  given : A
+  first_is : first ≡ Ok given
+  rest_is : rest given ≡ Ok end
+
+succeeds : {A B : Type 0} (first : Result A Refusal) (rest : A → Result B Refusal) (end : B) → (first >>= rest) ≡ Ok end → Succeeds first rest end
+succeeds (Ok x) rest end is = record { given = x; first_is = refl; rest_is = is }
+succeeds (Err refusal) rest end is = absurd cc
+
+ends : {A : Type 0} (x y : A) → let given : Result A Refusal = Ok x in let end : Result A Refusal = Ok y in given ≡ end → x ≡ y
+ends x y is = cc
+
+-- ---- what is read out of valid fields is valid
+
+one_valid : (f : Field) (b : Bool) (others : Option Tree) (v : Tree) → IsValue f.1 → (others ≡ Some v → IsValue v) → (if b then Some f.1 else others) ≡ Some v → IsValue v
+one_valid f true others v valid rest is = let same : f.1 ≡ v = cc in subst IsValue same valid
+one_valid f false others v valid rest is = rest is
+
+under_valid : (name : List ℕ) (fs : List Field) (v : Tree) → AreFields (fields_of fs) → value_under name fs ≡ Some v → IsValue v
+under_valid name [] v valid under = absurd cc
+under_valid name (f ∷ fs) v valid under = one_valid f (bytes_eq name f.0) (value_under name fs) v valid.3 (under_valid name fs v valid.4) under
+
+fields_again : (fs : Fields) → fields_of (list_of_fields fs) ≡ fs
+fields_again no_fields = refl
+fields_again (field name value fs) = ap (field name value) (fields_again fs)
+
+more_valid : (fs : Fields) (rest : Result (List (List Field)) Refusal) (ds : List (List Field)) → AreFields fs → ((es : List (List Field)) → rest ≡ Ok es → AreValid es)
+    → (rest >>= λ es. Ok (list_of_fields fs ∷ es)) ≡ Ok ds → AreValid ds
+more_valid fs (Ok es) ds valid others is =
+    let same : list_of_fields fs ∷ es ≡ ds = cc in
+    subst AreValid same (rw (fields_again fs) valid, others es refl)
+more_valid fs (Err refusal) ds valid others is = absurd cc
+
+each_valid : (vs : Elements) (ds : List (List Field)) → AreElements vs → each_document vs ≡ Ok ds → AreValid ds
+each_valid no_elements ds valid is = let same : [] ≡ ds = cc in subst AreValid same tt
+each_valid (element (document fs) vs) ds valid is = more_valid fs (each_document vs) ds valid.0 (λ es rest. each_valid vs es valid.1 rest) is
+each_valid (element v vs) ds valid is = absurd cc
+
+documents_valid : (under : Option Tree) (ds : List (List Field)) → ((v : Tree) → under ≡ Some v → IsValue v) → required documents_in under ≡ Ok ds → AreValid ds
+documents_valid None ds valid is = absurd cc
+documents_valid (Some (array vs)) ds valid is = each_valid vs ds (valid (array vs) refl) is
+documents_valid (Some v) ds valid is = absurd cc
+
+text_valid : (under : Option Tree) (c : List ℕ) → ((v : Tree) → under ≡ Some v → IsValue v) → required text_in under ≡ Ok c → IsUtf8 c
+text_valid None c valid is = absurd cc
+text_valid (Some (string name)) c valid is = let same : name ≡ c = cc in subst IsUtf8 same (valid (string name) refl)
+text_valid (Some v) c valid is = absurd cc
+
+database_valid : (under : Option Tree) (d : List ℕ) → ((v : Tree) → under ≡ Some v → IsValue v) → database_in under ≡ Ok d → IsUtf8 d
+database_valid None d valid is = absurd cc
+database_valid (Some (string name)) d valid is = named (is_database_name name) is
+  where
+    named : (b : Bool) → (if b then Ok name else Err BadValue) ≡ Ok d → IsUtf8 d
+    named true e = let same : name ≡ d = cc in subst IsUtf8 same (valid (string name) refl)
+    named false e = absurd cc
+database_valid (Some v) d valid is = absurd cc
+
+-- ---- namespaces, and how many statements there are
+
+dot_below : (i : ℕ) → get_or (46 ∷ []) i 0 < 128
+dot_below zero = omega arith
+dot_below (suc i) = omega arith
+
+dotted_valid : (d c : List ℕ) → IsUtf8 d → IsUtf8 c → IsUtf8 (dotted d c)
+dotted_valid d c h i = IsUtf8-append d (46 ∷ c) h (IsUtf8-append (46 ∷ []) c (IsUtf8-from_ascii (46 ∷ []) dot_below) i)
+
+namespace_valid : (d c ns : List ℕ) → IsUtf8 d → IsUtf8 c → namespace d c ≡ Ok ns → IsNamespace ns
+namespace_valid d c ns h i is = by_tests (is_collection_name c) (nat_lt longest_namespace (length (dotted d c))) refl is
+  where
+    by_tests : (named long : Bool) → nat_lt longest_namespace (length (dotted d c)) ≡ long → (if named && not long then Ok (dotted d c) else Err BadValue) ≡ Ok ns → IsNamespace ns
+    by_tests true false test e =
+        let same : dotted d c ≡ ns = cc in
+        let short : length (dotted d c) ≤ 120 = grind (arith, nat_tests) in
+        subst IsNamespace same (dotted_valid d c h i, short)
+    by_tests true true test e = absurd cc
+    by_tests false long test e = absurd cc
+
+count_valid : (ds : List (List Field)) (t : ⊤) → check_count ds ≡ Ok t → length ds ≤ statement_limit
+count_valid ds t is = by_test (nat_lt 100000 (length ds)) refl is
+  where
+    by_test : (b : Bool) → nat_lt 100000 (length ds) ≡ b → (if b then Err LimitReached else Ok tt) ≡ Ok t → length ds ≤ statement_limit
+    by_test true test e = absurd cc
+    by_test false test e = grind (arith, nat_tests)
+
+-- ---- each command
+
+module _ (body : List Field) (lists : Lists) (valid : AreFields (fields_of body)) where
+  valid_under : (name : List ℕ) (v : Tree) → value_under name body ≡ Some v → IsValue v
+  valid_under name v under = under_valid name body v valid under
+
+  checked_valid : (table : Table) (d : List ℕ) → checked_database table body lists ≡ Ok d → IsUtf8 d
+  checked_valid table d is =
+      let named = succeeds (database body) _ d is in
+      let looked = succeeds (check_fields kinds.command table body) _ d named.rest_is in
+      let beside = succeeds (check_lists lists) _ d looked.rest_is in
+      subst IsUtf8 (ends named.given d beside.rest_is) (database_valid (value_under (codes "$db") body) named.given (valid_under (codes "$db")) named.first_is)
+
+  statements_valid : (command list : List ℕ) (s : Statements) → statements_of command list body lists ≡ Ok s → AreStatements s.namespace s.list
+  statements_valid command list s is =
+      let db = succeeds (checked_database (write_table command list) body lists) _ s is in
+      let collection = succeeds (text_under command body) _ s db.rest_is in
+      let documents = succeeds (documents_under list body) _ s collection.rest_is in
+      let ordered = succeeds (boolean_under (codes "ordered") true body) _ s documents.rest_is in
+      let into = succeeds (namespace db.given collection.given) _ s ordered.rest_is in
+      let few = succeeds (check_count documents.given) _ s into.rest_is in
+      let P : Statements → Type 0 = λ t. AreStatements t.namespace t.list in
+      subst P (ends (record { namespace = into.given; list = documents.given; ordered = ordered.given }) s few.rest_is) (
+        namespace_valid db.given collection.given into.given (checked_valid (write_table command list) db.given db.first_is) (text_valid (value_under command body) collection.given (valid_under command) collection.first_is) into.first_is,
+        documents_valid (value_under list body) documents.given (valid_under list) documents.first_is,
+        count_valid documents.given few.given few.first_is,
+      )
+
+  insert_sound : (a : Asked) → insert_of body lists ≡ Ok a → IsSoundlyAsked a
+  insert_sound a is =
+      let s = succeeds (statements_of (codes "insert") (codes "documents") body lists) _ a is in
+      subst IsSoundlyAsked (ends (insert (record { namespace = s.given.namespace; documents = s.given.list; ordered = s.given.ordered })) a s.rest_is)
+      (statements_valid (codes "insert") (codes "documents") s.given s.first_is)
+
+  delete_sound : (a : Asked) → delete_of body lists ≡ Ok a → IsSoundlyAsked a
+  delete_sound a is =
+      let s = succeeds (statements_of (codes "delete") (codes "deletes") body lists) _ a is in
+      subst IsSoundlyAsked (ends (delete (record { namespace = s.given.namespace; entries = s.given.list; ordered = s.given.ordered })) a s.rest_is)
+      (statements_valid (codes "delete") (codes "deletes") s.given s.first_is)
+
+  find_sound : (a : Asked) → find_of body lists ≡ Ok a → IsSoundlyAsked a
+  find_sound a is =
+      let db = succeeds (checked_database find_table body lists) _ a is in
+      let collection = succeeds (text_under (codes "find") body) _ a db.rest_is in
+      let from = succeeds (namespace db.given collection.given) _ a collection.rest_is in
+      let filter = succeeds (filter_under (codes "filter") body) _ a from.rest_is in
+      let sort = succeeds (sort_under (codes "sort") body) _ a filter.rest_is in
+      let skip = succeeds (natural_under (codes "skip") body) _ a sort.rest_is in
+      let limit = succeeds (natural_under (codes "limit") body) _ a skip.rest_is in
+      subst IsSoundlyAsked (ends (find (record { namespace = from.given; filter = filter.given; sort = sort.given; skip = skip.given; limit = limit.given })) a limit.rest_is)
+      (namespace_valid db.given collection.given from.given (checked_valid find_table db.given db.first_is) (text_valid (value_under (codes "find") body) collection.given (valid_under (codes "find")) collection.first_is) from.first_is)
+
+  hello_sound : (a : Asked) → hello_of body ≡ Ok a → IsSoundlyAsked a
+  hello_sound a is = subst IsSoundlyAsked (ends hello a (succeeds (database body) _ a is).rest_is) tt
+
+  ping_sound : (a : Asked) → ping_of body ≡ Ok a → IsSoundlyAsked a
+  ping_sound a is = subst IsSoundlyAsked (ends ping a (succeeds (database body) _ a is).rest_is) tt
+
+  -- a command of this name, or one of the others
+  either : (b : Bool) (this others : Result Asked Refusal) (a : Asked) → (this ≡ Ok a → IsSoundlyAsked a) → (others ≡ Ok a → IsSoundlyAsked a) → (if b then this else others) ≡ Ok a → IsSoundlyAsked a
+  either true this others a one rest is = one is
+  either false this others a one rest is = rest is
+
+  pub asked_sound : (name : List ℕ) (a : Asked) → asked_under name body lists ≡ Ok a → IsSoundlyAsked a
+  asked_sound name a =
+      either (bytes_eq name (codes "hello")) (hello_of body) _ a (hello_sound a)
+      (either (bytes_eq name (codes "ping")) (ping_of body) _ a (ping_sound a)
+      (either (bytes_eq name (codes "insert")) (insert_of body lists) _ a (insert_sound a)
+      (either (bytes_eq name (codes "delete")) (delete_of body lists) _ a (delete_sound a)
+      (either (bytes_eq name (codes "find")) (find_of body lists) _ a (find_sound a)
+      (λ is. let none : Err CommandNotFound ≡ Ok a = is in absurd cc)))))

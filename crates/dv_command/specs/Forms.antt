@@ -1,0 +1,31 @@
+-- The filters and sorts that commands hold (MongoDB manual, "find": `filter`, `sort`). How they are refused is this server's own.
+use Rattle.std.specs.Prelude.{ℕ, List, [], ◌∷◌, Option, Some, None, Result, Ok, Err}
+use Rattle.dv_bson.specs.Tree.{Field, fields_of}
+use Rattle.dv_path.specs.SortSpec.{Part, sort_spec_of}
+use Rattle.dv_match.specs.Filter.{Members}
+use Rattle.dv_match.specs.Parsing.{filter_in}
+use Rattle.dv_command.specs.declared.refusal.Refusal.{Refusal}
+use Rattle.dv_command.specs.declared.refusal.Refusal.TheVariants.{BadValue}
+use Rattle.dv_command.specs.Refusals.{◌>>=◌, refused_by, filter_refusal}
+use Rattle.dv_command.specs.Fields.{document_or_none}
+
+-- the filter that a document is
+abbrev pub filter_of : List Field → Result Members Refusal
+filter_of d = refused_by filter_refusal (filter_in (fields_of d))
+
+abbrev pub or_bad_value : {A : Type 0} → Option A → Result A Refusal
+or_bad_value None = Err BadValue
+or_bad_value (Some x) = Ok x
+
+-- the paths that a document sorts by; one without fields doesn't sort
+abbrev pub sort_of : List Field → Result (List Part) Refusal
+sort_of [] = Ok []
+sort_of (f ∷ fs) = or_bad_value (sort_spec_of (f ∷ fs))
+
+-- those under a name: where there is none, the document without fields stands for it
+
+abbrev pub filter_under : List ℕ → List Field → Result Members Refusal
+filter_under name fields = document_or_none name fields >>= filter_of
+
+abbrev pub sort_under : List ℕ → List Field → Result (List Part) Refusal
+sort_under name fields = document_or_none name fields >>= sort_of

@@ -1,0 +1,27 @@
+-- What a body with valid fields asks: documents and texts that are valid too, and not too many or too long.
+use Rattle.std.specs.Prelude.{◌≤◌, ℕ, List, length, ⊤}
+use Rattle.std.specs.List.{AllByRecursion}
+use Rattle.std.specs.Str.{IsUtf8}
+use Rattle.dv_bson.specs.Spelling.{AreFields}
+use Rattle.dv_bson.specs.Tree.{Field, fields_of}
+use Rattle.dv_command.specs.Asked.{Asked, hello, ping, insert, delete, find, statement_limit}
+use Rattle.dv_command.specs.Namespaces.{longest_namespace}
+
+-- each document has a spelling, if it isn't too long for one
+abbrev pub AreValid : List (List Field) → Type 0
+AreValid documents = AllByRecursion (λ d. AreFields (fields_of d)) documents
+
+-- in UTF-8, and not too long
+abbrev pub IsNamespace : List ℕ → Type 0
+IsNamespace name = IsUtf8 name × (length name ≤ longest_namespace)
+
+-- statements on a namespace: valid documents, as many as a command may have
+abbrev pub AreStatements : List ℕ → List (List Field) → Type 0
+AreStatements namespace statements = IsNamespace namespace × AreValid statements × (length statements ≤ statement_limit)
+
+abbrev pub IsSoundlyAsked : Asked → Type 0
+IsSoundlyAsked hello = ⊤
+IsSoundlyAsked ping = ⊤
+IsSoundlyAsked (insert asked) = AreStatements asked.namespace asked.documents
+IsSoundlyAsked (delete asked) = AreStatements asked.namespace asked.entries
+IsSoundlyAsked (find asked) = IsNamespace asked.namespace

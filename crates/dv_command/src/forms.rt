@@ -1,0 +1,57 @@
+//! The filters and sorts that commands hold.
+
+ghost use Rattle.dv_command.specs.Forms as forms;
+ghost use Rattle.dv_command.specs.Refusals.{UnlessWanting};
+ghost use Rattle.dv_command.specs.View.{sort_seen};
+
+use crate::fields::document_or;
+use crate::refusal::Refusal;
+use dv_bson::Document;
+use dv_match::Filter;
+use dv_path::SortSpec;
+use std::alloc::Global;
+
+/// The filter under a name, or the one that all documents match where there is no field of the name. Refused with
+/// `TypeMismatch` where there is another value than a document, with `BadValue` where the document is no filter, and
+/// with `WantOfMemory`.
+pub(crate) fn filter_under(alloc: Global, body: &Document, name: &str) -> Result<Filter, Refusal>
+    ensures { UnlessWanting (λ filter. filter) (forms.filter_under name.now body.now) result }
+{
+    let none = Document::new(alloc);
+    filter_of(alloc, document_or(body, name, &none)?)
+}
+
+/// The filter that the document is. Refused with `BadValue` where it is none, and with `WantOfMemory`.
+pub(crate) fn filter_of(alloc: Global, document: &Document) -> Result<Filter, Refusal>
+    ensures { UnlessWanting (λ filter. filter) (forms.filter_of document.now) result }
+{
+    Ok(Filter::parse(alloc, document)?)
+}
+
+/// The sort under a name; `None` where there is no field of the name, or a document without fields. Refused with
+/// `TypeMismatch` where there is another value than a document, with `BadValue` where the document is no sort, and with
+/// `WantOfMemory`.
+pub(crate) fn sort_under(
+    alloc: Global,
+    body: &Document,
+    name: &str,
+) -> Result<Option<SortSpec>, Refusal>
+    ensures { UnlessWanting sort_seen (forms.sort_under name.now body.now) result }
+{
+    let none = Document::new(alloc);
+    sort_of(alloc, document_or(body, name, &none)?)
+}
+
+/// The sort that the document is; `None` where it has no fields. Refused with `BadValue` where it is no sort, and with
+/// `WantOfMemory`.
+fn sort_of(alloc: Global, document: &Document) -> Result<Option<SortSpec>, Refusal>
+    ensures { UnlessWanting sort_seen (forms.sort_of document.now) result }
+{
+    if document.is_empty() {
+        return Ok(None);
+    }
+    match SortSpec::parse(alloc, document)? {
+        Some(sort) => Ok(Some(sort)),
+        None => Err(Refusal::BadValue),
+    }
+}

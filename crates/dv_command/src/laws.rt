@@ -1,0 +1,20 @@
+//! Laws of what commands ask and of replies, each the contract of a function that does nothing.
+
+ghost use Rattle.std.specs.Prelude.{◌≡◌, ℕ, List, Ok};
+ghost use Rattle.dv_bson.specs.Spelling.{AreFields, IsValue};
+ghost use Rattle.dv_bson.specs.Tree.{Field, fields_of};
+ghost use Rattle.dv_command.specs.Asked.{Asked, asked_under, command_name};
+ghost use Rattle.dv_command.specs.Fields.{Lists};
+ghost use Rattle.dv_command.specs.Replies.{count};
+ghost use Rattle.dv_command.specs.Sound.{IsSoundlyAsked};
+
+/// What a command asks is sound where the fields of its body are: the documents in its list, how many they are, and the
+/// name of its collection.
+pub fn what_is_asked_is_sound()
+    ensures { (body : List Field) (lists : Lists) (asked : Asked) → AreFields (fields_of body) → asked_under (command_name body) body lists ≡ Ok asked → IsSoundlyAsked asked }
+{}
+
+/// Every number that a reply counts has a spelling.
+pub fn a_count_has_a_spelling()
+    ensures { (n : ℕ) → IsValue (count n) }
+{}

@@ -1,0 +1,52 @@
+-- A delete leaves a part of the documents.
+use Rattle.std.proofs.Common.{◌≡◌, ◌&&◌, not, ℕ, Bool, true, false, cond, List, [], ◌∷◌, Some, Ok, refl, ap, subst, ◌∙◌}
+use Rattle.std.specs.List.{AllByRecursion, filter}
+use Rattle.dv_bson.specs.Tree.{Field}
+use Rattle.dv_coll.specs.Collection.{has_key, removed}
+use Rattle.dv_command.specs.Asked.{Asked, Delete, delete, asked_by}
+use Rattle.dv_command.specs.declared.command.Command.{Command}
+use Rattle.dv_core.specs.declared.outcome.Outcome.{Outcome}
+use Rattle.dv_core.specs.Changes.{Change, put, gone, with_change}
+use Rattle.dv_core.specs.Delete.{delete_write}
+use Rattle.dv_core.specs.Part.{IsPart}
+use Rattle.dv_core.specs.State.{State, documents_of}
+use Rattle.dv_core.specs.Statements.{Write}
+use Rattle.dv_core.specs.Step.{write_of, MemoryStep}
+use Rattle.dv_core.proofs.Kept.{Keeps, deletes_keep, step_holds}
+
+abbrev IsGone : Change → Type 0
+IsGone (put d) = ⊥
+IsGone (gone k) = Unit {0}
+
+filter_whole : (ds : List (List Field)) → ds ≡ filter (λ d. true) ds
+filter_whole [] = refl
+filter_whole (d ∷ ds) = ap (λ (rest : List (List Field)). d ∷ rest) (filter_whole ds)
+
+filter_step : (p : List Field → Bool) (b c : Bool) (d : List Field) (xs ys : List (List Field)) → p d ≡ c → filter p xs ≡ ys → filter p (cond b (d ∷ xs) xs) ≡ cond (b && c) (d ∷ ys) ys
+filter_step p true true d xs ys test same = rw test (ap (λ (rest : List (List Field)). d ∷ rest) same)
+filter_step p true false d xs ys test same = rw test same
+filter_step p false c d xs ys test same = same
+
+filter_both : (p q : List Field → Bool) (ds : List (List Field)) → filter p (filter q ds) ≡ filter (λ d. q d && p d) ds
+filter_both p q [] = refl
+filter_both p q (d ∷ ds) = filter_step p (q d) (p d) d (filter q ds) (filter (λ e. q e && p e) ds) refl (filter_both p q ds)
+
+module _ (old : State) where
+  abbrev LeftOf : List ℕ → List (List Field) → Type 0
+  LeftOf namespace documents = IsPart documents (documents_of namespace old.namespaces)
+
+  goes : (namespace : List ℕ) (documents : List (List Field)) (change : Change) → LeftOf namespace documents → IsGone change → LeftOf namespace (with_change documents change)
+  goes namespace documents (put d) part good = absurd good
+  goes namespace documents (gone k) (stays, is) good =
+      ((λ d. stays d && not (has_key k d)), ap (removed k) is ∙ filter_both (λ d. not (has_key k d)) stays (documents_of namespace old.namespaces))
+
+  deletes_go : (asked : Delete) (what : Asked) (write : Write) → delete asked ≡ what → write_of what ≡ Some write → AllByRecursion (Keeps LeftOf IsGone goes) write.statements
+  deletes_go asked what write is writes =
+      let same : delete_write asked ≡ write = cc (ap write_of is, writes) in
+      subst (λ (w : Write). AllByRecursion (Keeps LeftOf IsGone goes) w.statements) same (deletes_keep LeftOf IsGone goes (λ k. tt) asked.entries)
+
+  pub delete_leaves : (new : State) (session : ℕ) (command : Command) (asked : Delete) (outcome : Outcome) → asked_by command ≡ Ok (delete asked) → MemoryStep old session command outcome new → (namespace : List ℕ)
+      → IsPart (documents_of namespace new.namespaces) (documents_of namespace old.namespaces)
+  delete_leaves new session command asked outcome asks steps =
+      step_holds LeftOf IsGone goes old new session command outcome (λ what write is writes. deletes_go asked what write (cc (asks, is)) writes)
+      (λ namespace. ((λ d. true), filter_whole (documents_of namespace old.namespaces))) steps

@@ -1,0 +1,152 @@
+-- How statements are refused: never for a fault in bytes.
+use Rattle.std.proofs.Common.{◌≡◌, ◌||◌, ℕ, Bool, true, false, cond, ℤ, pos, negsuc, List, [], ◌∷◌, map, Option, Some, None, Result, Ok, Err, is_some, if◌then◌else◌}
+use Rattle.std.specs.List.{AllByRecursion}
+use Rattle.std.specs.Prelude.{codes, ⊤}
+use Rattle.dv_bson.specs.Names.{value_under}
+use Rattle.dv_bson.specs.Tree.{Tree, int32, int64, string, boolean, document, array, Fields, no_fields, Elements, no_elements, element, Field, fields_of}
+use Rattle.dv_coll.specs.Collection.{id_key, found}
+use Rattle.dv_match.specs.declared.fault.FilterFault.{FilterFault}
+use Rattle.dv_match.specs.declared.fault.FilterFault.TheVariants as filtering
+use Rattle.dv_match.specs.Parsing.{filter_in}
+use Rattle.dv_command.specs.declared.refusal.Refusal.{Refusal}
+use Rattle.dv_command.specs.declared.refusal.Refusal.TheVariants.{InvalidBson, BadValue, DuplicateKey, TooLarge}
+use Rattle.dv_command.specs.Refusals.{◌>>=◌, refused_by, filter_refusal}
+use Rattle.dv_command.specs.Kinds.{Kind, Place}
+use Rattle.dv_command.specs.Kinds as kinds
+use Rattle.dv_command.specs.Fields.{Table, is_read, text_in, boolean_in, document_in, each_document, documents_in, integer_in, not_negative, natural_in, one_or_all, only_first_in, check_empty, check_value, check_known, check_field, check_fields, is_ignored, kind_in, required, deletion_table, document_under, only_first_under}
+use Rattle.dv_command.specs.Forms.{filter_of}
+use Rattle.dv_command.specs.Entries.{Deletion, deletion_of}
+use Rattle.dv_core.specs.Changes.{put}
+use Rattle.dv_core.specs.Delete.{delete_one, delete_chosen}
+use Rattle.dv_core.specs.Insert.{insert_one, put_new}
+use Rattle.dv_core.specs.Statements.{Statement}
+use Rattle.dv_core.specs.Storable.{are_fields_dotted, has_dollar, without_field, id_in, is_within_limits, with_id_first, storable}
+
+-- a refusal of a statement, which tells of no fault in bytes
+abbrev pub IsPlain : Refusal → Type 0
+IsPlain (InvalidBson fault) = ⊥
+IsPlain refusal = Unit {0}
+
+abbrev pub IsPlainly : {A : Type 0} → Result A Refusal → Type 0
+IsPlainly (Ok x) = Unit {0}
+IsPlainly (Err refusal) = IsPlain refusal
+
+-- a statement that is refused so, whatever documents there are
+pub record IsPlainStatement (statement : Statement) : Type 0 where
+  pub plain : (documents : List (List Field)) → IsPlainly (statement documents)
+
+then_plainly : {A B : Type 0} (r : Result A Refusal) (f : A → Result B Refusal) → IsPlainly r → ((x : A) → IsPlainly (f x)) → IsPlainly (r >>= f)
+then_plainly (Ok x) f plain rest = rest x
+then_plainly (Err refusal) f plain rest = plain
+
+test_plainly : {A : Type 0} (b : Bool) (r s : Result A Refusal) → IsPlainly r → IsPlainly s → IsPlainly (cond b r s)
+test_plainly true r s plain other = plain
+test_plainly false r s plain other = other
+
+-- ---- what is read out of an entry
+
+text_plainly : (v : Tree) → IsPlainly (text_in v)
+text_plainly (string s) = tt
+text_plainly v = tt
+
+boolean_plainly : (v : Tree) → IsPlainly (boolean_in v)
+boolean_plainly (boolean b) = tt
+boolean_plainly v = tt
+
+document_plainly : (v : Tree) → IsPlainly (document_in v)
+document_plainly (document fs) = tt
+document_plainly v = tt
+
+each_plainly : (vs : Elements) → IsPlainly (each_document vs)
+each_plainly no_elements = tt
+each_plainly (element (document fs) vs) = then_plainly (each_document vs) _ (each_plainly vs) (λ ds. tt)
+each_plainly (element v vs) = tt
+
+documents_plainly : (v : Tree) → IsPlainly (documents_in v)
+documents_plainly (array vs) = each_plainly vs
+documents_plainly v = tt
+
+integer_plainly : (v : Tree) → IsPlainly (integer_in v)
+integer_plainly (int32 n) = tt
+integer_plainly (int64 n) = tt
+integer_plainly v = tt
+
+natural_plainly : (n : ℤ) → IsPlainly (not_negative n)
+natural_plainly (pos n) = tt
+natural_plainly (negsuc n) = tt
+
+first_plainly : (b c : Bool) → IsPlainly (cond b (Ok true) (cond c (Ok false) (Err BadValue)))
+first_plainly true c = tt
+first_plainly false true = tt
+first_plainly false false = tt
+
+only_first_plainly : (v : Tree) → IsPlainly (only_first_in v)
+only_first_plainly v = then_plainly (integer_in v) one_or_all (integer_plainly v) (λ n. first_plainly _ _)
+
+empty_plainly : (v : Tree) → IsPlainly (check_empty v)
+empty_plainly (document no_fields) = tt
+empty_plainly v = tt
+
+value_plainly : (kind : Kind) (v : Tree) → IsPlainly (check_value kind v)
+value_plainly kinds.anything v = tt
+value_plainly kinds.text v = then_plainly (text_in v) _ (text_plainly v) (λ x. tt)
+value_plainly kinds.boolean v = then_plainly (boolean_in v) _ (boolean_plainly v) (λ x. tt)
+value_plainly kinds.document v = then_plainly (document_in v) _ (document_plainly v) (λ x. tt)
+value_plainly kinds.documents v = then_plainly (documents_in v) _ (documents_plainly v) (λ x. tt)
+value_plainly kinds.natural v = then_plainly (natural_in v) _ (then_plainly (integer_in v) not_negative (integer_plainly v) natural_plainly) (λ x. tt)
+value_plainly kinds.how_many v = then_plainly (only_first_in v) _ (only_first_plainly v) (λ x. tt)
+value_plainly kinds.empty_document v = empty_plainly v
+
+known_plainly : (kind : Option Kind) (v : Tree) → IsPlainly (check_known kind v)
+known_plainly None v = tt
+known_plainly (Some kind) v = value_plainly kind v
+
+fields_plainly : (place : Place) (table : Table) (fs : List Field) → IsPlainly (check_fields place table fs)
+fields_plainly place table [] = tt
+fields_plainly place table (f ∷ fs) =
+    then_plainly (check_field place table f) _ (test_plainly (is_ignored place f.0) (Ok tt) (check_known (kind_in table f.0) f.1) tt (known_plainly (kind_in table f.0) f.1)) (λ x. fields_plainly place table fs)
+
+required_plainly : {A : Type 0} (read : Tree → Result A Refusal) (under : Option Tree) → ((v : Tree) → IsPlainly (read v)) → IsPlainly (required read under)
+required_plainly read None plain = tt
+required_plainly read (Some v) plain = plain v
+
+fault_plain : (fault : FilterFault) → IsPlain (filter_refusal fault)
+fault_plain filtering.NoMemory = tt
+fault_plain fault = tt
+
+filter_plainly : {A : Type 0} (r : Result A FilterFault) → IsPlainly (refused_by filter_refusal r)
+filter_plainly (Ok x) = tt
+filter_plainly (Err fault) = fault_plain fault
+
+deletion_plainly : (entry : List Field) → IsPlainly (deletion_of entry)
+deletion_plainly entry =
+    then_plainly (check_fields kinds.entry deletion_table entry) _ (fields_plainly kinds.entry deletion_table entry)
+    (λ x. then_plainly (document_under (codes "q") entry) _ (required_plainly document_in (value_under (codes "q") entry) document_plainly)
+    (λ q. then_plainly (only_first_under (codes "limit") entry) _ (required_plainly only_first_in (value_under (codes "limit") entry) only_first_plainly)
+    (λ only_first. then_plainly (filter_of q) _ (filter_plainly (filter_in (fields_of q))) (λ filter. tt))))
+
+-- ---- what is stored
+
+id_plainly : (id : Option Tree) (d : List Field) → IsPlainly (id_in id >>= λ given. Ok ((codes "_id", given) ∷ d))
+id_plainly None d = tt
+id_plainly (Some (array vs)) d = tt
+id_plainly (Some v) d = tt
+
+storable_plainly : (d : List Field) → IsPlainly (storable d)
+storable_plainly d =
+    then_plainly (with_id_first d) _ (test_plainly (has_dollar d || are_fields_dotted (fields_of d)) (Err BadValue) _ tt (id_plainly (value_under (codes "_id") d) (without_field (codes "_id") d)))
+    (λ stored. test_plainly (is_within_limits stored) (Ok stored) (Err TooLarge) tt tt)
+
+-- ---- statements
+
+pub inserts_plain : (documents : List (List Field)) → AllByRecursion IsPlainStatement (map insert_one documents)
+inserts_plain [] = tt
+inserts_plain (d ∷ ds) = (
+  record { plain = λ documents. then_plainly (storable d) (λ stored. put_new stored documents) (storable_plainly d) (λ stored. test_plainly (is_some (found (id_key stored) documents)) (Err DuplicateKey) _ tt tt) },
+  inserts_plain ds,
+)
+
+pub deletes_plain : (entries : List (List Field)) → AllByRecursion IsPlainStatement (map delete_one entries)
+deletes_plain [] = tt
+deletes_plain (entry ∷ entries) =
+    (record { plain = λ documents. then_plainly (deletion_of entry) (λ deletion. delete_chosen deletion documents) (deletion_plainly entry) (λ deletion. tt) }, deletes_plain entries)

@@ -1,0 +1,82 @@
+use Rattle.std.proofs.Common.{ap, arith, List, map, length, ◌≡◌, refl}
+use Rattle.dv_bson.specs.Tree.{Field}
+use Rattle.std.proofs.lemmas.Result.{err_from_is_err_and}
+use Rattle.std.specs.String.{string_bytes}
+use Rattle.dv_core.specs.Statements.{Written, carry_out}
+use Rattle.dv_core.specs.WriteParts.{written_seen}
+use Rattle.dv_core.specs.WritesView.{statement_of, write_seen}
+use Rattle.dv_core.proofs.Statements.{starts, at_end, due_behind, ends, cut_here, counts, done_replied, done_untold, cut_replied, cut_untold}
+use Rattle.dv_core.proofs.writes.write_each.Goals as goal
+use Rattle.dv_core.proofs.writes.write_each.Goals.{in-None, in-Some+in_ok-write_next+in-Ended}
+
+pub entries-init : goal.entries-init
+entries-init c =
+    let nothing = c.new-written.ensures c.args.collections.now in
+    let all = c.into_iter-entry-iterator.ensures.into_iter_gives in
+    let terms = c.args.terms.now in
+    record {
+      reached = rw (nothing, all) (starts (string_bytes terms.namespace) terms.ordered (map (statement_of terms.kind) c.args.entries) c.args.collections.now);
+      room = rw all (omega (arith, c.requires, ap (λ (w : Written). w.statements) nothing));
+    }
+
+pub entries-preserved : goal.entries-preserved
+entries-preserved c =
+    let here = rw c.in-Some.ensures.steps at c.entries.invariant.reached in
+    let next = rw c.in-Due.is at c.in_ok-write_next.ensures.step in
+    let counted = counts _ _ _ _ _ _ _ here _ next in
+    let room = ap (λ (es : List (List Field)). length es) c.in-Some.ensures.steps in
+    record {
+      reached = due_behind _ _ _ _ _ _ _ here _ next;
+      room = omega (arith, counted, room, c.entries.invariant.room);
+    }
+
+pub returns-in_err-write_next : goal.returns-in_err-write_next
+returns-in_err-write_next c =
+    let p = err_from_is_err_and c.from_residual.result c.from_residual.ensures.1 in
+    let here = rw c.in-Some.ensures.steps at c.entries.invariant.reached in
+    let cuts = c.in_err-write_next.ensures.step in
+    rw p.1 (cut_untold (write_seen c.args.terms.now c.args.entries) c.args.collections.now cuts.0 _ (cut_here _ _ _ _ _ _ _ here cuts.0 cuts.1) cuts.2)
+
+pub returns-in_err-reply-in-Cut : goal.returns-in_err-reply-in-Cut
+returns-in_err-reply-in-Cut c =
+    let p = err_from_is_err_and c.from_residual-in_err-reply-in-Cut.result c.from_residual-in_err-reply-in-Cut.ensures.1 in
+    let here = rw c.in-Some.ensures.steps at c.entries.invariant.reached in
+    let cuts = rw c.in-Cut.is at c.in_ok-write_next.ensures.step in
+    rw p.1 (cut_untold (write_seen c.args.terms.now c.args.entries) c.args.collections.now (written_seen c.write_next.new.written c.write_next.new.collections) _ (cut_here _ _ _ _ _ _ _ here _ cuts) refl)
+
+pub returns-in-Cut : goal.returns-in-Cut
+returns-in-Cut c =
+    let here = rw c.in-Some.ensures.steps at c.entries.invariant.reached in
+    let cuts = rw c.in-Cut.is at c.in_ok-write_next.ensures.step in
+    cut_replied (write_seen c.args.terms.now c.args.entries) c.args.collections.now (written_seen c.write_next.new.written c.write_next.new.collections) _ (cut_here _ _ _ _ _ _ _ here _ cuts) c.in_ok-reply-in-Cut.ensures
+
+pub returns-in_err-reply : goal.returns-in_err-reply
+returns-in_err-reply c =
+    let p = err_from_is_err_and c.from_residual-in_err-reply.result c.from_residual-in_err-reply.ensures.1 in
+    let write = write_seen c.args.terms.now c.args.entries in
+    let all : written_seen c.match-next.written c.match-next.collections ≡ carry_out write c.args.collections.now =
+    elim c.match-next.branch [
+      | in-None w ↦
+          let here = rw w.in-None.ensures.steps.0 at c.entries.invariant.reached in
+          rw (w.written-is, w.collections-is) (at_end _ _ _ _ _ here)
+      | in-Some+in_ok-write_next+in-Ended w ↦
+          let here = rw w.in-Some.ensures.steps at c.entries.invariant.reached in
+          let next = rw w.in-Ended.is at w.in_ok-write_next.ensures.step in
+          rw (w.written-is, w.collections-is) (ends _ _ _ _ _ _ _ here _ next)
+    ] in
+    rw p.1 (done_untold write c.args.collections.now (written_seen c.match-next.written c.match-next.collections) all)
+
+pub returns : goal.returns
+returns c =
+    let write = write_seen c.args.terms.now c.args.entries in
+    let all : written_seen c.match-next.written c.match-next.collections ≡ carry_out write c.args.collections.now =
+    elim c.match-next.branch [
+      | in-None w ↦
+          let here = rw w.in-None.ensures.steps.0 at c.entries.invariant.reached in
+          rw (w.written-is, w.collections-is) (at_end _ _ _ _ _ here)
+      | in-Some+in_ok-write_next+in-Ended w ↦
+          let here = rw w.in-Some.ensures.steps at c.entries.invariant.reached in
+          let next = rw w.in-Ended.is at w.in_ok-write_next.ensures.step in
+          rw (w.written-is, w.collections-is) (ends _ _ _ _ _ _ _ here _ next)
+    ] in
+    done_replied write c.args.collections.now (written_seen c.match-next.written c.match-next.collections) _ all c.in_ok-reply.ensures

@@ -1,0 +1,42 @@
+//! What comes behind a statement that was refused.
+
+ghost use Rattle.std.specs.Prelude.{◌≡◌, ◌<◌, ◌^◌, IfOk};
+ghost use Rattle.dv_core.specs.WriteParts as parts;
+
+use dv_bson::{Document, NoMemory};
+use dv_command::Refusal;
+use dv_command::replies::{cut_error, write_error};
+use std::alloc::Global;
+
+/// What comes behind a statement.
+pub(crate) enum Next {
+    /// The next statement is due.
+    Due,
+    /// No other statement is looked at.
+    Ended,
+    /// The statement found no memory, and ended the command.
+    Cut,
+}
+
+/// The error of a statement that was refused; of one that found no memory, that it made none of its changes. Fails
+/// where memory is wanting.
+pub(crate) fn error_of(alloc: Global, place: usize, refusal: &Refusal) -> Result<Document, NoMemory>
+    requires { place < 2 ^ 31 }
+    ensures { IfOk result (λ error. error ≡ parts.error_of place refusal.now) }
+{
+    match refusal {
+        Refusal::WantOfMemory => cut_error(alloc, place, 0),
+        _ => write_error(alloc, place, refusal),
+    }
+}
+
+/// What comes behind a statement that was refused.
+pub(crate) fn next_behind(ordered: bool, refusal: &Refusal) -> Next
+    ensures { result ≡ parts.next_behind ordered refusal.now }
+{
+    match refusal {
+        Refusal::WantOfMemory => Next::Cut,
+        _ if ordered => Next::Ended,
+        _ => Next::Due,
+    }
+}
