@@ -13,6 +13,3 @@ mod written;
 
 pub use outcome::Outcome;
 pub use store::Store;
-
-#[cfg(test)]
-mod tests;

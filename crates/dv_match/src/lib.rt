@@ -15,6 +15,3 @@ mod range;
 pub use fault::FilterFault;
 pub use form::{Condition, Conditions, Filter, Filters, Member, Test};
 pub use range::Range;
-
-#[cfg(test)]
-mod tests;

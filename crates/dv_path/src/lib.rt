@@ -25,6 +25,3 @@ pub use path::Path;
 pub use sort_spec::{SortPart, SortSpec};
 pub use sorting::sort_key;
 pub use walk::fold_whole;
-
-#[cfg(test)]
-mod tests;

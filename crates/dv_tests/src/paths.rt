@@ -1,56 +1,15 @@
 //! Paths in use.
 
-use crate::{
+use crate::sample::Sample::{Array, Doc, Int32, Int64, Text};
+use crate::sample::{Sample, document_of, value_of};
+use dv_bson::Value;
+use dv_order::{Key, key_of};
+use dv_path::{
     Candidate, Direction, Path, PathFault, SortSpec, any_leaf, any_whole, expr_value, leaves,
     sort_key, whole,
 };
-use dv_bson::{Document, List, Str, Value};
-use dv_order::{Key, key_of};
 use std::alloc::Global;
 use std::test::Fail;
-
-/// A value as a test writes it: a document by its names and their values.
-#[derive(Drop)]
-enum Sample<'a> {
-    Int(i32),
-    Long(i64),
-    Text(&'a str),
-    Doc(&'a [&'a str], &'a [Sample<'a>]),
-    Array(&'a [Sample<'a>]),
-}
-
-use Sample::{Array, Doc, Int, Long, Text};
-
-fn value_of(alloc: Global, sample: &Sample) -> Result<Value, Fail> {
-    Ok(match sample {
-        Int(n) => Value::Int32(*n),
-        Long(n) => Value::Int64(*n),
-        Text(text) => Value::Text(Str::of(String::from_str(alloc, text)?)),
-        Doc(names, samples) => {
-            let mut document = Document::new(alloc);
-            for (name, sample) in names.iter().zip(*samples) {
-                let value = value_of(alloc, sample)?;
-                let pushed = document.push(name, value);
-                pushed.ok().ok_or("each name stands once")?;
-            }
-            Value::Doc(document)
-        }
-        Array(samples) => {
-            let mut values = Vec::new(alloc);
-            for sample in *samples {
-                values.push(value_of(alloc, sample)?)?;
-            }
-            Value::Array(List::of(values))
-        }
-    })
-}
-
-fn document_of(alloc: Global, names: &[&str], samples: &[Sample]) -> Result<Document, Fail> {
-    match value_of(alloc, &Doc(names, samples))? {
-        Value::Doc(document) => Ok(document),
-        _ => Err(Fail::from("no document")),
-    }
-}
 
 fn is_number(candidate: Candidate<'_>, number: i32) -> bool {
     match candidate {
@@ -105,8 +64,8 @@ fn counts(alloc: Global, text: &str, sample: Sample) -> Result<(usize, bool, usi
 
 #[test]
 fn arrays_are_entered_and_picked(rt: HostRuntime) -> Result<(), Fail> {
-    let one = Doc(&["b"], &[Int(1)]);
-    let pair = [one, Doc(&["b"], &[Int(2)])];
+    let one = Doc(&["b"], &[Int32(1)]);
+    let pair = [one, Doc(&["b"], &[Int32(2)])];
     assert_eq!(rt;
         counts(rt.alloc(), "a.b", Array(&pair))?,
         (2, false, 2, true)
@@ -116,12 +75,12 @@ fn arrays_are_entered_and_picked(rt: HostRuntime) -> Result<(), Fail> {
         (3, true, 3, false)
     );
     assert_eq!(rt;
-        counts(rt.alloc(), "a.b", Array(&[Int(5)]))?,
+        counts(rt.alloc(), "a.b", Array(&[Int32(5)]))?,
         (0, false, 0, false)
     );
-    assert_eq!(rt; counts(rt.alloc(), "a.b", Int(2))?, (1, true, 1, false));
+    assert_eq!(rt; counts(rt.alloc(), "a.b", Int32(2))?, (1, true, 1, false));
     assert_eq!(rt;
-        counts(rt.alloc(), "a", Array(&[Int(1), Int(2)]))?,
+        counts(rt.alloc(), "a", Array(&[Int32(1), Int32(2)]))?,
         (1, false, 3, true)
     );
     Ok(())
@@ -129,9 +88,9 @@ fn arrays_are_entered_and_picked(rt: HostRuntime) -> Result<(), Fail> {
 
 #[test]
 fn documents_sort_by_their_least_or_greatest(rt: HostRuntime) -> Result<(), Fail> {
-    let three_and_one = document_of(rt.alloc(), &["a"], &[Array(&[Int(3), Int(1)])])?;
-    let two = document_of(rt.alloc(), &["a"], &[Int(2)])?;
-    let without = document_of(rt.alloc(), &["b"], &[Int(2)])?;
+    let three_and_one = document_of(rt.alloc(), &["a"], &[Array(&[Int32(3), Int32(1)])])?;
+    let two = document_of(rt.alloc(), &["a"], &[Int32(2)])?;
+    let without = document_of(rt.alloc(), &["b"], &[Int32(2)])?;
     let empty = document_of(rt.alloc(), &["a"], &[Array(&[])])?;
     let path = Path::parse(rt.alloc(), "a")?;
     let rows = [
@@ -164,7 +123,7 @@ fn documents_sort_by_their_least_or_greatest(rt: HostRuntime) -> Result<(), Fail
 
 #[test]
 fn sorts_are_paths_with_one_or_minus_one(rt: HostRuntime) -> Result<(), Fail> {
-    let sort = document_of(rt.alloc(), &["a.b", "c"], &[Int(1), Long(-1)])?;
+    let sort = document_of(rt.alloc(), &["a.b", "c"], &[Int32(1), Int64(-1)])?;
     let parsed = SortSpec::parse(rt.alloc(), &sort)?
         .ok_or("a sort")?
         .try_clone()?;
@@ -178,9 +137,9 @@ fn sorts_are_paths_with_one_or_minus_one(rt: HostRuntime) -> Result<(), Fail> {
     }
     let refused = [
         document_of(rt.alloc(), &[], &[])?,
-        document_of(rt.alloc(), &["a"], &[Int(2)])?,
+        document_of(rt.alloc(), &["a"], &[Int32(2)])?,
         document_of(rt.alloc(), &["a"], &[Text("1")])?,
-        document_of(rt.alloc(), &["a."], &[Int(1)])?,
+        document_of(rt.alloc(), &["a."], &[Int32(1)])?,
     ];
     for document in &refused {
         assert!(rt; SortSpec::parse(rt.alloc(), document)?.is_none());
@@ -190,7 +149,7 @@ fn sorts_are_paths_with_one_or_minus_one(rt: HostRuntime) -> Result<(), Fail> {
 
 /// The key of the value of a path in `{d: 1, a: sample}`, where there is one.
 fn expression_key(alloc: Global, text: &str, sample: Sample) -> Result<Option<Key>, Fail> {
-    let document = document_of(alloc, &["d", "a"], &[Int(1), sample])?;
+    let document = document_of(alloc, &["d", "a"], &[Int32(1), sample])?;
     let path = Path::parse(alloc, text)?;
     match expr_value(alloc, &document, &path)? {
         Some(value) => Ok(Some(key_of(&value)?)),
@@ -201,9 +160,13 @@ fn expression_key(alloc: Global, text: &str, sample: Sample) -> Result<Option<Ke
 #[test]
 fn an_expression_never_picks(rt: HostRuntime) -> Result<(), Fail> {
     let alloc = rt.alloc();
-    let inner = [Doc(&["b"], &[Int(3)])];
-    let elements = [Doc(&["b", "c"], &[Int(1), Int(2)]), Int(7), Array(&inner)];
-    let one = key_of(&value_of(alloc, &Array(&[Int(1)]))?)?;
+    let inner = [Doc(&["b"], &[Int32(3)])];
+    let elements = [
+        Doc(&["b", "c"], &[Int32(1), Int32(2)]),
+        Int32(7),
+        Array(&inner),
+    ];
+    let one = key_of(&value_of(alloc, &Array(&[Int32(1)]))?)?;
     assert!(rt; expression_key(alloc, "a.b", Array(&elements))? == Some(one));
     let none = key_of(&value_of(alloc, &Array(&[]))?)?;
     assert!(rt; expression_key(alloc, "a.0", Array(&elements))? == Some(none));

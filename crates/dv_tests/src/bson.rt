@@ -4,7 +4,7 @@ mod shown;
 mod vectors;
 
 use self::vectors::VECTORS;
-use crate::{BsonFault, Bytes, Document, List, Str, Value, read_document, size, write_document};
+use dv_bson::{BsonFault, Bytes, Document, List, Str, Value, read_document, size, write_document};
 use std::alloc::Global;
 use std::test::Fail;
 
