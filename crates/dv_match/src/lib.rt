@@ -17,6 +17,3 @@ pub use choices::Choices;
 pub use fault::FilterFault;
 pub use form::{Condition, Conditions, Filter, Filters, Member, Test};
 pub use range::Range;
-
-#[cfg(test)]
-mod tests;

@@ -1,32 +1,17 @@
-use super::*;
-use dv_bson::{Bytes, Document, List, Str, Value};
+//! The order of values, and keys.
+
+use crate::sample::Sample::{
+    Array, Binary, Bool, Date, Doc, Int32, Int64, MaxKey, MinKey, Null, ObjectId, Text, Timestamp,
+};
+use crate::sample::{Sample, value_of};
+use dv_bson::Value;
+use dv_order::{Key, compare, key_of};
 use std::alloc::Global;
 use std::cmp::max;
 use std::test::*;
 
-/// A value as the table writes it: a document by its names and their values.
-enum Sample {
-    Int32(i32),
-    Int64(i64),
-    Text(&'static str),
-    Doc(&'static [&'static str], &'static [Sample]),
-    Array(&'static [Sample]),
-    Binary(u8, &'static [u8]),
-    ObjectId([u8; 12]),
-    Bool(bool),
-    Date(i64),
-    Null,
-    Timestamp(u64),
-    MinKey,
-    MaxKey,
-}
-
-use Sample::{
-    Array, Binary, Bool, Date, Doc, Int32, Int64, MaxKey, MinKey, Null, ObjectId, Text, Timestamp,
-};
-
 /// From low to high; the values of one row are equal.
-const ROWS: [&[Sample]; 52] = [
+const ROWS: [&[Sample<'static>]; 52] = [
     &[MinKey],
     &[Null],
     &[Int64(i64::MIN)],
@@ -83,41 +68,6 @@ const ROWS: [&[Sample]; 52] = [
     &[Timestamp(u64::MAX)],
     &[MaxKey],
 ];
-
-fn value_of(alloc: Global, sample: &Sample) -> Result<Value, Fail> {
-    Ok(match sample {
-        Int32(n) => Value::Int32(*n),
-        Int64(n) => Value::Int64(*n),
-        Text(text) => Value::Text(Str::of(String::from_str(alloc, text)?)),
-        Doc(names, samples) => {
-            let mut document = Document::new(alloc);
-            for (name, sample) in names.iter().zip(*samples) {
-                let value = value_of(alloc, sample)?;
-                let pushed = document.push(name, value);
-                pushed.ok().ok_or("each name stands once")?;
-            }
-            Value::Doc(document)
-        }
-        Array(samples) => {
-            let mut values = Vec::new(alloc);
-            for sample in *samples {
-                values.push(value_of(alloc, sample)?)?;
-            }
-            Value::Array(List::of(values))
-        }
-        Binary(subtype, bytes) => Value::Binary {
-            subtype: *subtype,
-            bytes: Bytes::of(Vec::from_slice(alloc, bytes)?),
-        },
-        ObjectId(id) => Value::ObjectId(*id),
-        Bool(truth) => Value::Bool(*truth),
-        Date(milliseconds) => Value::Date(*milliseconds),
-        Null => Value::Null,
-        Timestamp(number) => Value::Timestamp(*number),
-        MinKey => Value::MinKey,
-        MaxKey => Value::MaxKey,
-    })
-}
 
 #[test]
 fn rows_stand_from_low_to_high(rt: HostRuntime) -> Result<(), Fail> {

@@ -1,26 +1,48 @@
 //! Commands carried out with ample memory, and documents as they are stored.
 
-use super::*;
-use crate::storable::storable;
 use dv_bson::{BsonFault, Document, List, Str, Value, read_document, write_document};
 use dv_command::{Command, DocumentLists};
+use dv_core::{Outcome, Store};
 use std::alloc::Global;
 use std::test::*;
 
-/// The bytes of the document that these bytes spell, as it is stored; or the name of the refusal.
-fn stored(alloc: Global, body: &[u8]) -> Result<Vec<u8>, Fail> {
+/// The document as it is stored: the one that is found once it was inserted; or the reply to its insert, where it isn't.
+fn stored(alloc: Global, document: Document) -> Result<Document, Fail> {
+    let mut store = Store::new(alloc);
+    let mut documents = Vec::new(alloc);
+    documents.push(Value::Doc(document))?;
+    let reply = reply_to(alloc, &mut store, insert(alloc, "c", documents, true)?)?;
+    if !matches!(reply.get("n"), Some(Value::Int32(1))) {
+        return Ok(reply);
+    }
+    let found = reply_to(
+        alloc,
+        &mut store,
+        command(alloc, "find", text(alloc, "c")?)?,
+    )?;
+    let Some(Value::Doc(cursor)) = found.get("cursor") else {
+        return Err("a cursor".into());
+    };
+    let Some(Value::Array(batch)) = cursor.get("firstBatch") else {
+        return Err("a batch".into());
+    };
+    match batch.as_slice() {
+        [Value::Doc(document)] => Ok(document.try_clone()?),
+        _ => Err("one document".into()),
+    }
+}
+
+/// The bytes of that document, of the one that these bytes spell.
+fn stored_bytes(alloc: Global, body: &[u8]) -> Result<Vec<u8>, Fail> {
     let (document, _) = read_document(alloc, body)?;
     let mut told = Vec::new(alloc);
-    match storable(alloc, &document) {
-        Ok(stored) => write_document(&stored, &mut told)?,
-        Err(refusal) => told.extend_from_slice(refusal.name().as_bytes())?,
-    }
+    write_document(&stored(alloc, document)?, &mut told)?;
     Ok(told)
 }
 
 #[test]
 fn documents_are_stored_with_their_id_in_front(rt: HostRuntime) -> Result<(), Fail> {
-    let bad = b"BadValue".as_slice();
+    let bad = NOT_STORED;
     let id_in_front = b"\x15\0\0\0\x10_id\0\x02\0\0\0\x10a\0\x01\0\0\0\0".as_slice();
     let deep_in_id = b"\x17\0\0\0\x03_id\0\x0d\0\0\0\x10$x\0\x01\0\0\0\0\0".as_slice();
     for (document, wanted) in [
@@ -53,7 +75,7 @@ fn documents_are_stored_with_their_id_in_front(rt: HostRuntime) -> Result<(), Fa
             bad,
         ),
     ] {
-        let told = stored(rt.alloc(), document)?;
+        let told = stored_bytes(rt.alloc(), document)?;
         assert_eq!(rt; told.as_slice(), wanted);
     }
     Ok(())
@@ -78,7 +100,7 @@ fn numbered(alloc: Global, id_in_front: bool) -> Result<Document, Fail> {
 #[test]
 fn the_last_of_forty_fields_moves_to_the_front(rt: HostRuntime) -> Result<(), Fail> {
     let document = numbered(rt.alloc(), false)?;
-    let stored = storable(rt.alloc(), &document).ok().ok_or("it is stored")?;
+    let stored = stored(rt.alloc(), document)?;
     let mut told = Vec::new(rt.alloc());
     let mut wanted = Vec::new(rt.alloc());
     write_document(&stored, &mut told)?;
@@ -143,6 +165,9 @@ const TOO_LARGE: &[u8] =
 
 const LIMIT_REACHED: &[u8] =
     b"K\0\0\0\x10ok\0\0\0\0\0\x02errmsg\0\x0d\0\0\0LimitReached\0\x10code\0\x87\x03\0\0\x02codeName\0\x0d\0\0\0LimitReached\0\0";
+
+const NOT_STORED: &[u8] =
+    b"X\0\0\0\x10n\0\0\0\0\0\x04writeErrors\07\0\0\0\x030\0/\0\0\0\x10index\0\0\0\0\0\x10code\0\x02\0\0\0\x02errmsg\0\x09\0\0\0BadValue\0\0\0\x10ok\0\x01\0\0\0\0";
 
 const INSERTED: &[u8] = b"\x14\0\0\0\x10n\0\x01\0\0\0\x10ok\0\x01\0\0\0\0";
 
@@ -250,9 +275,7 @@ fn a_reply_has_at_most_16_mebibytes_of_documents(rt: HostRuntime) -> Result<(), 
 fn a_command_has_at_most_100000_statements(rt: HostRuntime) -> Result<(), Fail> {
     let alloc = rt.alloc();
     // Empty documents have no `_id`: the first one ends the command.
-    let refused =
-        b"X\0\0\0\x10n\0\0\0\0\0\x04writeErrors\07\0\0\0\x030\0/\0\0\0\x10index\0\0\0\0\0\x10code\0\x02\0\0\0\x02errmsg\0\x09\0\0\0BadValue\0\0\0\x10ok\0\x01\0\0\0\0".as_slice();
-    for (count, wanted) in [(100_000, refused), (100_001, LIMIT_REACHED)] {
+    for (count, wanted) in [(100_000, NOT_STORED), (100_001, LIMIT_REACHED)] {
         let mut documents = Vec::new(alloc);
         for _ in 0..count {
             documents.push(Value::Doc(Document::new(alloc)))?;

@@ -1,58 +1,15 @@
 //! Paths in use.
 
-use crate::{
+use crate::sample::Sample::{Array, Doc, Int32, Int64, Null, Text};
+use crate::sample::{Sample, document_of, value_of};
+use dv_bson::{Document, Value};
+use dv_order::{Key, key_of};
+use dv_path::{
     Candidate, Direction, Path, PathFault, Slot, SortSpec, any_leaf, any_whole, expr_value, leaves,
     put_at, remove_at, slot_at, sort_key, whole,
 };
-use dv_bson::{Document, List, Str, Value};
-use dv_order::{Key, key_of};
 use std::alloc::Global;
 use std::test::Fail;
-
-/// A value as a test writes it: a document by its names and their values.
-#[derive(Drop)]
-enum Sample<'a> {
-    Int(i32),
-    Long(i64),
-    Text(&'a str),
-    Doc(&'a [&'a str], &'a [Sample<'a>]),
-    Array(&'a [Sample<'a>]),
-    Null,
-}
-
-use Sample::{Array, Doc, Int, Long, Null, Text};
-
-fn value_of(alloc: Global, sample: &Sample) -> Result<Value, Fail> {
-    Ok(match sample {
-        Int(n) => Value::Int32(*n),
-        Long(n) => Value::Int64(*n),
-        Text(text) => Value::Text(Str::of(String::from_str(alloc, text)?)),
-        Doc(names, samples) => {
-            let mut document = Document::new(alloc);
-            for (name, sample) in names.iter().zip(*samples) {
-                let value = value_of(alloc, sample)?;
-                let pushed = document.push(name, value);
-                pushed.ok().ok_or("each name stands once")?;
-            }
-            Value::Doc(document)
-        }
-        Array(samples) => {
-            let mut values = Vec::new(alloc);
-            for sample in *samples {
-                values.push(value_of(alloc, sample)?)?;
-            }
-            Value::Array(List::of(values))
-        }
-        Null => Value::Null,
-    })
-}
-
-fn document_of(alloc: Global, names: &[&str], samples: &[Sample]) -> Result<Document, Fail> {
-    match value_of(alloc, &Doc(names, samples))? {
-        Value::Doc(document) => Ok(document),
-        _ => Err(Fail::from("no document")),
-    }
-}
 
 fn is_number(candidate: Candidate<'_>, number: i32) -> bool {
     match candidate {
@@ -107,8 +64,8 @@ fn counts(alloc: Global, text: &str, sample: Sample) -> Result<(usize, bool, usi
 
 #[test]
 fn arrays_are_entered_and_picked(rt: HostRuntime) -> Result<(), Fail> {
-    let one = Doc(&["b"], &[Int(1)]);
-    let pair = [one, Doc(&["b"], &[Int(2)])];
+    let one = Doc(&["b"], &[Int32(1)]);
+    let pair = [one, Doc(&["b"], &[Int32(2)])];
     assert_eq!(rt;
         counts(rt.alloc(), "a.b", Array(&pair))?,
         (2, false, 2, true)
@@ -118,12 +75,12 @@ fn arrays_are_entered_and_picked(rt: HostRuntime) -> Result<(), Fail> {
         (3, true, 3, false)
     );
     assert_eq!(rt;
-        counts(rt.alloc(), "a.b", Array(&[Int(5)]))?,
+        counts(rt.alloc(), "a.b", Array(&[Int32(5)]))?,
         (0, false, 0, false)
     );
-    assert_eq!(rt; counts(rt.alloc(), "a.b", Int(2))?, (1, true, 1, false));
+    assert_eq!(rt; counts(rt.alloc(), "a.b", Int32(2))?, (1, true, 1, false));
     assert_eq!(rt;
-        counts(rt.alloc(), "a", Array(&[Int(1), Int(2)]))?,
+        counts(rt.alloc(), "a", Array(&[Int32(1), Int32(2)]))?,
         (1, false, 3, true)
     );
     Ok(())
@@ -131,9 +88,9 @@ fn arrays_are_entered_and_picked(rt: HostRuntime) -> Result<(), Fail> {
 
 #[test]
 fn documents_sort_by_their_least_or_greatest(rt: HostRuntime) -> Result<(), Fail> {
-    let three_and_one = document_of(rt.alloc(), &["a"], &[Array(&[Int(3), Int(1)])])?;
-    let two = document_of(rt.alloc(), &["a"], &[Int(2)])?;
-    let without = document_of(rt.alloc(), &["b"], &[Int(2)])?;
+    let three_and_one = document_of(rt.alloc(), &["a"], &[Array(&[Int32(3), Int32(1)])])?;
+    let two = document_of(rt.alloc(), &["a"], &[Int32(2)])?;
+    let without = document_of(rt.alloc(), &["b"], &[Int32(2)])?;
     let empty = document_of(rt.alloc(), &["a"], &[Array(&[])])?;
     let path = Path::parse(rt.alloc(), "a")?;
     let rows = [
@@ -166,7 +123,7 @@ fn documents_sort_by_their_least_or_greatest(rt: HostRuntime) -> Result<(), Fail
 
 #[test]
 fn sorts_are_paths_with_one_or_minus_one(rt: HostRuntime) -> Result<(), Fail> {
-    let sort = document_of(rt.alloc(), &["a.b", "c"], &[Int(1), Long(-1)])?;
+    let sort = document_of(rt.alloc(), &["a.b", "c"], &[Int32(1), Int64(-1)])?;
     let parsed = SortSpec::parse(rt.alloc(), &sort)?
         .ok_or("a sort")?
         .try_clone()?;
@@ -180,9 +137,9 @@ fn sorts_are_paths_with_one_or_minus_one(rt: HostRuntime) -> Result<(), Fail> {
     }
     let refused = [
         document_of(rt.alloc(), &[], &[])?,
-        document_of(rt.alloc(), &["a"], &[Int(2)])?,
+        document_of(rt.alloc(), &["a"], &[Int32(2)])?,
         document_of(rt.alloc(), &["a"], &[Text("1")])?,
-        document_of(rt.alloc(), &["a."], &[Int(1)])?,
+        document_of(rt.alloc(), &["a."], &[Int32(1)])?,
     ];
     for document in &refused {
         assert!(rt; SortSpec::parse(rt.alloc(), document)?.is_none());
@@ -192,7 +149,7 @@ fn sorts_are_paths_with_one_or_minus_one(rt: HostRuntime) -> Result<(), Fail> {
 
 /// The key of the value of a path in `{d: 1, a: sample}`, where there is one.
 fn expression_key(alloc: Global, text: &str, sample: Sample) -> Result<Option<Key>, Fail> {
-    let document = document_of(alloc, &["d", "a"], &[Int(1), sample])?;
+    let document = document_of(alloc, &["d", "a"], &[Int32(1), sample])?;
     let path = Path::parse(alloc, text)?;
     match expr_value(alloc, &document, &path)? {
         Some(value) => Ok(Some(key_of(&value)?)),
@@ -203,9 +160,13 @@ fn expression_key(alloc: Global, text: &str, sample: Sample) -> Result<Option<Ke
 #[test]
 fn an_expression_never_picks(rt: HostRuntime) -> Result<(), Fail> {
     let alloc = rt.alloc();
-    let inner = [Doc(&["b"], &[Int(3)])];
-    let elements = [Doc(&["b", "c"], &[Int(1), Int(2)]), Int(7), Array(&inner)];
-    let one = key_of(&value_of(alloc, &Array(&[Int(1)]))?)?;
+    let inner = [Doc(&["b"], &[Int32(3)])];
+    let elements = [
+        Doc(&["b", "c"], &[Int32(1), Int32(2)]),
+        Int32(7),
+        Array(&inner),
+    ];
+    let one = key_of(&value_of(alloc, &Array(&[Int32(1)]))?)?;
     assert!(rt; expression_key(alloc, "a.b", Array(&elements))? == Some(one));
     let none = key_of(&value_of(alloc, &Array(&[]))?)?;
     assert!(rt; expression_key(alloc, "a.0", Array(&elements))? == Some(none));
@@ -215,7 +176,7 @@ fn an_expression_never_picks(rt: HostRuntime) -> Result<(), Fail> {
 
 /// The key of `{_id: 1, x: sample}` with 1 put where the path leads, or the fault.
 fn put_one(alloc: Global, text: &str, sample: Sample) -> Result<Result<Key, PathFault>, Fail> {
-    let document = document_of(alloc, &["_id", "x"], &[Int(1), sample])?;
+    let document = document_of(alloc, &["_id", "x"], &[Int32(1), sample])?;
     match put_at(alloc, document, &Path::parse(alloc, text)?, Value::Int32(1)) {
         Ok(changed) => Ok(Ok(key_of(&Value::Doc(changed))?)),
         Err(fault) => Ok(Err(fault)),
@@ -225,20 +186,20 @@ fn put_one(alloc: Global, text: &str, sample: Sample) -> Result<Result<Key, Path
 #[test]
 fn values_are_put_where_paths_lead(rt: HostRuntime) -> Result<(), Fail> {
     let alloc = rt.alloc();
-    let mut document = document_of(alloc, &["_id"], &[Int(1)])?;
+    let mut document = document_of(alloc, &["_id"], &[Int32(1)])?;
     for (text, number) in [("b", 3), ("x.2", 2), ("x.10", 1)] {
         let path = Path::parse(alloc, text)?;
         document = put_at(alloc, document, &path, Value::Int32(number))?;
     }
-    let inner = Doc(&["2", "10"], &[Int(2), Int(1)]);
-    let whole = value_of(alloc, &Doc(&["_id", "b", "x"], &[Int(1), Int(3), inner]))?;
+    let inner = Doc(&["2", "10"], &[Int32(2), Int32(1)]);
+    let whole = value_of(alloc, &Doc(&["_id", "b", "x"], &[Int32(1), Int32(3), inner]))?;
     assert!(rt; key_of(&Value::Doc(document))? == key_of(&whole)?);
 
-    let filled = Array(&[Int(0), Null, Null, Int(1)]);
-    let expected = key_of(&value_of(alloc, &Doc(&["_id", "x"], &[Int(1), filled]))?)?;
-    assert!(rt; put_one(alloc, "x.3", Array(&[Int(0)]))? == Ok(expected));
+    let filled = Array(&[Int32(0), Null, Null, Int32(1)]);
+    let expected = key_of(&value_of(alloc, &Doc(&["_id", "x"], &[Int32(1), filled]))?)?;
+    assert!(rt; put_one(alloc, "x.3", Array(&[Int32(0)]))? == Ok(expected));
     assert!(rt; put_one(alloc, "x.y", Array(&[]))? == Err(PathFault::NotViable));
-    assert!(rt; put_one(alloc, "x.y", Int(1))? == Err(PathFault::NotViable));
+    assert!(rt; put_one(alloc, "x.y", Int32(1))? == Err(PathFault::NotViable));
     assert!(rt; put_one(alloc, "x.100000", Array(&[]))?.is_ok());
     assert!(rt; put_one(alloc, "x.100001", Array(&[]))? == Err(PathFault::IndexTooLarge));
     Ok(())
@@ -248,22 +209,22 @@ fn values_are_put_where_paths_lead(rt: HostRuntime) -> Result<(), Fail> {
 fn values_are_taken_away(rt: HostRuntime) -> Result<(), Fail> {
     let alloc = rt.alloc();
     let rows = [
-        ("a.1", Array(&[Int(1), Null, Long(2), Int(3)])),
-        ("a.4", Array(&[Int(1), Int(2), Long(2), Int(3)])),
-        ("a.b", Array(&[Int(1), Int(2), Long(2), Int(3)])),
-        ("a.0.b", Array(&[Int(1), Int(2), Long(2), Int(3)])),
+        ("a.1", Array(&[Int32(1), Null, Int64(2), Int32(3)])),
+        ("a.4", Array(&[Int32(1), Int32(2), Int64(2), Int32(3)])),
+        ("a.b", Array(&[Int32(1), Int32(2), Int64(2), Int32(3)])),
+        ("a.0.b", Array(&[Int32(1), Int32(2), Int64(2), Int32(3)])),
     ];
     for (text, left) in rows {
-        let numbers = Array(&[Int(1), Int(2), Long(2), Int(3)]);
-        let document = document_of(alloc, &["_id", "a"], &[Int(1), numbers])?;
+        let numbers = Array(&[Int32(1), Int32(2), Int64(2), Int32(3)]);
+        let document = document_of(alloc, &["_id", "a"], &[Int32(1), numbers])?;
         let document = remove_at(document, &Path::parse(alloc, text)?)?;
-        let expected = value_of(alloc, &Doc(&["_id", "a"], &[Int(1), left]))?;
+        let expected = value_of(alloc, &Doc(&["_id", "a"], &[Int32(1), left]))?;
         assert!(rt;
             key_of(&Value::Doc(document))? == key_of(&expected)?,
             "{text}"
         );
     }
-    let document = document_of(alloc, &["_id", "a"], &[Int(1), Int(2)])?;
+    let document = document_of(alloc, &["_id", "a"], &[Int32(1), Int32(2)])?;
     let document = remove_at(document, &Path::parse(alloc, "a")?)?;
     assert_eq!(rt; document.len(), 1);
     assert!(rt; document.get("_id").is_some());
@@ -273,7 +234,7 @@ fn values_are_taken_away(rt: HostRuntime) -> Result<(), Fail> {
 #[test]
 fn slots_are_taken_free_or_blocked(rt: HostRuntime) -> Result<(), Fail> {
     let alloc = rt.alloc();
-    let document = document_of(alloc, &["a", "b"], &[Array(&[Int(1)]), Int(2)])?;
+    let document = document_of(alloc, &["a", "b"], &[Array(&[Int32(1)]), Int32(2)])?;
     for text in ["a", "a.0", "b"] {
         let slot = slot_at(&document, &Path::parse(alloc, text)?);
         assert!(rt; matches!(slot, Slot::Taken(_)), "{text}");

@@ -1,5 +1,7 @@
-use super::*;
+//! Sessions fed with bytes.
+
 use dv_core::Store;
+use dv_wire::{Fed, Hub, HubFault, SessionId};
 use std::alloc::Global;
 use std::test::*;
 

@@ -1,79 +1,58 @@
-use super::*;
-use dv_bson::{Document, List, Value};
+//! Filters in use.
+
+use crate::sample::Sample::{Array, Doc, Int32, Null};
+use crate::sample::{Sample, value_of};
+use dv_bson::{Document, Value};
+use dv_match::{Filter, FilterFault};
 use std::alloc::Global;
 use std::process::Abort;
 use std::test::*;
 
-/// A value as the tables write it: a document by its names and their values.
-enum Sample {
-    Int(i32),
-    Null,
-    Doc(&'static [&'static str], &'static [Sample]),
-    Array(&'static [Sample]),
-}
-
-use Sample::{Array, Doc, Int, Null};
-
-fn value_of(alloc: Global, sample: &Sample) -> Result<Value, Fail> {
-    Ok(match sample {
-        Int(number) => Value::Int32(*number),
-        Null => Value::Null,
-        Doc(names, samples) => {
-            let mut document = Document::new(alloc);
-            for (name, sample) in names.iter().zip(*samples) {
-                let pushed = document.push(name, value_of(alloc, sample)?);
-                pushed.ok().ok_or("each name stands once")?;
-            }
-            Value::Doc(document)
-        }
-        Array(samples) => {
-            let mut values = Vec::new(alloc);
-            for sample in *samples {
-                values.push(value_of(alloc, sample)?)?;
-            }
-            Value::Array(List::of(values))
-        }
-    })
-}
-
 /// A filter by its one name and the value under it, and which of the documents match, or why it is no filter.
-struct Row(&'static str, Sample, Result<&'static [bool], FilterFault>);
+struct Row(
+    &'static str,
+    Sample<'static>,
+    Result<&'static [bool], FilterFault>,
+);
 
-const NESTED: [Sample; 3] = [
+const NESTED: [Sample<'static>; 3] = [
     Doc(
         &["a"],
-        &[Array(&[Doc(&["b"], &[Int(1)]), Doc(&["b"], &[Int(2)])])],
+        &[Array(&[Doc(&["b"], &[Int32(1)]), Doc(&["b"], &[Int32(2)])])],
     ),
-    Doc(&["a"], &[Doc(&["b"], &[Int(2)])]),
-    Doc(&["a"], &[Array(&[Int(5)])]),
+    Doc(&["a"], &[Doc(&["b"], &[Int32(2)])]),
+    Doc(&["a"], &[Array(&[Int32(5)])]),
 ];
 
 const NESTED_ROWS: [Row; 12] = [
-    Row("a.b", Int(2), Ok(&[true, true, false])),
-    Row("a.0.b", Int(1), Ok(&[true, false, false])),
+    Row("a.b", Int32(2), Ok(&[true, true, false])),
+    Row("a.0.b", Int32(1), Ok(&[true, false, false])),
     Row("a.b", Null, Ok(&[false, false, false])),
-    Row("a.b", Doc(&["$ne"], &[Int(2)]), Ok(&[false, false, true])),
+    Row("a.b", Doc(&["$ne"], &[Int32(2)]), Ok(&[false, false, true])),
     Row(
         "a.b",
-        Doc(&["$in"], &[Array(&[Int(7), Int(2), Int(3)])]),
+        Doc(&["$in"], &[Array(&[Int32(7), Int32(2), Int32(3)])]),
         Ok(&[true, true, false]),
     ),
     Row(
         "a.b",
-        Doc(&["$nin"], &[Array(&[Int(2), Int(1)])]),
+        Doc(&["$nin"], &[Array(&[Int32(2), Int32(1)])]),
         Ok(&[false, false, true]),
     ),
     Row(
         "a",
-        Doc(&["$elemMatch"], &[Doc(&["b"], &[Doc(&["$gt"], &[Int(1)])])]),
+        Doc(
+            &["$elemMatch"],
+            &[Doc(&["b"], &[Doc(&["$gt"], &[Int32(1)])])],
+        ),
         Ok(&[true, false, false]),
     ),
     Row(
         "a",
-        Doc(&["$elemMatch"], &[Doc(&["$gt"], &[Int(4)])]),
+        Doc(&["$elemMatch"], &[Doc(&["$gt"], &[Int32(4)])]),
         Ok(&[false, false, true]),
     ),
-    Row("a", Doc(&["$size"], &[Int(1)]), Ok(&[false, false, true])),
+    Row("a", Doc(&["$size"], &[Int32(1)]), Ok(&[false, false, true])),
     Row(
         "a",
         Doc(&["$all"], &[Array(&[])]),
@@ -82,12 +61,12 @@ const NESTED_ROWS: [Row; 12] = [
     Row("$and", Array(&[]), Err(FilterFault::EmptyList)),
     Row(
         "a",
-        Doc(&["$gt", "b"], &[Int(1), Int(2)]),
+        Doc(&["$gt", "b"], &[Int32(1), Int32(2)]),
         Err(FilterFault::UnknownOperator),
     ),
 ];
 
-const SPARSE: [Sample; 4] = [
+const SPARSE: [Sample<'static>; 4] = [
     Doc(&[], &[]),
     Doc(&["a"], &[Null]),
     Doc(&["a"], &[Array(&[])]),
@@ -98,20 +77,20 @@ const SPARSE_ROWS: [Row; 2] = [
     Row("a", Null, Ok(&[true, true, false, true])),
     Row(
         "a",
-        Doc(&["$in"], &[Array(&[Int(3), Null])]),
+        Doc(&["$in"], &[Array(&[Int32(3), Null])]),
         Ok(&[true, true, false, true]),
     ),
 ];
 
-const RANGED: [Sample; 3] = [
-    Doc(&["a"], &[Array(&[Int(0), Int(5)])]),
-    Doc(&["a"], &[Int(4)]),
-    Doc(&["a"], &[Int(1)]),
+const RANGED: [Sample<'static>; 3] = [
+    Doc(&["a"], &[Array(&[Int32(0), Int32(5)])]),
+    Doc(&["a"], &[Int32(4)]),
+    Doc(&["a"], &[Int32(1)]),
 ];
 
 const RANGED_ROWS: [Row; 1] = [Row(
     "a",
-    Doc(&["$gt", "$lt"], &[Int(1), Int(3)]),
+    Doc(&["$gt", "$lt"], &[Int32(1), Int32(3)]),
     Ok(&[true, false, false]),
 )];
 

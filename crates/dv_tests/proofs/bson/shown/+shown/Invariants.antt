@@ -1,7 +1,7 @@
 use Rattle.std.proofs.Common.{◌+◌, ◌*◌}
 use Rattle.dv_bson.specs.Tree.{weight, fields_of, fields_weight, elements_of, elements_weight}
 use Rattle.dv_bson.specs.View.{tree}
-use Rattle.dv_bson.proofs.tests.shown.+shown.Given as goal
+use Rattle.dv_tests.proofs.bson.shown.+shown.Given as goal
 
 abbrev pub decreases-show : goal.decreases-show
 decreases-show l = 2 * fields_weight (fields_of l.document.now) + 1

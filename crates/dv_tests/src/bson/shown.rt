@@ -1,6 +1,6 @@
 //! Documents as text: plain numbers are int32, L marks int64, texts stand in single quotes, bytes behind an x.
 
-use crate::{Document, List, Value};
+use dv_bson::{Document, List, Value};
 use std::alloc::AllocError;
 
 fn show_bytes(out: &mut String, bytes: &[u8]) -> Result<(), AllocError> {
@@ -37,7 +37,7 @@ fn show_value(out: &mut String, value: &Value) -> Result<(), AllocError> {
 }
 
 #[cycle(shown)]
-#[tactic(auto, using(crate::specs::Weight::value_weighs_less))]
+#[tactic(auto, using(crate::proofs::Weights::value_falls))]
 fn show_list(out: &mut String, list: &List) -> Result<(), AllocError> {
     out.push_str("[")?;
     let mut is_first = true;
@@ -53,7 +53,7 @@ fn show_list(out: &mut String, list: &List) -> Result<(), AllocError> {
 
 /// Appends the document's text.
 #[cycle(shown)]
-#[tactic(auto, using(crate::specs::Weight::field_weighs_less))]
+#[tactic(auto, using(crate::proofs::Weights::field_falls))]
 pub fn show(out: &mut String, document: &Document) -> Result<(), AllocError> {
     out.push_str("{")?;
     for place in 0..document.len() {

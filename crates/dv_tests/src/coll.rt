@@ -4,8 +4,8 @@ ghost use Rattle.std.specs.Prelude.{IfOk};
 ghost use Rattle.dv_bson.specs.View.{tree};
 ghost use Rattle.dv_coll.specs.Collection.{HasId, IsNoArray};
 
-use crate::{Collection, InsertFault};
 use dv_bson::{BsonFault, Document, Value};
+use dv_coll::{Collection, InsertFault};
 use dv_order::key_of;
 use std::alloc::Global;
 use std::test::Fail;

@@ -1,40 +1,19 @@
-use super::*;
-use dv_bson::{Document, List, Value};
+//! Rows in the order of a sort.
+
+use crate::sample::Sample::{Array, Int32};
+use crate::sample::{Sample, value_of};
+use dv_bson::{Document, Value};
 use dv_path::SortSpec;
+use dv_sort::Sorter;
 use std::alloc::Global;
 use std::test::*;
 
-/// What stands under `a` in a document, if anything.
-enum Sample {
-    Absent,
-    Int(i32),
-    Array(&'static [i32]),
-}
-
-use Sample::{Absent, Array, Int};
-
-fn value_of(alloc: Global, sample: &Sample) -> Result<Option<Value>, Fail> {
-    Ok(match sample {
-        Absent => None,
-        Int(number) => Some(Value::Int32(*number)),
-        Array(numbers) => {
-            let mut values = Vec::new(alloc);
-            for number in *numbers {
-                values.push(Value::Int32(*number))?;
-            }
-            Some(Value::Array(List::of(values)))
-        }
-    })
-}
-
-/// The document `{_id: id, a: sample}`.
-fn row_of(alloc: Global, id: i32, sample: &Sample) -> Result<Document, Fail> {
+/// The document `{_id: id, a: sample}`, without `a` where there is no sample.
+fn row_of(alloc: Global, id: i32, sample: &Option<Sample>) -> Result<Document, Fail> {
     let mut document = Document::new(alloc);
-    let pushed = document.push("_id", Value::Int32(id));
-    pushed.ok().ok_or("a name")?;
-    if let Some(value) = value_of(alloc, sample)? {
-        let pushed = document.push("a", value);
-        pushed.ok().ok_or("another name")?;
+    document.push("_id", Value::Int32(id))?;
+    if let Some(sample) = sample {
+        document.push("a", value_of(alloc, sample)?)?;
     }
     Ok(document)
 }
@@ -61,7 +40,7 @@ fn ids_of_front(
     alloc: Global,
     sort: &SortSpec,
     most: Option<usize>,
-    samples: &[Sample],
+    samples: &[Option<Sample>],
 ) -> Result<Vec<i32>, Fail> {
     let mut sorter = Sorter::new(alloc, sort, most);
     for (id, sample) in (1i32..=20).zip(samples) {
@@ -74,9 +53,22 @@ fn ids_of_front(
     Ok(ids)
 }
 
-const ROWS: [Sample; 4] = [Array(&[3, 1]), Int(2), Absent, Array(&[])];
+const ROWS: [Option<Sample<'static>>; 4] = [
+    Some(Array(&[Int32(3), Int32(1)])),
+    Some(Int32(2)),
+    None,
+    Some(Array(&[])),
+];
 
-const TIES: [Sample; 7] = [Int(2), Int(1), Int(2), Int(1), Int(3), Int(1), Int(1)];
+const TIES: [Option<Sample<'static>>; 7] = [
+    Some(Int32(2)),
+    Some(Int32(1)),
+    Some(Int32(2)),
+    Some(Int32(1)),
+    Some(Int32(3)),
+    Some(Int32(1)),
+    Some(Int32(1)),
+];
 
 #[test]
 fn rows_come_in_the_order_of_their_keys(rt: HostRuntime) -> Result<(), Fail> {

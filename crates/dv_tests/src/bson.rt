@@ -4,7 +4,7 @@ mod shown;
 mod vectors;
 
 use self::vectors::VECTORS;
-use crate::{
+use dv_bson::{
     BsonFault, Bytes, Document, List, Str, Value, begins_with_dollar, read_document, size,
     write_document,
 };
