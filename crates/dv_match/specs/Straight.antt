@@ -1,6 +1,6 @@
 -- Paths that lead through documents alone.
 use Rattle.std.specs.Prelude.{ℕ, Bool, true, false, List, [], ◌∷◌, Some, None}
-use Rattle.dv_bson.specs.Tree.{Tree, document, array, list_of_fields}
+use Rattle.dv_bson.specs.Tree.{document, array, list_of_fields}
 use Rattle.dv_bson.specs.Names.{value_under}
 use Rattle.dv_path.specs.Candidates.{Candidate}
 
