@@ -16,3 +16,4 @@ mod Ordered
 mod Parts
 mod Spelled
 mod Worked
+mod WorkedFinds

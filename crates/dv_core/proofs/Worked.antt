@@ -27,13 +27,13 @@ use Rattle.dv_core.proofs.ByNamespace.{same_namespaces, documents_there}
 
 -- ---- what stands under t.c
 
-abbrev t_c : List ℕ
+abbrev pub t_c : List ℕ
 t_c = codes "t.c"
 
-nothing_in : (namespace : List ℕ) → documents_of namespace empty_state.namespaces ≡ []
+pub nothing_in : (namespace : List ℕ) → documents_of namespace empty_state.namespaces ≡ []
 nothing_in namespace = documents_there empty_state.namespaces namespace _ (finite.get-empty (slice_cmp nat_cmp) namespace)
 
-put_there : (documents : List (List Field)) (namespaces : Namespaces) → documents_of t_c (with_documents t_c documents namespaces) ≡ documents
+pub put_there : (documents : List (List Field)) (namespaces : Namespaces) → documents_of t_c (with_documents t_c documents namespaces) ≡ documents
 put_there documents namespaces = documents_there _ t_c _ (finite.get-insert nat_list_cmp_total namespaces t_c (standing_seen documents) t_c)
 
 same_put : (b : Bool) (now before : Option Standing) (x : Option Standing) → cond b now (cond b before x) ≡ cond b now x
@@ -41,7 +41,7 @@ same_put true now before x = refl
 same_put false now before x = refl
 
 -- documents that are put in the place of others
-put_twice : (now before : List (List Field)) (namespaces : Namespaces) → with_documents t_c now (with_documents t_c before namespaces) ≡ with_documents t_c now namespaces
+pub put_twice : (now before : List (List Field)) (namespaces : Namespaces) → with_documents t_c now (with_documents t_c before namespaces) ≡ with_documents t_c now namespaces
 put_twice now before namespaces =
     same_namespaces _ _ (λ q. simp (finite.get-insert {X = Standing} nat_list_cmp_total) (same_put (eq_by_cmp (slice_cmp nat_cmp) q t_c) _ _ _))
 
@@ -53,11 +53,11 @@ other_there =
 
 -- ---- one statement, by the documents that it finds
 
-abbrev wrote : ℕ → ℕ → List Tree → Namespaces → Written
+abbrev pub wrote : ℕ → ℕ → List Tree → Namespaces → Written
 wrote statements n errors namespaces = record { statements = statements; n = n; errors = errors; namespaces = namespaces }
 
 module _ (namespace : List ℕ) (ordered : Bool) (w : Written) (documents : List (List Field)) (are : documents_of namespace w.namespaces ≡ documents) (due : is_due ordered w.errors ≡ true) where
-  looked_at : (statement : Statement) (result : Result Effect Refusal) → statement documents ≡ result → with_next namespace ordered w statement ≡ with_result namespace ordered w result
+  pub looked_at : (statement : Statement) (result : Result Effect Refusal) → statement documents ≡ result → with_next namespace ordered w statement ≡ with_result namespace ordered w result
   looked_at statement result gives =
       (λ i. cond (due i) (with_result namespace ordered w (statement (are i))) w) ∙ ap (with_result namespace ordered w) gives
 
@@ -134,6 +134,7 @@ finds old namespace documents are = ap (λ (ds : List (List Field)). answered ol
 pub reads : ReadExamples
 unfolding framed element_spelling payload counted filter_in matches stable
 reads = record {
+  greeted = λ state session. refl;
   pinged = λ state session. refl;
   found = λ session. finds (holding (only 5 ∷ only 6 ∷ [])) t_c (only 5 ∷ only 6 ∷ []) (put_there (only 5 ∷ only 6 ∷ []) empty_state.namespaces);
   not_found = λ session. finds empty_state t_c [] (nothing_in t_c);

@@ -1,10 +1,10 @@
 -- Worked examples of commands on the collection c of the database t. Integers are int32 where nothing else is said.
-use Rattle.std.specs.Prelude.{◌≡◌, ℕ, zero, suc, false, List, [], ◌∷◌, ◌++◌, map, pos, codes}
-use Rattle.dv_bson.specs.Tree.{Tree, string, int32, int64, document, no_fields, array, boolean, Field, elements_of}
+use Rattle.std.specs.Prelude.{◌≡◌, ℕ, zero, suc, false, List, [], ◌∷◌, ◌++◌, map, pos, negsuc, codes}
+use Rattle.dv_bson.specs.Tree.{Tree, null, string, int32, int64, document, no_fields, array, boolean, Field, elements_of}
 use Rattle.dv_bson.specs.declared.fault.BsonFault.TheVariants.{TooDeep}
 use Rattle.dv_command.specs.declared.command.Command.{Command}
 use Rattle.dv_command.specs.declared.command.Command.TheVariants.{Sections, Invalid}
-use Rattle.dv_command.specs.Replies.{document_of}
+use Rattle.dv_command.specs.Replies.{document_of, hello_reply}
 use Rattle.dv_core.specs.declared.outcome.Outcome.TheVariants.{Reply, Wanting, NoReply}
 use Rattle.dv_core.specs.State.{State, empty_state, with_documents}
 use Rattle.dv_core.specs.Step.{step, MemoryStep}
@@ -64,18 +64,38 @@ find_in collection = on (codes "t") ((codes "find", string collection) ∷ [])
 abbrev pub find : List Field
 find = find_in (codes "c")
 
+-- a find in c by a filter, with other fields
+abbrev pub find_by : List Field → List Field → List Field
+find_by filter others = find ++ (codes "filter", document_of filter) ∷ others
+
+-- these entries' deletions out of c
+abbrev pub delete : List (List Field) → List Field
+delete entries = on (codes "t") ((codes "delete", string (codes "c")) ∷ (codes "deletes", array (elements_of (map document_of entries))) ∷ [])
+
+-- what matches goes: all of it for 0, the first for 1
+abbrev pub deletion : List Field → ℕ → List Field
+deletion filter limit = (codes "q", document_of filter) ∷ (codes "limit", number limit) ∷ []
+
 -- a document with an `_id` alone
 abbrev pub only : ℕ → List Field
 only id = (codes "_id", number id) ∷ []
 
+-- a document with an `_id`, and a value under `a`
+abbrev pub with_a : ℕ → Tree → List Field
+with_a id value = only id ++ one_field (codes "a") value
+
+-- an array of numbers
+abbrev pub numbers : List ℕ → Tree
+numbers ns = array (elements_of (map number ns))
+
 abbrev pub error : ℕ → ℕ → List ℕ → Tree
 error index code message = document_of ((codes "index", number index) ∷ (codes "code", number code) ∷ (codes "errmsg", string message) ∷ [])
 
--- so many documents were inserted
-abbrev pub insert_reply : ℕ → List Field
-insert_reply count = (codes "n", number count) ∷ (codes "ok", number 1) ∷ []
+-- the statements are counted for so many documents
+abbrev pub write_reply : ℕ → List Field
+write_reply count = (codes "n", number count) ∷ (codes "ok", number 1) ∷ []
 
--- so many documents were inserted, and the other statements that were looked at have these errors
+-- they are counted for so many documents, and the other statements that were looked at have these errors
 abbrev pub errors_reply : ℕ → List Tree → List Field
 errors_reply count errors = (codes "n", number count) ∷ (codes "writeErrors", array (elements_of errors)) ∷ (codes "ok", number 1) ∷ []
 
@@ -94,7 +114,7 @@ letters (suc count) = 99 ∷ letters count
 
 pub record InsertExamples : Type 0 where
   -- {_id: 5} into nothing
-  pub first : Does empty_state (insert (only 5 ∷ [])) (insert_reply 1) (holding (only 5 ∷ []))
+  pub first : Does empty_state (insert (only 5 ∷ [])) (write_reply 1) (holding (only 5 ∷ []))
   -- then {_id: 5} as an int64, whose _id is equal
   pub equal : Does (holding (only 5 ∷ [])) (insert (((codes "_id", int64 (pos 5)) ∷ []) ∷ []))
       (errors_reply 0 (error 0 11000 (codes "DuplicateKey") ∷ [])) (holding (only 5 ∷ []))
@@ -105,7 +125,7 @@ pub record InsertExamples : Type 0 where
       (errors_reply 2 (error 1 11000 (codes "DuplicateKey") ∷ [])) (holding (only 1 ∷ only 2 ∷ []))
   -- {a: 1, _id: 2} is stored with its _id in front
   pub id_behind : Does empty_state (insert (((codes "a", number 1) ∷ (codes "_id", number 2) ∷ []) ∷ []))
-      (insert_reply 1) (holding (((codes "_id", number 2) ∷ (codes "a", number 1) ∷ []) ∷ []))
+      (write_reply 1) (holding (((codes "_id", number 2) ∷ (codes "a", number 1) ∷ []) ∷ []))
   -- {a: 1} has no _id, and no collection is made
   pub no_id : Does empty_state (insert (((codes "a", number 1) ∷ []) ∷ [])) (errors_reply 0 (error 0 2 (codes "BadValue") ∷ [])) empty_state
   -- {_id: [1]}, {_id: 1, $a: 1} and {_id: 1, a: {b.c: 1}} are not stored
@@ -114,14 +134,59 @@ pub record InsertExamples : Type 0 where
       (errors_reply 0 (error 0 2 (codes "BadValue") ∷ error 1 2 (codes "BadValue") ∷ error 2 2 (codes "BadValue") ∷ [])) empty_state
   -- a document of a database that has none, where another has {_id: 5} in a collection of the same name
   pub elsewhere : Does (holding (only 5 ∷ [])) (on (codes "u") ((codes "insert", string (codes "c")) ∷ (codes "documents", array (elements_of (document_of (only 5) ∷ []))) ∷ []))
-      (insert_reply 1) (with_collection (codes "u.c") (only 5 ∷ []) (holding (only 5 ∷ [])))
+      (write_reply 1) (with_collection (codes "u.c") (only 5 ∷ []) (holding (only 5 ∷ [])))
   -- nor is {_id: 1, a: [{b.c: 1}]}
   pub dotted : Does empty_state (insert ((only 1 ++ one_field (codes "a") (array (elements_of (document_of (one_field (codes "b.c") (number 1)) ∷ [])))) ∷ []))
       (errors_reply 0 (error 0 2 (codes "BadValue") ∷ [])) empty_state
   -- numbers stand before booleans
-  pub classes : Does empty_state (insert (one_field (codes "_id") (boolean false) ∷ only 1 ∷ [])) (insert_reply 2) (holding (only 1 ∷ one_field (codes "_id") (boolean false) ∷ []))
+  pub classes : Does empty_state (insert (one_field (codes "_id") (boolean false) ∷ only 1 ∷ [])) (write_reply 2) (holding (only 1 ∷ one_field (codes "_id") (boolean false) ∷ []))
+
+-- {_id: 1}, {_id: 2} and {_id: 3}
+abbrev pub three : List (List Field)
+three = only 1 ∷ only 2 ∷ only 3 ∷ []
+
+pub record DeleteExamples : Type 0 where
+  -- the first of all documents
+  pub first : Does (holding three) (delete (deletion [] 1 ∷ [])) (write_reply 1) (holding (only 2 ∷ only 3 ∷ []))
+  -- those with an _id greater than 1
+  pub greater : Does (holding three) (delete (deletion (one_field (codes "_id") (document_of (one_field (codes "$gt") (number 1)))) 0 ∷ [])) (write_reply 2) (holding (only 1 ∷ []))
+  -- all; the collection is left, without documents
+  pub all : Does (holding three) (delete (deletion [] 0 ∷ [])) (write_reply 3) (holding [])
+  -- out of nothing; no collection is made
+  pub nothing : Does empty_state (delete (deletion [] 0 ∷ [])) (write_reply 0) empty_state
+  -- without a limit
+  pub no_limit : Does (holding three) (delete (one_field (codes "q") (document no_fields) ∷ [])) (errors_reply 0 (error 0 9 (codes "FailedToParse") ∷ [])) (holding three)
+  -- with another one than 0 and 1
+  pub two : Does (holding three) (delete (deletion [] 2 ∷ [])) (errors_reply 0 (error 0 2 (codes "BadValue") ∷ [])) (holding three)
+
+-- {_id: 1, a: [0, 5]}, {_id: 2, a: 4} and {_id: 3, a: 1}
+abbrev pub bounded : List (List Field)
+bounded = with_a 1 (numbers (0 ∷ 5 ∷ [])) ∷ with_a 2 (number 4) ∷ with_a 3 (number 1) ∷ []
+
+-- {_id: 1}, {_id: 2, a: null}, {_id: 3, a: []} and {_id: 4, a: [null]}
+abbrev pub nulls : List (List Field)
+nulls = only 1 ∷ with_a 2 null ∷ with_a 3 (numbers []) ∷ with_a 4 (array (elements_of (null ∷ []))) ∷ []
+
+-- {_id: 1, a: [3, 1]}, {_id: 2, a: 2}, {_id: 3} and {_id: 4, a: []}
+abbrev pub keyed : List (List Field)
+keyed = with_a 1 (numbers (3 ∷ 1 ∷ [])) ∷ with_a 2 (number 2) ∷ only 3 ∷ with_a 4 (numbers []) ∷ []
+
+pub record FindExamples : Type 0 where
+  -- two bounds, each of which another element of an array may meet
+  pub between : Does (holding bounded) (find_by (one_field (codes "a") (document_of ((codes "$gt", number 1) ∷ (codes "$lt", number 3) ∷ []))) [])
+      (find_reply (codes "t.c") (with_a 1 (numbers (0 ∷ 5 ∷ [])) ∷ [])) (holding bounded)
+  -- a field that isn't there counts as null, an empty array doesn't
+  pub null_or_missing : Does (holding nulls) (find_by (one_field (codes "a") null) []) (find_reply (codes "t.c") (only 1 ∷ with_a 2 null ∷ with_a 4 (array (elements_of (null ∷ []))) ∷ [])) (holding nulls)
+  -- an empty array stands before null, which a missing field counts as
+  pub ascending : Does (holding keyed) (find ++ one_field (codes "sort") (document_of (one_field (codes "a") (number 1))))
+      (find_reply (codes "t.c") (with_a 4 (numbers []) ∷ only 3 ∷ with_a 1 (numbers (3 ∷ 1 ∷ [])) ∷ with_a 2 (number 2) ∷ [])) (holding keyed)
+  pub descending : Does (holding keyed) (find ++ one_field (codes "sort") (document_of (one_field (codes "a") (int32 (negsuc 0)))))
+      (find_reply (codes "t.c") (with_a 1 (numbers (3 ∷ 1 ∷ [])) ∷ with_a 2 (number 2) ∷ only 3 ∷ with_a 4 (numbers []) ∷ [])) (holding keyed)
+  -- one is left out, and one found
+  pub window : Does (holding three) (find ++ (codes "skip", number 1) ∷ (codes "limit", number 1) ∷ []) (find_reply (codes "t.c") (only 2 ∷ [])) (holding three)
 
 pub record ReadExamples : Type 0 where
+  pub greeted : (state : State) → Does state (on (codes "t") ((codes "hello", number 1) ∷ [])) hello_reply state
   pub pinged : (state : State) → Does state (on (codes "t") ping) ((codes "ok", number 1) ∷ []) state
   pub found : Does (holding (only 5 ∷ only 6 ∷ [])) find (find_reply (codes "t.c") (only 5 ∷ only 6 ∷ [])) (holding (only 5 ∷ only 6 ∷ []))
   -- no collection is made; a comment is ignored, whatever it is

@@ -104,7 +104,17 @@ pub fn inserts_by_example()
     ensures { examples.InsertExamples }
 {}
 
-/// What a ping and a find answer, by worked examples.
+/// What deletes answer and leave, by worked examples.
+pub fn deletes_by_example()
+    ensures { examples.DeleteExamples }
+{}
+
+/// What finds answer, by worked examples.
+pub fn finds_by_example()
+    ensures { examples.FindExamples }
+{}
+
+/// What a greeting, a ping and a find of all documents answer, by worked examples.
 pub fn reads_by_example()
     ensures { examples.ReadExamples }
 {}

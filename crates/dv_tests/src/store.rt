@@ -288,3 +288,66 @@ fn a_command_has_at_most_100000_statements(rt: HostRuntime) -> Result<(), Fail> 
     }
     Ok(())
 }
+
+/// A command's body and the reply to it.
+type Exchange = (&'static [u8], &'static [u8]);
+
+/// What is said to a store, one thing after the other.
+const EXCHANGES: [Exchange; 9] = [
+    // Documents to be found.
+    (
+        b"\x97\0\0\0\x02insert\0\x02\0\0\0c\0\x04documents\0n\0\0\0\x030\0$\0\0\0\x10_id\0\x01\0\0\0\x04a\0\x13\0\0\0\x100\0\x03\0\0\0\x101\0\x01\0\0\0\0\0\x031\0\x15\0\0\0\x10_id\0\x02\0\0\0\x10a\0\x02\0\0\0\0\x032\0\x0e\0\0\0\x10_id\0\x03\0\0\0\0\x033\0\x16\0\0\0\x10_id\0\x04\0\0\0\x04a\0\x05\0\0\0\0\0\0\x02$db\0\x02\0\0\0t\0\0",
+        b"\x14\0\0\0\x10n\0\x04\0\0\0\x10ok\0\x01\0\0\0\0",
+    ),
+    // An array is sorted by its least element, an empty one stands before null, which a missing field counts as.
+    (
+        b".\0\0\0\x02find\0\x02\0\0\0c\0\x03sort\0\x0c\0\0\0\x10a\0\x01\0\0\0\0\x02$db\0\x02\0\0\0t\0\0",
+        b"\xac\0\0\0\x03cursor\0\x97\0\0\0\x04firstBatch\0n\0\0\0\x030\0\x16\0\0\0\x10_id\0\x04\0\0\0\x04a\0\x05\0\0\0\0\0\x031\0\x0e\0\0\0\x10_id\0\x03\0\0\0\0\x032\0$\0\0\0\x10_id\0\x01\0\0\0\x04a\0\x13\0\0\0\x100\0\x03\0\0\0\x101\0\x01\0\0\0\0\0\x033\0\x15\0\0\0\x10_id\0\x02\0\0\0\x10a\0\x02\0\0\0\0\0\x12id\0\0\0\0\0\0\0\0\0\x02ns\0\x04\0\0\0t.c\0\0\x10ok\0\x01\0\0\0\0",
+    ),
+    // Falling by its greatest; without the first, and two of the others.
+    (
+        b"C\0\0\0\x02find\0\x02\0\0\0c\0\x03sort\0\x0c\0\0\0\x10a\0\xff\xff\xff\xff\0\x10skip\0\x01\0\0\0\x10limit\0\x02\0\0\0\x02$db\0\x02\0\0\0t\0\0",
+        b"l\0\0\0\x03cursor\0W\0\0\0\x04firstBatch\0.\0\0\0\x030\0\x15\0\0\0\x10_id\0\x02\0\0\0\x10a\0\x02\0\0\0\0\x031\0\x0e\0\0\0\x10_id\0\x03\0\0\0\0\0\x12id\0\0\0\0\0\0\0\0\0\x02ns\0\x04\0\0\0t.c\0\0\x10ok\0\x01\0\0\0\0",
+    ),
+    // Without a sort in the order of the `_id`s.
+    (
+        b"Q\0\0\0\x02find\0\x02\0\0\0c\0\x03filter\0\x18\0\0\0\x03_id\0\x0e\0\0\0\x10$gt\0\x01\0\0\0\0\0\x10skip\0\x01\0\0\0\x10limit\0\x01\0\0\0\x02$db\0\x02\0\0\0t\0\0",
+        b"T\0\0\0\x03cursor\0?\0\0\0\x04firstBatch\0\x16\0\0\0\x030\0\x0e\0\0\0\x10_id\0\x03\0\0\0\0\0\x12id\0\0\0\0\0\0\0\0\0\x02ns\0\x04\0\0\0t.c\0\0\x10ok\0\x01\0\0\0\0",
+    ),
+    // The first document goes.
+    (
+        b"G\0\0\0\x02delete\0\x02\0\0\0c\0\x04deletes\0 \0\0\0\x030\0\x18\0\0\0\x03q\0\x05\0\0\0\0\x10limit\0\x01\0\0\0\0\0\x02$db\0\x02\0\0\0t\0\0",
+        b"\x14\0\0\0\x10n\0\x01\0\0\0\x10ok\0\x01\0\0\0\0",
+    ),
+    // A deletion says how many.
+    (
+        b"<\0\0\0\x02delete\0\x02\0\0\0c\0\x04deletes\0\x15\0\0\0\x030\0\x0d\0\0\0\x03q\0\x05\0\0\0\0\0\0\x02$db\0\x02\0\0\0t\0\0",
+        b"]\0\0\0\x10n\0\0\0\0\0\x04writeErrors\0<\0\0\0\x030\04\0\0\0\x10index\0\0\0\0\0\x10code\0\x09\0\0\0\x02errmsg\0\x0e\0\0\0FailedToParse\0\0\0\x10ok\0\x01\0\0\0\0",
+    ),
+    // All that match go, by one entry and by another.
+    (
+        b"|\0\0\0\x02delete\0\x02\0\0\0c\0\x04deletes\0U\0\0\0\x030\0+\0\0\0\x03q\0\x18\0\0\0\x03_id\0\x0e\0\0\0\x10$gt\0\x03\0\0\0\0\0\x10limit\0\0\0\0\0\0\x031\0\x1f\0\0\0\x03q\0\x0c\0\0\0\x10a\0\x02\0\0\0\0\x10limit\0\0\0\0\0\0\0\x02$db\0\x02\0\0\0t\0\0",
+        b"\x14\0\0\0\x10n\0\x02\0\0\0\x10ok\0\x01\0\0\0\0",
+    ),
+    // One is left.
+    (
+        b"\x1c\0\0\0\x02find\0\x02\0\0\0c\0\x02$db\0\x02\0\0\0t\0\0",
+        b"T\0\0\0\x03cursor\0?\0\0\0\x04firstBatch\0\x16\0\0\0\x030\0\x0e\0\0\0\x10_id\0\x03\0\0\0\0\0\x12id\0\0\0\0\0\0\0\0\0\x02ns\0\x04\0\0\0t.c\0\0\x10ok\0\x01\0\0\0\0",
+    ),
+    // A greeting.
+    (
+        b"\x1b\0\0\0\x10hello\0\x01\0\0\0\x02$db\0\x02\0\0\0t\0\0",
+        b"\x9b\0\0\0\x08isWritablePrimary\0\x01\x10maxBsonObjectSize\0\0\0\0\x01\x10maxMessageSizeBytes\0\0l\xdc\x02\x10maxWriteBatchSize\0\xa0\x86\x01\0\x10minWireVersion\0\0\0\0\0\x10maxWireVersion\0\x11\0\0\0\x08readOnly\0\0\x10ok\0\x01\0\0\0\0",
+    ),
+];
+
+#[test]
+fn documents_are_found_in_order_and_deleted(rt: HostRuntime) -> Result<(), Fail> {
+    let alloc = rt.alloc();
+    let mut store = Store::new(alloc);
+    for (body, reply) in EXCHANGES {
+        let (body, _) = read_document(alloc, body)?;
+        assert_eq!(rt; told(alloc, &mut store, body)?.as_slice(), reply);
+    }
+    Ok(())
+}
