@@ -1,3 +1,6 @@
+pub mod Gathered
 pub mod Items
 pub mod Left
+pub mod Paths
+pub mod Placed
 pub mod SameLeft
