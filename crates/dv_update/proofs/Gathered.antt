@@ -10,7 +10,7 @@ use Rattle.dv_update.specs.Update.{Edit}
 use Rattle.dv_update.proofs.Items.{drop_at}
 
 one-behind : {X : Type 0} (ys : List X) (r : Result X UpdateFault) (s : Result (List X) UpdateFault) (y : X) → r ≡ Ok y → behind ys (r >>= λ z. s >>= λ zs. Ok (z ∷ zs)) ≡ behind (ys ++ y ∷ []) s
-one-behind ys r s y e = ap (λ q. behind ys (q >>= λ z. s >>= λ zs. Ok (z ∷ zs))) e ∙ by s
+one-behind {X = X} ys r s y e = ap (λ q. behind ys (q >>= λ z. s >>= λ zs. Ok (z ∷ zs))) e ∙ by s
   where
     by : (s : Result (List X) UpdateFault) → behind ys (s >>= λ zs. Ok (y ∷ zs)) ≡ behind (ys ++ y ∷ []) s
     by (Ok zs) = ap Ok (sym (append_assoc ys (y ∷ []) zs))

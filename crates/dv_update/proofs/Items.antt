@@ -87,4 +87,4 @@ each-none (f ∷ fs) e = cc
 pub last-begins : (path : List (List ℕ)) (es : List Edit) (e : Edit) → Some e ≡ slice_get es (length es - 1) → last_begins path (map edit es) ≡ begins e.path path
 last-begins path [] e is = cc
 last-begins path (d ∷ []) e is = let same : d ≡ e = search (rules, is) in ap (λ (x : Edit). begins x.path path) same
-last-begins path (d ∷ c ∷ es) e is = last-begins path (c ∷ es) e (is ∙ ap (slice_get (d ∷ c ∷ es)) (omega arith))
+last-begins path (d ∷ c ∷ es) e is = let at : length (d ∷ c ∷ es) - 1 ≡ suc (length (c ∷ es) - 1) = omega arith in last-begins path (c ∷ es) e (is ∙ ap (slice_get (d ∷ c ∷ es)) at)

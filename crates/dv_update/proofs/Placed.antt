@@ -1,5 +1,5 @@
 -- Edits placed in the order of their paths, and their conflicts.
-use Rattle.std.proofs.Common.{◌≡◌, ◌∙◌, ap, ap₂, sym, refl, List, [], ◌∷◌, ◌++◌, ℕ, Bool, true, false, ◌||◌, map, Option, Some, None, cond, append_assoc, append-nil, arith, Result, Ok, Err, if◌then◌else◌}
+use Rattle.std.proofs.Common.{◌≡◌, ◌∙◌, ap, ap₂, sym, refl, List, [], ◌∷◌, ◌++◌, ℕ, Bool, true, false, ◌||◌, map, Option, Some, None, cond, is_some, append_assoc, append-nil, arith, Result, Ok, Err, if◌then◌else◌}
 use Rattle.std.specs.Bool.{⊤}
 use Rattle.std.specs.List.{list_any, AllByRecursion}
 use Rattle.std.specs.List.Sorted.{IsStrictlySortedBy}
@@ -108,10 +108,10 @@ absent-behind : {X : Type 0} (b : Bool) (x : X) (r : Option X) → None ≡ cond
 absent-behind true x r e = cc
 absent-behind false x r e = e
 
-abbrev Entry : Type 0
+abbrev pub Entry : Type 0
 Entry = List (List ℕ) × Operation
 
-inserted : (es : List Entry) (path : List (List ℕ)) (o : Operation) → None ≡ lookup (is_at (path_order path)) es → map entry (insert_entry path_order es path o) ≡ placed (path, operation o) (map entry es)
+pub inserted : (es : List Entry) (path : List (List ℕ)) (o : Operation) → None ≡ lookup (is_at (path_order path)) es → map entry (insert_entry path_order es path o) ≡ placed (path, operation o) (map entry es)
 inserted [] path o absent = refl
 inserted (e ∷ es) path o absent =
     let rest = inserted es path o (absent-behind (is_eq (path_order path e.0)) e.1 (lookup (is_at (path_order path)) es) absent) in
@@ -132,16 +132,20 @@ or-second : (a b : Bool) → b ≡ true → (a || b) ≡ true
 or-second true b h = refl
 or-second false b h = h
 
-found-conflict : (es : List Entry) (path : List (List ℕ)) (o : Operation) (x : Edit) → x.0 ≡ path → Some o ≡ lookup (is_at (path_order path)) es → list_any (conflicts x) (map entry es) ≡ true
-found-conflict [] path o x is e = cc
-found-conflict (d ∷ es) path o x is e = by (is_eq (path_order path d.0)) refl e (found-conflict es path o x is)
+pub found-conflict : (es : List Entry) (path : List (List ℕ)) (x : Edit) → x.0 ≡ path → true ≡ is_some (lookup (is_at (path_order path)) es) → list_any (conflicts x) (map entry es) ≡ true
+found-conflict [] path x is e = cc
+found-conflict (d ∷ es) path x is e = by (is_eq (path_order path d.0)) refl e (found-conflict es path x is)
   where
-    by : (b : Bool) → is_eq (path_order path d.0) ≡ b → Some o ≡ cond b (Some d.1) (lookup (is_at (path_order path)) es) → (Some o ≡ lookup (is_at (path_order path)) es → list_any (conflicts x) (map entry es) ≡ true)
+    by : (b : Bool) → is_eq (path_order path d.0) ≡ b → true ≡ is_some (cond b (Some d.1) (lookup (is_at (path_order path)) es)) → (true ≡ is_some (lookup (is_at (path_order path)) es) → list_any (conflicts x) (map entry es) ≡ true)
         → list_any (conflicts x) (map entry (d ∷ es)) ≡ true
     by true h f later =
         let same : x.0 ≡ d.0 = is ∙ path-exact path d.0 (is-equal (path_order path d.0) h) in
         or-first _ _ (or-first _ _ (ap (begins x.0) (sym same) ∙ begins-itself x.0))
     by false h f later = or-second _ _ (later f)
+
+pub none-found : {X : Type 0} (r : Option X) → false ≡ is_some r → None ≡ r
+none-found None e = refl
+none-found (Some x) e = cc
 
 -- ---- the loop that makes the map
 
@@ -203,6 +207,9 @@ is-false : (b : Bool) → (b ≡ true → ⊥) → b ≡ false
 is-false true f = absurd (f refl)
 is-false false f = refl
 
+clash : (b : Bool) → b ≡ false → b ≡ true → ⊥
+clash b h g = cc
+
 -- the one that follows is behind each of the others
 below-later : (e x : Edit) (es rest : List Edit) → AllByRecursion (λ d. path_order e.0 d.0 ≡ Less) (es ++ x ∷ rest) → path_order e.0 x.0 ≡ Less
 below-later e x [] rest h = h.0
@@ -223,7 +230,7 @@ no-conflict-more (e ∷ d ∷ es) x rest up none apart =
     let beside : conflicts e d ≡ false = or-none-first _ _ here in
     let not-begins : begins e.0 d.0 ≡ false = or-none-first _ _ beside in
     let x-below : path_order d.0 x.0 ≡ Less = below-later d x es rest up.1.0 in
-    let not-x : begins e.0 x.0 ≡ false = is-false (begins e.0 x.0) (λ b. let there : begins e.0 d.0 ≡ true = begins-between e.0 d.0 x.0 up.0.0 x-below b in cc) in
+    let not-x : begins e.0 x.0 ≡ false = is-false (begins e.0 x.0) (λ b. clash (begins e.0 d.0) not-begins (begins-between e.0 d.0 x.0 up.0.0 x-below b)) in
     let apart-x = apart-below e x (below-later e x (d ∷ es) rest up.0) not-x in
     or-none _ _ (any-none-append (conflicts e) (d ∷ es) x here apart-x) behind
 

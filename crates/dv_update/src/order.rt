@@ -1,8 +1,9 @@
 //! Edits in the order of their paths.
 
-ghost use Rattle.std.specs.Prelude.{◌≡◌, ◌⊎◌, true, map, refl, IfOk, MatchResult, if◌then◌else◌, Ok, Err};
+ghost use Rattle.std.specs.Prelude.{◌≡◌, ◌⊎◌, true, map, refl, IfOk, IfErr, OnOk, MatchResult, if◌then◌else◌, Ok, Err};
 ghost use Rattle.std.specs.BTreeMap.{IsOrdered};
 ghost use Rattle.std.specs.Cmp.{eq_by_cmp_equiv, partial_equiv_from_equiv, partial_order_from_total};
+ghost use Rattle.std.specs.List.{list_any};
 ghost use Rattle.std.specs.Ordering.{as_partial_cmp, eq_by_cmp};
 ghost use Rattle.dv_update.specs.Parsing as defined;
 ghost use Rattle.dv_update.specs.Parsing.{Gives};
@@ -10,7 +11,7 @@ ghost use Rattle.dv_update.specs.PathOrder.{begins as begins_with, component_ord
 ghost use Rattle.dv_update.specs.Collected.{last_begins};
 ghost use Rattle.dv_update.specs.PathOrderLaws.{path_order_total};
 ghost use Rattle.dv_update.specs.Update.{operators};
-ghost use Rattle.dv_update.specs.View.{edit, entry};
+ghost use Rattle.dv_update.specs.View.{edit, edit as seen, entry};
 ghost use Rattle.dv_update.specs.declared.fault.UpdateFault.TheVariants.{Conflict, NoMemory};
 
 use crate::fault::UpdateFault;
@@ -144,12 +145,23 @@ fn by_path(alloc: Global, edits: Vec<Edit>) -> Result<BTreeMap<PathKey, Operatio
 {
     let mut edits = edits;
     let mut places = BTreeMap::new(alloc);
-    'edits: while let Some(Edit { path, operation }) = edits.pop() {
-        if places.insert(PathKey::of(path), operation)?.is_some() {
-            return Err(UpdateFault::Conflict);
-        }
+    'edits: while let Some(edit) = edits.pop() {
+        place(&mut places, edit)?;
     }
     Ok(places)
+}
+
+/// Puts an operation under its path. Refused with `Conflict` where there is one.
+fn place(places: &mut BTreeMap<PathKey, Operation>, edit: Edit) -> Result<(), UpdateFault>
+    ensures placed { OnOk result (map entry places.new.entries ≡ defined.placed (seen edit) (map entry places.old.entries)) }
+    ensures ordered { OnOk result (IsOrdered path_order places.new) }
+    ensures err { IfErr result (λ e. (e ≡ NoMemory) ⊎ ((e ≡ Conflict) × (list_any (defined.conflicts (seen edit)) (map entry places.old.entries) ≡ true))) }
+{
+    let Edit { path, operation } = edit;
+    if places.insert(PathKey::of(path), operation)?.is_some() {
+        return Err(UpdateFault::Conflict);
+    }
+    Ok(())
 }
 
 /// The edits of such a map. Refused with `Conflict` where one path begins another.
