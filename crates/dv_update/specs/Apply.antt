@@ -1,6 +1,6 @@
 -- What an update makes of a document (MongoDB manual, "Update Operators", "Replace Documents", "MongoDB Limits and Thresholds"). That
 -- `_id` keeps its spelling, and in which order refusals are told, are this server's own.
-use Rattle.std.specs.Prelude.{ℕ, ℤ, pos, negsuc, ◌+ℤ◌, int_le, nat_lt, ◌&&◌, not, Bool, true, false, List, [], ◌∷◌, ◌++◌, length, Option, Some, None, Result, Ok, Err, codes, if◌then◌else◌}
+use Rattle.std.specs.Prelude.{ℕ, ℤ, pos, negsuc, ◌+ℤ◌, ◌^◌, nat_lt, ◌&&◌, not, Bool, true, false, List, [], ◌∷◌, ◌++◌, length, Option, Some, None, Result, Ok, Err, codes, if◌then◌else◌}
 use Rattle.std.specs.List.{filter}
 use Rattle.std.specs.Ordering.{is_eq}
 use Rattle.std.specs.Str.{bytes_eq}
@@ -50,10 +50,12 @@ number_tree (Int64 n) = int64 n
 
 -- within 32 bits, and within 64
 abbrev pub fits_32 : ℤ → Bool
-fits_32 n = int_le (negsuc 2147483647) n && int_le n (pos 2147483647)
+fits_32 (pos n) = nat_lt n (2 ^ 31)
+fits_32 (negsuc n) = nat_lt n (2 ^ 31)
 
 abbrev pub fits_64 : ℤ → Bool
-fits_64 n = int_le (negsuc 9223372036854775807) n && int_le n (pos 9223372036854775807)
+fits_64 (pos n) = nat_lt n (2 ^ 63)
+fits_64 (negsuc n) = nat_lt n (2 ^ 63)
 
 -- of 32 bits where both numbers are and the sum fits, else of 64
 abbrev pub sum_as : Bool → ℤ → Result Tree UpdateFault
@@ -122,6 +124,10 @@ edited (e ∷ es) d = edit_at e.0 e.1 d >>= edited es
 abbrev pub is_id : Field → Bool
 is_id f = bytes_eq f.0 (codes "_id")
 
+-- the fields but `_id`
+abbrev pub others : List Field → List Field
+others fields = filter (λ f. not (is_id f)) fields
+
 -- the replacement's own `_id`, or else the document's
 abbrev pub chosen : Option Tree → Option Tree → Option Tree
 chosen None old = old
@@ -133,7 +139,7 @@ with_id (Some v) fields = (codes "_id", v) ∷ fields
 
 -- `_id` first, and then the other fields of the replacement
 abbrev pub replaced : List Field → List Field → List Field
-replaced fields d = with_id (chosen (value_under (codes "_id") fields) (value_under (codes "_id") d)) (filter (λ f. not (is_id f)) fields)
+replaced fields d = with_id (chosen (value_under (codes "_id") fields) (value_under (codes "_id") d)) (others fields)
 
 -- ---- what is refused of the result
 

@@ -1,6 +1,6 @@
 //! What an update makes of a document.
 
-ghost use Rattle.std.specs.Prelude.{◌≡◌, ◌∷◌, ◌++◌, nat_lt, false, length, codes, IfOk, OnOk, OnErr};
+ghost use Rattle.std.specs.Prelude.{◌≡◌, [], ◌∷◌, ◌++◌, nat_lt, false, length, codes, IfOk, OnOk, OnErr};
 ghost use Rattle.std.specs.Option.{option_map};
 ghost use Rattle.dv_bson.specs.Names.{has_name, has_zero, value_under};
 ghost use Rattle.dv_bson.specs.Spelling.{spelling};
@@ -75,10 +75,7 @@ fn edited(alloc: Global, edits: &Edits, document: Document) -> Result<Document, 
 fn replaced(alloc: Global, fields: &Document, document: &Document) -> Result<Document, NoMemory>
     ensures { IfOk result (λ changed. changed ≡ defined.replaced fields.now document.now) }
 {
-    let mut changed = Document::new(alloc);
-    if let Some(id) = chosen_id(fields, document) {
-        add(&mut changed, ID, id.try_clone()?)?;
-    }
+    let mut changed = id_alone(alloc, chosen_id(fields, document))?;
     'others: for place in 0..fields.len() {
         let Some((name, value)) = fields.entry(place) else {
             break;
@@ -88,6 +85,17 @@ fn replaced(alloc: Global, fields: &Document, document: &Document) -> Result<Doc
         }
     }
     Ok(changed)
+}
+
+/// A document with this `_id`, where there is one, and nothing else. Fails where memory is wanting.
+fn id_alone(alloc: Global, id: Option<&Value>) -> Result<Document, NoMemory>
+    ensures { IfOk result (λ document. document ≡ defined.with_id (option_map (λ id. tree id.now) id.entry) []) }
+{
+    let mut document = Document::new(alloc);
+    if let Some(id) = id {
+        add(&mut document, ID, id.try_clone()?)?;
+    }
+    Ok(document)
 }
 
 /// The value under `_id` in the first document, or else in the second.

@@ -33,6 +33,7 @@ impl Edit {
 }
 
 /// Where the value stands there already, nothing is copied.
+#[tactic(auto, using(crate::proofs::Made::set_there))]
 fn set_at(
     alloc: Global,
     document: Document,
@@ -46,7 +47,19 @@ fn set_at(
             return Ok(document);
         }
     }
-    Ok(put_at(alloc, document, path, value.try_clone()?)?)
+    put(alloc, document, path, value.try_clone()?)
+}
+
+/// The value put where the path leads.
+fn put(
+    alloc: Global,
+    document: Document,
+    path: &Path,
+    value: Value,
+) -> Result<Document, UpdateFault>
+    ensures { Gives (λ changed. changed) result (defined.set_at path.now (tree value) document) }
+{
+    Ok(put_at(alloc, document, path, value)?)
 }
 
 fn increase_at(
@@ -58,7 +71,7 @@ fn increase_at(
     ensures { Gives (λ changed. changed) result (defined.increase_at path.now number document) }
 {
     let increased = increased(number, slot_at(&document, path))?;
-    Ok(put_at(alloc, document, path, increased)?)
+    put(alloc, document, path, increased)
 }
 
 /// The number added to what stands there.
@@ -85,10 +98,11 @@ fn append_at(
     ensures { Gives (λ changed. changed) result (defined.append_at path.now values.now document) }
 {
     let appended = appended(values, slot_at(&document, path))?;
-    Ok(put_at(alloc, document, path, Value::Array(appended))?)
+    put(alloc, document, path, Value::Array(appended))
 }
 
 /// The values behind those that stand there.
+#[tactic(auto, using(crate::proofs::Items::elements_again))]
 fn appended(values: &List, slot: Slot<'_>) -> Result<List, UpdateFault>
     ensures { Gives (λ list. tree (Value.Array list)) result (defined.appended values.now (slot_seen slot.entry)) }
 {
@@ -114,6 +128,7 @@ fn joined(list: &List, values: &List) -> Result<List, NoMemory>
 }
 
 /// Where no element is taken out, nothing is copied.
+#[tactic(auto, using(crate::proofs::Made::pull_none, crate::proofs::Items::elements_again))]
 fn pull_at(
     alloc: Global,
     document: Document,
@@ -132,7 +147,7 @@ fn pull_at(
         return Ok(document);
     }
     let left = pulled.left(alloc, list)?;
-    Ok(put_at(alloc, document, path, Value::Array(left))?)
+    put(alloc, document, path, Value::Array(left))
 }
 
 impl Pulled {
