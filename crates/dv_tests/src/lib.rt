@@ -19,4 +19,6 @@ mod sorts;
 #[cfg(test)]
 mod store;
 #[cfg(test)]
+mod updates;
+#[cfg(test)]
 mod wire;

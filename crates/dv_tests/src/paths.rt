@@ -192,7 +192,10 @@ fn values_are_put_where_paths_lead(rt: HostRuntime) -> Result<(), Fail> {
         document = put_at(alloc, document, &path, Value::Int32(number))?;
     }
     let inner = Doc(&["2", "10"], &[Int32(2), Int32(1)]);
-    let whole = value_of(alloc, &Doc(&["_id", "b", "x"], &[Int32(1), Int32(3), inner]))?;
+    let whole = value_of(
+        alloc,
+        &Doc(&["_id", "b", "x"], &[Int32(1), Int32(3), inner]),
+    )?;
     assert!(rt; key_of(&Value::Doc(document))? == key_of(&whole)?);
 
     let filled = Array(&[Int32(0), Null, Null, Int32(1)]);

@@ -1,141 +1,116 @@
-use super::*;
-use dv_bson::{Document, List, Value};
+//! Updates in use.
+
+use crate::sample::Sample::{Array, Doc, Int32, Int64, Null};
+use crate::sample::{Sample, document_of};
+use dv_bson::{Document, Value};
+use dv_update::{Update, UpdateFault, is_same, same_documents};
 use std::alloc::Global;
 use std::test::*;
-
-/// A value as the tables write it: a document by its names and their values.
-enum Sample {
-    Int(i32),
-    Long(i64),
-    Null,
-    Doc(&'static [&'static str], &'static [Sample]),
-    Array(&'static [Sample]),
-}
-
-use Sample::{Array, Doc, Int, Long, Null};
-
-fn value_of(alloc: Global, sample: &Sample) -> Result<Value, Fail> {
-    Ok(match sample {
-        Int(number) => Value::Int32(*number),
-        Long(number) => Value::Int64(*number),
-        Null => Value::Null,
-        Doc(names, samples) => Value::Doc(document_of(alloc, names, samples)?),
-        Array(samples) => {
-            let mut values = Vec::new(alloc);
-            for sample in *samples {
-                values.push(value_of(alloc, sample)?)?;
-            }
-            Value::Array(List::of(values))
-        }
-    })
-}
-
-fn document_of(alloc: Global, names: &[&str], samples: &[Sample]) -> Result<Document, Fail> {
-    let mut document = Document::new(alloc);
-    for (name, sample) in names.iter().zip(samples) {
-        let pushed = document.push(name, value_of(alloc, sample)?);
-        pushed.ok().ok_or("each name stands once")?;
-    }
-    Ok(document)
-}
 
 /// An update's names and values, and the names and values of what it makes of the document, or why it is none or is
 /// refused.
 struct Row(
     &'static [&'static str],
-    &'static [Sample],
-    Result<(&'static [&'static str], &'static [Sample]), UpdateFault>,
+    &'static [Sample<'static>],
+    Result<(&'static [&'static str], &'static [Sample<'static>]), UpdateFault>,
 );
 
-const START: ([&str; 2], [Sample; 2]) = (
+const START: ([&str; 2], [Sample<'static>; 2]) = (
     ["_id", "a"],
-    [Int(1), Array(&[Int(1), Int(2), Long(2), Int(3)])],
+    [Int32(1), Array(&[Int32(1), Int32(2), Int64(2), Int32(3)])],
 );
 
 const ROWS: [Row; 14] = [
     Row(
         &["$pull"],
-        &[Doc(&["a"], &[Int(2)])],
-        Ok((&["_id", "a"], &[Int(1), Array(&[Int(1), Int(3)])])),
+        &[Doc(&["a"], &[Int32(2)])],
+        Ok((&["_id", "a"], &[Int32(1), Array(&[Int32(1), Int32(3)])])),
     ),
     Row(
         &["$pull"],
-        &[Doc(&["a"], &[Doc(&["$gte"], &[Int(2)])])],
-        Ok((&["_id", "a"], &[Int(1), Array(&[Int(1)])])),
+        &[Doc(&["a"], &[Doc(&["$gte"], &[Int32(2)])])],
+        Ok((&["_id", "a"], &[Int32(1), Array(&[Int32(1)])])),
     ),
     Row(
         &["$push"],
-        &[Doc(&["a"], &[Doc(&["$each"], &[Array(&[Int(4), Int(5)])])])],
+        &[Doc(&["a"], &[Doc(&["$each"], &[Array(&[Int32(4), Int32(5)])])])],
         Ok((
             &["_id", "a"],
             &[
-                Int(1),
-                Array(&[Int(1), Int(2), Long(2), Int(3), Int(4), Int(5)]),
+                Int32(1),
+                Array(&[Int32(1), Int32(2), Int64(2), Int32(3), Int32(4), Int32(5)]),
             ],
         )),
     ),
     Row(
         &["$unset"],
-        &[Doc(&["a.1"], &[Int(0)])],
+        &[Doc(&["a.1"], &[Int32(0)])],
         Ok((
             &["_id", "a"],
-            &[Int(1), Array(&[Int(1), Null, Long(2), Int(3)])],
+            &[Int32(1), Array(&[Int32(1), Null, Int64(2), Int32(3)])],
         )),
     ),
-    Row(&["b"], &[Int(1)], Ok((&["_id", "b"], &[Int(1), Int(1)]))),
+    Row(
+        &["b"],
+        &[Int32(1)],
+        Ok((&["_id", "b"], &[Int32(1), Int32(1)])),
+    ),
     Row(
         &["$set"],
-        &[Doc(&["_id"], &[Int(1)])],
+        &[Doc(&["_id"], &[Int32(1)])],
         Ok((&START.0, &START.1)),
     ),
     Row(
         &["$set"],
-        &[Doc(&["a", "a.b"], &[Int(1), Int(2)])],
+        &[Doc(&["a", "a.b"], &[Int32(1), Int32(2)])],
         Err(UpdateFault::Conflict),
     ),
     Row(
         &["$set"],
-        &[Doc(&["a.x"], &[Int(1)])],
+        &[Doc(&["a.x"], &[Int32(1)])],
         Err(UpdateFault::NotViable),
     ),
     Row(
         &["$set"],
-        &[Doc(&["_id"], &[Long(1)])],
+        &[Doc(&["_id"], &[Int64(1)])],
         Err(UpdateFault::IdChanged),
     ),
     Row(
         &["_id", "b"],
-        &[Long(1), Int(1)],
+        &[Int64(1), Int32(1)],
         Err(UpdateFault::IdChanged),
     ),
     Row(
         &["$push"],
-        &[Doc(&["_id"], &[Int(1)])],
+        &[Doc(&["_id"], &[Int32(1)])],
         Err(UpdateFault::NotArray),
     ),
     Row(
         &["$inc"],
-        &[Doc(&["a.0", "a.2"], &[Int(2147483647), Long(-2)])],
+        &[Doc(&["a.0", "a.2"], &[Int32(2147483647), Int64(-2)])],
         Ok((
             &["_id", "a"],
-            &[Int(1), Array(&[Long(2147483648), Int(2), Long(0), Int(3)])],
+            &[
+                Int32(1),
+                Array(&[Int64(2147483648), Int32(2), Int64(0), Int32(3)]),
+            ],
         )),
     ),
     Row(
         &["$inc"],
-        &[Doc(&["a.1"], &[Long(9223372036854775807)])],
+        &[Doc(&["a.1"], &[Int64(9223372036854775807)])],
         Err(UpdateFault::Overflow),
     ),
     Row(
         &["$set"],
-        &[Doc(&["x.10", "x.2", "b"], &[Int(1), Int(2), Int(3)])],
+        &[Doc(&["x.10", "x.2", "b"], &[Int32(1), Int32(2), Int32(3)])],
         Ok((
             &["_id", "a", "b", "x"],
             &[
-                Int(1),
-                Array(&[Int(1), Int(2), Long(2), Int(3)]),
-                Int(3),
-                Doc(&["2", "10"], &[Int(2), Int(1)]),
+                Int32(1),
+                Array(&[Int32(1), Int32(2), Int64(2), Int32(3)]),
+                Int32(3),
+                Doc(&["2", "10"], &[Int32(2), Int32(1)]),
             ],
         )),
     ),
@@ -187,7 +162,7 @@ fn what_an_update_was_made_of_stays(rt: HostRuntime) -> Result<(), Fail> {
 #[test]
 fn sizes_are_told_before_levels(rt: HostRuntime) -> Result<(), Fail> {
     let alloc = rt.alloc();
-    let document = document_of(alloc, &["_id"], &[Int(1)])?;
+    let document = document_of(alloc, &["_id"], &[Int32(1)])?;
     let mut deep = Value::Null;
     for _ in 0..100u8 {
         let mut inner = Document::new(alloc);
@@ -211,4 +186,24 @@ fn sizes_are_told_before_levels(rt: HostRuntime) -> Result<(), Fail> {
 fn values_that_are_the_same(rt: HostRuntime) {
     assert!(rt; is_same(&Value::Int64(5), &Value::Int64(5)));
     assert!(rt; !is_same(&Value::Int64(5), &Value::Int32(5)));
+}
+
+#[test]
+fn a_path_of_a_million_names_makes_nothing(rt: HostRuntime) -> Result<(), Fail> {
+    let alloc = rt.alloc();
+    let document = document_of(alloc, &["_id"], &[Int32(1)])?;
+    let mut path = "a.".repeat(alloc, 999_999)?;
+    path.push_str("a")?;
+    for (operator, expected) in [
+        ("$set", Some(UpdateFault::TooDeep)),
+        ("$push", Some(UpdateFault::TooDeep)),
+        ("$unset", None),
+    ] {
+        let paths = document_of(alloc, &[path.as_str()], &[Int32(1)])?;
+        let mut update = Document::new(alloc);
+        update.push(operator, Value::Doc(paths))?;
+        let told = outcome(alloc, &update, &document)?.err();
+        assert_eq!(rt; told, expected);
+    }
+    Ok(())
 }
