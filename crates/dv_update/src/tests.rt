@@ -19,7 +19,14 @@ fn value_of(alloc: Global, sample: &Sample) -> Result<Value, Fail> {
         Int(number) => Value::Int32(*number),
         Long(number) => Value::Int64(*number),
         Null => Value::Null,
-        Doc(names, samples) => Value::Doc(document_of(alloc, names, samples)?),
+        Doc(names, samples) => {
+            let mut document = Document::new(alloc);
+            for (name, sample) in names.iter().zip(*samples) {
+                let pushed = document.push(name, value_of(alloc, sample)?);
+                pushed.ok().ok_or("each name stands once")?;
+            }
+            Value::Doc(document)
+        }
         Array(samples) => {
             let mut values = Vec::new(alloc);
             for sample in *samples {
@@ -30,43 +37,36 @@ fn value_of(alloc: Global, sample: &Sample) -> Result<Value, Fail> {
     })
 }
 
-fn document_of(alloc: Global, names: &[&str], samples: &[Sample]) -> Result<Document, Fail> {
-    let mut document = Document::new(alloc);
-    for (name, sample) in names.iter().zip(samples) {
-        let pushed = document.push(name, value_of(alloc, sample)?);
-        pushed.ok().ok_or("each name stands once")?;
+fn document_of(alloc: Global, sample: &Sample) -> Result<Document, Fail> {
+    match value_of(alloc, sample)? {
+        Value::Doc(document) => Ok(document),
+        _ => Err(Fail::from("it is a document")),
     }
-    Ok(document)
 }
 
-/// An update's names and values, and the names and values of what it makes of the document, or why it is none or is
-/// refused.
-struct Row(
-    &'static [&'static str],
-    &'static [Sample],
-    Result<(&'static [&'static str], &'static [Sample]), UpdateFault>,
-);
+/// An update, and what it makes of the document, or why it is none or is refused.
+struct Row(Sample, Result<Sample, UpdateFault>);
 
-const START: ([&str; 2], [Sample; 2]) = (
-    ["_id", "a"],
-    [Int(1), Array(&[Int(1), Int(2), Long(2), Int(3)])],
+const START: Sample = Doc(
+    &["_id", "a"],
+    &[Int(1), Array(&[Int(1), Int(2), Long(2), Int(3)])],
 );
 
 const ROWS: [Row; 14] = [
     Row(
-        &["$pull"],
-        &[Doc(&["a"], &[Int(2)])],
-        Ok((&["_id", "a"], &[Int(1), Array(&[Int(1), Int(3)])])),
+        Doc(&["$pull"], &[Doc(&["a"], &[Int(2)])]),
+        Ok(Doc(&["_id", "a"], &[Int(1), Array(&[Int(1), Int(3)])])),
     ),
     Row(
-        &["$pull"],
-        &[Doc(&["a"], &[Doc(&["$gte"], &[Int(2)])])],
-        Ok((&["_id", "a"], &[Int(1), Array(&[Int(1)])])),
+        Doc(&["$pull"], &[Doc(&["a"], &[Doc(&["$gte"], &[Int(2)])])]),
+        Ok(Doc(&["_id", "a"], &[Int(1), Array(&[Int(1)])])),
     ),
     Row(
-        &["$push"],
-        &[Doc(&["a"], &[Doc(&["$each"], &[Array(&[Int(4), Int(5)])])])],
-        Ok((
+        Doc(
+            &["$push"],
+            &[Doc(&["a"], &[Doc(&["$each"], &[Array(&[Int(4), Int(5)])])])],
+        ),
+        Ok(Doc(
             &["_id", "a"],
             &[
                 Int(1),
@@ -75,61 +75,63 @@ const ROWS: [Row; 14] = [
         )),
     ),
     Row(
-        &["$unset"],
-        &[Doc(&["a.1"], &[Int(0)])],
-        Ok((
+        Doc(&["$unset"], &[Doc(&["a.1"], &[Int(0)])]),
+        Ok(Doc(
             &["_id", "a"],
             &[Int(1), Array(&[Int(1), Null, Long(2), Int(3)])],
         )),
     ),
-    Row(&["b"], &[Int(1)], Ok((&["_id", "b"], &[Int(1), Int(1)]))),
     Row(
-        &["$set"],
-        &[Doc(&["_id"], &[Int(1)])],
-        Ok((&START.0, &START.1)),
+        Doc(&["b"], &[Int(1)]),
+        Ok(Doc(&["_id", "b"], &[Int(1), Int(1)])),
     ),
     Row(
-        &["$set"],
-        &[Doc(&["a", "a.b"], &[Int(1), Int(2)])],
+        Doc(&["$set"], &[Doc(&["_id"], &[Int(1)])]),
+        Ok(Doc(
+            &["_id", "a"],
+            &[Int(1), Array(&[Int(1), Int(2), Long(2), Int(3)])],
+        )),
+    ),
+    Row(
+        Doc(&["$set"], &[Doc(&["a", "a.b"], &[Int(1), Int(2)])]),
         Err(UpdateFault::Conflict),
     ),
     Row(
-        &["$set"],
-        &[Doc(&["a.x"], &[Int(1)])],
+        Doc(&["$set"], &[Doc(&["a.x"], &[Int(1)])]),
         Err(UpdateFault::NotViable),
     ),
     Row(
-        &["$set"],
-        &[Doc(&["_id"], &[Long(1)])],
+        Doc(&["$set"], &[Doc(&["_id"], &[Long(1)])]),
         Err(UpdateFault::IdChanged),
     ),
     Row(
-        &["_id", "b"],
-        &[Long(1), Int(1)],
+        Doc(&["_id", "b"], &[Long(1), Int(1)]),
         Err(UpdateFault::IdChanged),
     ),
     Row(
-        &["$push"],
-        &[Doc(&["_id"], &[Int(1)])],
+        Doc(&["$push"], &[Doc(&["_id"], &[Int(1)])]),
         Err(UpdateFault::NotArray),
     ),
     Row(
-        &["$inc"],
-        &[Doc(&["a.0", "a.2"], &[Int(2147483647), Long(-2)])],
-        Ok((
+        Doc(
+            &["$inc"],
+            &[Doc(&["a.0", "a.2"], &[Int(2147483647), Long(-2)])],
+        ),
+        Ok(Doc(
             &["_id", "a"],
             &[Int(1), Array(&[Long(2147483648), Int(2), Long(0), Int(3)])],
         )),
     ),
     Row(
-        &["$inc"],
-        &[Doc(&["a.1"], &[Long(9223372036854775807)])],
+        Doc(&["$inc"], &[Doc(&["a.1"], &[Long(9223372036854775807)])]),
         Err(UpdateFault::Overflow),
     ),
     Row(
-        &["$set"],
-        &[Doc(&["x.10", "x.2", "b"], &[Int(1), Int(2), Int(3)])],
-        Ok((
+        Doc(
+            &["$set"],
+            &[Doc(&["x.10", "x.2", "b"], &[Int(1), Int(2), Int(3)])],
+        ),
+        Ok(Doc(
             &["_id", "a", "b", "x"],
             &[
                 Int(1),
@@ -140,6 +142,10 @@ const ROWS: [Row; 14] = [
         )),
     ),
 ];
+
+const WITHOUT_A: Sample = Doc(&["$unset"], &[Doc(&["a"], &[Null])]);
+
+const ID_ALONE: Sample = Doc(&["_id"], &[Int(1)]);
 
 /// What an update makes of the document, or the fault of either. The update is copied first.
 fn outcome(
@@ -157,11 +163,11 @@ fn outcome(
 fn updates_of_an_array(rt: HostRuntime) -> Result<(), Fail> {
     let alloc = rt.alloc();
     for row in &ROWS {
-        let document = document_of(alloc, &START.0, &START.1)?;
-        let update = document_of(alloc, row.0, row.1)?;
-        match (outcome(alloc, &update, &document)?, &row.2) {
+        let document = document_of(alloc, &START)?;
+        let update = document_of(alloc, &row.0)?;
+        match (outcome(alloc, &update, &document)?, &row.1) {
             (Ok(made), Ok(expected)) => {
-                let expected = document_of(alloc, expected.0, expected.1)?;
+                let expected = document_of(alloc, expected)?;
                 assert!(rt; same_documents(&made, &expected), "{made:?}");
             }
             (Err(told), Err(expected)) => assert_eq!(rt; told, *expected),
@@ -174,20 +180,20 @@ fn updates_of_an_array(rt: HostRuntime) -> Result<(), Fail> {
 #[test]
 fn what_an_update_was_made_of_stays(rt: HostRuntime) -> Result<(), Fail> {
     let alloc = rt.alloc();
-    let document = document_of(alloc, &START.0, &START.1)?;
-    let update = document_of(alloc, &["$unset"], &[Doc(&["a"], &[Null])])?;
+    let document = document_of(alloc, &START)?;
+    let update = document_of(alloc, &WITHOUT_A)?;
     let made = outcome(alloc, &update, &document)?
         .ok()
         .ok_or("it can be updated")?;
     assert_eq!(rt; made.len(), 1);
-    assert!(rt; same_documents(&document, &document_of(alloc, &START.0, &START.1)?));
+    assert!(rt; same_documents(&document, &document_of(alloc, &START)?));
     Ok(())
 }
 
 #[test]
-fn sizes_are_told_before_levels(rt: HostRuntime) -> Result<(), Fail> {
+fn levels_that_are_too_many_are_told(rt: HostRuntime) -> Result<(), Fail> {
     let alloc = rt.alloc();
-    let document = document_of(alloc, &["_id"], &[Int(1)])?;
+    let document = document_of(alloc, &ID_ALONE)?;
     let mut deep = Value::Null;
     for _ in 0..100u8 {
         let mut inner = Document::new(alloc);
