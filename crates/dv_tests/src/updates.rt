@@ -1,40 +1,43 @@
 //! Updates in use.
 
 use crate::sample::Sample::{Array, Doc, Int32, Int64, Null};
-use crate::sample::{Sample, document_of};
+use crate::sample::{Sample, value_of};
 use dv_bson::{Document, Value};
 use dv_update::{Update, UpdateFault, is_same, same_documents};
 use std::alloc::Global;
 use std::test::*;
 
-/// An update's names and values, and the names and values of what it makes of the document, or why it is none or is
-/// refused.
-struct Row(
-    &'static [&'static str],
-    &'static [Sample<'static>],
-    Result<(&'static [&'static str], &'static [Sample<'static>]), UpdateFault>,
-);
+/// The document that is written so.
+fn document_of(alloc: Global, sample: &Sample) -> Result<Document, Fail> {
+    match value_of(alloc, sample)? {
+        Value::Doc(document) => Ok(document),
+        _ => Err(Fail::from("no document")),
+    }
+}
 
-const START: ([&str; 2], [Sample<'static>; 2]) = (
-    ["_id", "a"],
-    [Int32(1), Array(&[Int32(1), Int32(2), Int64(2), Int32(3)])],
+/// An update, and what it makes of the document, or why it is none or is refused.
+struct Row(Sample<'static>, Result<Sample<'static>, UpdateFault>);
+
+const START: Sample<'static> = Doc(
+    &["_id", "a"],
+    &[Int32(1), Array(&[Int32(1), Int32(2), Int64(2), Int32(3)])],
 );
 
 const ROWS: [Row; 14] = [
     Row(
-        &["$pull"],
-        &[Doc(&["a"], &[Int32(2)])],
-        Ok((&["_id", "a"], &[Int32(1), Array(&[Int32(1), Int32(3)])])),
+        Doc(&["$pull"], &[Doc(&["a"], &[Int32(2)])]),
+        Ok(Doc(&["_id", "a"], &[Int32(1), Array(&[Int32(1), Int32(3)])])),
     ),
     Row(
-        &["$pull"],
-        &[Doc(&["a"], &[Doc(&["$gte"], &[Int32(2)])])],
-        Ok((&["_id", "a"], &[Int32(1), Array(&[Int32(1)])])),
+        Doc(&["$pull"], &[Doc(&["a"], &[Doc(&["$gte"], &[Int32(2)])])]),
+        Ok(Doc(&["_id", "a"], &[Int32(1), Array(&[Int32(1)])])),
     ),
     Row(
-        &["$push"],
-        &[Doc(&["a"], &[Doc(&["$each"], &[Array(&[Int32(4), Int32(5)])])])],
-        Ok((
+        Doc(
+            &["$push"],
+            &[Doc(&["a"], &[Doc(&["$each"], &[Array(&[Int32(4), Int32(5)])])])],
+        ),
+        Ok(Doc(
             &["_id", "a"],
             &[
                 Int32(1),
@@ -43,68 +46,63 @@ const ROWS: [Row; 14] = [
         )),
     ),
     Row(
-        &["$unset"],
-        &[Doc(&["a.1"], &[Int32(0)])],
-        Ok((
+        Doc(&["$unset"], &[Doc(&["a.1"], &[Int32(0)])]),
+        Ok(Doc(
             &["_id", "a"],
             &[Int32(1), Array(&[Int32(1), Null, Int64(2), Int32(3)])],
         )),
     ),
     Row(
-        &["b"],
-        &[Int32(1)],
-        Ok((&["_id", "b"], &[Int32(1), Int32(1)])),
+        Doc(&["b"], &[Int32(1)]),
+        Ok(Doc(&["_id", "b"], &[Int32(1), Int32(1)])),
     ),
     Row(
-        &["$set"],
-        &[Doc(&["_id"], &[Int32(1)])],
-        Ok((&START.0, &START.1)),
-    ),
-    Row(
-        &["$set"],
-        &[Doc(&["a", "a.b"], &[Int32(1), Int32(2)])],
-        Err(UpdateFault::Conflict),
-    ),
-    Row(
-        &["$set"],
-        &[Doc(&["a.x"], &[Int32(1)])],
-        Err(UpdateFault::NotViable),
-    ),
-    Row(
-        &["$set"],
-        &[Doc(&["_id"], &[Int64(1)])],
-        Err(UpdateFault::IdChanged),
-    ),
-    Row(
-        &["_id", "b"],
-        &[Int64(1), Int32(1)],
-        Err(UpdateFault::IdChanged),
-    ),
-    Row(
-        &["$push"],
-        &[Doc(&["_id"], &[Int32(1)])],
-        Err(UpdateFault::NotArray),
-    ),
-    Row(
-        &["$inc"],
-        &[Doc(&["a.0", "a.2"], &[Int32(2147483647), Int64(-2)])],
-        Ok((
+        Doc(&["$set"], &[Doc(&["_id"], &[Int32(1)])]),
+        Ok(Doc(
             &["_id", "a"],
-            &[
-                Int32(1),
-                Array(&[Int64(2147483648), Int32(2), Int64(0), Int32(3)]),
-            ],
+            &[Int32(1), Array(&[Int32(1), Int32(2), Int64(2), Int32(3)])],
         )),
     ),
     Row(
-        &["$inc"],
-        &[Doc(&["a.1"], &[Int64(9223372036854775807)])],
+        Doc(&["$set"], &[Doc(&["a", "a.b"], &[Int32(1), Int32(2)])]),
+        Err(UpdateFault::Conflict),
+    ),
+    Row(
+        Doc(&["$set"], &[Doc(&["a.x"], &[Int32(1)])]),
+        Err(UpdateFault::NotViable),
+    ),
+    Row(
+        Doc(&["$set"], &[Doc(&["_id"], &[Int64(1)])]),
+        Err(UpdateFault::IdChanged),
+    ),
+    Row(
+        Doc(&["_id", "b"], &[Int64(1), Int32(1)]),
+        Err(UpdateFault::IdChanged),
+    ),
+    Row(
+        Doc(&["$push"], &[Doc(&["_id"], &[Int32(1)])]),
+        Err(UpdateFault::NotArray),
+    ),
+    Row(
+        Doc(
+            &["$inc"],
+            &[Doc(&["a.0", "a.2"], &[Int32(2147483647), Int64(-2)])],
+        ),
+        Ok(Doc(
+            &["_id", "a"],
+            &[Int32(1), Array(&[Int64(2147483648), Int32(2), Int64(0), Int32(3)])],
+        )),
+    ),
+    Row(
+        Doc(&["$inc"], &[Doc(&["a.1"], &[Int64(9223372036854775807)])]),
         Err(UpdateFault::Overflow),
     ),
     Row(
-        &["$set"],
-        &[Doc(&["x.10", "x.2", "b"], &[Int32(1), Int32(2), Int32(3)])],
-        Ok((
+        Doc(
+            &["$set"],
+            &[Doc(&["x.10", "x.2", "b"], &[Int32(1), Int32(2), Int32(3)])],
+        ),
+        Ok(Doc(
             &["_id", "a", "b", "x"],
             &[
                 Int32(1),
@@ -115,6 +113,10 @@ const ROWS: [Row; 14] = [
         )),
     ),
 ];
+
+const WITHOUT_A: Sample = Doc(&["$unset"], &[Doc(&["a"], &[Null])]);
+
+const ID_ALONE: Sample = Doc(&["_id"], &[Int32(1)]);
 
 /// What an update makes of the document, or the fault of either. The update is copied first.
 fn outcome(
@@ -132,11 +134,11 @@ fn outcome(
 fn updates_of_an_array(rt: HostRuntime) -> Result<(), Fail> {
     let alloc = rt.alloc();
     for row in &ROWS {
-        let document = document_of(alloc, &START.0, &START.1)?;
-        let update = document_of(alloc, row.0, row.1)?;
-        match (outcome(alloc, &update, &document)?, &row.2) {
+        let document = document_of(alloc, &START)?;
+        let update = document_of(alloc, &row.0)?;
+        match (outcome(alloc, &update, &document)?, &row.1) {
             (Ok(made), Ok(expected)) => {
-                let expected = document_of(alloc, expected.0, expected.1)?;
+                let expected = document_of(alloc, expected)?;
                 assert!(rt; same_documents(&made, &expected), "{made:?}");
             }
             (Err(told), Err(expected)) => assert_eq!(rt; told, *expected),
@@ -149,20 +151,20 @@ fn updates_of_an_array(rt: HostRuntime) -> Result<(), Fail> {
 #[test]
 fn what_an_update_was_made_of_stays(rt: HostRuntime) -> Result<(), Fail> {
     let alloc = rt.alloc();
-    let document = document_of(alloc, &START.0, &START.1)?;
-    let update = document_of(alloc, &["$unset"], &[Doc(&["a"], &[Null])])?;
+    let document = document_of(alloc, &START)?;
+    let update = document_of(alloc, &WITHOUT_A)?;
     let made = outcome(alloc, &update, &document)?
         .ok()
         .ok_or("it can be updated")?;
     assert_eq!(rt; made.len(), 1);
-    assert!(rt; same_documents(&document, &document_of(alloc, &START.0, &START.1)?));
+    assert!(rt; same_documents(&document, &document_of(alloc, &START)?));
     Ok(())
 }
 
 #[test]
-fn sizes_are_told_before_levels(rt: HostRuntime) -> Result<(), Fail> {
+fn levels_that_are_too_many_are_told(rt: HostRuntime) -> Result<(), Fail> {
     let alloc = rt.alloc();
-    let document = document_of(alloc, &["_id"], &[Int32(1)])?;
+    let document = document_of(alloc, &ID_ALONE)?;
     let mut deep = Value::Null;
     for _ in 0..100u8 {
         let mut inner = Document::new(alloc);
@@ -191,7 +193,7 @@ fn values_that_are_the_same(rt: HostRuntime) {
 #[test]
 fn a_path_of_a_million_names_makes_nothing(rt: HostRuntime) -> Result<(), Fail> {
     let alloc = rt.alloc();
-    let document = document_of(alloc, &["_id"], &[Int32(1)])?;
+    let document = document_of(alloc, &Doc(&["_id"], &[Int32(1)]))?;
     let mut path = "a.".repeat(alloc, 999_999)?;
     path.push_str("a")?;
     for (operator, expected) in [
@@ -199,7 +201,7 @@ fn a_path_of_a_million_names_makes_nothing(rt: HostRuntime) -> Result<(), Fail> 
         ("$push", Some(UpdateFault::TooDeep)),
         ("$unset", None),
     ] {
-        let paths = document_of(alloc, &[path.as_str()], &[Int32(1)])?;
+        let paths = document_of(alloc, &Doc(&[path.as_str()], &[Int32(1)]))?;
         let mut update = Document::new(alloc);
         update.push(operator, Value::Doc(paths))?;
         let told = outcome(alloc, &update, &document)?.err();
