@@ -63,13 +63,18 @@ pub(crate) fn value_of(alloc: Global, sample: &Sample) -> Result<Value, Fail> {
 }
 
 /// The document that is written so.
+pub(crate) fn document_in(alloc: Global, sample: &Sample) -> Result<Document, Fail> {
+    match value_of(alloc, sample)? {
+        Value::Doc(document) => Ok(document),
+        _ => Err(Fail::from("no document")),
+    }
+}
+
+/// The document with these names and values.
 pub(crate) fn document_of(
     alloc: Global,
     names: &[&str],
     samples: &[Sample],
 ) -> Result<Document, Fail> {
-    match value_of(alloc, &Doc(names, samples))? {
-        Value::Doc(document) => Ok(document),
-        _ => Err(Fail::from("no document")),
-    }
+    document_in(alloc, &Doc(names, samples))
 }

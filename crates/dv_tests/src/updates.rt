@@ -1,19 +1,11 @@
 //! Updates in use.
 
 use crate::sample::Sample::{Array, Doc, Int32, Int64, Null};
-use crate::sample::{Sample, value_of};
+use crate::sample::{Sample, document_in};
 use dv_bson::{Document, Value};
 use dv_update::{Update, UpdateFault, is_same, same_documents};
 use std::alloc::Global;
 use std::test::*;
-
-/// The document that is written so.
-fn document_of(alloc: Global, sample: &Sample) -> Result<Document, Fail> {
-    match value_of(alloc, sample)? {
-        Value::Doc(document) => Ok(document),
-        _ => Err(Fail::from("no document")),
-    }
-}
 
 /// An update, and what it makes of the document, or why it is none or is refused.
 struct Row(Sample<'static>, Result<Sample<'static>, UpdateFault>);
@@ -90,7 +82,10 @@ const ROWS: [Row; 14] = [
         ),
         Ok(Doc(
             &["_id", "a"],
-            &[Int32(1), Array(&[Int64(2147483648), Int32(2), Int64(0), Int32(3)])],
+            &[
+                Int32(1),
+                Array(&[Int64(2147483648), Int32(2), Int64(0), Int32(3)]),
+            ],
         )),
     ),
     Row(
@@ -114,9 +109,9 @@ const ROWS: [Row; 14] = [
     ),
 ];
 
-const WITHOUT_A: Sample = Doc(&["$unset"], &[Doc(&["a"], &[Null])]);
+const WITHOUT_A: Sample<'static> = Doc(&["$unset"], &[Doc(&["a"], &[Null])]);
 
-const ID_ALONE: Sample = Doc(&["_id"], &[Int32(1)]);
+const ID_ALONE: Sample<'static> = Doc(&["_id"], &[Int32(1)]);
 
 /// What an update makes of the document, or the fault of either. The update is copied first.
 fn outcome(
@@ -134,11 +129,11 @@ fn outcome(
 fn updates_of_an_array(rt: HostRuntime) -> Result<(), Fail> {
     let alloc = rt.alloc();
     for row in &ROWS {
-        let document = document_of(alloc, &START)?;
-        let update = document_of(alloc, &row.0)?;
+        let document = document_in(alloc, &START)?;
+        let update = document_in(alloc, &row.0)?;
         match (outcome(alloc, &update, &document)?, &row.1) {
             (Ok(made), Ok(expected)) => {
-                let expected = document_of(alloc, expected)?;
+                let expected = document_in(alloc, expected)?;
                 assert!(rt; same_documents(&made, &expected), "{made:?}");
             }
             (Err(told), Err(expected)) => assert_eq!(rt; told, *expected),
@@ -151,20 +146,20 @@ fn updates_of_an_array(rt: HostRuntime) -> Result<(), Fail> {
 #[test]
 fn what_an_update_was_made_of_stays(rt: HostRuntime) -> Result<(), Fail> {
     let alloc = rt.alloc();
-    let document = document_of(alloc, &START)?;
-    let update = document_of(alloc, &WITHOUT_A)?;
+    let document = document_in(alloc, &START)?;
+    let update = document_in(alloc, &WITHOUT_A)?;
     let made = outcome(alloc, &update, &document)?
         .ok()
         .ok_or("it can be updated")?;
     assert_eq!(rt; made.len(), 1);
-    assert!(rt; same_documents(&document, &document_of(alloc, &START)?));
+    assert!(rt; same_documents(&document, &document_in(alloc, &START)?));
     Ok(())
 }
 
 #[test]
 fn levels_that_are_too_many_are_told(rt: HostRuntime) -> Result<(), Fail> {
     let alloc = rt.alloc();
-    let document = document_of(alloc, &ID_ALONE)?;
+    let document = document_in(alloc, &ID_ALONE)?;
     let mut deep = Value::Null;
     for _ in 0..100u8 {
         let mut inner = Document::new(alloc);
@@ -193,7 +188,7 @@ fn values_that_are_the_same(rt: HostRuntime) {
 #[test]
 fn a_path_of_a_million_names_makes_nothing(rt: HostRuntime) -> Result<(), Fail> {
     let alloc = rt.alloc();
-    let document = document_of(alloc, &Doc(&["_id"], &[Int32(1)]))?;
+    let document = document_in(alloc, &Doc(&["_id"], &[Int32(1)]))?;
     let mut path = "a.".repeat(alloc, 999_999)?;
     path.push_str("a")?;
     for (operator, expected) in [
@@ -201,7 +196,7 @@ fn a_path_of_a_million_names_makes_nothing(rt: HostRuntime) -> Result<(), Fail> 
         ("$push", Some(UpdateFault::TooDeep)),
         ("$unset", None),
     ] {
-        let paths = document_of(alloc, &Doc(&[path.as_str()], &[Int32(1)]))?;
+        let paths = document_in(alloc, &Doc(&[path.as_str()], &[Int32(1)]))?;
         let mut update = Document::new(alloc);
         update.push(operator, Value::Doc(paths))?;
         let told = outcome(alloc, &update, &document)?.err();
