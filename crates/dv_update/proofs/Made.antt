@@ -14,7 +14,7 @@ use Rattle.dv_update.proofs.PutThere.{put-again}
 use Rattle.dv_update.proofs.Sameness.{same-is}
 
 -- where a value stands, none comes deeper than it
-put_taken : (d : List Field) (path : Path) (w v : Tree) → slot d path ≡ taken w → set_at path v d ≡ told (put d path v)
+pub put_taken : (d : List Field) (path : Path) (w v : Tree) → slot d path ≡ taken w → set_at path v d ≡ told (put d path v)
 put_taken d path w v here = ap (λ s. if is_beyond path s then Err TooDeep else told (put d path v)) here
 
 -- to set what stands there changes nothing
