@@ -457,10 +457,11 @@ class Pipelines(Updates):
         return document(options)
 
     def grouping(self):
-        fields = [(b"_id", self.expression() if self.often(0.8) else NOTHING)]
+        fields = [(b"_id", self.expression() if self.often(0.6) else NOTHING)]
         for _ in range(self.rng.randrange(4)):
             accumulator = self.rng.choice([b"$sum", b"$min", b"$max", b"$push"])
-            operand = self.rng.choice([number(1), self.number(), self.expression(), self.expression()])
+            operand = self.one_of(self.number, self.field_path, self.field_path, self.field_path, self.expression,
+                                  lambda: number(self.rng.choice([1, 2**31 - 1, 2**63 - 1, -2**63])))
             fields.append((self.name(), document([(accumulator, operand)])))
         if self.often(0.03):
             fields = fields[1:] + [(b"z", self.rng.choice([document([]), document([(b"$avg", number(1))]), number(1)]))]
