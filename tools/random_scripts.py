@@ -453,7 +453,7 @@ class Pipelines(Updates):
             return path
         options = [(b"path", path), (b"preserveNullAndEmptyArrays", boolean(self.often(0.7)))]
         if self.often(0.05):
-            options = self.rng.choice([options[1:], options[:1], options + [(b"x", number(1))], [options[0], (b"preserveNullAndEmptyArrays", number(1))]])
+            options = self.rng.choice([options[1:], options[:1], [*options, (b"x", number(1))], [options[0], (options[1][0], NOTHING)]])
         return document(options)
 
     def grouping(self):
@@ -595,7 +595,8 @@ class Maker(Pipelines):
         return [(b"create", name)] + (others if self.often(0.95) else others[:1])
 
     def drop(self):
-        return [(b"drop", text(self.rng.choice([b"c", b"d", b"d", b"v", b"v", b"w", b"w"])) if self.often(0.9) else self.collection())]
+        name = self.rng.choice([b"c", b"d", b"d", b"v", b"v", b"w", b"w"])
+        return [(b"drop", text(name) if self.often(0.9) else self.collection())]
 
     def changed(self, fields):
         place = self.rng.randrange(len(fields))
@@ -746,6 +747,7 @@ def update_edges():
         yield lines_of(insert([document([(b"_id", number(1))])]),
                        update(b"$set", b".".join([b"d"] * levels), document([])), FIND)
     for count in (3_000, 100_001):
-        entry = document([(b"q", document([(b"_id", number(1))])), (b"u", document([(b"$inc", document([(b"n", number(1))]))]))])
+        change = document([(b"$inc", document([(b"n", number(1))]))])
+        entry = document([(b"q", document([(b"_id", number(1))])), (b"u", change)])
         yield lines_of(insert([document([(b"_id", number(1))])]),
                        [(b"update", text(b"c")), (b"updates", array([entry] * count))], FIND)
