@@ -113,7 +113,8 @@ def tell(name, count, by_docd, by_sqlite, by_mongomock, few):
     if by_docd[1] != by_sqlite[1]:
         sys.exit("bench: %s: docd tells of %d documents and SQLite of %d" % (name, by_docd[1], by_sqlite[1]))
     rate, other = count / by_docd[0], count / by_sqlite[0]
-    cells = [name, "%d" % by_docd[1], "%.1f" % (1e3 * by_docd[0]), "%.0f" % (rate / 1e3), "%.0f" % (other / 1e3), "%.1f" % (rate / other)]
+    cells = [name, "%d" % by_docd[1], "%.1f" % (1e3 * by_docd[0])]
+    cells += ["%.0f" % (rate / 1e3), "%.0f" % (other / 1e3), "%.1f" % (rate / other)]
     mocked = few / by_mongomock[0] if by_mongomock else None
     row(*cells, *(["%.1f" % (mocked / 1e3), "%.0f" % (rate / mocked)] if mocked else ["-", "-"]))
 
@@ -127,8 +128,8 @@ def main():
     check_tools()
     documents, few = documents_to_find(given.count), given.count // 10
     docd, base, collection = loaded(documents), loaded_sqlite(documents), mongomock_with(documents_to_find(few))
-    heads("over %d documents" % given.count, "documents", "milliseconds", "thousands a second looked at", "SQLite: thousands a second",
-          "times SQLite", "mongomock, of %d: thousands a second" % few, "times mongomock")
+    heads("over %d documents" % given.count, "documents", "milliseconds", "thousands a second looked at",
+          "SQLite: thousands a second", "times SQLite", "mongomock, of %d: thousands a second" % few, "times mongomock")
     for find, smaller in zip(finds(given.count), finds(few)):
         tell(find.name, given.count, asked_of_docd(docd, find), asked_of_sqlite(base, find),
              collection is not None and asked_of_mongomock(collection, smaller), few)

@@ -31,7 +31,8 @@ def updated_by_docd(docd, update, count, is_each):
 
     def run():
         made = update.made(next(numbers))
-        entries = [{"q": {"_id": place}, "u": made} for place in range(count)] if is_each else [{"q": {}, "u": made, "multi": True}]
+        one_each = [{"q": {"_id": place}, "u": made} for place in range(count)]
+        entries = one_each if is_each else [{"q": {}, "u": made, "multi": True}]
         commands = [{"update": "c", "updates": entries[i:i + STATEMENTS]} for i in range(0, len(entries), STATEMENTS)]
         replies = docd.ask(*commands)
         if sum(reply.get("nModified", 0) for reply in replies) != count:

@@ -453,14 +453,15 @@ class Pipelines(Updates):
             return path
         options = [(b"path", path), (b"preserveNullAndEmptyArrays", boolean(self.often(0.7)))]
         if self.often(0.05):
-            options = self.rng.choice([options[1:], options[:1], options + [(b"x", number(1))], [options[0], (b"preserveNullAndEmptyArrays", number(1))]])
+            options = self.rng.choice([options[1:], options[:1], [*options, (b"x", number(1))], [options[0], (options[1][0], NOTHING)]])
         return document(options)
 
     def grouping(self):
-        fields = [(b"_id", self.expression() if self.often(0.8) else NOTHING)]
+        fields = [(b"_id", self.expression() if self.often(0.6) else NOTHING)]
         for _ in range(self.rng.randrange(4)):
             accumulator = self.rng.choice([b"$sum", b"$min", b"$max", b"$push"])
-            operand = self.rng.choice([number(1), self.number(), self.expression(), self.expression()])
+            operand = self.one_of(self.number, self.field_path, self.field_path, self.field_path, self.expression,
+                                  lambda: number(self.rng.choice([1, 2**31 - 1, 2**63 - 1, -2**63])))
             fields.append((self.name(), document([(accumulator, operand)])))
         if self.often(0.03):
             fields = fields[1:] + [(b"z", self.rng.choice([document([]), document([(b"$avg", number(1))]), number(1)]))]
@@ -594,7 +595,8 @@ class Maker(Pipelines):
         return [(b"create", name)] + (others if self.often(0.95) else others[:1])
 
     def drop(self):
-        return [(b"drop", text(self.rng.choice([b"c", b"d", b"d", b"v", b"v", b"w", b"w"])) if self.often(0.9) else self.collection())]
+        name = self.rng.choice([b"c", b"d", b"d", b"v", b"v", b"w", b"w"])
+        return [(b"drop", text(name) if self.often(0.9) else self.collection())]
 
     def changed(self, fields):
         place = self.rng.randrange(len(fields))
@@ -745,6 +747,7 @@ def update_edges():
         yield lines_of(insert([document([(b"_id", number(1))])]),
                        update(b"$set", b".".join([b"d"] * levels), document([])), FIND)
     for count in (3_000, 100_001):
-        entry = document([(b"q", document([(b"_id", number(1))])), (b"u", document([(b"$inc", document([(b"n", number(1))]))]))])
+        change = document([(b"$inc", document([(b"n", number(1))]))])
+        entry = document([(b"q", document([(b"_id", number(1))])), (b"u", change)])
         yield lines_of(insert([document([(b"_id", number(1))])]),
                        [(b"update", text(b"c")), (b"updates", array([entry] * count))], FIND)
