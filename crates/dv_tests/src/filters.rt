@@ -2,8 +2,8 @@
 
 use crate::sample::Sample::{Array, Doc, Int32, Null};
 use crate::sample::{Sample, value_of};
-use dv_bson::{Document, Value};
-use dv_match::{Filter, FilterFault};
+use dv_bson::{Document, List, Value};
+use dv_match::{Choices, Filter, FilterFault};
 use std::alloc::Global;
 use std::process::Abort;
 use std::test::*;

@@ -186,10 +186,10 @@ fn values_that_are_the_same(rt: HostRuntime) {
 }
 
 #[test]
-fn a_path_of_a_million_names_makes_nothing(rt: HostRuntime) -> Result<(), Fail> {
+fn a_path_of_100000_names_makes_nothing(rt: HostRuntime) -> Result<(), Fail> {
     let alloc = rt.alloc();
     let document = document_in(alloc, &Doc(&["_id"], &[Int32(1)]))?;
-    let mut path = "a.".repeat(alloc, 999_999)?;
+    let mut path = "a.".repeat(alloc, 99_999)?;
     path.push_str("a")?;
     for (operator, expected) in [
         ("$set", Some(UpdateFault::TooDeep)),
