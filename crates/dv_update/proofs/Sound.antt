@@ -1,9 +1,9 @@
 -- Updates that valid documents are, and what they make of valid documents.
-use Rattle.std.proofs.Common.{◌≡◌, refl, subst, ℕ, pos, negsuc, ℤ, ◌+ℤ◌, ◌<◌, ◌^◌, ◌==◌, ◌&&◌, not, cond, nat_lt, Bool, true, false, List, [], ◌∷◌, ◌++◌, length, Option, Some, None, Result, Ok, Err, codes, arith, if◌then◌else◌}
+use Rattle.std.proofs.Common.{◌≡◌, refl, subst, ℕ, pos, negsuc, ℤ, ◌+ℤ◌, ◌==◌, ◌&&◌, not, cond, nat_lt, Bool, true, false, List, [], ◌∷◌, ◌++◌, length, Option, Some, None, Result, Ok, Err, codes, arith, if◌then◌else◌}
 use Rattle.std.proofs.lemmas.Bool.Decides.{nat_tests}
 use Rattle.std.specs.Bool.{⊤}
 use Rattle.std.specs.Int.{w32, w64}
-use Rattle.std.specs.List.{AllByRecursion, filter, list_all, list_any, slice_split}
+use Rattle.std.specs.List.{AllByRecursion, list_all, list_any, slice_split}
 use Rattle.std.specs.Option.{IfSome}
 use Rattle.std.specs.Ordering.{is_gt}
 use Rattle.std.specs.Prelude.{FitsSigned}
@@ -17,22 +17,22 @@ use Rattle.dv_match.specs.Parsing.{begins_with_dollar, lists_operators, test_in}
 use Rattle.dv_match.specs.declared.fault.FilterFault.{FilterFault}
 use Rattle.dv_path.specs.Path.{is_component, path_of}
 use Rattle.dv_path.specs.Placing.{put}
-use Rattle.dv_path.specs.Removing.{remove}
 use Rattle.dv_path.specs.Slots.{Slot, taken, free, blocked, slot}
 use Rattle.dv_path.specs.declared.fault.PathFault.{PathFault}
-use Rattle.dv_update.specs.Apply.{Path, told, is_beyond, set_at, integer, is_narrow, number_tree, fits_32, fits_64, sum_as, increased, increase_at, appended, append_at, is_pulled, left, pull_from, pull_at, edit_at, edited, chosen, leading_id, checked, changed, applied, document_limit, level_limit}
+use Rattle.dv_update.specs.Apply.{Path, told, is_beyond, set_at, integer, is_narrow, number_tree, fits_32, fits_64, sum_as, increased, appended, is_pulled, left, pull_from, edit_at, edited, chosen, leading_id, checked, changed, applied, document_limit, level_limit}
 use Rattle.dv_update.specs.Parsing.{◌>>=◌, operator_named, number_to_add, members, each_alone, values_to_push, condition, values_to_pull, operation_by, plain, edit_by, edits_by, edits_under, edits_in, has_conflict, placed, sorted, in_order, has_bad_name, replacement_of, update_of}
 use Rattle.dv_update.specs.PathOrder.{path_order}
 use Rattle.dv_update.specs.Same.{both_same}
 use Rattle.dv_update.specs.Update.{Operation, assign, take_away, increase, append, pull, Pulled, Edit, Update, replacement, operators}
 use Rattle.dv_update.specs.declared.fault.UpdateFault.{UpdateFault}
-use Rattle.dv_update.specs.declared.fault.UpdateFault.TheVariants.{UnknownOperator, Conflict, Overflow, IdChanged, TooLarge, TooDeep, BadName, BadOperand}
+use Rattle.dv_update.specs.declared.fault.UpdateFault.TheVariants.{UnknownOperator, Conflict, Overflow, IdChanged, TooLarge, TooDeep, BadName}
 use Rattle.dv_update.specs.declared.number.Number.{Number}
 use Rattle.dv_update.specs.declared.number.Number.TheVariants.{Int32, Int64}
 use Rattle.dv_update.specs.declared.operator.Operator.{Operator}
 use Rattle.dv_update.specs.declared.operator.Operator.TheVariants.{Set, Unset, Inc, Push, Pull}
+use Rattle.dv_update.proofs.Sameness.{and-left, and-right}
 use Rattle.dv_update.proofs.Texts.{IsUtf8-parts}
-use Rattle.dv_update.proofs.Valid.{IsName, AreNames, AreValues, AreValid, IsThere, listed-fields, fields-valid, valid-fields, listed-elements, valid-elements, value_under-valid, slot-valid, put-valid, remove-valid, with_id-valid}
+use Rattle.dv_update.proofs.Valid.{either, IsName, AreNames, AreValues, AreValid, IsThere, listed-fields, fields-valid, valid-fields, listed-elements, valid-elements, value_under-valid, slot-valid, put-valid, remove-valid, with_id-valid}
 
 -- ---- one thing after another
 
@@ -41,20 +41,11 @@ bound P Q f follow (Ok x) holds = follow x holds
 bound P Q f follow (Err e) holds = tt
 
 unless : {X : Type 0} (P : X → Type 0) (b : Bool) (e : UpdateFault) (r : Result X UpdateFault) → IfOk r P → IfOk (if b then Err e else r) P
-unless P true e r holds = tt
-unless P false e r holds = holds
+unless P b e r holds = either (λ s. IfOk s P) b (Err e) r tt holds
 
 all-append : {X : Type 0} (P : X → Type 0) (xs ys : List X) → AllByRecursion P xs → AllByRecursion P ys → AllByRecursion P (xs ++ ys)
 all-append P [] ys first second = second
 all-append P (x ∷ xs) ys first second = (first.0, all-append P xs ys first.1 second)
-
-and-left : (a b : Bool) → (a && b) ≡ true → a ≡ true
-and-left true b e = refl
-and-left false b e = cc
-
-and-right : (a b : Bool) → (a && b) ≡ true → b ≡ true
-and-right true b e = e
-and-right false b e = cc
 
 not-true : (a : Bool) → not a ≡ true → a ≡ false
 not-true true e = cc
@@ -90,20 +81,12 @@ members-sound : (v : Tree) → IsValue v → IfOk (members v) IsSoundOperation
 members-sound (array vs) value = listed-elements vs value
 members-sound v value = tt
 
-one_each : (b : Bool) (v : Tree) → IsValue v → IfOk (if b then members v else Err UnknownOperator) IsSoundOperation
-one_each true v value = members-sound v value
-one_each false v value = tt
-
 each_alone-sound : (fs : Fields) → AreFields fs → IfOk (each_alone fs) IsSoundOperation
-each_alone-sound (field name v no_fields) valid = one_each (bytes_eq name (codes "$each")) v valid.3
+each_alone-sound (field name v no_fields) valid = either (λ r. IfOk r IsSoundOperation) (bytes_eq name (codes "$each")) (members v) (Err UnknownOperator) (members-sound v valid.3) tt
 each_alone-sound fs valid = tt
 
-pushed-sound : (b : Bool) (fs : Fields) → AreFields fs → IfOk (if b then each_alone fs else Ok (append (document fs ∷ []))) IsSoundOperation
-pushed-sound true fs valid = each_alone-sound fs valid
-pushed-sound false fs valid = (valid, tt)
-
 values_to_push-sound : (v : Tree) → IsValue v → IfOk (values_to_push v) IsSoundOperation
-values_to_push-sound (document fs) value = pushed-sound (lists_operators fs) fs value
+values_to_push-sound (document fs) value = either (λ r. IfOk r IsSoundOperation) (lists_operators fs) (each_alone fs) (Ok (append (document fs ∷ []))) (each_alone-sound fs value) (value, tt)
 values_to_push-sound v value = (value, tt)
 
 condition-sound : (r : Result Test FilterFault) → IfOk (condition r) IsSoundOperation
@@ -169,13 +152,9 @@ edits_in-sound (f ∷ fs) valid =
     (λ es are. bound AreSoundEdits AreSoundEdits (λ more. Ok (es ++ more)) (λ more others. all-append IsSoundEdit es more are others) (edits_in fs) (edits_in-sound fs valid.3)) (edits_under (operator_named f.0) f.1)
     (edits_under-sound (operator_named f.0) f.1 valid.2)
 
-placed_by : (b : Bool) (e d : Edit) (ds es : List Edit) → IsSoundEdit e → AreSoundEdits (d ∷ ds) → AreSoundEdits es → AreSoundEdits (if b then d ∷ es else e ∷ d ∷ ds)
-placed_by true e d ds es sound are rest = (are.0, rest)
-placed_by false e d ds es sound are rest = (sound, are)
-
 placed-sound : (e : Edit) (ds : List Edit) → IsSoundEdit e → AreSoundEdits ds → AreSoundEdits (placed e ds)
 placed-sound e [] sound are = (sound, tt)
-placed-sound e (d ∷ ds) sound are = placed_by (is_gt (path_order e.0 d.0)) e d ds (placed e ds) sound are (placed-sound e ds sound are.1)
+placed-sound e (d ∷ ds) sound are = either AreSoundEdits (is_gt (path_order e.0 d.0)) (d ∷ placed e ds) (e ∷ d ∷ ds) (are.0, placed-sound e ds sound are.1) (sound, are)
 
 sorted-sound : (es : List Edit) → AreSoundEdits es → AreSoundEdits (sorted es)
 sorted-sound [] are = tt
@@ -184,13 +163,9 @@ sorted-sound (e ∷ es) are = placed-sound e (sorted es) are.0 (sorted-sound es 
 in_order-sound : (es : List Edit) → AreSoundEdits es → IfOk (in_order es) IsSound
 in_order-sound es are = unless IsSound (has_conflict es) Conflict (Ok (operators (sorted es))) (sorted-sound es are)
 
-one_or_other : (b : Bool) (r s : Result Update UpdateFault) → IfOk r IsSound → IfOk s IsSound → IfOk (if b then r else s) IsSound
-one_or_other true r s first second = first
-one_or_other false r s first second = second
-
 update_of-sound : (fs : List Field) → AreValid fs → IfOk (update_of fs) IsSound
 update_of-sound fs valid =
-    one_or_other (lists_operators (fields_of fs)) (edits_in fs >>= in_order) (replacement_of fs) (bound AreSoundEdits IsSound in_order in_order-sound (edits_in fs) (edits_in-sound fs valid))
+    either (λ r. IfOk r IsSound) (lists_operators (fields_of fs)) (edits_in fs >>= in_order) (replacement_of fs) (bound AreSoundEdits IsSound in_order in_order-sound (edits_in fs) (edits_in-sound fs valid))
     (unless IsSound (has_bad_name fs) BadName (Ok (replacement fs)) valid)
 
 -- ---- what edits make
@@ -233,13 +208,9 @@ appended-valid vs blocked values there = tt
 appended-valid vs (taken (array ws)) values there = valid-elements (list_of_elements ws ++ vs) (all-append IsValue (list_of_elements ws) vs (listed-elements ws there) values)
 appended-valid vs (taken v) values there = tt
 
-kept-valid : (b : Bool) (v : Tree) (vs : List Tree) → IsValue v → AreValues vs → AreValues (cond b (v ∷ vs) vs)
-kept-valid true v vs value values = (value, values)
-kept-valid false v vs value values = values
-
 left-valid : (p : Pulled) (vs : List Tree) → AreValues vs → AreValues (left p vs)
 left-valid p [] values = tt
-left-valid p (v ∷ vs) values = kept-valid (not (is_pulled p v)) v (left p vs) values.0 (left-valid p vs values.1)
+left-valid p (v ∷ vs) values = either AreValues (not (is_pulled p v)) (v ∷ left p vs) (left p vs) (values.0, left-valid p vs values.1) (left-valid p vs values.1)
 
 pull_from-valid : (path : Path) (p : Pulled) (d : List Field) (s : Slot) → AreNames path → AreValid d → IsThere s → IfOk (pull_from path p d s) AreValid
 pull_from-valid path p d (taken (array vs)) named valid there = set_at-valid path (array (elements_of (left p (list_of_elements vs)))) d named (valid-elements (left p (list_of_elements vs)) (left-valid p (list_of_elements vs) (listed-elements vs there))) valid

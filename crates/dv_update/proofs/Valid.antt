@@ -19,6 +19,11 @@ use Rattle.dv_update.specs.Apply.{is_id, others, with_id}
 use Rattle.dv_update.proofs.Items.{fields_again}
 use Rattle.dv_update.proofs.Replacing.{bytes-back, or-false, or-none-first, or-none-second, has_name-others, no-id}
 
+-- what holds of both holds of either
+pub either : {X : Type 0} (P : X → Type 0) (b : Bool) (x y : X) → P x → P y → P (if b then x else y)
+either P true x y first second = first
+either P false x y first second = second
+
 pub record IsName (name : List ℕ) : Type 0 where
   pub text : IsUtf8 name
   pub whole : has_zero name ≡ false
@@ -55,13 +60,9 @@ valid-elements (v ∷ vs) valid = (valid.0, valid-elements vs valid.1)
 
 -- ---- what stands there
 
-one-found : (b : Bool) (v : Tree) (rest : Option Tree) → IsValue v → IfSome rest IsValue → IfSome (if b then Some v else rest) IsValue
-one-found true v rest value others = value
-one-found false v rest value others = others
-
 pub value_under-valid : (name : List ℕ) (fs : List Field) → AreValid fs → IfSome (value_under name fs) IsValue
 value_under-valid name [] valid = tt
-value_under-valid name (f ∷ fs) valid = one-found (bytes_eq name f.0) f.1 (value_under name fs) valid.2 (value_under-valid name fs valid.3)
+value_under-valid name (f ∷ fs) valid = either (λ c. IfSome c IsValue) (bytes_eq name f.0) (Some f.1) (value_under name fs) valid.2 (value_under-valid name fs valid.3)
 
 slice_get-valid : (vs : List Tree) (place : ℕ) → AreValues vs → IfSome (slice_get vs place) IsValue
 slice_get-valid [] place valid = tt
@@ -136,11 +137,10 @@ module _ (change : Option Tree → Result Tree PathFault) (sound : (c : Option T
 
   put_element-valid : (place : Option ℕ) (vs : List Tree) → AreValues vs → IfOk (put_element change place vs) AreValues
   put_element-valid None vs valid = tt
-  put_element-valid (Some place) vs valid = by (nat_lt place (length vs) || nat_le place 100000)
-    where
-      by : (b : Bool) → IfOk (if b then result_map (λ v. with_element place v vs) (change (slice_get vs place)) else Err IndexTooLarge) AreValues
-      by true = mapped IsValue AreValues (λ v. with_element place v vs) (λ v value. with_element-valid place v vs value valid) (change (slice_get vs place)) (sound (slice_get vs place) (slice_get-valid vs place valid))
-      by false = tt
+  put_element-valid (Some place) vs valid =
+      let changed = result_map (λ v. with_element place v vs) (change (slice_get vs place)) in
+      either (λ r. IfOk r AreValues) (nat_lt place (length vs) || nat_le place 100000) changed (Err IndexTooLarge)
+      (mapped IsValue AreValues (λ v. with_element place v vs) (λ v value. with_element-valid place v vs value valid) (change (slice_get vs place)) (sound (slice_get vs place) (slice_get-valid vs place valid))) tt
 
 put_behind-valid : (path : List (List ℕ)) (v : Tree) → AreNames path → IsValue v → (c : Option Tree) → IfSome c IsValue → IfOk (put_behind path v c) IsValue
 put_behind-valid [] v named value c there = value
@@ -197,13 +197,11 @@ remove-valid d (name ∷ names) named valid = remove_field-valid (left_behind na
 
 -- ---- replacements
 
-others-kept : (b : Bool) (f : Field) (fs : List Field) → AreValid (f ∷ fs) → AreValid (others fs) → AreValid (if b then f ∷ others fs else others fs)
-others-kept true f fs valid rest = (valid.0, has_name-others f.0 fs valid.1, valid.2, rest)
-others-kept false f fs valid rest = rest
-
 others-valid : (fs : List Field) → AreValid fs → AreValid (others fs)
 others-valid [] valid = tt
-others-valid (f ∷ fs) valid = others-kept (not (is_id f)) f fs valid (others-valid fs valid.3)
+others-valid (f ∷ fs) valid =
+    let rest = others-valid fs valid.3 in
+    either AreValid (not (is_id f)) (f ∷ others fs) (others fs) (valid.0, has_name-others f.0 fs valid.1, valid.2, rest) rest
 
 id_ascii : (i : ℕ) → get_or (codes "_id") i 0 < 128
 id_ascii zero = omega arith
