@@ -1,5 +1,5 @@
 -- Updates that valid documents are, and what they make of valid documents.
-use Rattle.std.proofs.Common.{◌≡◌, refl, subst, ℕ, pos, negsuc, ℤ, ◌+ℤ◌, ◌==◌, ◌&&◌, not, cond, nat_lt, Bool, true, false, List, [], ◌∷◌, ◌++◌, length, Option, Some, None, Result, Ok, Err, codes, arith, if◌then◌else◌}
+use Rattle.std.proofs.Common.{◌≡◌, refl, subst, ℕ, pos, negsuc, ℤ, ◌+ℤ◌, ◌==◌, ◌&&◌, not, nat_lt, Bool, true, false, List, [], ◌∷◌, ◌++◌, length, Option, Some, None, Result, Ok, Err, codes, arith, if◌then◌else◌}
 use Rattle.std.proofs.lemmas.Bool.Decides.{nat_tests}
 use Rattle.std.specs.Bool.{⊤}
 use Rattle.std.specs.Int.{w32, w64}
