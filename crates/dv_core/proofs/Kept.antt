@@ -1,5 +1,5 @@
 -- What statements keep of the documents of each namespace.
-use Rattle.std.proofs.Common.{◌≡◌, ℕ, zero, suc, Bool, true, false, cond, List, [], ◌∷◌, ◌++◌, map, take, Option, Some, None, Result, Ok, Err, is_some, if◌then◌else◌, inl, inr, refl, sym, subst}
+use Rattle.std.proofs.Common.{◌≡◌, ℕ, zero, suc, Bool, true, false, cond, List, [], ◌∷◌, ◌++◌, map, take, Option, Some, Result, Ok, Err, is_some, if◌then◌else◌, inl, inr, refl, sym, subst}
 use Rattle.std.proofs.lemmas.Slice.Eq.{bytes_eq-Decides}
 use Rattle.std.specs.List.{AllByRecursion}
 use Rattle.std.specs.FinMap as finite
@@ -15,7 +15,7 @@ use Rattle.dv_command.specs.declared.refusal.Refusal.TheVariants.{DuplicateKey}
 use Rattle.dv_command.specs.Refusals.{◌>>=◌}
 use Rattle.dv_core.specs.declared.outcome.Outcome.{Outcome}
 use Rattle.dv_core.specs.Changes.{Change, put, gone, Effect, apply, with_change, with_changes, changes_of}
-use Rattle.dv_core.specs.Delete.{delete_one, delete_chosen, without}
+use Rattle.dv_core.specs.Delete.{delete_one, delete_chosen}
 use Rattle.dv_core.specs.Insert.{insert_one, put_new}
 use Rattle.dv_core.specs.State.{State, Standing, Namespaces, collection_at, documents_of, with_documents, collection}
 use Rattle.dv_core.specs.Statements.{Statement, Write, Written, nothing_written, with_all, with_next, with_result, is_due}
