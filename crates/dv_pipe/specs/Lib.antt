@@ -1,0 +1,4 @@
+pub mod Fault
+pub mod Parsing
+pub mod Sources
+pub mod Stages
