@@ -1,4 +1,9 @@
+pub mod Expressions
+pub mod ExpressionCode
+pub mod ExpressionFalls
+pub mod ExpressionView
 pub mod Fault
 pub mod Parsing
 pub mod Sources
 pub mod Stages
+pub mod Unwinding

@@ -1,15 +1,20 @@
 -- Pipelines from lists of documents: the form, or the first fault in written order (MongoDB manual, "Aggregation Stages"). Which
 -- stages there are, and which fault is told, is this server's own.
-use Rattle.std.specs.Prelude.{◌≡◌, ◌⊎◌, ℕ, ℤ, pos, negsuc, ◌==◌, nat_le, List, [], ◌∷◌, length, take, Result, Ok, Err, codes, if◌then◌else◌}
+use Rattle.std.specs.Prelude.{◌≡◌, ◌⊎◌, ℕ, ℤ, pos, negsuc, ◌==◌, ◌&&◌, ◌||◌, not, nat_le, Bool, false, Option, Some, None, List, [], ◌∷◌, length, take, Result, Ok, Err, codes, if◌then◌else◌}
 use Rattle.std.specs.Str.{bytes_eq}
-use Rattle.dv_bson.specs.Tree.{Tree, int32, int64, document, no_fields, field}
+use Rattle.std.specs.List.{list_all}
+use Rattle.dv_bson.specs.Tree.{Tree, int32, int64, string, boolean, document, no_fields, field, Field, list_of_fields}
+use Rattle.dv_bson.specs.Names.{begins_with_dollar, value_under}
+use Rattle.dv_path.specs.Candidates.{Candidate}
+use Rattle.dv_path.specs.Path.{path_of}
 use Rattle.dv_match.specs.Filter.{Members}
 use Rattle.dv_match.specs.Parsing.{filter_in}
 use Rattle.dv_match.specs.declared.fault.FilterFault.{FilterFault}
 use Rattle.dv_pipe.specs.declared.fault.PipelineFault.{PipelineFault}
 use Rattle.dv_pipe.specs.declared.fault.PipelineFault.TheVariants.{UnknownStage, BadSpec, TooMany, NoMemory}
 use Rattle.dv_pipe.specs.declared.stage.Stage.{Stage}
-use Rattle.dv_pipe.specs.declared.stage.Stage.TheVariants.{Match, Limit}
+use Rattle.dv_pipe.specs.declared.stage.Stage.TheVariants as stages
+use Rattle.dv_pipe.specs.declared.unwind.Unwind.{Unwind}
 use Rattle.dv_pipe.specs.Fault.{of_filter}
 
 -- one thing after another: the first fault is told
@@ -47,11 +52,51 @@ abbrev pub filter_form : Tree → Result Members PipelineFault
 filter_form (document fs) = of_parsed (filter_in fs)
 filter_form v = Err BadSpec
 
+-- a path behind a dollar sign; behind two of them stands a variable, and there is none
+abbrev pub path_or_fault : Option (List (List ℕ)) → Result (List (List ℕ)) PipelineFault
+path_or_fault None = Err BadSpec
+path_or_fault (Some path) = Ok path
+
+unfoldable pub path_in : List ℕ → Result (List (List ℕ)) PipelineFault
+path_in [] = Err BadSpec
+path_in (b ∷ text) = if b == 36 && not (begins_with_dollar text) then path_or_fault (path_of text) else Err BadSpec
+
+-- the options of $unwind
+abbrev pub is_option_name : List ℕ → Bool
+is_option_name name = bytes_eq name (codes "path") || bytes_eq name (codes "preserveNullAndEmptyArrays")
+
+abbrev pub is_option : Field → Bool
+is_option f = is_option_name f.0
+
+abbrev pub path_option : Candidate → Result (List (List ℕ)) PipelineFault
+path_option (Some (string text)) = path_in text
+path_option v = Err BadSpec
+
+abbrev pub preserve_option : Candidate → Result Bool PipelineFault
+preserve_option None = Ok false
+preserve_option (Some (boolean b)) = Ok b
+preserve_option (Some v) = Err BadSpec
+
+abbrev pub unwinding : List (List ℕ) → Bool → Unwind
+unwinding path preserve = record { path = path; preserve = preserve }
+
+abbrev pub unwind_of : List Field → Result Unwind PipelineFault
+unwind_of options =
+    if list_all is_option options then (path_option (value_under (codes "path") options) >>= λ path. preserve_option (value_under (codes "preserveNullAndEmptyArrays") options) >>= λ preserve. Ok (unwinding path preserve))
+    else Err BadSpec
+
+-- a path, or options
+unfoldable pub unwind_in : Tree → Result Unwind PipelineFault
+unwind_in (string text) = path_in text >>= λ path. Ok (unwinding path false)
+unwind_in (document options) = unwind_of (list_of_fields options)
+unwind_in v = Err BadSpec
+
 -- a stage by its name
 unfoldable pub stage_named : List ℕ → Tree → Result Stage PipelineFault
 stage_named name v =
-    if bytes_eq name (codes "$match") then (filter_form v >>= λ form. Ok (Match form))
-    else if bytes_eq name (codes "$limit") then (count_in v >>= λ count. Ok (Limit count))
+    if bytes_eq name (codes "$match") then (filter_form v >>= λ form. Ok (stages.Match form))
+    else if bytes_eq name (codes "$unwind") then (unwind_in v >>= λ u. Ok (stages.Unwind u))
+    else if bytes_eq name (codes "$limit") then (count_in v >>= λ count. Ok (stages.Limit count))
     else Err UnknownStage
 
 -- a stage is a document of one name

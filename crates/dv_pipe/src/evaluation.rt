@@ -1,12 +1,13 @@
 //! Pipelines carried out.
 
-ghost use Rattle.std.specs.Prelude.{◌≡◌, [], Option, map, IfOk};
-ghost use Rattle.dv_pipe.specs.Sources.{referred};
+ghost use Rattle.std.specs.Prelude.{◌≡◌, List, [], ◌∷◌, IfOk};
+ghost use Rattle.dv_pipe.specs.Sources.{Source, referred};
 ghost use Rattle.dv_pipe.specs.Stages as defined;
 
 use crate::pipeline::Pipeline;
 use crate::sources::Sources;
 use crate::stage::Stage;
+use crate::unwind::Unwind;
 use dv_bson::{Document, NoMemory};
 use dv_match::Filter;
 use std::alloc::Global;
@@ -22,8 +23,10 @@ pub fn evaluate(
     ensures { IfOk result (λ rows. rows.items ≡ defined.evaluated pipeline.now source.now sources.now) }
 {
     let mut rows = copies(alloc, sources.get(source))?;
-    'stages: for stage in pipeline.stages() {
-        rows = applied(stage, rows)?;
+    let mut stages = pipeline.stages();
+    'stages: while let Some((stage, later)) = stages.split_first() {
+        rows = through(alloc, stage, later, rows)?;
+        stages = later;
     }
     Ok(rows)
 }
@@ -39,15 +42,32 @@ fn copies(alloc: Global, documents: &[&Document]) -> Result<Vec<Document>, NoMem
     Ok(rows)
 }
 
-/// The rows that leave the stage.
-#[tactic(auto, unfolding(crate::specs::Stages::stage))]
-fn applied(stage: &Stage, rows: Vec<Document>) -> Result<Vec<Document>, NoMemory>
-    ensures { IfOk result (λ left. left.items ≡ defined.stage stage.now rows.items []) }
+/// The rows that leave the stage, as far as later ones see them.
+#[tactic(auto, unfolding(crate::specs::Stages::stage, crate::specs::Stages::through))]
+fn through(
+    alloc: Global,
+    stage: &Stage,
+    later: &[Stage],
+    rows: Vec<Document>,
+) -> Result<Vec<Document>, NoMemory>
+    ensures { IfOk result (λ left. (sources : List Source) → defined.through later.now sources left.items ≡ defined.through (stage.now ∷ later.now) sources rows.items) }
 {
     match stage {
         Stage::Match(filter) => Ok(matching(filter, rows)),
+        Stage::Unwind(unwind) => unwound(alloc, unwind, &rows),
         Stage::Limit(count) => Ok(front(*count, rows)),
     }
+}
+
+/// The rows of each row.
+fn unwound(alloc: Global, unwind: &Unwind, rows: &[Document]) -> Result<Vec<Document>, NoMemory>
+    ensures { IfOk result (λ left. left.items ≡ defined.stage (Stage.Unwind unwind.now) rows.now []) }
+{
+    let mut left = Vec::new(alloc);
+    'rows: for row in rows {
+        unwind.push_rows(row, &mut left)?;
+    }
+    Ok(left)
 }
 
 /// The rows that match the filter.

@@ -2,13 +2,18 @@
 #![tactic(auto)]
 
 mod evaluation;
+mod expr;
 mod fault;
+mod field_path;
 mod pipeline;
 mod sources;
 mod stage;
+mod unwind;
 
 pub use evaluation::evaluate;
+pub use expr::{Computed, ComputedField, Expr};
 pub use fault::PipelineFault;
 pub use pipeline::Pipeline;
 pub use sources::Sources;
 pub use stage::Stage;
+pub use unwind::Unwind;

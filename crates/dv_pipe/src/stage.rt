@@ -6,6 +6,7 @@ ghost use Rattle.dv_pipe.specs.Parsing as defined;
 ghost use Rattle.dv_pipe.specs.Parsing.{Gives};
 
 use crate::fault::PipelineFault;
+use crate::unwind::Unwind;
 use dv_bson::{NoMemory, Value};
 use dv_match::Filter;
 use std::alloc::Global;
@@ -15,6 +16,8 @@ use std::alloc::Global;
 pub enum Stage {
     /// `$match`: the rows that match the filter.
     Match(Filter),
+    /// `$unwind`: a row for each element of an array.
+    Unwind(Unwind),
     /// `$limit`: the first rows, so many at most.
     Limit(u64),
 }
@@ -42,6 +45,7 @@ impl Stage {
     {
         match self {
             Stage::Match(filter) => Ok(Stage::Match(filter.try_clone()?)),
+            Stage::Unwind(unwind) => Ok(Stage::Unwind(unwind.try_clone()?)),
             Stage::Limit(count) => Ok(Stage::Limit(*count)),
         }
     }
@@ -54,6 +58,7 @@ fn stage_named(alloc: Global, name: &str, operand: &Value) -> Result<Stage, Pipe
 {
     match name {
         "$match" => Ok(Stage::Match(filter_of(alloc, operand)?)),
+        "$unwind" => Ok(Stage::Unwind(Unwind::parse(alloc, operand)?)),
         "$limit" => Ok(Stage::Limit(count_of(operand)?)),
         _ => Err(PipelineFault::UnknownStage),
     }

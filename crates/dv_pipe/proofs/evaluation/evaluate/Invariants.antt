@@ -1,6 +1,6 @@
-use Rattle.std.proofs.Common.{◌≡◌, drop}
+use Rattle.std.proofs.Common.{◌≡◌, length}
 use Rattle.dv_pipe.specs.Stages.{through, evaluated}
 use Rattle.dv_pipe.proofs.evaluation.evaluate.Given as goal
 
 abbrev pub invariant-stages : goal.invariant-stages
-invariant-stages l = through (drop l.stage-index l.stage-items) l.sources l.rows.items ≡ evaluated l.pipeline l.source l.sources
+invariant-stages l = through l.stages l.sources l.rows.items ≡ evaluated l.pipeline l.source l.sources
