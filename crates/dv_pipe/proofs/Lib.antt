@@ -3,3 +3,5 @@ pub mod Items
 pub mod Single
 pub mod Sought
 pub mod Pipelines
+pub mod Unwound
+pub mod Dollars

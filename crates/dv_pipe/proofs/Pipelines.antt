@@ -1,6 +1,5 @@
--- Pipelines parsed, and carried out.
-use Rattle.std.proofs.Common.{◌≡◌, ◌∙◌, ap, sym, refl, List, [], ◌∷◌, ℕ, ◌<◌, ◌≤◌, take, map, length, Result, Ok, Err, arith, min, nat_le, true, false, ◌⊎◌, inl, inr, if◌then◌else◌}
-use Rattle.std.proofs.Math.Nat.{min-le_left, min-le_right, le-min}
+-- Pipelines parsed.
+use Rattle.std.proofs.Common.{◌≡◌, ◌∙◌, ap, sym, List, [], ◌∷◌, ℕ, ◌<◌, ◌≤◌, take, map, length, Result, Ok, Err, arith, nat_le, true, false, ◌⊎◌, inl, inr, if◌then◌else◌}
 use Rattle.std.proofs.lemmas.List.{take-map, length-map}
 use Rattle.dv_bson.specs.Tree.{Tree}
 use Rattle.dv_pipe.specs.declared.fault.PipelineFault.{PipelineFault}
@@ -14,30 +13,30 @@ pub gives-fault : {X Y Y' : Type 0} (view : X → Y) (r : Result X PipelineFault
 gives-fault view r e parsed whole is (inl m) f = rw is (inl m)
 gives-fault view r e parsed whole is (inr p) f = rw is (inr (f p))
 
-take-least : {X : Type 0} (xs : List X) (n m : ℕ) → n ≡ min (length xs) m → take n xs ≡ take m xs
-take-least [] n m e = grind arith
-take-least xs n m e = least xs n m e
-  where
-  least : {X : Type 0} (xs : List X) (n m : ℕ) → n ≡ min (length xs) m → take n xs ≡ take m xs
-  least xs n m e = ?
+abbrev at_most : List Tree → List Stage → Result (List Stage) PipelineFault
+at_most list stages = if nat_le (length list) 16 then Ok stages else Err TooMany
 
--- the first sixteen values, as parsing takes them
-module _ {X : Type 0} (view : X → Tree) (list : List X) (n : ℕ) (at : n ≡ min (length list) 16) where
-  front-is : take 16 (map view list) ≡ map view (take n list)
-  front-is = take-map view 16 list ∙ ap (map view) (sym (take-least list n 16 at))
-
-  pub pipeline-fault : (e : PipelineFault) → each stage_of (map view (take n list)) ≡ Err e → pipeline_of (map view list) ≡ Err e
+module _ {X : Type 0} (view : X → Tree) (list : List X) where
+  pub many-fault : (e : PipelineFault) → each stage_of (map view (take 16 list)) ≡ Err e → pipeline_of (map view list) ≡ Err e
   unfolding pipeline_of
-  pipeline-fault e told = ap (λ r. r >>= λ stages. if nat_le (length (map view list)) 16 then Ok stages else Err TooMany) (ap (each stage_of) front-is ∙ told)
+  many-fault e told = ap (λ r. r >>= at_most (map view list)) (ap (each stage_of) (take-map view 16 list) ∙ told)
 
-  pub pipeline-many : (stages : List Stage) → each stage_of (map view (take n list)) ≡ Ok stages → 16 < length list → pipeline_of (map view list) ≡ Err TooMany
+  pub many : (stages : List Stage) → each stage_of (map view (take 16 list)) ≡ Ok stages → 16 < length list → pipeline_of (map view list) ≡ Err TooMany
   unfolding pipeline_of
-  pipeline-many stages parsed more =
-      let above : nat_le (length (map view list)) 16 ≡ false = grind (arith, length-map list view) in
-      ap (λ r. r >>= λ stages. if nat_le (length (map view list)) 16 then Ok stages else Err TooMany) (ap (each stage_of) front-is ∙ parsed) ∙ ap (λ b. if b then Ok stages else Err TooMany) above
+  many stages parsed more =
+      let above : nat_le (length (map view list)) 16 ≡ false = rw (length-map list view) (grind arith) in
+      ap (λ r. r >>= at_most (map view list)) (ap (each stage_of) (take-map view 16 list) ∙ parsed) ∙ ap (λ b. if b then Ok stages else Err TooMany) above
 
-  pub pipeline-few : (stages : List Stage) → each stage_of (map view (take n list)) ≡ Ok stages → length list ≤ 16 → pipeline_of (map view list) ≡ Ok stages
-  unfolding pipeline_of
-  pipeline-few stages parsed few =
-      let within : nat_le (length (map view list)) 16 ≡ true = grind (arith, length-map list view) in
-      ap (λ r. r >>= λ stages. if nat_le (length (map view list)) 16 then Ok stages else Err TooMany) (ap (each stage_of) front-is ∙ parsed) ∙ ap (λ b. if b then Ok stages else Err TooMany) within
+  module _ (few : length list ≤ 16) where
+    all : take 16 (map view list) ≡ map view list
+    all = take-past (map view list) 16 (omega (arith, length-map list view))
+
+    pub few-fault : (e : PipelineFault) → each stage_of (map view list) ≡ Err e → pipeline_of (map view list) ≡ Err e
+    unfolding pipeline_of
+    few-fault e told = ap (λ r. r >>= at_most (map view list)) (ap (each stage_of) all ∙ told)
+
+    pub few-stages : (stages : List Stage) → each stage_of (map view list) ≡ Ok stages → pipeline_of (map view list) ≡ Ok stages
+    unfolding pipeline_of
+    few-stages stages parsed =
+        let within : nat_le (length (map view list)) 16 ≡ true = rw (length-map list view) (grind arith) in
+        ap (λ r. r >>= at_most (map view list)) (ap (each stage_of) all ∙ parsed) ∙ ap (λ b. if b then Ok stages else Err TooMany) within

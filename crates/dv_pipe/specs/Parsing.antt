@@ -52,14 +52,22 @@ abbrev pub filter_form : Tree → Result Members PipelineFault
 filter_form (document fs) = of_parsed (filter_in fs)
 filter_form v = Err BadSpec
 
--- a path behind a dollar sign; behind two of them stands a variable, and there is none
-abbrev pub path_or_fault : Option (List (List ℕ)) → Result (List (List ℕ)) PipelineFault
-path_or_fault None = Err BadSpec
-path_or_fault (Some path) = Ok path
+-- what stands behind a dollar sign
+abbrev pub behind_dollar : List ℕ → Option (List ℕ)
+behind_dollar [] = None
+behind_dollar (b ∷ text) = if b == 36 then Some text else None
 
-unfoldable pub path_in : List ℕ → Result (List (List ℕ)) PipelineFault
-path_in [] = Err BadSpec
-path_in (b ∷ text) = if b == 36 && not (begins_with_dollar text) then path_or_fault (path_of text) else Err BadSpec
+abbrev pub named_path : List ℕ → Option (List (List ℕ)) → Result (List (List ℕ)) PipelineFault
+named_path text None = Err BadSpec
+named_path text (Some path) = if begins_with_dollar text then Err BadSpec else Ok path
+
+-- a path behind a dollar sign; behind two of them would stand a variable, and there is none
+abbrev pub path_behind : Option (List ℕ) → Result (List (List ℕ)) PipelineFault
+path_behind None = Err BadSpec
+path_behind (Some text) = named_path text (path_of text)
+
+abbrev pub path_in : List ℕ → Result (List (List ℕ)) PipelineFault
+path_in text = path_behind (behind_dollar text)
 
 -- the options of $unwind
 abbrev pub is_option_name : List ℕ → Bool

@@ -36,14 +36,14 @@ impl Model for Pipeline {
 impl Pipeline {
     /// The pipeline of the documents, each of which is a stage, or its first fault in written order: `TooMany` is that of
     /// a seventeenth stage. Fails with `NoMemory` where memory is wanting.
-    #[tactic(auto, unfolding(crate::specs::Parsing::pipeline_of))]
     pub fn parse(alloc: Global, list: &[Value]) -> Result<Pipeline, PipelineFault>
         ensures { Gives (λ pipeline. pipeline) result (pipeline_of (map tree list.now)) }
     {
-        let stages = each_stage(alloc, &list[..list.len().min(MOST_STAGES)])?;
         if list.len() > MOST_STAGES {
+            each_stage(alloc, &list[..MOST_STAGES])?;
             return Err(PipelineFault::TooMany);
         }
+        let stages = each_stage(alloc, list)?;
         Ok(Pipeline { stages })
     }
 

@@ -156,12 +156,14 @@ fn reached<'a>(document: &'a Document, path: &[Component]) -> Option<&'a Value>
     let Some((component, rest)) = path.split_first() else {
         return None;
     };
-    let value = document.get(component.as_str());
+    let Some(value) = document.get(component.as_str()) else {
+        return None;
+    };
     if rest.is_empty() {
-        return value;
+        return Some(value);
     }
     match value {
-        Some(Value::Doc(inner)) => reached(inner, rest),
+        Value::Doc(inner) => reached(inner, rest),
         _ => None,
     }
 }
@@ -175,29 +177,37 @@ fn set_at(
 ) -> Result<Document, NoMemory>
     ensures { IfOk result (λ set. set ≡ defined.set_at path.now (option_map tree value) document.now) }
 {
-    let mut set = document.try_clone()?;
     let Some((component, rest)) = path.split_first() else {
-        return Ok(set);
+        return document.try_clone();
     };
     let name = component.as_str();
     if rest.is_empty() {
-        set_under(&mut set, name, value)?;
-        return Ok(set);
+        return set_under(document, name, value);
     }
-    if let Some(Value::Doc(inner)) = document.get(name) {
-        let inner = set_at(inner, rest, value)?;
-        set.replace(name, Value::Doc(inner))?;
+    let Some(found) = document.get(name) else {
+        return document.try_clone();
+    };
+    match found {
+        Value::Doc(inner) => {
+            let inner = set_at(inner, rest, value)?;
+            set_under(document, name, Some(Value::Doc(inner)))
+        }
+        _ => document.try_clone(),
     }
-    Ok(set)
 }
 
-/// Puts the value in place of the one under the name, or takes that one away.
-fn set_under(document: &mut Document, name: &str, value: Option<Value>) -> Result<(), NoMemory>
-    ensures { OnOk result (document.new ≡ defined.set_under name.now (option_map tree value) document.old) }
+/// The document with the value in place of the one under the name, or without that one.
+fn set_under(
+    document: &Document,
+    name: &str,
+    value: Option<Value>,
+) -> Result<Document, NoMemory>
+    ensures { IfOk result (λ set. set ≡ defined.set_under name.now (option_map tree value) document.now) }
 {
+    let mut set = document.try_clone()?;
     match value {
-        Some(value) => document.replace(name, value)?,
-        None => document.remove(name)?,
+        Some(value) => set.replace(name, value)?,
+        None => set.remove(name)?,
     };
-    Ok(())
+    Ok(set)
 }

@@ -1,0 +1,4 @@
+pub mod Insertion
+pub mod Standing
+pub mod Kept
+pub mod Told

@@ -1,0 +1,3 @@
+pub mod Sorting
+pub mod Front
+pub mod Keys
