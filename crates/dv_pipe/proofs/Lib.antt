@@ -5,3 +5,4 @@ pub mod Sought
 pub mod Pipelines
 pub mod Unwound
 pub mod Dollars
+pub mod Through

@@ -4,6 +4,7 @@ pub mod ExpressionFalls
 pub mod ExpressionView
 pub mod Fault
 pub mod Parsing
+pub mod Parts
 pub mod Sources
 pub mod Stages
 pub mod Unwinding

@@ -7,6 +7,7 @@ use Rattle.dv_bson.specs.Tree.{Tree, int32, int64, string, boolean, document, no
 use Rattle.dv_bson.specs.Names.{begins_with_dollar, value_under}
 use Rattle.dv_path.specs.Candidates.{Candidate}
 use Rattle.dv_path.specs.Path.{path_of}
+use Rattle.dv_path.specs.SortSpec.{Part, sort_spec_of}
 use Rattle.dv_match.specs.Filter.{Members}
 use Rattle.dv_match.specs.Parsing.{filter_in}
 use Rattle.dv_match.specs.declared.fault.FilterFault.{FilterFault}
@@ -51,6 +52,15 @@ of_parsed (Err e) = Err (of_filter e)
 abbrev pub filter_form : Tree → Result Members PipelineFault
 filter_form (document fs) = of_parsed (filter_in fs)
 filter_form v = Err BadSpec
+
+-- a sort, or that there is none
+abbrev pub sort_or_fault : Option (List Part) → Result (List Part) PipelineFault
+sort_or_fault None = Err BadSpec
+sort_or_fault (Some parts) = Ok parts
+
+abbrev pub sort_in : Tree → Result (List Part) PipelineFault
+sort_in (document fs) = sort_or_fault (sort_spec_of (list_of_fields fs))
+sort_in v = Err BadSpec
 
 -- what stands behind a dollar sign
 abbrev pub behind_dollar : List ℕ → Option (List ℕ)
@@ -104,6 +114,7 @@ unfoldable pub stage_named : List ℕ → Tree → Result Stage PipelineFault
 stage_named name v =
     if bytes_eq name (codes "$match") then (filter_form v >>= λ form. Ok (stages.Match form))
     else if bytes_eq name (codes "$unwind") then (unwind_in v >>= λ u. Ok (stages.Unwind u))
+    else if bytes_eq name (codes "$sort") then (sort_in v >>= λ parts. Ok (stages.Sort parts))
     else if bytes_eq name (codes "$limit") then (count_in v >>= λ count. Ok (stages.Limit count))
     else Err UnknownStage
 

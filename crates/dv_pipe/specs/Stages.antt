@@ -4,7 +4,8 @@ use Rattle.std.specs.Prelude.{ℕ, List, [], ◌∷◌, filter, take}
 use Rattle.std.specs.List.{flat_map}
 use Rattle.dv_match.specs.Match.{matches}
 use Rattle.dv_pipe.specs.declared.stage.Stage.{Stage}
-use Rattle.dv_pipe.specs.declared.stage.Stage.TheVariants.{Match, Unwind, Limit}
+use Rattle.dv_pipe.specs.declared.stage.Stage.TheVariants.{Match, Unwind, Sort, Limit}
+use Rattle.dv_sort.specs.Sorting.{stable}
 use Rattle.dv_pipe.specs.Unwinding.{unwound}
 use Rattle.dv_pipe.specs.Sources.{Row, Source, rows_under}
 
@@ -12,6 +13,7 @@ use Rattle.dv_pipe.specs.Sources.{Row, Source, rows_under}
 unfoldable pub stage : Stage → List Row → List Row → List Row
 stage (Match form) rows foreign = filter (matches form) rows
 stage (Unwind u) rows foreign = flat_map (unwound u) rows
+stage (Sort parts) rows foreign = stable parts rows
 stage (Limit count) rows foreign = take count rows
 
 -- the list that a stage looks into: no stage names one yet

@@ -2,6 +2,8 @@
 
 ghost use Rattle.std.specs.Prelude.{◌≡◌, List, [], ◌∷◌, IfOk};
 ghost use Rattle.dv_pipe.specs.Sources.{Source, referred};
+ghost use Rattle.dv_sort.specs.Sorting.{stable, front as first_rows};
+ghost use Rattle.dv_pipe.specs.Parts as parts;
 ghost use Rattle.dv_pipe.specs.Stages as defined;
 
 use crate::pipeline::Pipeline;
@@ -10,6 +12,8 @@ use crate::stage::Stage;
 use crate::unwind::Unwind;
 use dv_bson::{Document, NoMemory};
 use dv_match::Filter;
+use dv_path::SortSpec;
+use dv_sort::{Sorter, laws};
 use std::alloc::Global;
 
 /// The rows of the pipeline over the documents of `source`. A row that a stage passes on as it is shares its memory with
@@ -55,6 +59,7 @@ fn through(
     match stage {
         Stage::Match(filter) => Ok(matching(filter, rows)),
         Stage::Unwind(unwind) => unwound(alloc, unwind, &rows),
+        Stage::Sort(spec) => sorted(alloc, spec, wanted(later), &rows),
         Stage::Limit(count) => Ok(front(*count, rows)),
     }
 }
@@ -77,6 +82,33 @@ fn matching(filter: &Filter, rows: Vec<Document>) -> Vec<Document>
     let mut left = rows;
     left.retain(|row| filter.matches(row));
     left
+}
+
+/// How many of the first rows the stages see, where there are more.
+fn wanted(stages: &[Stage]) -> Option<usize>
+    ensures { result ≡ parts.wanted stages.now }
+{
+    match stages.first() {
+        Some(Stage::Limit(count)) => Some(*count as usize),
+        _ => None,
+    }
+}
+
+/// The rows in order: the first `most`, or all.
+fn sorted(
+    alloc: Global,
+    spec: &SortSpec,
+    most: Option<usize>,
+    rows: &[Document],
+) -> Result<Vec<Document>, NoMemory>
+    ensures { IfOk result (λ left. left.items ≡ first_rows most (stable spec.now rows.now)) }
+{
+    laws::one_row_more();
+    let mut sorter = Sorter::new(alloc, spec, most);
+    'rows: for row in rows {
+        sorter.push(row.try_clone()?)?;
+    }
+    sorter.into_rows()
 }
 
 /// The first rows, so many at most.

@@ -9,6 +9,7 @@ use crate::fault::PipelineFault;
 use crate::unwind::Unwind;
 use dv_bson::{NoMemory, Value};
 use dv_match::Filter;
+use dv_path::SortSpec;
 use std::alloc::Global;
 
 /// What makes other rows of rows.
@@ -18,6 +19,8 @@ pub enum Stage {
     Match(Filter),
     /// `$unwind`: a row for each element of an array.
     Unwind(Unwind),
+    /// `$sort`: the rows in order.
+    Sort(SortSpec),
     /// `$limit`: the first rows, so many at most.
     Limit(u64),
 }
@@ -46,6 +49,7 @@ impl Stage {
         match self {
             Stage::Match(filter) => Ok(Stage::Match(filter.try_clone()?)),
             Stage::Unwind(unwind) => Ok(Stage::Unwind(unwind.try_clone()?)),
+            Stage::Sort(spec) => Ok(Stage::Sort(spec.try_clone()?)),
             Stage::Limit(count) => Ok(Stage::Limit(*count)),
         }
     }
@@ -59,6 +63,7 @@ fn stage_named(alloc: Global, name: &str, operand: &Value) -> Result<Stage, Pipe
     match name {
         "$match" => Ok(Stage::Match(filter_of(alloc, operand)?)),
         "$unwind" => Ok(Stage::Unwind(Unwind::parse(alloc, operand)?)),
+        "$sort" => Ok(Stage::Sort(sort_of(alloc, operand)?)),
         "$limit" => Ok(Stage::Limit(count_of(operand)?)),
         _ => Err(PipelineFault::UnknownStage),
     }
@@ -71,6 +76,19 @@ fn filter_of(alloc: Global, value: &Value) -> Result<Filter, PipelineFault>
     match value {
         Value::Doc(document) => Ok(Filter::parse(alloc, document)?),
         _ => Err(PipelineFault::BadSpec),
+    }
+}
+
+/// The sort that the value is.
+fn sort_of(alloc: Global, value: &Value) -> Result<SortSpec, PipelineFault>
+    ensures { Gives (λ spec. spec) result (defined.sort_in (tree value.now)) }
+{
+    let Value::Doc(document) = value else {
+        return Err(PipelineFault::BadSpec);
+    };
+    match SortSpec::parse(alloc, document)? {
+        Some(spec) => Ok(spec),
+        None => Err(PipelineFault::BadSpec),
     }
 }
 
