@@ -51,9 +51,9 @@ all-but-here p (z ∷ xs) zero x e h =
     ap (λ b. b && list_all p xs) (ap p (sym same) ∙ h)
 all-but-here p (z ∷ xs) (suc i) x e h = ap (λ b. p z && b) (all-but-here p xs i x e h) ∙ and-false (p z)
   where
-  and-false : (b : Bool) → b && false ≡ false
-  and-false true = refl
-  and-false false = refl
+    and-false : (b : Bool) → b && false ≡ false
+    and-false true = refl
+    and-false false = refl
 
 pub all-more : {X : Type 0} (p : X → Bool) (xs : List X) (i : ℕ) (x : X) → list_all p (take i xs) ≡ true → Some x ≡ slice_get xs i → p x ≡ true → list_all p (take (i + 1) xs) ≡ true
 all-more p xs i x so-far e h = rw (add-one i, take-here xs i x (sym e), list_all-append p (take i xs) (x ∷ []), so-far, h) refl

@@ -6,3 +6,4 @@ pub mod Pipelines
 pub mod Unwound
 pub mod Dollars
 pub mod Through
+pub mod StageLaws

@@ -37,9 +37,9 @@ rows-of_some u d [] vs seen some = absurd (some refl)
 rows-of_some u d (e ∷ es) vs seen some =
     ap (λ l. rows_of_elements u d (elements_of l)) (sym seen) ∙ ap (λ l. set_at u.path (Some (tree e)) d ∷ l) (again es)
   where
-  again : (es : List Value) → map (λ v. set_at u.path (Some v) d) (list_of_elements (elements_of (map tree es))) ≡ map (λ v. set_at u.path (Some (tree v)) d) es
-  again [] = refl
-  again (e ∷ es) = ap (λ l. set_at u.path (Some (tree e)) d ∷ l) (again es)
+    again : (es : List Value) → map (λ v. set_at u.path (Some v) d) (list_of_elements (elements_of (map tree es))) ≡ map (λ v. set_at u.path (Some (tree v)) d) es
+    again [] = refl
+    again (e ∷ es) = ap (λ l. set_at u.path (Some (tree e)) d ∷ l) (again es)
 
 pub rows-of_none : (u : Unwind) (d : List Field) (es : List Value) (vs : List Tree) → map tree es ≡ vs → es ≡ [] → rows_of_elements u d (elements_of vs) ≡ preserved u.preserve (set_at u.path None d)
 rows-of_none u d es vs seen none = ap (λ l. rows_of_elements u d (elements_of l)) (sym seen) ∙ ap (λ l. rows_of_elements u d (elements_of (map tree l))) none

@@ -3,6 +3,7 @@ pub mod ExpressionCode
 pub mod ExpressionFalls
 pub mod ExpressionView
 pub mod Fault
+pub mod Laws
 pub mod Parsing
 pub mod Parts
 pub mod Sources

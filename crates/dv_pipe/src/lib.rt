@@ -5,6 +5,7 @@ mod evaluation;
 mod expr;
 mod fault;
 mod field_path;
+pub mod laws;
 mod pipeline;
 mod sources;
 mod stage;
@@ -17,3 +18,6 @@ pub use pipeline::Pipeline;
 pub use sources::Sources;
 pub use stage::Stage;
 pub use unwind::Unwind;
+
+#[cfg(test)]
+mod tests;

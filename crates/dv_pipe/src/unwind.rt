@@ -197,11 +197,7 @@ fn set_at(
 }
 
 /// The document with the value in place of the one under the name, or without that one.
-fn set_under(
-    document: &Document,
-    name: &str,
-    value: Option<Value>,
-) -> Result<Document, NoMemory>
+fn set_under(document: &Document, name: &str, value: Option<Value>) -> Result<Document, NoMemory>
     ensures { IfOk result (λ set. set ≡ defined.set_under name.now (option_map tree value) document.now) }
 {
     let mut set = document.try_clone()?;
