@@ -7,3 +7,4 @@ pub mod Unwound
 pub mod Dollars
 pub mod Through
 pub mod StageLaws
+pub mod Left

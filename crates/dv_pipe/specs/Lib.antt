@@ -6,6 +6,8 @@ pub mod Fault
 pub mod Laws
 pub mod Parsing
 pub mod Parts
+pub mod Projecting
+pub mod ProjectParsing
 pub mod Sources
 pub mod Stages
 pub mod Unwinding

@@ -226,6 +226,8 @@ fn a_namespace_that_is_not_there_is_empty(rt: HostRuntime) -> Result<(), Fail> {
     Ok(())
 }
 
+const MADE: Sample = Doc(&["x"], &[Int(1)]);
+
 #[test]
 fn a_document_of_expressions_leaves_out_what_is_missing(rt: HostRuntime) -> Result<(), Fail> {
     let alloc = rt.alloc();
@@ -238,7 +240,7 @@ fn a_document_of_expressions_leaves_out_what_is_missing(rt: HostRuntime) -> Resu
     }
     let expr = Expr::Document(Computed::of(fields)).try_clone()?;
     let found = expr.value(alloc, &row)?.ok_or("a value")?;
-    assert!(rt; compare(&found, &value_of(alloc, &Doc(&["x"], &[Int(1)]))?).is_eq());
+    assert!(rt; compare(&found, &value_of(alloc, &MADE)?).is_eq());
     let constant = Expr::Constant(Value::Int32(7));
     assert!(rt; constant.value(alloc, &row)?.is_some());
     Ok(())
