@@ -1,6 +1,6 @@
 -- Lists that a loop goes through.
-use Rattle.std.proofs.Common.{◌≡◌, ◌∙◌, ap, sym, refl, List, [], ◌∷◌, ◌++◌, ℕ, zero, suc, ◌+◌, ◌<◌, ◌≤◌, add-one, take, drop, map, length, Some, None, Option, slice_get, get_or, arith, Bool, true, false, ◌&&◌, ◌==◌}
-use Rattle.std.specs.List.{list_all}
+use Rattle.std.proofs.Common.{◌≡◌, ◌∙◌, ap, sym, refl, List, [], ◌∷◌, ◌++◌, ℕ, zero, suc, ◌+◌, ◌<◌, ◌≤◌, add-one, take, drop, map, length, Some, None, Option, slice_get, get_or, arith, Bool, true, false, ◌&&◌, ◌||◌, ◌==◌}
+use Rattle.std.specs.List.{list_all, list_any}
 use Rattle.std.specs.Option.{option_map}
 use Rattle.std.proofs.lemmas.List.Folds.{list_all-append}
 use Rattle.std.proofs.lemmas.Option.{slice_get_read}
@@ -63,3 +63,26 @@ all-none p xs i so-far e = rw (add-one i, take-none xs i e) so-far
 
 pub some-left : {X : Type 0} (xs : List X) → false ≡ (length xs == 0) → xs ≡ [] → ⊥
 some-left xs e none = let same : false ≡ true = e ∙ ap (λ l. length l == 0) none in cc
+
+pub any-here : {X Y : Type 0} (p : Y → Bool) (f : X → Y) (xs : List X) (i : ℕ) (x : X) → i < length xs → x ≡ get_or xs i x → p (f x) ≡ true → list_any p (map f xs) ≡ true
+any-here {X = X} p f xs i x within is h = at xs i (slice_get_read xs (length xs) i x refl within is)
+  where
+  or-true : (b : Bool) → b || true ≡ true
+  or-true true = refl
+  or-true false = refl
+
+  at : (ys : List X) (j : ℕ) → slice_get ys j ≡ Some x → list_any p (map f ys) ≡ true
+  at [] j e = absurd cc
+  at (z ∷ ys) zero e =
+      let same : x ≡ z = cc in
+      ap (λ b. b || list_any p (map f ys)) (ap (λ w. p (f w)) (sym same) ∙ h)
+  at (z ∷ ys) (suc j) e = ap (λ b. p (f z) || b) (at ys j e) ∙ or-true (p (f z))
+
+pub none-there : {X : Type 0} (xs : List X) (i : ℕ) → slice_get xs i ≡ None → length xs ≤ i
+none-there [] i e = omega arith
+none-there (x ∷ xs) zero e = absurd cc
+none-there (x ∷ xs) (suc i) e = omega (arith, none-there xs i e)
+
+pub none-long : {X : Type 0} (xs : List X) → length xs ≡ 0 → xs ≡ []
+none-long [] e = refl
+none-long (x ∷ xs) e = absurd (omega arith)

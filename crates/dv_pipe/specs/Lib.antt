@@ -1,3 +1,4 @@
+pub mod AskedView
 pub mod Expressions
 pub mod ExpressionCode
 pub mod ExpressionFalls

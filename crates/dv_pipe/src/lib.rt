@@ -1,8 +1,10 @@
 //! Aggregation pipelines over BSON documents.
 #![tactic(auto)]
 
+mod asked;
 mod evaluation;
 mod expr;
+mod expr_parsing;
 mod fault;
 mod field_path;
 pub mod laws;
@@ -11,6 +13,7 @@ mod pipeline;
 mod project;
 mod sources;
 mod stage;
+mod switch;
 mod unwind;
 
 pub use evaluation::evaluate;

@@ -186,7 +186,7 @@ fn behind<'a>(
     let mut inner = Vec::new(alloc);
     'ways: for way in ways {
         if let Some((component, rest)) = way.split_first() {
-            if component.as_str() == name {
+            if name == component.as_str() {
                 inner.push(rest)?;
             }
         }
