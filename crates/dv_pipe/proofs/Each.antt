@@ -25,12 +25,18 @@ pub parsed-none : {X Y : Type 0} (f : X → Result Y PipelineFault) (xs : List X
 parsed-none f xs = record { so_far = none-yet (each f xs) }
 
 module _ {X Y : Type 0} (f : X → Result Y PipelineFault) (xs : List X) (i : ℕ) (ys : List Y) (parsed : IsParsedTo f xs i ys) where
+  pub parsed-next : (x : X) (y : Y) → drop i xs ≡ x ∷ drop (i + 1) xs → f x ≡ Ok y → IsParsedTo f xs (i + 1) (ys ++ y ∷ [])
+  parsed-next x y here e =
+      record { so_far = parsed.so_far ∙ ap (λ l. after ys (each f l)) here ∙ ap (λ r. after ys (r >>= λ y. each f (drop (i + 1) xs) >>= λ zs. Ok (y ∷ zs))) e ∙ after-one ys y (each f (drop (i + 1) xs)) }
+
+  pub parsed-refused : (x : X) (e : PipelineFault) → drop i xs ≡ x ∷ drop (i + 1) xs → f x ≡ Err e → each f xs ≡ Err e
+  parsed-refused x e here told = parsed.so_far ∙ ap (λ l. after ys (each f l)) here ∙ ap (λ r. after ys (r >>= λ y. each f (drop (i + 1) xs) >>= λ zs. Ok (y ∷ zs))) told
+
   pub parsed-more : (x : X) (y : Y) → i < length xs → x ≡ get_or xs i x → f x ≡ Ok y → IsParsedTo f xs (i + 1) (ys ++ y ∷ [])
-  parsed-more x y within is e =
-      record { so_far = parsed.so_far ∙ ap (λ l. after ys (each f l)) (drop-read xs i x within is) ∙ ap (λ r. after ys (r >>= λ y. each f (drop (i + 1) xs) >>= λ zs. Ok (y ∷ zs))) e ∙ after-one ys y (each f (drop (i + 1) xs)) }
+  parsed-more x y within is e = parsed-next x y (drop-read xs i x within is) e
 
   pub parsed-fault : (x : X) (e : PipelineFault) → i < length xs → x ≡ get_or xs i x → f x ≡ Err e → each f xs ≡ Err e
-  parsed-fault x e within is told = parsed.so_far ∙ ap (λ l. after ys (each f l)) (drop-read xs i x within is) ∙ ap (λ r. after ys (r >>= λ y. each f (drop (i + 1) xs) >>= λ zs. Ok (y ∷ zs))) told
+  parsed-fault x e within is told = parsed-refused x e (drop-read xs i x within is) told
 
   pub parsed-all : length xs ≤ i → each f xs ≡ Ok ys
   parsed-all past = parsed.so_far ∙ ap (λ l. after ys (each f l)) (drop-past xs i past) ∙ ap Ok (append-nil ys)

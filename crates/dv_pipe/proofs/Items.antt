@@ -86,3 +86,7 @@ none-there (x ∷ xs) (suc i) e = omega (arith, none-there xs i e)
 pub none-long : {X : Type 0} (xs : List X) → length xs ≡ 0 → xs ≡ []
 none-long [] e = refl
 none-long (x ∷ xs) e = absurd (omega arith)
+
+-- the element that a look-up gives
+pub drop-found : {X : Type 0} (xs : List X) (i : ℕ) (x : X) → Some x ≡ slice_get xs i → drop i xs ≡ x ∷ drop (i + 1) xs
+drop-found xs i x e = drop-here xs i x (sym e) ∙ ap (λ n. x ∷ drop n xs) (sym (add-one i))

@@ -8,3 +8,4 @@ pub mod Dollars
 pub mod Through
 pub mod StageLaws
 pub mod Left
+pub mod Members

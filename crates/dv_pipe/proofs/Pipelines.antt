@@ -5,7 +5,8 @@ use Rattle.dv_bson.specs.Tree.{Tree}
 use Rattle.dv_pipe.specs.declared.fault.PipelineFault.{PipelineFault}
 use Rattle.dv_pipe.specs.declared.fault.PipelineFault.TheVariants.{TooMany, NoMemory}
 use Rattle.dv_pipe.specs.declared.stage.Stage.{Stage}
-use Rattle.dv_pipe.specs.Parsing.{◌>>=◌, Gives, each, stage_of, pipeline_of}
+use Rattle.dv_pipe.specs.Parsing.{◌>>=◌, Gives, each}
+use Rattle.dv_pipe.specs.StageParsing.{stage_of, pipeline_of}
 use Rattle.dv_pipe.proofs.Items.{take-past}
 
 -- a fault of a part is that of the whole

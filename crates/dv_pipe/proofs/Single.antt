@@ -2,7 +2,7 @@
 use Rattle.std.proofs.Common.{◌≡◌, ◌∙◌, ap, sym, refl, List, [], ◌∷◌, ℕ, Some, None, slice_get, length, Err}
 use Rattle.dv_bson.specs.Tree.{Tree, Field, document, fields_of}
 use Rattle.dv_pipe.specs.declared.fault.PipelineFault.TheVariants.{BadSpec}
-use Rattle.dv_pipe.specs.Parsing.{stage_of, stage_named}
+use Rattle.dv_pipe.specs.StageParsing.{stage_of, stage_named}
 
 pub stage-of_others : (fs : List Field) → (length fs ≡ 1 → ⊥) → stage_of (document (fields_of fs)) ≡ Err BadSpec
 stage-of_others [] h = refl

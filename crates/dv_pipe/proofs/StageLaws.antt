@@ -6,7 +6,7 @@ use Rattle.dv_path.specs.Candidates.{Candidate}
 use Rattle.dv_match.specs.Filter.{Members}
 use Rattle.dv_match.specs.Match.{matches, matches_member, matches_all}
 use Rattle.dv_pipe.specs.declared.stage.Stage.{Stage}
-use Rattle.dv_pipe.specs.declared.stage.Stage.TheVariants.{Match, Unwind, Sort, Limit}
+use Rattle.dv_pipe.specs.declared.stage.Stage.TheVariants.{Match, Project, Unwind, Sort, Limit}
 use Rattle.dv_pipe.specs.declared.unwind.Unwind as form
 use Rattle.dv_pipe.specs.Laws.{both, IsNoArray, HasNoArray, is_value, has_value}
 use Rattle.dv_pipe.specs.Sources.{Row, Source}

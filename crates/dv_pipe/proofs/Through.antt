@@ -5,7 +5,7 @@ use Rattle.dv_sort.specs.Sorting.{stable}
 use Rattle.dv_sort.specs.Front.{Front, no_rows, front_of}
 use Rattle.dv_sort.specs.Sorting.{front}
 use Rattle.dv_pipe.specs.declared.stage.Stage.{Stage}
-use Rattle.dv_pipe.specs.declared.stage.Stage.TheVariants.{Match, Unwind, Sort, Limit}
+use Rattle.dv_pipe.specs.declared.stage.Stage.TheVariants.{Match, Project, Unwind, Sort, Limit}
 use Rattle.dv_pipe.specs.Parts.{wanted}
 use Rattle.dv_pipe.specs.Sources.{Row, Source}
 use Rattle.dv_pipe.specs.Stages.{stage, through}
@@ -21,6 +21,7 @@ unfolding through stage
 through_front [] sources rows = refl
 through_front (Limit n ∷ later) sources rows = ap (through later sources) (take-again n rows)
 through_front (Match form ∷ later) sources rows = refl
+through_front (Project p ∷ later) sources rows = refl
 through_front (Unwind u ∷ later) sources rows = refl
 through_front (Sort parts ∷ later) sources rows = refl
 

@@ -10,5 +10,6 @@ pub mod Parts
 pub mod Projecting
 pub mod ProjectParsing
 pub mod Sources
+pub mod StageParsing
 pub mod Stages
 pub mod Unwinding

@@ -1,5 +1,5 @@
--- Pipelines from lists of documents: the form, or the first fault in written order (MongoDB manual, "Aggregation Stages"). Which
--- stages there are, and which fault is told, is this server's own.
+-- What stages take, but $project: the form, or the fault (MongoDB manual, "Aggregation Stages"). Which fault is told is this
+-- server's own.
 use Rattle.std.specs.Prelude.{◌≡◌, ◌⊎◌, ℕ, ℤ, pos, negsuc, ◌==◌, ◌&&◌, ◌||◌, not, nat_le, Bool, false, Option, Some, None, List, [], ◌∷◌, length, take, Result, Ok, Err, codes, if◌then◌else◌}
 use Rattle.std.specs.Str.{bytes_eq}
 use Rattle.std.specs.List.{list_all}
@@ -12,9 +12,7 @@ use Rattle.dv_match.specs.Filter.{Members}
 use Rattle.dv_match.specs.Parsing.{filter_in}
 use Rattle.dv_match.specs.declared.fault.FilterFault.{FilterFault}
 use Rattle.dv_pipe.specs.declared.fault.PipelineFault.{PipelineFault}
-use Rattle.dv_pipe.specs.declared.fault.PipelineFault.TheVariants.{UnknownStage, BadSpec, TooMany, NoMemory}
-use Rattle.dv_pipe.specs.declared.stage.Stage.{Stage}
-use Rattle.dv_pipe.specs.declared.stage.Stage.TheVariants as stages
+use Rattle.dv_pipe.specs.declared.fault.PipelineFault.TheVariants.{BadSpec, NoMemory}
 use Rattle.dv_pipe.specs.declared.unwind.Unwind.{Unwind}
 use Rattle.dv_pipe.specs.Fault.{of_filter}
 
@@ -108,21 +106,3 @@ unfoldable pub unwind_in : Tree → Result Unwind PipelineFault
 unwind_in (string text) = path_in text >>= λ path. Ok (unwinding path false)
 unwind_in (document options) = unwind_of (list_of_fields options)
 unwind_in v = Err BadSpec
-
--- a stage by its name
-unfoldable pub stage_named : List ℕ → Tree → Result Stage PipelineFault
-stage_named name v =
-    if bytes_eq name (codes "$match") then (filter_form v >>= λ form. Ok (stages.Match form))
-    else if bytes_eq name (codes "$unwind") then (unwind_in v >>= λ u. Ok (stages.Unwind u))
-    else if bytes_eq name (codes "$sort") then (sort_in v >>= λ parts. Ok (stages.Sort parts))
-    else if bytes_eq name (codes "$limit") then (count_in v >>= λ count. Ok (stages.Limit count))
-    else Err UnknownStage
-
--- a stage is a document of one name
-abbrev pub stage_of : Tree → Result Stage PipelineFault
-stage_of (document (field name v no_fields)) = stage_named name v
-stage_of v = Err BadSpec
-
--- a pipeline has at most 16 stages
-unfoldable pub pipeline_of : List Tree → Result (List Stage) PipelineFault
-pipeline_of list = each stage_of (take 16 list) >>= λ stages. if nat_le (length list) 16 then Ok stages else Err TooMany

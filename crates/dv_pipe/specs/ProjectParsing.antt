@@ -25,7 +25,7 @@ switch_in v = None
 
 -- the value that stands alone under $literal
 abbrev pub literal_in : Fields → Option Tree
-literal_in (field name v no_fields) = if bytes_eq name (codes "$literal") then Some v else None
+literal_in (field name v no_fields) = if bytes_eq (codes "$literal") name then Some v else None
 literal_in fs = None
 
 abbrev pub has_dot : List ℕ → Bool

@@ -217,8 +217,8 @@ fn any_field(path: &[Component], fields: &[ComputedField]) -> bool
 fn begins_with(path: &[Component], name: &str) -> bool
     ensures { result ≡ defined.one_begins path.now (name.now ∷ []) }
 {
-    match path.first() {
-        Some(first) => first.as_str() == name,
+    match path.split_first() {
+        Some((first, _)) => first.as_str() == name,
         None => true,
     }
 }

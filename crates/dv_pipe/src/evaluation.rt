@@ -7,6 +7,7 @@ ghost use Rattle.dv_pipe.specs.Parts as parts;
 ghost use Rattle.dv_pipe.specs.Stages as defined;
 
 use crate::pipeline::Pipeline;
+use crate::project::Project;
 use crate::sources::Sources;
 use crate::stage::Stage;
 use crate::unwind::Unwind;
@@ -58,10 +59,26 @@ fn through(
 {
     match stage {
         Stage::Match(filter) => Ok(matching(filter, rows)),
+        Stage::Project(project) => projected(alloc, project, &rows),
         Stage::Unwind(unwind) => unwound(alloc, unwind, &rows),
         Stage::Sort(spec) => sorted(alloc, spec, wanted(later), &rows),
         Stage::Limit(count) => Ok(front(*count, rows)),
     }
+}
+
+/// Each row as it is shown.
+fn projected(
+    alloc: Global,
+    project: &Project,
+    rows: &[Document],
+) -> Result<Vec<Document>, NoMemory>
+    ensures { IfOk result (λ left. left.items ≡ defined.stage (Stage.Project project.now) rows.now []) }
+{
+    let mut left = Vec::with_capacity(alloc, rows.len())?;
+    'rows: for row in rows {
+        left.push(project.row(alloc, row)?)?;
+    }
+    Ok(left)
 }
 
 /// The rows of each row.

@@ -2,7 +2,8 @@
 
 ghost use Rattle.std.specs.Prelude.{◌≡◌, ◌≤◌, length, map, IfOk};
 ghost use Rattle.dv_bson.specs.View.{tree};
-ghost use Rattle.dv_pipe.specs.Parsing.{Gives, each, stage_of, pipeline_of};
+ghost use Rattle.dv_pipe.specs.Parsing.{Gives, each};
+ghost use Rattle.dv_pipe.specs.StageParsing.{stage_of, pipeline_of};
 
 use crate::fault::PipelineFault;
 use crate::stage::Stage;
@@ -27,8 +28,9 @@ impl Model for Pipeline {
 
     ghost use Rattle.std.specs.Coded.{codes};
     ghost use Rattle.dv_match.specs.contracts.form.Filter as filters;
+    ghost use Rattle.dv_pipe.specs.contracts.expr.Computed as computed;
 
-    ghost coded = { Prim.hlevel (codes, filters.the_row.coded) };
+    ghost coded = { Prim.hlevel (codes, filters.the_row.coded, computed.the_row.coded) };
 
     ghost view = { λ p. p.stages.items };
 }

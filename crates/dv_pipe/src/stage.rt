@@ -4,8 +4,10 @@ ghost use Rattle.std.specs.Prelude.{◌≡◌, IfOk};
 ghost use Rattle.dv_bson.specs.View.{tree};
 ghost use Rattle.dv_pipe.specs.Parsing as defined;
 ghost use Rattle.dv_pipe.specs.Parsing.{Gives};
+ghost use Rattle.dv_pipe.specs.StageParsing as stages;
 
 use crate::fault::PipelineFault;
+use crate::project::Project;
 use crate::unwind::Unwind;
 use dv_bson::{NoMemory, Value};
 use dv_match::Filter;
@@ -17,6 +19,8 @@ use std::alloc::Global;
 pub enum Stage {
     /// `$match`: the rows that match the filter.
     Match(Filter),
+    /// `$project`: each row as it is shown.
+    Project(Project),
     /// `$unwind`: a row for each element of an array.
     Unwind(Unwind),
     /// `$sort`: the rows in order.
@@ -28,7 +32,7 @@ pub enum Stage {
 impl Stage {
     /// The stage that the value is, a document of one name, or its first fault in written order.
     pub(crate) fn parse(alloc: Global, value: &Value) -> Result<Stage, PipelineFault>
-        ensures { Gives (λ stage. stage) result (defined.stage_of (tree value.now)) }
+        ensures { Gives (λ stage. stage) result (stages.stage_of (tree value.now)) }
     {
         let Value::Doc(document) = value else {
             return Err(PipelineFault::BadSpec);
@@ -48,6 +52,7 @@ impl Stage {
     {
         match self {
             Stage::Match(filter) => Ok(Stage::Match(filter.try_clone()?)),
+            Stage::Project(project) => Ok(Stage::Project(project.try_clone()?)),
             Stage::Unwind(unwind) => Ok(Stage::Unwind(unwind.try_clone()?)),
             Stage::Sort(spec) => Ok(Stage::Sort(spec.try_clone()?)),
             Stage::Limit(count) => Ok(Stage::Limit(*count)),
@@ -56,12 +61,13 @@ impl Stage {
 }
 
 /// The stage of this name.
-#[tactic(auto, unfolding(crate::specs::Parsing::stage_named))]
+#[tactic(auto, unfolding(crate::specs::StageParsing::stage_named))]
 fn stage_named(alloc: Global, name: &str, operand: &Value) -> Result<Stage, PipelineFault>
-    ensures { Gives (λ stage. stage) result (defined.stage_named name.now (tree operand.now)) }
+    ensures { Gives (λ stage. stage) result (stages.stage_named name.now (tree operand.now)) }
 {
     match name {
         "$match" => Ok(Stage::Match(filter_of(alloc, operand)?)),
+        "$project" => Ok(Stage::Project(Project::parse(alloc, operand)?)),
         "$unwind" => Ok(Stage::Unwind(Unwind::parse(alloc, operand)?)),
         "$sort" => Ok(Stage::Sort(sort_of(alloc, operand)?)),
         "$limit" => Ok(Stage::Limit(count_of(operand)?)),

@@ -1,6 +1,6 @@
 use Rattle.std.proofs.Common.{◌≡◌, ◌∙◌, ap, sym, Err, rules}
 use Rattle.dv_bson.specs.View.{tree}
-use Rattle.dv_pipe.specs.Parsing.{stage_of}
+use Rattle.dv_pipe.specs.StageParsing.{stage_of}
 use Rattle.dv_pipe.proofs.Each.{parsed-fault, parsed-all, each-map}
 use Rattle.dv_pipe.proofs.Pipelines.{gives-fault}
 use Rattle.dv_pipe.proofs.pipeline.each_stage.Goals as goal

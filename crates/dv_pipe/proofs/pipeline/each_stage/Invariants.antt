@@ -1,5 +1,5 @@
 use Rattle.dv_bson.specs.View.{tree}
-use Rattle.dv_pipe.specs.Parsing.{stage_of}
+use Rattle.dv_pipe.specs.StageParsing.{stage_of}
 use Rattle.dv_pipe.proofs.Each.{IsParsedTo}
 use Rattle.dv_pipe.proofs.pipeline.each_stage.Given as goal
 
