@@ -1,5 +1,6 @@
 -- Lists that a loop goes through.
 use Rattle.std.proofs.Common.{◌≡◌, ◌∙◌, ap, sym, refl, List, [], ◌∷◌, ◌++◌, ℕ, zero, suc, ◌+◌, ◌<◌, ◌≤◌, add-one, take, drop, map, length, Some, None, Option, slice_get, get_or, arith, Bool, true, false, ◌&&◌, ◌||◌, ◌==◌}
+use Rattle.std.specs.Prelude.{IsTrue, ◌↔◌}
 use Rattle.std.specs.List.{list_all, list_any}
 use Rattle.std.specs.Option.{option_map}
 use Rattle.std.proofs.lemmas.List.Folds.{list_all-append}
@@ -67,16 +68,16 @@ some-left xs e none = let same : false ≡ true = e ∙ ap (λ l. length l == 0)
 pub any-here : {X Y : Type 0} (p : Y → Bool) (f : X → Y) (xs : List X) (i : ℕ) (x : X) → i < length xs → x ≡ get_or xs i x → p (f x) ≡ true → list_any p (map f xs) ≡ true
 any-here {X = X} p f xs i x within is h = at xs i (slice_get_read xs (length xs) i x refl within is)
   where
-  or-true : (b : Bool) → b || true ≡ true
-  or-true true = refl
-  or-true false = refl
+    or-true : (b : Bool) → b || true ≡ true
+    or-true true = refl
+    or-true false = refl
 
-  at : (ys : List X) (j : ℕ) → slice_get ys j ≡ Some x → list_any p (map f ys) ≡ true
-  at [] j e = absurd cc
-  at (z ∷ ys) zero e =
-      let same : x ≡ z = cc in
-      ap (λ b. b || list_any p (map f ys)) (ap (λ w. p (f w)) (sym same) ∙ h)
-  at (z ∷ ys) (suc j) e = ap (λ b. p (f z) || b) (at ys j e) ∙ or-true (p (f z))
+    at : (ys : List X) (j : ℕ) → slice_get ys j ≡ Some x → list_any p (map f ys) ≡ true
+    at [] j e = absurd cc
+    at (z ∷ ys) zero e =
+        let same : x ≡ z = cc in
+        ap (λ b. b || list_any p (map f ys)) (ap (λ w. p (f w)) (sym same) ∙ h)
+    at (z ∷ ys) (suc j) e = ap (λ b. p (f z) || b) (at ys j e) ∙ or-true (p (f z))
 
 pub none-there : {X : Type 0} (xs : List X) (i : ℕ) → slice_get xs i ≡ None → length xs ≤ i
 none-there [] i e = omega arith
@@ -90,3 +91,9 @@ none-long (x ∷ xs) e = absurd (omega arith)
 -- the element that a look-up gives
 pub drop-found : {X : Type 0} (xs : List X) (i : ℕ) (x : X) → Some x ≡ slice_get xs i → drop i xs ≡ x ∷ drop (i + 1) xs
 drop-found xs i x e = drop-here xs i x (sym e) ∙ ap (λ n. x ∷ drop n xs) (sym (add-one i))
+
+pub some-fields : {X : Type 0} (xs : List X) (answer : Bool) → (IsTrue answer ↔ (xs ≡ [])) → answer ≡ false → xs ≡ [] → ⊥
+some-fields xs answer says no-one none =
+    let yes : answer ≡ true = says.1 none in
+    let same : false ≡ true = sym no-one ∙ yes in
+    cc

@@ -40,13 +40,13 @@ module _ (keeps : Bool) (paths : List (List (List ℕ))) where
   names-left name [] h = refl
   names-left name (f ∷ d) h = ap (has_name name) (row-left_first f.0 (left keeps (behind f.0 paths) f.1) d) ∙ among f.0 (left keeps (behind f.0 paths) f.1) (row_left keeps paths d) (either (bytes_eq name f.0) (has_name name d) h).0 (names-left name d (either (bytes_eq name f.0) (has_name name d) h).1)
     where
-    either : (a b : Bool) → a || b ≡ false → (a ≡ false) × (b ≡ false)
-    either true b e = absurd cc
-    either false b e = (refl, e)
+      either : (a b : Bool) → a || b ≡ false → (a ≡ false) × (b ≡ false)
+      either true b e = absurd cc
+      either false b e = (refl, e)
 
-    among : (n : List ℕ) (c : Candidate) (fs : List Field) → bytes_eq name n ≡ false → has_name name fs ≡ false → has_name name (alone n c ++ fs) ≡ false
-    among n None fs e g = g
-    among n (Some v) fs e g = ap (λ b. b || has_name name fs) e ∙ g
+      among : (n : List ℕ) (c : Candidate) (fs : List Field) → bytes_eq name n ≡ false → has_name name fs ≡ false → has_name name (alone n c ++ fs) ≡ false
+      among n None fs e g = g
+      among n (Some v) fs e g = ap (λ b. b || has_name name fs) e ∙ g
 
 bytes-eq_symmetric : (a b : List ℕ) → bytes_eq a b ≡ bytes_eq b a
 bytes-eq_symmetric a b = same_from_decides _ _ (bytes_eq-Decides a b) ((λ e. sym ((bytes_eq-Decides b a).0 e)), λ e. (bytes_eq-Decides b a).1 (sym e))
@@ -57,14 +57,14 @@ not-at n m v (f ∷ fs) zero h e =
     let same : (m, v) ≡ f = cc in
     first (bytes_eq n f.0) (has_name n fs) (ap (λ (g : Field). bytes_eq n g.0) same) h
   where
-  first : (a b : Bool) → bytes_eq n m ≡ a → a || b ≡ false → bytes_eq n m ≡ false
-  first true b e h = absurd cc
-  first false b e h = e
+    first : (a b : Bool) → bytes_eq n m ≡ a → a || b ≡ false → bytes_eq n m ≡ false
+    first true b e h = absurd cc
+    first false b e h = e
 not-at n m v (f ∷ fs) (suc i) h e = not-at n m v fs i (second (bytes_eq n f.0) (has_name n fs) h) e
   where
-  second : (a b : Bool) → a || b ≡ false → b ≡ false
-  second true b e = absurd cc
-  second false b e = e
+    second : (a b : Bool) → a || b ≡ false → b ≡ false
+    second true b e = absurd cc
+    second false b e = e
 
 -- a field's name is new behind those before it
 pub new-name : (d : List Field) (i : ℕ) (name : List ℕ) (v : Tree) → AreNamed d → Some (name, v) ≡ slice_get d i → (has_zero name ≡ false) × (has_name name (take i d) ≡ false)

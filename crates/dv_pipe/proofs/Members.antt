@@ -72,7 +72,7 @@ id-path = refl
 
 pub id-fault : (e : PathFault) → (e ≡ paths.NoMemory) ⊎ ((e ≡ paths.EmptyComponent) × (path_of (codes "_id") ≡ None)) → of_path e ≡ NoMemory
 id-fault e (inl m) = ap of_path m
-id-fault e (inr no) = let same : Some (codes "_id" ∷ []) ≡ None = sym id-path ∙ no.1 in cc
+id-fault e (inr missing) = let same : Some (codes "_id" ∷ []) ≡ None = sym id-path ∙ missing.1 in cc
 
 pub id-is : (p : List (List ℕ)) → path_of (codes "_id") ≡ Some p → p ≡ codes "_id" ∷ []
 id-is p e = let same : Some (codes "_id" ∷ []) ≡ Some p = sym id-path ∙ e in cc

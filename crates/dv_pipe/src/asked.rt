@@ -70,12 +70,7 @@ impl Asked {
     }
 
     /// What is asked with a member more.
-    fn with_member(
-        self,
-        alloc: Global,
-        name: &str,
-        value: &Value,
-    ) -> Result<Asked, PipelineFault>
+    fn with_member(self, alloc: Global, name: &str, value: &Value) -> Result<Asked, PipelineFault>
         ensures { Gives seen result (defined.with_member (name.now, tree value.now) (seen self)) }
     {
         let path = Path::parse(alloc, name)?;
@@ -227,7 +222,9 @@ fn begins_with(path: &[Component], name: &str) -> bool
 fn one_begins(path: &[Component], other: &[Component]) -> bool
     ensures { result ≡ defined.one_begins path.now other.now }
 {
-    path.iter().zip(other).all(|(a, b)| a.as_str() == b.as_str())
+    path.iter()
+        .zip(other)
+        .all(|(a, b)| a.as_str() == b.as_str())
 }
 
 /// Whether the path is `_id`.

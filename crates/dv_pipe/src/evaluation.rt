@@ -67,11 +67,7 @@ fn through(
 }
 
 /// Each row as it is shown.
-fn projected(
-    alloc: Global,
-    project: &Project,
-    rows: &[Document],
-) -> Result<Vec<Document>, NoMemory>
+fn projected(alloc: Global, project: &Project, rows: &[Document]) -> Result<Vec<Document>, NoMemory>
     ensures { IfOk result (λ left. left.items ≡ defined.stage (Stage.Project project.now) rows.now []) }
 {
     let mut left = Vec::with_capacity(alloc, rows.len())?;

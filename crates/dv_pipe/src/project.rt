@@ -53,12 +53,7 @@ impl Project {
 }
 
 /// What is left of the row: what the paths lead to, or all but that.
-fn row_left(
-    alloc: Global,
-    keeps: bool,
-    paths: &Paths,
-    row: &Document,
-) -> Result<Document, NoMemory>
+fn row_left(alloc: Global, keeps: bool, paths: &Paths, row: &Document) -> Result<Document, NoMemory>
     ensures { IfOk result (λ left. left ≡ defined.row_left keeps paths.now row.now) }
 {
     let mut ways: Vec<&[Component]> = Vec::with_capacity(alloc, paths.as_slice().len())?;

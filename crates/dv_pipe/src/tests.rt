@@ -68,9 +68,22 @@ const ARRAYS: [Sample; 5] = [
     Doc(&["_id"], &[Int(5)]),
 ];
 
+const NESTED: Sample = Doc(
+    &["_id", "a", "d"],
+    &[
+        Int(1),
+        Array(&[
+            Doc(&["b", "c"], &[Int(1), Int(2)]),
+            Int(7),
+            Array(&[Doc(&["b"], &[Int(3)])]),
+        ]),
+        Int(1),
+    ],
+);
+
 const LIMIT: Sample = Doc(&["$limit"], &[Int(2)]);
 
-const CASES: [Case; 12] = [
+const CASES: [Case; 22] = [
     Case(
         &[Doc(&["$sort"], &[Doc(&["a"], &[Int(1)])]), LIMIT],
         &ORDERED,
@@ -127,6 +140,90 @@ const CASES: [Case; 12] = [
         ]),
     ),
     Case(&[], &ORDERED, Ok(&ORDERED)),
+    Case(
+        &[Doc(
+            &["$project"],
+            &[Doc(&["a.b", "e"], &[Int(1), Text("$a.b")])],
+        )],
+        &[NESTED],
+        Ok(&[Doc(
+            &["_id", "a", "e"],
+            &[
+                Int(1),
+                Array(&[Doc(&["b"], &[Int(1)]), Array(&[Doc(&["b"], &[Int(3)])])]),
+                Array(&[Int(1)]),
+            ],
+        )]),
+    ),
+    Case(
+        &[Doc(
+            &["$project"],
+            &[Doc(&["_id", "a.b"], &[Int(0), Bool(true)])],
+        )],
+        &[Doc(&["_id", "a"], &[Int(1), Doc(&["c"], &[Int(1)])])],
+        Ok(&[Doc(&["a"], &[Doc(&[], &[])])]),
+    ),
+    Case(
+        &[Doc(&["$project"], &[Doc(&["a.b", "d"], &[Int(0), Bool(false)])])],
+        &[NESTED],
+        Ok(&[Doc(
+            &["_id", "a"],
+            &[
+                Int(1),
+                Array(&[Doc(&["c"], &[Int(2)]), Int(7), Array(&[Doc(&[], &[])])]),
+            ],
+        )]),
+    ),
+    Case(
+        &[Doc(
+            &["$project"],
+            &[Doc(
+                &["x", "d"],
+                &[
+                    Doc(&["y", "z"], &[Doc(&["$literal"], &[Int(2)]), Text("$n")]),
+                    Int(1),
+                ],
+            )],
+        )],
+        &[NESTED],
+        Ok(&[Doc(
+            &["_id", "d", "x"],
+            &[Int(1), Int(1), Doc(&["y"], &[Int(2)])],
+        )]),
+    ),
+    Case(
+        &[Doc(&["$project"], &[Doc(&[], &[])])],
+        &[],
+        Err(PipelineFault::BadSpec),
+    ),
+    Case(
+        &[Doc(&["$project"], &[Doc(&["a", "b"], &[Int(1), Int(0)])])],
+        &[],
+        Err(PipelineFault::BadSpec),
+    ),
+    Case(
+        &[Doc(&["$project"], &[Doc(&["a"], &[Doc(&["b"], &[Int(1)])])])],
+        &[],
+        Err(PipelineFault::BadSpec),
+    ),
+    Case(
+        &[Doc(&["$project"], &[Doc(&["_id.x"], &[Int(1)])])],
+        &[],
+        Err(PipelineFault::BadSpec),
+    ),
+    Case(
+        &[Doc(
+            &["$project"],
+            &[Doc(&["a", "a.b", "c"], &[Int(1), Int(1), Int(0)])],
+        )],
+        &[],
+        Err(PipelineFault::Conflict),
+    ),
+    Case(
+        &[Doc(&["$project"], &[Doc(&["a.b", "a"], &[Int(1), Text("$$x")])])],
+        &[],
+        Err(PipelineFault::BadSpec),
+    ),
     Case(
         &[LIMIT, Doc(&["$x"], &[Int(1)])],
         &[],

@@ -1,4 +1,4 @@
-use Rattle.std.proofs.Common.{◌≡◌, ◌∙◌, ◌++◌, ◌∷◌, [], ap, sym, inl, Ok, Err, rules, codes, true, false, List, ℕ, if◌then◌else◌}
+use Rattle.std.proofs.Common.{◌≡◌, ◌∙◌, ◌++◌, ◌∷◌, [], ap, sym, inl, Ok, Err, rules, codes, true, false, List, ℕ, Bool, if◌then◌else◌}
 use Rattle.dv_pipe.specs.AskedView.{asked}
 use Rattle.dv_pipe.specs.Fault.{of_path}
 use Rattle.dv_pipe.specs.ProjectParsing.{conflicts}
@@ -18,7 +18,7 @@ returns c =
     let has = c.conflicts-has_id.result in
     let id = id-is c.in_ok-id.id c.in_ok-id.ensures in
     let con : conflicts (codes "_id" ∷ []) self ≡ has = ap (λ p. conflicts p self) (sym (c.components.ensures.components ∙ id)) ∙ sym c.conflicts-has_id.ensures in
-    let choice = λ b. if b then self.included else self.included ++ (codes "_id" ∷ []) ∷ [] in
+    let choice : Bool → List (List (List ℕ)) = λ b. if b then self.included else self.included ++ (codes "_id" ∷ []) ∷ [] in
     let included : c.if-not-has_id.included.items ≡ choice has =
     elim c.if-not-has_id.branch [
       | then-not-has_id+in_ok-push w ↦ ap (λ v. v.items) w.included-is ∙ w.in_ok-push.ensures.items ∙ ap (λ p. self.included ++ p ∷ []) id ∙ ap choice (sym w.if-not-has_id.true)
