@@ -18,6 +18,7 @@ enum Sample {
 
 use Sample::{Array, Bool, Doc, Int, Null, Text};
 
+#[cycle(sample)]
 fn value_of(alloc: Global, sample: &Sample) -> Result<Value, Fail> {
     Ok(match sample {
         Int(number) => Value::Int32(*number),
@@ -29,6 +30,7 @@ fn value_of(alloc: Global, sample: &Sample) -> Result<Value, Fail> {
     })
 }
 
+#[cycle(sample)]
 fn document_of(alloc: Global, names: &[&str], samples: &[Sample]) -> Result<Document, Fail> {
     let mut document = Document::new(alloc);
     for (name, sample) in names.iter().zip(samples) {
@@ -38,6 +40,7 @@ fn document_of(alloc: Global, names: &[&str], samples: &[Sample]) -> Result<Docu
     Ok(document)
 }
 
+#[cycle(sample)]
 fn values_of(alloc: Global, samples: &[Sample]) -> Result<Vec<Value>, Fail> {
     let mut values = Vec::new(alloc);
     for sample in samples {
