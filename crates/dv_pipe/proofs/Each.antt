@@ -1,6 +1,5 @@
 -- Parts that are parsed one after the other.
 use Rattle.std.proofs.Common.{◌≡◌, ◌∙◌, ap, sym, refl, List, [], ◌∷◌, ◌++◌, ℕ, ◌+◌, ◌<◌, ◌≤◌, drop, map, length, get_or, append_assoc, append-nil, Result, Ok, Err}
-use Rattle.std.proofs.lemmas.List.{map-append}
 use Rattle.dv_pipe.specs.declared.fault.PipelineFault.{PipelineFault}
 use Rattle.dv_pipe.specs.Parsing.{◌>>=◌, each}
 use Rattle.dv_pipe.proofs.Items.{drop-read, drop-past}

@@ -1,5 +1,5 @@
 -- What is left of fields and elements, one after the other.
-use Rattle.std.proofs.Common.{◌≡◌, ◌∙◌, ap, sym, refl, Bool, true, false, ◌||◌, not, List, [], ◌∷◌, ◌++◌, ℕ, zero, suc, ◌+◌, add-one, take, map, Some, None, slice_get, arith, append_assoc, append-nil, Bor, drop, ◌<◌, length, get_or, ◌==◌}
+use Rattle.std.proofs.Common.{◌≡◌, ◌∙◌, ap, sym, refl, Bool, true, false, ◌||◌, List, [], ◌∷◌, ◌++◌, ℕ, zero, suc, ◌+◌, add-one, take, map, Some, None, slice_get, arith, append_assoc, append-nil, Bor, drop, ◌<◌, length, get_or, ◌==◌}
 use Rattle.std.specs.Str.{bytes_eq}
 use Rattle.std.proofs.lemmas.Slice.Eq.{bytes_eq-Decides}
 use Rattle.std.proofs.lemmas.Bool.Decides.{same_from_decides}

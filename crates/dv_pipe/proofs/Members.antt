@@ -1,7 +1,7 @@
 -- The members of a $project, and documents of expressions, one after the other.
 use Rattle.std.proofs.Common.{◌≡◌, ◌∙◌, ap, sym, refl, Bool, true, false, ◌&&◌, List, [], ◌∷◌, ℕ, ◌+◌, drop, length, Some, None, slice_get, Result, Ok, Err, codes, ap₂, ◌++◌, ◌⊎◌, inl, inr, if◌then◌else◌}
 use Rattle.std.specs.Str.{bytes_eq}
-use Rattle.dv_bson.specs.Tree.{Tree, Field, document, fields_of}
+use Rattle.dv_bson.specs.Tree.{Field, document, fields_of}
 use Rattle.dv_bson.specs.Names.{value_under}
 use Rattle.dv_path.specs.Path.{path_of}
 use Rattle.dv_path.specs.declared.fault.PathFault.{PathFault}

@@ -1,5 +1,5 @@
 -- Pipelines parsed.
-use Rattle.std.proofs.Common.{◌≡◌, ◌∙◌, ap, sym, List, [], ◌∷◌, ℕ, ◌<◌, ◌≤◌, take, map, length, Result, Ok, Err, arith, nat_le, true, false, ◌⊎◌, inl, inr, if◌then◌else◌}
+use Rattle.std.proofs.Common.{◌≡◌, ◌∙◌, ap, List, ◌<◌, ◌≤◌, take, map, length, Result, Ok, Err, arith, nat_le, true, false, ◌⊎◌, inl, inr, if◌then◌else◌}
 use Rattle.std.proofs.lemmas.List.{take-map, length-map}
 use Rattle.dv_bson.specs.Tree.{Tree}
 use Rattle.dv_pipe.specs.declared.fault.PipelineFault.{PipelineFault}

@@ -1,5 +1,5 @@
 -- The documents of a namespace, sought source by source.
-use Rattle.std.proofs.Common.{◌≡◌, List, map}
+use Rattle.std.proofs.Common.{List, map}
 use Rattle.dv_pipe.specs.declared.sources.Source as memory
 use Rattle.dv_pipe.specs.Sources.{Source, referred}
 

@@ -1,17 +1,17 @@
 -- Stages one after the other.
 use Rattle.std.proofs.Common.{◌≡◌, ◌∙◌, ap, sym, refl, Bool, true, false, ◌&&◌, List, [], ◌∷◌, ◌++◌, ℕ, zero, suc, take, min, filter, Some, None, if◌then◌else◌, arith}
 use Rattle.std.specs.List.{flat_map, AllByRecursion}
-use Rattle.dv_bson.specs.Tree.{Tree, int32, int64, string, document, array, boolean, binary, object_id, date, null, timestamp, min_key, max_key}
+use Rattle.dv_bson.specs.Tree.{int32, int64, string, document, array, boolean, binary, object_id, date, null, timestamp, min_key, max_key}
 use Rattle.dv_path.specs.Candidates.{Candidate}
 use Rattle.dv_match.specs.Filter.{Members}
 use Rattle.dv_match.specs.Match.{matches, matches_member, matches_all}
 use Rattle.dv_pipe.specs.declared.stage.Stage.{Stage}
-use Rattle.dv_pipe.specs.declared.stage.Stage.TheVariants.{Match, Project, Unwind, Sort, Limit}
+use Rattle.dv_pipe.specs.declared.stage.Stage.TheVariants.{Match, Unwind, Limit}
 use Rattle.dv_pipe.specs.declared.unwind.Unwind as form
 use Rattle.dv_pipe.specs.Laws.{both, IsNoArray, HasNoArray, is_value, has_value}
 use Rattle.dv_pipe.specs.Sources.{Row, Source}
 use Rattle.dv_pipe.specs.Stages.{stage, through}
-use Rattle.dv_pipe.specs.Unwinding.{reached, preserved, rows_of, unwound}
+use Rattle.dv_pipe.specs.Unwinding.{reached, rows_of, unwound}
 
 pub through_parts : (first second : List Stage) (sources : List Source) (rows : List Row) → through (first ++ second) sources rows ≡ through second sources (through first sources rows)
 unfolding through

@@ -1,6 +1,6 @@
 -- Paths through documents, component by component.
 use Rattle.std.proofs.Common.{◌≡◌, ◌∙◌, ap, sym, refl, List, [], ◌∷◌, ℕ, Some, None, map}
-use Rattle.dv_bson.specs.Tree.{Tree, document, Field, fields_of, list_of_fields, elements_of, list_of_elements}
+use Rattle.dv_bson.specs.Tree.{Tree, Field, fields_of, list_of_fields, elements_of, list_of_elements}
 use Rattle.dv_bson.specs.View.{tree}
 use Rattle.dv_bson.specs.declared.value.Value.{Value}
 use Rattle.dv_pipe.specs.declared.unwind.Unwind.{Unwind}

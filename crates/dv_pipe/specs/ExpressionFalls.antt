@@ -1,5 +1,5 @@
 -- A part of an expression is smaller than what it is in.
-use Rattle.std.specs.Prelude.{◌≤◌, ◌+◌, List, [], ◌∷◌, map}
+use Rattle.std.specs.Prelude.{◌≤◌, List, [], ◌∷◌, map}
 use Rattle.std.proofs.Common.{arith}
 use denote.Param.Weighed.{most}
 use Rattle.dv_pipe.specs.declared.expr.Expr.{Expr}

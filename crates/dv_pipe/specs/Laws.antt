@@ -1,5 +1,5 @@
 -- Words of the laws.
-use Rattle.std.specs.Prelude.{◌≡◌, ℕ, Bool, true, false, List, Some, None, ⊤}
+use Rattle.std.specs.Prelude.{ℕ, Bool, true, false, List, Some, None, ⊤}
 use Rattle.dv_bson.specs.Tree.{array, null}
 use Rattle.dv_path.specs.Candidates.{Candidate}
 use Rattle.dv_match.specs.Filter.{Members, all_of, no_members, more_members, no_filters, more_filters}

@@ -1,9 +1,9 @@
 -- What stages take, but $project: the form, or the fault (MongoDB manual, "Aggregation Stages"). Which fault is told is this
 -- server's own.
-use Rattle.std.specs.Prelude.{◌≡◌, ◌⊎◌, ℕ, ℤ, pos, negsuc, ◌==◌, ◌&&◌, ◌||◌, not, nat_le, Bool, false, Option, Some, None, List, [], ◌∷◌, length, take, Result, Ok, Err, codes, if◌then◌else◌}
+use Rattle.std.specs.Prelude.{◌≡◌, ◌⊎◌, ℕ, ℤ, pos, negsuc, ◌==◌, ◌||◌, Bool, false, Option, Some, None, List, [], ◌∷◌, Result, Ok, Err, codes, if◌then◌else◌}
 use Rattle.std.specs.Str.{bytes_eq}
 use Rattle.std.specs.List.{list_all}
-use Rattle.dv_bson.specs.Tree.{Tree, int32, int64, string, boolean, document, no_fields, field, Field, list_of_fields}
+use Rattle.dv_bson.specs.Tree.{Tree, int32, int64, string, boolean, document, Field, list_of_fields}
 use Rattle.dv_bson.specs.Names.{begins_with_dollar, value_under}
 use Rattle.dv_path.specs.Candidates.{Candidate}
 use Rattle.dv_path.specs.Path.{path_of}

@@ -3,7 +3,7 @@
 use Rattle.std.specs.Prelude.{ℕ, Bool, true, false, not, List, [], ◌∷◌, Some, None, if◌then◌else◌}
 use Rattle.std.specs.List.{list_any}
 use Rattle.std.specs.Str.{bytes_eq}
-use Rattle.dv_bson.specs.Tree.{Tree, document, array, Fields, no_fields, field, Elements, no_elements, element, Field, fields_of, list_of_fields}
+use Rattle.dv_bson.specs.Tree.{Tree, document, array, Fields, no_fields, field, Elements, no_elements, element, fields_of, list_of_fields}
 use Rattle.dv_path.specs.Candidates.{Candidate}
 use Rattle.dv_pipe.specs.declared.project.Project.{Project}
 use Rattle.dv_pipe.specs.declared.project.Project.TheVariants.{Include, Exclude}

@@ -1,4 +1,4 @@
-use Rattle.std.proofs.Common.{◌≡◌, ◌∙◌, ◌∷◌, [], ap, sym}
+use Rattle.std.proofs.Common.{◌∙◌, ◌∷◌, [], ap, sym}
 use Rattle.std.specs.Str.{bytes_eq}
 use Rattle.dv_pipe.specs.ProjectParsing.{one_begins}
 use Rattle.dv_pipe.proofs.Members.{begins-name}

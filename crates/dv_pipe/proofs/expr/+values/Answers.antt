@@ -1,7 +1,5 @@
 use Rattle.std.proofs.Common.{◌≡◌, ◌∙◌, ap, ap₂, sym, map, drop, ◌+◌}
-use Rattle.dv_bson.specs.View.{tree}
-use Rattle.std.specs.Option.{option_map}
-use Rattle.dv_pipe.specs.Expressions.{computed_of, computed, with_computed, with_field, value_of}
+use Rattle.dv_pipe.specs.Expressions.{computed_of, with_computed, with_field, value_of}
 use Rattle.dv_pipe.specs.ExpressionView.{expression, named}
 use Rattle.dv_pipe.proofs.Items.{drop-read, drop-past}
 use Rattle.dv_pipe.proofs.expr.+values.Goals as goal

@@ -1,4 +1,4 @@
-use Rattle.std.proofs.Common.{◌≡◌, ◌∙◌, ap, sym, Err, rules}
+use Rattle.std.proofs.Common.{◌≡◌, ◌∙◌, Err, rules}
 use Rattle.dv_bson.specs.View.{tree}
 use Rattle.dv_pipe.specs.StageParsing.{stage_of}
 use Rattle.dv_pipe.proofs.Each.{parsed-fault, parsed-all, each-map}

@@ -1,4 +1,4 @@
-use Rattle.std.proofs.Common.{◌≡◌, ◌∙◌, ap, sym, inr}
+use Rattle.std.proofs.Common.{◌∙◌, ap, sym, inr}
 use Rattle.dv_bson.specs.View.{tree}
 use Rattle.dv_path.specs.SortSpec.{sort_spec_of}
 use Rattle.dv_pipe.specs.Parsing.{sort_in, sort_or_fault}

@@ -1,4 +1,4 @@
-use Rattle.std.proofs.Common.{◌≡◌, ◌∙◌, ap, sym, false, true}
+use Rattle.std.proofs.Common.{◌∙◌, sym}
 use Rattle.dv_bson.specs.View.{tree}
 use Rattle.dv_pipe.specs.Parsing.{is_option}
 use Rattle.dv_pipe.proofs.Items.{all-but-here, all-more, all-none, none-of}

@@ -1,4 +1,4 @@
-use Rattle.std.proofs.Common.{◌≡◌, ◌∙◌, ◌++◌, ◌∷◌, [], ap, sym, inl, Ok, Err, rules, codes, true, false, List, ℕ, Bool, if◌then◌else◌}
+use Rattle.std.proofs.Common.{◌≡◌, ◌∙◌, ◌++◌, ◌∷◌, [], ap, sym, inl, Ok, Err, rules, codes, List, ℕ, Bool, if◌then◌else◌}
 use Rattle.dv_pipe.specs.AskedView.{asked}
 use Rattle.dv_pipe.specs.Fault.{of_path}
 use Rattle.dv_pipe.specs.ProjectParsing.{conflicts}

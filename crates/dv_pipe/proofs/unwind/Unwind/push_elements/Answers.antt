@@ -1,4 +1,4 @@
-use Rattle.std.proofs.Common.{◌≡◌, ◌∙◌, ◌++◌, ap, sym, Some, map}
+use Rattle.std.proofs.Common.{◌∙◌, ◌++◌, ap, sym, Some, map}
 use Rattle.dv_bson.specs.View.{tree}
 use Rattle.dv_pipe.specs.Unwinding.{set_at}
 use Rattle.dv_pipe.proofs.Items.{take-past, some-left}
