@@ -1,0 +1,81 @@
+-- Stages one after the other.
+use Rattle.std.proofs.Common.{◌≡◌, ◌∙◌, ap, sym, refl, Bool, true, false, ◌&&◌, List, [], ◌∷◌, ◌++◌, ℕ, zero, suc, take, min, filter, Some, None, if◌then◌else◌, arith}
+use Rattle.std.specs.List.{flat_map, AllByRecursion}
+use Rattle.dv_bson.specs.Tree.{int32, int64, string, document, array, boolean, binary, object_id, date, null, timestamp, min_key, max_key}
+use Rattle.dv_path.specs.Candidates.{Candidate}
+use Rattle.dv_match.specs.Filter.{Members}
+use Rattle.dv_match.specs.Match.{matches, matches_member, matches_all}
+use Rattle.dv_pipe.specs.declared.stage.Stage.{Stage}
+use Rattle.dv_pipe.specs.declared.stage.Stage.TheVariants.{Match, Unwind, Limit}
+use Rattle.dv_pipe.specs.declared.unwind.Unwind as form
+use Rattle.dv_pipe.specs.Laws.{both, IsNoArray, HasNoArray, is_value, has_value}
+use Rattle.dv_pipe.specs.Sources.{Row, Source}
+use Rattle.dv_pipe.specs.Stages.{stage, through}
+use Rattle.dv_pipe.specs.Unwinding.{reached, rows_of, unwound}
+
+pub through_parts : (first second : List Stage) (sources : List Source) (rows : List Row) → through (first ++ second) sources rows ≡ through second sources (through first sources rows)
+unfolding through
+through_parts [] second sources rows = refl
+through_parts (s ∷ first) second sources rows = through_parts first second sources (stage s rows [])
+
+and-true : (a : Bool) → a && true ≡ a
+and-true true = refl
+and-true false = refl
+
+both-match : (f g : Members) (d : Row) → matches (both f g) d ≡ (matches f d && matches g d)
+unfolding matches matches_member matches_all
+both-match f g d = and-true (matches f d && (matches g d && true)) ∙ ap (λ b. matches f d && b) (and-true (matches g d))
+
+filter-filter : {X : Type 0} (p q r : X → Bool) → ((x : X) → r x ≡ (p x && q x)) → (xs : List X) → filter q (filter p xs) ≡ filter r xs
+filter-filter p q r h [] = refl
+filter-filter p q r h (x ∷ xs) = both-ways (filter-filter p q r h xs) (p x) refl (q x) refl
+  where
+    both-ways : filter q (filter p xs) ≡ filter r xs → (a : Bool) → p x ≡ a → (b : Bool) → q x ≡ b → filter q (filter p (x ∷ xs)) ≡ filter r (x ∷ xs)
+    both-ways rest false e b f = rw (h x, e) rest
+    both-ways rest true e true f = rw (h x, e, f) (ap (λ l. x ∷ l) rest)
+    both-ways rest true e false f = rw (h x, e, f) rest
+
+pub match_match : (f g : Members) (rows foreign : List Row) → stage (Match g) (stage (Match f) rows foreign) foreign ≡ stage (Match (both f g)) rows foreign
+unfolding stage
+match_match f g rows foreign = filter-filter (matches f) (matches g) (matches (both f g)) (both-match f g) rows
+
+take-take : {X : Type 0} (m n : ℕ) (xs : List X) → take m (take n xs) ≡ take (min m n) xs
+take-take zero n xs = ap (λ k. take k xs) (let e : zero ≡ min zero n = omega arith in e)
+take-take (suc m) zero xs = ap (λ k. take k xs) (let e : zero ≡ min (suc m) zero = omega arith in e)
+take-take (suc m) (suc n) [] = sym (take-nil (min (suc m) (suc n)))
+  where
+    take-nil : {X : Type 0} (k : ℕ) → take {A = X} k [] ≡ []
+    take-nil zero = refl
+    take-nil (suc k) = refl
+take-take (suc m) (suc n) (x ∷ xs) = ap (λ l. x ∷ l) (take-take m n xs) ∙ ap (λ k. take k (x ∷ xs)) (let e : suc (min m n) ≡ min (suc m) (suc n) = omega arith in e)
+
+pub limit_limit : (m n : ℕ) (rows foreign : List Row) → stage (Limit m) (stage (Limit n) rows foreign) foreign ≡ stage (Limit (min m n)) rows foreign
+unfolding stage
+limit_limit m n rows foreign = take-take m n rows
+
+-- the rows of one row, where there is no array
+plain : (u : form.Unwind) (d : Row) (c : Candidate) → u.preserve ≡ false → IsNoArray c → rows_of u d c ≡ (if is_value c then d ∷ [] else [])
+plain u d None e h = rw e refl
+plain u d (Some null) e h = rw e refl
+plain u d (Some (array vs)) e h = absurd h
+plain u d (Some (int32 n)) e h = refl
+plain u d (Some (int64 n)) e h = refl
+plain u d (Some (string s)) e h = refl
+plain u d (Some (document fs)) e h = refl
+plain u d (Some (boolean b)) e h = refl
+plain u d (Some (binary subtype bytes)) e h = refl
+plain u d (Some (object_id id)) e h = refl
+plain u d (Some (date n)) e h = refl
+plain u d (Some (timestamp n)) e h = refl
+plain u d (Some min_key) e h = refl
+plain u d (Some max_key) e h = refl
+
+kept : {X : Type 0} (b : Bool) (x : X) (xs : List X) → (if b then x ∷ [] else []) ++ xs ≡ (if b then x ∷ xs else xs)
+kept true x xs = refl
+kept false x xs = refl
+
+pub unwind_plain : (u : form.Unwind) (rows foreign : List Row) → u.preserve ≡ false → AllByRecursion (HasNoArray u.path) rows → stage (Unwind u) rows foreign ≡ filter (has_value u.path) rows
+unfolding stage unwound
+unwind_plain u [] foreign e all = refl
+unwind_plain u (d ∷ rows) foreign e all =
+    ap (λ l. l ++ flat_map (unwound u) rows) (plain u d (reached u.path d) e all.0) ∙ kept (has_value u.path d) d (flat_map (unwound u) rows) ∙ ap (λ l. if has_value u.path d then d ∷ l else l) (unwind_plain u rows foreign e all.1)

@@ -1,0 +1,53 @@
+-- Rows through stages.
+use Rattle.std.proofs.Common.{◌≡◌, ◌∙◌, ap, sym, refl, List, [], ◌∷◌, ℕ, zero, suc, take, length, Option, Some, None}
+use Rattle.dv_path.specs.SortSpec.{Part}
+use Rattle.dv_sort.specs.Sorting.{stable}
+use Rattle.dv_sort.specs.Front.{Front, no_rows, front_of}
+use Rattle.dv_sort.specs.Sorting.{front}
+use Rattle.dv_pipe.specs.declared.stage.Stage.{Stage}
+use Rattle.dv_pipe.specs.declared.stage.Stage.TheVariants.{Match, Project, Unwind, Sort, Limit}
+use Rattle.dv_pipe.specs.Parts.{wanted}
+use Rattle.dv_pipe.specs.Sources.{Row, Source}
+use Rattle.dv_pipe.specs.Stages.{stage, through}
+
+take-again : {X : Type 0} (n : ℕ) (xs : List X) → take n (take n xs) ≡ take n xs
+take-again zero xs = refl
+take-again (suc n) [] = refl
+take-again (suc n) (x ∷ xs) = ap (λ l. x ∷ l) (take-again n xs)
+
+-- stages see no more of the rows than are wanted
+pub through_front : (later : List Stage) (sources : List Source) (rows : List Row) → through later sources (front (wanted later) rows) ≡ through later sources rows
+unfolding through stage
+through_front [] sources rows = refl
+through_front (Limit n ∷ later) sources rows = ap (through later sources) (take-again n rows)
+through_front (Match form ∷ later) sources rows = refl
+through_front (Project p ∷ later) sources rows = refl
+through_front (Unwind u ∷ later) sources rows = refl
+through_front (Sort parts ∷ later) sources rows = refl
+
+pub through_none : (stages : List Stage) (sources : List Source) (rows : List Row) → length stages ≡ 0 → through stages sources rows ≡ rows
+unfolding through
+through_none [] sources rows e = refl
+through_none (s ∷ ss) sources rows e = absurd cc
+
+-- the rows of a stage, and then of those behind it
+pub through_stage : (s : Stage) (later : List Stage) (rows left : List Row) → left ≡ stage s rows [] → (sources : List Source) → through later sources left ≡ through (s ∷ later) sources rows
+unfolding through
+through_stage s later rows left e sources = ap (through later sources) e
+
+pub through_sort : (s : Stage) (later : List Stage) (parts : List Part) (rows left : List Row) → s ≡ Sort parts → left ≡ front (wanted later) (stable parts rows) → (sources : List Source) → through later sources left ≡ through (s ∷ later) sources rows
+unfolding through stage
+through_sort s later parts rows left is e sources = ap (through later sources) e ∙ through_front later sources (stable parts rows) ∙ ap (λ t. through (t ∷ later) sources rows) (sym is)
+
+abbrev fronted : List Part → Option ℕ → List Row → Front
+fronted parts most rows = record { parts = parts; most = most; rows = rows }
+
+-- the front of nothing
+pub front_nothing : (parts : List Part) (most : Option ℕ) → no_rows parts most ≡ front_of parts most []
+unfolding stable
+front_nothing parts None = refl
+front_nothing parts (Some n) = ap (fronted parts (Some n)) (sym (take-nil n))
+  where
+    take-nil : (n : ℕ) → take n (let none : List Row = [] in none) ≡ []
+    take-nil zero = refl
+    take-nil (suc n) = refl

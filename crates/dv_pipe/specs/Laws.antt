@@ -1,0 +1,27 @@
+-- Words of the laws.
+use Rattle.std.specs.Prelude.{ℕ, Bool, true, false, List, Some, None, ⊤}
+use Rattle.dv_bson.specs.Tree.{array, null}
+use Rattle.dv_path.specs.Candidates.{Candidate}
+use Rattle.dv_match.specs.Filter.{Members, all_of, no_members, more_members, no_filters, more_filters}
+use Rattle.dv_pipe.specs.Sources.{Row}
+use Rattle.dv_pipe.specs.Unwinding.{reached}
+
+-- the filter {$and: [f, g]}
+abbrev pub both : Members → Members → Members
+both f g = more_members (all_of (more_filters f (more_filters g no_filters))) no_members
+
+abbrev pub IsNoArray : Candidate → Type 0
+IsNoArray (Some (array vs)) = ⊥
+IsNoArray c = ⊤
+
+abbrev pub HasNoArray : List (List ℕ) → Row → Type 0
+HasNoArray path d = IsNoArray (reached path d)
+
+-- a value other than null
+abbrev pub is_value : Candidate → Bool
+is_value None = false
+is_value (Some null) = false
+is_value (Some v) = true
+
+abbrev pub has_value : List (List ℕ) → Row → Bool
+has_value path d = is_value (reached path d)

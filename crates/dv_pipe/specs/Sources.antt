@@ -1,0 +1,22 @@
+-- The lists that a pipeline reads: what stands under each namespace.
+use Rattle.std.specs.Prelude.{ℕ, List, [], ◌∷◌, map, if◌then◌else◌}
+use Rattle.std.specs.Str.{bytes_eq}
+use denote.Ref.{Bor}
+use Rattle.dv_bson.specs.Tree.{Field}
+
+-- a row is a document: the list of its fields
+abbrev pub Row : Type 0
+Row = List Field
+
+-- a namespace and its documents
+abbrev pub Source : Type 0
+Source = List ℕ × List Row
+
+-- the documents of a namespace; none where it isn't there
+abbrev pub rows_under : List ℕ → List Source → List Row
+rows_under namespace [] = []
+rows_under namespace (s ∷ ss) = if bytes_eq namespace s.0 then s.1 else rows_under namespace ss
+
+-- the documents behind references
+abbrev pub referred : List (Bor Row) → List Row
+referred = map (λ r. r.now)

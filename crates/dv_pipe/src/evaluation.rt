@@ -1,0 +1,135 @@
+//! Pipelines carried out.
+
+ghost use Rattle.std.specs.Prelude.{◌≡◌, List, [], ◌∷◌, IfOk};
+ghost use Rattle.dv_pipe.specs.Sources.{Source, referred};
+ghost use Rattle.dv_sort.specs.Sorting.{stable, front as first_rows};
+ghost use Rattle.dv_pipe.specs.Parts as parts;
+ghost use Rattle.dv_pipe.specs.Stages as defined;
+
+use crate::pipeline::Pipeline;
+use crate::project::Project;
+use crate::sources::Sources;
+use crate::stage::Stage;
+use crate::unwind::Unwind;
+use dv_bson::{Document, NoMemory};
+use dv_match::Filter;
+use dv_path::SortSpec;
+use dv_sort::{Sorter, laws};
+use std::alloc::Global;
+
+/// The rows of the pipeline over the documents of `source`. A row that a stage passes on as it is shares its memory with
+/// the document. Fails where memory is wanting.
+pub fn evaluate(
+    alloc: Global,
+    pipeline: &Pipeline,
+    source: &str,
+    sources: &Sources<'_>,
+) -> Result<Vec<Document>, NoMemory>
+    ensures { IfOk result (λ rows. rows.items ≡ defined.evaluated pipeline.now source.now sources.now) }
+{
+    let mut rows = copies(alloc, sources.get(source))?;
+    let mut stages = pipeline.stages();
+    'stages: while let Some((stage, later)) = stages.split_first() {
+        rows = through(alloc, stage, later, rows)?;
+        stages = later;
+    }
+    Ok(rows)
+}
+
+/// Copies of the documents, which share their memory.
+fn copies(alloc: Global, documents: &[&Document]) -> Result<Vec<Document>, NoMemory>
+    ensures { IfOk result (λ rows. rows.items ≡ referred documents.now) }
+{
+    let mut rows = Vec::with_capacity(alloc, documents.len())?;
+    'documents: for document in documents {
+        rows.push(document.try_clone()?)?;
+    }
+    Ok(rows)
+}
+
+/// The rows that leave the stage, as far as later ones see them.
+#[tactic(auto, unfolding(crate::specs::Stages::stage, crate::specs::Stages::through))]
+fn through(
+    alloc: Global,
+    stage: &Stage,
+    later: &[Stage],
+    rows: Vec<Document>,
+) -> Result<Vec<Document>, NoMemory>
+    ensures { IfOk result (λ left. (sources : List Source) → defined.through later.now sources left.items ≡ defined.through (stage.now ∷ later.now) sources rows.items) }
+{
+    match stage {
+        Stage::Match(filter) => Ok(matching(filter, rows)),
+        Stage::Project(project) => projected(alloc, project, &rows),
+        Stage::Unwind(unwind) => unwound(alloc, unwind, &rows),
+        Stage::Sort(spec) => sorted(alloc, spec, wanted(later), &rows),
+        Stage::Limit(count) => Ok(front(*count, rows)),
+    }
+}
+
+/// Each row as it is shown.
+fn projected(alloc: Global, project: &Project, rows: &[Document]) -> Result<Vec<Document>, NoMemory>
+    ensures { IfOk result (λ left. left.items ≡ defined.stage (Stage.Project project.now) rows.now []) }
+{
+    let mut left = Vec::with_capacity(alloc, rows.len())?;
+    'rows: for row in rows {
+        left.push(project.row(alloc, row)?)?;
+    }
+    Ok(left)
+}
+
+/// The rows of each row.
+fn unwound(alloc: Global, unwind: &Unwind, rows: &[Document]) -> Result<Vec<Document>, NoMemory>
+    ensures { IfOk result (λ left. left.items ≡ defined.stage (Stage.Unwind unwind.now) rows.now []) }
+{
+    let mut left = Vec::new(alloc);
+    'rows: for row in rows {
+        unwind.push_rows(row, &mut left)?;
+    }
+    Ok(left)
+}
+
+/// The rows that match the filter.
+fn matching(filter: &Filter, rows: Vec<Document>) -> Vec<Document>
+    ensures { result.items ≡ defined.stage (Stage.Match filter.now) rows.items [] }
+{
+    let mut left = rows;
+    left.retain(|row| filter.matches(row));
+    left
+}
+
+/// How many of the first rows the stages see, where there are more.
+fn wanted(stages: &[Stage]) -> Option<usize>
+    ensures { result ≡ parts.wanted stages.now }
+{
+    match stages.first() {
+        Some(Stage::Limit(count)) => Some(*count as usize),
+        _ => None,
+    }
+}
+
+/// The rows in order: the first `most`, or all.
+fn sorted(
+    alloc: Global,
+    spec: &SortSpec,
+    most: Option<usize>,
+    rows: &[Document],
+) -> Result<Vec<Document>, NoMemory>
+    ensures { IfOk result (λ left. left.items ≡ first_rows most (stable spec.now rows.now)) }
+{
+    laws::one_row_more();
+    let mut sorter = Sorter::new(alloc, spec, most);
+    'rows: for row in rows {
+        sorter.push(row.try_clone()?)?;
+    }
+    sorter.into_rows()
+}
+
+/// The first rows, so many at most.
+#[tactic(auto, unfolding(crate::specs::Stages::stage))]
+fn front(count: u64, rows: Vec<Document>) -> Vec<Document>
+    ensures { result.items ≡ defined.stage (Stage.Limit count) rows.items [] }
+{
+    let mut left = rows;
+    left.truncate(count as usize);
+    left
+}

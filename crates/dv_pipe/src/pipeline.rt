@@ -1,0 +1,80 @@
+//! Pipelines as parsed.
+
+ghost use Rattle.std.specs.Prelude.{◌≡◌, ◌≤◌, length, map, IfOk};
+ghost use Rattle.dv_bson.specs.View.{tree};
+ghost use Rattle.dv_pipe.specs.Parsing.{Gives, each};
+ghost use Rattle.dv_pipe.specs.StageParsing.{stage_of, pipeline_of};
+
+use crate::fault::PipelineFault;
+use crate::stage::Stage;
+use dv_bson::{NoMemory, Value};
+use std::alloc::Global;
+use std::marker::Model;
+
+/// How many stages a pipeline has at most.
+const MOST_STAGES: usize = 16;
+
+/// Stages, through which rows go one after the other.
+#[derive(Debug, Drop)]
+pub struct Pipeline {
+    stages: Vec<Stage>,
+}
+
+impl Model for Pipeline {
+    ghost use Rattle.std.specs.Prelude.{List};
+    ghost use Rattle.dv_pipe.specs.declared.stage.Stage.{Stage};
+
+    ghost Value = { List Stage };
+
+    ghost use Rattle.std.specs.Coded.{codes};
+    ghost use Rattle.dv_match.specs.contracts.form.Filter as filters;
+    ghost use Rattle.dv_pipe.specs.contracts.expr.Computed as computed;
+
+    ghost coded = { Prim.hlevel (codes, filters.the_row.coded, computed.the_row.coded) };
+
+    ghost view = { λ p. p.stages.items };
+}
+
+impl Pipeline {
+    /// The pipeline of the documents, each of which is a stage, or its first fault in written order: `TooMany` is that of
+    /// a seventeenth stage. Fails with `NoMemory` where memory is wanting.
+    pub fn parse(alloc: Global, list: &[Value]) -> Result<Pipeline, PipelineFault>
+        ensures { Gives (λ pipeline. pipeline) result (pipeline_of (map tree list.now)) }
+    {
+        if list.len() > MOST_STAGES {
+            each_stage(alloc, &list[..MOST_STAGES])?;
+            return Err(PipelineFault::TooMany);
+        }
+        let stages = each_stage(alloc, list)?;
+        Ok(Pipeline { stages })
+    }
+
+    /// The stages in written order. Takes no memory.
+    pub fn stages(&self) -> &[Stage]
+        ensures { result.now ≡ self.now }
+    {
+        self.stages.as_slice()
+    }
+
+    /// A copy of its own. Fails where memory is wanting.
+    pub fn try_clone(&self) -> Result<Self, NoMemory>
+        ensures { IfOk result (λ copy. copy ≡ self.now) }
+    {
+        let mut stages = Vec::with_capacity(*self.stages.allocator(), self.stages.len())?;
+        for stage in &self.stages {
+            stages.push(stage.try_clone()?)?;
+        }
+        Ok(Pipeline { stages })
+    }
+}
+
+/// The stages that the values are.
+fn each_stage(alloc: Global, list: &[Value]) -> Result<Vec<Stage>, PipelineFault>
+    ensures { Gives (λ stages. stages.items) result (each stage_of (map tree list.now)) }
+{
+    let mut stages = Vec::new(alloc);
+    'stages: for value in list {
+        stages.push(Stage::parse(alloc, value)?)?;
+    }
+    Ok(stages)
+}

@@ -1,0 +1,120 @@
+//! Stages.
+
+ghost use Rattle.std.specs.Prelude.{◌≡◌, IfOk};
+ghost use Rattle.dv_bson.specs.View.{tree};
+ghost use Rattle.dv_pipe.specs.Parsing as defined;
+ghost use Rattle.dv_pipe.specs.Parsing.{Gives};
+ghost use Rattle.dv_pipe.specs.StageParsing as stages;
+
+use crate::fault::PipelineFault;
+use crate::project::Project;
+use crate::unwind::Unwind;
+use dv_bson::{NoMemory, Value};
+use dv_match::Filter;
+use dv_path::SortSpec;
+use std::alloc::Global;
+
+/// What makes other rows of rows.
+#[derive(Debug, Drop)]
+pub enum Stage {
+    /// `$match`: the rows that match the filter.
+    Match(Filter),
+    /// `$project`: each row as it is shown.
+    Project(Project),
+    /// `$unwind`: a row for each element of an array.
+    Unwind(Unwind),
+    /// `$sort`: the rows in order.
+    Sort(SortSpec),
+    /// `$limit`: the first rows, so many at most.
+    Limit(u64),
+}
+
+impl Stage {
+    /// The stage that the value is, a document of one name, or its first fault in written order.
+    pub(crate) fn parse(alloc: Global, value: &Value) -> Result<Stage, PipelineFault>
+        ensures { Gives (λ stage. stage) result (stages.stage_of (tree value.now)) }
+    {
+        let Value::Doc(document) = value else {
+            return Err(PipelineFault::BadSpec);
+        };
+        if document.len() != 1 {
+            return Err(PipelineFault::BadSpec);
+        }
+        let Some((name, operand)) = document.entry(0) else {
+            return Err(PipelineFault::BadSpec);
+        };
+        stage_named(alloc, name, operand)
+    }
+
+    /// A copy of its own. Fails where memory is wanting.
+    pub fn try_clone(&self) -> Result<Self, NoMemory>
+        ensures { IfOk result (λ copy. copy ≡ self.now) }
+    {
+        match self {
+            Stage::Match(filter) => Ok(Stage::Match(filter.try_clone()?)),
+            Stage::Project(project) => Ok(Stage::Project(project.try_clone()?)),
+            Stage::Unwind(unwind) => Ok(Stage::Unwind(unwind.try_clone()?)),
+            Stage::Sort(spec) => Ok(Stage::Sort(spec.try_clone()?)),
+            Stage::Limit(count) => Ok(Stage::Limit(*count)),
+        }
+    }
+}
+
+/// The stage of this name.
+#[tactic(auto, unfolding(crate::specs::StageParsing::stage_named))]
+fn stage_named(alloc: Global, name: &str, operand: &Value) -> Result<Stage, PipelineFault>
+    ensures { Gives (λ stage. stage) result (stages.stage_named name.now (tree operand.now)) }
+{
+    match name {
+        "$match" => Ok(Stage::Match(filter_of(alloc, operand)?)),
+        "$project" => Ok(Stage::Project(Project::parse(alloc, operand)?)),
+        "$unwind" => Ok(Stage::Unwind(Unwind::parse(alloc, operand)?)),
+        "$sort" => Ok(Stage::Sort(sort_of(alloc, operand)?)),
+        "$limit" => Ok(Stage::Limit(count_of(operand)?)),
+        _ => Err(PipelineFault::UnknownStage),
+    }
+}
+
+/// The filter that the value is.
+fn filter_of(alloc: Global, value: &Value) -> Result<Filter, PipelineFault>
+    ensures { Gives (λ filter. filter) result (defined.filter_form (tree value.now)) }
+{
+    match value {
+        Value::Doc(document) => Ok(Filter::parse(alloc, document)?),
+        _ => Err(PipelineFault::BadSpec),
+    }
+}
+
+/// The sort that the value is.
+fn sort_of(alloc: Global, value: &Value) -> Result<SortSpec, PipelineFault>
+    ensures { Gives (λ spec. spec) result (defined.sort_in (tree value.now)) }
+{
+    let Value::Doc(document) = value else {
+        return Err(PipelineFault::BadSpec);
+    };
+    match SortSpec::parse(alloc, document)? {
+        Some(spec) => Ok(spec),
+        None => Err(PipelineFault::BadSpec),
+    }
+}
+
+/// A number from 1.
+fn count_of(value: &Value) -> Result<u64, PipelineFault>
+    ensures { result ≡ defined.count_in (tree value.now) }
+{
+    match value {
+        Value::Int32(number) => from_one(i64::from(*number)),
+        Value::Int64(number) => from_one(*number),
+        _ => Err(PipelineFault::BadSpec),
+    }
+}
+
+fn from_one(number: i64) -> Result<u64, PipelineFault>
+    ensures { result ≡ defined.from_one number }
+{
+    if number < 1 {
+        Err(PipelineFault::BadSpec)
+    } else {
+        Ok(number as u64)
+    }
+}
