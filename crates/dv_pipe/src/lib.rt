@@ -25,6 +25,3 @@ pub use project::Project;
 pub use sources::Sources;
 pub use stage::Stage;
 pub use unwind::Unwind;
-
-#[cfg(test)]
-mod tests;

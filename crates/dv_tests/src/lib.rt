@@ -13,6 +13,8 @@ mod order;
 #[cfg(test)]
 mod paths;
 #[cfg(test)]
+mod pipelines;
+#[cfg(test)]
 mod sample;
 #[cfg(test)]
 mod sorts;

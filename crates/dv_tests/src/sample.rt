@@ -62,6 +62,15 @@ pub(crate) fn value_of(alloc: Global, sample: &Sample) -> Result<Value, Fail> {
     })
 }
 
+/// The values that are written so.
+pub(crate) fn values_of(alloc: Global, samples: &[Sample]) -> Result<Vec<Value>, Fail> {
+    let mut values = Vec::new(alloc);
+    for sample in samples {
+        values.push(value_of(alloc, sample)?)?;
+    }
+    Ok(values)
+}
+
 /// The document that is written so.
 pub(crate) fn document_in(alloc: Global, sample: &Sample) -> Result<Document, Fail> {
     match value_of(alloc, sample)? {

@@ -1,119 +1,80 @@
-use super::*;
+//! Pipelines in use.
+
+use crate::sample::Sample::{Array, Bool, Doc, Int32, Null, Text};
+use crate::sample::{Sample, document_of, value_of, values_of};
 use dv_bson::{Document, List, Str, Value};
 use dv_order::compare;
 use dv_path::Path;
+use dv_pipe::{Computed, ComputedField, Expr, Pipeline, PipelineFault, Sources, evaluate};
 use std::alloc::Global;
 use std::process::Abort;
 use std::test::*;
 
-/// A value as the tables write it: a document by its names and their values.
-enum Sample {
-    Int(i32),
-    Bool(bool),
-    Null,
-    Text(&'static str),
-    Doc(&'static [&'static str], &'static [Sample]),
-    Array(&'static [Sample]),
-}
-
-use Sample::{Array, Bool, Doc, Int, Null, Text};
-
-#[cycle(sample)]
-fn value_of(alloc: Global, sample: &Sample) -> Result<Value, Fail> {
-    Ok(match sample {
-        Int(number) => Value::Int32(*number),
-        Bool(truth) => Value::Bool(*truth),
-        Null => Value::Null,
-        Text(text) => Value::Text(Str::of(String::from_str(alloc, text)?)),
-        Doc(names, samples) => Value::Doc(document_of(alloc, names, samples)?),
-        Array(samples) => Value::Array(List::of(values_of(alloc, samples)?)),
-    })
-}
-
-#[cycle(sample)]
-fn document_of(alloc: Global, names: &[&str], samples: &[Sample]) -> Result<Document, Fail> {
-    let mut document = Document::new(alloc);
-    for (name, sample) in names.iter().zip(samples) {
-        let pushed = document.push(name, value_of(alloc, sample)?);
-        pushed.ok().ok_or("each name stands once")?;
-    }
-    Ok(document)
-}
-
-#[cycle(sample)]
-fn values_of(alloc: Global, samples: &[Sample]) -> Result<Vec<Value>, Fail> {
-    let mut values = Vec::new(alloc);
-    for sample in samples {
-        values.push(value_of(alloc, sample)?)?;
-    }
-    Ok(values)
-}
-
 /// Stages, the rows that enter them, and those that leave, or why there is no pipeline.
 struct Case(
-    &'static [Sample],
-    &'static [Sample],
-    Result<&'static [Sample], PipelineFault>,
+    &'static [Sample<'static>],
+    &'static [Sample<'static>],
+    Result<&'static [Sample<'static>], PipelineFault>,
 );
 
-const ORDERED: [Sample; 4] = [
-    Doc(&["_id", "a"], &[Int(1), Int(1)]),
-    Doc(&["_id", "a"], &[Int(2), Int(2)]),
-    Doc(&["_id", "a"], &[Int(3), Int(2)]),
-    Doc(&["_id", "a"], &[Int(4), Int(3)]),
+const ORDERED: [Sample<'static>; 4] = [
+    Doc(&["_id", "a"], &[Int32(1), Int32(1)]),
+    Doc(&["_id", "a"], &[Int32(2), Int32(2)]),
+    Doc(&["_id", "a"], &[Int32(3), Int32(2)]),
+    Doc(&["_id", "a"], &[Int32(4), Int32(3)]),
 ];
 
-const ARRAYS: [Sample; 5] = [
-    Doc(&["_id", "a"], &[Int(1), Array(&[])]),
-    Doc(&["_id", "a"], &[Int(2), Null]),
-    Doc(&["_id", "a"], &[Int(3), Int(5)]),
-    Doc(&["_id", "a"], &[Int(4), Array(&[Int(1), Int(2)])]),
-    Doc(&["_id"], &[Int(5)]),
+const ARRAYS: [Sample<'static>; 5] = [
+    Doc(&["_id", "a"], &[Int32(1), Array(&[])]),
+    Doc(&["_id", "a"], &[Int32(2), Null]),
+    Doc(&["_id", "a"], &[Int32(3), Int32(5)]),
+    Doc(&["_id", "a"], &[Int32(4), Array(&[Int32(1), Int32(2)])]),
+    Doc(&["_id"], &[Int32(5)]),
 ];
 
-const NESTED: Sample = Doc(
+const NESTED: Sample<'static> = Doc(
     &["_id", "a", "d"],
     &[
-        Int(1),
+        Int32(1),
         Array(&[
-            Doc(&["b", "c"], &[Int(1), Int(2)]),
-            Int(7),
-            Array(&[Doc(&["b"], &[Int(3)])]),
+            Doc(&["b", "c"], &[Int32(1), Int32(2)]),
+            Int32(7),
+            Array(&[Doc(&["b"], &[Int32(3)])]),
         ]),
-        Int(1),
+        Int32(1),
     ],
 );
 
-const LIMIT: Sample = Doc(&["$limit"], &[Int(2)]);
+const LIMIT: Sample<'static> = Doc(&["$limit"], &[Int32(2)]);
 
 const CASES: [Case; 22] = [
     Case(
-        &[Doc(&["$sort"], &[Doc(&["a"], &[Int(1)])]), LIMIT],
+        &[Doc(&["$sort"], &[Doc(&["a"], &[Int32(1)])]), LIMIT],
         &ORDERED,
         Ok(&[
-            Doc(&["_id", "a"], &[Int(1), Int(1)]),
-            Doc(&["_id", "a"], &[Int(2), Int(2)]),
+            Doc(&["_id", "a"], &[Int32(1), Int32(1)]),
+            Doc(&["_id", "a"], &[Int32(2), Int32(2)]),
         ]),
     ),
     Case(
         &[
-            Doc(&["$match"], &[Doc(&["_id"], &[Doc(&["$ne"], &[Int(1)])])]),
-            Doc(&["$sort"], &[Doc(&["a"], &[Int(1)])]),
+            Doc(&["$match"], &[Doc(&["_id"], &[Doc(&["$ne"], &[Int32(1)])])]),
+            Doc(&["$sort"], &[Doc(&["a"], &[Int32(1)])]),
             LIMIT,
         ],
         &ORDERED,
         Ok(&[
-            Doc(&["_id", "a"], &[Int(2), Int(2)]),
-            Doc(&["_id", "a"], &[Int(3), Int(2)]),
+            Doc(&["_id", "a"], &[Int32(2), Int32(2)]),
+            Doc(&["_id", "a"], &[Int32(3), Int32(2)]),
         ]),
     ),
     Case(
         &[Doc(&["$unwind"], &[Text("$a")])],
         &ARRAYS,
         Ok(&[
-            Doc(&["_id", "a"], &[Int(3), Int(5)]),
-            Doc(&["_id", "a"], &[Int(4), Int(1)]),
-            Doc(&["_id", "a"], &[Int(4), Int(2)]),
+            Doc(&["_id", "a"], &[Int32(3), Int32(5)]),
+            Doc(&["_id", "a"], &[Int32(4), Int32(1)]),
+            Doc(&["_id", "a"], &[Int32(4), Int32(2)]),
         ]),
     ),
     Case(
@@ -126,54 +87,57 @@ const CASES: [Case; 22] = [
         )],
         &ARRAYS,
         Ok(&[
-            Doc(&["_id"], &[Int(1)]),
-            Doc(&["_id", "a"], &[Int(2), Null]),
-            Doc(&["_id", "a"], &[Int(3), Int(5)]),
-            Doc(&["_id", "a"], &[Int(4), Int(1)]),
-            Doc(&["_id", "a"], &[Int(4), Int(2)]),
-            Doc(&["_id"], &[Int(5)]),
+            Doc(&["_id"], &[Int32(1)]),
+            Doc(&["_id", "a"], &[Int32(2), Null]),
+            Doc(&["_id", "a"], &[Int32(3), Int32(5)]),
+            Doc(&["_id", "a"], &[Int32(4), Int32(1)]),
+            Doc(&["_id", "a"], &[Int32(4), Int32(2)]),
+            Doc(&["_id"], &[Int32(5)]),
         ]),
     ),
     Case(
         &[Doc(&["$unwind"], &[Text("$a.b")])],
-        &[Doc(&["a"], &[Doc(&["b"], &[Array(&[Int(1), Int(2)])])])],
+        &[Doc(&["a"], &[Doc(&["b"], &[Array(&[Int32(1), Int32(2)])])])],
         Ok(&[
-            Doc(&["a"], &[Doc(&["b"], &[Int(1)])]),
-            Doc(&["a"], &[Doc(&["b"], &[Int(2)])]),
+            Doc(&["a"], &[Doc(&["b"], &[Int32(1)])]),
+            Doc(&["a"], &[Doc(&["b"], &[Int32(2)])]),
         ]),
     ),
     Case(&[], &ORDERED, Ok(&ORDERED)),
     Case(
         &[Doc(
             &["$project"],
-            &[Doc(&["a.b", "e"], &[Int(1), Text("$a.b")])],
+            &[Doc(&["a.b", "e"], &[Int32(1), Text("$a.b")])],
         )],
         &[NESTED],
         Ok(&[Doc(
             &["_id", "a", "e"],
             &[
-                Int(1),
-                Array(&[Doc(&["b"], &[Int(1)]), Array(&[Doc(&["b"], &[Int(3)])])]),
-                Array(&[Int(1)]),
+                Int32(1),
+                Array(&[Doc(&["b"], &[Int32(1)]), Array(&[Doc(&["b"], &[Int32(3)])])]),
+                Array(&[Int32(1)]),
             ],
         )]),
     ),
     Case(
         &[Doc(
             &["$project"],
-            &[Doc(&["_id", "a.b"], &[Int(0), Bool(true)])],
+            &[Doc(&["_id", "a.b"], &[Int32(0), Bool(true)])],
         )],
-        &[Doc(&["_id", "a"], &[Int(1), Doc(&["c"], &[Int(1)])])],
+        &[Doc(&["_id", "a"], &[Int32(1), Doc(&["c"], &[Int32(1)])])],
         Ok(&[Doc(&["a"], &[Doc(&[], &[])])]),
     ),
     Case(
-        &[Doc(&["$project"], &[Doc(&["a.b", "d"], &[Int(0), Bool(false)])])],
+        &[Doc(
+            &["$project"],
+            &[Doc(&["a.b", "d"], &[Int32(0), Bool(false)])],
+        )],
         &[NESTED],
         Ok(&[Doc(
             &["_id", "a"],
             &[
-                Int(1),
-                Array(&[Doc(&["c"], &[Int(2)]), Int(7), Array(&[Doc(&[], &[])])]),
+                Int32(1),
+                Array(&[Doc(&["c"], &[Int32(2)]), Int32(7), Array(&[Doc(&[], &[])])]),
             ],
         )]),
     ),
@@ -183,15 +147,15 @@ const CASES: [Case; 22] = [
             &[Doc(
                 &["x", "d"],
                 &[
-                    Doc(&["y", "z"], &[Doc(&["$literal"], &[Int(2)]), Text("$n")]),
-                    Int(1),
+                    Doc(&["y", "z"], &[Doc(&["$literal"], &[Int32(2)]), Text("$n")]),
+                    Int32(1),
                 ],
             )],
         )],
         &[NESTED],
         Ok(&[Doc(
             &["_id", "d", "x"],
-            &[Int(1), Int(1), Doc(&["y"], &[Int(2)])],
+            &[Int32(1), Int32(1), Doc(&["y"], &[Int32(2)])],
         )]),
     ),
     Case(
@@ -200,41 +164,44 @@ const CASES: [Case; 22] = [
         Err(PipelineFault::BadSpec),
     ),
     Case(
-        &[Doc(&["$project"], &[Doc(&["a", "b"], &[Int(1), Int(0)])])],
+        &[Doc(&["$project"], &[Doc(&["a", "b"], &[Int32(1), Int32(0)])])],
         &[],
         Err(PipelineFault::BadSpec),
     ),
     Case(
-        &[Doc(&["$project"], &[Doc(&["a"], &[Doc(&["b"], &[Int(1)])])])],
+        &[Doc(&["$project"], &[Doc(&["a"], &[Doc(&["b"], &[Int32(1)])])])],
         &[],
         Err(PipelineFault::BadSpec),
     ),
     Case(
-        &[Doc(&["$project"], &[Doc(&["_id.x"], &[Int(1)])])],
+        &[Doc(&["$project"], &[Doc(&["_id.x"], &[Int32(1)])])],
         &[],
         Err(PipelineFault::BadSpec),
     ),
     Case(
         &[Doc(
             &["$project"],
-            &[Doc(&["a", "a.b", "c"], &[Int(1), Int(1), Int(0)])],
+            &[Doc(&["a", "a.b", "c"], &[Int32(1), Int32(1), Int32(0)])],
         )],
         &[],
         Err(PipelineFault::Conflict),
     ),
     Case(
-        &[Doc(&["$project"], &[Doc(&["a.b", "a"], &[Int(1), Text("$$x")])])],
+        &[Doc(
+            &["$project"],
+            &[Doc(&["a.b", "a"], &[Int32(1), Text("$$x")])],
+        )],
         &[],
         Err(PipelineFault::BadSpec),
     ),
     Case(
-        &[LIMIT, Doc(&["$x"], &[Int(1)])],
+        &[LIMIT, Doc(&["$x"], &[Int32(1)])],
         &[],
         Err(PipelineFault::UnknownStage),
     ),
-    Case(&[LIMIT, Int(1)], &[], Err(PipelineFault::BadSpec)),
+    Case(&[LIMIT, Int32(1)], &[], Err(PipelineFault::BadSpec)),
     Case(
-        &[Doc(&["$limit"], &[Int(0)])],
+        &[Doc(&["$limit"], &[Int32(0)])],
         &[],
         Err(PipelineFault::BadSpec),
     ),
@@ -244,7 +211,7 @@ const CASES: [Case; 22] = [
         Err(PipelineFault::BadSpec),
     ),
     Case(
-        &[Doc(&["$match"], &[Doc(&["$x"], &[Int(1)])]), Int(1)],
+        &[Doc(&["$match"], &[Doc(&["$x"], &[Int32(1)])]), Int32(1)],
         &[],
         Err(PipelineFault::Filter),
     ),
@@ -326,12 +293,12 @@ fn a_namespace_that_is_not_there_is_empty(rt: HostRuntime) -> Result<(), Fail> {
     Ok(())
 }
 
-const MADE: Sample = Doc(&["x"], &[Int(1)]);
+const MADE: Sample<'static> = Doc(&["x"], &[Int32(1)]);
 
 #[test]
 fn a_document_of_expressions_leaves_out_what_is_missing(rt: HostRuntime) -> Result<(), Fail> {
     let alloc = rt.alloc();
-    let row = document_of(alloc, &["a"], &[Int(1)])?;
+    let row = document_of(alloc, &["a"], &[Int32(1)])?;
     let mut fields = Vec::new(alloc);
     for (name, path) in [("x", "a"), ("y", "b")] {
         let expr = Expr::Path(Path::parse(alloc, path).ok().ok_or("a path")?);
