@@ -1,6 +1,6 @@
 -- The keys that a fold over candidates gathers are those of the leaves.
-use Rattle.std.proofs.Common.{Bor, ◌≡◌, List, [], ◌∷◌, map, Some, refl, ap, sym, ◌∙◌, Bool, true, false, cond, ◌||◌, Result, Ok, ℕ, ◌≤◌, length, take, take_all}
-use Rattle.std.specs.List.{list_any, flat_map, FoldsTo}
+use Rattle.std.proofs.Common.{Bor, ◌≡◌, List, [], ◌∷◌, map, Some, refl, ap, sym, ◌∙◌, Bool, true, cond, ◌||◌, Result, Ok, ℕ, ◌≤◌, length, take, take_all}
+use Rattle.std.specs.List.{list_any, FoldsTo}
 use Rattle.std.specs.BTreeSet.{BTreeSet, contains}
 use Rattle.std.specs.Ordering.{is_eq}
 use Rattle.dv_bson.specs.declared.value.Value.{Value}

@@ -56,10 +56,7 @@ pub fn keys_of(alloc: Global, path: &Path, document: &Document) -> Result<Keys, 
 }
 
 /// The keys with those of a candidate, and of its elements where it is an array.
-fn with_leaves(
-    mut keys: BTreeSet<Key>,
-    candidate: Candidate<'_>,
-) -> Result<BTreeSet<Key>, NoMemory>
+fn with_leaves(mut keys: BTreeSet<Key>, candidate: Candidate<'_>) -> Result<BTreeSet<Key>, NoMemory>
     ensures { IfOk result (λ new. (k : KeyTree) → contains key_order new k ≡ (contains key_order keys k || is_some_key k (with_elements (seen candidate.entry)))) }
 {
     let Candidate::Found(value) = candidate else {

@@ -2,5 +2,7 @@
 #![tactic(auto)]
 
 mod keys;
+mod multi_index;
 
 pub use keys::{Keys, keys_of};
+pub use multi_index::MultiIndex;

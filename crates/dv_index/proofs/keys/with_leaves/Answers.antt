@@ -1,7 +1,6 @@
 use Rattle.std.proofs.Common.{◌∙◌, ◌||◌, ap}
 use Rattle.std.specs.BTreeSet.{contains}
 use Rattle.dv_order.specs.Key.{key_order}
-use Rattle.dv_path.specs.View.{seen}
 use Rattle.dv_index.specs.Keys.{is_some_key}
 use Rattle.dv_index.proofs.Leaves.{with-list, without-list}
 use Rattle.std.proofs.Common.{map, Some}
