@@ -1,0 +1,4 @@
+pub mod Lists
+pub mod Leaves
+pub mod Several
+pub mod Chosen

@@ -1,0 +1,6 @@
+pub mod Keys
+pub mod Pairs
+pub mod PairLaws
+pub mod Index
+pub mod Choice
+pub mod View

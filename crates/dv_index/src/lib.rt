@@ -1,0 +1,12 @@
+//! Indexes of BSON documents by what a path leads to.
+#![tactic(auto)]
+
+mod indexes;
+mod keys;
+mod multi_index;
+mod plan;
+
+pub use indexes::{Index, Indexes};
+pub use keys::{Keys, keys_of};
+pub use multi_index::MultiIndex;
+pub use plan::{Bounds, Plan, Planner};
