@@ -2,3 +2,4 @@ pub mod Lists
 pub mod Leaves
 pub mod Several
 pub mod Chosen
+pub mod Picked

@@ -5,6 +5,7 @@ mod indexes;
 mod keys;
 mod multi_index;
 mod plan;
+mod search;
 
 pub use indexes::{Index, Indexes};
 pub use keys::{Keys, keys_of};
