@@ -1,15 +1,19 @@
 -- What a plan finds, said of the documents alone: which of them an index has in its bounds, and that an index has the keys of
 -- its documents and of no others.
-use Rattle.std.specs.Prelude.{◌≡◌, ℕ, ◌&&◌, Bool, true, false, List, length, Option, None, Some}
-use Rattle.std.specs.List.{list_any, count_by, slice_get, AllByRecursion}
-use Rattle.std.specs.Ordering.{is_eq}
-use Rattle.dv_bson.specs.Tree.{Tree, Field}
-use Rattle.dv_order.specs.Key.{KeyTree, key_order}
+use Rattle.std.specs.Prelude.{◌≡◌, ℕ, ◌&&◌, Bool, false, List, length, Option, None, Some}
+use Rattle.std.specs.List.{list_any, count_by, slice_get}
+use Rattle.std.specs.declared.cmp.Ordering.{Ordering}
+use Rattle.std.specs.Ordering.{is_eq, is_gt, is_ge, is_lt, is_le}
+use Rattle.dv_match.specs.declared.range.Range.{Range}
+use Rattle.dv_match.specs.declared.range.Range.TheVariants.{Above, AtLeast, Below, AtMost}
+use Rattle.dv_bson.specs.Tree.{Field}
+use Rattle.dv_order.specs.Order.{canon}
+use Rattle.dv_order.specs.Key.{KeyTree, value, key_order}
 use Rattle.dv_path.specs.Candidates.{Candidate, leaves}
 use Rattle.dv_match.specs.Filter.{Condition, equal, among, in_range}
 use Rattle.dv_match.specs.Match.{is_equal, is_among, is_in_range}
 use Rattle.dv_coll.specs.Collection.{id_key}
-use Rattle.dv_index.specs.Keys.{is_leaf_key}
+use Rattle.dv_index.specs.Keys.{is_key_of, is_leaf_key}
 use Rattle.dv_index.specs.Pairs.{has_pair}
 use Rattle.dv_index.specs.Index.{IndexTree}
 
@@ -23,6 +27,20 @@ is_within condition c = false
 -- whether a document has a leaf in the bounds
 unfoldable pub has_within : Condition → List (List ℕ) → List Field → Bool
 has_within bounds path d = list_any (is_within bounds) (leaves d path)
+
+-- how a key has to stand to a bound
+abbrev pub stands_so : Range → Ordering → Bool
+stands_so Above o = is_gt o
+stands_so AtLeast o = is_ge o
+stands_so Below o = is_lt o
+stands_so AtMost o = is_le o
+
+-- the same of a key, of whatever class it is
+abbrev pub covers : Condition → KeyTree → Bool
+covers (equal v) k = is_key_of v k
+covers (among vs) k = list_any (λ v. is_key_of v k) vs
+covers (in_range r v) k = stands_so r (key_order k (value (canon v)))
+covers condition k = false
 
 -- whether the document with an `_id` has a key
 abbrev pub some_has : KeyTree → KeyTree → List (List ℕ) → List (List Field) → Bool
