@@ -1,5 +1,5 @@
 -- Tests of lists, and of keys, which compare equal either way round.
-use Rattle.std.proofs.Common.{◌≡◌, ℕ, zero, suc, ◌+◌, ◌<◌, List, [], ◌∷◌, length, map, take, get_or, refl, ap, sym, ◌∙◌, arith, Bool, true, false, cond, ◌||◌, add-one}
+use Rattle.std.proofs.Common.{Bor, filter, ◌≡◌, ℕ, zero, suc, ◌+◌, ◌<◌, List, [], ◌∷◌, length, map, take, get_or, refl, ap, sym, ◌∙◌, arith, Bool, true, false, cond, ◌||◌, add-one}
 use Rattle.std.specs.List.{list_any, flat_map}
 use Rattle.std.specs.Cmp.{eq_by_cmp_equiv}
 use Rattle.std.specs.Ordering.{is_eq}
@@ -45,3 +45,16 @@ any-flat_map test f (x ∷ xs) = list_any-append test (f x) (flat_map f xs) ∙ 
 -- whether keys are equal, either way round
 pub equal-back : (k l : KeyTree) → is_eq (key_order k l) ≡ is_eq (key_order l k)
 equal-back k l = (eq_by_cmp_equiv key_order_total).symm k l
+
+-- what is kept of lent items is kept of what they are
+pub map-kept : {X : Type 0} (p : X → Bool) (xs : List (Bor X)) → map (λ (x : Bor X). x.now) (filter (λ (x : Bor X). p x.now) xs) ≡ filter p (map (λ (x : Bor X). x.now) xs)
+map-kept {X = X} p [] = refl
+map-kept {X = X} p (x ∷ xs) = at (p x.now) (map-kept p xs)
+  where
+    at : (b : Bool) → map (λ (y : Bor X). y.now) (filter (λ (y : Bor X). p y.now) xs) ≡ filter p (map (λ (y : Bor X). y.now) xs) → map (λ (y : Bor X). y.now) (cond b (x ∷ filter (λ (y : Bor X). p y.now) xs) (filter (λ (y : Bor X). p y.now) xs)) ≡ cond b (x.now ∷ filter p (map (λ (y : Bor X). y.now) xs)) (filter p (map (λ (y : Bor X). y.now) xs))
+    at true e = ap (λ ys. x.now ∷ ys) e
+    at false e = e
+
+pub length-lent : {X : Type 0} (xs : List (Bor X)) → length (map (λ (x : Bor X). x.now) xs) ≡ length xs
+length-lent [] = refl
+length-lent (x ∷ xs) = ap suc (length-lent xs)

@@ -4,3 +4,4 @@ pub mod PairLaws
 pub mod Index
 pub mod Choice
 pub mod View
+pub mod Search

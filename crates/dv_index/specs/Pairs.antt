@@ -15,3 +15,7 @@ pair_order p q = ordering_then (key_order p.0 q.0) (key_order p.1 q.1)
 -- whether a set, as its list of pairs, has the pair of a key and an `_id`
 abbrev pub has_pair : KeyTree → KeyTree → List Pair → Bool
 has_pair k id ps = list_any (λ p. is_eq (pair_order (k, id) p)) ps
+
+-- whether some of these pairs have an `_id`
+abbrev pub has_id : KeyTree → List Pair → Bool
+has_id id ps = list_any (λ p. is_eq (key_order id p.1)) ps

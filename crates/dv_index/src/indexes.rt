@@ -1,6 +1,7 @@
 //! The indexes of a collection.
 
-ghost use Rattle.std.specs.Prelude.{◌≡◌};
+ghost use Rattle.std.specs.Prelude.{◌≡◌, slice_get};
+ghost use Rattle.std.specs.Option.{option_copied};
 
 use crate::multi_index::MultiIndex;
 use dv_bson::Str;
@@ -79,6 +80,13 @@ impl Indexes {
         ensures { result ≡ indexes.items }
     {
         Indexes { indexes }
+    }
+
+    /// The index at a place in creation order, counted from 0, where there is one.
+    pub fn get(&self, place: usize) -> Option<&Index>
+        ensures { option_copied result ≡ slice_get self.now place }
+    {
+        self.indexes.as_slice().get(place)
     }
 
     /// The indexes in creation order.

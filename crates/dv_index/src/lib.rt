@@ -1,12 +1,16 @@
 //! Indexes of BSON documents by what a path leads to.
 #![tactic(auto)]
 
+mod coverage;
 mod indexes;
 mod keys;
 mod multi_index;
 mod plan;
+mod search;
 
+pub use coverage::covered;
 pub use indexes::{Index, Indexes};
 pub use keys::{Keys, keys_of};
 pub use multi_index::MultiIndex;
 pub use plan::{Bounds, Plan, Planner};
+pub use search::run;

@@ -4,7 +4,10 @@ ghost use Rattle.std.specs.Prelude.{◌≡◌, ◌||◌, ◌&&◌, not, [], map,
 ghost use Rattle.std.specs.Ordering.{is_eq};
 ghost use Rattle.dv_order.specs.Key.{KeyTree, key_order};
 ghost use Rattle.dv_index.specs.Keys.{has_key};
-ghost use Rattle.dv_index.specs.Pairs.{has_pair};
+ghost use Rattle.dv_index.specs.Pairs.{has_id, has_pair, pair_order};
+ghost use Rattle.std.specs.BTreeMap.Range.{IsLeBy, IsLtBy, range_contains};
+ghost use Rattle.std.specs.BTreeSet.{contains};
+ghost use Rattle.std.specs.Range.Bound.{IsForward};
 
 use crate::keys::Keys;
 use dv_bson::NoMemory;
@@ -14,6 +17,7 @@ use std::cmp::Ordering;
 use std::collections::BTreeSet;
 use std::collections::btree_map::Comparable;
 use std::marker::Model;
+use std::ops::Bound;
 
 /// A set of pairs: a key, and the key of the `_id` of a document that has it.
 #[derive(Debug, Drop)]
@@ -91,6 +95,22 @@ impl MultiIndex {
         for key in keys.as_set().iter() {
             self.take_out_pair(key, id);
         }
+    }
+
+    /// Adds to a set the `_id`s' keys of the pairs between two bounds. Where memory is wanting, some of them are added.
+    pub(crate) fn add_ids_between(
+        &self,
+        low: Bound<(Key, Key)>,
+        high: Bound<(Key, Key)>,
+        ids: &mut BTreeSet<Key>,
+    ) -> Result<(), NoMemory>
+        requires { IsForward (IsLeBy pair_order) (IsLtBy pair_order) low high }
+        ensures { OnOk result ((i : KeyTree) → contains key_order ids.new i ≡ (contains key_order ids.old i || has_id i (filter (range_contains pair_order low high) self.now))) }
+    {
+        for pair in self.pairs.range((low, high)) {
+            let _ = ids.insert(pair.1.try_clone()?)?;
+        }
+        Ok(())
     }
 
     /// The keys whose pairs with the `_id`'s key aren't there.
