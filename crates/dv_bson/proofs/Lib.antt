@@ -21,3 +21,4 @@ pub mod Payloads
 pub mod Rest
 pub mod Written
 pub mod Moved
+pub mod Changed

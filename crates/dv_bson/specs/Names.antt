@@ -4,6 +4,11 @@ use Rattle.std.specs.List.{position_from}
 use Rattle.std.specs.Str.{bytes_eq}
 use Rattle.dv_bson.specs.Tree.{Tree, Field, null}
 
+-- whether a dollar sign, which is 36, stands in front
+abbrev pub begins_with_dollar : List ℕ → Bool
+begins_with_dollar [] = false
+begins_with_dollar (b ∷ bs) = b == 36
+
 -- a name alone, as the field with nothing under it
 abbrev pub bare : List ℕ → Field
 bare name = (name, null)
@@ -21,6 +26,16 @@ place_under name fs = position_from (λ f. bytes_eq name f.0) 0 fs
 abbrev pub has_name : List ℕ → List Field → Bool
 has_name name [] = false
 has_name name (f ∷ fs) = bytes_eq name f.0 || has_name name fs
+
+-- the fields with the value in place of the one under the name
+abbrev pub with_value_under : List ℕ → Tree → List Field → List Field
+with_value_under name v [] = []
+with_value_under name v (f ∷ fs) = if bytes_eq name f.0 then (f.0, v) ∷ fs else f ∷ with_value_under name v fs
+
+-- the fields but the one with the name
+abbrev pub without : List ℕ → List Field → List Field
+without name [] = []
+without name (f ∷ fs) = if bytes_eq name f.0 then fs else f ∷ without name fs
 
 -- whether a zero byte stands in a name, where it would end it
 abbrev pub has_zero : List ℕ → Bool

@@ -1,9 +1,9 @@
 //! What holds between the bytes of documents and reading them, and of documents whatever their bytes are.
 
-ghost use Rattle.std.specs.Prelude.{◌≡◌, ◌↔◌, ℕ, ◌+◌, ◌≤◌, List, [], ◌∷◌, ◌++◌, length, take, None, Ok, All};
+ghost use Rattle.std.specs.Prelude.{◌≡◌, ◌↔◌, ℕ, ◌+◌, ◌≤◌, List, [], ◌∷◌, ◌++◌, length, take, map, true, Some, None, Ok, All};
 ghost use Rattle.std.specs.Str.{IsUtf8};
-ghost use Rattle.dv_bson.specs.Tree.{Field, document, fields_of};
-ghost use Rattle.dv_bson.specs.Names.{AreNamed};
+ghost use Rattle.dv_bson.specs.Tree.{Tree, Field, document, fields_of};
+ghost use Rattle.dv_bson.specs.Names.{AreNamed, has_name, value_under, with_value_under};
 ghost use Rattle.dv_bson.specs.Spelling.{payload, spelling, levels, IsValue, AreFields, Spells, Fits, IsBytes};
 ghost use Rattle.dv_bson.specs.Reading.{document_at, first_fault};
 
@@ -38,4 +38,11 @@ pub fn where_a_field_stands_is_no_matter()
     ensures named { (before after : List Field) (f : Field) → AreNamed (before ++ f ∷ after) → AreNamed (f ∷ (before ++ after)) }
     ensures size { (before after : List Field) (f : Field) → length (spelling (f ∷ (before ++ after))) ≡ length (spelling (before ++ f ∷ after)) }
     ensures depth { (before after : List Field) (f : Field) → levels (document (fields_of (f ∷ (before ++ after)))) ≡ levels (document (fields_of (before ++ f ∷ after))) }
+{}
+
+/// A value that is put under a name stands there, whatever was put there before; and the names stay as they are.
+pub fn what_is_put_under_a_name()
+    ensures there { (name : List ℕ) (v : Tree) (fields : List Field) → has_name name fields ≡ true → value_under name (with_value_under name v fields) ≡ Some v }
+    ensures again { (name : List ℕ) (v w : Tree) (fields : List Field) → with_value_under name v (with_value_under name w fields) ≡ with_value_under name v fields }
+    ensures names { (name : List ℕ) (v : Tree) (fields : List Field) → map (λ f. f.0) (with_value_under name v fields) ≡ map (λ f. f.0) fields }
 {}

@@ -18,6 +18,7 @@ mod writer;
 pub use bytes::Bytes;
 pub use fault::BsonFault;
 pub use limits::{fits, size};
+pub use name::begins_with_dollar;
 pub use reader::read_document;
 pub use text::Str;
 pub use value::{Document, List, Value};

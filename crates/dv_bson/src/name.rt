@@ -1,6 +1,7 @@
 //! The name of a field.
 
 ghost use Rattle.std.specs.Prelude.{◌≡◌, IfOk};
+ghost use Rattle.dv_bson.specs.Names as names;
 
 use crate::NoMemory;
 use arrayvec::ArrayString;
@@ -66,5 +67,15 @@ impl Name {
             Kept::Long(text) => Kept::Long(text.clone()?),
         };
         Ok(Name { kept })
+    }
+}
+
+/// Whether a dollar sign stands in front of the name.
+pub fn begins_with_dollar(name: &str) -> bool
+    ensures { result ≡ names.begins_with_dollar name.now }
+{
+    match name.as_bytes() {
+        [first, ..] => *first == b'$',
+        [] => false,
     }
 }

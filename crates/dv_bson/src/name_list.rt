@@ -1,6 +1,6 @@
 //! The names of a document's fields.
 
-ghost use Rattle.std.specs.Prelude.{◌≡◌, ◌↔◌, ◌≤◌, [], ◌∷◌, ◌++◌, Some, false, length, take, map, IsTrue, OnOk, OnErr, IfOk, IfSome, slice_get};
+ghost use Rattle.std.specs.Prelude.{◌≡◌, ◌↔◌, ◌≤◌, ◌<◌, [], ◌∷◌, ◌++◌, Some, false, length, take, map, IsTrue, OnOk, OnErr, IfOk, IfSome, slice_get, remove};
 ghost use Rattle.std.specs.Option.{option_map};
 ghost use Rattle.dv_bson.specs.Names.{bare, AreNamed, place_under, has_name, has_zero};
 ghost use Rattle.dv_bson.specs.Places.{IsIndexOf};
@@ -125,12 +125,34 @@ impl Names {
     {
         let alloc = *self.names.allocator();
         let mut names = Vec::with_capacity(alloc, count)?;
-        for name in &self.names[..count] {
-            names.push(name.try_clone()?)?;
-        }
+        put_copies(&mut names, &self.names[..count])?;
         let index = index_of(alloc, &names)?;
         Ok(Names { names, index })
     }
+
+    /// A copy of the first `count` names but the one at `place`. Fails where memory is wanting.
+    pub(crate) fn front_without(&self, count: usize, place: usize) -> Result<Self, NoMemory>
+        requires within { count ≤ length self.now }
+        requires there { place < count }
+        ensures { IfOk result (λ front. front ≡ remove (take count self.now) place) }
+    {
+        let alloc = *self.names.allocator();
+        let mut names = Vec::with_capacity(alloc, count - 1)?;
+        put_copies(&mut names, &self.names[..place])?;
+        put_copies(&mut names, &self.names[place + 1..count])?;
+        let index = index_of(alloc, &names)?;
+        Ok(Names { names, index })
+    }
+}
+
+/// Puts copies of the names behind those that are there. Fails where memory is wanting.
+fn put_copies(copies: &mut Vec<Name>, names: &[Name]) -> Result<(), NoMemory>
+    ensures { OnOk result (copies.new.items ≡ copies.old.items ++ names.now) }
+{
+    for name in names {
+        copies.push(name.try_clone()?)?;
+    }
+    Ok(())
 }
 
 /// The place of the first of these that is the name, where there is one.

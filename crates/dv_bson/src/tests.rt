@@ -4,7 +4,10 @@ mod shown;
 mod vectors;
 
 use self::vectors::VECTORS;
-use crate::{BsonFault, Bytes, Document, List, Str, Value, read_document, size, write_document};
+use crate::{
+    BsonFault, Bytes, Document, List, Str, Value, begins_with_dollar, read_document, size,
+    write_document,
+};
 use std::alloc::Global;
 use std::test::Fail;
 
@@ -82,6 +85,34 @@ fn a_changed_copy_leaves_its_source(rt: HostRuntime) -> Result<(), Fail> {
     Ok(())
 }
 
+/// The number that a change gave back, where it was one.
+fn number_given(value: Option<Value>) -> Option<i32> {
+    match value {
+        Some(Value::Int32(number)) => Some(number),
+        _ => None,
+    }
+}
+
+#[test]
+fn changes_a_copy_in_place(rt: HostRuntime) -> Result<(), Fail> {
+    let source = numbered(rt.alloc(), 40)?;
+    let mut copy = source.try_clone()?;
+    assert_eq!(rt; number_given(copy.replace("other", Value::Int32(7))?), None);
+    assert_eq!(rt;
+        number_given(copy.replace("name 35", Value::Int32(7))?),
+        Some(35)
+    );
+    assert_eq!(rt; number_given(copy.remove("name 3")?), Some(3));
+    assert_eq!(rt; number_given(copy.remove("name 3")?), None);
+    assert_eq!(rt; copy.len(), 39);
+    assert_eq!(rt; number_under(&copy, "name 35"), Some(7));
+    assert_eq!(rt; number_under(&copy, "name 39"), Some(39));
+    assert_eq!(rt; number_under(&source, "name 35"), Some(35));
+    assert_eq!(rt; number_under(&source, "name 3"), Some(3));
+    assert_eq!(rt; copy.push("name 3", Value::Null), Ok(()));
+    Ok(())
+}
+
 #[test]
 fn shares_names(rt: HostRuntime) -> Result<(), Fail> {
     let longer = numbered(rt.alloc(), 40)?;
@@ -109,6 +140,14 @@ fn copies_values(rt: HostRuntime) -> Result<(), Fail> {
     assert_eq!(rt; copy.into_inner().len(), 3);
     let bytes = Bytes::of([1, 0, 255].to_vec(alloc)?).try_clone()?;
     assert_eq!(rt; bytes.into_inner().as_slice(), [1, 0, 255].as_slice());
+    Ok(())
+}
+
+#[test]
+fn names_begin_with_a_dollar_sign(rt: HostRuntime) -> Result<(), Fail> {
+    assert!(rt; begins_with_dollar("$set"));
+    assert!(rt; !begins_with_dollar("a$"));
+    assert!(rt; !begins_with_dollar(""));
     Ok(())
 }
 

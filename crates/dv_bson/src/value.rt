@@ -2,7 +2,7 @@
 
 ghost use Rattle.std.specs.Prelude.{◌≡◌, ◌+◌, ◌<◌, ◌≤◌, ◌↔◌, ◌⊎◌, Some, [], ◌∷◌, ◌++◌, true, false, length, take, map, IsTrue, OnOk, OnErr, IfOk, IfErr, IsErrOf, slice_get};
 ghost use Rattle.std.specs.Option.{option_map};
-ghost use Rattle.dv_bson.specs.Names.{bare, AreNamed, place_under, value_under, has_name, has_zero};
+ghost use Rattle.dv_bson.specs.Names.{bare, AreNamed, place_under, value_under, with_value_under, without, has_name, has_zero};
 ghost use Rattle.dv_bson.specs.Spelling.{kind_of};
 ghost use Rattle.dv_bson.specs.View.{tree};
 
@@ -14,7 +14,7 @@ use crate::name_list::Names;
 use crate::text::Str;
 use std::alloc::Global;
 use std::marker::Model;
-use std::mem::size_of;
+use std::mem::{replace, size_of};
 use std::rc::Rc;
 
 /// A value of a field or of an array. In quotes: its type's name in the BSON specification, version 1.1
@@ -324,6 +324,53 @@ impl Document {
         Ok(())
     }
 
+    /// Puts the value in place of the one under the name, and gives that one. Where no field has the name there is none,
+    /// nothing is changed, and the value is dropped; so it is where memory is wanting. Memory is taken only where a copy
+    /// shares the fields, which are copied first. In time logarithmic in the number of fields where none does.
+    pub fn replace(&mut self, name: &str, value: Value) -> Result<Option<Value>, NoMemory>
+        ensures before { IfOk result (λ before. option_map tree before ≡ value_under name.now self.old) }
+        ensures ok { OnOk result (self.new ≡ with_value_under name.now (tree value) self.old) }
+        ensures err { OnErr result (self.new ≡ self.old) }
+    {
+        let alloc = self.alloc;
+        let Some(shared) = &mut self.fields else {
+            return Ok(None);
+        };
+        if let Some(fields) = Rc::get_mut(shared) {
+            return Ok(fields.replace(name, value));
+        }
+        if shared.place_of(name).is_none() {
+            return Ok(None);
+        }
+        let mut fields = shared.try_clone()?;
+        let before = fields.replace(name, value);
+        *shared = Rc::new(alloc, fields)?;
+        Ok(before)
+    }
+
+    /// Takes away the field with the name, and gives its value. Where no field has the name there is none, and nothing is
+    /// changed; neither is it where memory is wanting. In time linear in the number of fields.
+    pub fn remove(&mut self, name: &str) -> Result<Option<Value>, NoMemory>
+        ensures before { IfOk result (λ before. option_map tree before ≡ value_under name.now self.old) }
+        ensures ok { OnOk result (self.new ≡ without name.now self.old) }
+        ensures err { OnErr result (self.new ≡ self.old) }
+    {
+        let alloc = self.alloc;
+        let Some(shared) = &mut self.fields else {
+            return Ok(None);
+        };
+        if let Some(fields) = Rc::get_mut(shared) {
+            return fields.remove(name);
+        }
+        if shared.place_of(name).is_none() {
+            return Ok(None);
+        }
+        let mut fields = shared.try_clone()?;
+        let before = fields.remove(name)?;
+        *shared = Rc::new(alloc, fields)?;
+        Ok(before)
+    }
+
     /// Lets the names of the fields lie where those of the other document do, if these are the same, or more of them
     /// follow there. Nothing that a caller sees changes but how much memory is taken. Fields that a copy shares stay
     /// where they are.
@@ -470,6 +517,29 @@ impl Fields {
         put_name(alloc, &mut self.names, self.values.len(), name)?;
         self.values.push(value)?;
         Ok(())
+    }
+
+    /// Puts the value in place of the one under the name, and gives that one, where there is one.
+    fn replace(&mut self, name: &str, value: Value) -> Option<Value>
+        ensures before { option_map tree result ≡ value_under name.now self.old }
+        ensures after { self.new ≡ with_value_under name.now (tree value) self.old }
+    {
+        let place = self.place_of(name)?;
+        Some(replace(&mut self.values[place], value))
+    }
+
+    /// Takes away the field with the name, and gives its value, where there is one. The names are copied without it.
+    fn remove(&mut self, name: &str) -> Result<Option<Value>, NoMemory>
+        ensures before { IfOk result (λ before. option_map tree before ≡ value_under name.now self.old) }
+        ensures ok { OnOk result (self.new ≡ without name.now self.old) }
+        ensures err { OnErr result (self.new ≡ self.old) }
+    {
+        let Some(place) = self.place_of(name) else {
+            return Ok(None);
+        };
+        let names = self.names.front_without(self.values.len(), place)?;
+        self.names = Rc::new(*self.values.allocator(), names)?;
+        Ok(Some(self.values.remove(place)))
     }
 
     /// Takes the other's names in place of the same ones of its own.

@@ -7,7 +7,7 @@ use Rattle.std.specs.Str.{IsUtf8, bytes_eq}
 use Rattle.dv_bson.specs.Names.{value_under}
 use Rattle.dv_bson.specs.Spelling.{IsValue, AreFields, AreElements}
 use Rattle.dv_bson.specs.Tree.{Tree, string, document, array, Fields, no_fields, field, Elements, no_elements, element, Field, fields_of, list_of_fields}
-use Rattle.dv_command.specs.Asked.{Asked, hello, ping, insert, delete, find, asked_under, hello_of, ping_of, insert_of, delete_of, find_of, Statements, statements_of, checked_database, check_count, statement_limit}
+use Rattle.dv_command.specs.Asked.{Asked, hello, ping, insert, update, delete, find, asked_under, hello_of, ping_of, insert_of, update_of, delete_of, find_of, Statements, statements_of, checked_database, check_count, statement_limit}
 use Rattle.dv_command.specs.Fields.{Table, Lists, write_table, find_table, check_fields, check_lists, text_in, each_document, documents_in, required, text_under, boolean_under, natural_under, documents_under}
 use Rattle.dv_command.specs.Forms.{filter_under, sort_under}
 use Rattle.dv_command.specs.Kinds as kinds
@@ -137,6 +137,12 @@ module _ (body : List Field) (lists : Lists) (valid : AreFields (fields_of body)
       subst IsSoundlyAsked (ends (insert (record { namespace = s.given.namespace; documents = s.given.list; ordered = s.given.ordered })) a s.rest_is)
       (statements_valid (codes "insert") (codes "documents") s.given s.first_is)
 
+  update_sound : (a : Asked) → update_of body lists ≡ Ok a → IsSoundlyAsked a
+  update_sound a is =
+      let s = succeeds (statements_of (codes "update") (codes "updates") body lists) _ a is in
+      subst IsSoundlyAsked (ends (update (record { namespace = s.given.namespace; entries = s.given.list; ordered = s.given.ordered })) a s.rest_is)
+      (statements_valid (codes "update") (codes "updates") s.given s.first_is)
+
   delete_sound : (a : Asked) → delete_of body lists ≡ Ok a → IsSoundlyAsked a
   delete_sound a is =
       let s = succeeds (statements_of (codes "delete") (codes "deletes") body lists) _ a is in
@@ -171,6 +177,7 @@ module _ (body : List Field) (lists : Lists) (valid : AreFields (fields_of body)
       either (bytes_eq name (codes "hello")) (hello_of body) _ a (hello_sound a)
       (either (bytes_eq name (codes "ping")) (ping_of body) _ a (ping_sound a)
       (either (bytes_eq name (codes "insert")) (insert_of body lists) _ a (insert_sound a)
+      (either (bytes_eq name (codes "update")) (update_of body lists) _ a (update_sound a)
       (either (bytes_eq name (codes "delete")) (delete_of body lists) _ a (delete_sound a)
       (either (bytes_eq name (codes "find")) (find_of body lists) _ a (find_sound a)
-      (λ is. let none : Err CommandNotFound ≡ Ok a = is in absurd cc)))))
+      (λ is. let none : Err CommandNotFound ≡ Ok a = is in absurd cc))))))

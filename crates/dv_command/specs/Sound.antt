@@ -4,7 +4,7 @@ use Rattle.std.specs.List.{AllByRecursion}
 use Rattle.std.specs.Str.{IsUtf8}
 use Rattle.dv_bson.specs.Spelling.{AreFields}
 use Rattle.dv_bson.specs.Tree.{Field, fields_of}
-use Rattle.dv_command.specs.Asked.{Asked, hello, ping, insert, delete, find, statement_limit}
+use Rattle.dv_command.specs.Asked.{Asked, hello, ping, insert, update, delete, find, statement_limit}
 use Rattle.dv_command.specs.Namespaces.{longest_namespace}
 
 -- each document has a spelling, if it isn't too long for one
@@ -23,5 +23,6 @@ abbrev pub IsSoundlyAsked : Asked → Type 0
 IsSoundlyAsked hello = ⊤
 IsSoundlyAsked ping = ⊤
 IsSoundlyAsked (insert asked) = AreStatements asked.namespace asked.documents
+IsSoundlyAsked (update asked) = AreStatements asked.namespace asked.entries
 IsSoundlyAsked (delete asked) = AreStatements asked.namespace asked.entries
 IsSoundlyAsked (find asked) = IsNamespace asked.namespace

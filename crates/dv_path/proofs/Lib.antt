@@ -7,3 +7,8 @@ pub mod Reach
 pub mod SpecParts
 pub mod Walks
 pub mod Earliest
+pub mod Slotted
+pub mod Fielded
+pub mod Placed
+pub mod Exchanged
+pub mod Vectors

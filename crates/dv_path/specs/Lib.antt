@@ -8,3 +8,7 @@ pub mod SortKey
 pub mod SortSpec
 pub mod Parts
 pub mod Expression
+pub mod Slots
+pub mod Placing
+pub mod Removing
+pub mod Ways

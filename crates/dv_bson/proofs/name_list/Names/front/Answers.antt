@@ -13,7 +13,7 @@ index_of-requires c =
 
 pub invariant_of-result : goal.invariant_of-result
 invariant_of-result c =
-    let front : c.loop-name.names.items ≡ take c.args.count c.self.inside.names.items = grind (arith, common_steps) in
-    let same : c.deref-2.result.now ≡ c.loop-name.names.items = c.deref-2.ensures.value in
+    let front : c.put_copies.new.copies.items ≡ take c.args.count c.self.inside.names.items = grind (arith, common_steps) in
+    let same : c.deref-2.result.now ≡ c.put_copies.new.copies.items = c.deref-2.ensures.value in
     let IsIndexed : List (List ℕ) → Type 0 = λ ns. IfSome c.in_ok-index.index (λ index. IsIndexOf (map bare ns) index.value) in
     (rw front (AreNamed-take c.args.count _ c.self.invariant.0), subst IsIndexed same c.in_ok-index.ensures)

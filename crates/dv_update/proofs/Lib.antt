@@ -1,0 +1,10 @@
+pub mod Gathered
+pub mod Items
+pub mod Left
+pub mod Made
+pub mod Paths
+pub mod Placed
+pub mod PutThere
+pub mod Replacing
+pub mod SameLeft
+pub mod Sameness

@@ -1,0 +1,49 @@
+-- What edits leave as it is, and elements that are taken out.
+use Rattle.std.proofs.Common.{◌≡◌, ◌∙◌, ap, sym, refl, List, [], ◌∷◌, ◌++◌, ℕ, zero, suc, ◌<◌, ◌≤◌, length, map, drop, get_or, Bool, true, false, ◌||◌, not, Ok, arith, drop_of_length-le, append-nil}
+use Rattle.std.specs.List.{list_any, filter}
+use Rattle.dv_bson.specs.Tree.{Tree, Field, elements_of, array, list_of_elements}
+use Rattle.dv_bson.specs.View.{tree}
+use Rattle.dv_bson.specs.declared.value.Value.{Value}
+use Rattle.dv_path.specs.Placing.{put}
+use Rattle.dv_path.specs.Slots.{slot, taken}
+use Rattle.dv_update.specs.Apply.{Path, told, set_at, is_pulled, left}
+use Rattle.dv_update.specs.Same.{is_same}
+use Rattle.dv_update.specs.Update.{Pulled}
+use Rattle.dv_update.proofs.PutThere.{put-again}
+use Rattle.dv_update.proofs.Sameness.{same-is}
+
+-- to set what stands there changes nothing
+pub set_there : (d : List Field) (path : Path) (w v : Tree) → taken w ≡ slot d path → true ≡ is_same w v → set_at path v d ≡ Ok d
+set_there d path w v here same =
+    let is : w ≡ v = same-is w v (sym same) in
+    ap told (put-again d path v (sym here ∙ ap taken is))
+
+or-true : (a : Bool) → a || true ≡ true
+or-true true = refl
+or-true false = refl
+
+any-at : (p : Tree → Bool) (values : List Value) (i : ℕ) (value : Value) → i < length values → value ≡ get_or values i value → p (tree value) ≡ true → list_any p (map tree values) ≡ true
+any-at p [] i value within is h = absurd (omega arith)
+any-at p (v ∷ vs) zero value within is h = ap (λ b. b || list_any p (map tree vs)) (ap (λ x. p (tree x)) (sym is) ∙ h)
+any-at p (v ∷ vs) (suc i) value within is h = ap (λ b. p (tree v) || b) (any-at p vs i value (omega arith) is h) ∙ or-true (p (tree v))
+
+pub any_here : (p : Tree → Bool) (values : List Value) (vs : List Tree) → map tree values ≡ vs → (i : ℕ) (value : Value) → i < length values → value ≡ get_or values i value → true ≡ p (tree value) → list_any p vs ≡ true
+any_here p values vs seen i value within is h = ap (list_any p) (sym seen) ∙ any-at p values i value within is (sym h)
+
+pub left_end : (p : Pulled) (values : List Value) (vs done : List Tree) (i : ℕ) → map tree values ≡ vs → left p (map tree values) ≡ done ++ left p (map tree (drop i values)) → length values ≤ i → done ≡ left p vs
+left_end p values vs done i seen so-far past =
+    sym (ap (left p) (sym seen) ∙ so-far ∙ ap (λ l. done ++ left p (map tree l)) (drop_of_length-le values past) ∙ append-nil done)
+
+none-kept : (p : Pulled) (vs : List Tree) → list_any (is_pulled p) vs ≡ false → left p vs ≡ vs
+none-kept p [] e = refl
+none-kept p (v ∷ vs) e = by (is_pulled p v) refl e (none-kept p vs)
+  where
+    by : (b : Bool) → is_pulled p v ≡ b → (b || list_any (is_pulled p) vs) ≡ false → (list_any (is_pulled p) vs ≡ false → left p vs ≡ vs) → left p (v ∷ vs) ≡ v ∷ vs
+    by true h f rest = cc
+    by false h f rest = grind (arith, h, rest f)
+
+-- to take no element out changes nothing
+pub pull_none : (d : List Field) (path : Path) (p : Pulled) (vs : List Tree) → taken (array (elements_of vs)) ≡ slot d path → false ≡ list_any (is_pulled p) vs → set_at path (array (elements_of (left p vs))) d ≡ Ok d
+pull_none d path p vs here none =
+    let same : left p vs ≡ vs = none-kept p vs (sym none) in
+    ap told (put-again d path (array (elements_of (left p vs))) (sym here ∙ ap (λ ws. taken (array (elements_of ws))) (sym same)))

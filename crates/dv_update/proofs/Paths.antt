@@ -1,0 +1,81 @@
+-- The order of paths, and paths that begin others.
+use Rattle.std.proofs.Common.{◌≡◌, ◌∙◌, ap, ap₂, sym, refl, List, [], ◌∷◌, ℕ, Bool, true, false, ◌&&◌}
+use Rattle.std.specs.Cmp.{tied_itself}
+use Rattle.std.specs.Cmp.Lexicographic.{slice_cmp}
+use Rattle.std.specs.Ordering.{ordering_then, ordering_reverse, nat_cmp, bool_cmp}
+use Rattle.std.specs.Str.{bytes_eq}
+use Rattle.std.specs.declared.cmp.Ordering.{Ordering}
+use Rattle.std.specs.declared.cmp.Ordering.TheVariants.{Less, Equal, Greater}
+use Rattle.std.proofs.lemmas.Map.Lookups.{exact_bytes}
+use Rattle.std.proofs.lemmas.Slice.Eq.{bytes_eq-Decides}
+use Rattle.dv_update.specs.PathOrder.{is_name, number_of, component_order, path_order, begins}
+use Rattle.dv_update.specs.PathOrderLaws.{component_order_total, path_order_total}
+
+abbrev Path : Type 0
+Path = List (List ℕ)
+
+first-equal : (o p : Ordering) → ordering_then o p ≡ Equal → o ≡ Equal
+first-equal Less p e = cc
+first-equal Equal p e = refl
+first-equal Greater p e = cc
+
+second-equal : (o p : Ordering) → ordering_then o p ≡ Equal → p ≡ Equal
+second-equal Less p e = cc
+second-equal Equal p e = e
+second-equal Greater p e = cc
+
+component-exact : (a b : List ℕ) → component_order a b ≡ Equal → a ≡ b
+component-exact a b e =
+    let numbers = nat_cmp (number_of a) (number_of b) in
+    let bytes = slice_cmp nat_cmp a b in
+    exact_bytes a b (second-equal numbers bytes (second-equal (bool_cmp (is_name a) (is_name b)) (ordering_then numbers bytes) e))
+
+-- paths that stand beside each other are one
+pub path-exact : (p q : Path) → path_order p q ≡ Equal → p ≡ q
+path-exact [] [] e = refl
+path-exact [] (b ∷ q) e = cc
+path-exact (a ∷ p) [] e = cc
+path-exact (a ∷ p) (b ∷ q) e =
+    ap₂ (λ (c : List ℕ) (r : Path). c ∷ r) (component-exact a b (first-equal (component_order a b) (path_order p q) e)) (path-exact p q (second-equal (component_order a b) (path_order p q) e))
+
+pub begins-itself : (p : Path) → begins p p ≡ true
+begins-itself [] = refl
+begins-itself (a ∷ p) = ap₂ (λ b c. b && c) ((bytes_eq-Decides a a).1 refl) (begins-itself p)
+
+and-left : (b c : Bool) → (b && c) ≡ true → b ≡ true
+and-left true c e = refl
+and-left false c e = cc
+
+and-right : (b c : Bool) → (b && c) ≡ true → c ≡ true
+and-right true c e = e
+and-right false c e = cc
+
+same-component : (a b : List ℕ) (p q : Path) → begins (a ∷ p) (b ∷ q) ≡ true → a ≡ b
+same-component a b p q e = (bytes_eq-Decides a b).0 (and-left (bytes_eq a b) (begins p q) e)
+
+not-less : (o : Ordering) → o ≡ Equal → (p : Ordering) → ordering_then o p ≡ p
+not-less o e p = ap (λ r. ordering_then r p) e
+
+-- what begins a path doesn't stand behind it
+pub begins-first : (p q : Path) → begins p q ≡ true → path_order q p ≡ Less → ⊥
+begins-first [] [] e l = cc
+begins-first [] (b ∷ q) e l = cc
+begins-first (a ∷ p) [] e l = cc
+begins-first (a ∷ p) (b ∷ q) e l =
+    let same : component_order b a ≡ Equal = ap (component_order b) (same-component a b p q e) ∙ tied_itself component_order_total b in
+    begins-first p q (and-right (bytes_eq a b) (begins p q) e) (sym (not-less (component_order b a) same (path_order q p)) ∙ l)
+
+both-less : (o s t : Ordering) → ordering_then o s ≡ Less → ordering_then (ordering_reverse o) t ≡ Less → (o ≡ Equal) × (s ≡ Less) × (t ≡ Less)
+both-less Less s t e f = cc
+both-less Equal s t e f = (refl, e, f)
+both-less Greater s t e f = cc
+
+-- what begins a path begins each one that stands between
+pub begins-between : (p q r : Path) → path_order p q ≡ Less → path_order q r ≡ Less → begins p r ≡ true → begins p q ≡ true
+begins-between [] q r l m e = refl
+begins-between (a ∷ p) [] r l m e = cc
+begins-between (a ∷ p) (b ∷ q) [] l m e = cc
+begins-between (a ∷ p) (b ∷ q) (c ∷ r) l m e =
+    let back : component_order b c ≡ ordering_reverse (component_order a b) = ap (component_order b) (sym (same-component a c p r e)) ∙ component_order_total.antisymm b a in
+    let split = both-less (component_order a b) (path_order p q) (path_order q r) l (ap (λ o. ordering_then o (path_order q r)) (sym back) ∙ m) in
+    ap₂ (λ x y. x && y) ((bytes_eq-Decides a b).1 (component-exact a b split.0)) (begins-between p q r split.1 split.2 (and-right (bytes_eq a c) (begins p r) e))

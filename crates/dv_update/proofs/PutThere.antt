@@ -1,0 +1,88 @@
+-- To put what stands there changes nothing.
+use Rattle.std.proofs.Common.{◌≡◌, ◌∙◌, ap, sym, refl, List, [], ◌∷◌, ◌++◌, ℕ, zero, suc, ◌<◌, ◌||◌, Bool, true, false, length, Option, Some, None, slice_get, nat_lt, nat_le, arith, Result, Ok, Err, if◌then◌else◌}
+use Rattle.std.specs.Str.{bytes_eq}
+use Rattle.std.proofs.lemmas.Bool.Decides.{nat_tests}
+use Rattle.std.proofs.lemmas.Option.{slice_get_within}
+use Rattle.dv_bson.specs.Names.{value_under}
+use Rattle.dv_bson.specs.Tree.{Tree, document, array, Field, Fields, no_fields, field, fields_of, list_of_fields, Elements, no_elements, element, elements_of, list_of_elements}
+use Rattle.dv_path.specs.Path.{index_of}
+use Rattle.dv_path.specs.Placing.{result_map, with_field, with_element, put_field, put_element, put_behind, put}
+use Rattle.dv_path.specs.declared.fault.PathFault.{PathFault}
+use Rattle.dv_path.specs.declared.fault.PathFault.TheVariants.{IndexTooLarge}
+use Rattle.dv_path.specs.Slots.{Slot, taken, free, blocked, slot_of, element_slot, next_slot, slot_behind, slot}
+
+free-stays : (names : List (List ℕ)) (v : Tree) → slot_behind names free ≡ taken v → ⊥
+free-stays [] v e = cc
+free-stays (name ∷ names) v e = free-stays names v e
+
+blocked-stays : (names : List (List ℕ)) (v : Tree) → slot_behind names blocked ≡ taken v → ⊥
+blocked-stays [] v e = cc
+blocked-stays (name ∷ names) v e = blocked-stays names v e
+
+fields-again : (fs : Fields) → fields_of (list_of_fields fs) ≡ fs
+fields-again no_fields = refl
+fields-again (field name v fs) = ap (field name v) (fields-again fs)
+
+elements-again : (vs : Elements) → elements_of (list_of_elements vs) ≡ vs
+elements-again no_elements = refl
+elements-again (element v vs) = ap (element v) (elements-again vs)
+
+list-again : (fs : List Field) → list_of_fields (fields_of fs) ≡ fs
+list-again [] = refl
+list-again (f ∷ fs) = ap (λ gs. f ∷ gs) (list-again fs)
+
+field-again : (b : Bool) (f : Field) (v : Tree) (rest : Option Tree) (gs fs : List Field) → (if b then Some f.1 else rest) ≡ Some v → (rest ≡ Some v → gs ≡ fs) → (if b then (f.0, v) ∷ [] ++ fs else f ∷ gs) ≡ f ∷ fs
+field-again true f v rest gs fs e h = let same : f.1 ≡ v = cc in ap (λ w. let g : Field = (f.0, w) in g ∷ fs) (sym same)
+field-again false f v rest gs fs e h = ap (λ hs. f ∷ hs) (h e)
+
+with_field-again : (name : List ℕ) (v : Tree) (fs : List Field) → value_under name fs ≡ Some v → with_field name (Some v) fs ≡ fs
+with_field-again name v [] e = cc
+with_field-again name v (f ∷ fs) e = field-again (bytes_eq name f.0) f v (value_under name fs) (with_field name (Some v) fs) fs e (with_field-again name v fs)
+
+with_element-again : (place : ℕ) (v : Tree) (vs : List Tree) → slice_get vs place ≡ Some v → with_element place v vs ≡ vs
+with_element-again place v [] e = cc
+with_element-again zero v (w ∷ ws) e = let same : w ≡ v = cc in ap (λ u. u ∷ ws) (sym same)
+with_element-again (suc place) v (w ∷ ws) e = ap (λ us. w ∷ us) (with_element-again place v ws e)
+
+module _ (put : Option Tree → Result Tree PathFault) where
+  field-put-again : (name : List ℕ) (w : Tree) (fs : List Field) → value_under name fs ≡ Some w → put (Some w) ≡ Ok w → put_field put name fs ≡ Ok fs
+  field-put-again name w fs here same =
+      ap (λ c. result_map (λ v. with_field name (Some v) fs) (put c)) here ∙ ap (result_map (λ v. with_field name (Some v) fs)) same ∙ ap Ok (with_field-again name w fs here)
+
+  element-put-again : (place : ℕ) (w : Tree) (vs : List Tree) → slice_get vs place ≡ Some w → put (Some w) ≡ Ok w → put_element put (Some place) vs ≡ Ok vs
+  element-put-again place w vs here same =
+      let inside : nat_lt place (length vs) ≡ true = grind (arith, nat_tests, slice_get_within vs place w here) in
+      ap (λ b. if b || nat_le place 100000 then result_map (λ v. with_element place v vs) (put (slice_get vs place)) else Err IndexTooLarge) inside
+      ∙ ap (λ c. result_map (λ v. with_element place v vs) (put c)) here ∙ ap (result_map (λ v. with_element place v vs)) same ∙ ap Ok (with_element-again place w vs here)
+
+-- ---- along a path
+
+-- what a path gives from a value on, for each value there
+abbrev Again : List (List ℕ) → Tree → Type 0
+Again names v = (t : Tree) → slot_behind names (taken t) ≡ taken v → put_behind names v (Some t) ≡ Ok t
+
+through-field : (names : List (List ℕ)) (v : Tree) (name : List ℕ) (fs : List Field) (c : Option Tree) → Again names v → value_under name fs ≡ c → slot_behind names (slot_of c) ≡ taken v → put_field (put_behind names v) name fs ≡ Ok fs
+through-field names v name fs None again here e = absurd (free-stays names v e)
+through-field names v name fs (Some w) again here e = field-put-again (put_behind names v) name w fs here (again w e)
+
+through-element : (names : List (List ℕ)) (v : Tree) (place : Option ℕ) (vs : List Tree) → Again names v → slot_behind names (element_slot place vs) ≡ taken v → put_element (put_behind names v) place vs ≡ Ok vs
+through-element names v None vs again e = absurd (blocked-stays names v e)
+through-element names v (Some place) vs again e = by (slice_get vs place) refl e
+  where
+    by : (c : Option Tree) → slice_get vs place ≡ c → slot_behind names (slot_of c) ≡ taken v → put_element (put_behind names v) (Some place) vs ≡ Ok vs
+    by None here f = absurd (free-stays names v f)
+    by (Some w) here f = element-put-again (put_behind names v) place w vs here (again w f)
+
+behind-again : (names : List (List ℕ)) (v : Tree) → Again names v
+behind-again [] v t e = let same : t ≡ v = cc in ap Ok (sym same)
+behind-again (name ∷ names) v (document fs) e =
+    ap (result_map (λ gs. document (fields_of gs))) (through-field names v name (list_of_fields fs) (value_under name (list_of_fields fs)) (behind-again names v) refl e) ∙ ap (λ gs. Ok (document gs)) (fields-again fs)
+behind-again (name ∷ names) v (array vs) e =
+    ap (result_map (λ ws. array (elements_of ws))) (through-element names v (index_of name) (list_of_elements vs) (behind-again names v) e) ∙ ap (λ ws. Ok (array ws)) (elements-again vs)
+behind-again (name ∷ names) v t e = absurd (blocked-stays names v e)
+
+pub put-again : (d : List Field) (path : List (List ℕ)) (v : Tree) → slot d path ≡ taken v → put d path v ≡ Ok d
+unfolding put slot
+put-again d [] v e = refl
+put-again d (name ∷ names) v e =
+    through-field names v name d (value_under name d) (behind-again names v) refl (ap (λ fs. slot_behind names (slot_of (value_under name fs))) (sym (list-again d)) ∙ e)

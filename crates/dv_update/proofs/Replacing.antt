@@ -1,0 +1,106 @@
+-- The fields of a replacement behind its `_id`.
+use Rattle.std.proofs.Common.{◌≡◌, ◌∙◌, ap, ap₂, sym, refl, List, [], ◌∷◌, ◌++◌, ℕ, Bool, true, false, ◌||◌, not, Option, Some, None, append_assoc, append-nil, arith, codes, subst, slice_get, ◌+◌, drop, length, ◌≤◌, drop_of_length-le, if◌then◌else◌}
+use Rattle.std.specs.List.{filter}
+use Rattle.std.specs.Str.{bytes_eq}
+use Rattle.std.proofs.lemmas.Slice.Eq.{bytes_eq-Decides}
+use Rattle.dv_bson.specs.Names.{has_name, has_zero, AreNamed}
+use Rattle.dv_bson.specs.Tree.{Tree, Field}
+use Rattle.dv_update.specs.Apply.{is_id, others, with_id, leading_id}
+use Rattle.dv_update.proofs.Items.{drop_at}
+
+bytes-back : (s t : List ℕ) → bytes_eq s t ≡ bytes_eq t s
+bytes-back s t = by (bytes_eq s t) (bytes_eq t s) refl refl
+  where
+    by : (a b : Bool) → bytes_eq s t ≡ a → bytes_eq t s ≡ b → a ≡ b
+    by true b e f = sym (sym f ∙ (bytes_eq-Decides t s).1 (sym ((bytes_eq-Decides s t).0 e)))
+    by false true e f = let same : bytes_eq s t ≡ true = (bytes_eq-Decides s t).1 (sym ((bytes_eq-Decides t s).0 f)) in cc
+    by false false e f = refl
+
+or-false : (a b : Bool) → a ≡ false → b ≡ false → (a || b) ≡ false
+or-false a b h g = ap₂ (λ x y. x || y) h g
+
+or-none-first : (a b : Bool) → (a || b) ≡ false → a ≡ false
+or-none-first true b h = cc
+or-none-first false b h = refl
+
+or-none-second : (a b : Bool) → (a || b) ≡ false → b ≡ false
+or-none-second true b h = cc
+or-none-second false b h = h
+
+has_name-kept : (b : Bool) (name : List ℕ) (f : Field) (fs : List Field) → (bytes_eq name f.0 || has_name name fs) ≡ false → has_name name (others fs) ≡ false → has_name name (if b then f ∷ others fs else others fs) ≡ false
+has_name-kept true name f fs h rest = or-false _ _ (or-none-first _ _ h) rest
+has_name-kept false name f fs h rest = rest
+
+has_name-others : (name : List ℕ) (fs : List Field) → has_name name fs ≡ false → has_name name (others fs) ≡ false
+has_name-others name [] h = refl
+has_name-others name (f ∷ fs) h = has_name-kept (not (is_id f)) name f fs h (has_name-others name fs (or-none-second _ _ h))
+
+named-kept : (b : Bool) (f : Field) (fs : List Field) → AreNamed (f ∷ fs) → AreNamed (others fs) → AreNamed (if b then f ∷ others fs else others fs)
+named-kept true f fs named rest = (named.0, has_name-others f.0 fs named.1, rest)
+named-kept false f fs named rest = rest
+
+AreNamed-others : (fs : List Field) → AreNamed fs → AreNamed (others fs)
+AreNamed-others [] named = named
+AreNamed-others (f ∷ fs) named = named-kept (not (is_id f)) f fs named (AreNamed-others fs named.2)
+
+no-id-kept : (b : Bool) (f : Field) (fs : List Field) → bytes_eq (codes "_id") f.0 ≡ b → has_name (codes "_id") (others fs) ≡ false → has_name (codes "_id") (if not b then f ∷ others fs else others fs) ≡ false
+no-id-kept true f fs is rest = rest
+no-id-kept false f fs is rest = or-false _ _ is rest
+
+no-id : (fs : List Field) → has_name (codes "_id") (others fs) ≡ false
+no-id [] = refl
+no-id (f ∷ fs) = no-id-kept (is_id f) f fs (bytes-back (codes "_id") f.0) (no-id fs)
+
+has_name-append : (name : List ℕ) (fs gs : List Field) → has_name name (fs ++ gs) ≡ (has_name name fs || has_name name gs)
+has_name-append name [] gs = refl
+has_name-append name (f ∷ fs) gs = grind (arith, has_name-append name fs gs)
+
+-- a field's name isn't that of one before it
+named-apart : (fs gs : List Field) (f : Field) → AreNamed (fs ++ f ∷ gs) → has_name f.0 fs ≡ false
+named-apart [] gs f named = refl
+named-apart (g ∷ fs) gs f named = grind (arith, named-apart fs gs f named.2, has_name-append g.0 fs (f ∷ gs), bytes-back f.0 g.0)
+
+named-whole : (fs gs : List Field) (f : Field) → AreNamed (fs ++ f ∷ gs) → has_zero f.0 ≡ false
+named-whole [] gs f named = named.0
+named-whole (g ∷ fs) gs f named = named-whole fs gs f named.2
+
+-- the fields so far, and what is left without `_id`
+pub record IsReplaced (id : Option Tree) (fields copy left : List Field) : Type 0 where
+  pub whole : copy ++ others left ≡ with_id id (others fields)
+  pub apart : AreNamed (copy ++ others left)
+
+pub id_replaced : (id : Option Tree) (fields copy : List Field) → AreNamed fields → copy ≡ with_id id [] → IsReplaced id fields copy fields
+id_replaced None fields copy named is = rw is (record { whole = refl; apart = AreNamed-others fields named })
+id_replaced (Some v) fields copy named is = rw is (record { whole = refl; apart = (refl, no-id fields, AreNamed-others fields named) })
+
+module _ {id : Option Tree} {fields copy left : List Field} (so-far : IsReplaced id fields copy left) (f : Field) (rest : List Field) (here : left ≡ f ∷ rest) where
+  kept : (b : Bool) → is_id f ≡ b → copy ++ others left ≡ copy ++ (if not b then f ∷ others rest else others rest)
+  kept b is = ap (λ l. copy ++ others l) here ∙ ap (λ b. copy ++ (if not b then f ∷ others rest else others rest)) is
+
+  joined : is_id f ≡ false → AreNamed (copy ++ f ∷ others rest)
+  joined is = subst AreNamed (kept false is) so-far.apart
+
+  pub whole_name : is_id f ≡ false → has_zero f.0 ≡ false
+  whole_name is = named-whole copy (others rest) f (joined is)
+
+  pub fresh_name : is_id f ≡ false → has_name f.0 copy ≡ false
+  fresh_name is = named-apart copy (others rest) f (joined is)
+
+  pub field_replaced : is_id f ≡ false → IsReplaced id fields (copy ++ f ∷ []) rest
+  field_replaced is =
+      let same : (copy ++ f ∷ []) ++ others rest ≡ copy ++ f ∷ others rest = append_assoc copy (f ∷ []) (others rest) in
+      record { whole = same ∙ sym (kept false is) ∙ so-far.whole; apart = subst AreNamed (sym same) (joined is) }
+
+  pub id_passed : is_id f ≡ true → IsReplaced id fields copy rest
+  id_passed is = record { whole = sym (kept true is) ∙ so-far.whole; apart = subst AreNamed (kept true is) so-far.apart }
+
+pub all_replaced : {id : Option Tree} {fields copy left : List Field} → IsReplaced id fields copy left → left ≡ [] → copy ≡ with_id id (others fields)
+all_replaced {id} {fields} {copy} {left} so-far none = sym (append-nil copy) ∙ ap (λ l. copy ++ others l) (sym none) ∙ so-far.whole
+
+pub denied : (b : Bool) → true ≡ not b → b ≡ false
+denied true h = cc
+denied false h = refl
+
+pub affirmed : (b : Bool) → false ≡ not b → b ≡ true
+affirmed true h = refl
+affirmed false h = cc

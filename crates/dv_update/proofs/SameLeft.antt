@@ -1,0 +1,122 @@
+-- Two lists gone through side by side from the front, where what is left of both decides.
+use Rattle.std.specs.Prelude.{◌≡◌, ℕ, ◌+◌, ◌≤◌, ◌==◌, ◌&&◌, nat_le, not, Bool, List, [], ◌∷◌, length, true, false, refl, ◌⊎◌, zero, suc}
+use Rattle.std.proofs.Common.{ap, sym, ◌∙◌, arith}
+use Rattle.std.specs.declared.cmp.Ordering.{Ordering}
+use Rattle.std.specs.declared.cmp.Ordering.TheVariants.{Less, Equal, Greater}
+use Rattle.std.specs.Ordering.{ordering_then, nat_cmp, is_ne}
+use Rattle.std.specs.Cmp.{nat_cmp_is}
+use Rattle.std.specs.Cmp.Lexicographic.{slice_cmp, pointwise}
+use Rattle.std.specs.Str.{bytes_eq}
+use Rattle.std.proofs.lemmas.Bool.Decides.{nat_tests}
+use Rattle.dv_bson.specs.Tree.{Tree, Field, fields_of, elements_of}
+use Rattle.dv_update.specs.PathOrder.{begins}
+use Rattle.dv_update.specs.Same.{is_same, same_fields, same_elements}
+
+-- us and vs are what is left of xs and ys after as many items of each, and f answers of them what it answers of these
+pub record IsLeft {A R : Type 0} (f : List A → List A → R) (xs ys us vs : List A) : Type 0 where
+  pub passed : length us + length ys ≡ length vs + length xs
+  pub decides : f us vs ≡ f xs ys
+
+-- nothing is passed yet
+pub IsLeft-all : {A R : Type 0} (f : List A → List A → R) (xs ys us vs : List A) → us ≡ xs → vs ≡ ys → IsLeft f xs ys us vs
+IsLeft-all f xs ys us vs p q = rw (p, q) (record { passed = omega arith; decides = refl })
+
+module _ {A R : Type 0} {f : List A → List A → R} {xs ys us vs : List A} (left : IsLeft f xs ys us vs) {x y : A} {us' vs' : List A} (p : us ≡ x ∷ us') (q : vs ≡ y ∷ vs') where
+  -- a pair that decides nothing is passed
+  pub IsLeft-more : f (x ∷ us') (y ∷ vs') ≡ f us' vs' → IsLeft f xs ys us' vs'
+  IsLeft-more same = record {
+    passed = omega (arith, left.passed, ap length p, ap length q);
+    decides = sym same ∙ (λ i. f (sym p i) (sym q i)) ∙ left.decides;
+  }
+
+  -- a pair that decides
+  pub decided : (r : R) → f (x ∷ us') (y ∷ vs') ≡ r → r ≡ f xs ys
+  decided r is = sym is ∙ (λ i. f (sym p i) (sym q i)) ∙ left.decides
+
+module _ {A R : Type 0} {f : List A → List A → R} {xs ys us vs : List A} (left : IsLeft f xs ys us vs) (by : ℕ → ℕ → R)
+    (both : (n m : ℕ) → n ≡ m → by n m ≡ f [] []) (first : (w : A) (ws : List A) (n m : ℕ) → n + length (w ∷ ws) ≡ m → by n m ≡ f [] (w ∷ ws)) (second : (w : A) (ws : List A) (n m : ℕ) → n ≡ m + length (w ∷ ws) → by n m ≡ f (w ∷ ws) []) where
+  -- where nothing is left of one list, the lengths decide
+  pub ended : (length us ≡ 0) ⊎ (length vs ≡ 0) → by (length xs) (length ys) ≡ f xs ys
+  ended h = by_lengths us vs (length xs) (length ys) left.passed h ∙ left.decides
+    where
+      by_lengths : (us vs : List A) (n m : ℕ) → length us + m ≡ length vs + n → (length us ≡ 0) ⊎ (length vs ≡ 0) → by n m ≡ f us vs
+      by_lengths [] [] n m e h = both n m (omega arith)
+      by_lengths [] (v ∷ vs) n m e h = first v vs n m (omega arith)
+      by_lengths (u ∷ us) [] n m e h = second u us n m (omega arith)
+      by_lengths (u ∷ us) (v ∷ vs) n m e h = absurd (omega arith)
+
+-- ---- sameness
+
+abbrev pub same_field : Field → Field → Bool
+same_field f g = bytes_eq f.0 g.0 && is_same f.1 g.1
+
+pub same_fields-pointwise : (fs gs : List Field) → same_fields (fields_of fs) (fields_of gs) ≡ pointwise same_field fs gs
+same_fields-pointwise [] [] = refl
+same_fields-pointwise [] (g ∷ gs) = refl
+same_fields-pointwise (f ∷ fs) [] = refl
+same_fields-pointwise (f ∷ fs) (g ∷ gs) = ap (λ b. same_field f g && b) (same_fields-pointwise fs gs)
+
+pub same_elements-pointwise : (vs ws : List Tree) → same_elements (elements_of vs) (elements_of ws) ≡ pointwise is_same vs ws
+same_elements-pointwise [] [] = refl
+same_elements-pointwise [] (w ∷ ws) = refl
+same_elements-pointwise (v ∷ vs) [] = refl
+same_elements-pointwise (v ∷ vs) (w ∷ ws) = ap (λ b. is_same v w && b) (same_elements-pointwise vs ws)
+
+module _ {A : Type 0} (E : A → A → Bool) {xs ys us vs : List A} (left : IsLeft (pointwise E) xs ys us vs) where
+  pub same-ended : (length us ≡ 0) ⊎ (length vs ≡ 0) → (length xs == length ys) ≡ pointwise E xs ys
+  same-ended = ended left (λ n m. n == m) (λ n m e. grind (arith, nat_tests)) (λ w ws n m e. grind (arith, nat_tests)) (λ w ws n m e. grind (arith, nat_tests))
+
+  module _ {x y : A} {us' vs' : List A} (p : us ≡ x ∷ us') (q : vs ≡ y ∷ vs') where
+    pub same-more : E x y ≡ true → IsLeft (pointwise E) xs ys us' vs'
+    same-more h = IsLeft-more left p q (ap (λ b. b && pointwise E us' vs') h)
+
+    pub differs : E x y ≡ false → false ≡ pointwise E xs ys
+    differs h = decided left p q false (ap (λ b. b && pointwise E us' vs') h)
+
+-- ---- paths that begin others
+
+module _ {xs ys us vs : List (List ℕ)} (left : IsLeft begins xs ys us vs) where
+  pub begins-ended : (length us ≡ 0) ⊎ (length vs ≡ 0) → nat_le (length xs) (length ys) ≡ begins xs ys
+  begins-ended = ended left nat_le (λ n m e. grind (arith, nat_tests)) (λ w ws n m e. grind (arith, nat_tests)) (λ w ws n m e. grind (arith, nat_tests))
+
+  module _ {x y : List ℕ} {us' vs' : List (List ℕ)} (p : us ≡ x ∷ us') (q : vs ≡ y ∷ vs') where
+    pub begins-more : bytes_eq x y ≡ true → IsLeft begins xs ys us' vs'
+    begins-more h = IsLeft-more left p q (ap (λ b. b && begins us' vs') h)
+
+    pub begins-differs : bytes_eq x y ≡ false → false ≡ begins xs ys
+    begins-differs h = decided left p q false (ap (λ b. b && begins us' vs') h)
+
+-- ---- orders
+
+rest_is : (r o : Ordering) → false ≡ is_ne r → ordering_then r o ≡ o
+rest_is Less o h = cc
+rest_is Equal o h = refl
+rest_is Greater o h = cc
+
+first_is : (r o : Ordering) → true ≡ is_ne r → ordering_then r o ≡ r
+first_is Less o h = refl
+first_is Equal o h = cc
+first_is Greater o h = refl
+
+module _ {A : Type 0} (R : A → A → Ordering) {xs ys us vs : List A} (left : IsLeft (slice_cmp R) xs ys us vs) where
+  pub order-ended : (length us ≡ 0) ⊎ (length vs ≡ 0) → nat_cmp (length xs) (length ys) ≡ slice_cmp R xs ys
+  order-ended = ended left nat_cmp (λ n m e. sym (nat_cmp_is n m Equal (omega arith))) (λ w ws n m e. sym (nat_cmp_is n m Less (omega arith))) (λ w ws n m e. sym (nat_cmp_is n m Greater (omega arith)))
+
+  module _ {x y : A} {us' vs' : List A} (p : us ≡ x ∷ us') (q : vs ≡ y ∷ vs') {r : Ordering} (is : r ≡ R x y) where
+    pub order-more : false ≡ is_ne r → IsLeft (slice_cmp R) xs ys us' vs'
+    order-more h = IsLeft-more left p q ((λ i. ordering_then (sym is i) (slice_cmp R us' vs')) ∙ rest_is r (slice_cmp R us' vs') h)
+
+    pub order-decided : true ≡ is_ne r → r ≡ slice_cmp R xs ys
+    order-decided h = decided left p q r ((λ i. ordering_then (sym is i) (slice_cmp R us' vs')) ∙ first_is r (slice_cmp R us' vs') h)
+
+pub and-true : (p q : Bool) → false ≡ not p → true ≡ q → (p && q) ≡ true
+and-true true q h e = sym e
+and-true false q h e = cc
+
+pub and-first : (p q : Bool) → true ≡ not p → (p && q) ≡ false
+and-first true q h = cc
+and-first false q h = refl
+
+pub and-second : (p q : Bool) → false ≡ q → (p && q) ≡ false
+and-second true q h = sym h
+and-second false q h = refl

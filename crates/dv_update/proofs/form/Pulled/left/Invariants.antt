@@ -1,0 +1,9 @@
+-- The elements that stay so far, and those that are left.
+use Rattle.std.proofs.Common.{◌≡◌, ◌++◌, map, drop}
+use Rattle.dv_bson.specs.View.{tree}
+use Rattle.dv_update.specs.Apply.{left}
+use Rattle.dv_update.specs.View.{pulled}
+use Rattle.dv_update.proofs.form.Pulled.left.Given as goal
+
+abbrev pub invariant-elements : goal.invariant-elements
+invariant-elements l = left (pulled l.self) (map tree l.element-items) ≡ map tree l.left.items ++ left (pulled l.self) (map tree (drop l.element-index l.element-items))

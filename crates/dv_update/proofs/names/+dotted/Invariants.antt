@@ -1,0 +1,21 @@
+-- No name so far has a dot. What is inside a value weighs less.
+use Rattle.std.proofs.Common.{◌≡◌, ◌+◌, ◌*◌, drop}
+use Rattle.dv_bson.specs.Tree.{weight, fields_of, fields_weight, elements_of, elements_weight}
+use Rattle.dv_bson.specs.View.{tree}
+use Rattle.dv_update.specs.Parsing.{are_fields_dotted, are_elements_dotted}
+use Rattle.dv_update.proofs.names.+dotted.Given as goal
+
+abbrev pub decreases-is_dotted : goal.decreases-is_dotted
+decreases-is_dotted l = 2 * weight (tree l.value.now)
+
+abbrev pub decreases-are_fields_dotted : goal.decreases-are_fields_dotted
+decreases-are_fields_dotted l = 2 * fields_weight (fields_of l.document.now) + 1
+
+abbrev pub decreases-are_elements_dotted : goal.decreases-are_elements_dotted
+decreases-are_elements_dotted l = 2 * elements_weight (elements_of l.list.now) + 1
+
+abbrev pub invariant-are_fields_dotted-fields : goal.invariant-are_fields_dotted-fields
+invariant-are_fields_dotted-fields l = are_fields_dotted (fields_of l.document) ≡ are_fields_dotted (fields_of (drop l.place l.document))
+
+abbrev pub invariant-are_elements_dotted-elements : goal.invariant-are_elements_dotted-elements
+invariant-are_elements_dotted-elements l = are_elements_dotted (elements_of l.list) ≡ are_elements_dotted (elements_of (drop l.value-index l.list))

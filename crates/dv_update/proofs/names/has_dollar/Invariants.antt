@@ -1,0 +1,9 @@
+-- No name so far begins with a dollar sign.
+use Rattle.std.proofs.Common.{◌≡◌, drop}
+use Rattle.std.specs.List.{list_any}
+use Rattle.dv_bson.specs.Tree.{Field}
+use Rattle.dv_match.specs.Parsing.{begins_with_dollar}
+use Rattle.dv_update.proofs.names.has_dollar.Given as goal
+
+abbrev pub invariant-fields : goal.invariant-fields
+invariant-fields l = list_any (λ (f : Field). begins_with_dollar f.0) l.document ≡ list_any (λ (f : Field). begins_with_dollar f.0) (drop l.place l.document)

@@ -1,0 +1,12 @@
+pub mod Apply
+pub mod Collected
+pub mod Fault
+pub mod OtherFaults
+pub mod Parsing
+pub mod PathOrder
+pub mod PathOrderLaws
+pub mod Same
+pub mod Update
+pub mod UpdateCode
+pub mod UpdateView
+pub mod View

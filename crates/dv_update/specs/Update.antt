@@ -1,0 +1,33 @@
+-- Updates as parsed (MongoDB manual, "Update Operators"). Which operators there are is this server's own.
+use Rattle.std.specs.Prelude.{ℕ, List}
+use Rattle.dv_bson.specs.Tree.{Tree, Field}
+use Rattle.dv_match.specs.Filter.{Test}
+use Rattle.dv_update.specs.declared.number.Number.{Number}
+
+-- which elements $pull takes out: those that compare equal to a value, or those that pass a test
+pub data Pulled : Type 0 where
+  equal_to : Tree → Pulled
+  passing : Test → Pulled
+
+-- what is done where a path leads
+pub data Operation : Type 0 where
+  -- $set
+  assign : Tree → Operation
+  -- $unset
+  take_away : Operation
+  -- $inc
+  increase : Number → Operation
+  -- $push, with the values that are appended
+  append : List Tree → Operation
+  -- $pull
+  pull : Pulled → Operation
+
+-- a path, by its components, and what is done there
+abbrev pub Edit : Type 0
+Edit = List (List ℕ) × Operation
+
+pub data Update : Type 0 where
+  -- the fields that stand in place of all but `_id`
+  replacement : List Field → Update
+  -- the edits, in the order of their paths
+  operators : List Edit → Update

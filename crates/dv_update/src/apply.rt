@@ -1,0 +1,152 @@
+//! What an update makes of a document.
+
+ghost use Rattle.std.specs.Prelude.{◌≡◌, [], ◌∷◌, ◌++◌, nat_lt, false, length, codes, IfOk, OnOk, OnErr};
+ghost use Rattle.std.specs.Option.{option_map};
+ghost use Rattle.dv_bson.specs.Names.{has_name, has_zero, value_under};
+ghost use Rattle.dv_bson.specs.Spelling.{spelling};
+ghost use Rattle.dv_bson.specs.View.{tree};
+ghost use Rattle.dv_update.specs.Apply as defined;
+ghost use Rattle.dv_update.specs.Parsing.{Gives};
+ghost use Rattle.dv_update.specs.Same.{both_same};
+ghost use Rattle.dv_update.specs.UpdateView.{update};
+
+use crate::fault::UpdateFault;
+use crate::form::{Edits, Update};
+use crate::same::is_same;
+use dv_bson::{Document, NoMemory, Value, fits, size};
+use std::alloc::{AllocError, Global};
+
+/// The name of the field that a stored document begins with.
+const ID: &str = "_id";
+
+/// The length in bytes of the longest document that is stored.
+const MAX_DOCUMENT_LEN: u32 = 16_777_216;
+
+impl Update {
+    /// What the update makes of the document, which stays as it is.
+    ///
+    /// Edits are made one after the other, and the first refusal is told: `NotViable` where no value can be put, `NotNumber`
+    /// and `Overflow` of `$inc`, `NotArray` of `$push` and `$pull`. A replacement has its own `_id`, or else the document's,
+    /// in front. Then `IdChanged` where the result doesn't begin with the `_id` with which the document begins, spelled as it
+    /// is there, `TooLarge` above 16,777,216 bytes, and `TooDeep` above 100 levels. Fails with `NoMemory` where memory is
+    /// wanting.
+    ///
+    /// What isn't changed is shared with the document; fields of which one is changed are copied once. An edit that changes
+    /// nothing copies none.
+    pub fn apply(&self, alloc: Global, document: &Document) -> Result<Document, UpdateFault>
+        ensures { Gives (λ changed. changed) result (defined.applied (update self.now) document.now) }
+    {
+        let changed = self.change(alloc, document)?;
+        if !keeps_id(document, &changed) {
+            return Err(UpdateFault::IdChanged);
+        }
+        if is_too_large(&changed) {
+            return Err(UpdateFault::TooLarge);
+        }
+        if !fits(&changed) {
+            return Err(UpdateFault::TooDeep);
+        }
+        Ok(changed)
+    }
+
+    /// The same, whatever the result is.
+    fn change(&self, alloc: Global, document: &Document) -> Result<Document, UpdateFault>
+        ensures { Gives (λ changed. changed) result (defined.changed (update self.now) document.now) }
+    {
+        match self {
+            Update::Replacement(fields) => Ok(replaced(alloc, fields, document)?),
+            Update::Operators(edits) => edited(alloc, edits, document.try_clone()?),
+        }
+    }
+}
+
+/// The edits made one after the other.
+fn edited(alloc: Global, edits: &Edits, document: Document) -> Result<Document, UpdateFault>
+    ensures { Gives (λ changed. changed) result (defined.edited edits.now document) }
+{
+    let mut changed = document;
+    'edits: for edit in edits.as_slice() {
+        changed = edit.make(alloc, changed)?;
+    }
+    Ok(changed)
+}
+
+/// The fields with the `_id` of their own, or else the document's, in front. Fails where memory is wanting.
+fn replaced(alloc: Global, fields: &Document, document: &Document) -> Result<Document, NoMemory>
+    ensures { IfOk result (λ changed. changed ≡ defined.replaced fields.now document.now) }
+{
+    let mut changed = id_alone(alloc, chosen_id(fields, document))?;
+    'others: for place in 0..fields.len() {
+        let Some((name, value)) = fields.entry(place) else {
+            break;
+        };
+        if name != ID {
+            add(&mut changed, name, value.try_clone()?)?;
+        }
+    }
+    Ok(changed)
+}
+
+/// A document with this `_id`, where there is one, and nothing else. Fails where memory is wanting.
+fn id_alone(alloc: Global, id: Option<&Value>) -> Result<Document, NoMemory>
+    ensures { IfOk result (λ document. document ≡ defined.with_id (option_map (λ id. tree id.now) id.entry) []) }
+{
+    let mut document = Document::new(alloc);
+    if let Some(id) = id {
+        add(&mut document, ID, id.try_clone()?)?;
+    }
+    Ok(document)
+}
+
+/// The value under `_id` in the first document, or else in the second.
+fn chosen_id<'a>(fields: &'a Document, document: &'a Document) -> Option<&'a Value>
+    ensures { option_map (λ id. tree id.now) result ≡ defined.chosen (value_under (codes "_id") fields.now) (value_under (codes "_id") document.now) }
+{
+    match fields.get(ID) {
+        Some(id) => Some(id),
+        None => document.get(ID),
+    }
+}
+
+/// Adds a field whose name is known to be new and without a zero byte. Fails where memory is wanting.
+fn add(document: &mut Document, name: &str, value: Value) -> Result<(), NoMemory>
+    requires whole { has_zero name.now ≡ false }
+    requires fresh { has_name name.now document.old ≡ false }
+    ensures { OnOk result (document.new ≡ document.old ++ (name.now, tree value) ∷ []) }
+{
+    match document.push(name, value) {
+        Ok(()) => Ok(()),
+        Err(_) => Err(AllocError),
+    }
+}
+
+/// Whether both documents begin with the same `_id`, or neither with one.
+fn keeps_id(old: &Document, new: &Document) -> bool
+    ensures { result ≡ both_same (defined.leading_id old.now) (defined.leading_id new.now) }
+{
+    match (leading_id(old), leading_id(new)) {
+        (None, None) => true,
+        (Some(a), Some(b)) => is_same(a, b),
+        _ => false,
+    }
+}
+
+/// The `_id` with which the document begins.
+fn leading_id(document: &Document) -> Option<&Value>
+    ensures { option_map (λ id. tree id.now) result ≡ defined.leading_id document.now }
+{
+    match document.entry(0) {
+        Some((name, value)) if name == ID => Some(value),
+        _ => None,
+    }
+}
+
+/// Whether the document is longer than what is stored.
+fn is_too_large(document: &Document) -> bool
+    ensures { result ≡ nat_lt defined.document_limit (length (spelling document.now)) }
+{
+    match size(document) {
+        Some(size) => size > MAX_DOCUMENT_LEN,
+        None => true,
+    }
+}

@@ -1,0 +1,19 @@
+//! Updates of BSON documents.
+#![tactic(auto)]
+
+mod apply;
+mod edit;
+mod fault;
+mod form;
+mod names;
+mod number;
+mod operand;
+mod operator;
+mod order;
+mod parsing;
+mod same;
+
+pub use fault::UpdateFault;
+pub use form::{Edit, Edits, Operation, Pulled, Update};
+pub use number::Number;
+pub use same::{is_same, same_documents};

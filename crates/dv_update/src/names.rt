@@ -1,0 +1,81 @@
+//! The names of a replacement.
+
+ghost use Rattle.std.specs.Prelude.{◌≡◌};
+ghost use Rattle.std.specs.List.{list_any};
+ghost use Rattle.dv_bson.specs.Tree.{fields_of, elements_of};
+ghost use Rattle.dv_bson.specs.View.{tree};
+ghost use Rattle.dv_match.specs.Parsing as filters;
+ghost use Rattle.dv_update.specs.Parsing as defined;
+
+use crate::operator::begins_with_dollar;
+use dv_bson::{Document, List, Value};
+
+/// Whether a name begins with a dollar sign at the top level, or holds a dot at any level.
+pub(crate) fn has_bad_name(document: &Document) -> bool
+    ensures { result ≡ defined.has_bad_name document.now }
+{
+    has_dollar(document) || are_fields_dotted(document)
+}
+
+/// Whether a name begins with a dollar sign, at the top level.
+#[tactic(auto, using(crate::proofs::Left::fields_left))]
+fn has_dollar(document: &Document) -> bool
+    ensures { result ≡ list_any (λ f. filters.begins_with_dollar f.0) document.now }
+{
+    'fields: for place in 0..document.len() {
+        let Some((name, _)) = document.entry(place) else {
+            break;
+        };
+        if begins_with_dollar(name) {
+            return true;
+        }
+    }
+    false
+}
+
+fn has_dot(name: &str) -> bool
+    ensures { result ≡ defined.has_dot name.now }
+{
+    name.as_bytes().contains(&b'.')
+}
+
+/// Whether a dot stands in a name, at any level of the value.
+#[cycle(dotted)]
+fn is_dotted(value: &Value) -> bool
+    ensures { result ≡ defined.is_dotted (tree value.now) }
+{
+    match value {
+        Value::Doc(document) => are_fields_dotted(document),
+        Value::Array(list) => are_elements_dotted(list),
+        _ => false,
+    }
+}
+
+#[cycle(dotted)]
+#[tactic(auto, using(crate::proofs::Left::fields_left))]
+fn are_fields_dotted(document: &Document) -> bool
+    ensures { result ≡ defined.are_fields_dotted (fields_of document.now) }
+{
+    'fields: for place in 0..document.len() {
+        let Some((name, value)) = document.entry(place) else {
+            break;
+        };
+        if has_dot(name) || is_dotted(value) {
+            return true;
+        }
+    }
+    false
+}
+
+#[cycle(dotted)]
+#[tactic(auto, using(crate::proofs::Left::elements_left))]
+fn are_elements_dotted(list: &List) -> bool
+    ensures { result ≡ defined.are_elements_dotted (elements_of list.now) }
+{
+    'elements: for value in list.as_slice() {
+        if is_dotted(value) {
+            return true;
+        }
+    }
+    false
+}
