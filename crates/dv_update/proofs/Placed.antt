@@ -34,9 +34,9 @@ onto-last (d ∷ es) e ds = ap (placed d) (onto-last es e ds)
 
 -- ---- lists with the same edits in another order
 
-record Alike (us vs : List Edit) : Type 0 where
-  any : (p : Edit → Bool) → list_any p us ≡ list_any p vs
-  conflict : has_conflict us ≡ has_conflict vs
+pub record Alike (us vs : List Edit) : Type 0 where
+  pub any : (p : Edit → Bool) → list_any p us ≡ list_any p vs
+  pub conflict : has_conflict us ≡ has_conflict vs
 
 or-swap : (a b c : Bool) → (a || (b || c)) ≡ (b || (a || c))
 or-swap true true c = refl
@@ -64,7 +64,7 @@ Alike-cons e us vs a = record {
   conflict = ap₂ (λ b c. b || c) (a.any (conflicts e)) a.conflict;
 }
 
-Alike-swap : (d e : Edit) (us : List Edit) → Alike (e ∷ d ∷ us) (d ∷ e ∷ us)
+pub Alike-swap : (d e : Edit) (us : List Edit) → Alike (e ∷ d ∷ us) (d ∷ e ∷ us)
 Alike-swap d e us = record {
   any = λ p. or-swap (p e) (p d) (list_any p us);
   conflict = or-four (conflicts e d) (list_any (conflicts e) us) (list_any (conflicts d) us) (has_conflict us) ∙ ap (λ b. (b || list_any (conflicts d) us) || (list_any (conflicts e) us || has_conflict us)) (conflicts-back e d);
@@ -84,7 +84,7 @@ Alike-placed : (e : Edit) (ds : List Edit) → Alike (e ∷ ds) (placed e ds)
 Alike-placed e [] = Alike-same (e ∷ [])
 Alike-placed e (d ∷ ds) = Alike-by (is_gt (path_order e.0 d.0)) e d ds (placed e ds) (Alike-placed e ds)
 
-Alike-behind : (es us vs : List Edit) → Alike us vs → Alike (es ++ us) (es ++ vs)
+pub Alike-behind : (es us vs : List Edit) → Alike us vs → Alike (es ++ us) (es ++ vs)
 Alike-behind [] us vs a = a
 Alike-behind (e ∷ es) us vs a = Alike-cons e (es ++ us) (es ++ vs) (Alike-behind es us vs a)
 

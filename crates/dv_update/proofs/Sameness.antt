@@ -44,7 +44,7 @@ mutual
   same-is max_key max_key e = refl
   same-is v w e = cc
 
-  same-fields : (fs gs : Fields) → same_fields fs gs ≡ true → fs ≡ gs
+  pub same-fields : (fs gs : Fields) → same_fields fs gs ≡ true → fs ≡ gs
   same-fields no_fields no_fields e = refl
   same-fields (field a v fs) (field b w gs) e =
       let front = and-left (bytes_eq a b && is_same v w) (same_fields fs gs) e in
@@ -88,7 +88,7 @@ mutual
   same-itself min_key = refl
   same-itself max_key = refl
 
-  fields-itself : (fs : Fields) → same_fields fs fs ≡ true
+  pub fields-itself : (fs : Fields) → same_fields fs fs ≡ true
   fields-itself no_fields = refl
   fields-itself (field a v fs) = and-both _ _ (and-both _ _ (same-bytes a) (same-itself v)) (fields-itself fs)
 

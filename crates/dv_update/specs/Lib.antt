@@ -1,5 +1,6 @@
 pub mod Apply
 pub mod Collected
+pub mod Examples
 pub mod Fault
 pub mod OtherFaults
 pub mod Parsing

@@ -5,6 +5,7 @@ mod apply;
 mod edit;
 mod fault;
 mod form;
+pub mod laws;
 mod names;
 mod number;
 mod operand;
@@ -17,3 +18,6 @@ pub use fault::UpdateFault;
 pub use form::{Edit, Edits, Operation, Pulled, Update};
 pub use number::Number;
 pub use same::{is_same, same_documents};
+
+#[cfg(test)]
+mod tests;

@@ -1,0 +1,34 @@
+-- Worked examples: what an update makes of a document, both as they are written.
+use Rattle.std.specs.Prelude.{◌≡◌, ℕ, pos, List, [], ◌∷◌, Result, Ok, Err, codes, ◌^◌, ◌-◌}
+use Rattle.dv_bson.specs.Tree.{Tree, int32, int64, document, array, null, Field, fields_of, elements_of}
+use Rattle.dv_update.specs.declared.fault.UpdateFault.{UpdateFault}
+use Rattle.dv_update.specs.Apply.{applied, edited, replaced}
+use Rattle.dv_update.specs.Parsing.{◌>>=◌, update_of}
+use Rattle.dv_update.specs.Update.{Update, replacement, operators}
+
+abbrev pub int : ℕ → Tree
+int n = int32 (pos n)
+
+abbrev pub long : ℕ → Tree
+long n = int64 (pos n)
+
+abbrev pub doc : List Field → Tree
+doc fields = document (fields_of fields)
+
+abbrev pub list : List Tree → Tree
+list vs = array (elements_of vs)
+
+-- an update with one operator of one path
+abbrev pub one : List ℕ → List ℕ → Tree → List Field
+one operator path v = (operator, doc ((path, v) ∷ [])) ∷ []
+
+-- {_id: 1, a: [1, 2, 2L, 3]}
+abbrev pub with_a : List Tree → List Field
+with_a vs = (codes "_id", int 1) ∷ (codes "a", list vs) ∷ []
+
+abbrev pub start : List Field
+start = with_a (int 1 ∷ int 2 ∷ long 2 ∷ int 3 ∷ [])
+
+-- what the update makes of the document, or the fault of either
+abbrev pub outcome : List Field → List Field → Result (List Field) UpdateFault
+outcome update d = update_of update >>= λ u. applied u d

@@ -1,0 +1,106 @@
+//! What holds of updates, each the contract of a function that does nothing.
+
+ghost use Rattle.std.specs.Prelude.{◌≡◌, ◌↔◌, true, false, ℕ, List, [], ◌∷◌, ◌++◌, Ok, Err, codes};
+ghost use Rattle.std.specs.Ordering.{ordering_reverse};
+ghost use Rattle.std.specs.declared.cmp.Ordering.TheVariants.{Less, Equal};
+ghost use Rattle.dv_bson.specs.Spelling.{Fits};
+ghost use Rattle.dv_bson.specs.Tree.{Tree, Field, fields_of, null};
+ghost use Rattle.dv_path.specs.Slots.{slot, taken};
+ghost use Rattle.dv_update.specs.Apply.{Path, applied, set_at};
+ghost use Rattle.dv_update.specs.Examples.{doc, int, list, long, one, outcome, start, with_a};
+ghost use Rattle.dv_update.specs.Parsing.{conflicts, in_order};
+ghost use Rattle.dv_update.specs.PathOrder.{path_order};
+ghost use Rattle.dv_update.specs.Same.{is_same, same_fields};
+ghost use Rattle.dv_update.specs.Update.{Edit, Update};
+ghost use Rattle.dv_update.specs.declared.fault.UpdateFault.TheVariants.{BadName, BadOperand, Conflict, IdChanged, NotArray, NotNumber, NotViable, Overflow, UnknownOperator};
+
+/// Any two paths compare, either way round alike; what stands before a path stands before all that come after it; and two
+/// paths stand beside each other exactly where they are one.
+#[tactic(auto, using(crate::proofs::Lawful::back, crate::proofs::Lawful::through, crate::proofs::Lawful::beside))]
+pub fn paths_stand_in_a_total_order()
+    ensures back { (p q : Path) → path_order p q ≡ ordering_reverse (path_order q p) }
+    ensures through { (p q r : Path) → path_order p q ≡ Less → path_order q r ≡ Less → path_order p r ≡ Less }
+    ensures beside { (p q : Path) → (path_order p q ≡ Equal) ↔ (p ≡ q) }
+{}
+
+/// Edits without a conflict that trade places as they are written are the same update.
+#[tactic(auto, using(crate::proofs::Lawful::traded))]
+pub fn the_written_order_is_no_matter()
+    ensures { (before after : List Edit) (d e : Edit) → conflicts d e ≡ false → in_order (before ++ d ∷ e ∷ after) ≡ in_order (before ++ e ∷ d ∷ after) }
+{}
+
+/// `$set` of what is there changes nothing.
+#[tactic(auto, using(crate::proofs::Lawful::set_again))]
+pub fn setting_what_is_there_changes_nothing()
+    ensures { (path : Path) (v : Tree) (d : List Field) → slot d path ≡ taken v → set_at path v d ≡ Ok d }
+{}
+
+/// What an update makes of a document begins with its `_id`, spelled as it was.
+#[tactic(auto, using(crate::proofs::Lawful::id_stays))]
+pub fn the_id_stays()
+    ensures { (update : Update) (v : Tree) (others after : List Field) → applied update ((codes "_id", v) ∷ others) ≡ Ok after → (rest : List Field) × (after ≡ (codes "_id", v) ∷ rest) }
+{}
+
+/// What an update makes of a document fits.
+#[tactic(auto, using(crate::proofs::Lawful::fitting))]
+pub fn what_comes_out_fits()
+    ensures { (update : Update) (d after : List Field) → applied update d ≡ Ok after → Fits after }
+{}
+
+/// Values are the same where each part is, and so are documents.
+#[tactic(auto, using(crate::proofs::Lawful::same_values, crate::proofs::Lawful::same_documents))]
+pub fn sameness_is_equality()
+    ensures values { (v w : Tree) → (is_same v w ≡ true) ↔ (v ≡ w) }
+    ensures documents { (d e : List Field) → (same_fields (fields_of d) (fields_of e) ≡ true) ↔ (d ≡ e) }
+{}
+
+/// Updates of a document with an array.
+#[tactic(auto, unfolding(crate::specs::Parsing::operator_named, dv_path::specs::Path::path_of, dv_path::specs::Path::index_of, dv_path::specs::Placing::put, dv_path::specs::Removing::remove, dv_path::specs::Slots::slot, dv_bson::specs::Spelling::payload, dv_bson::specs::Spelling::framed, dv_bson::specs::Spelling::counted, dv_bson::specs::Spelling::element_spelling))]
+pub fn array_examples()
+    ensures pull { outcome (one (codes "$pull") (codes "a") (int 2)) start ≡ Ok (with_a (int 1 ∷ int 3 ∷ [])) }
+    ensures push_each { outcome (one (codes "$push") (codes "a") (doc ((codes "$each", list (int 4 ∷ int 5 ∷ [])) ∷ []))) start ≡ Ok (with_a (int 1 ∷ int 2 ∷ long 2 ∷ int 3 ∷ int 4 ∷ int 5 ∷ [])) }
+    ensures unset { outcome (one (codes "$unset") (codes "a.1") (int 0)) start ≡ Ok (with_a (int 1 ∷ null ∷ long 2 ∷ int 3 ∷ [])) }
+    ensures replaced { outcome ((codes "b", int 1) ∷ []) start ≡ Ok ((codes "_id", int 1) ∷ (codes "b", int 1) ∷ []) }
+    ensures same_id { outcome (one (codes "$set") (codes "_id") (int 1)) start ≡ Ok start }
+    ensures conflict { outcome ((codes "$set", doc ((codes "a", int 1) ∷ (codes "a.b", int 2) ∷ [])) ∷ []) start ≡ Err Conflict }
+    ensures not_viable { outcome (one (codes "$set") (codes "a.x") (int 1)) start ≡ Err NotViable }
+    ensures another_id { outcome (one (codes "$set") (codes "_id") (long 1)) start ≡ Err IdChanged }
+    ensures replaced_with_another_id { outcome ((codes "_id", long 1) ∷ (codes "b", int 1) ∷ []) start ≡ Err IdChanged }
+    ensures no_array { outcome (one (codes "$push") (codes "_id") (int 1)) start ≡ Err NotArray }
+{}
+
+/// An element of an array is taken out where it passes a condition.
+#[tactic(auto, unfolding(crate::specs::Parsing::operator_named, dv_match::specs::Parsing::test_in, dv_match::specs::Parsing::operators_in, dv_match::specs::Parsing::operator_named, dv_match::specs::Match::passes, dv_match::specs::Match::meets_all, dv_match::specs::Match::meets, dv_path::specs::Path::path_of, dv_path::specs::Path::index_of, dv_path::specs::Placing::put, dv_path::specs::Slots::slot, dv_bson::specs::Spelling::payload, dv_bson::specs::Spelling::framed, dv_bson::specs::Spelling::counted, dv_bson::specs::Spelling::element_spelling))]
+pub fn condition_example()
+    ensures { outcome (one (codes "$pull") (codes "a") (doc ((codes "$gte", int 2) ∷ []))) start ≡ Ok (with_a (int 1 ∷ [])) }
+{}
+
+/// Sums at the ends of the widths, and what is no number.
+#[tactic(auto, unfolding(crate::specs::Parsing::operator_named, dv_path::specs::Path::path_of, dv_path::specs::Path::index_of, dv_path::specs::Placing::put, dv_path::specs::Slots::slot, dv_bson::specs::Spelling::payload, dv_bson::specs::Spelling::framed, dv_bson::specs::Spelling::counted, dv_bson::specs::Spelling::element_spelling))]
+pub fn sum_examples()
+    ensures widened { outcome (one (codes "$inc") (codes "v") (int 1)) ((codes "_id", int 1) ∷ (codes "v", int 2147483647) ∷ []) ≡ Ok ((codes "_id", int 1) ∷ (codes "v", long 2147483648) ∷ []) }
+    ensures narrow { outcome (one (codes "$inc") (codes "v") (int 1)) ((codes "_id", int 1) ∷ (codes "v", int 2147483646) ∷ []) ≡ Ok ((codes "_id", int 1) ∷ (codes "v", int 2147483647) ∷ []) }
+    ensures too_great { outcome (one (codes "$inc") (codes "v") (int 1)) ((codes "_id", int 1) ∷ (codes "v", long 9223372036854775807) ∷ []) ≡ Err Overflow }
+    ensures no_number { outcome (one (codes "$inc") (codes "v") (int 1)) ((codes "_id", int 3) ∷ (codes "v", list []) ∷ []) ≡ Err NotNumber }
+{}
+
+/// Paths are taken in their order, and nulls pad an array.
+#[tactic(auto, unfolding(crate::specs::Parsing::operator_named, dv_path::specs::Path::path_of, dv_path::specs::Path::index_of, dv_path::specs::Placing::put, dv_path::specs::Slots::slot, dv_bson::specs::Spelling::payload, dv_bson::specs::Spelling::framed, dv_bson::specs::Spelling::counted, dv_bson::specs::Spelling::element_spelling))]
+pub fn order_examples()
+    ensures in_order { outcome ((codes "$set", doc ((codes "x.10", int 1) ∷ (codes "x.2", int 2) ∷ (codes "b", int 3) ∷ [])) ∷ []) ((codes "_id", int 1) ∷ []) ≡ Ok ((codes "_id", int 1) ∷ (codes "b", int 3) ∷ (codes "x", doc ((codes "2", int 2) ∷ (codes "10", int 1) ∷ [])) ∷ []) }
+    ensures padded { outcome (one (codes "$set") (codes "x.3") (int 1)) ((codes "_id", int 1) ∷ (codes "x", list (int 0 ∷ [])) ∷ []) ≡ Ok ((codes "_id", int 1) ∷ (codes "x", list (int 0 ∷ null ∷ null ∷ int 1 ∷ [])) ∷ []) }
+{}
+
+/// What is no update.
+#[tactic(auto, unfolding(crate::specs::Parsing::operator_named, dv_path::specs::Path::path_of, dv_path::specs::Path::index_of, dv_match::specs::Parsing::test_in, dv_match::specs::Parsing::operators_in, dv_match::specs::Parsing::operator_named))]
+pub fn fault_examples()
+    ensures no_operator { outcome ((codes "$add", doc []) ∷ []) start ≡ Err UnknownOperator }
+    ensures a_field_among_operators { outcome ((codes "$set", doc []) ∷ (codes "b", int 1) ∷ []) start ≡ Err UnknownOperator }
+    ensures no_document { outcome ((codes "$set", int 1) ∷ []) start ≡ Err BadOperand }
+    ensures empty_component { outcome (one (codes "$set") (codes "a..b") (int 1)) start ≡ Err BadName }
+    ensures dollar { outcome (one (codes "$set") (codes "a.$") (int 1)) start ≡ Err BadName }
+    ensures each_beside_another { outcome (one (codes "$push") (codes "a") (doc ((codes "$each", list []) ∷ (codes "$slice", int 1) ∷ []))) start ≡ Err UnknownOperator }
+    ensures each_of_no_array { outcome (one (codes "$push") (codes "a") (doc ((codes "$each", int 1) ∷ []))) start ≡ Err BadOperand }
+    ensures no_condition { outcome (one (codes "$pull") (codes "a") (doc ((codes "$near", int 1) ∷ []))) start ≡ Err BadOperand }
+    ensures a_dot_in_a_replacement { outcome ((codes "b", doc ((codes "c.d", int 1) ∷ [])) ∷ []) start ≡ Err BadName }
+{}
