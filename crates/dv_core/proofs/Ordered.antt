@@ -10,7 +10,7 @@ use Rattle.dv_bson.specs.Names.{value_under}
 use Rattle.dv_bson.specs.Tree.{Tree, array, Field, fields_of}
 use Rattle.dv_order.specs.Key.{KeyTree, key_order}
 use Rattle.dv_coll.specs.Collection.{HasId, IsAscending, found, has_key, id_key, inserted, removed, replaced}
-use Rattle.dv_command.specs.Asked.{Asked, hello, ping, insert, delete, find, asked_by}
+use Rattle.dv_command.specs.Asked.{Asked, hello, ping, insert, update, delete, find, asked_by}
 use Rattle.dv_command.specs.Refusals.{◌>>=◌}
 use Rattle.dv_command.specs.Sound.{AreValid}
 use Rattle.dv_command.specs.declared.command.Command.{Command}
@@ -110,6 +110,7 @@ module _ (laws : CollectionLaws) where
   writes_order hello write is = absurd cc
   writes_order ping write is = absurd cc
   writes_order (insert i) write is = let same : insert_write i ≡ write = cc in subst KeepsOrder same (inserts_order i.documents)
+  writes_order (update u) write is = ?
   writes_order (delete d) write is = let same : delete_write d ≡ write = cc in subst KeepsOrder same (deletes_keep (λ namespace ds. AreOrdered ds) BeginsWithId changes_order (λ k. tt) d.entries)
   writes_order (find f) write is = absurd cc
 
@@ -167,6 +168,7 @@ module _ (laws : CollectionLaws) where
     writes_sound command sound (insert i) write asked is =
         let same : insert_write i ≡ write = cc in
         subst KeepsSound same (inserts_sound i.documents (soundly_asked asks command (insert i) sound asked).1)
+    writes_sound command sound (update u) write asked is = ?
     writes_sound command sound (delete d) write asked is =
         let same : delete_write d ≡ write = cc in
         subst KeepsSound same (deletes_keep (λ namespace ds. AreSound ds) IsSoundChange changes_sound (λ k. tt) d.entries)

@@ -1,7 +1,12 @@
 -- Documents that are updated.
-use Rattle.std.proofs.Common.{◌≡◌, ◌++◌, ◌⊎◌, ◌+◌, ℕ, Bool, true, false, cond, not, List, [], ◌∷◌, drop, length, map, Result, Ok, Err, refl, sym, ap, ◌∙◌, inl, inr}
+use Rattle.std.proofs.Common.{◌≡◌, ◌++◌, ◌⊎◌, ◌+◌, ℕ, Bool, true, false, cond, not, List, [], ◌∷◌, drop, length, map, Option, Some, None, is_some, if◌then◌else◌, Result, Ok, Err, refl, sym, ap, ◌∙◌, inl, inr}
 use Rattle.std.proofs.lemmas.List.{length-map}
 use Rattle.dv_bson.specs.Tree.{Field}
+use Rattle.std.specs.List.{AllByRecursion}
+use Rattle.std.specs.Option.{option_map}
+use Rattle.dv_order.specs.Key.{KeyTree}
+use Rattle.dv_coll.specs.Collection.{found, has_key, id_key, replaced}
+use Rattle.dv_core.specs.UpdateParts.{AreThere}
 use Rattle.dv_update.specs.Update as form
 use Rattle.dv_command.specs.Entries.{Updating}
 use Rattle.dv_command.specs.Refusals.{◌>>=◌}
@@ -50,3 +55,19 @@ module _ (updating : Updating) (old new ds : List (List Field)) (limit : ℕ) (l
   update_refused refusal (inl refused) same =
       (inl (ap (updates_of updating.update) (sym chosen) ∙ ap (λ (r : Result (List (List Field)) Refusal). r >>= λ es. Ok (record { matched = length ds; changes = map put es })) refused), same)
   update_refused refusal (inr want) same = (inr want, same)
+
+-- ---- what is put is there
+
+abbrev pub StillFound : Type 0
+StillFound = (k : KeyTree) (d : List Field) (ds : List (List Field)) → found k (replaced d ds) ≡ (if has_key k d then option_map (λ e. d) (found k ds) else found k ds)
+
+found_still : (d : List Field) (there : Option (List Field)) (b : Bool) → is_some there ≡ true → is_some (cond b (option_map (λ e. d) there) there) ≡ true
+found_still d None b is = absurd cc
+found_still d (Some e) true is = refl
+found_still d (Some e) false is = refl
+
+-- after one is replaced
+pub still_there : StillFound → (d : List Field) (documents others : List (List Field)) → AreThere documents others → AreThere (replaced d documents) others
+still_there law d documents [] all = tt
+still_there law d documents (e ∷ es) all =
+    (ap is_some (law (id_key e) d documents) ∙ found_still d (found (id_key e) documents) (has_key (id_key e) d) all.0, still_there law d documents es all.1)

@@ -14,7 +14,7 @@ ghost use Rattle.dv_update.specs.UpdateView as seen;
 use crate::counted::Counted;
 use crate::scan::matching;
 use dv_bson::Document;
-use dv_coll::Collection;
+use dv_coll::{Collection, laws};
 use dv_command::{Refusal, Updating};
 use dv_update::{Update, same_documents};
 use std::alloc::Global;
@@ -32,6 +32,7 @@ pub(crate) fn update_in(
     let documents = matching(alloc, collection, &updating.filter, 0, limit)?;
     // What becomes of each is made first: behind it nothing is refused, and nothing takes memory.
     let changed = changed_by(alloc, &updating.update, &documents)?;
+    dv_update::laws::the_id_stays();
     let counted = Counted {
         matched: documents.len(),
         changed: changed.len(),
@@ -65,6 +66,7 @@ fn replace_each(collection: &mut Collection, documents: Vec<Document>)
     requires there { AreThere collection.old documents.items }
     ensures { collection.new ≡ with_changes collection.old (map put documents.items) }
 {
+    laws::replaced_document_is_found();
     'documents: for document in documents {
         let _ = collection.replace(document);
     }
