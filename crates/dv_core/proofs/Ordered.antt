@@ -1,5 +1,5 @@
 -- The documents of each namespace stay in the order of their `_id`s, and sound.
-use Rattle.std.proofs.Common.{◌≡◌, ℕ, Bool, true, false, cond, ◌||◌, not, List, [], ◌∷◌, map, Option, Some, None, Result, Ok, Err, is_some, refl, sym, subst}
+use Rattle.std.proofs.Common.{◌≡◌, ℕ, Bool, true, false, cond, ◌||◌, not, List, [], ◌∷◌, map, Option, Some, None, Result, Ok, Err, is_some, refl, sym, ap, ◌∙◌, subst}
 use Rattle.std.specs.Prelude.{codes}
 use Rattle.std.specs.Cmp.Lexicographic.{slice_cmp}
 use Rattle.std.specs.FinMap as finite
@@ -11,7 +11,7 @@ use Rattle.dv_bson.specs.Tree.{Tree, array, Field, fields_of}
 use Rattle.dv_order.specs.Key.{KeyTree, key_order}
 use Rattle.dv_coll.specs.Collection.{HasId, IsAscending, found, has_key, id_key, inserted, removed, replaced}
 use Rattle.dv_command.specs.Asked.{Asked, hello, ping, insert, update, delete, find, asked_by}
-use Rattle.dv_command.specs.Refusals.{◌>>=◌}
+use Rattle.dv_command.specs.Refusals.{◌>>=◌, refused_by, update_refusal}
 use Rattle.dv_command.specs.Sound.{AreValid}
 use Rattle.dv_command.specs.declared.command.Command.{Command}
 use Rattle.dv_command.specs.declared.refusal.Refusal.{Refusal}
@@ -19,6 +19,10 @@ use Rattle.dv_command.specs.declared.refusal.Refusal.TheVariants.{BadValue, TooL
 use Rattle.dv_core.specs.declared.outcome.Outcome.{Outcome}
 use Rattle.dv_core.specs.Changes.{Change, put, gone, with_change}
 use Rattle.dv_core.specs.Delete.{delete_write}
+use Rattle.dv_update.specs.Apply.{applied}
+use Rattle.dv_update.specs.Update as form
+use Rattle.dv_update.specs.declared.fault.UpdateFault.{UpdateFault}
+use Rattle.dv_core.specs.Update.{after, update_write}
 use Rattle.dv_core.specs.Insert.{insert_one, insert_write}
 use Rattle.dv_core.specs.Sound.{IsSoundDocument, AreSound, IsSound, IsSoundCommand}
 use Rattle.dv_core.specs.State.{State, empty_state, documents_of, AreOrdered, IsOrdered}
@@ -27,7 +31,7 @@ use Rattle.dv_core.specs.Step.{write_of, MemoryStep}
 use Rattle.dv_core.specs.Storable.{are_fields_dotted, has_dollar, id_in, is_within_limits, storable, with_id_first, without_field}
 use Rattle.dv_core.proofs.Asking.{AsksSoundly, soundly_asked}
 use Rattle.dv_core.proofs.ByNamespace.{documents_there}
-use Rattle.dv_core.proofs.Kept.{Keeps, insert_keeps, deletes_keep, step_holds}
+use Rattle.dv_core.proofs.Kept.{Keeps, insert_keeps, updates_keep, deletes_keep, step_holds}
 use Rattle.dv_core.proofs.Stored.{storable_fits}
 use Rattle.dv_core.proofs.Valid.{storable_valid}
 
@@ -70,6 +74,26 @@ stored_id d stored is =
     subst GivesId is
     (within_limits (with_id_first d) (first_with_id (has_dollar d || are_fields_dotted (fields_of d)) _ (id_given (codes "_id") refl (value_under (codes "_id") d) (without_field (codes "_id") d))))
 
+-- ---- what becomes of a document that is updated begins with its `_id`
+
+abbrev pub KeepsId : Type 0
+KeepsId = (update : form.Update) (v : Tree) (others after : List Field) → applied update ((codes "_id", v) ∷ others) ≡ Ok after → (rest : List Field) × (after ≡ (codes "_id", v) ∷ rest)
+
+told_after : (r : Result (List Field) UpdateFault) (e : List Field) → refused_by update_refusal r ≡ Ok e → r ≡ Ok e
+told_after (Ok d) e is = cc
+told_after (Err fault) e is = absurd cc
+
+after_id : KeepsId → (update : form.Update) (d e : List Field) → HasId d → after update d ≡ Ok e → HasId e
+after_id law update [] e has_id is = absurd has_id
+after_id law update (f ∷ fs) e has_id is =
+    let same : f ≡ (codes "_id", f.1) = λ i. (has_id.0 i, f.1) in
+    let (rest, begins) = law update f.1 fs e (ap (λ (g : Field). applied update (g ∷ fs)) (sym same) ∙ told_after (applied update (f ∷ fs)) e is) in
+    rw begins (refl, has_id.1)
+
+afters_ids : KeepsId → (update : form.Update) (ds : List (List Field)) → AllByRecursion HasId ds → AllByRecursion (λ d. (e : List Field) → after update d ≡ Ok e → HasId e) ds
+afters_ids law update [] all = tt
+afters_ids law update (d ∷ ds) all = ((λ e is. after_id law update d e all.0 is), afters_ids law update ds all.1)
+
 -- ---- what changes keep, by the laws of collections
 
 pub record CollectionLaws : Type 0 where
@@ -78,6 +102,7 @@ pub record CollectionLaws : Type 0 where
   pub removed_ascend : (k : KeyTree) (ds : List (List Field)) → IsAscending ds → IsAscending (removed k ds)
   pub removed_ids : (k : KeyTree) (ds : List (List Field)) → AllByRecursion HasId ds → AllByRecursion HasId (removed k ds)
   pub replaced_ascend : (d : List Field) (ds : List (List Field)) → HasId d → AllByRecursion HasId ds → IsAscending ds → IsAscending (replaced d ds)
+  pub id_stays : KeepsId
   pub replaced_ids : (d : List Field) (ds : List (List Field)) → HasId d → AllByRecursion HasId ds → AllByRecursion HasId (replaced d ds)
 
 -- a document that is put begins with its `_id`
@@ -110,7 +135,9 @@ module _ (laws : CollectionLaws) where
   writes_order hello write is = absurd cc
   writes_order ping write is = absurd cc
   writes_order (insert i) write is = let same : insert_write i ≡ write = cc in subst KeepsOrder same (inserts_order i.documents)
-  writes_order (update u) write is = ?
+  writes_order (update u) write is =
+      let same : update_write u ≡ write = cc in
+      subst KeepsOrder same (updates_keep (λ namespace ds. AreOrdered ds) BeginsWithId changes_order (λ form namespace ds ordered. afters_ids laws.id_stays form ds ordered.1) u.entries)
   writes_order (delete d) write is = let same : delete_write d ≡ write = cc in subst KeepsOrder same (deletes_keep (λ namespace ds. AreOrdered ds) BeginsWithId changes_order (λ k. tt) d.entries)
   writes_order (find f) write is = absurd cc
 

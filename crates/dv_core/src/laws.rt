@@ -54,6 +54,7 @@ pub fn documents_stay_in_order()
     dv_coll::laws::removed_documents_begin_with_ids();
     dv_coll::laws::replaced_documents_ascend();
     dv_coll::laws::replaced_documents_begin_with_ids();
+    dv_update::laws::the_id_stays();
 }
 
 /// Every state that is reached is sound, if the documents that commands bring are: so it is before the first command,
@@ -69,6 +70,7 @@ pub fn states_stay_sound()
     dv_coll::laws::removed_documents_begin_with_ids();
     dv_coll::laws::replaced_documents_ascend();
     dv_coll::laws::replaced_documents_begin_with_ids();
+    dv_update::laws::the_id_stays();
     dv_command::laws::what_is_asked_is_sound();
 }
 
