@@ -1,18 +1,25 @@
-"""What the measurements share: scripts, their times, and tables.
+"""What the measurements share: scripts, their times, a running program, what stands beside it, and tables.
 
 All need the built program (run ./docd once) and the BSON library of Debian's package python3-bson with its C extension
 (`apt-get install python3-bson python3-bson-ext`; run with /usr/bin/python3).
 """
+import json
 import os
+import queue
+import random
+import sqlite3
 import struct
 import subprocess
 import sys
+import threading
 import time
 
 import bson
+from bson.int64 import Int64
 
 HERE = os.path.dirname(os.path.dirname(os.path.abspath(__file__)))
 DOCD = os.path.join(HERE, "crates", "docd", "out", "docd")
+HEADER = 21  # the bytes in front of a message's body
 LINE_BYTES = 65_000  # a script's line has at most 131,200 characters
 RUNS = 5
 
@@ -60,6 +67,88 @@ def parts(script, replies):
     """The time of a run without the program's start, and how much of it goes to reading the lines and their digits."""
     idle = seconds(b"", 0)
     return seconds(script, replies) - idle, seconds(CLOSING + script, 1) - idle
+
+
+class Docd:
+    """A running program, whose input stays open."""
+
+    def __init__(self):
+        self.process = subprocess.Popen([DOCD, "run", "--hex"], stdin=subprocess.PIPE, stdout=subprocess.PIPE)
+        self.lines = queue.SimpleQueue()
+        threading.Thread(target=self.read, daemon=True).start()
+
+    def read(self):
+        for line in self.process.stdout:
+            self.lines.put(line)
+        self.lines.put(None)
+
+    def send(self, script, replies):
+        """Sends the lines, and gives the replies, which are so many."""
+        self.process.stdin.write(script)
+        self.process.stdin.flush()
+        said = [self.lines.get() for _ in range(replies)]
+        if None in said:
+            sys.exit("bench: the program has ended")
+        return said
+
+    def ask(self, *commands):
+        """Sends commands of the database `t`, and gives the replies."""
+        said = self.send(script_of(commands), len(commands))
+        return [bson.decode(bytes.fromhex(line.split()[1].decode())[HEADER:]) for line in said]
+
+    def close(self):
+        self.process.stdin.close()
+        self.process.wait()
+
+
+def script_of(commands):
+    """The lines that bring commands of the database `t`."""
+    return lines(b"".join(message(bson.encode({**command, "$db": "t"})) for command in commands), LINE_BYTES)
+
+
+def inserts(documents, batch=1_000):
+    """The commands that insert documents into the collection `c`."""
+    return [{"insert": "c", "documents": documents[i:i + batch]} for i in range(0, len(documents), batch)]
+
+
+def loaded(documents):
+    """A running program that holds the documents."""
+    docd = Docd()
+    for reply in docd.ask(*inserts(documents)):
+        if reply["ok"] != 1 or "writeErrors" in reply:
+            sys.exit("bench: an insert is refused: %r" % reply)
+    return docd
+
+
+WORDS = "amber birch cedar dune elder fern grove heath iris juniper kelp larch moss nettle oak pine reed sage".split()
+
+
+def documents_to_find(count):
+    """Documents of ten fields and some 250 bytes. `serial` is another number below `count` in each, `bucket` one of a
+    thousand, and each of two items has one of two thousand numbers."""
+    rng = random.Random(count)
+    serials = rng.sample(range(count), count)
+    return [{
+        "_id": identity,
+        "name": " ".join(rng.choices(WORDS, k=2)),
+        "city": rng.choice(WORDS),
+        "age": rng.randrange(18, 100),
+        "balance": Int64(rng.randrange(10**12)),
+        "active": rng.random() < 0.5,
+        "tags": rng.choices(WORDS, k=2),
+        "items": [{"item": rng.randrange(2_000), "count": rng.randrange(10)} for _ in range(2)],
+        "serial": serials[identity],
+        "bucket": rng.randrange(1_000),
+    } for identity in range(count)]
+
+
+def loaded_sqlite(documents):
+    """SQLite in process, with the documents as JSON."""
+    base = sqlite3.connect(":memory:")
+    base.execute("CREATE TABLE c (id INTEGER PRIMARY KEY, body TEXT)")
+    base.executemany("INSERT INTO c VALUES (?, ?)", [(one["_id"], json.dumps(one)) for one in documents])
+    base.commit()
+    return base
 
 
 def row(*cells):

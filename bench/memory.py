@@ -15,7 +15,6 @@ import socket
 import subprocess
 import sys
 import tempfile
-import threading
 import time
 
 import bson
@@ -23,7 +22,7 @@ from bson.int64 import Int64
 
 import measuring
 from inserts import document
-from measuring import LINE_BYTES, check_tools, heads, lines, message, row
+from measuring import Docd, LINE_BYTES, check_tools, heads, lines, message, row
 
 
 def numbers(rng, identity):
@@ -60,39 +59,13 @@ def resident(process):
     sys.exit("bench: the program has ended")
 
 
-class Docd:
-    """A running program, and how many replies it gave."""
-
-    def __init__(self):
-        self.process = subprocess.Popen([measuring.DOCD, "run", "--hex"], stdin=subprocess.PIPE, stdout=subprocess.PIPE)
-        self.replies = 0
-        threading.Thread(target=self.count, daemon=True).start()
-
-    def count(self):
-        for _ in self.process.stdout:
-            self.replies += 1
-
-    def send(self, script, replies):
-        """Sends the lines, and waits until there are so many replies in all."""
-        self.process.stdin.write(script)
-        self.process.stdin.flush()
-        while self.replies < replies:
-            if self.process.poll() is not None:
-                sys.exit("bench: the program has ended")
-            time.sleep(0.01)
-
-    def close(self):
-        self.process.stdin.close()
-        self.process.wait()
-
-
 def stored_by_docd(documents, batch):
     """The bytes that a document takes."""
     docd = Docd()
     docd.send(lines(message(bson.encode({"ping": 1, "$db": "t"})), LINE_BYTES), 1)
     idle = resident(docd.process)
     bodies = [{"insert": "c", "documents": documents[i:i + batch], "$db": "t"} for i in range(0, len(documents), batch)]
-    docd.send(lines(b"".join(message(bson.encode(body)) for body in bodies), LINE_BYTES), 1 + len(bodies))
+    docd.send(lines(b"".join(message(bson.encode(body)) for body in bodies), LINE_BYTES), len(bodies))
     taken = resident(docd.process) - idle
     docd.close()
     return taken / len(documents)

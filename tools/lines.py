@@ -21,8 +21,8 @@ import re
 import struct
 import sys
 
-import machine
-from machine import (ALL_KINDS, ARRAY, BINARY, BOOLEAN, DATETIME, DOCUMENT, INT32, INT64, MAX_KEY, MIN_KEY, NULL, OBJECT_ID,
+from model import values
+from model.values import (ARRAY, BINARY, BOOLEAN, DATETIME, DOCUMENT, INT32, INT64, MAX_KEY, MIN_KEY, NULL, OBJECT_ID,
                      TEXT, TIMESTAMP, read_document, spelling)
 
 HEADER = 21  # the bytes in front of a message's body
@@ -124,7 +124,6 @@ def read(line):
 
 
 def main():
-    machine.kinds = ALL_KINDS
     if sys.argv[1:] == ["--read"]:
         for line in sys.stdin:
             print(read(line.rstrip("\n")))

@@ -7,13 +7,16 @@ first, second, .. request refused, until a run meets no refusal. What a run prin
 
 - the script ends with `docd: no memory`, and what was printed before is right;
 - a command is refused with code 900 and changes nothing;
-- an insert ends with a write error of code 900 and `done: 0`, and the documents before that one are in;
+- a write ends at a statement with a write error of code 900, whose `done` tells how many of that statement's changes were
+  made, fewer than all, and what the statements before it did stands;
 - a session is closed with 6: its last command has come to any of these ends, or to its usual one.
 
-The finds of a later session show which documents are in then.
+The finds of a later session show what stands then.
 
     python3 tools/refuse_allocations.py
+    python3 tools/refuse_allocations.py --commands hello,find,delete --program crates/docd/out/docd
 """
+import argparse
 import copy
 import os
 import struct
@@ -23,7 +26,8 @@ import tempfile
 from collections import Counter, namedtuple
 
 import machine
-from machine import ARRAY, BOOLEAN, DOCUMENT, INT32, TEXT
+from model.refusals import WANT_OF_MEMORY, refused
+from model.values import ARRAY, BOOLEAN, DOCUMENT, INT32, TEXT, read_document, spelling
 
 HERE = os.path.dirname(os.path.dirname(os.path.abspath(__file__)))
 DOCD = os.path.join(HERE, "crates", "docd", "out", "docd")
@@ -85,7 +89,7 @@ def value(plain):
 
 
 def body(message):
-    return machine.spelling(value(message.fields)[1])
+    return spelling(value(message.fields)[1])
 
 
 def lines(step):
@@ -106,11 +110,25 @@ def insert(name, documents, ordered=True):
     return {"insert": name, "documents": documents, "ordered": ordered, "$db": "t"}
 
 
-def insertion(*inserts):
-    """Inserts into collections that are there already, and what they hold afterwards."""
+def then(*commands):
+    """Commands on collections of which one is there already, and what they hold afterwards."""
     there = Message(0, insert("c", [{"_id": 2}, {"_id": 4, "x": "four"}]))
     finds = [Message(1, {"find": name, "$db": "t"}) for name in ("c", "d")]
-    return [there, *inserts, End(0), *finds, End(1)]
+    return [there, *commands, End(0), *finds, End(1)]
+
+
+def three(*commands):
+    """Commands on a collection of three documents and more, and what it holds afterwards."""
+    there = [{"_id": place, "n": 7 - place, "tags": ["t%d" % place, "all"], "in": {"a": place}} for place in range(1, 6)]
+    return [Message(0, insert("c", there)), *commands, End(0), Message(1, {"find": "c", "$db": "t"}), End(1)]
+
+
+def delete(*entries):
+    return Message(0, {"delete": "c", "deletes": list(entries), "$db": "t"})
+
+
+def update(*entries):
+    return Message(0, {"update": "c", "updates": list(entries), "$db": "t"})
 
 
 PING = Message(0, ping())
@@ -122,47 +140,59 @@ SCRIPTS = {
     "no reply": [Message(0, ping(), flags=2), PING],
     "forty names": [Message(0, ping(**{"name %d" % i: {"text": "t%d" % i} for i in range(40)}))],
     "a message in pieces": [Message(0, ping(), piece=1)],
-    "an insert": insertion(Message(0, insert("c", [NESTED]))),
-    "a new collection": insertion(Message(0, insert("d", [{"_id": 1}, {"_id": 0}]))),
-    "an insert in order": insertion(Message(0, insert("c", MIXED)), Message(0, insert("c", MIXED[3:]))),
-    "an insert out of order": insertion(Message(0, insert("c", MIXED, ordered=False))),
-    "an insert without a reply": insertion(Message(0, insert("c", MIXED, ordered=False), flags=2)),
-    "an insert in pieces": insertion(Message(0, insert("c", MIXED[3:4]), piece=7)),
-    "forty inserts": insertion(Message(0, insert("d", [{"_id": 37 * i % 40, "n": i} for i in range(40)]))),
-    "refused inserts": insertion(Message(0, insert("$c", [{"_id": 1}])), Message(0, {"insert": "c", "$db": "t"})),
+    "an insert": then(Message(0, insert("c", [NESTED]))),
+    "a new collection": then(Message(0, insert("d", [{"_id": 1}, {"_id": 0}]))),
+    "an insert in order": then(Message(0, insert("c", MIXED)), Message(0, insert("c", MIXED[3:]))),
+    "an insert out of order": then(Message(0, insert("c", MIXED, ordered=False))),
+    "an insert without a reply": then(Message(0, insert("c", MIXED, ordered=False), flags=2)),
+    "an insert in pieces": then(Message(0, insert("c", MIXED[3:4]), piece=7)),
+    "forty inserts": then(Message(0, insert("d", [{"_id": 37 * i % 40, "n": i} for i in range(40)]))),
+    "refused inserts": then(Message(0, insert("$c", [{"_id": 1}])), Message(0, {"insert": "c", "$db": "t"})),
+}
+MOST_CHANGES = 10  # more than a statement of these scripts makes
+SOME = {"n": {"$lt": 6}, "tags": "all"}
+SORTED = {"find": "c", "filter": {"$or": [{"tags": {"$in": ["t2", "t4", "t9"]}}, {"in.a": {"$gte": 4}}]},
+          "sort": {"tags": -1, "n": 1}, "skip": 1, "limit": 2, "$db": "t"}
+EACH = {"q": SOME, "u": {"$set": {"x.y": "new"}, "$push": {"tags": "more"}, "$inc": {"n": 1}}, "multi": True}
+# The scripts that need more than pings, inserts and finds of all documents, by what they need.
+FURTHER = {
+    "find": {"a find with a sort": three(Message(0, SORTED)),
+             "a refused find": three(Message(0, {"find": "c", "filter": {"a": {"$in": 1}}, "$db": "t"}))},
+    "hello": {"a hello": [Message(0, {"hello": 1, "$db": "t"})]},
+    "delete": {"a delete of many": three(delete({"q": SOME, "limit": 0})),
+               "deletes": three(delete({"q": {"_id": 2}, "limit": 1}, {"q": {"n": {"$exists": True}}, "limit": 1},
+                                       {"q": {"$x": 1}, "limit": 0}, {"q": {}, "limit": 0}))},
+    "update": {"an update of many": three(update({**EACH, "q": {"n": {"$lt": 5}}})),
+               "updates": three(update({"q": {"_id": 2}, "u": {"a": [1, {"b": 2}]}}, EACH,
+                                       {"q": {}, "u": {"$pull": {"tags": "all"}}},
+                                       {"q": {"_id": 1}, "u": {"$unset": {"in": 1}}},
+                                       {"q": {}, "u": {"$inc": {"in": 1}}, "multi": True}))},
 }
 
 
-def run(steps, shim, number, token):
+def run(program, steps, shim, number, token):
     open(token, "w").close()
     env = dict(os.environ, LD_PRELOAD=shim, REFUSE=str(number), REFUSED=token)
     script = b"".join(lines(step) for step in steps)
-    done = subprocess.run([DOCD, "run", "--hex"], input=script, capture_output=True, env=env)
+    done = subprocess.run([program, "run", "--hex"], input=script, capture_output=True, env=env)
     return done.returncode, done.stdout.splitlines(), done.stderr, not os.path.exists(token)
 
 
-def without_memory(collections, data):
-    """The ends that a command may come to where memory is wanting: the reply, and the collections then."""
-    name = b"WantOfMemory"
-    yield [(b"ok", (INT32, 0)), (b"errmsg", (TEXT, name)), (b"code", (INT32, 900)), (b"codeName", (TEXT, name))], collections
-    fields = dict(machine.read_document(data))
-    usual = dict(machine.execute(copy.deepcopy(collections), data))
-    if b"n" not in usual:
-        return
-    # The statements that are looked at: all, or those up to the first error.
-    errors = usual.get(b"writeErrors", (ARRAY, []))[1]
-    is_ordered = fields.get(b"ordered", (BOOLEAN, True))[1]
-    count = usual[b"n"][1] + 1 if errors and is_ordered else len(fields[b"documents"][1])
-    for index in range(count):
-        after = copy.deepcopy(collections)
-        front = {**fields, b"documents": (ARRAY, fields[b"documents"][1][:index])}
-        reply = dict(machine.execute(after, machine.spelling(front.items())))
-        error = [(b"index", (INT32, index)), (b"code", (INT32, 900)), (b"errmsg", (TEXT, name)), (b"done", (INT32, 0))]
-        earlier = reply.get(b"writeErrors", (ARRAY, []))[1]
-        yield [(b"n", reply[b"n"]), (b"writeErrors", (ARRAY, earlier + [(DOCUMENT, error)])), (b"ok", (INT32, 1))], after
+def without_memory(store, data):
+    """The ends that a command may come to where memory is wanting: the reply, and the store then."""
+    yield refused(WANT_OF_MEMORY), store
+    fields = read_document(data)
+    list_name, _ = machine.WRITES.get(fields[0][0], (None, None))
+    for index in range(len(dict(fields).get(list_name, (ARRAY, []))[1])):
+        for done in range(MOST_CHANGES):
+            after = copy.deepcopy(store)
+            try:
+                yield machine.execute(after, data, (index, done)), after
+            except machine.NoSuchCut:
+                break
 
 
-def fits(steps, said, collections, is_cut, may_want=True):
+def fits(steps, said, store, is_cut, may_want=True):
     """Whether the lines are what the steps may print, where the script is cut or comes to its end, and want of memory
     shows at most once."""
     if not said and is_cut and may_want:
@@ -171,10 +201,10 @@ def fits(steps, said, collections, is_cut, may_want=True):
         return not said and not is_cut
     step, rest = steps[0], steps[1:]
     if isinstance(step, End):
-        return said[:1] == [b"%d end 0" % step.session] and fits(rest, said[1:], collections, is_cut, may_want)
-    after = copy.deepcopy(collections)
+        return said[:1] == [b"%d end 0" % step.session] and fits(rest, said[1:], store, is_cut, may_want)
+    after = copy.deepcopy(store)
     reply, is_usual = machine.execute(after, body(step)), True
-    for reply, after in [(reply, after), *(without_memory(collections, body(step)) if may_want else [])]:
+    for reply, after in [(reply, after), *(without_memory(store, body(step)) if may_want else [])]:
         line = [b"%d %s" % (step.session, machine.message(7, reply).hex().encode())] * (not step.flags & 2)
         # Where no reply is sent, want of memory is told by the end of the session alone.
         is_told = is_usual or not step.flags & 2
@@ -201,23 +231,31 @@ def kind(status, said, ample):
 
 
 def main():
-    if not os.path.exists(DOCD):
+    options = argparse.ArgumentParser(description=__doc__, formatter_class=argparse.RawDescriptionHelpFormatter)
+    options.add_argument("--program", default=DOCD)
+    machine.add_commands(options)
+    given = options.parse_args()
+    machine.commands = given.commands
+    if not os.path.exists(given.program):
         sys.exit("refuse: build the program first, by running ./docd once")
+    scripts = dict(SCRIPTS)
+    for name in sorted(given.commands & FURTHER.keys()):
+        scripts.update(FURTHER[name])
     bad = 0
     with tempfile.TemporaryDirectory() as folder:
         shim, token = os.path.join(folder, "shim.so"), os.path.join(folder, "token")
         with open(os.path.join(folder, "shim.c"), "w") as source:
             source.write(SHIM)
         subprocess.run(["cc", "-shared", "-fPIC", "-O1", "-o", shim, source.name, "-ldl"], check=True)
-        for name, steps in SCRIPTS.items():
-            status, ample, _, _ = run(steps, shim, 0, token)
-            assert status == 0 and fits(steps, ample, {}, False, may_want=False), name
+        for name, steps in scripts.items():
+            status, ample, _, _ = run(given.program, steps, shim, 0, token)
+            assert status == 0 and fits(steps, ample, machine.Store(), False, may_want=False), name
             number, seen = 1, Counter()
             while True:
-                status, said, told, refused = run(steps, shim, number, token)
-                if not refused:
+                status, said, told, is_refused = run(given.program, steps, shim, number, token)
+                if not is_refused:
                     break
-                right = (status, told) in ((0, b""), (1, b"docd: no memory\n")) and fits(steps, said, {}, status == 1)
+                right = (status, told) in ((0, b""), (1, b"docd: no memory\n")) and fits(steps, said, machine.Store(), status == 1)
                 if not right:
                     bad += 1
                     print("%s: request %d refused: status %d, %r, %r" % (name, number, status, told, said))

@@ -26,6 +26,3 @@ pub use writer::write_document;
 
 /// Want of memory, where nothing else can be refused.
 pub type NoMemory = std::alloc::AllocError;
-
-#[cfg(test)]
-mod tests;

@@ -71,10 +71,14 @@ impl Names {
         }
     }
 
-    /// Whether the first `count` names are the other's first ones.
+    /// Whether the first `count` names are the other's first ones, and no more than as many follow there: so few names
+    /// keep no long list of them alive.
     pub(crate) fn begins_as(&self, other: &Names, count: usize) -> bool
         ensures { IsTrue result → (count ≤ length other.now) × (take count self.now ≡ take count other.now) }
     {
+        if other.len() / 2 > count {
+            return false;
+        }
         for place in 0..count {
             match self.get(place) {
                 Some(name) if other.is_at(place, name) => {}

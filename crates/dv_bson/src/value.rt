@@ -10,6 +10,7 @@ use crate::NoMemory;
 use crate::bytes::Bytes;
 use crate::fault::BsonFault;
 use crate::kind::Kind;
+use crate::limits::MAX_LEVELS;
 use crate::name_list::Names;
 use crate::text::Str;
 use std::alloc::Global;
@@ -57,6 +58,9 @@ pub enum Value {
 
 /// What a value takes inside a list or a document, beside the memory that it owns.
 const _: () = prove!(size_of::<Value>() == 32);
+
+/// Beside the memory that a copy shares.
+const _: () = prove!(size_of::<Document>() == 16);
 
 /// The fields of a document and of its copies, in the order in which they were added.
 #[cycle(value)]
@@ -371,12 +375,22 @@ impl Document {
         Ok(before)
     }
 
-    /// Lets the names of the fields lie where those of the other document do, if these are the same, or more of them
-    /// follow there. Nothing that a caller sees changes but how much memory is taken. Fields that a copy shares stay
+    /// Lets the names of the fields lie where those of the other document do, if these are the same, or no more than as
+    /// many follow there. Nothing that a caller sees changes but how much memory is taken. Fields that a copy shares are
+    /// copied first, where no other document has their names; where others have them, or memory is wanting, they stay
     /// where they are.
     pub fn share_names(&mut self, with: &Document)
         ensures { self.new ≡ self.old }
     {
+        self.share_names_within(with, MAX_LEVELS);
+    }
+
+    /// As `share_names`, with so many levels left inside the document.
+    #[cycle(sharing)]
+    fn share_names_within(&mut self, with: &Document, levels: u32)
+        ensures { self.new ≡ self.old }
+    {
+        let alloc = self.alloc;
         let Some(shared) = &mut self.fields else {
             return;
         };
@@ -384,7 +398,15 @@ impl Document {
             return;
         };
         if let Some(own) = Rc::get_mut(shared) {
-            own.share_names(others);
+            own.share_names(others, levels);
+            return;
+        }
+        if Rc::strong_count(&shared.names) == 1
+            && shared.names.begins_as(&others.names, shared.values.len())
+        {
+            if let Ok(copy) = shared.copy_beside(alloc, others, levels) {
+                *shared = copy;
+            }
         }
     }
 
@@ -542,15 +564,35 @@ impl Fields {
         Ok(Some(self.values.remove(place)))
     }
 
-    /// Takes the other's names in place of the same ones of its own.
-    fn share_names(&mut self, other: &Fields)
+    /// Takes the other's names in place of the same ones of its own, and so do documents in documents, with so many levels
+    /// left inside.
+    #[cycle(sharing)]
+    fn share_names(&mut self, other: &Fields, levels: u32)
         ensures { self.new ≡ self.old }
     {
-        if self.names.begins_as(&other.names, self.values.len()) {
-            if let Ok(names) = other.names.clone() {
-                self.names = names;
-            }
+        if !self.names.begins_as(&other.names, self.values.len()) {
+            return;
         }
+        let Ok(names) = other.names.clone() else {
+            return;
+        };
+        self.names = names;
+        share_inner_names(&mut self.values, &other.values, levels);
+    }
+
+    /// A copy that shares the other's names, where they are the same. Fails where memory is wanting.
+    #[cycle(sharing)]
+    fn copy_beside(
+        &self,
+        alloc: Global,
+        other: &Fields,
+        levels: u32,
+    ) -> Result<Rc<Fields>, NoMemory>
+        ensures { IfOk result (λ copy. copy.value ≡ self.now) }
+    {
+        let mut copy = self.try_clone()?;
+        copy.share_names(other, levels);
+        Ok(Rc::new(alloc, copy)?)
     }
 
     /// Gives back what room is left, where that can be done.
@@ -560,6 +602,20 @@ impl Fields {
         self.values.shrink_to_fit();
         if let Some(names) = Rc::get_mut(&mut self.names) {
             names.trim();
+            return;
+        }
+        if self.names.len() / 2 > self.values.len() {
+            self.leave_names();
+        }
+    }
+
+    /// Keeps names of its own, so that those of a longer document can go with it; if memory is wanting, all stays.
+    fn leave_names(&mut self)
+        ensures { self.new ≡ self.old }
+    {
+        let alloc = *self.values.allocator();
+        if let Ok(names) = own_names(alloc, &self.names, self.values.len()) {
+            self.names = names;
         }
     }
 
@@ -574,6 +630,31 @@ impl Fields {
         let names = self.names.clone()?;
         Ok(Fields { names, values })
     }
+}
+
+/// Lets the names of the documents among these values lie where those of the documents at their places do.
+#[cycle(sharing)]
+fn share_inner_names(values: &mut [Value], others: &[Value], levels: u32)
+    ensures { map tree values.new ≡ map tree values.old }
+{
+    if levels == 0 {
+        return;
+    }
+    for place in 0..values.len().min(others.len()) {
+        if let Value::Doc(document) = &mut values[place] {
+            if let Value::Doc(other) = &others[place] {
+                document.share_names_within(other, levels - 1);
+            }
+        }
+    }
+}
+
+/// A copy of the first `count` names, to be shared. Fails where memory is wanting.
+fn own_names(alloc: Global, names: &Names, count: usize) -> Result<Rc<Names>, NoMemory>
+    requires { count ≤ length names.now }
+    ensures { IfOk result (λ own. own.value ≡ take count names.now) }
+{
+    Ok(Rc::new(alloc, names.front(count)?)?)
 }
 
 /// Puts the name behind the first `count`, if it doesn't stand there. Names that are shared are copied first.

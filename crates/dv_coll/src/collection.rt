@@ -89,7 +89,7 @@ impl Collection {
     /// `NoMemory` where memory is wanting, be it to look the `_id` up; then nothing is changed, and the document is
     /// dropped.
     #[tactic(auto, using(crate::proofs::Places::places))]
-    pub fn insert(&mut self, document: Document) -> Result<(), InsertFault>
+    pub fn insert(&mut self, mut document: Document) -> Result<(), InsertFault>
         requires { HasId document }
         ensures ok { OnOk result (self.new ≡ inserted document self.old) }
         ensures err { OnErr result (self.new ≡ self.old) }
@@ -98,6 +98,10 @@ impl Collection {
         ensures fresh { OnOk result (found (id_key document) self.old ≡ None) }
         ensures duplicate { IsErrOf result InsertFault.Duplicate → IsSome (found (id_key document) self.old) }
     {
+        // Most documents of a collection have the same names.
+        if let Some((_, last)) = self.documents.last_key_value() {
+            document.share_names(last);
+        }
         let key = key_of_id(&document)?;
         self.insert_under(key, document)
     }

@@ -4,8 +4,6 @@
 mod collection;
 mod fault;
 pub mod laws;
-#[cfg(test)]
-mod tests;
 
 pub use collection::{Collection, Iter};
 pub use fault::InsertFault;

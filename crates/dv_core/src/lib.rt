@@ -19,6 +19,3 @@ mod written;
 
 pub use outcome::Outcome;
 pub use store::Store;
-
-#[cfg(test)]
-mod tests;

@@ -5,7 +5,7 @@ use Rattle.dv_bson.specs.declared.value.Value.{Value}
 use Rattle.dv_bson.specs.View.{tree}
 use Rattle.dv_bson.specs.Tree.{Tree, Field, elements_of, list_of_elements, fields_of, list_of_fields}
 
-or-true : (a : Bool) → a || true ≡ true
+pub or-true : (a : Bool) → a || true ≡ true
 or-true true = refl
 or-true false = refl
 
@@ -30,7 +30,7 @@ all-at p (y ∷ ys) (suc i) x within is h = ap (λ b. p y && b) (all-at p ys i x
 pub whole-list : {X : Type 0} (i : ℕ) (xs : List X) → length xs ≤ i → xs ≡ take i xs
 whole-list i xs end = sym (take_all i xs end)
 
-any-map : {X Y : Type 0} (p : Y → Bool) (view : X → Y) (xs : List X) → list_any p (map view xs) ≡ list_any (λ x. p (view x)) xs
+pub any-map : {X Y : Type 0} (p : Y → Bool) (view : X → Y) (xs : List X) → list_any p (map view xs) ≡ list_any (λ x. p (view x)) xs
 any-map p view [] = refl
 any-map p view (x ∷ xs) = ap (λ b. p (view x) || b) (any-map p view xs)
 

@@ -4,3 +4,5 @@ pub mod Arrays
 pub mod First
 pub mod Collected
 pub mod Few
+pub mod Chosen
+pub mod Interval

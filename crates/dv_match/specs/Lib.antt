@@ -1,5 +1,7 @@
 pub mod Asked
+pub mod Choices
 pub mod Examples
+pub mod Straight
 pub mod Fault
 pub mod Filter
 pub mod FilterCode

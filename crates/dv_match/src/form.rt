@@ -4,6 +4,7 @@ ghost use Rattle.std.specs.Prelude.{◌≡◌, map, IfOk};
 ghost use Rattle.dv_match.specs.Filter.{members_of, filters_of, conditions_of};
 ghost use Rattle.dv_match.specs.View.{member, condition};
 
+use crate::choices::Choices;
 use crate::range::Range;
 use dv_bson::{List, NoMemory, Value};
 use dv_path::Path;
@@ -35,9 +36,9 @@ pub enum Condition {
     /// `$gt`, `$gte`, `$lt`, `$lte`: some leaf is of the value's class and stands so to it.
     Bound(Range, Value),
     /// `$in`: some leaf compares equal to one of the values.
-    In(List),
+    In(Choices),
     /// `$nin`: no leaf compares equal to one of the values.
-    Nin(List),
+    Nin(Choices),
     /// `$not`: not all conditions are met.
     Not(Conditions),
     /// `$all`: there are values, and to each some leaf compares equal.

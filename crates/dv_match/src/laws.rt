@@ -1,14 +1,15 @@
 //! What holds of filters and of the documents that match them, each the contract of a function that does nothing.
 
-ghost use Rattle.std.specs.Prelude.{◌≡◌, ◌&&◌, not, true, false, List, [], ◌∷◌, codes, Ok, Err};
-ghost use Rattle.dv_bson.specs.Tree.{Tree, Field, fields_of, null};
+ghost use Rattle.std.specs.Prelude.{◌≡◌, ◌&&◌, ℕ, not, true, false, List, [], ◌∷◌, codes, Ok, Err, Some};
+ghost use Rattle.dv_bson.specs.Tree.{Tree, Field, document, fields_of, null};
 ghost use Rattle.dv_match.specs.declared.fault.FilterFault.TheVariants.{EmptyList, UnknownOperator};
 ghost use Rattle.dv_match.specs.Parsing.{filter_in};
-ghost use Rattle.dv_path.specs.Candidates.{Candidate};
+ghost use Rattle.dv_path.specs.Candidates.{Candidate, whole, leaves};
 ghost use Rattle.dv_match.specs.Examples.{answer, one, doc, list, int};
 ghost use Rattle.dv_match.specs.declared.range.Range.{Range};
 ghost use Rattle.dv_match.specs.Filter.{Members, no_members, more_members, none_of, no_filters, more_filters, Conditions, equal, unequal, among, not_among, unmet, in_range, no_conditions, more_conditions};
 ghost use Rattle.dv_match.specs.Match.{is_in_range, matches, matches_member, meets, meets_all};
+ghost use Rattle.dv_match.specs.Straight.{meets_no_array, end_of};
 
 /// `$ne`, `$nin` and `$not` are what they deny.
 #[tactic(auto, unfolding(crate::specs::Match::meets))]
@@ -41,6 +42,11 @@ pub fn no_member_matches_all()
 #[tactic(auto, using(crate::proofs::Few::interval))]
 pub fn bounds_on_one_leaf()
     ensures { (r s : Range) (v w : Tree) (wholes : List Candidate) (c : Candidate) → meets_all (more_conditions (in_range r v) (more_conditions (in_range s w) no_conditions)) wholes (c ∷ []) ≡ (is_in_range r v c && is_in_range s w c) }
+{}
+
+/// Where no array stands on the way of a path nor at its end, two bounds on it are an interval.
+pub fn bounds_without_arrays()
+    ensures { (path : List (List ℕ)) (d : List Field) → meets_no_array path (Some (document (fields_of d))) ≡ true → (r s : Range) (v w : Tree) → meets_all (more_conditions (in_range r v) (more_conditions (in_range s w) no_conditions)) (whole d path) (leaves d path) ≡ (is_in_range r v (end_of path (Some (document (fields_of d)))) && is_in_range s w (end_of path (Some (document (fields_of d))))) }
 {}
 
 /// On an array they aren't: each bound may be met by another element.

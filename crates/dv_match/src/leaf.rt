@@ -5,8 +5,9 @@ ghost use Rattle.dv_bson.specs.View.{tree};
 ghost use Rattle.dv_path.specs.View.{seen};
 ghost use Rattle.dv_match.specs.Match as defined;
 
+use crate::choices::Choices;
 use crate::range::Range;
-use dv_bson::{List, Value};
+use dv_bson::Value;
 use dv_order::{compare, same_class};
 use dv_path::Candidate;
 
@@ -44,16 +45,14 @@ fn stands(value: &Value, range: Range, bound: &Value) -> bool
     }
 }
 
-/// Whether the candidate compares equal to one of the values.
-pub(crate) fn is_among(candidate: Candidate<'_>, values: &List) -> bool
-    ensures { result ≡ defined.is_among values.now (seen candidate.entry) }
+/// Whether the candidate compares equal to one of the choices.
+pub(crate) fn is_among(candidate: Candidate<'_>, choices: &Choices) -> bool
+    ensures { result ≡ defined.is_among choices.now (seen candidate.entry) }
 {
-    for value in values.as_slice() {
-        if is_equal(candidate, value) {
-            return true;
-        }
+    match candidate {
+        Candidate::Found(found) => choices.contains(found),
+        Candidate::Missing => choices.contains(&Value::Null),
     }
-    false
 }
 
 /// Whether the candidate isn't missing.

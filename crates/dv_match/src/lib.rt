@@ -1,6 +1,7 @@
 //! Filters of BSON documents.
 #![tactic(auto)]
 
+mod choices;
 mod fault;
 mod form;
 pub mod laws;
@@ -12,9 +13,7 @@ mod parsing;
 mod place;
 mod range;
 
+pub use choices::Choices;
 pub use fault::FilterFault;
 pub use form::{Condition, Conditions, Filter, Filters, Member, Test};
 pub use range::Range;
-
-#[cfg(test)]
-mod tests;

@@ -8,6 +8,7 @@ ghost use Rattle.dv_match.specs.Asked.{wholes, parts};
 ghost use Rattle.dv_match.specs.Match as defined;
 ghost use Rattle.dv_match.specs.View.{member, condition, test};
 
+use crate::choices::Choices;
 use crate::form::{Condition, Conditions, Filter, Filters, Member, Test};
 use crate::leaf::{has_size, is_among, is_equal, is_found, is_in_range};
 use crate::place::{Place, any_candidate, any_part};
@@ -96,8 +97,8 @@ impl Condition {
             Condition::Eq(value) => has_equal(place, value),
             Condition::Ne(value) => !has_equal(place, value),
             Condition::Bound(range, value) => has_in_range(place, *range, value),
-            Condition::In(values) => has_among(place, values),
-            Condition::Nin(values) => !has_among(place, values),
+            Condition::In(choices) => has_among(place, choices),
+            Condition::Nin(choices) => !has_among(place, choices),
             Condition::Not(conditions) => !conditions.are_met(place),
             Condition::All(values) => has_every(place, values),
             Condition::Exists(wanted) => has_any(place) == *wanted,
@@ -163,11 +164,11 @@ fn has_equal(place: Place<'_>, value: &Value) -> bool
     any_part(place, |candidate| is_equal(candidate, value))
 }
 
-/// Whether some leaf compares equal to one of the values.
-fn has_among(place: Place<'_>, values: &List) -> bool
-    ensures { result ≡ list_any (defined.is_among values.now) (parts place.entry) }
+/// Whether some leaf compares equal to one of the choices.
+fn has_among(place: Place<'_>, choices: &Choices) -> bool
+    ensures { result ≡ list_any (defined.is_among choices.now) (parts place.entry) }
 {
-    any_part(place, |candidate| is_among(candidate, values))
+    any_part(place, |candidate| is_among(candidate, choices))
 }
 
 /// Whether there are values, and to each some leaf compares equal.

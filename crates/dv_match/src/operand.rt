@@ -7,6 +7,7 @@ ghost use Rattle.std.specs.List.{list_any};
 ghost use Rattle.dv_match.specs.Parsing as defined;
 ghost use Rattle.dv_match.specs.Parsing.{Gives};
 
+use crate::choices::Choices;
 use crate::fault::FilterFault;
 use crate::operator::{begins_with_dollar, takes_filters};
 use dv_bson::{Document, List, Value};
@@ -43,11 +44,11 @@ fn is_operator_list(value: &Value) -> bool
 
 /// The values of an array.
 #[tactic(auto, using(crate::proofs::Items::elements_again))]
-pub(crate) fn values_of(value: &Value) -> Result<&List, FilterFault>
-    ensures { Gives (λ list. list.now) result (defined.values_in (tree value.now)) }
+pub(crate) fn choices_of(value: &Value) -> Result<Choices, FilterFault>
+    ensures { Gives (λ choices. choices) result (defined.values_in (tree value.now)) }
 {
     match value {
-        Value::Array(list) => Ok(list),
+        Value::Array(list) => Ok(Choices::of(list.try_clone()?)?),
         _ => Err(FilterFault::BadOperand),
     }
 }

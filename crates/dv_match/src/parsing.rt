@@ -11,7 +11,7 @@ ghost use Rattle.dv_match.specs.View.{member, condition, test};
 use crate::fault::FilterFault;
 use crate::form::{Condition, Conditions, Filter, Filters, Member, Test};
 use crate::operand::{
-    lists_conditions, lists_operators, plain_values_of, size_of, truth_of, values_of,
+    choices_of, lists_conditions, lists_operators, plain_values_of, size_of, truth_of,
 };
 use crate::operator::{Operator, begins_with_dollar, operator_named};
 use crate::range::Range;
@@ -166,8 +166,8 @@ fn condition_of(alloc: Global, name: &str, value: &Value) -> Result<Condition, F
         Operator::Gte => Ok(Condition::Bound(Range::AtLeast, value.try_clone()?)),
         Operator::Lt => Ok(Condition::Bound(Range::Below, value.try_clone()?)),
         Operator::Lte => Ok(Condition::Bound(Range::AtMost, value.try_clone()?)),
-        Operator::In => Ok(Condition::In(values_of(value)?.try_clone()?)),
-        Operator::Nin => Ok(Condition::Nin(values_of(value)?.try_clone()?)),
+        Operator::In => Ok(Condition::In(choices_of(value)?)),
+        Operator::Nin => Ok(Condition::Nin(choices_of(value)?)),
         Operator::Not => Ok(Condition::Not(negated_of(alloc, value)?)),
         Operator::All => Ok(Condition::All(plain_values_of(value)?.try_clone()?)),
         Operator::Exists => Ok(Condition::Exists(truth_of(value)?)),

@@ -7,6 +7,3 @@ pub mod laws;
 
 pub use comparison::{compare, same_class};
 pub use key::{Key, key_of, replace_under_first};
-
-#[cfg(test)]
-mod tests;

@@ -4,17 +4,18 @@ use Rattle.std.specs.Option.{unwrap_or}
 use Rattle.dv_bson.specs.Tree.{Tree, document, array, null, Field, Fields, no_fields, field, fields_of, list_of_fields, Elements, no_elements, element, elements_of, list_of_elements}
 use Rattle.dv_bson.specs.Names.{value_under}
 use Rattle.dv_path.specs.declared.fault.PathFault.{PathFault}
-use Rattle.dv_path.specs.declared.fault.PathFault.TheVariants.{IndexTooLarge}
+use Rattle.dv_path.specs.declared.fault.PathFault.TheVariants.{NotViable, IndexTooLarge}
 use Rattle.std.proofs.lemmas.Bool.{lt-ltb}
 use Rattle.dv_path.specs.Candidates.{Candidate, candidates, whole}
 use Rattle.dv_path.specs.Expression.{expression, expr}
 use Rattle.dv_path.specs.Ways.{HasNoArray}
 use Rattle.dv_path.specs.Path.{index_of}
 use Rattle.dv_path.specs.Slots.{Slot, taken, free, blocked, slot_of, element_slot, next_slot, slot_behind, slot}
-use Rattle.dv_path.specs.Placing.{result_map, with_field, with_element, put_field, put_element, put_behind, put}
+use Rattle.dv_path.specs.Placing.{field_with, put, put_behind, put_element, put_field, result_map, with_element, with_field}
 use Rattle.dv_path.specs.Removing.{changed_at, remove_field, remove_element, left_behind, remove}
 use Rattle.dv_path.proofs.Walks.{list_of_fields_of, list_of_elements_of}
-use Rattle.dv_path.proofs.Fielded.{field-at, field-missing, field-again, element-at, changed-missing, changed-same}
+use Rattle.std.specs.Str.{bytes_eq}
+use Rattle.dv_path.proofs.Fielded.{differ, field-other, field-at, field-missing, field-again, element-at, changed-missing, changed-same}
 
 -- what a step gives comes from what is put further on
 mapped : {X Y : Type 0} (f : X → Y) (r : Result X PathFault) (y : Y) → result_map f r ≡ Ok y → (x : X) × (r ≡ Ok x) × (f x ≡ y)
@@ -182,3 +183,93 @@ pub remove-first : (names : List (List ℕ)) (fs : List Field) (name : List ℕ)
 unfolding remove
 remove-first [] fs name some is = absurd (omega arith)
 remove-first (n ∷ names) fs name some is = ap (λ m. remove_field (left_behind names) m fs) is
+
+none-free : (names : List (List ℕ)) (s : Slot) → slot_behind names free ≡ s → (free ≡ s → ⊥) → ⊥
+none-free names s at ne = ne (sym (free-stays names) ∙ at)
+
+at-blocked : (names : List (List ℕ)) (v : Tree) (place : ℕ) (vs : List Tree) (c : Candidate) → slice_get vs place ≡ c → slot_behind names (slot_of c) ≡ blocked → put_behind names v c ≡ Err NotViable → put_element (put_behind names v) (Some place) vs ≡ Err NotViable
+at-blocked names v place vs None at h fails = absurd (none-free names blocked h (λ e. cc))
+at-blocked names v place vs (Some w) at h fails = element-taken (put_behind names v) place vs (Some w) w at refl (Err NotViable) fails
+
+element-blocked : (names : List (List ℕ)) (v : Tree) (index : Option ℕ) (vs : List Tree) → ((c : Candidate) → slot_behind names (slot_of c) ≡ blocked → put_behind names v c ≡ Err NotViable) → slot_behind names (element_slot index vs) ≡ blocked → put_element (put_behind names v) index vs ≡ Err NotViable
+element-blocked names v None vs further h = refl
+element-blocked names v (Some place) vs further h = at-blocked names v place vs (slice_get vs place) refl h (further (slice_get vs place) h)
+
+behind-blocked : (names : List (List ℕ)) (v : Tree) (c : Candidate) → slot_behind names (slot_of c) ≡ blocked → put_behind names v c ≡ Err NotViable
+behind-blocked [] v None h = absurd cc
+behind-blocked [] v (Some w) h = absurd cc
+behind-blocked (name ∷ names) v None h = absurd (none-free names blocked h (λ e. cc))
+behind-blocked (name ∷ names) v (Some (document fs)) h = ap (λ r. result_map (λ gs. document (fields_of gs)) (result_map (λ u. with_field name (Some u) (list_of_fields fs)) r)) (behind-blocked names v (value_under name (list_of_fields fs)) h)
+behind-blocked (name ∷ names) v (Some (array vs)) h = ap (result_map (λ ws. array (elements_of ws))) (element-blocked names v (index_of name) (list_of_elements vs) (behind-blocked names v) h)
+behind-blocked (name ∷ names) v (Some w) h = refl
+
+-- a value is refused where the way is blocked
+pub put_blocked : (fields : List Field) (path : List (List ℕ)) (v : Tree) → slot fields path ≡ blocked → put fields path v ≡ Err NotViable
+unfolding put slot
+put_blocked fields [] v h = absurd cc
+put_blocked fields (name ∷ names) v h = ap (result_map (λ u. with_field name (Some u) fields)) (behind-blocked names v (value_under name fields) (ap (λ gs. slot_behind names (slot_of (value_under name gs))) (sym (list_of_fields_of fields)) ∙ h))
+
+at-taken : (names : List (List ℕ)) (v : Tree) (place : ℕ) (vs : List Tree) (w : Tree) (c : Candidate) → slice_get vs place ≡ c → slot_behind names (slot_of c) ≡ taken w → (t : Tree) × (put_behind names v c ≡ Ok t) → (ws : List Tree) × (put_element (put_behind names v) (Some place) vs ≡ Ok ws)
+at-taken names v place vs w None at h put = absurd (none-free names (taken w) h (λ e. cc))
+at-taken names v place vs w (Some u) at h put = (with_element place put.0 vs, element-taken (put_behind names v) place vs (Some u) u at refl (Ok put.0) put.1)
+
+element-taken-on : (names : List (List ℕ)) (v : Tree) (index : Option ℕ) (vs : List Tree) (w : Tree) → ((c : Candidate) → slot_behind names (slot_of c) ≡ taken w → (t : Tree) × (put_behind names v c ≡ Ok t)) → slot_behind names (element_slot index vs) ≡ taken w → (ws : List Tree) × (put_element (put_behind names v) index vs ≡ Ok ws)
+element-taken-on names v None vs w further h = let no : blocked ≡ taken w = sym (blocked-stays names) ∙ h in absurd cc
+element-taken-on names v (Some place) vs w further h = at-taken names v place vs w (slice_get vs place) refl h (further (slice_get vs place) h)
+
+behind-taken : (names : List (List ℕ)) (v w : Tree) (c : Candidate) → slot_behind names (slot_of c) ≡ taken w → (t : Tree) × (put_behind names v c ≡ Ok t)
+behind-taken [] v w c h = (v, refl)
+behind-taken (name ∷ names) v w None h = missing-put (name ∷ names) v
+behind-taken (name ∷ names) v w (Some (document fs)) h =
+    let put = behind-taken names v w (value_under name (list_of_fields fs)) h in
+    (document (fields_of (with_field name (Some put.0) (list_of_fields fs))), ap (λ r. result_map (λ gs. document (fields_of gs)) (result_map (λ u. with_field name (Some u) (list_of_fields fs)) r)) put.1)
+behind-taken (name ∷ names) v w (Some (array vs)) h =
+    let put = element-taken-on names v (index_of name) (list_of_elements vs) w (behind-taken names v w) h in
+    (array (elements_of put.0), ap (result_map (λ ws. array (elements_of ws))) put.1)
+behind-taken (name ∷ names) v w (Some t) h = let no : blocked ≡ taken w = sym (blocked-stays names) ∙ h in absurd cc
+
+-- another value can be put where one is
+pub put_taken : (fields : List Field) (name : List ℕ) (names : List (List ℕ)) (v w : Tree) → slot fields (name ∷ names) ≡ taken w → (after : List Field) × (put fields (name ∷ names) v ≡ Ok after)
+unfolding put slot
+put_taken fields name names v w h =
+    let put = behind-taken names v w (value_under name fields) (ap (λ gs. slot_behind names (slot_of (value_under name gs))) (sym (list_of_fields_of fields)) ∙ h) in
+    (with_field name (Some put.0) fields, ap (result_map (λ u. with_field name (Some u) fields)) put.1)
+
+-- the fields of other names stay
+pub put_others : (fields : List Field) (name : List ℕ) (names : List (List ℕ)) (v : Tree) (after : List Field) (other : List ℕ) → (other ≡ name → ⊥) → put fields (name ∷ names) v ≡ Ok after → value_under other after ≡ value_under other fields
+unfolding put
+put_others fields name names v after other ne e =
+    let put = field-put (put_behind names v) name fields after e in
+    ap (value_under other) (sym put.2) ∙ field-other name other (Some put.0) fields ne
+
+pub remove_others : (fields : List Field) (name : List ℕ) (names : List (List ℕ)) (other : List ℕ) → (other ≡ name → ⊥) → value_under other (remove fields (name ∷ names)) ≡ value_under other fields
+unfolding remove
+remove_others fields name names other ne = field-other name other (option_and_then (left_behind names) (value_under name fields)) fields ne
+
+first-case : (here : Bool) (v : Tree) (f : Field) (fs gs : List Field) → (g : Field) × (rest : List Field) × ((if here then field_with f.0 (Some v) ++ fs else f ∷ gs) ≡ g ∷ rest) × (g.0 ≡ f.0)
+first-case true v f fs gs = ((f.0, v), fs, refl, refl)
+first-case false v f fs gs = (f, gs, refl, refl)
+
+-- the first field keeps its name and its place
+pub put_first_name : (f : Field) (fs : List Field) (name : List ℕ) (names : List (List ℕ)) (v : Tree) (after : List Field) → put (f ∷ fs) (name ∷ names) v ≡ Ok after → (g : Field) × (rest : List Field) × (after ≡ g ∷ rest) × (g.0 ≡ f.0)
+unfolding put
+put_first_name f fs name names v after e =
+    let put = field-put (put_behind names v) name (f ∷ fs) after e in
+    let first = first-case (bytes_eq name f.0) put.0 f fs (with_field name (Some put.0) fs) in
+    (first.0, first.1, sym put.2 ∙ first.2, first.3)
+
+-- and stays whole where another is changed
+stays-first : (name : List ℕ) (c : Candidate) (f : Field) (fs : List Field) → (name ≡ f.0 → ⊥) → with_field name c (f ∷ fs) ≡ f ∷ with_field name c fs
+stays-first name c f fs ne = ap (λ b. if b then field_with f.0 c ++ fs else f ∷ with_field name c fs) (differ name f.0 ne)
+
+pub put_behind_first : (f : Field) (fs : List Field) (name : List ℕ) (names : List (List ℕ)) (v : Tree) (after : List Field) → (name ≡ f.0 → ⊥) → put (f ∷ fs) (name ∷ names) v ≡ Ok after → (rest : List Field) × (after ≡ f ∷ rest)
+unfolding put
+put_behind_first f fs name names v after ne e =
+    let put = field-put (put_behind names v) name (f ∷ fs) after e in
+    (with_field name (Some put.0) fs, sym put.2 ∙ stays-first name (Some put.0) f fs ne)
+
+pub remove_behind_first : (f : Field) (fs : List Field) (name : List ℕ) (names : List (List ℕ)) → (name ≡ f.0 → ⊥) → (rest : List Field) × (remove (f ∷ fs) (name ∷ names) ≡ f ∷ rest)
+unfolding remove
+remove_behind_first f fs name names ne =
+    let c = option_and_then (left_behind names) (value_under name (f ∷ fs)) in
+    (with_field name c fs, stays-first name c f fs ne)

@@ -12,3 +12,4 @@ pub mod Slots
 pub mod Placing
 pub mod Removing
 pub mod Ways
+pub mod Examples

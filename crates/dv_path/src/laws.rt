@@ -1,11 +1,18 @@
 //! What holds of paths, each the contract of a function that does nothing.
 
-ghost use Rattle.std.specs.Prelude.{◌≡◌, ℕ, List, [], ◌∷◌, Some, Ok};
-ghost use Rattle.dv_bson.specs.Tree.{Tree, document, Field, fields_of};
-ghost use Rattle.dv_path.specs.Candidates.{whole};
+ghost use Rattle.std.specs.Prelude.{◌≡◌, ◌≢◌, ℕ, List, [], ◌∷◌, Some, None, Ok, Err, codes};
+ghost use Rattle.dv_bson.specs.Names.{value_under};
+ghost use Rattle.dv_bson.specs.Tree.{Tree, document, Field, fields_of, null};
+ghost use Rattle.dv_path.specs.Candidates.{whole, leaves};
+ghost use Rattle.dv_path.specs.declared.fault.PathFault.TheVariants.{NotViable, IndexTooLarge};
+ghost use Rattle.dv_path.specs.Examples.{int, one, doc, list};
+ghost use Rattle.dv_order.specs.Key.{key_at};
+ghost use Rattle.dv_path.specs.declared.direction.Direction.TheVariants.{Ascending, Descending};
 ghost use Rattle.dv_path.specs.Expression.{expr};
-ghost use Rattle.dv_path.specs.Slots.{slot, taken};
+ghost use Rattle.dv_path.specs.SortKey.{sort_key};
 ghost use Rattle.dv_path.specs.Placing.{put};
+ghost use Rattle.dv_path.specs.Removing.{remove};
+ghost use Rattle.dv_path.specs.Slots.{slot, taken, blocked};
 ghost use Rattle.dv_path.specs.Ways.{HasNoArray};
 
 /// What was put stands where its path leads.
@@ -16,8 +23,76 @@ pub fn what_was_put_is_there()
     ensures found { (fields : List Field) (name : List ℕ) (path : List (List ℕ)) (v : Tree) (after : List Field) → HasNoArray (name ∷ path) (Some (document (fields_of fields))) → put fields (name ∷ path) v ≡ Ok after → whole after (name ∷ path) ≡ Some v ∷ [] }
 {}
 
+/// A value that is there can be exchanged; through what blocks the way none is put.
+pub fn slots_tell_what_is_put()
+    ensures taken { (fields : List Field) (name : List ℕ) (path : List (List ℕ)) (v there : Tree) → slot fields (name ∷ path) ≡ taken there → (after : List Field) × (put fields (name ∷ path) v ≡ Ok after) }
+    ensures blocked { (fields : List Field) (path : List (List ℕ)) (v : Tree) → slot fields path ≡ blocked → put fields path v ≡ Err NotViable }
+{}
+
+/// Where no value is, nothing is taken away.
+pub fn what_is_not_there_is_not_removed()
+    ensures { (fields : List Field) (path : List (List ℕ)) → ((there : Tree) → slot fields path ≢ taken there) → remove fields path ≡ fields }
+{}
+
+/// The fields of other names stay.
+pub fn other_fields_stay()
+    ensures put { (fields : List Field) (name : List ℕ) (path : List (List ℕ)) (v : Tree) (after : List Field) (other : List ℕ) → other ≢ name → put fields (name ∷ path) v ≡ Ok after → value_under other after ≡ value_under other fields }
+    ensures removed { (fields : List Field) (name : List ℕ) (path : List (List ℕ)) (other : List ℕ) → other ≢ name → value_under other (remove fields (name ∷ path)) ≡ value_under other fields }
+{}
+
+/// The first field keeps its name and its place where a value is put, and stays as it is under a path that begins with
+/// another name.
+pub fn the_first_field_stays_first()
+    ensures named { (f : Field) (fs : List Field) (name : List ℕ) (path : List (List ℕ)) (v : Tree) (after : List Field) → put (f ∷ fs) (name ∷ path) v ≡ Ok after → (g : Field) × (rest : List Field) × (after ≡ g ∷ rest) × (g.0 ≡ f.0) }
+    ensures put { (f : Field) (fs : List Field) (name : List ℕ) (path : List (List ℕ)) (v : Tree) (after : List Field) → name ≢ f.0 → put (f ∷ fs) (name ∷ path) v ≡ Ok after → (rest : List Field) × (after ≡ f ∷ rest) }
+    ensures removed { (f : Field) (fs : List Field) (name : List ℕ) (path : List (List ℕ)) → name ≢ f.0 → (rest : List Field) × (remove (f ∷ fs) (name ∷ path) ≡ f ∷ rest) }
+{}
+
 /// Where the way holds no array, an expression gives what a filter finds.
 #[tactic(auto, using(crate::proofs::Placed::whole_expr))]
 pub fn expressions_find_what_filters_do()
     ensures { (fields : List Field) (path : List (List ℕ)) → HasNoArray path (Some (document (fields_of fields))) → whole fields path ≡ expr fields path ∷ [] }
+{}
+
+/// What paths find in arrays of documents, and what counts as null.
+#[tactic(auto, unfolding(crate::specs::Path::index_of, crate::specs::Candidates::whole, crate::specs::Candidates::leaves, crate::specs::Expression::expr))]
+pub fn examples_of_finding()
+    ensures each_is_entered { whole (one (codes "a") (list (doc (one (codes "b") (int 1)) ∷ doc (one (codes "b") (int 2)) ∷ []))) (codes "a" ∷ codes "b" ∷ []) ≡ Some (int 1) ∷ Some (int 2) ∷ [] }
+    ensures one_is_picked { whole (one (codes "a") (list (doc (one (codes "b") (int 1)) ∷ doc (one (codes "b") (int 2)) ∷ []))) (codes "a" ∷ codes "0" ∷ codes "b" ∷ []) ≡ Some (int 1) ∷ None ∷ None ∷ [] }
+    ensures a_number_gives_nothing { whole (one (codes "a") (list (int 5 ∷ []))) (codes "a" ∷ codes "b" ∷ []) ≡ [] }
+    ensures a_missing_field { leaves [] (codes "a" ∷ []) ≡ None ∷ [] }
+    ensures an_empty_array { leaves (one (codes "a") (list [])) (codes "a" ∷ []) ≡ Some (list []) ∷ [] }
+    ensures an_array_of_null { leaves (one (codes "a") (list (null ∷ []))) (codes "a" ∷ []) ≡ Some (list (null ∷ [])) ∷ Some null ∷ [] }
+    ensures an_expression { expr (one (codes "a") (list (doc ((codes "b", int 1) ∷ (codes "c", int 2) ∷ []) ∷ int 7 ∷ list (doc (one (codes "b") (int 3)) ∷ []) ∷ []))) (codes "a" ∷ codes "b" ∷ []) ≡ Some (list (int 1 ∷ [])) }
+{}
+
+/// What is put where: new fields last, documents for what is missing, nulls beyond an array's end.
+#[tactic(auto, unfolding(crate::specs::Path::index_of, crate::specs::Placing::put))]
+pub fn examples_of_putting()
+    ensures in_its_place { put ((codes "a", int 1) ∷ (codes "b", int 2) ∷ []) (codes "a" ∷ []) (int 3) ≡ Ok ((codes "a", int 3) ∷ (codes "b", int 2) ∷ []) }
+    ensures a_new_field { put (one (codes "_id") (int 1)) (codes "b" ∷ []) (int 3) ≡ Ok ((codes "_id", int 1) ∷ (codes "b", int 3) ∷ []) }
+    ensures a_document { put (one (codes "_id") (int 1)) (codes "x" ∷ codes "2" ∷ []) (int 2) ≡ Ok ((codes "_id", int 1) ∷ (codes "x", doc (one (codes "2") (int 2))) ∷ []) }
+    ensures nulls { put (one (codes "x") (list (int 0 ∷ []))) (codes "x" ∷ codes "3" ∷ []) (int 1) ≡ Ok (one (codes "x") (list (int 0 ∷ null ∷ null ∷ int 1 ∷ []))) }
+    ensures a_name_in_an_array { put (one (codes "a") (list [])) (codes "a" ∷ codes "x" ∷ []) (int 1) ≡ Err NotViable }
+    ensures a_zero_in_front { put (one (codes "a") (list [])) (codes "a" ∷ codes "01" ∷ []) (int 1) ≡ Err NotViable }
+    ensures through_a_number { put (one (codes "a") (int 1)) (codes "a" ∷ codes "b" ∷ []) (int 1) ≡ Err NotViable }
+    ensures too_far { put (one (codes "a") (list [])) (codes "a" ∷ codes "100001" ∷ []) (int 1) ≡ Err IndexTooLarge }
+{}
+
+/// What is taken away: a field, or an element, for which null stands.
+#[tactic(auto, unfolding(crate::specs::Path::index_of, crate::specs::Removing::remove))]
+pub fn examples_of_removing()
+    ensures a_field { remove ((codes "a", int 1) ∷ (codes "b", int 2) ∷ []) (codes "a" ∷ []) ≡ one (codes "b") (int 2) }
+    ensures an_element { remove (one (codes "a") (list (int 1 ∷ int 2 ∷ int 3 ∷ []))) (codes "a" ∷ codes "1" ∷ []) ≡ one (codes "a") (list (int 1 ∷ null ∷ int 3 ∷ [])) }
+    ensures a_name_in_an_array { remove (one (codes "a") (list (int 1 ∷ []))) (codes "a" ∷ codes "x" ∷ []) ≡ one (codes "a") (list (int 1 ∷ [])) }
+    ensures beyond_the_end { remove (one (codes "a") (list (int 1 ∷ []))) (codes "a" ∷ codes "1" ∷ []) ≡ one (codes "a") (list (int 1 ∷ [])) }
+{}
+
+/// Documents in order of `a`: an empty array first, then a missing field, an array by its least or its greatest.
+#[tactic(auto, unfolding(crate::specs::Path::index_of, crate::specs::Candidates::whole, crate::specs::SortKey::sort_key))]
+pub fn examples_of_sort_keys()
+    ensures the_least { sort_key (one (codes "a") (list (int 3 ∷ int 1 ∷ []))) (codes "a" ∷ []) Ascending ≡ key_at (Some (int 1)) }
+    ensures the_greatest { sort_key (one (codes "a") (list (int 3 ∷ int 1 ∷ []))) (codes "a" ∷ []) Descending ≡ key_at (Some (int 3)) }
+    ensures missing { sort_key [] (codes "a" ∷ []) Ascending ≡ key_at (Some null) }
+    ensures an_empty_array { sort_key (one (codes "a") (list [])) (codes "a" ∷ []) Ascending ≡ key_at None }
 {}

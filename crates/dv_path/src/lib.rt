@@ -33,6 +33,3 @@ pub use slot::{Slot, slot_at};
 pub use sort_spec::{SortPart, SortSpec};
 pub use sorting::sort_key;
 pub use walk::fold_whole;
-
-#[cfg(test)]
-mod tests;

@@ -7,6 +7,3 @@ mod row;
 mod sorter;
 
 pub use sorter::Sorter;
-
-#[cfg(test)]
-mod tests;

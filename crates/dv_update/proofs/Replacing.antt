@@ -8,7 +8,7 @@ use Rattle.dv_bson.specs.Tree.{Tree, Field}
 use Rattle.dv_update.specs.Apply.{is_id, others, with_id, leading_id}
 use Rattle.dv_update.proofs.Items.{drop_at}
 
-bytes-back : (s t : List ℕ) → bytes_eq s t ≡ bytes_eq t s
+pub bytes-back : (s t : List ℕ) → bytes_eq s t ≡ bytes_eq t s
 bytes-back s t = by (bytes_eq s t) (bytes_eq t s) refl refl
   where
     by : (a b : Bool) → bytes_eq s t ≡ a → bytes_eq t s ≡ b → a ≡ b
@@ -16,14 +16,14 @@ bytes-back s t = by (bytes_eq s t) (bytes_eq t s) refl refl
     by false true e f = let same : bytes_eq s t ≡ true = (bytes_eq-Decides s t).1 (sym ((bytes_eq-Decides t s).0 f)) in cc
     by false false e f = refl
 
-or-false : (a b : Bool) → a ≡ false → b ≡ false → (a || b) ≡ false
+pub or-false : (a b : Bool) → a ≡ false → b ≡ false → (a || b) ≡ false
 or-false a b h g = ap₂ (λ x y. x || y) h g
 
-or-none-first : (a b : Bool) → (a || b) ≡ false → a ≡ false
+pub or-none-first : (a b : Bool) → (a || b) ≡ false → a ≡ false
 or-none-first true b h = cc
 or-none-first false b h = refl
 
-or-none-second : (a b : Bool) → (a || b) ≡ false → b ≡ false
+pub or-none-second : (a b : Bool) → (a || b) ≡ false → b ≡ false
 or-none-second true b h = cc
 or-none-second false b h = h
 
@@ -31,7 +31,7 @@ has_name-kept : (b : Bool) (name : List ℕ) (f : Field) (fs : List Field) → (
 has_name-kept true name f fs h rest = or-false _ _ (or-none-first _ _ h) rest
 has_name-kept false name f fs h rest = rest
 
-has_name-others : (name : List ℕ) (fs : List Field) → has_name name fs ≡ false → has_name name (others fs) ≡ false
+pub has_name-others : (name : List ℕ) (fs : List Field) → has_name name fs ≡ false → has_name name (others fs) ≡ false
 has_name-others name [] h = refl
 has_name-others name (f ∷ fs) h = has_name-kept (not (is_id f)) name f fs h (has_name-others name fs (or-none-second _ _ h))
 
@@ -47,7 +47,7 @@ no-id-kept : (b : Bool) (f : Field) (fs : List Field) → bytes_eq (codes "_id")
 no-id-kept true f fs is rest = rest
 no-id-kept false f fs is rest = or-false _ _ is rest
 
-no-id : (fs : List Field) → has_name (codes "_id") (others fs) ≡ false
+pub no-id : (fs : List Field) → has_name (codes "_id") (others fs) ≡ false
 no-id [] = refl
 no-id (f ∷ fs) = no-id-kept (is_id f) f fs (bytes-back (codes "_id") f.0) (no-id fs)
 

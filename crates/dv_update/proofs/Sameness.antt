@@ -7,11 +7,11 @@ use Rattle.std.proofs.lemmas.Slice.Eq.{bytes_eq-Decides}
 use Rattle.dv_bson.specs.Tree.{Tree, int32, int64, string, document, array, boolean, binary, object_id, date, null, timestamp, min_key, max_key, Fields, no_fields, field, Elements, no_elements, element}
 use Rattle.dv_update.specs.Same.{agree, is_same, same_fields, same_elements}
 
-and-left : (b c : Bool) → (b && c) ≡ true → b ≡ true
+pub and-left : (b c : Bool) → (b && c) ≡ true → b ≡ true
 and-left true c e = refl
 and-left false c e = cc
 
-and-right : (b c : Bool) → (b && c) ≡ true → c ≡ true
+pub and-right : (b c : Bool) → (b && c) ≡ true → c ≡ true
 and-right true c e = e
 and-right false c e = cc
 

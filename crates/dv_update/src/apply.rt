@@ -13,7 +13,7 @@ ghost use Rattle.dv_update.specs.UpdateView.{update};
 use crate::fault::UpdateFault;
 use crate::form::{Edits, Update};
 use crate::same::is_same;
-use dv_bson::{Document, NoMemory, Value, fits, size};
+use dv_bson::{BsonFault, Document, NoMemory, Value, fits, size};
 use std::alloc::{AllocError, Global};
 
 /// The name of the field that a stored document begins with.
@@ -116,7 +116,8 @@ fn add(document: &mut Document, name: &str, value: Value) -> Result<(), NoMemory
 {
     match document.push(name, value) {
         Ok(()) => Ok(()),
-        Err(_) => Err(AllocError),
+        Err(BsonFault::NoMemory) => Err(AllocError),
+        Err(_) => unreachable!(),
     }
 }
 

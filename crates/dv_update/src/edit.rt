@@ -3,6 +3,7 @@
 ghost use Rattle.std.specs.Prelude.{◌≡◌, ◌++◌, true, IfOk};
 ghost use Rattle.std.specs.List.{list_any};
 ghost use Rattle.dv_bson.specs.View.{tree};
+ghost use Rattle.dv_path.specs.Slots.{slot};
 ghost use Rattle.dv_path.specs.View.{slot_seen};
 ghost use Rattle.dv_update.specs.Apply as defined;
 ghost use Rattle.dv_update.specs.Parsing.{Gives};
@@ -16,6 +17,9 @@ use dv_bson::{Document, List, NoMemory, Value};
 use dv_order::compare;
 use dv_path::{Path, Slot, put_at, remove_at, slot_at};
 use std::alloc::Global;
+
+/// How many levels a document has at most, itself the first.
+const MAX_LEVELS: usize = 100;
 
 impl Edit {
     /// What the operator makes of the document, which is changed in place.
@@ -50,7 +54,9 @@ fn set_at(
     put(alloc, document, path, value.try_clone()?)
 }
 
-/// The value put where the path leads.
+/// The value put where the path leads. `TooDeep` where nothing stands there yet, and the path is so long that what would
+/// be made could never be stored: a path may have millions of components, and walking through so deep a document takes
+/// stack for each of them.
 fn put(
     alloc: Global,
     document: Document,
@@ -59,7 +65,17 @@ fn put(
 ) -> Result<Document, UpdateFault>
     ensures { Gives (λ changed. changed) result (defined.set_at path.now (tree value) document) }
 {
+    if is_beyond(path, &document) {
+        return Err(UpdateFault::TooDeep);
+    }
     Ok(put_at(alloc, document, path, value)?)
+}
+
+/// Whether nothing stands where the path leads yet, and it has more components than a document may have levels.
+fn is_beyond(path: &Path, document: &Document) -> bool
+    ensures { result ≡ defined.is_beyond path.now (slot document.now path.now) }
+{
+    path.components().len() > MAX_LEVELS && matches!(slot_at(document, path), Slot::Free)
 }
 
 fn increase_at(

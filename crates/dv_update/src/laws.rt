@@ -3,12 +3,12 @@
 ghost use Rattle.std.specs.Prelude.{◌≡◌, ◌↔◌, true, false, ℕ, List, [], ◌∷◌, ◌++◌, Ok, Err, codes};
 ghost use Rattle.std.specs.Ordering.{ordering_reverse};
 ghost use Rattle.std.specs.declared.cmp.Ordering.TheVariants.{Less, Equal};
-ghost use Rattle.dv_bson.specs.Spelling.{Fits};
+ghost use Rattle.dv_bson.specs.Spelling.{AreFields, Fits};
 ghost use Rattle.dv_bson.specs.Tree.{Tree, Field, fields_of, null};
 ghost use Rattle.dv_path.specs.Slots.{slot, taken};
 ghost use Rattle.dv_update.specs.Apply.{Path, applied, set_at};
 ghost use Rattle.dv_update.specs.Examples.{doc, int, list, long, one, outcome, start, with_a};
-ghost use Rattle.dv_update.specs.Parsing.{conflicts, in_order};
+ghost use Rattle.dv_update.specs.Parsing.{conflicts, in_order, update_of};
 ghost use Rattle.dv_update.specs.PathOrder.{path_order};
 ghost use Rattle.dv_update.specs.Same.{is_same, same_fields};
 ghost use Rattle.dv_update.specs.Update.{Edit, Update};
@@ -45,6 +45,12 @@ pub fn the_id_stays()
 #[tactic(auto, using(crate::proofs::Lawful::fitting))]
 pub fn what_comes_out_fits()
     ensures { (update : Update) (d after : List Field) → applied update d ≡ Ok after → Fits after }
+{}
+
+/// What an update makes of a valid document is valid, where the update's own document is.
+#[tactic(auto, using(crate::proofs::Sound::comes_out_valid))]
+pub fn what_comes_out_is_valid()
+    ensures { (fields d made : List Field) (form : Update) → AreFields (fields_of fields) → update_of fields ≡ Ok form → AreFields (fields_of d) → applied form d ≡ Ok made → AreFields (fields_of made) }
 {}
 
 /// Values are the same where each part is, and so are documents.

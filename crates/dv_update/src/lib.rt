@@ -18,6 +18,3 @@ pub use fault::UpdateFault;
 pub use form::{Edit, Edits, Operation, Pulled, Update};
 pub use number::Number;
 pub use same::{is_same, same_documents};
-
-#[cfg(test)]
-mod tests;

@@ -11,6 +11,3 @@ mod session;
 pub use dv_core::Store;
 pub use fault::{CloseFault, HubFault};
 pub use hub::{Fed, Hub, SessionId};
-
-#[cfg(test)]
-mod tests;

@@ -1,0 +1,66 @@
+#!/usr/bin/python3
+"""What reading and writing values of each kind costs in docd, beside another BSON library on the same bytes in the same run.
+
+Needs what bench/measuring.py says. A document has an `_id` and 20 fields of one kind. docd reads it in an insert and writes
+it in the answer of a find; its times hold the script's hexadecimal digits, those of an insert the store too. The other
+library decodes and encodes the same documents.
+
+    /usr/bin/python3 bench/kinds.py
+"""
+import datetime
+
+import bson
+from bson.binary import Binary
+from bson.int64 import Int64
+from bson.max_key import MaxKey
+from bson.min_key import MinKey
+from bson.objectid import ObjectId
+from bson.timestamp import Timestamp
+
+from measuring import LINE_BYTES, check_tools, heads, least, lines, message, row, seconds
+
+DOCUMENTS = 5_000
+FIELDS = 20
+BATCH = 100
+
+KINDS = {
+    "int32": 7,
+    "int64": Int64(7),
+    "text of 12 bytes": "hello, world",
+    "document of one field": {"a": 1},
+    "array of two": [1, 2],
+    "binary of 12 bytes": Binary(b"hello, world", 0),
+    "ObjectId": ObjectId("507f1f77bcf86cd799439011"),
+    "boolean": True,
+    "date": datetime.datetime(2026, 1, 1),
+    "null": None,
+    "timestamp": Timestamp(7, 7),
+    "MinKey": MinKey(),
+    "MaxKey": MaxKey(),
+}
+
+
+def spelled(value):
+    """Inserts of documents with this value in each field."""
+    documents = [dict({"_id": i}, **{"f%d" % k: value for k in range(FIELDS)}) for i in range(DOCUMENTS)]
+    return documents, [bson.encode({"insert": "c", "documents": documents[i:i + BATCH], "$db": "t"}) for i in range(0, DOCUMENTS, BATCH)]
+
+
+def main():
+    check_tools()
+    idle = seconds(b"", 0)
+    find = lines(message(bson.encode({"find": "c", "filter": {}, "$db": "t"})), LINE_BYTES)
+    heads("kind", "bytes a document", "nanoseconds a value inserted", "found", "python3-bson decoded", "encoded")
+    for name, value in KINDS.items():
+        documents, bodies = spelled(value)
+        inserts = lines(b"".join(message(body) for body in bodies), LINE_BYTES)
+        inserted = seconds(inserts, len(bodies)) - idle
+        found = seconds(inserts + find, len(bodies) + 1) - idle - inserted
+        decoded = least(lambda: [bson.decode(body) for body in bodies])
+        encoded = least(lambda: [bson.encode(document) for document in documents])
+        each = [1e9 * spent / (DOCUMENTS * FIELDS) for spent in (inserted, found, decoded, encoded)]
+        row(name, "%d" % len(bson.encode(documents[0])), *("%.0f" % one for one in each))
+
+
+if __name__ == "__main__":
+    main()

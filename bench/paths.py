@@ -1,0 +1,63 @@
+#!/usr/bin/python3
+"""What a path of many components costs in a document that it leads through in very many ways, and how that grows.
+
+Needs what bench/measuring.py says. The document is {"0": [{"0": [..]}]}, 10 to 98 levels deep, and the path is `0` fifty
+times: a whole number both picks an element and enters it, so the ways grow as a power of the levels. A filter asks of the
+leaves at the path, a sort takes its least key; each looks at a value once for each component at most. Times are those of
+one find beside a find of the same documents by a name that they don't have, without the program's start.
+
+    /usr/bin/python3 bench/paths.py
+"""
+import subprocess
+import sys
+
+import bson
+
+from measuring import DOCD, LINE_BYTES, check_tools, heads, lines, message, row, seconds
+
+COMPONENTS = 50
+FINDS = 2_000
+PATH = ".".join(["0"] * COMPONENTS)
+
+
+def nested(levels):
+    """A document so many levels deep, whose levels are documents and arrays in turn."""
+    value = 1
+    for level in range(levels, 1, -1):
+        value = [value] if level % 2 == 0 else {"0": value}
+    return {"0": value}
+
+
+def script(levels, **fields):
+    documents = [dict(_id=i, **nested(levels)) for i in (1, 2)]
+    insert = message(bson.encode({"insert": "c", "documents": documents, "$db": "t"}))
+    find = message(bson.encode(dict({"find": "c"}, **fields, **{"$db": "t"})))
+    return lines(insert, LINE_BYTES) + lines(find * FINDS, LINE_BYTES)
+
+
+def check_find():
+    """Stops where docd's find takes no filter or sort by paths."""
+    asked = script(10, filter={PATH: 1}, sort={PATH: 1})
+    answered = subprocess.run([DOCD, "run", "--hex"], input=asked, stdout=subprocess.PIPE, check=True).stdout
+    reply = bson.decode(bytes.fromhex(answered.splitlines()[1].split()[1].decode())[21:])
+    if reply["ok"] != 1:
+        sys.exit("bench: find refuses a filter or a sort by a path: %s" % reply["errmsg"])
+
+
+def microseconds(levels, **fields):
+    return 1e6 * seconds(script(levels, **fields), FINDS + 1) / FINDS
+
+
+def main():
+    check_tools()
+    check_find()
+    heads("levels", "microseconds of a filter", "of a sort", "of a filter, a value", "of a sort, a value")
+    for levels in (10, 20, 30, 40, 50, 60, 70, 80, 90, 98):
+        plain = microseconds(levels, filter={"x": 1})
+        filtered = (microseconds(levels, filter={PATH: 2}) - plain) / 2
+        ordered = (microseconds(levels, filter={}, sort={PATH: 1}) - microseconds(levels, filter={}, sort={"x": 1})) / 2
+        row("%d" % levels, "%.2f" % filtered, "%.2f" % ordered, "%.3f" % (filtered / levels), "%.3f" % (ordered / levels))
+
+
+if __name__ == "__main__":
+    main()

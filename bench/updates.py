@@ -1,0 +1,81 @@
+#!/usr/bin/python3
+"""What updates of one field cost, one statement for all documents and one for each, beside SQLite in process.
+
+Needs what bench/measuring.py says. The documents have ten fields; SQLite holds them as JSON in memory (`json_set`), and
+finds the one of a statement by its primary key. docd has no index yet, so a statement for one document looks at those in
+front of it; there are fewer of these. docd's times hold the digits of the lines and of the replies.
+
+    /usr/bin/python3 bench/updates.py
+    /usr/bin/python3 bench/updates.py --count 10000 --each 500 --program crates/docd/out/docd
+"""
+import argparse
+import sys
+from collections import namedtuple
+
+import measuring
+from measuring import check_tools, documents_to_find, heads, least, loaded, loaded_sqlite, row
+
+# An update by a number, another one in each run, and the same in SQL, with how often the number stands there.
+Update = namedtuple("Update", "name made sql numbers")
+UPDATES = [
+    Update("`$set`", lambda number: {"$set": {"age": number}}, "json_set(body, '$.age', ?)", 1),
+    Update("`$set` of a new field", lambda number: {"$set": {"new%d" % number: number}}, "json_set(body, '$.new' || ?, ?)", 2),
+    Update("`$inc`", lambda number: {"$inc": {"age": number}}, "json_set(body, '$.age', json_extract(body, '$.age') + ?)", 1),
+    Update("`$push`", lambda number: {"$push": {"tags": number}}, "json_insert(body, '$.tags[#]', ?)", 1),
+]
+STATEMENTS = 1_000  # in a message
+
+
+def updated_by_docd(docd, update, count, is_each):
+    numbers = iter(range(1_000, 1_000 + measuring.RUNS))
+
+    def run():
+        made = update.made(next(numbers))
+        one_each = [{"q": {"_id": place}, "u": made} for place in range(count)]
+        entries = one_each if is_each else [{"q": {}, "u": made, "multi": True}]
+        commands = [{"update": "c", "updates": entries[i:i + STATEMENTS]} for i in range(0, len(entries), STATEMENTS)]
+        replies = docd.ask(*commands)
+        if sum(reply.get("nModified", 0) for reply in replies) != count:
+            sys.exit("bench: %s: docd changes others than %d: %r" % (update.name, count, replies[0]))
+    return least(run)
+
+
+def updated_by_sqlite(base, update, count, is_each):
+    numbers = iter(range(1_000, 1_000 + measuring.RUNS))
+
+    def run():
+        values = [next(numbers)] * update.numbers
+        if is_each:
+            base.executemany("UPDATE c SET body = %s WHERE id = ?" % update.sql, [(*values, place) for place in range(count)])
+        else:
+            base.execute("UPDATE c SET body = %s" % update.sql, values)
+        base.commit()
+    return least(run)
+
+
+def print_updates(documents, is_each):
+    docd, base, count = loaded(documents), loaded_sqlite(documents), len(documents)
+    heads("one statement for each" if is_each else "one statement for all", "documents", "milliseconds", "thousands a second",
+          "SQLite: thousands a second", "times SQLite")
+    for update in UPDATES:
+        spent, other = updated_by_docd(docd, update, count, is_each), updated_by_sqlite(base, update, count, is_each)
+        row(update.name, "%d" % count, "%.1f" % (1e3 * spent), "%.0f" % (count / spent / 1e3), "%.0f" % (count / other / 1e3),
+            "%.2f" % (other / spent))
+    docd.close()
+
+
+def main():
+    options = argparse.ArgumentParser(description=__doc__, formatter_class=argparse.RawDescriptionHelpFormatter)
+    options.add_argument("--count", type=int, default=100_000, help="how many documents one statement changes")
+    options.add_argument("--each", type=int, default=1_000, help="how many documents are changed by a statement of their own")
+    options.add_argument("--program", default=measuring.DOCD)
+    given = options.parse_args()
+    measuring.DOCD = given.program
+    check_tools()
+    print_updates(documents_to_find(given.count), False)
+    print()
+    print_updates(documents_to_find(given.each), True)
+
+
+if __name__ == "__main__":
+    main()

@@ -1,0 +1,19 @@
+-- Paths that lead through documents alone.
+use Rattle.std.specs.Prelude.{ℕ, Bool, true, false, List, [], ◌∷◌, Some, None}
+use Rattle.dv_bson.specs.Tree.{document, array, list_of_fields}
+use Rattle.dv_bson.specs.Names.{value_under}
+use Rattle.dv_path.specs.Candidates.{Candidate}
+
+-- whether no array stands on the way of a path from a candidate on, nor at its end
+abbrev pub meets_no_array : List (List ℕ) → Candidate → Bool
+meets_no_array [] (Some (array vs)) = false
+meets_no_array [] c = true
+meets_no_array (name ∷ path) (Some (document fs)) = meets_no_array path (value_under name (list_of_fields fs))
+meets_no_array (name ∷ path) (Some (array vs)) = false
+meets_no_array (name ∷ path) c = true
+
+-- where it leads to then: to the value under each name in turn, or to Missing
+abbrev pub end_of : List (List ℕ) → Candidate → Candidate
+end_of [] c = c
+end_of (name ∷ path) (Some (document fs)) = end_of path (value_under name (list_of_fields fs))
+end_of (name ∷ path) c = None

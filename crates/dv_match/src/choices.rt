@@ -1,0 +1,71 @@
+//! The values of `$in` and `$nin`.
+
+ghost use Rattle.std.specs.Prelude.{◌≡◌, IfOk};
+ghost use Rattle.std.specs.List.{list_any};
+ghost use Rattle.std.specs.Ordering.{is_eq};
+ghost use Rattle.dv_bson.specs.View.{tree};
+ghost use Rattle.dv_order.specs.Order.{order};
+
+use dv_bson::{List, NoMemory, Value};
+use dv_order::compare;
+use std::marker::Model;
+
+/// The values of `$in` or `$nin`, in written order. Beside them stands a copy in the order of values, among which a value
+/// is looked up.
+#[derive(Debug, Drop)]
+pub struct Choices {
+    values: List,
+    ascending: Vec<Value>,
+}
+
+impl Model for Choices {
+    ghost use Rattle.std.specs.Prelude as prelude;
+    ghost use Rattle.std.specs.Coded.{coded_list};
+    ghost use Rattle.dv_bson.specs.Tree.{Tree};
+    ghost use Rattle.dv_bson.specs.TreeCode.{coded_tree};
+    ghost use Rattle.dv_match.specs.Choices.{AreInOrder};
+
+    ghost Value = { prelude.List Tree };
+
+    ghost coded = { coded_list coded_tree };
+
+    ghost view = { λ c. c.values };
+
+    ghost invariant = { λ c. AreInOrder c.values c.ascending.items };
+}
+
+impl Choices {
+    /// These values. Costs comparisons of n log n for n values. Fails where memory is wanting.
+    pub fn of(values: List) -> Result<Self, NoMemory>
+        ensures { IfOk result (λ choices. choices ≡ values) }
+    {
+        let mut ascending = values.try_clone()?.into_inner();
+        ascending.sort_by(|first, second| compare(first, second))?;
+        Ok(Choices { values, ascending })
+    }
+
+    /// The values in written order.
+    pub fn values(&self) -> &List
+        ensures { result.now ≡ self.now }
+    {
+        &self.values
+    }
+
+    /// Whether one of the values compares equal to this one. Takes no memory, and comparisons logarithmic in the number
+    /// of values.
+    pub fn contains(&self, value: &Value) -> bool
+        ensures { result ≡ list_any (λ v. is_eq (order (tree value.now) v)) self.now }
+    {
+        let found = self
+            .ascending
+            .binary_search_by(|member| compare(member, value));
+        found.is_ok()
+    }
+
+    /// A copy of its own. Fails where memory is wanting.
+    pub fn try_clone(&self) -> Result<Self, NoMemory>
+        ensures { IfOk result (λ copy. copy ≡ self.now) }
+    {
+        Choices::of(self.values.try_clone()?)
+    }
+}

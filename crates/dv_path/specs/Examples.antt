@@ -1,0 +1,16 @@
+-- Words for worked examples.
+use Rattle.std.specs.Prelude.{ℕ, pos, List, [], ◌∷◌}
+use Rattle.dv_bson.specs.Tree.{Tree, int32, document, array, Field, fields_of, elements_of}
+
+abbrev pub int : ℕ → Tree
+int n = int32 (pos n)
+
+-- a document of one field
+abbrev pub one : List ℕ → Tree → List Field
+one name v = (name, v) ∷ []
+
+abbrev pub doc : List Field → Tree
+doc fields = document (fields_of fields)
+
+abbrev pub list : List Tree → Tree
+list vs = array (elements_of vs)
