@@ -13,7 +13,6 @@ use Rattle.std.specs.declared.string.String.{String}
 use Rattle.std.specs.String.{string_bytes, string_cmp}
 use Rattle.dv_bson.specs.Tree.{Field}
 use Rattle.dv_core.proofs.Lists.{bytes_eq-symmetric}
-use Rattle.dv_order.specs.Key.{KeyTree}
 use Rattle.dv_coll.specs.Collection.{id_key, found, inserted}
 use Rattle.dv_coll.specs.declared.fault.InsertFault.{InsertFault}
 use Rattle.dv_coll.specs.declared.fault.InsertFault.TheVariants.{Duplicate, NoMemory}

@@ -1,12 +1,11 @@
 -- Documents that are deleted.
-use Rattle.std.proofs.Common.{◌≡◌, ℕ, Bool, true, false, cond, List, [], ◌∷◌, drop, take, length, map, Result, Ok, refl, sym, ap, ◌∙◌}
+use Rattle.std.proofs.Common.{◌≡◌, ℕ, Bool, true, false, cond, List, [], ◌∷◌, drop, length, map, Ok, refl, sym, ap, ◌∙◌}
 use Rattle.std.proofs.lemmas.List.{length-map}
 use Rattle.dv_bson.specs.Tree.{Field}
 use Rattle.dv_coll.specs.Collection.{id_key}
 use Rattle.dv_command.specs.Entries.{Deletion}
-use Rattle.dv_command.specs.declared.refusal.Refusal.{Refusal}
 use Rattle.dv_order.specs.Key.{KeyTree}
-use Rattle.dv_core.specs.Changes.{Change, gone, Effect, with_changes}
+use Rattle.dv_core.specs.Changes.{Change, gone, with_changes}
 use Rattle.dv_core.specs.Delete.{all_or_first, without, delete_chosen}
 use Rattle.dv_core.specs.Scan.{matching, limited}
 use Rattle.dv_core.specs.WriteParts.{Alters}

@@ -1,5 +1,5 @@
 -- What statements keep of the documents of each namespace.
-use Rattle.std.proofs.Common.{◌≡◌, ℕ, zero, suc, Bool, true, false, cond, List, [], ◌∷◌, ◌++◌, length, map, not, take, Option, Some, None, Result, Ok, Err, is_some, if◌then◌else◌, inl, inr, refl, sym, subst}
+use Rattle.std.proofs.Common.{◌≡◌, ℕ, zero, suc, Bool, true, false, cond, List, [], ◌∷◌, ◌++◌, length, map, not, take, Option, Some, Result, Ok, Err, is_some, if◌then◌else◌, inl, inr, refl, sym, subst}
 use Rattle.std.proofs.lemmas.Slice.Eq.{bytes_eq-Decides}
 use Rattle.std.specs.List.{AllByRecursion}
 use Rattle.std.specs.FinMap as finite
@@ -19,7 +19,7 @@ use Rattle.dv_update.specs.Same.{same_fields}
 use Rattle.dv_update.specs.Update as form
 use Rattle.dv_match.specs.Filter.{Members}
 use Rattle.dv_match.specs.Match.{matches}
-use Rattle.dv_core.specs.Delete.{delete_one, delete_chosen, without, all_or_first}
+use Rattle.dv_core.specs.Delete.{delete_one, delete_chosen, all_or_first}
 use Rattle.dv_core.specs.Scan.{matching}
 use Rattle.dv_core.specs.Update.{after, changed_by, update_chosen, update_one}
 use Rattle.dv_core.specs.Insert.{insert_one, put_new}

@@ -1,9 +1,9 @@
 -- How statements are refused: never for a fault in bytes.
-use Rattle.std.proofs.Common.{◌≡◌, ◌||◌, ◌&&◌, ℕ, Bool, true, false, cond, ℤ, pos, negsuc, List, [], ◌∷◌, map, Option, Some, None, Result, Ok, Err, is_some, if◌then◌else◌}
+use Rattle.std.proofs.Common.{◌||◌, ◌&&◌, Bool, true, false, cond, ℤ, pos, negsuc, List, [], ◌∷◌, map, Option, Some, None, Result, Ok, Err, is_some}
 use Rattle.std.specs.List.{AllByRecursion}
-use Rattle.std.specs.Prelude.{codes, ⊤}
+use Rattle.std.specs.Prelude.{codes}
 use Rattle.dv_bson.specs.Names.{value_under}
-use Rattle.dv_bson.specs.Tree.{Tree, int32, int64, string, boolean, document, array, Fields, no_fields, Elements, no_elements, element, Field, fields_of}
+use Rattle.dv_bson.specs.Tree.{Tree, int32, int64, string, boolean, document, array, no_fields, Elements, no_elements, element, Field, fields_of}
 use Rattle.dv_coll.specs.Collection.{id_key, found}
 use Rattle.dv_match.specs.declared.fault.FilterFault.{FilterFault}
 use Rattle.dv_match.specs.declared.fault.FilterFault.TheVariants as filtering
@@ -18,10 +18,9 @@ use Rattle.dv_command.specs.declared.refusal.Refusal.TheVariants.{InvalidBson, B
 use Rattle.dv_command.specs.Refusals.{◌>>=◌, refused_by, filter_refusal, update_refusal}
 use Rattle.dv_command.specs.Kinds.{Kind, Place}
 use Rattle.dv_command.specs.Kinds as kinds
-use Rattle.dv_command.specs.Fields.{Table, update_in, check_false, optional, updating_table, boolean_under, update_under, is_read, text_in, boolean_in, document_in, each_document, documents_in, integer_in, not_negative, natural_in, one_or_all, only_first_in, check_empty, check_value, check_known, check_field, check_fields, is_ignored, kind_in, required, deletion_table, document_under, only_first_under}
+use Rattle.dv_command.specs.Fields.{Table, update_in, check_false, optional, updating_table, boolean_under, update_under, text_in, boolean_in, document_in, each_document, documents_in, integer_in, not_negative, natural_in, one_or_all, only_first_in, check_empty, check_value, check_known, check_field, check_fields, is_ignored, kind_in, required, deletion_table, document_under, only_first_under}
 use Rattle.dv_command.specs.Forms.{filter_of, update_of, is_replacement}
-use Rattle.dv_command.specs.Entries.{Deletion, deletion_of, updating_of, check_multi}
-use Rattle.dv_core.specs.Changes.{put}
+use Rattle.dv_command.specs.Entries.{deletion_of, updating_of, check_multi}
 use Rattle.dv_core.specs.Delete.{delete_one, delete_chosen}
 use Rattle.dv_core.specs.Insert.{insert_one, put_new}
 use Rattle.dv_core.specs.Update.{after, changed_by, update_chosen, update_one}

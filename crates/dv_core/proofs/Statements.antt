@@ -1,19 +1,15 @@
 -- The statements of a write, one after the other.
-use Rattle.std.proofs.Common.{◌≡◌, ℕ, suc, ◌+◌, ◌<◌, ◌≤◌, ◌⊎◌, Bool, true, false, not, List, [], ◌∷◌, ◌++◌, length, Result, Ok, Err, is_some, if◌then◌else◌, refl, sym, ap, subst, ◌∙◌, append_assoc, inl, inr, arith}
+use Rattle.std.proofs.Common.{◌≡◌, ℕ, suc, ◌+◌, ◌<◌, ◌⊎◌, Bool, true, false, not, List, [], ◌∷◌, ◌++◌, length, Result, Ok, Err, if◌then◌else◌, refl, sym, ap, subst, ◌∙◌, append_assoc, inl, inr}
 use Rattle.std.specs.declared.alloc.AllocError.{AllocError}
 use Rattle.std.proofs.lemmas.List.{append-nil}
 use Rattle.dv_bson.specs.Tree.{Tree, Field}
 use Rattle.dv_command.specs.declared.refusal.Refusal.{Refusal}
-use Rattle.dv_command.specs.declared.refusal.Refusal.TheVariants.{DuplicateKey, WantOfMemory}
-use Rattle.dv_command.specs.Refusals.{◌>>=◌}
-use Rattle.dv_coll.specs.Collection.{id_key, found}
-use Rattle.dv_core.specs.Insert.{insert_one, put_new}
-use Rattle.dv_core.specs.Storable.{storable}
+use Rattle.dv_command.specs.declared.refusal.Refusal.TheVariants.{WantOfMemory}
 use Rattle.dv_core.specs.declared.outcome.Outcome.TheVariants.{Reply, Wanting, NoReply}
 use Rattle.dv_core.specs.declared.next.Next.{Next}
 use Rattle.dv_core.specs.declared.next.Next.TheVariants.{Due, Ended}
 use Rattle.dv_core.specs.State.{Namespaces, documents_of}
-use Rattle.dv_core.specs.Changes.{Change, put, Effect, apply}
+use Rattle.dv_core.specs.Changes.{Change, Effect, apply}
 use Rattle.dv_core.specs.Statements.{Statement, Write, Written, nothing_written, carry_out, with_next, with_all, with_result, is_due, next_changes, cut, AreCut, IsCut}
 use Rattle.dv_core.specs.WriteParts.{with_refusal, next_behind, reply_seen, Notes, CutsNext, NextStep, Writes}
 

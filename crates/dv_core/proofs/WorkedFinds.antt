@@ -1,5 +1,5 @@
 -- The worked examples of deletes and finds, computed.
-use Rattle.std.proofs.Common.{◌≡◌, ℕ, ◌+◌, true, List, [], ◌∷◌, length, Ok, refl, sym, ap, ◌∙◌}
+use Rattle.std.proofs.Common.{◌≡◌, ℕ, ◌+◌, true, List, [], ◌∷◌, length, Ok, refl, ap, ◌∙◌}
 use Rattle.std.specs.Fmt.{digits}
 use Rattle.std.specs.Prelude.{codes}
 use Rattle.dv_bson.specs.Tree.{Field, null}
@@ -22,9 +22,9 @@ use Rattle.dv_core.specs.Delete.{delete_one, delete_write}
 use Rattle.dv_core.specs.Examples.{only, one_field, number, deletion, holding, three, bounded, nulls, keyed, DeleteExamples, FindExamples}
 use Rattle.dv_core.specs.Find.{batch_reply}
 use Rattle.dv_core.specs.Scan.{scan}
-use Rattle.dv_core.specs.State.{Namespaces, documents_of, empty_state, with_documents}
+use Rattle.dv_core.specs.State.{documents_of, empty_state, with_documents}
 use Rattle.dv_core.specs.Statements.{nothing_written, with_next}
-use Rattle.dv_core.specs.Step.{Answer, answered, read_answer, write_answer}
+use Rattle.dv_core.specs.Step.{answered, read_answer, write_answer}
 use Rattle.dv_core.proofs.Worked.{t_c, nothing_in, put_there, put_twice, wrote, wrote_so, looked_at}
 
 -- one entry that takes documents out of c

@@ -1,5 +1,4 @@
-use Rattle.std.proofs.Common.{◌≡◌, true, false, arith, List, ◌∙◌}
-use Rattle.dv_bson.specs.Tree.{Field}
+use Rattle.std.proofs.Common.{◌≡◌, true, false}
 use Rattle.dv_match.specs.Match.{matches}
 use Rattle.dv_sort.specs.Front.{with_row}
 use Rattle.dv_core.proofs.Scanned.{sorting_starts, sorting_more, sorting_same, sorting_done}

@@ -26,3 +26,6 @@ returns-in-Err c =
       step = next_noted (string_bytes terms.namespace) terms.ordered (written_seen c.args.written.now c.args.collections.now) (statement_of terms.kind c.args.entry.now)
           (written_seen c.note.new.self) c.in-Err.refusal c.requires.due c.in-Err.ensures.0 c.note.result (c.note.ensures c.args.collections.now) (λ ns. refl) c.write_one.new.collections c.in-Err.ensures.1;
     }
+
+pub note-requires : goal.note-requires
+note-requires c = c.requires.room
