@@ -158,7 +158,8 @@ module _ (body : List Field) (lists : Lists) (valid : AreFields (fields_of body)
       let sort = succeeds (sort_under (codes "sort") body) _ a filter.rest_is in
       let skip = succeeds (natural_under (codes "skip") body) _ a sort.rest_is in
       let limit = succeeds (natural_under (codes "limit") body) _ a skip.rest_is in
-      subst IsSoundlyAsked (ends (find (record { namespace = from.given; filter = filter.given; sort = sort.given; skip = skip.given; limit = limit.given })) a limit.rest_is)
+      let asked : Asked = find (record { namespace = from.given; filter = filter.given; sort = sort.given; skip = skip.given; limit = limit.given }) in
+      subst IsSoundlyAsked {x = asked} (ends asked a limit.rest_is)
       (namespace_valid db.given collection.given from.given (checked_valid find_table db.given db.first_is) (text_valid (value_under (codes "find") body) collection.given (valid_under (codes "find")) collection.first_is) from.first_is)
 
   hello_sound : (a : Asked) → hello_of body ≡ Ok a → IsSoundlyAsked a
