@@ -1,6 +1,6 @@
 -- The entries of commands of statements, each read when its turn comes (MongoDB manual, "delete": `deletes`; "update": `updates`). The
 -- order in which refusals are told is this server's own.
-use Rattle.std.specs.Prelude.{ℕ, ◌&&◌, Bool, false, List, Result, Ok, Err, codes, if◌then◌else◌, ⊤}
+use Rattle.std.specs.Prelude.{◌&&◌, Bool, false, List, Result, Ok, Err, codes, if◌then◌else◌, ⊤}
 use Rattle.dv_bson.specs.Tree.{Field}
 use Rattle.dv_match.specs.Filter.{Members}
 use Rattle.dv_update.specs.Update.{Update}
