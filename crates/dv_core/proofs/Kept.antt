@@ -15,13 +15,10 @@ use Rattle.dv_command.specs.declared.refusal.Refusal.TheVariants.{DuplicateKey}
 use Rattle.dv_command.specs.Refusals.{◌>>=◌}
 use Rattle.dv_core.specs.declared.outcome.Outcome.{Outcome}
 use Rattle.dv_core.specs.Changes.{Change, put, gone, Effect, apply, with_change, with_changes, changes_of}
-use Rattle.dv_update.specs.Same.{same_fields}
 use Rattle.dv_update.specs.Update as form
-use Rattle.dv_match.specs.Filter.{Members}
-use Rattle.dv_match.specs.Match.{matches}
-use Rattle.dv_core.specs.Delete.{delete_one, delete_chosen, all_or_first}
+use Rattle.dv_core.specs.Delete.{delete_one, delete_chosen}
 use Rattle.dv_core.specs.Scan.{matching}
-use Rattle.dv_core.specs.Update.{after, changed_by, update_chosen, update_one}
+use Rattle.dv_core.specs.Update.{changed_by, update_chosen, update_one}
 use Rattle.dv_core.specs.Insert.{insert_one, put_new}
 use Rattle.dv_core.specs.State.{State, Standing, Namespaces, collection_at, documents_of, with_documents, collection}
 use Rattle.dv_core.specs.Statements.{Statement, Write, Written, nothing_written, with_all, with_next, with_result, is_due}
@@ -29,6 +26,7 @@ use Rattle.dv_core.specs.Step.{Answer, write_of, MemoryStep}
 use Rattle.dv_core.specs.Storable.{storable}
 use Rattle.dv_core.proofs.ByNamespace.{get-insert}
 use Rattle.dv_core.proofs.Changed.{Did, outcome_may, MayWrite}
+use Rattle.dv_core.proofs.Updated.{IsGoodAfter, chosen_good, matching_good, all_changed_good}
 
 -- of a property of the documents of a namespace, and changes that keep it
 module _ (P : List ℕ → List (List Field) → Type 0) (IsGood : Change → Type 0)
@@ -142,50 +140,32 @@ module _ (P : List ℕ → List (List Field) → Type 0) (IsGood : Change → Ty
   -- ---- the statements of an update
 
   -- what becomes of a document is put
-  abbrev IsGoodAfter : form.Update → List Field → Type 0
-  IsGoodAfter update d = (e : List Field) → after update d ≡ Ok e → IsGood (put e)
+  abbrev PutsGood : form.Update → List Field → Type 0
+  PutsGood update d = IsGoodAfter (λ e. IsGood (put e)) update d
 
-  changed_good : (d : List Field) (first : Result (List Field) Refusal) (rest : Result (List (List Field)) Refusal) (changed : List (List Field))
-      → ((e : List Field) → first ≡ Ok e → IsGood (put e)) → ((es : List (List Field)) → rest ≡ Ok es → AllByRecursion IsGood (map put es))
-      → (first >>= λ e. rest >>= λ es. Ok (if same_fields (fields_of d) (fields_of e) then es else e ∷ es)) ≡ Ok changed → AllByRecursion IsGood (map put changed)
-  changed_good d (Ok e) (Ok es) changed good others is = kept (same_fields (fields_of d) (fields_of e)) is
-    where
-      kept : (c : Bool) → Ok {E = Refusal} (if c then es else e ∷ es) ≡ Ok changed → AllByRecursion IsGood (map put changed)
-      kept true same = let all : es ≡ changed = cc in subst (λ (ds : List (List Field)). AllByRecursion IsGood (map put ds)) all (others es refl)
-      kept false same = let all : e ∷ es ≡ changed = cc in subst (λ (ds : List (List Field)). AllByRecursion IsGood (map put ds)) all (good e refl, others es refl)
-  changed_good d (Ok e) (Err refusal) changed good others is = absurd cc
-  changed_good d (Err refusal) rest changed good others is = absurd cc
+  all_put : (es : List (List Field)) → AllByRecursion (λ e. IsGood (put e)) es → AllByRecursion IsGood (map put es)
+  all_put [] good = tt
+  all_put (e ∷ es) good = (good.0, all_put es good.1)
 
-  all_changed_good : (update : form.Update) (ds changed : List (List Field)) → changed_by update ds ≡ Ok changed → AllByRecursion (IsGoodAfter update) ds → AllByRecursion IsGood (map put changed)
-  all_changed_good update [] changed is good = let all : [] ≡ changed = cc in subst (λ (ds : List (List Field)). AllByRecursion IsGood (map put ds)) all tt
-  all_changed_good update (d ∷ ds) changed is good =
-      changed_good d (after update d) (changed_by update ds) changed good.0 (λ es rest. all_changed_good update ds es rest good.1) is
-
-  updated_good : (updating : Updating) (ds : List (List Field)) (result : Result (List (List Field)) Refusal) → changed_by updating.update ds ≡ result → AllByRecursion (IsGoodAfter updating.update) ds
+  updated_good : (updating : Updating) (ds : List (List Field)) (result : Result (List (List Field)) Refusal) → changed_by updating.update ds ≡ result → AllByRecursion (PutsGood updating.update) ds
       → AllByRecursion IsGood (changes_of (result >>= λ changed. Ok (record { matched = length ds; changes = map put changed })))
-  updated_good updating ds (Ok changed) is good = all_changed_good updating.update ds changed is good
+  updated_good updating ds (Ok changed) is good = all_put changed (all_changed_good (λ e. IsGood (put e)) updating.update ds changed is good)
   updated_good updating ds (Err refusal) is good = tt
 
-  chosen_good : (Q : List Field → Type 0) (first : Bool) (ds : List (List Field)) → AllByRecursion Q ds → AllByRecursion Q (all_or_first first ds)
-  chosen_good Q false ds all = all
-  chosen_good Q true [] all = tt
-  chosen_good Q true (d ∷ ds) all = (all.0, tt)
+  -- of updates of a sort
+  module _ (IsGoodUpdate : form.Update → Type 0)
+      (good_after : (update : form.Update) → IsGoodUpdate update → (namespace : List ℕ) (documents : List (List Field)) → P namespace documents → AllByRecursion (PutsGood update) documents) where
+    -- an entry that asks one
+    abbrev pub AsksGood : List Field → Type 0
+    AsksGood entry = (updating : Updating) → updating_of entry ≡ Ok updating → IsGoodUpdate updating.update
 
-  matching_good : (Q : List Field → Type 0) (filter : Members) (ds : List (List Field)) → AllByRecursion Q ds → AllByRecursion Q (matching filter ds)
-  matching_good Q filter [] all = tt
-  matching_good Q filter (d ∷ ds) all = kept_good (matches filter d) (matching_good Q filter ds all.1)
-    where
-      kept_good : (b : Bool) → AllByRecursion Q (matching filter ds) → AllByRecursion Q (cond b (d ∷ matching filter ds) (matching filter ds))
-      kept_good true rest = (all.0, rest)
-      kept_good false rest = rest
-
-  module _ (good_after : (update : form.Update) (namespace : List ℕ) (documents : List (List Field)) → P namespace documents → AllByRecursion (IsGoodAfter update) documents) where
-    entry_updated : (result : Result Updating Refusal) (namespace : List ℕ) (documents : List (List Field)) → P namespace documents → AllByRecursion IsGood (changes_of (result >>= λ updating. update_chosen updating documents))
-    entry_updated (Ok updating) namespace documents h =
+    entry_updated : (entry : List Field) (result : Result Updating Refusal) → updating_of entry ≡ result → AsksGood entry → (namespace : List ℕ) (documents : List (List Field)) → P namespace documents
+        → AllByRecursion IsGood (changes_of (result >>= λ updating. update_chosen updating documents))
+    entry_updated entry (Ok updating) is asks namespace documents h =
         updated_good updating _ _ refl
-        (chosen_good (IsGoodAfter updating.update) (not updating.multi) (matching updating.filter documents) (matching_good (IsGoodAfter updating.update) updating.filter documents (good_after updating.update namespace documents h)))
-    entry_updated (Err refusal) namespace documents h = tt
+        (chosen_good (PutsGood updating.update) (not updating.multi) (matching updating.filter documents) (matching_good (PutsGood updating.update) updating.filter documents (good_after updating.update (asks updating is) namespace documents h)))
+    entry_updated entry (Err refusal) is asks namespace documents h = tt
 
-    pub updates_keep : (entries : List (List Field)) → AllByRecursion Keeps (map update_one entries)
-    updates_keep [] = tt
-    updates_keep (entry ∷ entries) = (record { good = λ namespace documents h. entry_updated (updating_of entry) namespace documents h }, updates_keep entries)
+    pub updates_keep : (entries : List (List Field)) → AllByRecursion AsksGood entries → AllByRecursion Keeps (map update_one entries)
+    updates_keep [] asks = tt
+    updates_keep (entry ∷ entries) asks = (record { good = λ namespace documents h. entry_updated entry (updating_of entry) refl asks.0 namespace documents h }, updates_keep entries asks.1)

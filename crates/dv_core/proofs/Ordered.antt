@@ -7,12 +7,14 @@ use Rattle.std.specs.List.{AllByRecursion}
 use Rattle.std.specs.List.Sorted.{IsStrictlySortedBy}
 use Rattle.std.specs.Ordering.{nat_cmp, is_lt}
 use Rattle.dv_bson.specs.Names.{value_under}
+use Rattle.dv_bson.specs.Spelling.{AreFields, Fits}
 use Rattle.dv_bson.specs.Tree.{Tree, array, Field, fields_of}
 use Rattle.dv_order.specs.Key.{KeyTree, key_order}
 use Rattle.dv_coll.specs.Collection.{HasId, IsAscending, found, has_key, id_key, inserted, removed, replaced}
 use Rattle.dv_command.specs.Asked.{Asked, hello, ping, insert, update, delete, find, asked_by}
-use Rattle.dv_command.specs.Refusals.{◌>>=◌, refused_by, update_refusal}
-use Rattle.dv_command.specs.Sound.{AreValid}
+use Rattle.dv_command.specs.Refusals.{◌>>=◌}
+use Rattle.dv_command.specs.Entries.{Updating, updating_of}
+use Rattle.dv_command.specs.Sound.{AreValid, IsSoundUpdate}
 use Rattle.dv_command.specs.declared.command.Command.{Command}
 use Rattle.dv_command.specs.declared.refusal.Refusal.{Refusal}
 use Rattle.dv_command.specs.declared.refusal.Refusal.TheVariants.{BadValue, TooLarge}
@@ -20,8 +22,8 @@ use Rattle.dv_core.specs.declared.outcome.Outcome.{Outcome}
 use Rattle.dv_core.specs.Changes.{Change, put, gone, with_change}
 use Rattle.dv_core.specs.Delete.{delete_write}
 use Rattle.dv_update.specs.Apply.{applied}
+use Rattle.dv_update.specs.Parsing.{update_of}
 use Rattle.dv_update.specs.Update as form
-use Rattle.dv_update.specs.declared.fault.UpdateFault.{UpdateFault}
 use Rattle.dv_core.specs.Update.{after, update_write}
 use Rattle.dv_core.specs.Insert.{insert_one, insert_write}
 use Rattle.dv_core.specs.Sound.{IsSoundDocument, AreSound, IsSound, IsSoundCommand}
@@ -33,6 +35,7 @@ use Rattle.dv_core.proofs.Asking.{AsksSoundly, soundly_asked}
 use Rattle.dv_core.proofs.ByNamespace.{documents_there}
 use Rattle.dv_core.proofs.Kept.{Keeps, insert_keeps, updates_keep, deletes_keep, step_holds}
 use Rattle.dv_core.proofs.Stored.{storable_fits}
+use Rattle.dv_core.proofs.Updated.{KeepsId, told_after, after_id}
 use Rattle.dv_core.proofs.Valid.{storable_valid}
 
 nothing_there : (namespace : List ℕ) → [] ≡ documents_of namespace empty_state.namespaces
@@ -76,23 +79,9 @@ stored_id d stored is =
 
 -- ---- what becomes of a document that is updated begins with its `_id`
 
-abbrev pub KeepsId : Type 0
-KeepsId = (update : form.Update) (v : Tree) (others after : List Field) → applied update ((codes "_id", v) ∷ others) ≡ Ok after → (rest : List Field) × (after ≡ (codes "_id", v) ∷ rest)
-
-told_after : (r : Result (List Field) UpdateFault) (e : List Field) → refused_by update_refusal r ≡ Ok e → r ≡ Ok e
-told_after (Ok d) e is = cc
-told_after (Err fault) e is = absurd cc
-
-after_id : KeepsId → (update : form.Update) (d e : List Field) → HasId d → after update d ≡ Ok e → HasId e
-after_id law update [] e has_id is = absurd has_id
-after_id law update (f ∷ fs) e has_id is =
-    let same : f ≡ (codes "_id", f.1) = λ i. (has_id.0 i, f.1) in
-    let (rest, begins) = law update f.1 fs e (ap (λ (g : Field). applied update (g ∷ fs)) (sym same) ∙ told_after (applied update (f ∷ fs)) e is) in
-    rw begins (refl, has_id.1)
-
-afters_ids : KeepsId → (update : form.Update) (ds : List (List Field)) → AllByRecursion HasId ds → AllByRecursion (λ d. (e : List Field) → after update d ≡ Ok e → HasId e) ds
-afters_ids law update [] all = tt
-afters_ids law update (d ∷ ds) all = ((λ e is. after_id law update d e all.0 is), afters_ids law update ds all.1)
+afters_ids : KeepsId → (how : form.Update) (ds : List (List Field)) → AllByRecursion HasId ds → AllByRecursion (λ d. (e : List Field) → after how d ≡ Ok e → HasId e) ds
+afters_ids law how [] all = tt
+afters_ids law how (d ∷ ds) all = ((λ e is. (after_id law how d e all.0 is).0), afters_ids law how ds all.1)
 
 -- ---- what changes keep, by the laws of collections
 
@@ -104,6 +93,12 @@ pub record CollectionLaws : Type 0 where
   pub replaced_ascend : (d : List Field) (ds : List (List Field)) → HasId d → AllByRecursion HasId ds → IsAscending ds → IsAscending (replaced d ds)
   pub id_stays : KeepsId
   pub replaced_ids : (d : List Field) (ds : List (List Field)) → HasId d → AllByRecursion HasId ds → AllByRecursion HasId (replaced d ds)
+
+-- what makes updates sound
+pub record UpdateLaws : Type 0 where
+  pub of_entries : (entry : List Field) (asked : Updating) → AreFields (fields_of entry) → updating_of entry ≡ Ok asked → IsSoundUpdate asked.update
+  pub stays_valid : (fields d made : List Field) (update : form.Update) → AreFields (fields_of fields) → update_of fields ≡ Ok update → AreFields (fields_of d) → applied update d ≡ Ok made → AreFields (fields_of made)
+  pub fits : (update : form.Update) (d made : List Field) → applied update d ≡ Ok made → Fits made
 
 -- a document that is put begins with its `_id`
 abbrev pub BeginsWithId : Change → Type 0
@@ -131,13 +126,18 @@ module _ (laws : CollectionLaws) where
   inserts_order [] = tt
   inserts_order (d ∷ ds) = (insert_keeps (λ namespace ds. AreOrdered ds) BeginsWithId changes_order d (λ stored is. stored_id d stored is), inserts_order ds)
 
+  asks_any : (entries : List (List Field)) → AllByRecursion (λ entry. (updating : Updating) → updating_of entry ≡ Ok updating → Unit {0}) entries
+  asks_any [] = tt
+  asks_any (entry ∷ entries) = ((λ updating is. tt), asks_any entries)
+
   writes_order : (what : Asked) (write : Write) → write_of what ≡ Some write → KeepsOrder write
   writes_order hello write is = absurd cc
   writes_order ping write is = absurd cc
   writes_order (insert i) write is = let same : insert_write i ≡ write = cc in subst KeepsOrder same (inserts_order i.documents)
   writes_order (update u) write is =
       let same : update_write u ≡ write = cc in
-      subst KeepsOrder same (updates_keep (λ namespace ds. AreOrdered ds) BeginsWithId changes_order (λ form namespace ds ordered. afters_ids laws.id_stays form ds ordered.1) u.entries)
+      subst KeepsOrder same
+      (updates_keep (λ namespace ds. AreOrdered ds) BeginsWithId changes_order (λ form. Unit {0}) (λ form any namespace ds ordered. afters_ids laws.id_stays form ds ordered.1) u.entries (asks_any u.entries))
   writes_order (delete d) write is = let same : delete_write d ≡ write = cc in subst KeepsOrder same (deletes_keep (λ namespace ds. AreOrdered ds) BeginsWithId changes_order (λ k. tt) d.entries)
   writes_order (find f) write is = absurd cc
 
@@ -188,14 +188,32 @@ module _ (laws : CollectionLaws) where
     inserts_sound ds valid.1,
   )
 
-  module _ (asks : AsksSoundly) where
+  module _ (asks : AsksSoundly) (sound_laws : UpdateLaws) where
+    afters_sound : (how : form.Update) → IsSoundUpdate how → (ds : List (List Field)) → AllByRecursion HasId ds → AllByRecursion IsSoundDocument ds
+        → AllByRecursion (λ d. (e : List Field) → after how d ≡ Ok e → HasId e × IsSoundDocument e) ds
+    afters_sound how asked [] ids all = tt
+    afters_sound how asked (d ∷ ds) ids all = (
+      (λ e is.
+          let does : applied how d ≡ Ok e = told_after (applied how d) e is in
+          ((after_id laws.id_stays how d e ids.0 is).0, record { valid = sound_laws.stays_valid asked.document d e how asked.valid asked.is all.0.valid does; fits = sound_laws.fits how d e does })),
+      afters_sound how asked ds ids.1 all.1,
+    )
+
+    entries_sound : (entries : List (List Field)) → AreValid entries → AllByRecursion (λ entry. (updating : Updating) → updating_of entry ≡ Ok updating → IsSoundUpdate updating.update) entries
+    entries_sound [] valid = tt
+    entries_sound (entry ∷ entries) valid = ((λ updating is. sound_laws.of_entries entry updating valid.0 is), entries_sound entries valid.1)
+
     writes_sound : (command : Command) → IsSoundCommand command → (what : Asked) (write : Write) → asked_by command ≡ Ok what → write_of what ≡ Some write → KeepsSound write
     writes_sound command sound hello write asked is = absurd cc
     writes_sound command sound ping write asked is = absurd cc
     writes_sound command sound (insert i) write asked is =
         let same : insert_write i ≡ write = cc in
         subst KeepsSound same (inserts_sound i.documents (soundly_asked asks command (insert i) sound asked).1)
-    writes_sound command sound (update u) write asked is = ?
+    writes_sound command sound (update u) write asked is =
+        let same : update_write u ≡ write = cc in
+        subst KeepsSound same
+        (updates_keep (λ namespace ds. AreSound ds) IsSoundChange changes_sound IsSoundUpdate (λ form asked namespace ds all. afters_sound form asked ds all.0.1 all.1) u.entries
+        (entries_sound u.entries (soundly_asked asks command (update u) sound asked).1))
     writes_sound command sound (delete d) write asked is =
         let same : delete_write d ≡ write = cc in
         subst KeepsSound same (deletes_keep (λ namespace ds. AreSound ds) IsSoundChange changes_sound (λ k. tt) d.entries)

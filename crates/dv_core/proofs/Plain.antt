@@ -1,5 +1,5 @@
 -- How statements are refused: never for a fault in bytes.
-use Rattle.std.proofs.Common.{◌||◌, ◌&&◌, Bool, true, false, cond, ℤ, pos, negsuc, List, [], ◌∷◌, map, Option, Some, None, Result, Ok, Err, is_some}
+use Rattle.std.proofs.Common.{◌||◌, ◌&&◌, Bool, true, false, cond, ℤ, pos, negsuc, List, [], ◌∷◌, length, map, not, Option, Some, None, Result, Ok, Err, is_some}
 use Rattle.std.specs.List.{AllByRecursion}
 use Rattle.std.specs.Prelude.{codes}
 use Rattle.dv_bson.specs.Names.{value_under}
@@ -20,10 +20,12 @@ use Rattle.dv_command.specs.Kinds.{Kind, Place}
 use Rattle.dv_command.specs.Kinds as kinds
 use Rattle.dv_command.specs.Fields.{Table, update_in, check_false, optional, updating_table, boolean_under, update_under, text_in, boolean_in, document_in, each_document, documents_in, integer_in, not_negative, natural_in, one_or_all, only_first_in, check_empty, check_value, check_known, check_field, check_fields, is_ignored, kind_in, required, deletion_table, document_under, only_first_under}
 use Rattle.dv_command.specs.Forms.{filter_of, update_of, is_replacement}
-use Rattle.dv_command.specs.Entries.{deletion_of, updating_of, check_multi}
-use Rattle.dv_core.specs.Delete.{delete_one, delete_chosen}
+use Rattle.dv_command.specs.Entries.{Updating, deletion_of, updating_of, check_multi}
+use Rattle.dv_core.specs.Changes.{put, Effect}
+use Rattle.dv_core.specs.Delete.{all_or_first, delete_one, delete_chosen}
 use Rattle.dv_core.specs.Insert.{insert_one, put_new}
 use Rattle.dv_core.specs.Update.{after, changed_by, update_chosen, update_one}
+use Rattle.dv_core.specs.Scan.{matching}
 use Rattle.dv_core.specs.Statements.{Statement}
 use Rattle.dv_core.specs.Storable.{are_fields_dotted, has_dollar, without_field, id_in, is_within_limits, with_id_first, storable}
 
@@ -199,7 +201,12 @@ deletes_plain [] = tt
 deletes_plain (entry ∷ entries) =
     (record { plain = λ documents. then_plainly (deletion_of entry) (λ deletion. delete_chosen deletion documents) (deletion_plainly entry) (λ deletion. tt) }, deletes_plain entries)
 
+chosen_plainly : (asked : Updating) (documents : List (List Field)) → IsPlainly (update_chosen asked documents)
+chosen_plainly asked documents =
+    let chosen : List (List Field) = all_or_first (not asked.multi) (matching asked.filter documents) in
+    then_plainly {B = Effect} (changed_by asked.update chosen) (λ changed. Ok (record { matched = length chosen; changes = map put changed })) (changed_plainly asked.update chosen) (λ changed. tt)
+
 pub updates_plain : (entries : List (List Field)) → AllByRecursion IsPlainStatement (map update_one entries)
 updates_plain [] = tt
 updates_plain (entry ∷ entries) =
-    (record { plain = λ documents. then_plainly (updating_of entry) (λ updating. update_chosen updating documents) (updating_plainly entry) (λ updating. then_plainly (changed_by updating.update _) _ (changed_plainly updating.update _) (λ changed. tt)) }, updates_plain entries)
+    (record { plain = λ documents. then_plainly (updating_of entry) (λ asked. update_chosen asked documents) (updating_plainly entry) (λ asked. chosen_plainly asked documents) }, updates_plain entries)

@@ -30,9 +30,10 @@ pub(crate) fn delete_in(
     // The keys are made first: behind them nothing takes memory.
     let keys = keys_of(alloc, &documents)?;
     remove_each(collection, &keys);
+    let count = keys.len();
     Ok(Counted {
-        matched: keys.len(),
-        changed: keys.len(),
+        matched: count,
+        changed: count,
     })
 }
 
