@@ -7,13 +7,19 @@ use Rattle.std.specs.Str.{IsUtf8, bytes_eq}
 use Rattle.dv_bson.specs.Names.{value_under}
 use Rattle.dv_bson.specs.Spelling.{IsValue, AreFields, AreElements}
 use Rattle.dv_bson.specs.Tree.{Tree, string, document, array, Fields, no_fields, field, Elements, no_elements, element, Field, fields_of, list_of_fields}
-use Rattle.dv_command.specs.Asked.{Asked, hello, ping, insert, delete, find, asked_under, hello_of, ping_of, insert_of, delete_of, find_of, Statements, statements_of, checked_database, check_count, statement_limit}
-use Rattle.dv_command.specs.Fields.{Table, Lists, write_table, find_table, check_fields, check_lists, text_in, each_document, documents_in, required, text_under, boolean_under, natural_under, documents_under}
-use Rattle.dv_command.specs.Forms.{filter_under, sort_under}
+use Rattle.dv_update.specs.Parsing as updates
+use Rattle.dv_update.specs.Update.{Update}
+use Rattle.dv_update.specs.declared.fault.UpdateFault.{UpdateFault}
+use Rattle.dv_command.specs.Asked.{Asked, hello, ping, insert, update, delete, find, asked_under, hello_of, ping_of, insert_of, update_of, delete_of, find_of, Statements, statements_of, checked_database, check_count, statement_limit}
+use Rattle.dv_command.specs.Fields.{Table, Lists, updating_table, update_in, update_under, document_under, write_table, find_table, check_fields, check_lists, text_in, each_document, documents_in, required, text_under, boolean_under, natural_under, documents_under}
+use Rattle.dv_command.specs.Forms.{filter_under, sort_under, filter_of}
+use Rattle.dv_command.specs.Forms as forms
+use Rattle.dv_command.specs.Entries as entries
+use Rattle.dv_command.specs.Entries.{Updating}
 use Rattle.dv_command.specs.Kinds as kinds
 use Rattle.dv_command.specs.Namespaces.{database, database_in, namespace, dotted, is_database_name, is_collection_name, longest_namespace}
-use Rattle.dv_command.specs.Refusals.{◌>>=◌}
-use Rattle.dv_command.specs.Sound.{AreValid, IsNamespace, AreStatements, IsSoundlyAsked}
+use Rattle.dv_command.specs.Refusals.{◌>>=◌, refused_by, update_refusal}
+use Rattle.dv_command.specs.Sound.{AreValid, IsNamespace, AreStatements, IsSoundlyAsked, IsSoundUpdate}
 use Rattle.dv_command.specs.declared.refusal.Refusal.{Refusal}
 use Rattle.dv_command.specs.declared.refusal.Refusal.TheVariants.{BadValue, CommandNotFound, LimitReached}
 
@@ -76,6 +82,14 @@ database_valid (Some (string name)) d valid is = named (is_database_name name) i
     named false e = absurd cc
 database_valid (Some v) d valid is = absurd cc
 
+update_valid : (under : Option Tree) (d : List Field) → ((v : Tree) → under ≡ Some v → IsValue v) → required update_in under ≡ Ok d → AreFields (fields_of d)
+update_valid None d valid is = absurd cc
+update_valid (Some (document fs)) d valid is =
+    let fields : AreFields (fields_of (list_of_fields fs)) = rw (fields_again fs) (valid (document fs) refl) in
+    subst (λ (e : List Field). AreFields (fields_of e)) (ends (list_of_fields fs) d is) fields
+update_valid (Some (array vs)) d valid is = absurd cc
+update_valid (Some v) d valid is = absurd cc
+
 -- ---- namespaces, and how many statements there are
 
 dot_below : (i : ℕ) → get_or (46 ∷ []) i 0 < 128
@@ -137,6 +151,12 @@ module _ (body : List Field) (lists : Lists) (valid : AreFields (fields_of body)
       subst IsSoundlyAsked (ends (insert (record { namespace = s.given.namespace; documents = s.given.list; ordered = s.given.ordered })) a s.rest_is)
       (statements_valid (codes "insert") (codes "documents") s.given s.first_is)
 
+  update_sound : (a : Asked) → update_of body lists ≡ Ok a → IsSoundlyAsked a
+  update_sound a is =
+      let s = succeeds (statements_of (codes "update") (codes "updates") body lists) _ a is in
+      subst IsSoundlyAsked (ends (update (record { namespace = s.given.namespace; entries = s.given.list; ordered = s.given.ordered })) a s.rest_is)
+      (statements_valid (codes "update") (codes "updates") s.given s.first_is)
+
   delete_sound : (a : Asked) → delete_of body lists ≡ Ok a → IsSoundlyAsked a
   delete_sound a is =
       let s = succeeds (statements_of (codes "delete") (codes "deletes") body lists) _ a is in
@@ -152,7 +172,8 @@ module _ (body : List Field) (lists : Lists) (valid : AreFields (fields_of body)
       let sort = succeeds (sort_under (codes "sort") body) _ a filter.rest_is in
       let skip = succeeds (natural_under (codes "skip") body) _ a sort.rest_is in
       let limit = succeeds (natural_under (codes "limit") body) _ a skip.rest_is in
-      subst IsSoundlyAsked (ends (find (record { namespace = from.given; filter = filter.given; sort = sort.given; skip = skip.given; limit = limit.given })) a limit.rest_is)
+      let asked : Asked = find (record { namespace = from.given; filter = filter.given; sort = sort.given; skip = skip.given; limit = limit.given }) in
+      subst IsSoundlyAsked {x = asked} (ends asked a limit.rest_is)
       (namespace_valid db.given collection.given from.given (checked_valid find_table db.given db.first_is) (text_valid (value_under (codes "find") body) collection.given (valid_under (codes "find")) collection.first_is) from.first_is)
 
   hello_sound : (a : Asked) → hello_of body ≡ Ok a → IsSoundlyAsked a
@@ -171,6 +192,30 @@ module _ (body : List Field) (lists : Lists) (valid : AreFields (fields_of body)
       either (bytes_eq name (codes "hello")) (hello_of body) _ a (hello_sound a)
       (either (bytes_eq name (codes "ping")) (ping_of body) _ a (ping_sound a)
       (either (bytes_eq name (codes "insert")) (insert_of body lists) _ a (insert_sound a)
+      (either (bytes_eq name (codes "update")) (update_of body lists) _ a (update_sound a)
       (either (bytes_eq name (codes "delete")) (delete_of body lists) _ a (delete_sound a)
       (either (bytes_eq name (codes "find")) (find_of body lists) _ a (find_sound a)
-      (λ is. let none : Err CommandNotFound ≡ Ok a = is in absurd cc)))))
+      (λ is. let none : Err CommandNotFound ≡ Ok a = is in absurd cc))))))
+
+-- ---- entries of updates
+
+parsed : (reading : Result Update UpdateFault) (u : Update) → refused_by update_refusal reading ≡ Ok u → reading ≡ Ok u
+parsed (Ok x) u is = ap Ok (ends x u is)
+parsed (Err fault) u is = absurd cc
+
+pub updating_sound : (entry : List Field) (asked : Updating) → AreFields (fields_of entry) → entries.updating_of entry ≡ Ok asked → IsSoundUpdate asked.update
+updating_sound entry asked valid is =
+    let looked = succeeds (check_fields kinds.entry updating_table entry) _ asked is in
+    let q = succeeds (document_under (codes "q") entry) _ asked looked.rest_is in
+    let u = succeeds (update_under (codes "u") entry) _ asked q.rest_is in
+    let multi = succeeds (boolean_under (codes "multi") false entry) _ asked u.rest_is in
+    let many = succeeds (entries.check_multi multi.given u.given) _ asked multi.rest_is in
+    let filter = succeeds (filter_of q.given) _ asked many.rest_is in
+    let update = succeeds (forms.update_of u.given) _ asked filter.rest_is in
+    let made : Updating = record { filter = filter.given; update = update.given; multi = multi.given } in
+    let sound : IsSoundUpdate update.given = record {
+      document = u.given;
+      valid = update_valid (value_under (codes "u") entry) u.given (λ v under. under_valid (codes "u") entry v valid under) u.first_is;
+      is = parsed (updates.update_of u.given) update.given update.first_is;
+    } in
+    subst (λ (w : Updating). IsSoundUpdate w.update) {x = made} (ends made asked update.rest_is) sound

@@ -1,5 +1,5 @@
 -- What commands ask (MongoDB manual, "Database Commands"). The order in which refusals are told is this server's own.
-use Rattle.std.specs.Prelude.{ℕ, Bool, true, List, [], ◌∷◌, Result, Ok, Err, codes, nat_lt, length, if◌then◌else◌, ⊤}
+use Rattle.std.specs.Prelude.{ℕ, Bool, true, List, Result, Ok, Err, codes, nat_lt, length, if◌then◌else◌, ⊤}
 use Rattle.std.specs.Str.{bytes_eq}
 use Rattle.dv_bson.specs.Tree.{Field}
 use Rattle.dv_path.specs.SortSpec.{Part}
@@ -10,7 +10,7 @@ use Rattle.dv_command.specs.declared.refusal.Refusal.{Refusal}
 use Rattle.dv_command.specs.declared.refusal.Refusal.TheVariants.{CommandNotFound, LimitReached}
 use Rattle.dv_command.specs.Refusals.{refusal_of, ◌>>=◌}
 use Rattle.dv_command.specs.Kinds as kinds
-use Rattle.dv_command.specs.Fields.{Table, Lists, write_table, find_table, check_fields, check_lists, text_under, boolean_under, natural_under, documents_under}
+use Rattle.dv_command.specs.Fields.{Table, Lists, first_name, write_table, find_table, check_fields, check_lists, text_under, boolean_under, natural_under, documents_under}
 use Rattle.dv_command.specs.Forms.{filter_under, sort_under}
 use Rattle.dv_command.specs.Namespaces.{database, namespace}
 
@@ -18,6 +18,12 @@ use Rattle.dv_command.specs.Namespaces.{database, namespace}
 pub record Insert : Type 0 where
   pub namespace : List ℕ
   pub documents : List (List Field)
+  pub ordered : Bool
+
+-- what these entries say is updated in this namespace, in order; whether the first that is refused ends the command
+pub record Update : Type 0 where
+  pub namespace : List ℕ
+  pub entries : List (List Field)
   pub ordered : Bool
 
 -- what these entries say goes out of this namespace, in order; whether the first that is refused ends the command
@@ -38,6 +44,7 @@ pub data Asked : Type 0 where
   hello : Asked
   ping : Asked
   insert : Insert → Asked
+  update : Update → Asked
   delete : Delete → Asked
   find : Find → Asked
 
@@ -86,6 +93,11 @@ insert_of body lists =
     statements_of (codes "insert") (codes "documents") body lists >>= λ s.
     Ok (insert (record { namespace = s.namespace; documents = s.list; ordered = s.ordered }))
 
+abbrev pub update_of : List Field → Lists → Result Asked Refusal
+update_of body lists =
+    statements_of (codes "update") (codes "updates") body lists >>= λ s.
+    Ok (update (record { namespace = s.namespace; entries = s.list; ordered = s.ordered }))
+
 abbrev pub delete_of : List Field → Lists → Result Asked Refusal
 delete_of body lists =
     statements_of (codes "delete") (codes "deletes") body lists >>= λ s.
@@ -104,14 +116,14 @@ find_of body lists =
 
 -- the command is the first name of the body
 abbrev pub command_name : List Field → List ℕ
-command_name [] = []
-command_name (f ∷ fs) = f.0
+command_name body = first_name body
 
 abbrev pub asked_under : List ℕ → List Field → Lists → Result Asked Refusal
 asked_under name body lists =
     if bytes_eq name (codes "hello") then hello_of body
     else if bytes_eq name (codes "ping") then ping_of body
     else if bytes_eq name (codes "insert") then insert_of body lists
+    else if bytes_eq name (codes "update") then update_of body lists
     else if bytes_eq name (codes "delete") then delete_of body lists
     else if bytes_eq name (codes "find") then find_of body lists
     else Err CommandNotFound

@@ -1,5 +1,5 @@
 -- The fields of commands and of their entries: which there may be, what their values have to be, and what is read out of them. Their names
--- and types are the MongoDB manual's ("insert", "delete", "find"); which of them are there yet and which are ignored are this server's own.
+-- and types are the MongoDB manual's ("insert", "update", "delete", "find"); which of them are there yet and which are ignored are this server's own.
 use Rattle.std.specs.Prelude.{ℕ, ℤ, pos, negsuc, ◌||◌, Bool, true, false, List, [], ◌∷◌, Option, Some, None, Result, Ok, Err, codes, if◌then◌else◌, ⊤}
 use Rattle.std.specs.Ordering.{int_eq}
 use Rattle.std.specs.Str.{bytes_eq}
@@ -32,6 +32,9 @@ find_table =
 
 abbrev pub deletion_table : Table
 deletion_table = (codes "q", kinds.document) ∷ (codes "limit", kinds.how_many) ∷ []
+
+abbrev pub updating_table : Table
+updating_table = (codes "q", kinds.document) ∷ (codes "u", kinds.update) ∷ (codes "multi", kinds.boolean) ∷ (codes "upsert", kinds.only_false) ∷ []
 
 -- what is ignored in every command, whatever it holds
 abbrev pub ignored_names : List (List ℕ)
@@ -96,6 +99,11 @@ one_or_all n = if int_eq n (pos 1) then Ok true else if int_eq n (pos 0) then Ok
 abbrev pub only_first_in : Tree → Result Bool Refusal
 only_first_in value = integer_in value >>= one_or_all
 
+abbrev pub update_in : Tree → Result (List Field) Refusal
+update_in (document fs) = Ok (list_of_fields fs)
+update_in (array vs) = Err FailedToParse
+update_in value = Err TypeMismatch
+
 -- ---- fields as they stand
 
 -- that something can be read
@@ -106,6 +114,9 @@ abbrev pub check_empty : Tree → Result ⊤ Refusal
 check_empty (document no_fields) = Ok tt
 check_empty value = Err FailedToParse
 
+abbrev pub check_false : Bool → Result ⊤ Refusal
+check_false b = if b then Err FailedToParse else Ok tt
+
 -- a value that has to be of a kind
 abbrev pub check_value : Kind → Tree → Result ⊤ Refusal
 check_value kinds.anything value = Ok tt
@@ -115,6 +126,8 @@ check_value kinds.document value = is_read (document_in value)
 check_value kinds.documents value = is_read (documents_in value)
 check_value kinds.natural value = is_read (natural_in value)
 check_value kinds.how_many value = is_read (only_first_in value)
+check_value kinds.update value = is_read (update_in value)
+check_value kinds.only_false value = boolean_in value >>= check_false
 check_value kinds.empty_document value = check_empty value
 
 -- a field that the table doesn't name is unknown
@@ -140,6 +153,11 @@ check_lists [] = Ok tt
 check_lists (list ∷ lists) = Err FailedToParse
 
 -- ---- what is read out of fields
+
+-- empty where there is no field
+abbrev pub first_name : List Field → List ℕ
+first_name [] = []
+first_name (f ∷ fs) = f.0
 
 -- a field that has to be there
 abbrev pub required : {A : Type 0} → (Tree → Result A Refusal) → Option Tree → Result A Refusal
@@ -172,3 +190,6 @@ documents_under name fields = required documents_in (value_under name fields)
 
 abbrev pub only_first_under : List ℕ → List Field → Result Bool Refusal
 only_first_under name fields = required only_first_in (value_under name fields)
+
+abbrev pub update_under : List ℕ → List Field → Result (List Field) Refusal
+update_under name fields = required update_in (value_under name fields)

@@ -1,13 +1,17 @@
--- The filters and sorts that commands hold (MongoDB manual, "find": `filter`, `sort`). How they are refused is this server's own.
-use Rattle.std.specs.Prelude.{ℕ, List, [], ◌∷◌, Option, Some, None, Result, Ok, Err}
+-- The filters, sorts and updates that commands hold (MongoDB manual, "find": `filter`, `sort`; "update": `u`). How they are refused is this
+-- server's own.
+use Rattle.std.specs.Prelude.{ℕ, not, Bool, List, [], ◌∷◌, Option, Some, None, Result, Ok, Err}
 use Rattle.dv_bson.specs.Tree.{Field, fields_of}
 use Rattle.dv_path.specs.SortSpec.{Part, sort_spec_of}
 use Rattle.dv_match.specs.Filter.{Members}
 use Rattle.dv_match.specs.Parsing.{filter_in}
+use Rattle.dv_update.specs.Update.{Update}
+use Rattle.dv_update.specs.Parsing as updates
 use Rattle.dv_command.specs.declared.refusal.Refusal.{Refusal}
 use Rattle.dv_command.specs.declared.refusal.Refusal.TheVariants.{BadValue}
-use Rattle.dv_command.specs.Refusals.{◌>>=◌, refused_by, filter_refusal}
-use Rattle.dv_command.specs.Fields.{document_or_none}
+use Rattle.dv_command.specs.Refusals.{◌>>=◌, refused_by, filter_refusal, update_refusal}
+use Rattle.dv_command.specs.Fields.{document_or_none, first_name}
+use Rattle.dv_command.specs.Namespaces.{begins_with_dollar}
 
 -- the filter that a document is
 abbrev pub filter_of : List Field → Result Members Refusal
@@ -21,6 +25,14 @@ or_bad_value (Some x) = Ok x
 abbrev pub sort_of : List Field → Result (List Part) Refusal
 sort_of [] = Ok []
 sort_of (f ∷ fs) = or_bad_value (sort_spec_of (f ∷ fs))
+
+-- the update that a document is
+abbrev pub update_of : List Field → Result Update Refusal
+update_of d = refused_by update_refusal (updates.update_of d)
+
+-- whether it is a replacement: its first name doesn't begin with a dollar sign
+abbrev pub is_replacement : List Field → Bool
+is_replacement d = not (begins_with_dollar (first_name d))
 
 -- those under a name: where there is none, the document without fields stands for it
 

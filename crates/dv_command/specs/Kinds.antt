@@ -16,5 +16,9 @@ pub data Kind : Type 0 where
   natural : Kind
   -- how many documents a statement deletes: 0 for all that match, 1 for the first
   how_many : Kind
+  -- an update; a list of stages isn't one yet
+  update : Kind
+  -- a boolean, and only false yet
+  only_false : Kind
   -- a document without fields, and nothing else yet
   empty_document : Kind

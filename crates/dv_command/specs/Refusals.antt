@@ -7,15 +7,20 @@ use Rattle.dv_coll.specs.declared.fault.InsertFault.{InsertFault}
 use Rattle.dv_coll.specs.declared.fault.InsertFault.TheVariants as inserting
 use Rattle.dv_match.specs.declared.fault.FilterFault.{FilterFault}
 use Rattle.dv_match.specs.declared.fault.FilterFault.TheVariants as filtering
+use Rattle.dv_update.specs.declared.fault.UpdateFault.{UpdateFault}
+use Rattle.dv_update.specs.declared.fault.UpdateFault.TheVariants as updating
 use Rattle.dv_command.specs.declared.refusal.Refusal.{Refusal}
-use Rattle.dv_command.specs.declared.refusal.Refusal.TheVariants.{BadValue, FailedToParse, TypeMismatch, InvalidBson, CommandNotFound, DuplicateKey, WantOfMemory, TooLarge, LimitReached}
+use Rattle.dv_command.specs.declared.refusal.Refusal.TheVariants.{BadValue, FailedToParse, TypeMismatch, InvalidBson, PathNotViable, ConflictingUpdateOperators, CommandNotFound, ImmutableField, DuplicateKey, WantOfMemory, TooLarge, LimitReached}
 
 abbrev pub code : Refusal → ℕ
 code BadValue = 2
 code FailedToParse = 9
 code TypeMismatch = 14
 code (InvalidBson fault) = 22
+code PathNotViable = 28
+code ConflictingUpdateOperators = 40
 code CommandNotFound = 59
+code ImmutableField = 66
 code DuplicateKey = 11000
 code WantOfMemory = 900
 code TooLarge = 901
@@ -26,7 +31,10 @@ code_name BadValue = codes "BadValue"
 code_name FailedToParse = codes "FailedToParse"
 code_name TypeMismatch = codes "TypeMismatch"
 code_name (InvalidBson fault) = codes "InvalidBSON"
+code_name PathNotViable = codes "PathNotViable"
+code_name ConflictingUpdateOperators = codes "ConflictingUpdateOperators"
 code_name CommandNotFound = codes "CommandNotFound"
+code_name ImmutableField = codes "ImmutableField"
 code_name DuplicateKey = codes "DuplicateKey"
 code_name WantOfMemory = codes "WantOfMemory"
 code_name TooLarge = codes "TooLarge"
@@ -51,6 +59,21 @@ insert_refusal inserting.NoMemory = WantOfMemory
 abbrev pub filter_refusal : FilterFault → Refusal
 filter_refusal filtering.NoMemory = WantOfMemory
 filter_refusal fault = BadValue
+
+-- why a document is no update, or can't be updated
+abbrev pub update_refusal : UpdateFault → Refusal
+update_refusal updating.UnknownOperator = FailedToParse
+update_refusal updating.BadOperand = FailedToParse
+update_refusal updating.NotNumber = TypeMismatch
+update_refusal updating.NotViable = PathNotViable
+update_refusal updating.Conflict = ConflictingUpdateOperators
+update_refusal updating.IdChanged = ImmutableField
+update_refusal updating.Overflow = BadValue
+update_refusal updating.NotArray = BadValue
+update_refusal updating.TooDeep = BadValue
+update_refusal updating.BadName = BadValue
+update_refusal updating.TooLarge = TooLarge
+update_refusal updating.NoMemory = WantOfMemory
 
 -- the same, with a refusal in place of a fault
 abbrev pub refused_by : {A E : Type 0} → (E → Refusal) → Result A E → Result A Refusal

@@ -2,18 +2,21 @@
 use Rattle.std.specs.Prelude.{ℕ, List, [], Option, Some, None}
 use Rattle.std.specs.String.{string_bytes}
 use Rattle.dv_path.specs.SortSpec.{Part}
-use Rattle.dv_command.specs.Asked.{Asked, Statements, Insert, Delete, Find}
+use Rattle.dv_command.specs.Asked.{Asked, Statements, Insert, Update, Delete, Find}
 use Rattle.dv_command.specs.Asked as asking
-use Rattle.dv_command.specs.Entries.{Deletion}
+use Rattle.dv_update.specs.UpdateView as updates
+use Rattle.dv_command.specs.Entries.{Deletion, Updating}
 use Rattle.dv_command.specs.Kinds as kinds
 use Rattle.dv_command.specs.declared.asking.Asked as declared
-use Rattle.dv_command.specs.declared.asking.Asked.TheVariants.{Hello, Ping, Insert as Inserts, Delete as Deletes, Find as Finds}
+use Rattle.dv_command.specs.declared.asking.Asked.TheVariants.{Hello, Ping, Insert as Inserts, Update as Updates, Delete as Deletes, Find as Finds}
 use Rattle.dv_command.specs.declared.asking.Insert as inserting
+use Rattle.dv_command.specs.declared.asking.Update as updating
 use Rattle.dv_command.specs.declared.asking.Delete as deleting
 use Rattle.dv_command.specs.declared.asking.Find as finding
-use Rattle.dv_command.specs.declared.entries.Deletion as declared_entries
+use Rattle.dv_command.specs.declared.entries.Deletion as deletions
+use Rattle.dv_command.specs.declared.entries.Updating as updatings
 use Rattle.dv_command.specs.declared.fields.Kind as code
-use Rattle.dv_command.specs.declared.fields.Kind.TheVariants.{Anything, Text, Boolean, Document, Documents, Natural, HowMany, EmptyDocument}
+use Rattle.dv_command.specs.declared.fields.Kind.TheVariants.{Anything, Text, Boolean, Document, Documents, Natural, HowMany, Update as AnUpdate, OnlyFalse, EmptyDocument}
 use Rattle.dv_command.specs.declared.fields.Place as places
 use Rattle.dv_command.specs.declared.fields.Place.TheVariants.{Command, Entry}
 use Rattle.dv_command.specs.declared.fields.Rule.{Rule}
@@ -27,6 +30,8 @@ kind_seen Document = kinds.document
 kind_seen Documents = kinds.documents
 kind_seen Natural = kinds.natural
 kind_seen HowMany = kinds.how_many
+kind_seen AnUpdate = kinds.update
+kind_seen OnlyFalse = kinds.only_false
 kind_seen EmptyDocument = kinds.empty_document
 
 abbrev pub place_seen : places.Place → kinds.Place
@@ -47,18 +52,25 @@ statements_seen s = record { namespace = string_bytes s.namespace; list = s.list
 abbrev pub insert_seen : inserting.Insert → Insert
 insert_seen i = record { namespace = string_bytes i.namespace; documents = i.documents; ordered = i.ordered }
 
+abbrev pub update_seen : updating.Update → Update
+update_seen u = record { namespace = string_bytes u.namespace; entries = u.entries; ordered = u.ordered }
+
 abbrev pub delete_seen : deleting.Delete → Delete
 delete_seen d = record { namespace = string_bytes d.namespace; entries = d.entries; ordered = d.ordered }
 
 abbrev pub find_seen : finding.Find → Find
 find_seen f = record { namespace = string_bytes f.namespace; filter = f.filter; sort = sort_seen f.sort; skip = f.skip; limit = f.limit }
 
-abbrev pub deletion_seen : declared_entries.Deletion → Deletion
+abbrev pub deletion_seen : deletions.Deletion → Deletion
 deletion_seen d = record { filter = d.filter; only_first = d.only_first }
+
+abbrev pub updating_seen : updatings.Updating → Updating
+updating_seen u = record { filter = u.filter; update = updates.update u.update; multi = u.multi }
 
 abbrev pub asked_seen : declared.Asked → Asked
 asked_seen Hello = asking.hello
 asked_seen Ping = asking.ping
 asked_seen (Inserts i) = asking.insert (insert_seen i)
+asked_seen (Updates u) = asking.update (update_seen u)
 asked_seen (Deletes d) = asking.delete (delete_seen d)
 asked_seen (Finds f) = asking.find (find_seen f)

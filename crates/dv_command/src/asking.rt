@@ -13,6 +13,7 @@ pub enum Asked<'a> {
     Hello,
     Ping,
     Insert(Insert<'a>),
+    Update(Update<'a>),
     Delete(Delete<'a>),
     Find(Find),
 }
@@ -26,6 +27,17 @@ pub struct Insert<'a> {
     pub ordered: bool,
     // As many as a command may have.
     pub ghost few: { length documents ≤ statement_limit },
+}
+
+/// What these entries say is updated in a namespace, in order. Each is read by `updating_of` when its turn comes.
+#[derive(Drop)]
+pub struct Update<'a> {
+    pub namespace: String,
+    pub entries: Documents<'a>,
+    /// Whether the first entry that is refused ends the command.
+    pub ordered: bool,
+    // As many as a command may have.
+    pub ghost few: { length entries ≤ statement_limit },
 }
 
 /// What these entries say goes out of a namespace, in order. Each is read by `deletion_of` when its turn comes.

@@ -5,6 +5,7 @@ ghost use Rattle.std.specs.Option.{option_map};
 ghost use Rattle.dv_bson.specs.Names.{value_under};
 ghost use Rattle.dv_bson.specs.View.{tree};
 ghost use Rattle.dv_command.specs.Fields as defined;
+ghost use Rattle.dv_command.specs.Kinds as kinds;
 ghost use Rattle.dv_command.specs.declared.refusal.Refusal.TheVariants.{FailedToParse};
 ghost use Rattle.dv_command.specs.View.{kind_seen, place_seen, rule_seen};
 
@@ -35,6 +36,10 @@ pub(crate) enum Kind {
     Natural,
     /// How many documents a statement deletes: 0 for all that match, 1 for the first.
     HowMany,
+    /// An update; a list of stages isn't one yet.
+    Update,
+    /// A boolean, and only false yet.
+    OnlyFalse,
     /// A document without fields, and nothing else yet.
     EmptyDocument,
 }
@@ -63,6 +68,14 @@ pub(crate) const DELETION_RULES: [Rule; 2] = [
     Rule("limit", Kind::HowMany),
 ];
 
+/// The fields of an entry of an update.
+pub(crate) const UPDATING_RULES: [Rule; 4] = [
+    Rule("q", Kind::Document),
+    Rule("u", Kind::Update),
+    Rule("multi", Kind::Boolean),
+    Rule("upsert", Kind::OnlyFalse),
+];
+
 /// The fields of a command of statements, by its name and that of their list.
 pub(crate) fn write_rules(command: &'static str, list: &'static str) -> [Rule; 4]
     ensures { map rule_seen result ≡ defined.write_table command.now list.now }
@@ -77,7 +90,7 @@ pub(crate) fn write_rules(command: &'static str, list: &'static str) -> [Rule; 4
 
 /// Looks at fields as they stand: the first that is unknown (`FailedToParse`) or has a value of another kind is told,
 /// this with `TypeMismatch` where the value is of another type, and with `BadValue` where it is a number out of its
-/// rules. Of what may only be an empty document and isn't `FailedToParse` is told.
+/// rules. Of what may only be an empty document, or false, and isn't `FailedToParse` is told.
 pub(crate) fn check_fields(place: Place, rules: &[Rule], document: &Document) -> Result<(), Refusal>
     ensures { result ≡ defined.check_fields (place_seen place) (map rule_seen rules.now) document.now }
 {
@@ -155,7 +168,20 @@ fn check_value(kind: Kind, value: &Value) -> Result<(), Refusal>
         Kind::Documents => documents_of(value).map(|_| ()),
         Kind::Natural => natural_of(value).map(|_| ()),
         Kind::HowMany => only_first_of(value).map(|_| ()),
+        Kind::Update => update_of(value).map(|_| ()),
+        Kind::OnlyFalse => check_false(value),
         Kind::EmptyDocument => check_empty(value),
+    }
+}
+
+/// Looks at a value that may only be false.
+fn check_false(value: &Value) -> Result<(), Refusal>
+    ensures { result ≡ defined.check_value kinds.only_false (tree value.now) }
+{
+    if boolean_of(value)? {
+        Err(Refusal::FailedToParse)
+    } else {
+        Ok(())
     }
 }
 
@@ -244,6 +270,19 @@ fn only_first_of(value: &Value) -> Result<bool, Refusal>
     }
 }
 
+/// The document of an update that a value is. Refused with `FailedToParse` where it is an array, and with `TypeMismatch`
+/// where it is another value.
+#[tactic(auto, using(crate::proofs::Among::same_fields))]
+fn update_of(value: &Value) -> Result<&Document, Refusal>
+    ensures { MatchResult result (λ document. defined.update_in (tree value.now) ≡ Ok document.now) (λ refusal. defined.update_in (tree value.now) ≡ Err refusal) }
+{
+    match value {
+        Value::Doc(document) => Ok(document),
+        Value::Array(_) => Err(Refusal::FailedToParse),
+        _ => Err(Refusal::TypeMismatch),
+    }
+}
+
 /// Looks at the lists of documents beside a body. No command has such a list yet, so one is refused with
 /// `FailedToParse`.
 pub(crate) fn check_lists(lists: &DocumentLists) -> Result<(), Refusal>
@@ -253,6 +292,16 @@ pub(crate) fn check_lists(lists: &DocumentLists) -> Result<(), Refusal>
         Ok(())
     } else {
         Err(Refusal::FailedToParse)
+    }
+}
+
+/// The first name of fields, which in a body is the command; empty where there is none.
+pub(crate) fn first_name(fields: &Document) -> &str
+    ensures { result.now ≡ defined.first_name fields.now }
+{
+    match fields.entry(0) {
+        Some((name, _)) => name,
+        None => "",
     }
 }
 
@@ -329,4 +378,12 @@ pub(crate) fn only_first_under(fields: &Document, name: &str) -> Result<bool, Re
     ensures { result ≡ defined.only_first_under name.now fields.now }
 {
     only_first_of(required(fields, name)?)
+}
+
+/// The document of an update under a name. Refused with `FailedToParse` where there is no field of the name, or an array
+/// under it, and with `TypeMismatch` where there is another value.
+pub(crate) fn update_under<'a>(fields: &'a Document, name: &str) -> Result<&'a Document, Refusal>
+    ensures { MatchResult result (λ document. defined.update_under name.now fields.now ≡ Ok document.now) (λ refusal. defined.update_under name.now fields.now ≡ Err refusal) }
+{
+    update_of(required(fields, name)?)
 }

@@ -1,14 +1,18 @@
-//! The filters and sorts that commands hold.
+//! The filters, sorts and updates that commands hold.
 
+ghost use Rattle.std.specs.Prelude.{◌≡◌};
+ghost use Rattle.dv_update.specs.UpdateView.{update};
 ghost use Rattle.dv_command.specs.Forms as forms;
 ghost use Rattle.dv_command.specs.Refusals.{UnlessWanting};
 ghost use Rattle.dv_command.specs.View.{sort_seen};
 
-use crate::fields::document_or;
+use crate::fields::{document_or, first_name};
+use crate::namespaces::begins_with_dollar;
 use crate::refusal::Refusal;
 use dv_bson::Document;
 use dv_match::Filter;
 use dv_path::SortSpec;
+use dv_update::Update;
 use std::alloc::Global;
 
 /// The filter under a name, or the one that all documents match where there is no field of the name. Refused with
@@ -54,4 +58,19 @@ fn sort_of(alloc: Global, document: &Document) -> Result<Option<SortSpec>, Refus
         Some(sort) => Ok(Some(sort)),
         None => Err(Refusal::BadValue),
     }
+}
+
+/// The update that the document is. Refused where it is none (`FailedToParse` for operators and operands, `TypeMismatch`
+/// for what `$inc` adds, `BadValue` for names, `ConflictingUpdateOperators`), and with `WantOfMemory`.
+pub(crate) fn update_of(alloc: Global, document: &Document) -> Result<Update, Refusal>
+    ensures { UnlessWanting update (forms.update_of document.now) result }
+{
+    Ok(Update::parse(alloc, document)?)
+}
+
+/// Whether the update that a document is is a replacement: its first name doesn't begin with a dollar sign.
+pub(crate) fn is_replacement(document: &Document) -> bool
+    ensures { result ≡ forms.is_replacement document.now }
+{
+    !begins_with_dollar(first_name(document))
 }

@@ -6,12 +6,18 @@ ghost use Rattle.dv_bson.specs.Tree.{Field, fields_of};
 ghost use Rattle.dv_command.specs.Asked.{Asked, asked_under, command_name};
 ghost use Rattle.dv_command.specs.Fields.{Lists};
 ghost use Rattle.dv_command.specs.Replies.{count};
-ghost use Rattle.dv_command.specs.Sound.{IsSoundlyAsked};
+ghost use Rattle.dv_command.specs.Entries.{Updating, updating_of};
+ghost use Rattle.dv_command.specs.Sound.{IsSoundlyAsked, IsSoundUpdate};
 
 /// What a command asks is sound where the fields of its body are: the documents in its list, how many they are, and the
 /// name of its collection.
 pub fn what_is_asked_is_sound()
     ensures { (body : List Field) (lists : Lists) (asked : Asked) → AreFields (fields_of body) → asked_under (command_name body) body lists ≡ Ok asked → IsSoundlyAsked asked }
+{}
+
+/// The update that an entry asks is that of a document with valid fields, where the entry's fields are.
+pub fn the_update_of_an_entry_is_sound()
+    ensures { (entry : List Field) (asked : Updating) → AreFields (fields_of entry) → updating_of entry ≡ Ok asked → IsSoundUpdate asked.update }
 {}
 
 /// Every number that a reply counts has a spelling.

@@ -13,9 +13,9 @@ mod parsing;
 mod refusal;
 pub mod replies;
 
-pub use asking::{Asked, Delete, Find, Insert};
+pub use asking::{Asked, Delete, Find, Insert, Update};
 pub use command::{Command, DocumentList, DocumentLists};
 pub use documents::Documents;
-pub use entries::{Deletion, deletion_of};
+pub use entries::{Deletion, Updating, deletion_of, updating_of};
 pub use parsing::parse;
 pub use refusal::Refusal;

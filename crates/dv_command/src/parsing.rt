@@ -5,10 +5,10 @@ ghost use Rattle.dv_command.specs.Asked as asking;
 ghost use Rattle.dv_command.specs.Refusals.{UnlessWanting};
 ghost use Rattle.dv_command.specs.View.{asked_seen, rule_seen, statements_seen};
 
-use crate::asking::{Asked, Delete, Find, Insert, Statements};
+use crate::asking::{Asked, Delete, Find, Insert, Statements, Update};
 use crate::command::{Command, DocumentLists};
 use crate::fields::{
-    FIND_RULES, Place, Rule, boolean_under, check_fields, check_lists, documents_under,
+    FIND_RULES, Place, Rule, boolean_under, check_fields, check_lists, documents_under, first_name,
     natural_under, text_under, write_rules,
 };
 use crate::forms::{filter_under, sort_under};
@@ -29,24 +29,15 @@ pub fn parse(alloc: Global, command: &Command) -> Result<Asked<'_>, Refusal>
 {
     match command {
         Command::Invalid(fault) => Err(Refusal::from(*fault)),
-        Command::Sections { body, lists } => match command_name(body) {
+        Command::Sections { body, lists } => match first_name(body) {
             "hello" => hello_of(body),
             "ping" => ping_of(body),
             "insert" => insert_of(alloc, body, lists),
+            "update" => update_of(alloc, body, lists),
             "delete" => delete_of(alloc, body, lists),
             "find" => find_of(alloc, body, lists),
             _ => Err(Refusal::CommandNotFound),
         },
-    }
-}
-
-/// The first name of a command's body, which is the command; empty where there is none.
-fn command_name(body: &Document) -> &str
-    ensures { result.now ≡ asking.command_name body.now }
-{
-    match body.entry(0) {
-        Some((name, _)) => name,
-        None => "",
     }
 }
 
@@ -118,6 +109,25 @@ fn insert_of<'a>(
     Ok(Asked::Insert(Insert {
         namespace,
         documents: list,
+        ordered,
+    }))
+}
+
+fn update_of<'a>(
+    alloc: Global,
+    body: &'a Document,
+    lists: &DocumentLists,
+) -> Result<Asked<'a>, Refusal>
+    ensures { UnlessWanting asked_seen (asking.update_of body.now lists.now) result }
+{
+    let Statements {
+        namespace,
+        list,
+        ordered,
+    } = statements_of(alloc, "update", "updates", body, lists)?;
+    Ok(Asked::Update(Update {
+        namespace,
+        entries: list,
         ordered,
     }))
 }

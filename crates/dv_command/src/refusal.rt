@@ -8,6 +8,7 @@ ghost use Rattle.dv_command.specs.declared.refusal.Refusal.TheVariants.{WantOfMe
 use dv_bson::BsonFault;
 use dv_coll::InsertFault;
 use dv_match::FilterFault;
+use dv_update::UpdateFault;
 use std::alloc::{AllocError, AllocFailed, Global};
 
 /// Why a command is refused: the server error codes of the MongoDB manual, and this server's own from 900 on.
@@ -21,8 +22,14 @@ pub enum Refusal {
     TypeMismatch,
     /// A document of the message can't be read (22).
     InvalidBson(BsonFault),
+    /// A path of an update leads to no place for a value (28).
+    PathNotViable,
+    /// Two paths of an update are in each other's way (40).
+    ConflictingUpdateOperators,
     /// There is no such command (59).
     CommandNotFound,
+    /// An update changes a document's `_id`, or its spelling (66).
+    ImmutableField,
     /// A document has an equal `_id` (11000).
     DuplicateKey,
     /// Memory is wanting (900).
@@ -43,7 +50,10 @@ impl Refusal {
             Refusal::FailedToParse => 9,
             Refusal::TypeMismatch => 14,
             Refusal::InvalidBson(_) => 22,
+            Refusal::PathNotViable => 28,
+            Refusal::ConflictingUpdateOperators => 40,
             Refusal::CommandNotFound => 59,
+            Refusal::ImmutableField => 66,
             Refusal::DuplicateKey => 11000,
             Refusal::WantOfMemory => 900,
             Refusal::TooLarge => 901,
@@ -60,7 +70,10 @@ impl Refusal {
             Refusal::FailedToParse => "FailedToParse",
             Refusal::TypeMismatch => "TypeMismatch",
             Refusal::InvalidBson(_) => "InvalidBSON",
+            Refusal::PathNotViable => "PathNotViable",
+            Refusal::ConflictingUpdateOperators => "ConflictingUpdateOperators",
             Refusal::CommandNotFound => "CommandNotFound",
+            Refusal::ImmutableField => "ImmutableField",
             Refusal::DuplicateKey => "DuplicateKey",
             Refusal::WantOfMemory => "WantOfMemory",
             Refusal::TooLarge => "TooLarge",
@@ -131,6 +144,28 @@ impl From<FilterFault> for Refusal {
         match fault {
             FilterFault::NoMemory => Refusal::WantOfMemory,
             _ => Refusal::BadValue,
+        }
+    }
+}
+
+impl From<UpdateFault> for Refusal {
+    ghost use Rattle.dv_command.specs.Refusals as refusals;
+
+    ghost from_gives = { λ fault refusal. refusal ≡ refusals.update_refusal fault };
+
+    fn from(fault: UpdateFault) -> Refusal {
+        match fault {
+            UpdateFault::UnknownOperator | UpdateFault::BadOperand => Refusal::FailedToParse,
+            UpdateFault::NotNumber => Refusal::TypeMismatch,
+            UpdateFault::NotViable => Refusal::PathNotViable,
+            UpdateFault::Conflict => Refusal::ConflictingUpdateOperators,
+            UpdateFault::IdChanged => Refusal::ImmutableField,
+            UpdateFault::Overflow
+            | UpdateFault::NotArray
+            | UpdateFault::TooDeep
+            | UpdateFault::BadName => Refusal::BadValue,
+            UpdateFault::TooLarge => Refusal::TooLarge,
+            UpdateFault::NoMemory => Refusal::WantOfMemory,
         }
     }
 }

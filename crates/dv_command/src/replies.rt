@@ -75,16 +75,44 @@ pub fn cut_error(alloc: Global, place: usize, changes: usize) -> Result<Document
 
 /// The reply to a write: the number that it counts, and the errors of its statements where there are any. Fails where
 /// memory is wanting.
-#[tactic(auto, using(crate::proofs::Errors::no_errors, crate::proofs::Errors::some_errors))]
+#[tactic(auto, using(crate::proofs::Errors::none_is_ok))]
 pub fn write_reply(alloc: Global, n: u128, errors: Vec<Value>) -> Result<Document, NoMemory>
     ensures { IfOk result (λ reply. reply ≡ replies.write_reply n (map tree errors.items)) }
 {
     let mut fields = Document::new(alloc);
     add(&mut fields, "n", count(n))?;
-    if !errors.is_empty() {
-        add(&mut fields, "writeErrors", Value::Array(List::of(errors)))?;
-    }
+    add_errors(&mut fields, errors)?;
     reply_of(fields)
+}
+
+/// The reply to an update: how many documents matched, how many of them changed, and the errors of its statements where
+/// there are any. Fails where memory is wanting.
+#[tactic(auto, using(crate::proofs::Errors::none_is_ok))]
+pub fn update_reply(
+    alloc: Global,
+    n: u128,
+    changed: u128,
+    errors: Vec<Value>,
+) -> Result<Document, NoMemory>
+    ensures { IfOk result (λ reply. reply ≡ replies.update_reply n changed (map tree errors.items)) }
+{
+    let mut fields = Document::new(alloc);
+    add(&mut fields, "n", count(n))?;
+    add(&mut fields, "nModified", count(changed))?;
+    add_errors(&mut fields, errors)?;
+    reply_of(fields)
+}
+
+/// Adds the errors of statements, where there are any. Fails where memory is wanting.
+#[tactic(auto, using(crate::proofs::Errors::no_errors, crate::proofs::Errors::some_errors))]
+fn add_errors(fields: &mut Document, errors: Vec<Value>) -> Result<(), NoMemory>
+    requires { has_name (codes "writeErrors") fields.old ≡ false }
+    ensures { OnOk result (fields.new ≡ fields.old ++ replies.errors_field (map tree errors.items)) }
+{
+    if !errors.is_empty() {
+        add(fields, "writeErrors", Value::Array(List::of(errors)))?;
+    }
+    Ok(())
 }
 
 /// The reply with these rows of a namespace. Fails where memory is wanting.

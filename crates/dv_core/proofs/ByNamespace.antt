@@ -24,7 +24,8 @@ use Rattle.dv_core.specs.Insert.{put_new}
 use Rattle.dv_core.specs.State.{Standing, Namespaces, collection_at, documents_of, with_documents}
 use Rattle.dv_core.specs.View.{standing_seen, standing_by_namespace}
 use Rattle.dv_core.specs.Statements.{Statement}
-use Rattle.dv_core.specs.WriteParts.{Alters, Makes}
+use Rattle.dv_core.specs.WriteParts.{Alters, Makes, one}
+use Rattle.dv_core.specs.declared.counted.Counted.{Counted}
 
 pub same_namespaces : (m n : Namespaces) → ((q : List ℕ) → finite.get m q ≡ finite.get n q) → m ≡ n
 same_namespaces = finite.same_map nat_list_cmp_total (finite.slice_cmp-IsAntisymmetric finite.nat_cmp-IsAntisymmetric)
@@ -71,12 +72,13 @@ module _ {Y : Type 0} where
 -- ---- a document more among those of a namespace
 
 module _ (old : Namespaces) (namespace : List ℕ) (d : List Field) (documents : List (List Field)) (are : documents_of namespace old ≡ documents) where
-  pub makes_new : (new : Namespaces) → found (id_key d) documents ≡ None → new ≡ with_documents namespace (inserted d documents) old → Makes {B = Unit {0}} (λ _. 1) namespace (put_new d) old (Ok tt) new
+  pub makes_new : (new : Namespaces) → found (id_key d) documents ≡ None → new ≡ with_documents namespace (inserted d documents) old → Makes {B = Unit {0}} (λ _. one) namespace (put_new d) old (Ok tt) new
   makes_new new none more =
       let fresh : put_new d documents ≡ Ok (record { matched = 1; changes = put d ∷ [] }) = rw none refl in
       let put_there : with_put d documents ≡ inserted d documents = rw none refl in (
         put d ∷ [],
         ap (put_new d) are ∙ fresh,
+        refl,
         more ∙ ap (λ (ds : List (List Field)). with_documents namespace ds old) (sym (ap (with_put d) are ∙ put_there)),
       )
 
@@ -89,7 +91,7 @@ module _ (old : Namespaces) (namespace : List ℕ) (d : List Field) (documents :
   refuses_equal NoMemory twice = inr refl
 
   pub not_made : (new : Namespaces) (fault : InsertFault) (result : Result (Unit {0}) Refusal) (refusal : Refusal) → result ≡ Err refusal → refusal ≡ insert_refusal fault
-      → (IsErrOf {T = Unit {0}} (Err fault) Duplicate → IsSome (found (id_key d) documents)) → new ≡ old → Makes (λ _. 1) namespace (put_new d) old result new
+      → (IsErrOf {T = Unit {0}} (Err fault) Duplicate → IsSome (found (id_key d) documents)) → new ≡ old → Makes (λ _. one) namespace (put_new d) old result new
   not_made new fault result refusal is from twice same = rw is (rw from (refuses_equal fault twice, same))
 
 -- ---- a statement on the documents of a namespace
@@ -108,13 +110,16 @@ module _ (old : Namespaces) (namespace : List ℕ) (documents : List (List Field
     altered (change ∷ changes) after new leaves is =
         is ∙ ap (λ (ds : List (List Field)). with_documents namespace ds old) (leaves ∙ ap (λ (ds : List (List Field)). with_changes ds (change ∷ changes)) (sym are))
 
-    pub makes_altered : (result : Result ℕ Refusal) (after : List (List Field)) (new : Namespaces) → Alters statement documents result after → new ≡ with_documents namespace after old → Makes (λ n. n) namespace statement old result new
-    makes_altered (Ok matched) after new (changes, does, leaves) is = (changes, ap statement are ∙ does, altered changes after new leaves is)
+    pub makes_altered : (result : Result Counted Refusal) (after : List (List Field)) (new : Namespaces) → Alters statement documents result after → new ≡ with_documents namespace after old → Makes (λ counted. counted) namespace statement old result new
+    makes_altered (Ok counted) after new (changes, does, many, leaves) is = (changes, ap statement are ∙ does, many, altered changes after new leaves is)
     makes_altered (Err refusal) after new (why, leaves) is = (refused_here refusal why, put_back after new leaves is)
 
+  abbrev pub nothing : Counted
+  nothing = record { matched = 0; changed = 0 }
+
   -- one that has nothing to do
-  pub makes_nothing : statement documents ≡ Ok (record { matched = 0; changes = [] }) → Makes (λ n. n) namespace statement old (Ok 0) old
-  makes_nothing does = ([], ap statement are ∙ does, refl)
+  pub makes_nothing : statement documents ≡ Ok (record { matched = 0; changes = [] }) → Makes (λ counted. counted) namespace statement old (Ok nothing) old
+  makes_nothing does = ([], ap statement are ∙ does, refl, refl)
 
 pub documents_there : (namespaces : Namespaces) (namespace : List ℕ) (there : Option Standing) → finite.get namespaces namespace ≡ there → documents_of namespace namespaces ≡ (collection_at there).documents
 documents_there namespaces namespace there is = ap (λ (s : Option Standing). (collection_at s).documents) is

@@ -1,9 +1,9 @@
 -- What a step may change: nothing, or what a write does.
-use Rattle.std.proofs.Common.{◌≡◌, ◌⊎◌, ◌≤◌, ℕ, Bool, true, false, cond, List, [], ◌∷◌, length, Option, Some, None, Result, Ok, Err, pos, inl, inr, refl, sym, ap, ◌∙◌, arith}
+use Rattle.std.proofs.Common.{◌≡◌, ◌⊎◌, ◌≤◌, ℕ, Bool, true, false, cond, List, [], ◌∷◌, length, Option, Some, None, Result, Ok, Err, pos, inl, inr, refl, sym, ap, subst, ◌∙◌, arith}
 use Rattle.std.specs.Prelude.{codes}
 use Rattle.dv_bson.specs.Names.{value_under}
 use Rattle.dv_bson.specs.Tree.{Tree, Field, int32}
-use Rattle.dv_command.specs.Asked.{Asked, hello, ping, insert, delete, find, asked_by}
+use Rattle.dv_command.specs.Asked.{Asked, hello, ping, insert, update, delete, find, asked_by}
 use Rattle.dv_command.specs.Refusals.{◌>>=◌}
 use Rattle.dv_command.specs.Replies.{reply_of, count, errors_field}
 use Rattle.dv_command.specs.declared.command.Command.{Command}
@@ -12,6 +12,7 @@ use Rattle.dv_core.specs.declared.outcome.Outcome.{Outcome}
 use Rattle.dv_core.specs.declared.outcome.Outcome.TheVariants.{Reply, Wanting, NoReply}
 use Rattle.dv_core.specs.Changes.{Effect}
 use Rattle.dv_core.specs.Delete.{delete_write}
+use Rattle.dv_core.specs.Update.{update_write}
 use Rattle.dv_core.specs.Find.{batch_reply}
 use Rattle.dv_core.specs.Insert.{insert_write}
 use Rattle.dv_core.specs.Scan.{scan}
@@ -31,7 +32,7 @@ pub record Writes (old : State) (asked : Result Asked Refusal) (answer : Answer)
   pub asks : asked ≡ Ok what
   pub is_write : write_of what ≡ Some write
   pub did_so : Did write old did
-  pub answers : answer ≡ write_answer old did
+  pub answers : answer ≡ write_answer old write did
 
 abbrev pub MayWrite : State → Result Asked Refusal → Answer → Type 0
 MayWrite old asked answer = (answer.state ≡ old) ⊎ Writes old asked answer
@@ -46,6 +47,8 @@ step_may old session (Ok hello) = inl refl
 step_may old session (Ok ping) = inl refl
 step_may old session (Ok (insert i)) =
     inr (record { what = insert i; write = insert_write i; did = carry_out (insert_write i) old.namespaces; asks = refl; is_write = refl; did_so = inl refl; answers = refl })
+step_may old session (Ok (update u)) =
+    inr (record { what = update u; write = update_write u; did = carry_out (update_write u) old.namespaces; asks = refl; is_write = refl; did_so = inl refl; answers = refl })
 step_may old session (Ok (delete d)) =
     inr (record { what = delete d; write = delete_write d; did = carry_out (delete_write d) old.namespaces; asks = refl; is_write = refl; did_so = inl refl; answers = refl })
 step_may old session (Ok (find f)) = inl (read_leaves old (batch_reply f.namespace (scan f.filter f.sort f.skip f.limit (documents_of f.namespace old.namespaces))))
@@ -97,10 +100,23 @@ errors_told : (errors : List Tree) (n : Tree) → told (reply_of ((codes "n", n)
 errors_told [] n = refl
 errors_told (e ∷ es) n = refl
 
+update_told : (errors : List Tree) (n changed : Tree) → told (reply_of ((codes "n", n) ∷ (codes "nModified", changed) ∷ errors_field errors)) ≡ Some (int32 (pos 1))
+update_told [] n changed = refl
+update_told (e ∷ es) n changed = refl
+
+-- a write that is carried out says so
+write_told : (what : Asked) (write : Write) → write_of what ≡ Some write → (n changed : ℕ) (errors : List Tree) → told (write.reply n changed errors) ≡ Some (int32 (pos 1))
+write_told hello write is n changed errors = absurd cc
+write_told ping write is n changed errors = absurd cc
+write_told (insert i) write is n changed errors = let same : insert_write i ≡ write = cc in subst (λ (w : Write). told (w.reply n changed errors) ≡ Some (int32 (pos 1))) same (errors_told errors (count n))
+write_told (update u) write is n changed errors = let same : update_write u ≡ write = cc in subst (λ (w : Write). told (w.reply n changed errors) ≡ Some (int32 (pos 1))) same (update_told errors (count n) (count changed))
+write_told (delete d) write is n changed errors = let same : delete_write d ≡ write = cc in subst (λ (w : Write). told (w.reply n changed errors) ≡ Some (int32 (pos 1))) same (errors_told errors (count n))
+write_told (find f) write is n changed errors = absurd cc
+
 refused_may : (old : State) (asked : Result Asked Refusal) (answer : Answer) → MayWrite old asked answer → told answer.reply ≡ Some (int32 (pos 0)) → answer.state ≡ old
 refused_may old asked answer (inl same) refused = same
 refused_may old asked answer (inr w) refused =
-    let carried : told answer.reply ≡ Some (int32 (pos 1)) = rw w.answers (errors_told w.did.errors (count w.did.n)) in
+    let carried : told answer.reply ≡ Some (int32 (pos 1)) = rw w.answers (write_told w.what w.write w.is_write w.did.n w.did.changed w.did.errors) in
     absurd cc
 
 pub refusal_leaves : (old new : State) (session : ℕ) (command : Command) (reply : List Field) → MemoryStep old session command (Reply reply) new → told reply ≡ Some (int32 (pos 0)) → new ≡ old

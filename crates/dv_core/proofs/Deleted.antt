@@ -29,7 +29,7 @@ all_gone (d ∷ ds) = ap (λ (rest : List Change). gone (id_key d) ∷ rest) (al
 
 module _ (deletion : Deletion) (old new ds : List (List Field)) (keys : List KeyTree) where
   pub deletes : (limit count : ℕ) → limit ≡ cond deletion.only_first 1 0 → ds ≡ limited limit (drop 0 (matching deletion.filter old)) → keys ≡ map id_key ds → count ≡ length keys → new ≡ with_changes old (map gone keys)
-      → Alters (delete_chosen deletion) old (Ok count) new
+      → Alters (delete_chosen deletion) old (Ok (record { matched = count; changed = count })) new
   deletes limit count limits finds keyed counts leaves =
       let chosen : ds ≡ all_or_first deletion.only_first (matching deletion.filter old) =
       finds ∙ ap (λ (n : ℕ). limited n (drop 0 (matching deletion.filter old))) limits ∙ limit_chosen deletion.only_first (matching deletion.filter old) in
@@ -37,5 +37,6 @@ module _ (deletion : Deletion) (old new ds : List (List Field)) (keys : List Key
       let does : without ds ≡ record { matched = count; changes = map (λ d. gone (id_key d)) ds } = λ i. record { matched = sym many i; changes = map (λ d. gone (id_key d)) ds } in (
         map (λ d. gone (id_key d)) ds,
         ap (λ (es : List (List Field)). Ok (without es)) (sym chosen) ∙ ap Ok does,
+        length-map ds (λ d. gone (id_key d)) ∙ sym many,
         leaves ∙ ap (λ (ks : List KeyTree). with_changes old (map gone ks)) keyed ∙ ap (with_changes old) (all_gone ds),
       )

@@ -1,21 +1,24 @@
 -- What statements keep of the documents of each namespace.
-use Rattle.std.proofs.Common.{◌≡◌, ℕ, zero, suc, Bool, true, false, cond, List, [], ◌∷◌, ◌++◌, map, take, Option, Some, Result, Ok, Err, is_some, if◌then◌else◌, inl, inr, refl, sym, subst}
+use Rattle.std.proofs.Common.{◌≡◌, ℕ, zero, suc, Bool, true, false, cond, List, [], ◌∷◌, ◌++◌, length, map, not, take, Option, Some, Result, Ok, Err, is_some, if◌then◌else◌, inl, inr, refl, sym, subst}
 use Rattle.std.proofs.lemmas.Slice.Eq.{bytes_eq-Decides}
 use Rattle.std.specs.List.{AllByRecursion}
 use Rattle.std.specs.FinMap as finite
 use Rattle.std.specs.Str.{bytes_eq}
-use Rattle.dv_bson.specs.Tree.{Field}
+use Rattle.dv_bson.specs.Tree.{Field, fields_of}
 use Rattle.dv_coll.specs.Collection.{found, id_key}
 use Rattle.dv_order.specs.Key.{KeyTree}
 use Rattle.dv_command.specs.Asked.{Asked, asked_by}
-use Rattle.dv_command.specs.Entries.{Deletion, deletion_of}
+use Rattle.dv_command.specs.Entries.{Deletion, deletion_of, Updating, updating_of}
 use Rattle.dv_command.specs.declared.command.Command.{Command}
 use Rattle.dv_command.specs.declared.refusal.Refusal.{Refusal}
 use Rattle.dv_command.specs.declared.refusal.Refusal.TheVariants.{DuplicateKey}
 use Rattle.dv_command.specs.Refusals.{◌>>=◌}
 use Rattle.dv_core.specs.declared.outcome.Outcome.{Outcome}
 use Rattle.dv_core.specs.Changes.{Change, put, gone, Effect, apply, with_change, with_changes, changes_of}
+use Rattle.dv_update.specs.Update as form
 use Rattle.dv_core.specs.Delete.{delete_one, delete_chosen}
+use Rattle.dv_core.specs.Scan.{matching}
+use Rattle.dv_core.specs.Update.{changed_by, update_chosen, update_one}
 use Rattle.dv_core.specs.Insert.{insert_one, put_new}
 use Rattle.dv_core.specs.State.{State, Standing, Namespaces, collection_at, documents_of, with_documents, collection}
 use Rattle.dv_core.specs.Statements.{Statement, Write, Written, nothing_written, with_all, with_next, with_result, is_due}
@@ -23,6 +26,7 @@ use Rattle.dv_core.specs.Step.{Answer, write_of, MemoryStep}
 use Rattle.dv_core.specs.Storable.{storable}
 use Rattle.dv_core.proofs.ByNamespace.{get-insert}
 use Rattle.dv_core.proofs.Changed.{Did, outcome_may, MayWrite}
+use Rattle.dv_core.proofs.Updated.{IsGoodAfter, chosen_good, matching_good, all_changed_good}
 
 -- of a property of the documents of a namespace, and changes that keep it
 module _ (P : List ℕ → List (List Field) → Type 0) (IsGood : Change → Type 0)
@@ -132,3 +136,36 @@ module _ (P : List ℕ → List (List Field) → Type 0) (IsGood : Change → Ty
     pub deletes_keep : (entries : List (List Field)) → AllByRecursion Keeps (map delete_one entries)
     deletes_keep [] = tt
     deletes_keep (entry ∷ entries) = (record { good = λ namespace documents h. entry_good (deletion_of entry) documents }, deletes_keep entries)
+
+  -- ---- the statements of an update
+
+  -- what becomes of a document is put
+  abbrev PutsGood : form.Update → List Field → Type 0
+  PutsGood update d = IsGoodAfter (λ e. IsGood (put e)) update d
+
+  all_put : (es : List (List Field)) → AllByRecursion (λ e. IsGood (put e)) es → AllByRecursion IsGood (map put es)
+  all_put [] good = tt
+  all_put (e ∷ es) good = (good.0, all_put es good.1)
+
+  updated_good : (updating : Updating) (ds : List (List Field)) (result : Result (List (List Field)) Refusal) → changed_by updating.update ds ≡ result → AllByRecursion (PutsGood updating.update) ds
+      → AllByRecursion IsGood (changes_of (result >>= λ changed. Ok (record { matched = length ds; changes = map put changed })))
+  updated_good updating ds (Ok changed) is good = all_put changed (all_changed_good (λ e. IsGood (put e)) updating.update ds changed is good)
+  updated_good updating ds (Err refusal) is good = tt
+
+  -- of updates of a sort
+  module _ (IsGoodUpdate : form.Update → Type 0)
+      (good_after : (update : form.Update) → IsGoodUpdate update → (namespace : List ℕ) (documents : List (List Field)) → P namespace documents → AllByRecursion (PutsGood update) documents) where
+    -- an entry that asks one
+    abbrev pub AsksGood : List Field → Type 0
+    AsksGood entry = (updating : Updating) → updating_of entry ≡ Ok updating → IsGoodUpdate updating.update
+
+    entry_updated : (entry : List Field) (result : Result Updating Refusal) → updating_of entry ≡ result → AsksGood entry → (namespace : List ℕ) (documents : List (List Field)) → P namespace documents
+        → AllByRecursion IsGood (changes_of (result >>= λ updating. update_chosen updating documents))
+    entry_updated entry (Ok updating) is asks namespace documents h =
+        updated_good updating _ _ refl
+        (chosen_good (PutsGood updating.update) (not updating.multi) (matching updating.filter documents) (matching_good (PutsGood updating.update) updating.filter documents (good_after updating.update (asks updating is) namespace documents h)))
+    entry_updated entry (Err refusal) is asks namespace documents h = tt
+
+    pub updates_keep : (entries : List (List Field)) → AllByRecursion AsksGood entries → AllByRecursion Keeps (map update_one entries)
+    updates_keep [] asks = tt
+    updates_keep (entry ∷ entries) asks = (record { good = λ namespace documents h. entry_updated entry (updating_of entry) refl asks.0 namespace documents h }, updates_keep entries asks.1)

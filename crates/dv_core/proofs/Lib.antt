@@ -5,6 +5,7 @@ mod ByNamespace
 pub mod Scanned
 pub mod Statements
 mod Deleted
+mod Updated
 mod Plain
 mod Steps
 mod Changed

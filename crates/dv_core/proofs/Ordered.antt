@@ -1,5 +1,5 @@
 -- The documents of each namespace stay in the order of their `_id`s, and sound.
-use Rattle.std.proofs.Common.{◌≡◌, ℕ, Bool, true, false, cond, ◌||◌, not, List, [], ◌∷◌, map, Option, Some, None, Result, Ok, Err, is_some, refl, sym, subst}
+use Rattle.std.proofs.Common.{◌≡◌, ℕ, Bool, true, false, cond, ◌||◌, not, List, [], ◌∷◌, map, Option, Some, None, Result, Ok, Err, is_some, refl, sym, ap, ◌∙◌, subst}
 use Rattle.std.specs.Prelude.{codes}
 use Rattle.std.specs.Cmp.Lexicographic.{slice_cmp}
 use Rattle.std.specs.FinMap as finite
@@ -7,18 +7,24 @@ use Rattle.std.specs.List.{AllByRecursion}
 use Rattle.std.specs.List.Sorted.{IsStrictlySortedBy}
 use Rattle.std.specs.Ordering.{nat_cmp, is_lt}
 use Rattle.dv_bson.specs.Names.{value_under}
+use Rattle.dv_bson.specs.Spelling.{AreFields, Fits}
 use Rattle.dv_bson.specs.Tree.{Tree, array, Field, fields_of}
 use Rattle.dv_order.specs.Key.{KeyTree, key_order}
 use Rattle.dv_coll.specs.Collection.{HasId, IsAscending, found, has_key, id_key, inserted, removed, replaced}
-use Rattle.dv_command.specs.Asked.{Asked, hello, ping, insert, delete, find, asked_by}
+use Rattle.dv_command.specs.Asked.{Asked, hello, ping, insert, update, delete, find, asked_by}
 use Rattle.dv_command.specs.Refusals.{◌>>=◌}
-use Rattle.dv_command.specs.Sound.{AreValid}
+use Rattle.dv_command.specs.Entries.{Updating, updating_of}
+use Rattle.dv_command.specs.Sound.{AreValid, IsSoundUpdate}
 use Rattle.dv_command.specs.declared.command.Command.{Command}
 use Rattle.dv_command.specs.declared.refusal.Refusal.{Refusal}
 use Rattle.dv_command.specs.declared.refusal.Refusal.TheVariants.{BadValue, TooLarge}
 use Rattle.dv_core.specs.declared.outcome.Outcome.{Outcome}
 use Rattle.dv_core.specs.Changes.{Change, put, gone, with_change}
 use Rattle.dv_core.specs.Delete.{delete_write}
+use Rattle.dv_update.specs.Apply.{applied}
+use Rattle.dv_update.specs.Parsing.{update_of}
+use Rattle.dv_update.specs.Update as form
+use Rattle.dv_core.specs.Update.{after, update_write}
 use Rattle.dv_core.specs.Insert.{insert_one, insert_write}
 use Rattle.dv_core.specs.Sound.{IsSoundDocument, AreSound, IsSound, IsSoundCommand}
 use Rattle.dv_core.specs.State.{State, empty_state, documents_of, AreOrdered, IsOrdered}
@@ -27,8 +33,9 @@ use Rattle.dv_core.specs.Step.{write_of, MemoryStep}
 use Rattle.dv_core.specs.Storable.{are_fields_dotted, has_dollar, id_in, is_within_limits, storable, with_id_first, without_field}
 use Rattle.dv_core.proofs.Asking.{AsksSoundly, soundly_asked}
 use Rattle.dv_core.proofs.ByNamespace.{documents_there}
-use Rattle.dv_core.proofs.Kept.{Keeps, insert_keeps, deletes_keep, step_holds}
+use Rattle.dv_core.proofs.Kept.{Keeps, insert_keeps, updates_keep, deletes_keep, step_holds}
 use Rattle.dv_core.proofs.Stored.{storable_fits}
+use Rattle.dv_core.proofs.Updated.{KeepsId, told_after, after_id}
 use Rattle.dv_core.proofs.Valid.{storable_valid}
 
 nothing_there : (namespace : List ℕ) → [] ≡ documents_of namespace empty_state.namespaces
@@ -70,6 +77,12 @@ stored_id d stored is =
     subst GivesId is
     (within_limits (with_id_first d) (first_with_id (has_dollar d || are_fields_dotted (fields_of d)) _ (id_given (codes "_id") refl (value_under (codes "_id") d) (without_field (codes "_id") d))))
 
+-- ---- what becomes of a document that is updated begins with its `_id`
+
+afters_ids : KeepsId → (how : form.Update) (ds : List (List Field)) → AllByRecursion HasId ds → AllByRecursion (λ d. (e : List Field) → after how d ≡ Ok e → HasId e) ds
+afters_ids law how [] all = tt
+afters_ids law how (d ∷ ds) all = ((λ e is. (after_id law how d e all.0 is).0), afters_ids law how ds all.1)
+
 -- ---- what changes keep, by the laws of collections
 
 pub record CollectionLaws : Type 0 where
@@ -78,7 +91,14 @@ pub record CollectionLaws : Type 0 where
   pub removed_ascend : (k : KeyTree) (ds : List (List Field)) → IsAscending ds → IsAscending (removed k ds)
   pub removed_ids : (k : KeyTree) (ds : List (List Field)) → AllByRecursion HasId ds → AllByRecursion HasId (removed k ds)
   pub replaced_ascend : (d : List Field) (ds : List (List Field)) → HasId d → AllByRecursion HasId ds → IsAscending ds → IsAscending (replaced d ds)
+  pub id_stays : KeepsId
   pub replaced_ids : (d : List Field) (ds : List (List Field)) → HasId d → AllByRecursion HasId ds → AllByRecursion HasId (replaced d ds)
+
+-- what makes updates sound
+pub record UpdateLaws : Type 0 where
+  pub of_entries : (entry : List Field) (asked : Updating) → AreFields (fields_of entry) → updating_of entry ≡ Ok asked → IsSoundUpdate asked.update
+  pub stays_valid : (fields d made : List Field) (update : form.Update) → AreFields (fields_of fields) → update_of fields ≡ Ok update → AreFields (fields_of d) → applied update d ≡ Ok made → AreFields (fields_of made)
+  pub fits : (update : form.Update) (d made : List Field) → applied update d ≡ Ok made → Fits made
 
 -- a document that is put begins with its `_id`
 abbrev pub BeginsWithId : Change → Type 0
@@ -106,10 +126,18 @@ module _ (laws : CollectionLaws) where
   inserts_order [] = tt
   inserts_order (d ∷ ds) = (insert_keeps (λ namespace ds. AreOrdered ds) BeginsWithId changes_order d (λ stored is. stored_id d stored is), inserts_order ds)
 
+  asks_any : (entries : List (List Field)) → AllByRecursion (λ entry. (updating : Updating) → updating_of entry ≡ Ok updating → Unit {0}) entries
+  asks_any [] = tt
+  asks_any (entry ∷ entries) = ((λ updating is. tt), asks_any entries)
+
   writes_order : (what : Asked) (write : Write) → write_of what ≡ Some write → KeepsOrder write
   writes_order hello write is = absurd cc
   writes_order ping write is = absurd cc
   writes_order (insert i) write is = let same : insert_write i ≡ write = cc in subst KeepsOrder same (inserts_order i.documents)
+  writes_order (update u) write is =
+      let same : update_write u ≡ write = cc in
+      subst KeepsOrder same
+      (updates_keep (λ namespace ds. AreOrdered ds) BeginsWithId changes_order (λ form. Unit {0}) (λ form any namespace ds ordered. afters_ids laws.id_stays form ds ordered.1) u.entries (asks_any u.entries))
   writes_order (delete d) write is = let same : delete_write d ≡ write = cc in subst KeepsOrder same (deletes_keep (λ namespace ds. AreOrdered ds) BeginsWithId changes_order (λ k. tt) d.entries)
   writes_order (find f) write is = absurd cc
 
@@ -160,13 +188,32 @@ module _ (laws : CollectionLaws) where
     inserts_sound ds valid.1,
   )
 
-  module _ (asks : AsksSoundly) where
+  module _ (asks : AsksSoundly) (sound_laws : UpdateLaws) where
+    afters_sound : (how : form.Update) → IsSoundUpdate how → (ds : List (List Field)) → AllByRecursion HasId ds → AllByRecursion IsSoundDocument ds
+        → AllByRecursion (λ d. (e : List Field) → after how d ≡ Ok e → HasId e × IsSoundDocument e) ds
+    afters_sound how asked [] ids all = tt
+    afters_sound how asked (d ∷ ds) ids all = (
+      (λ e is.
+          let does : applied how d ≡ Ok e = told_after (applied how d) e is in
+          ((after_id laws.id_stays how d e ids.0 is).0, record { valid = sound_laws.stays_valid asked.document d e how asked.valid asked.is all.0.valid does; fits = sound_laws.fits how d e does })),
+      afters_sound how asked ds ids.1 all.1,
+    )
+
+    entries_sound : (entries : List (List Field)) → AreValid entries → AllByRecursion (λ entry. (updating : Updating) → updating_of entry ≡ Ok updating → IsSoundUpdate updating.update) entries
+    entries_sound [] valid = tt
+    entries_sound (entry ∷ entries) valid = ((λ updating is. sound_laws.of_entries entry updating valid.0 is), entries_sound entries valid.1)
+
     writes_sound : (command : Command) → IsSoundCommand command → (what : Asked) (write : Write) → asked_by command ≡ Ok what → write_of what ≡ Some write → KeepsSound write
     writes_sound command sound hello write asked is = absurd cc
     writes_sound command sound ping write asked is = absurd cc
     writes_sound command sound (insert i) write asked is =
         let same : insert_write i ≡ write = cc in
         subst KeepsSound same (inserts_sound i.documents (soundly_asked asks command (insert i) sound asked).1)
+    writes_sound command sound (update u) write asked is =
+        let same : update_write u ≡ write = cc in
+        subst KeepsSound same
+        (updates_keep (λ namespace ds. AreSound ds) IsSoundChange changes_sound IsSoundUpdate (λ form asked namespace ds all. afters_sound form asked ds all.0.1 all.1) u.entries
+        (entries_sound u.entries (soundly_asked asks command (update u) sound asked).1))
     writes_sound command sound (delete d) write asked is =
         let same : delete_write d ≡ write = cc in
         subst KeepsSound same (deletes_keep (λ namespace ds. AreSound ds) IsSoundChange changes_sound (λ k. tt) d.entries)

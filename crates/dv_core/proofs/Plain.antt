@@ -1,5 +1,5 @@
 -- How statements are refused: never for a fault in bytes.
-use Rattle.std.proofs.Common.{◌||◌, Bool, true, false, cond, ℤ, pos, negsuc, List, [], ◌∷◌, map, Option, Some, None, Result, Ok, Err, is_some}
+use Rattle.std.proofs.Common.{◌||◌, ◌&&◌, Bool, true, false, cond, ℤ, pos, negsuc, List, [], ◌∷◌, length, map, not, Option, Some, None, Result, Ok, Err, is_some}
 use Rattle.std.specs.List.{AllByRecursion}
 use Rattle.std.specs.Prelude.{codes}
 use Rattle.dv_bson.specs.Names.{value_under}
@@ -8,16 +8,24 @@ use Rattle.dv_coll.specs.Collection.{id_key, found}
 use Rattle.dv_match.specs.declared.fault.FilterFault.{FilterFault}
 use Rattle.dv_match.specs.declared.fault.FilterFault.TheVariants as filtering
 use Rattle.dv_match.specs.Parsing.{filter_in}
+use Rattle.dv_update.specs.declared.fault.UpdateFault.{UpdateFault}
+use Rattle.dv_update.specs.declared.fault.UpdateFault.TheVariants as updating
+use Rattle.dv_update.specs.Apply.{applied}
+use Rattle.dv_update.specs.Parsing as updates
+use Rattle.dv_update.specs.Update as form
 use Rattle.dv_command.specs.declared.refusal.Refusal.{Refusal}
-use Rattle.dv_command.specs.declared.refusal.Refusal.TheVariants.{InvalidBson, BadValue, DuplicateKey, TooLarge}
-use Rattle.dv_command.specs.Refusals.{◌>>=◌, refused_by, filter_refusal}
+use Rattle.dv_command.specs.declared.refusal.Refusal.TheVariants.{InvalidBson, BadValue, FailedToParse, DuplicateKey, TooLarge}
+use Rattle.dv_command.specs.Refusals.{◌>>=◌, refused_by, filter_refusal, update_refusal}
 use Rattle.dv_command.specs.Kinds.{Kind, Place}
 use Rattle.dv_command.specs.Kinds as kinds
-use Rattle.dv_command.specs.Fields.{Table, text_in, boolean_in, document_in, each_document, documents_in, integer_in, not_negative, natural_in, one_or_all, only_first_in, check_empty, check_value, check_known, check_field, check_fields, is_ignored, kind_in, required, deletion_table, document_under, only_first_under}
-use Rattle.dv_command.specs.Forms.{filter_of}
-use Rattle.dv_command.specs.Entries.{deletion_of}
-use Rattle.dv_core.specs.Delete.{delete_one, delete_chosen}
+use Rattle.dv_command.specs.Fields.{Table, update_in, check_false, optional, updating_table, boolean_under, update_under, text_in, boolean_in, document_in, each_document, documents_in, integer_in, not_negative, natural_in, one_or_all, only_first_in, check_empty, check_value, check_known, check_field, check_fields, is_ignored, kind_in, required, deletion_table, document_under, only_first_under}
+use Rattle.dv_command.specs.Forms.{filter_of, update_of, is_replacement}
+use Rattle.dv_command.specs.Entries.{Updating, deletion_of, updating_of, check_multi}
+use Rattle.dv_core.specs.Changes.{put, Effect}
+use Rattle.dv_core.specs.Delete.{all_or_first, delete_one, delete_chosen}
 use Rattle.dv_core.specs.Insert.{insert_one, put_new}
+use Rattle.dv_core.specs.Update.{after, changed_by, update_chosen, update_one}
+use Rattle.dv_core.specs.Scan.{matching}
 use Rattle.dv_core.specs.Statements.{Statement}
 use Rattle.dv_core.specs.Storable.{are_fields_dotted, has_dollar, without_field, id_in, is_within_limits, with_id_first, storable}
 
@@ -82,6 +90,11 @@ first_plainly false false = tt
 only_first_plainly : (v : Tree) → IsPlainly (only_first_in v)
 only_first_plainly v = then_plainly (integer_in v) one_or_all (integer_plainly v) (λ n. first_plainly _ _)
 
+update_plainly : (v : Tree) → IsPlainly (update_in v)
+update_plainly (document fs) = tt
+update_plainly (array vs) = tt
+update_plainly v = tt
+
 empty_plainly : (v : Tree) → IsPlainly (check_empty v)
 empty_plainly (document no_fields) = tt
 empty_plainly v = tt
@@ -94,6 +107,8 @@ value_plainly kinds.document v = then_plainly (document_in v) _ (document_plainl
 value_plainly kinds.documents v = then_plainly (documents_in v) _ (documents_plainly v) (λ x. tt)
 value_plainly kinds.natural v = then_plainly (natural_in v) _ (then_plainly (integer_in v) not_negative (integer_plainly v) natural_plainly) (λ x. tt)
 value_plainly kinds.how_many v = then_plainly (only_first_in v) _ (only_first_plainly v) (λ x. tt)
+value_plainly kinds.update v = then_plainly (update_in v) _ (update_plainly v) (λ x. tt)
+value_plainly kinds.only_false v = then_plainly (boolean_in v) check_false (boolean_plainly v) (λ b. test_plainly b (Err FailedToParse) (Ok tt) tt tt)
 value_plainly kinds.empty_document v = empty_plainly v
 
 known_plainly : (kind : Option Kind) (v : Tree) → IsPlainly (check_known kind v)
@@ -113,6 +128,28 @@ fault_plain : (fault : FilterFault) → IsPlain (filter_refusal fault)
 fault_plain filtering.NoMemory = tt
 fault_plain fault = tt
 
+update_fault_plain : (fault : UpdateFault) → IsPlain (update_refusal fault)
+update_fault_plain updating.UnknownOperator = tt
+update_fault_plain updating.BadOperand = tt
+update_fault_plain updating.NotNumber = tt
+update_fault_plain updating.NotViable = tt
+update_fault_plain updating.Conflict = tt
+update_fault_plain updating.IdChanged = tt
+update_fault_plain updating.Overflow = tt
+update_fault_plain updating.NotArray = tt
+update_fault_plain updating.TooDeep = tt
+update_fault_plain updating.BadName = tt
+update_fault_plain updating.TooLarge = tt
+update_fault_plain updating.NoMemory = tt
+
+updated_plainly : {A : Type 0} (r : Result A UpdateFault) → IsPlainly (refused_by update_refusal r)
+updated_plainly (Ok x) = tt
+updated_plainly (Err fault) = update_fault_plain fault
+
+optional_plainly : {A : Type 0} (default : A) (read : Tree → Result A Refusal) (under : Option Tree) → ((v : Tree) → IsPlainly (read v)) → IsPlainly (optional default read under)
+optional_plainly default read None plain = tt
+optional_plainly default read (Some v) plain = plain v
+
 filter_plainly : {A : Type 0} (r : Result A FilterFault) → IsPlainly (refused_by filter_refusal r)
 filter_plainly (Ok x) = tt
 filter_plainly (Err fault) = fault_plain fault
@@ -123,6 +160,20 @@ deletion_plainly entry =
     (λ x. then_plainly (document_under (codes "q") entry) _ (required_plainly document_in (value_under (codes "q") entry) document_plainly)
     (λ q. then_plainly (only_first_under (codes "limit") entry) _ (required_plainly only_first_in (value_under (codes "limit") entry) only_first_plainly)
     (λ only_first. then_plainly (filter_of q) _ (filter_plainly (filter_in (fields_of q))) (λ filter. tt))))
+
+updating_plainly : (entry : List Field) → IsPlainly (updating_of entry)
+updating_plainly entry =
+    then_plainly (check_fields kinds.entry updating_table entry) _ (fields_plainly kinds.entry updating_table entry)
+    (λ x. then_plainly (document_under (codes "q") entry) _ (required_plainly document_in (value_under (codes "q") entry) document_plainly)
+    (λ q. then_plainly (update_under (codes "u") entry) _ (required_plainly update_in (value_under (codes "u") entry) update_plainly)
+    (λ u. then_plainly (boolean_under (codes "multi") false entry) _ (optional_plainly false boolean_in (value_under (codes "multi") entry) boolean_plainly)
+    (λ multi. then_plainly (check_multi multi u) _ (test_plainly (multi && is_replacement u) (Err FailedToParse) (Ok tt) tt tt)
+    (λ y. then_plainly (filter_of q) _ (filter_plainly (filter_in (fields_of q)))
+    (λ filter. then_plainly (update_of u) _ (updated_plainly (updates.update_of u)) (λ update. tt)))))))
+
+changed_plainly : (update : form.Update) (documents : List (List Field)) → IsPlainly (changed_by update documents)
+changed_plainly update [] = tt
+changed_plainly update (d ∷ ds) = then_plainly (after update d) _ (updated_plainly (applied update d)) (λ e. then_plainly (changed_by update ds) _ (changed_plainly update ds) (λ es. tt))
 
 -- ---- what is stored
 
@@ -149,3 +200,13 @@ pub deletes_plain : (entries : List (List Field)) → AllByRecursion IsPlainStat
 deletes_plain [] = tt
 deletes_plain (entry ∷ entries) =
     (record { plain = λ documents. then_plainly (deletion_of entry) (λ deletion. delete_chosen deletion documents) (deletion_plainly entry) (λ deletion. tt) }, deletes_plain entries)
+
+chosen_plainly : (asked : Updating) (documents : List (List Field)) → IsPlainly (update_chosen asked documents)
+chosen_plainly asked documents =
+    let chosen : List (List Field) = all_or_first (not asked.multi) (matching asked.filter documents) in
+    then_plainly {B = Effect} (changed_by asked.update chosen) (λ changed. Ok (record { matched = length chosen; changes = map put changed })) (changed_plainly asked.update chosen) (λ changed. tt)
+
+pub updates_plain : (entries : List (List Field)) → AllByRecursion IsPlainStatement (map update_one entries)
+updates_plain [] = tt
+updates_plain (entry ∷ entries) =
+    (record { plain = λ documents. then_plainly (updating_of entry) (λ asked. update_chosen asked documents) (updating_plainly entry) (λ asked. chosen_plainly asked documents) }, updates_plain entries)

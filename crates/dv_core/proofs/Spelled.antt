@@ -17,14 +17,15 @@ use Rattle.dv_bson.specs.declared.fault.BsonFault.TheVariants.{Truncated, BadLen
 use Rattle.dv_bson.specs.Names.{has_name, has_zero}
 use Rattle.dv_bson.specs.Spelling.{framed, element_spelling, counted, payload, spelling, IsValue, AreFields, AreElements, Spells}
 use Rattle.dv_bson.specs.Tree.{Tree, int32, int64, boolean, string, array, Field, fields_of, list_of_fields, elements_of}
-use Rattle.dv_command.specs.Asked.{Asked, hello, ping, insert, delete, find, asked_by}
-use Rattle.dv_command.specs.Replies.{document_of, count, hello_reply, reply_of, refusal_reply, rows_reply, write_error, write_reply, errors_field}
+use Rattle.dv_command.specs.Asked.{Asked, hello, ping, insert, update, delete, find, asked_by}
+use Rattle.dv_command.specs.Replies.{document_of, count, hello_reply, reply_of, refusal_reply, rows_reply, write_error, update_reply, errors_field}
 use Rattle.dv_command.specs.Refusals.{code, code_name, message_of, ◌>>=◌}
 use Rattle.dv_command.specs.declared.command.Command.{Command}
 use Rattle.dv_command.specs.declared.refusal.Refusal.{Refusal}
-use Rattle.dv_command.specs.declared.refusal.Refusal.TheVariants.{BadValue, FailedToParse, TypeMismatch, InvalidBson, CommandNotFound, DuplicateKey, WantOfMemory, TooLarge, LimitReached}
+use Rattle.dv_command.specs.declared.refusal.Refusal.TheVariants.{BadValue, FailedToParse, TypeMismatch, InvalidBson, PathNotViable, ConflictingUpdateOperators, ImmutableField, CommandNotFound, DuplicateKey, WantOfMemory, TooLarge, LimitReached}
 use Rattle.dv_core.specs.Changes.{Effect}
 use Rattle.dv_core.specs.Delete.{delete_one, delete_write}
+use Rattle.dv_core.specs.Update.{update_one, update_write}
 use Rattle.dv_core.specs.Insert.{insert_one, insert_write}
 use Rattle.dv_core.specs.Scan.{scan}
 use Rattle.dv_core.specs.State.{State, Namespaces, documents_of}
@@ -32,7 +33,7 @@ use Rattle.dv_core.specs.Statements.{Statement, Write, Written, nothing_written,
 use Rattle.dv_core.specs.Step.{answered, read_answer, answer_to, step}
 use Rattle.dv_command.specs.Sound.{IsNamespace, IsSoundlyAsked}
 use Rattle.dv_core.proofs.Asking.{AsksSoundly, soundly_asked}
-use Rattle.dv_core.proofs.Plain.{IsPlain, IsPlainly, IsPlainStatement, inserts_plain, deletes_plain}
+use Rattle.dv_core.proofs.Plain.{IsPlain, IsPlainly, IsPlainStatement, inserts_plain, updates_plain, deletes_plain}
 use Rattle.dv_core.proofs.Scanned.{all_scanned}
 use Rattle.dv_core.specs.Find.{total_size, batch_limit, batch_reply}
 use Rattle.dv_core.specs.Sound.{HasSpelling, IsTold, IsSound, IsSoundCommand, IsSoundDocument}
@@ -125,6 +126,9 @@ plain_short (InvalidBson fault) plain = absurd plain
 plain_short BadValue plain = record { text = IsUtf8-ascii (codes "BadValue") refl; few = omega arith; number = omega arith }
 plain_short FailedToParse plain = record { text = IsUtf8-ascii (codes "FailedToParse") refl; few = omega arith; number = omega arith }
 plain_short TypeMismatch plain = record { text = IsUtf8-ascii (codes "TypeMismatch") refl; few = omega arith; number = omega arith }
+plain_short PathNotViable plain = record { text = IsUtf8-ascii (codes "PathNotViable") refl; few = omega arith; number = omega arith }
+plain_short ConflictingUpdateOperators plain = record { text = IsUtf8-ascii (codes "ConflictingUpdateOperators") refl; few = omega arith; number = omega arith }
+plain_short ImmutableField plain = record { text = IsUtf8-ascii (codes "ImmutableField") refl; few = omega arith; number = omega arith }
 plain_short CommandNotFound plain = record { text = IsUtf8-ascii (codes "CommandNotFound") refl; few = omega arith; number = omega arith }
 plain_short DuplicateKey plain = record { text = IsUtf8-ascii (codes "DuplicateKey") refl; few = omega arith; number = omega arith }
 plain_short WantOfMemory plain = record { text = IsUtf8-ascii (codes "WantOfMemory") refl; few = omega arith; number = omega arith }
@@ -187,6 +191,9 @@ name_short (InvalidBson fault) = ascii_short (codes "InvalidBSON") refl (omega a
 name_short BadValue = ascii_short (codes "BadValue") refl (omega arith)
 name_short FailedToParse = ascii_short (codes "FailedToParse") refl (omega arith)
 name_short TypeMismatch = ascii_short (codes "TypeMismatch") refl (omega arith)
+name_short PathNotViable = ascii_short (codes "PathNotViable") refl (omega arith)
+name_short ConflictingUpdateOperators = ascii_short (codes "ConflictingUpdateOperators") refl (omega arith)
+name_short ImmutableField = ascii_short (codes "ImmutableField") refl (omega arith)
 name_short CommandNotFound = ascii_short (codes "CommandNotFound") refl (omega arith)
 name_short DuplicateKey = ascii_short (codes "DuplicateKey") refl (omega arith)
 name_short WantOfMemory = ascii_short (codes "WantOfMemory") refl (omega arith)
@@ -279,11 +286,40 @@ errors_spelled counts n (e ∷ es) few all =
     (more_valid (codes "n") (count n) errors refl refl refl (counts n) (more_valid (codes "writeErrors") told ok_fields refl refl refl (small_elements (e ∷ es) all) ok_valid))
     (omega (arith, spelling-field (codes "n", count n) errors, count_size n, spelling-field (codes "writeErrors", told) ok_fields, ok_size, array-bound (e ∷ es) (omega arith), small_sizes (e ∷ es) all))
 
-write_spelled : CountsAreValid → (write : Write) (old : Namespaces) → length write.statements ≤ 100000 → AllByRecursion IsPlainStatement write.statements → HasSpelling (write_reply (carry_out write old).n (carry_out write old).errors)
-write_spelled counts write old within plain =
+update_spelled : CountsAreValid → (n changed : ℕ) (es : List Tree) → length es ≤ 100000 → AllByRecursion IsSmall es → HasSpelling (update_reply n changed es)
+update_spelled counts n changed [] few all =
+    let more : List Field = (codes "nModified", count changed) ∷ ok_fields in
+    spelled ((codes "n", count n) ∷ more) (more_valid (codes "n") (count n) more refl refl refl (counts n) (more_valid (codes "nModified") (count changed) ok_fields refl refl refl (counts changed) ok_valid))
+    (omega (arith, spelling-field (codes "n", count n) more, count_size n, spelling-field (codes "nModified", count changed) ok_fields, count_size changed, ok_size))
+update_spelled counts n changed (e ∷ es) few all =
+    let told : Tree = array (elements_of (e ∷ es)) in
+    let errors : List Field = (codes "writeErrors", told) ∷ ok_fields in
+    let more : List Field = (codes "nModified", count changed) ∷ errors in
+    spelled ((codes "n", count n) ∷ more)
+    (more_valid (codes "n") (count n) more refl refl refl (counts n)
+    (more_valid (codes "nModified") (count changed) errors refl refl refl (counts changed) (more_valid (codes "writeErrors") told ok_fields refl refl refl (small_elements (e ∷ es) all) ok_valid)))
+    (omega (
+      arith,
+      spelling-field (codes "n", count n) more,
+      count_size n,
+      spelling-field (codes "nModified", count changed) errors,
+      count_size changed,
+      spelling-field (codes "writeErrors", told) ok_fields,
+      ok_size,
+      array-bound (e ∷ es) (omega arith),
+      small_sizes (e ∷ es) all,
+    ))
+
+-- a reply that has a spelling whatever it counts, if its errors are few and small
+abbrev IsSpelled : (ℕ → ℕ → List Tree → List Field) → Type 0
+IsSpelled reply = (n changed : ℕ) (es : List Tree) → length es ≤ 100000 → AllByRecursion IsSmall es → HasSpelling (reply n changed es)
+
+write_spelled : (write : Write) (old : Namespaces) → length write.statements ≤ 100000 → AllByRecursion IsPlainStatement write.statements → IsSpelled write.reply
+    → HasSpelling (write.reply (carry_out write old).n (carry_out write old).changed (carry_out write old).errors)
+write_spelled write old within plain reply =
     let nothing : AreFew 0 (nothing_written old) = record { statements = omega arith; errors = omega arith; small = tt } in
     let all = few_all write.namespace write.ordered 0 (nothing_written old) write.statements (omega arith) plain nothing in
-    errors_spelled counts (carry_out write old).n (carry_out write old).errors (omega (arith, all.errors)) all.small
+    reply (carry_out write old).n (carry_out write old).changed (carry_out write old).errors (omega (arith, all.errors)) all.small
 
 -- ---- a greeting
 
@@ -348,8 +384,9 @@ module _ (asks : AsksSoundly) (counts : CountsAreValid) where
   asked_spelled : (state : State) (session : ℕ) (command : Command) (asked : Asked) → IsSound state → IsSoundlyAsked asked → HasSpelling (answered state (answer_to state session asked)).reply
   asked_spelled state session command hello sound asked = hello_spelled
   asked_spelled state session command ping sound asked = ping_spelled
-  asked_spelled state session command (insert i) sound asked = write_spelled counts (insert_write i) state.namespaces (omega (arith, length-map i.documents insert_one, asked.2)) (inserts_plain i.documents)
-  asked_spelled state session command (delete d) sound asked = write_spelled counts (delete_write d) state.namespaces (omega (arith, length-map d.entries delete_one, asked.2)) (deletes_plain d.entries)
+  asked_spelled state session command (insert i) sound asked = write_spelled (insert_write i) state.namespaces (omega (arith, length-map i.documents insert_one, asked.2)) (inserts_plain i.documents) (λ n changed es. errors_spelled counts n es)
+  asked_spelled state session command (update u) sound asked = write_spelled (update_write u) state.namespaces (omega (arith, length-map u.entries update_one, asked.2)) (updates_plain u.entries) (update_spelled counts)
+  asked_spelled state session command (delete d) sound asked = write_spelled (delete_write d) state.namespaces (omega (arith, length-map d.entries delete_one, asked.2)) (deletes_plain d.entries) (λ n changed es. errors_spelled counts n es)
   asked_spelled state session command (find f) sound asked =
       let documents : List (List Field) = documents_of f.namespace state.namespaces in
       find_spelled state f.namespace (scan f.filter f.sort f.skip f.limit documents) asked (all_scanned IsSoundDocument f.filter f.sort f.skip f.limit documents (sound f.namespace).1)

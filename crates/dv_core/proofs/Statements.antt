@@ -23,7 +23,7 @@ module _ (namespace : List ℕ) (ordered : Bool) where
   module _ (so_far now : Written) (statement : Statement) where
     -- it was carried out
     pub next_made : (matched : ℕ) (changes : List Change) → is_due ordered so_far.errors ≡ true → statement (documents_of namespace so_far.namespaces) ≡ Ok (record { matched = matched; changes = changes })
-        → now ≡ record { statements = suc so_far.statements; n = so_far.n + matched; errors = so_far.errors; namespaces = apply namespace changes so_far.namespaces }
+        → now ≡ record { statements = suc so_far.statements; n = so_far.n + matched; changed = so_far.changed + length changes; errors = so_far.errors; namespaces = apply namespace changes so_far.namespaces }
         → NextStep namespace ordered so_far statement (Ok Due) now
     next_made matched changes due made is = (rw (due, made) is, rw is due)
 
@@ -115,13 +115,13 @@ module _ (namespace : List ℕ) (ordered : Bool) where
 
 -- what an ended write answers
 module _ (write : Write) (old : Namespaces) (left : Written) where
-  pub done_replied : (reply : List Field) → left ≡ carry_out write old → reply ≡ reply_seen left → Writes write old (Reply reply) left.namespaces
-  done_replied reply is replies = (replies ∙ ap reply_seen is, ap (λ (w : Written). w.namespaces) is)
+  pub done_replied : (reply : List Field) → left ≡ carry_out write old → reply ≡ reply_seen write left → Writes write old (Reply reply) left.namespaces
+  done_replied reply is replies = (replies ∙ ap (reply_seen write) is, ap (λ (w : Written). w.namespaces) is)
 
   pub done_untold : left ≡ carry_out write old → Writes write old NoReply left.namespaces
   done_untold is = inl (ap (λ (w : Written). w.namespaces) is)
 
-  pub cut_replied : (reply : List Field) → IsCut write old left → reply ≡ reply_seen left → Writes write old (Wanting reply) left.namespaces
+  pub cut_replied : (reply : List Field) → IsCut write old left → reply ≡ reply_seen write left → Writes write old (Wanting reply) left.namespaces
   cut_replied reply is_cut replies = (left, is_cut, replies, refl)
 
   pub cut_untold : (new : Namespaces) → IsCut write old left → new ≡ left.namespaces → Writes write old NoReply new

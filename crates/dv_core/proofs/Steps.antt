@@ -21,11 +21,11 @@ same_answer r s m n p q = λ i. answer_of (p i) (q i)
 
 -- a command that is a write does what its write does
 pub write_steps : (old : State) (new : Namespaces) (session : ℕ) (command : Command) (asked : Asked) (write : Write) (outcome : Outcome) → asked_by command ≡ Ok asked → write_of asked ≡ Some write
-    → answer_to old session asked ≡ Ok (write_answer old (carry_out write old.namespaces)) → Writes write old.namespaces outcome new → MemoryStep old session command outcome (record { namespaces = new })
+    → answer_to old session asked ≡ Ok (write_answer old write (carry_out write old.namespaces)) → Writes write old.namespaces outcome new → MemoryStep old session command outcome (record { namespaces = new })
 write_steps old new session command asked write (Reply reply) e is answers (replies, leaves) = rw (e, answers) (same_answer _ _ _ _ (sym replies) (sym leaves))
 write_steps old new session command asked write (Wanting reply) e is answers (left, is_cut, replies, leaves) = inr (rw (e, is) (left, is_cut, same_answer _ _ _ _ replies leaves))
 write_steps old new session command asked write NoReply e is answers (inl leaves) = inl (rw (e, answers) (λ i. record { namespaces = leaves i }))
-write_steps old new session command asked write NoReply e is answers (inr (left, is_cut, leaves)) = inr (write_answer old left, inr (rw (e, is) (left, is_cut, refl)), λ i. record { namespaces = leaves i })
+write_steps old new session command asked write NoReply e is answers (inr (left, is_cut, leaves)) = inr (write_answer old write left, inr (rw (e, is) (left, is_cut, refl)), λ i. record { namespaces = leaves i })
 
 pub refusal_steps : (old : State) (session : ℕ) (command : Command) (refusal : Refusal) (outcome : Outcome) → (asked_by command ≡ Err refusal) ⊎ (refusal ≡ WantOfMemory)
     → Refuses refusal outcome → MemoryStep old session command outcome old

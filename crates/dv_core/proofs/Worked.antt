@@ -53,8 +53,12 @@ other_there =
 
 -- ---- one statement, by the documents that it finds
 
+abbrev pub wrote_so : ℕ → ℕ → ℕ → List Tree → Namespaces → Written
+wrote_so statements n changed errors namespaces = record { statements = statements; n = n; changed = changed; errors = errors; namespaces = namespaces }
+
+-- counted for as many documents as were changed
 abbrev pub wrote : ℕ → ℕ → List Tree → Namespaces → Written
-wrote statements n errors namespaces = record { statements = statements; n = n; errors = errors; namespaces = namespaces }
+wrote statements n errors namespaces = wrote_so statements n n errors namespaces
 
 module _ (namespace : List ℕ) (ordered : Bool) (w : Written) (documents : List (List Field)) (are : documents_of namespace w.namespaces ≡ documents) (due : is_due ordered w.errors ≡ true) where
   pub looked_at : (statement : Statement) (result : Result Effect Refusal) → statement documents ≡ result → with_next namespace ordered w statement ≡ with_result namespace ordered w result
@@ -63,15 +67,15 @@ module _ (namespace : List ℕ) (ordered : Bool) (w : Written) (documents : List
 
   -- it is put among the documents
   puts : (d stored : List Field) (after : List (List Field)) → insert_one d documents ≡ Ok (record { matched = 1; changes = put stored ∷ [] }) → with_put stored documents ≡ after
-      → with_next namespace ordered w (insert_one d) ≡ wrote (suc w.statements) (w.n + 1) w.errors (with_documents namespace after w.namespaces)
+      → with_next namespace ordered w (insert_one d) ≡ wrote_so (suc w.statements) (w.n + 1) (w.changed + 1) w.errors (with_documents namespace after w.namespaces)
   puts d stored after gives leaves =
       looked_at (insert_one d) (Ok (record { matched = 1; changes = put stored ∷ [] })) gives
-      ∙ ap (λ (ds : List (List Field)). wrote (suc w.statements) (w.n + 1) w.errors (with_documents namespace ds w.namespaces))
+      ∙ ap (λ (ds : List (List Field)). wrote_so (suc w.statements) (w.n + 1) (w.changed + 1) w.errors (with_documents namespace ds w.namespaces))
       (ap (with_put stored) are ∙ leaves)
 
   -- it is refused
   refuses : (d : List Field) (refusal : Refusal) → insert_one d documents ≡ Err refusal
-      → with_next namespace ordered w (insert_one d) ≡ wrote (suc w.statements) w.n (w.errors ++ document_of (write_error w.statements refusal) ∷ []) w.namespaces
+      → with_next namespace ordered w (insert_one d) ≡ wrote_so (suc w.statements) w.n w.changed (w.errors ++ document_of (write_error w.statements refusal) ∷ []) w.namespaces
   refuses d refusal gives = looked_at (insert_one d) (Err refusal) gives
 
 abbrev after : Bool → List (List Field) → Written → Written
@@ -97,6 +101,10 @@ put_third =
     puts t_c false (wrote 2 1 (duplicate ∷ []) (holding (only 2 ∷ [])).namespaces) (only 2 ∷ []) (put_there (only 2 ∷ []) empty_state.namespaces) refl (only 1) (only 1) (only 1 ∷ only 2 ∷ []) refl refl
     ∙ ap (wrote 3 2 (duplicate ∷ [])) (put_twice (only 1 ∷ only 2 ∷ []) (only 2 ∷ []) empty_state.namespaces)
 
+-- an insert, whose reply is that of all inserts
+abbrev two : Insert
+two = record { namespace = t_c; documents = only 5 ∷ only 6 ∷ []; ordered = true }
+
 -- ---- the examples
 
 abbrev falsely : List Field
@@ -108,19 +116,19 @@ moved = (codes "_id", number 2) ∷ (codes "a", number 1) ∷ []
 pub inserts : InsertExamples
 unfolding framed element_spelling payload counted
 inserts = record {
-  first = λ session. ap (write_answer empty_state) (puts t_c true nothing [] (nothing_in t_c) refl (only 5) (only 5) (only 5 ∷ []) refl refl);
+  first = λ session. ap (write_answer empty_state (insert_write two)) (puts t_c true nothing [] (nothing_in t_c) refl (only 5) (only 5) (only 5 ∷ []) refl refl);
   equal = λ session.
-      ap (write_answer (holding (only 5 ∷ [])))
+      ap (write_answer (holding (only 5 ∷ [])) (insert_write two))
       (refuses t_c true (nothing_written (holding (only 5 ∷ [])).namespaces) (only 5 ∷ []) (put_there (only 5 ∷ []) empty_state.namespaces) refl ((codes "_id", int64 (pos 5)) ∷ []) DuplicateKey refl);
-  ordered = λ session. ap (write_answer empty_state) (ap (after true (only 2 ∷ only 1 ∷ [])) (put_first true) ∙ ap (after true (only 1 ∷ [])) (put_again true));
-  unordered = λ session. ap (write_answer empty_state) (ap (after false (only 2 ∷ only 1 ∷ [])) (put_first false) ∙ ap (after false (only 1 ∷ [])) (put_again false) ∙ put_third);
-  id_behind = λ session. ap (write_answer empty_state) (puts t_c true nothing [] (nothing_in t_c) refl ((codes "a", number 1) ∷ (codes "_id", number 2) ∷ []) moved (moved ∷ []) refl refl);
+  ordered = λ session. ap (write_answer empty_state (insert_write two)) (ap (after true (only 2 ∷ only 1 ∷ [])) (put_first true) ∙ ap (after true (only 1 ∷ [])) (put_again true));
+  unordered = λ session. ap (write_answer empty_state (insert_write two)) (ap (after false (only 2 ∷ only 1 ∷ [])) (put_first false) ∙ ap (after false (only 1 ∷ [])) (put_again false) ∙ put_third);
+  id_behind = λ session. ap (write_answer empty_state (insert_write two)) (puts t_c true nothing [] (nothing_in t_c) refl ((codes "a", number 1) ∷ (codes "_id", number 2) ∷ []) moved (moved ∷ []) refl refl);
   no_id = λ session. refl;
   unfit = λ session. refl;
-  elsewhere = λ session. ap (write_answer (holding (only 5 ∷ []))) (puts (codes "u.c") true (nothing_written (holding (only 5 ∷ [])).namespaces) [] other_there refl (only 5) (only 5) (only 5 ∷ []) refl refl);
+  elsewhere = λ session. ap (write_answer (holding (only 5 ∷ [])) (insert_write two)) (puts (codes "u.c") true (nothing_written (holding (only 5 ∷ [])).namespaces) [] other_there refl (only 5) (only 5) (only 5 ∷ []) refl refl);
   dotted = λ session. refl;
   classes = λ session.
-      ap (write_answer empty_state)
+      ap (write_answer empty_state (insert_write two))
       (ap (after true (only 1 ∷ [])) (puts t_c true nothing [] (nothing_in t_c) refl falsely falsely (falsely ∷ []) refl refl)
       ∙ puts t_c true (wrote 1 1 [] (holding (falsely ∷ [])).namespaces) (falsely ∷ []) (put_there (falsely ∷ []) empty_state.namespaces) refl (only 1) (only 1) (only 1 ∷ falsely ∷ []) refl refl
       ∙ ap (wrote 2 2 []) (put_twice (only 1 ∷ falsely ∷ []) (falsely ∷ []) empty_state.namespaces));
@@ -163,9 +171,6 @@ refusals = record {
 
 -- ---- want of memory
 
-abbrev two : Insert
-two = record { namespace = t_c; documents = only 5 ∷ only 6 ∷ []; ordered = true }
-
 put_five : with_next t_c true nothing (insert_one (only 5)) ≡ wrote 1 1 [] (holding (only 5 ∷ [])).namespaces
 unfolding framed element_spelling payload counted
 put_five = puts t_c true nothing [] (nothing_in t_c) refl (only 5) (only 5) (only 5 ∷ []) refl refl
@@ -189,6 +194,6 @@ pub wants : WantExamples
 wants = record {
   refused = λ state session command. inl refl;
   cut = λ session. inr (left, cut_second, refl);
-  untold = λ session. inr (write_answer empty_state left, inr (left, cut_second, refl), refl);
+  untold = λ session. inr (write_answer empty_state (insert_write two) left, inr (left, cut_second, refl), refl);
   pinged = λ state new session is. let replies : reply_of [] ≡ refusal_reply WantOfMemory = ap (λ (a : Answer). a.reply) is in cc;
 }

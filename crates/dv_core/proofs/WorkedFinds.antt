@@ -1,5 +1,5 @@
 -- The worked examples of deletes and finds, computed.
-use Rattle.std.proofs.Common.{◌≡◌, ℕ, ◌+◌, true, List, [], ◌∷◌, Ok, refl, ap, ◌∙◌}
+use Rattle.std.proofs.Common.{◌≡◌, ℕ, ◌+◌, true, List, [], ◌∷◌, length, Ok, refl, ap, ◌∙◌}
 use Rattle.std.specs.Fmt.{digits}
 use Rattle.std.specs.Prelude.{codes}
 use Rattle.dv_bson.specs.Tree.{Field, null}
@@ -16,22 +16,24 @@ use Rattle.dv_match.specs.Filter.{Members, no_members, more_members, at_path, in
 use Rattle.dv_match.specs.Match.{matches, matches_member, meets_all, meets}
 use Rattle.dv_match.specs.Parsing.{filter_in, conditions_in, operators_in, member_named, operator_named}
 use Rattle.dv_sort.specs.Sorting.{stable}
-use Rattle.dv_core.specs.Changes.{Change, gone, with_changes}
-use Rattle.dv_core.specs.Delete.{delete_one}
+use Rattle.dv_core.specs.Changes.{Change, gone, apply, with_changes}
+use Rattle.dv_command.specs.Asked.{Delete}
+use Rattle.dv_core.specs.Delete.{delete_one, delete_write}
 use Rattle.dv_core.specs.Examples.{only, one_field, number, deletion, holding, three, bounded, nulls, keyed, DeleteExamples, FindExamples}
 use Rattle.dv_core.specs.Find.{batch_reply}
 use Rattle.dv_core.specs.Scan.{scan}
 use Rattle.dv_core.specs.State.{documents_of, empty_state, with_documents}
 use Rattle.dv_core.specs.Statements.{nothing_written, with_next}
 use Rattle.dv_core.specs.Step.{answered, read_answer, write_answer}
-use Rattle.dv_core.proofs.Worked.{t_c, nothing_in, put_there, put_twice, wrote, looked_at}
+use Rattle.dv_core.proofs.Worked.{t_c, nothing_in, put_there, put_twice, wrote, wrote_so, looked_at}
 
 -- one entry that takes documents out of c
 module _ (documents after : List (List Field)) (entry : List Field) (matched : ℕ) (change : Change) (changes : List Change) where
-  deletes_there : delete_one entry documents ≡ Ok (record { matched = matched; changes = change ∷ changes }) → with_changes documents (change ∷ changes) ≡ after
+  deletes_there : delete_one entry documents ≡ Ok (record { matched = matched; changes = change ∷ changes }) → length (change ∷ changes) ≡ matched → with_changes documents (change ∷ changes) ≡ after
       → with_next t_c true (nothing_written (holding documents).namespaces) (delete_one entry) ≡ wrote 1 (0 + matched) [] (holding after).namespaces
-  deletes_there does leaves =
+  deletes_there does many leaves =
       looked_at t_c true (nothing_written (holding documents).namespaces) documents (put_there documents empty_state.namespaces) refl (delete_one entry) _ does
+      ∙ ap (λ (n : ℕ). wrote_so 1 (0 + matched) (0 + n) [] (apply t_c (change ∷ changes) (holding documents).namespaces)) many
       ∙ ap (wrote 1 (0 + matched) [])
       (ap (λ (ds : List (List Field)). with_documents t_c (with_changes ds (change ∷ changes)) (holding documents).namespaces) (put_there documents empty_state.namespaces)
       ∙ ap (λ (ds : List (List Field)). with_documents t_c ds (holding documents).namespaces) leaves ∙ put_twice after documents empty_state.namespaces)
@@ -40,13 +42,17 @@ module _ (documents after : List (List Field)) (entry : List Field) (matched : �
 abbrev goes : ℕ → Change
 goes id = gone (id_key (only id))
 
+-- a delete, whose reply is that of all deletes
+abbrev no_entries : Delete
+no_entries = record { namespace = t_c; entries = []; ordered = true }
+
 pub deletes : DeleteExamples
 unfolding filter_in conditions_in operators_in member_named operator_named matches matches_member meets_all meets path_of index_of whole leaves
 deletes = record {
-  first = λ session. ap (write_answer (holding three)) (deletes_there three (only 2 ∷ only 3 ∷ []) (deletion [] 1) 1 (goes 1) [] refl refl);
-  greater = λ session. ap (write_answer (holding three)) (deletes_there three (only 1 ∷ []) (deletion (one_field (codes "_id") (document_of (one_field (codes "$gt") (number 1)))) 0) 2 (goes 2) (goes 3 ∷ []) refl refl);
-  all = λ session. ap (write_answer (holding three)) (deletes_there three [] (deletion [] 0) 3 (goes 1) (goes 2 ∷ goes 3 ∷ []) refl refl);
-  nothing = λ session. ap (write_answer empty_state) (looked_at t_c true (nothing_written empty_state.namespaces) [] (nothing_in t_c) refl (delete_one (deletion [] 0)) (Ok (record { matched = 0; changes = [] })) refl);
+  first = λ session. ap (write_answer (holding three) (delete_write no_entries)) (deletes_there three (only 2 ∷ only 3 ∷ []) (deletion [] 1) 1 (goes 1) [] refl refl refl);
+  greater = λ session. ap (write_answer (holding three) (delete_write no_entries)) (deletes_there three (only 1 ∷ []) (deletion (one_field (codes "_id") (document_of (one_field (codes "$gt") (number 1)))) 0) 2 (goes 2) (goes 3 ∷ []) refl refl refl);
+  all = λ session. ap (write_answer (holding three) (delete_write no_entries)) (deletes_there three [] (deletion [] 0) 3 (goes 1) (goes 2 ∷ goes 3 ∷ []) refl refl refl);
+  nothing = λ session. ap (write_answer empty_state (delete_write no_entries)) (looked_at t_c true (nothing_written empty_state.namespaces) [] (nothing_in t_c) refl (delete_one (deletion [] 0)) (Ok (record { matched = 0; changes = [] })) refl);
   no_limit = λ session. refl;
   two = λ session. refl;
 }

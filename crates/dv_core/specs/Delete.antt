@@ -5,6 +5,7 @@ use Rattle.dv_coll.specs.Collection.{id_key}
 use Rattle.dv_command.specs.Asked.{Delete}
 use Rattle.dv_command.specs.Entries.{Deletion, deletion_of}
 use Rattle.dv_command.specs.Refusals.{◌>>=◌}
+use Rattle.dv_command.specs.Replies.{write_reply}
 use Rattle.dv_core.specs.Changes.{Effect, gone}
 use Rattle.dv_core.specs.Scan.{matching}
 use Rattle.dv_core.specs.Statements.{Statement, Write}
@@ -28,4 +29,4 @@ delete_one entry documents = deletion_of entry >>= λ deletion. delete_chosen de
 
 -- a delete's statements are its entries
 abbrev pub delete_write : Delete → Write
-delete_write asked = record { namespace = asked.namespace; ordered = asked.ordered; statements = map delete_one asked.entries }
+delete_write asked = record { namespace = asked.namespace; ordered = asked.ordered; statements = map delete_one asked.entries; reply = λ n changed errors. write_reply n errors }

@@ -5,6 +5,7 @@ use Rattle.dv_coll.specs.Collection.{id_key, found}
 use Rattle.dv_command.specs.declared.refusal.Refusal.TheVariants.{DuplicateKey}
 use Rattle.dv_command.specs.Asked.{Insert}
 use Rattle.dv_command.specs.Refusals.{◌>>=◌}
+use Rattle.dv_command.specs.Replies.{write_reply}
 use Rattle.dv_core.specs.Changes.{put}
 use Rattle.dv_core.specs.Storable.{storable}
 use Rattle.dv_core.specs.Statements.{Statement, Write}
@@ -19,4 +20,4 @@ insert_one d documents = storable d >>= λ stored. put_new stored documents
 
 -- an insert's statements are its documents
 abbrev pub insert_write : Insert → Write
-insert_write asked = record { namespace = asked.namespace; ordered = asked.ordered; statements = map insert_one asked.documents }
+insert_write asked = record { namespace = asked.namespace; ordered = asked.ordered; statements = map insert_one asked.documents; reply = λ n changed errors. write_reply n errors }

@@ -5,6 +5,7 @@ pub mod Statements
 pub mod Scan
 pub mod Insert
 pub mod Delete
+pub mod Update
 pub mod Find
 pub mod Step
 pub mod Part
@@ -15,5 +16,6 @@ pub mod StateCode
 pub mod View
 pub mod StepParts
 pub mod ScanParts
+pub mod UpdateParts
 pub mod WriteParts
 pub mod WritesView

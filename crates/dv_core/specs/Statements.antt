@@ -11,16 +11,17 @@ use Rattle.dv_core.specs.Changes.{Change, Effect, apply, changes_of}
 abbrev pub Statement : Type 0
 Statement = List (List Field) → Result Effect Refusal
 
--- what a write's statements did so far: how many were looked at, how many documents those that were carried out are counted for,
--- the errors of the others, and what stands under the namespaces
+-- what a write's statements did so far: how many were looked at, how many documents those that were carried out are counted for, and
+-- how many changes they made, the errors of the others, and what stands under the namespaces
 pub record Written : Type 0 where
   pub statements : ℕ
   pub n : ℕ
+  pub changed : ℕ
   pub errors : List Tree
   pub namespaces : Namespaces
 
 abbrev pub nothing_written : Namespaces → Written
-nothing_written namespaces = record { statements = 0; n = 0; errors = []; namespaces = namespaces }
+nothing_written namespaces = record { statements = 0; n = 0; changed = 0; errors = []; namespaces = namespaces }
 
 -- whether the next statement is looked at: behind an error of an ordered command none is
 abbrev pub is_due : Bool → List Tree → Bool
@@ -32,9 +33,9 @@ module _ (namespace : List ℕ) (ordered : Bool) where
   -- one statement more, which did this; one that is refused changes nothing
   abbrev pub with_result : Written → Result Effect Refusal → Written
   with_result so_far (Ok effect) =
-      record { statements = suc so_far.statements; n = so_far.n + effect.matched; errors = so_far.errors; namespaces = apply namespace effect.changes so_far.namespaces }
+      record { statements = suc so_far.statements; n = so_far.n + effect.matched; changed = so_far.changed + length effect.changes; errors = so_far.errors; namespaces = apply namespace effect.changes so_far.namespaces }
   with_result so_far (Err refusal) =
-      record { statements = suc so_far.statements; n = so_far.n; errors = so_far.errors ++ document_of (write_error so_far.statements refusal) ∷ []; namespaces = so_far.namespaces }
+      record { statements = suc so_far.statements; n = so_far.n; changed = so_far.changed; errors = so_far.errors ++ document_of (write_error so_far.statements refusal) ∷ []; namespaces = so_far.namespaces }
 
   -- the next statement, where it is looked at
   abbrev pub with_next : Written → Statement → Written
@@ -54,7 +55,7 @@ module _ (namespace : List ℕ) (ordered : Bool) where
   -- the next statement finds no memory behind the first so many of its changes: these stand, and it isn't counted
   abbrev pub cut : ℕ → Written → Statement → Written
   cut made so_far statement =
-      record { statements = suc so_far.statements; n = so_far.n; errors = so_far.errors ++ document_of (cut_error so_far.statements made) ∷ []; namespaces = apply namespace (take made (next_changes so_far statement)) so_far.namespaces }
+      record { statements = suc so_far.statements; n = so_far.n; changed = so_far.changed; errors = so_far.errors ++ document_of (cut_error so_far.statements made) ∷ []; namespaces = apply namespace (take made (next_changes so_far statement)) so_far.namespaces }
 
   -- these statements are cut at one of them: those before it were carried out, and it was to be looked at; not all of its changes
   -- were made, or none where it would make none
@@ -70,10 +71,12 @@ module _ (namespace : List ℕ) (ordered : Bool) where
 
 -- ---- a command of statements
 
+-- its reply, by how many documents its statements are counted for, how many changes they made, and their errors
 pub record Write : Type 0 where
   pub namespace : List ℕ
   pub ordered : Bool
   pub statements : List Statement
+  pub reply : ℕ → ℕ → List Tree → List Field
 
 -- what its statements do
 abbrev pub carry_out : Write → Namespaces → Written

@@ -4,14 +4,15 @@ use Rattle.dv_bson.specs.Tree.{Field}
 use Rattle.dv_command.specs.declared.command.Command.{Command}
 use Rattle.dv_command.specs.declared.refusal.Refusal.{Refusal}
 use Rattle.dv_command.specs.declared.refusal.Refusal.TheVariants.{WantOfMemory}
-use Rattle.dv_command.specs.Asked.{Asked, hello, ping, insert, delete, find, asked_by}
+use Rattle.dv_command.specs.Asked.{Asked, hello, ping, insert, update, delete, find, asked_by}
 use Rattle.dv_command.specs.Refusals.{◌>>=◌}
-use Rattle.dv_command.specs.Replies.{reply_of, hello_reply, refusal_reply, write_reply}
+use Rattle.dv_command.specs.Replies.{reply_of, hello_reply, refusal_reply}
 use Rattle.dv_core.specs.declared.outcome.Outcome.{Outcome}
 use Rattle.dv_core.specs.declared.outcome.Outcome.TheVariants.{Reply, Wanting, NoReply}
 use Rattle.dv_core.specs.State.{State, documents_of}
 use Rattle.dv_core.specs.Statements.{Write, Written, carry_out, IsCut}
 use Rattle.dv_core.specs.Insert.{insert_write}
+use Rattle.dv_core.specs.Update.{update_write}
 use Rattle.dv_core.specs.Delete.{delete_write}
 use Rattle.dv_core.specs.Find.{batch_reply}
 use Rattle.dv_core.specs.Scan.{scan}
@@ -28,15 +29,20 @@ abbrev pub read_answer : State → Result (List Field) Refusal → Result Answer
 read_answer state result = result >>= λ reply. Ok (record { reply = reply; state = state })
 
 -- a write whose statements did this
-abbrev pub write_answer : State → Written → Answer
-write_answer old did = record { reply = write_reply did.n did.errors; state = record old { namespaces = did.namespaces } }
+abbrev pub write_answer : State → Write → Written → Answer
+write_answer old write did = record { reply = write.reply did.n did.changed did.errors; state = record old { namespaces = did.namespaces } }
+
+-- what a write answers and leaves
+abbrev pub carried_out : State → Write → Result Answer Refusal
+carried_out state write = Ok (write_answer state write (carry_out write state.namespaces))
 
 -- what a command of a session answers, by what it asks
 abbrev pub answer_to : State → ℕ → Asked → Result Answer Refusal
 answer_to state session hello = read_answer state (Ok hello_reply)
 answer_to state session ping = read_answer state (Ok (reply_of []))
-answer_to state session (insert asked) = Ok (write_answer state (carry_out (insert_write asked) state.namespaces))
-answer_to state session (delete asked) = Ok (write_answer state (carry_out (delete_write asked) state.namespaces))
+answer_to state session (insert asked) = carried_out state (insert_write asked)
+answer_to state session (update asked) = carried_out state (update_write asked)
+answer_to state session (delete asked) = carried_out state (delete_write asked)
 answer_to state session (find asked) =
     read_answer state (batch_reply asked.namespace (scan asked.filter asked.sort asked.skip asked.limit (documents_of asked.namespace state.namespaces)))
 
@@ -56,13 +62,14 @@ abbrev pub write_of : Asked → Option Write
 write_of hello = None
 write_of ping = None
 write_of (insert asked) = Some (insert_write asked)
+write_of (update asked) = Some (update_write asked)
 write_of (delete asked) = Some (delete_write asked)
 write_of (find asked) = None
 
 -- the answers of a write that is cut at one of its statements
 abbrev pub WriteCut : State → Option Write → Answer → Type 0
 WriteCut old None answer = ⊥
-WriteCut old (Some write) answer = (left : Written) × IsCut write old.namespaces left × (answer ≡ write_answer old left)
+WriteCut old (Some write) answer = (left : Written) × IsCut write old.namespaces left × (answer ≡ write_answer old write left)
 
 -- a command that is refused isn't cut
 abbrev pub Cut : State → Result Asked Refusal → Answer → Type 0

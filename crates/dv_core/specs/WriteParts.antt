@@ -5,9 +5,10 @@ use Rattle.dv_bson.specs.Tree.{Field}
 use Rattle.dv_bson.specs.View.{tree}
 use Rattle.dv_command.specs.declared.refusal.Refusal.{Refusal}
 use Rattle.dv_command.specs.declared.refusal.Refusal.TheVariants.{WantOfMemory}
-use Rattle.dv_command.specs.Replies.{document_of, write_error, cut_error, write_reply}
+use Rattle.dv_command.specs.Replies.{document_of, write_error, cut_error}
 use Rattle.dv_core.specs.declared.outcome.Outcome.{Outcome}
 use Rattle.dv_core.specs.declared.outcome.Outcome.TheVariants.{Reply, Wanting, NoReply}
+use Rattle.dv_core.specs.declared.counted.Counted.{Counted}
 use Rattle.dv_core.specs.declared.written.Written as declared
 use Rattle.dv_core.specs.declared.next.Next.{Next}
 use Rattle.dv_core.specs.declared.next.Next.TheVariants.{Due, Ended, Cut}
@@ -17,14 +18,15 @@ use Rattle.dv_core.specs.Statements.{Statement, Write, Written, carry_out, with_
 
 -- what statements did, and what they left
 abbrev pub written_seen : declared.Written → Namespaces → Written
-written_seen w namespaces = record { statements = w.statements; n = w.n; errors = map tree w.errors.items; namespaces = namespaces }
+written_seen w namespaces = record { statements = w.statements; n = w.n; changed = w.changed; errors = map tree w.errors.items; namespaces = namespaces }
 
-abbrev pub reply_seen : Written → List Field
-reply_seen did = write_reply did.n did.errors
+abbrev pub reply_seen : Write → Written → List Field
+reply_seen write did = write.reply did.n did.changed did.errors
 
--- one statement more, which was carried out, and is counted for so many documents
-abbrev pub with_matched : Written → ℕ → Written
-with_matched so_far matched = record so_far { statements = suc so_far.statements; n = so_far.n + matched }
+-- one statement more, which was carried out, is counted for so many documents, and made so many changes
+abbrev pub with_counted : Written → Counted → Written
+with_counted so_far counted =
+    record so_far { statements = suc so_far.statements; n = so_far.n + counted.matched; changed = so_far.changed + counted.changed }
 
 -- the error of a statement that was refused; one that found no memory made none of its changes
 abbrev pub error_of : ℕ → Refusal → List Field
@@ -34,7 +36,7 @@ error_of place refusal = write_error place refusal
 -- one statement more, which was refused
 abbrev pub with_refusal : Written → Refusal → Written
 with_refusal so_far refusal =
-    record { statements = suc so_far.statements; n = so_far.n; errors = so_far.errors ++ document_of (error_of so_far.statements refusal) ∷ []; namespaces = so_far.namespaces }
+    record { statements = suc so_far.statements; n = so_far.n; changed = so_far.changed; errors = so_far.errors ++ document_of (error_of so_far.statements refusal) ∷ []; namespaces = so_far.namespaces }
 
 -- what comes behind a statement that was refused
 abbrev pub next_behind : Bool → Refusal → Next
@@ -51,16 +53,22 @@ abbrev pub outcome_of : Result Outcome AllocError → Outcome
 outcome_of (Ok outcome) = outcome
 outcome_of (Err e) = NoReply
 
--- a statement makes its changes, and tells for how many documents it is counted; or it is refused, if only for want of memory, and
--- nothing is changed
-abbrev pub Makes : {B : Type 0} → (B → ℕ) → List ℕ → Statement → Namespaces → Result B Refusal → Namespaces → Type 0
-Makes matched namespace statement old (Ok x) new =
-    (changes : List Change) × (statement (documents_of namespace old) ≡ Ok (record { matched = matched x; changes = changes })) × (new ≡ apply namespace changes old)
-Makes matched namespace statement old (Err refusal) new = ((statement (documents_of namespace old) ≡ Err refusal) ⊎ (refusal ≡ WantOfMemory)) × (new ≡ old)
+-- a statement makes its changes, and tells for how many documents it is counted and how many changes it made; or it is refused, if
+-- only for want of memory, and nothing is changed
+abbrev pub Makes : {B : Type 0} → (B → Counted) → List ℕ → Statement → Namespaces → Result B Refusal → Namespaces → Type 0
+Makes counted namespace statement old (Ok x) new =
+    (changes : List Change) × (statement (documents_of namespace old) ≡ Ok (record { matched = (counted x).matched; changes = changes })) × (length changes ≡ (counted x).changed)
+    × (new ≡ apply namespace changes old)
+Makes counted namespace statement old (Err refusal) new = ((statement (documents_of namespace old) ≡ Err refusal) ⊎ (refusal ≡ WantOfMemory)) × (new ≡ old)
+
+-- one document and one change
+abbrev pub one : Counted
+one = record { matched = 1; changed = 1 }
 
 -- the same, on the documents of a collection
-abbrev pub Alters : Statement → List (List Field) → Result ℕ Refusal → List (List Field) → Type 0
-Alters statement old (Ok matched) new = (changes : List Change) × (statement old ≡ Ok (record { matched = matched; changes = changes })) × (new ≡ with_changes old changes)
+abbrev pub Alters : Statement → List (List Field) → Result Counted Refusal → List (List Field) → Type 0
+Alters statement old (Ok counted) new =
+    (changes : List Change) × (statement old ≡ Ok (record { matched = counted.matched; changes = changes })) × (length changes ≡ counted.changed) × (new ≡ with_changes old changes)
 Alters statement old (Err refusal) new = ((statement old ≡ Err refusal) ⊎ (refusal ≡ WantOfMemory)) × (new ≡ old)
 
 module _ (namespace : List ℕ) (ordered : Bool) where
@@ -80,6 +88,6 @@ module _ (namespace : List ℕ) (ordered : Bool) where
 
 -- a write: the statements as they are defined, or cut at one of them; no reply after either
 abbrev pub Writes : Write → Namespaces → Outcome → Namespaces → Type 0
-Writes write old (Reply reply) new = (reply ≡ reply_seen (carry_out write old)) × (new ≡ (carry_out write old).namespaces)
-Writes write old (Wanting reply) new = (left : Written) × IsCut write old left × (reply ≡ reply_seen left) × (new ≡ left.namespaces)
+Writes write old (Reply reply) new = (reply ≡ reply_seen write (carry_out write old)) × (new ≡ (carry_out write old).namespaces)
+Writes write old (Wanting reply) new = (left : Written) × IsCut write old left × (reply ≡ reply_seen write left) × (new ≡ left.namespaces)
 Writes write old NoReply new = (new ≡ (carry_out write old).namespaces) ⊎ ((left : Written) × IsCut write old left × (new ≡ left.namespaces))

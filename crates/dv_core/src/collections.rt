@@ -4,21 +4,30 @@ ghost use Rattle.std.specs.Prelude.{◌≡◌, None, OnErr, IfErr};
 ghost use Rattle.std.specs.FinMap as finite;
 ghost use Rattle.std.specs.Option.{option_map};
 ghost use Rattle.dv_coll.specs.Collection.{HasId};
-ghost use Rattle.dv_command.specs.View.{deletion_seen};
+ghost use Rattle.dv_command.specs.View.{deletion_seen, updating_seen};
 ghost use Rattle.dv_core.specs.Delete.{delete_chosen};
 ghost use Rattle.dv_core.specs.Insert.{put_new};
+ghost use Rattle.dv_core.specs.Update.{update_chosen};
 ghost use Rattle.dv_core.specs.State.{collection_at, documents_of, empty_state};
 ghost use Rattle.dv_core.specs.View.{standing_seen};
-ghost use Rattle.dv_core.specs.WriteParts.{Makes};
+ghost use Rattle.dv_core.specs.WriteParts.{Makes, one};
 ghost use Rattle.dv_command.specs.declared.refusal.Refusal.TheVariants.{WantOfMemory};
 
+use crate::counted::Counted;
 use crate::delete::delete_in;
+use crate::update::update_in;
 use dv_bson::Document;
 use dv_coll::Collection;
-use dv_command::{Deletion, Refusal};
+use dv_command::{Deletion, Refusal, Updating};
 use std::alloc::Global;
 use std::collections::BTreeMap;
 use std::marker::Model;
+
+/// What a statement is counted for that does nothing.
+const NOTHING: Counted = Counted {
+    matched: 0,
+    changed: 0,
+};
 
 /// Collections, found in time logarithmic in their number.
 #[derive(Debug, Drop)]
@@ -63,7 +72,7 @@ impl Collections {
     /// collection is made.
     pub(crate) fn insert(&mut self, namespace: &str, document: Document) -> Result<(), Refusal>
         requires { HasId document }
-        ensures { Makes (λ _. 1) namespace.now (put_new document) self.old result self.new }
+        ensures { Makes (λ _. one) namespace.now (put_new document) self.old result self.new }
     {
         match self.collections.get_mut(namespace) {
             Some(collection) => Ok(collection.insert(document)?),
@@ -76,7 +85,7 @@ impl Collections {
     fn insert_first(&mut self, namespace: &str, document: Document) -> Result<(), Refusal>
         requires identified { HasId document }
         requires fresh { finite.get self.old namespace.now ≡ None }
-        ensures { Makes (λ _. 1) namespace.now (put_new document) self.old result self.new }
+        ensures { Makes (λ _. one) namespace.now (put_new document) self.old result self.new }
     {
         let mut collection = Collection::new(self.alloc);
         collection.insert(document)?;
@@ -85,14 +94,33 @@ impl Collections {
         Ok(())
     }
 
-    /// Takes out the documents of a namespace that a deletion is for, and answers how many they are. Refused where memory
-    /// is wanting; then nothing is changed.
-    pub(crate) fn delete(&mut self, namespace: &str, deletion: &Deletion) -> Result<usize, Refusal>
-        ensures { Makes (λ matched. matched) namespace.now (delete_chosen (deletion_seen deletion.now)) self.old result self.new }
+    /// Updates the documents of a namespace that an updating is for. Refused as the first of them is, and where memory is
+    /// wanting; then nothing is changed.
+    pub(crate) fn update(
+        &mut self,
+        namespace: &str,
+        updating: &Updating,
+    ) -> Result<Counted, Refusal>
+        ensures { Makes (λ counted. counted) namespace.now (update_chosen (updating_seen updating.now)) self.old result self.new }
+    {
+        match self.collections.get_mut(namespace) {
+            Some(collection) => update_in(self.alloc, collection, updating),
+            None => Ok(NOTHING),
+        }
+    }
+
+    /// Takes out the documents of a namespace that a deletion is for. Refused where memory is wanting; then nothing is
+    /// changed.
+    pub(crate) fn delete(
+        &mut self,
+        namespace: &str,
+        deletion: &Deletion,
+    ) -> Result<Counted, Refusal>
+        ensures { Makes (λ counted. counted) namespace.now (delete_chosen (deletion_seen deletion.now)) self.old result self.new }
     {
         match self.collections.get_mut(namespace) {
             Some(collection) => delete_in(self.alloc, collection, deletion),
-            None => Ok(0),
+            None => Ok(NOTHING),
         }
     }
 }

@@ -8,6 +8,7 @@ ghost use Rattle.dv_core.specs.Changes.{gone, with_changes};
 ghost use Rattle.dv_core.specs.Delete.{delete_chosen};
 ghost use Rattle.dv_core.specs.WriteParts.{Alters};
 
+use crate::counted::Counted;
 use crate::scan::matching;
 use dv_bson::{Document, NoMemory};
 use dv_coll::Collection;
@@ -15,13 +16,13 @@ use dv_command::{Deletion, Refusal};
 use dv_order::{Key, key_of};
 use std::alloc::Global;
 
-/// Takes out the documents that a deletion is for, and answers how many they are. Refused where memory is wanting; then
+/// Takes out the documents that a deletion is for. Refused where memory is wanting; then
 /// nothing is changed.
 pub(crate) fn delete_in(
     alloc: Global,
     collection: &mut Collection,
     deletion: &Deletion,
-) -> Result<usize, Refusal>
+) -> Result<Counted, Refusal>
     ensures { Alters (delete_chosen (deletion_seen deletion.now)) collection.old result collection.new }
 {
     let limit = if deletion.only_first { 1 } else { 0 };
@@ -29,7 +30,11 @@ pub(crate) fn delete_in(
     // The keys are made first: behind them nothing takes memory.
     let keys = keys_of(alloc, &documents)?;
     remove_each(collection, &keys);
-    Ok(keys.len())
+    let count = keys.len();
+    Ok(Counted {
+        matched: count,
+        changed: count,
+    })
 }
 
 /// The keys of the documents' `_id`s. Fails where memory is wanting.

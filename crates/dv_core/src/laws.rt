@@ -54,6 +54,7 @@ pub fn documents_stay_in_order()
     dv_coll::laws::removed_documents_begin_with_ids();
     dv_coll::laws::replaced_documents_ascend();
     dv_coll::laws::replaced_documents_begin_with_ids();
+    dv_update::laws::the_id_stays();
 }
 
 /// Every state that is reached is sound, if the documents that commands bring are: so it is before the first command,
@@ -69,7 +70,11 @@ pub fn states_stay_sound()
     dv_coll::laws::removed_documents_begin_with_ids();
     dv_coll::laws::replaced_documents_ascend();
     dv_coll::laws::replaced_documents_begin_with_ids();
+    dv_update::laws::the_id_stays();
+    dv_update::laws::what_comes_out_fits();
+    dv_update::laws::what_comes_out_is_valid();
     dv_command::laws::what_is_asked_is_sound();
+    dv_command::laws::the_update_of_an_entry_is_sound();
 }
 
 /// Replies can be written: that to a command that asks something, in a sound state and if the command's documents are

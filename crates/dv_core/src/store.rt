@@ -3,10 +3,11 @@
 use crate::answers::{hello, outcome_of, ping, refuse};
 use crate::collections::Collections;
 use crate::find::find_reply;
+use crate::kind::Kind;
 use crate::outcome::Outcome;
-use crate::writes::{Kind, Terms, write_all};
+use crate::writes::{Terms, write_all};
 use dv_bson::Document;
-use dv_command::{Asked, Command, Delete, Find, Insert, Refusal, parse};
+use dv_command::{Asked, Command, Delete, Find, Insert, Refusal, Update, parse};
 use std::alloc::Global;
 use std::marker::Model;
 
@@ -36,10 +37,11 @@ impl Store {
     ghost use Rattle.dv_command.specs.Replies as replies;
     ghost use Rattle.dv_core.specs.Find as finding;
     ghost use Rattle.dv_core.specs.State.{documents_of, empty_state};
-    ghost use Rattle.dv_command.specs.View.{delete_seen, find_seen, insert_seen};
+    ghost use Rattle.dv_command.specs.View.{delete_seen, find_seen, insert_seen, update_seen};
     ghost use Rattle.dv_core.specs.Delete.{delete_write};
     ghost use Rattle.dv_core.specs.Insert.{insert_write};
     ghost use Rattle.dv_core.specs.Scan.{scan};
+    ghost use Rattle.dv_core.specs.Update.{update_write};
     ghost use Rattle.dv_core.specs.Step.{MemoryStep, TellsOfWant};
     ghost use Rattle.dv_core.specs.WriteParts.{Writes};
 
@@ -65,6 +67,7 @@ impl Store {
             Ok(Asked::Hello) => outcome_of(self.alloc, hello(self.alloc)),
             Ok(Asked::Ping) => outcome_of(self.alloc, ping(self.alloc)),
             Ok(Asked::Insert(insert)) => self.insert(insert),
+            Ok(Asked::Update(update)) => self.update(update),
             Ok(Asked::Delete(delete)) => self.delete(delete),
             Ok(Asked::Find(find)) => outcome_of(self.alloc, self.find(find)),
             Err(refusal) => refuse(self.alloc, refusal),
@@ -85,6 +88,22 @@ impl Store {
             ordered,
         };
         write_all(self.alloc, &mut self.collections, &terms, documents)
+    }
+
+    fn update(&mut self, update: Update<'_>) -> Outcome
+        ensures { Writes (update_write (update_seen update.entry)) self.old.namespaces result self.new.namespaces }
+    {
+        let Update {
+            namespace,
+            entries,
+            ordered,
+        } = update;
+        let terms = Terms {
+            kind: Kind::Update,
+            namespace,
+            ordered,
+        };
+        write_all(self.alloc, &mut self.collections, &terms, entries)
     }
 
     fn delete(&mut self, delete: Delete<'_>) -> Outcome

@@ -9,20 +9,15 @@ ghost use Rattle.dv_core.specs.WriteParts.{written_seen, outcome_of, Makes, Next
 ghost use Rattle.dv_core.specs.WritesView.{statement_of, write_seen};
 
 use crate::collections::Collections;
+use crate::counted::Counted;
+use crate::kind::Kind;
 use crate::next::Next;
 use crate::outcome::Outcome;
 use crate::storable::storable;
 use crate::written::Written;
 use dv_bson::{Document, NoMemory};
-use dv_command::{Documents, Refusal, deletion_of};
+use dv_command::{Documents, Refusal, deletion_of, updating_of};
 use std::alloc::Global;
-
-/// What a write does with its entries.
-#[derive(Clone, Copy, Debug, PartialEq, Eq)]
-pub(crate) enum Kind {
-    Insert,
-    Delete,
-}
 
 /// A write but for its entries.
 #[derive(Drop)]
@@ -65,10 +60,10 @@ fn write_each(
         match write_next(alloc, collections, terms, entry, &mut written)? {
             Next::Due => {}
             Next::Ended => break,
-            Next::Cut => return Ok(Outcome::Wanting(written.reply(alloc)?)),
+            Next::Cut => return Ok(Outcome::Wanting(written.reply(alloc, terms.kind)?)),
         }
     }
-    Ok(Outcome::Reply(written.reply(alloc)?))
+    Ok(Outcome::Reply(written.reply(alloc, terms.kind)?))
 }
 
 /// Carries out the next statement, and notes what came of it. Answers what comes behind it; fails where memory is
@@ -85,28 +80,32 @@ fn write_next(
     ensures step { NextStep (string_bytes terms.now.namespace) terms.now.ordered (written_seen written.old collections.old) (statement_of terms.now.kind entry.now) result (written_seen written.new collections.new) }
 {
     match write_one(alloc, collections, terms, entry) {
-        Ok(matched) => {
-            written.count(matched);
+        Ok(counted) => {
+            written.count(counted);
             Ok(Next::Due)
         }
         Err(refusal) => written.note(alloc, terms.ordered, &refusal),
     }
 }
 
-/// Carries out one statement, and answers how many documents it is counted for. Where it is refused, nothing is changed.
+/// Carries out one statement, and answers what it is counted for. Where it is refused, nothing is changed.
 fn write_one(
     alloc: Global,
     collections: &mut Collections,
     terms: &Terms,
     entry: &Document,
-) -> Result<usize, Refusal>
-    ensures { Makes (λ matched. matched) (string_bytes terms.now.namespace) (statement_of terms.now.kind entry.now) collections.old result collections.new }
+) -> Result<Counted, Refusal>
+    ensures { Makes (λ counted. counted) (string_bytes terms.now.namespace) (statement_of terms.now.kind entry.now) collections.old result collections.new }
 {
     match terms.kind {
         Kind::Insert => {
             collections.insert(&terms.namespace, storable(alloc, entry)?)?;
-            Ok(1)
+            Ok(Counted {
+                matched: 1,
+                changed: 1,
+            })
         }
+        Kind::Update => collections.update(&terms.namespace, &updating_of(alloc, entry)?),
         Kind::Delete => collections.delete(&terms.namespace, &deletion_of(alloc, entry)?),
     }
 }

@@ -2,10 +2,12 @@
 
 ghost use Rattle.std.specs.Prelude.{◌*◌, ◌≤◌, ◌^◌};
 
+use crate::counted::Counted;
+use crate::kind::Kind;
 use crate::next::{Next, error_of, next_behind};
 use dv_bson::{Document, NoMemory, Value};
 use dv_command::Refusal;
-use dv_command::replies::write_reply;
+use dv_command::replies::{update_reply, write_reply};
 use std::alloc::Global;
 
 /// How many statements were looked at, how many documents those that were carried out are counted for, and the errors
@@ -14,17 +16,21 @@ use std::alloc::Global;
 pub(crate) struct Written {
     statements: usize,
     n: u128,
+    changed: u128,
     errors: Vec<Value>,
-    // Each statement is counted for no more documents than a collection can have.
-    ghost counted: { n ≤ statements * 2 ^ 64 },
+    // Each statement is counted for no more documents than a collection can have, and changes no more.
+    ghost few_counted: { n ≤ statements * 2 ^ 64 },
+    ghost few_changed: { changed ≤ statements * 2 ^ 64 },
 }
 
 impl Written {
-    ghost use Rattle.std.specs.Prelude.{◌≡◌, ◌<◌, IfOk};
+    ghost use Rattle.std.specs.Prelude.{◌≡◌, ◌<◌, IfOk, map};
     ghost use Rattle.dv_command.specs.Asked.{statement_limit};
-    ghost use Rattle.dv_core.specs.State.{Namespaces, empty_state};
+    ghost use Rattle.dv_core.specs.State.{Namespaces};
     ghost use Rattle.dv_core.specs.Statements.{nothing_written};
-    ghost use Rattle.dv_core.specs.WriteParts.{written_seen, with_matched, reply_seen, Notes};
+    ghost use Rattle.dv_core.specs.WriteParts.{written_seen, with_counted, Notes};
+    ghost use Rattle.dv_core.specs.WritesView.{reply_by};
+    ghost use Rattle.dv_bson.specs.View.{tree};
 
     /// No statement so far.
     pub(crate) fn new(alloc: Global) -> Self
@@ -33,17 +39,19 @@ impl Written {
         Written {
             statements: 0,
             n: 0,
+            changed: 0,
             errors: Vec::new(alloc),
         }
     }
 
-    /// Counts a statement that was carried out, for so many documents. Fewer than 100,000 statements came before.
-    pub(crate) fn count(&mut self, matched: usize)
+    /// Counts a statement that was carried out. Fewer than 100,000 statements came before.
+    pub(crate) fn count(&mut self, counted: Counted)
         requires { self.old.statements < statement_limit }
-        ensures { (namespaces : Namespaces) → written_seen self.new namespaces ≡ with_matched (written_seen self.old namespaces) matched }
+        ensures { (namespaces : Namespaces) → written_seen self.new namespaces ≡ with_counted (written_seen self.old namespaces) counted }
     {
         self.statements += 1;
-        self.n += matched as u128;
+        self.n += counted.matched as u128;
+        self.changed += counted.changed as u128;
     }
 
     /// Notes a statement that was refused, and answers what comes behind it; one that found no memory made none of its
@@ -63,12 +71,19 @@ impl Written {
         Ok(next_behind(ordered, refusal))
     }
 
-    /// The reply. Fails where memory is wanting.
-    pub(crate) fn reply(self, alloc: Global) -> Result<Document, NoMemory>
-        // The reply is the same whatever stands.
-        ensures { IfOk result (λ reply. reply ≡ reply_seen (written_seen self empty_state.namespaces)) }
+    /// The reply of a write. Fails where memory is wanting.
+    pub(crate) fn reply(self, alloc: Global, kind: Kind) -> Result<Document, NoMemory>
+        ensures { IfOk result (λ reply. reply ≡ reply_by kind self.n self.changed (map tree self.errors.items)) }
     {
-        let Written { n, errors, .. } = self;
-        write_reply(alloc, n, errors)
+        let Written {
+            n,
+            changed,
+            errors,
+            ..
+        } = self;
+        match kind {
+            Kind::Insert | Kind::Delete => write_reply(alloc, n, errors),
+            Kind::Update => update_reply(alloc, n, changed, errors),
+        }
     }
 }

@@ -12,8 +12,8 @@ returns c =
       | then-deletion w ↦ rw (w.limit-is, w.if-deletion.true) refl
       | else-deletion w ↦ rw (w.limit-is, w.if-deletion.false) refl
     ] in
-    let counts : c.len.result ≡ length c.in_ok-keys.keys.items = grind (arith, common_steps, c.len.ensures) in
+    let counts : c.len-count.result ≡ length c.in_ok-keys.keys.items = grind (arith, common_steps, c.len-count.ensures) in
     let finds = c.in_ok-documents.ensures.rows in
     let keyed = rw c.deref.ensures.value at c.in_ok-keys.ensures in
     let leaves = rw c.deref-2.ensures.value at c.remove_each.ensures in
-    deletes (deletion_seen c.args.deletion.now) c.args.collection.now c.remove_each.new.collection c.in_ok-documents.documents.items c.in_ok-keys.keys.items c.if-deletion.limit c.len.result limits finds keyed counts leaves
+    deletes (deletion_seen c.args.deletion.now) c.args.collection.now c.remove_each.new.collection c.in_ok-documents.documents.items c.in_ok-keys.keys.items c.if-deletion.limit c.len-count.result limits finds keyed counts leaves

@@ -12,6 +12,7 @@ returns-clause-after c =
       removed_ascend = c.removed_documents_ascend.ensures;
       removed_ids = c.removed_documents_begin_with_ids.ensures;
       replaced_ascend = c.replaced_documents_ascend.ensures;
+      id_stays = c.the_id_stays.ensures;
       replaced_ids = c.replaced_documents_begin_with_ids.ensures;
     } in
     steps_ordered laws

@@ -1,6 +1,7 @@
-use Rattle.std.proofs.Common.{ap, refl, ◌∙◌}
+use Rattle.std.proofs.Common.{ℕ, suc, ◌+◌, ap, refl, sym, ◌∙◌}
 use Rattle.std.specs.String.{string_bytes}
-use Rattle.dv_core.specs.WriteParts.{written_seen, with_matched}
+use Rattle.dv_core.specs.WriteParts.{written_seen, with_counted}
+use Rattle.dv_core.specs.Changes.{apply}
 use Rattle.dv_core.specs.State.{Namespaces}
 use Rattle.dv_core.specs.WritesView.{statement_of}
 use Rattle.dv_core.proofs.Statements.{next_made, next_noted}
@@ -9,11 +10,13 @@ use Rattle.dv_core.proofs.writes.write_next.Goals as goal
 pub returns-in-Ok : goal.returns-in-Ok
 returns-in-Ok c =
     let terms = c.args.terms.now in
-    let (changes, made, leaves) = c.in-Ok.ensures in
-    let stands = c.count.ensures c.write_one.new.collections ∙ ap (λ (ns : Namespaces). with_matched (written_seen c.args.written.now ns) c.in-Ok.matched) leaves in
+    let (changes, made, many, leaves) = c.in-Ok.ensures in
+    let old = c.args.written.now in
+    let stands = c.count.ensures c.write_one.new.collections ∙ ap (λ (ns : Namespaces). with_counted (written_seen old ns) c.in-Ok.counted) leaves
+        ∙ ap (λ (n : ℕ). record (written_seen old (apply (string_bytes terms.namespace) changes c.args.collections.now)) { statements = suc old.statements; n = old.n + c.in-Ok.counted.matched; changed = old.changed + n }) (sym many) in
     record {
       step = next_made (string_bytes terms.namespace) terms.ordered (written_seen c.args.written.now c.args.collections.now)
-          (written_seen c.count.new.self c.write_one.new.collections) (statement_of terms.kind c.args.entry.now) c.in-Ok.matched changes c.requires.due made stands;
+          (written_seen c.count.new.self c.write_one.new.collections) (statement_of terms.kind c.args.entry.now) c.in-Ok.counted.matched changes c.requires.due made stands;
     }
 
 pub returns-in-Err : goal.returns-in-Err

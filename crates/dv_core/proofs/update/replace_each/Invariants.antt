@@ -1,0 +1,15 @@
+use Rattle.std.proofs.Common.{◌≡◌, map}
+use Rattle.std.specs.List.{AllByRecursion}
+use Rattle.std.specs.Vec.Iter.{into_iter_items}
+use Rattle.dv_coll.specs.Collection.{HasId}
+use Rattle.dv_core.specs.Changes.{put, with_changes}
+use Rattle.dv_core.specs.UpdateParts.{AreThere}
+use Rattle.dv_core.proofs.update.replace_each.Given as goal
+
+-- what is left to be put, into what is there now
+abbrev pub invariant-documents : goal.invariant-documents
+invariant-documents l = record {
+  replaced : with_changes l.collection (map put (into_iter_items l.document-iterator)) ≡ with_changes l.fn.collection (map put l.fn.documents.items);
+  identified : AllByRecursion HasId (into_iter_items l.document-iterator);
+  there : AreThere l.collection (into_iter_items l.document-iterator);
+}
