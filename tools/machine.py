@@ -37,7 +37,7 @@ LINE = re.compile(rb"(?s:#.*)?|(0|[1-9][0-9]{0,2}) (?:(end)|([0-9A-Fa-f]{2}(?: *
 
 # What docd may have beside `ping`, `insert` and a find of all documents; `find` stands for all fields of it.
 CHOICES = ["hello", "find", "delete", "update", "aggregate", "create", "drop", "group", "lookup"]
-AT_HAND = ["hello", "find", "delete"]
+AT_HAND = ["hello", "find", "update", "delete"]
 commands = set(AT_HAND)
 
 # Fields that every command takes and that change nothing.

@@ -351,3 +351,53 @@ fn documents_are_found_in_order_and_deleted(rt: HostRuntime) -> Result<(), Fail>
     }
     Ok(())
 }
+
+/// Commands of updates, one after the other, and the replies to them.
+const UPDATES: [(&[u8], &[u8]); 7] = [
+    // Two numbers.
+    (
+        b"^\0\0\0\x02insert\0\x02\0\0\0c\0\x04documents\05\0\0\0\x030\0\x15\0\0\0\x10_id\0\x01\0\0\0\x10v\0\xff\xff\xff\x7f\0\x031\0\x15\0\0\0\x10_id\0\x02\0\0\0\x10v\0\x02\0\0\0\0\0\x02$db\0\x02\0\0\0t\0\0",
+        b"\x14\0\0\0\x10n\0\x02\0\0\0\x10ok\0\x01\0\0\0\0",
+    ),
+    // One is added to each: a sum that 32 bits don't hold has 64.
+    (
+        b"^\0\0\0\x02update\0\x02\0\0\0c\0\x04updates\07\0\0\0\x030\0/\0\0\0\x03q\0\x05\0\0\0\0\x03u\0\x17\0\0\0\x03$inc\0\x0c\0\0\0\x10v\0\x01\0\0\0\0\0\x08multi\0\x01\0\0\x02$db\0\x02\0\0\0t\0\0",
+        b"#\0\0\0\x10n\0\x02\0\0\0\x10nModified\0\x02\0\0\0\x10ok\0\x01\0\0\0\0",
+    ),
+    // What is there is set again: it matches and isn't changed.
+    (
+        b"_\0\0\0\x02update\0\x02\0\0\0c\0\x04updates\08\0\0\0\x030\00\0\0\0\x03q\0\x0e\0\0\0\x10_id\0\x02\0\0\0\0\x03u\0\x17\0\0\0\x03$set\0\x0c\0\0\0\x10v\0\x03\0\0\0\0\0\0\0\x02$db\0\x02\0\0\0t\0\0",
+        b"#\0\0\0\x10n\0\x01\0\0\0\x10nModified\0\0\0\0\0\x10ok\0\x01\0\0\0\0",
+    ),
+    // A text.
+    (
+        b"H\0\0\0\x02insert\0\x02\0\0\0c\0\x04documents\0\x1f\0\0\0\x030\0\x17\0\0\0\x10_id\0\x03\0\0\0\x02v\0\x02\0\0\0x\0\0\0\x02$db\0\x02\0\0\0t\0\0",
+        b"\x14\0\0\0\x10n\0\x01\0\0\0\x10ok\0\x01\0\0\0\0",
+    ),
+    // One can't be added to it, so nothing is added at all.
+    (
+        b"^\0\0\0\x02update\0\x02\0\0\0c\0\x04updates\07\0\0\0\x030\0/\0\0\0\x03q\0\x05\0\0\0\0\x03u\0\x17\0\0\0\x03$inc\0\x0c\0\0\0\x10v\0\x01\0\0\0\0\0\x08multi\0\x01\0\0\x02$db\0\x02\0\0\0t\0\0",
+        b"k\0\0\0\x10n\0\0\0\0\0\x10nModified\0\0\0\0\0\x04writeErrors\0;\0\0\0\x030\03\0\0\0\x10index\0\0\0\0\0\x10code\0\x0e\0\0\0\x02errmsg\0\x0d\0\0\0TypeMismatch\0\0\0\x10ok\0\x01\0\0\0\0",
+    ),
+    // A replacement keeps the `_id`; the first that matches is replaced.
+    (
+        b"_\0\0\0\x02update\0\x02\0\0\0c\0\x04updates\08\0\0\0\x030\00\0\0\0\x03q\0\x19\0\0\0\x03v\0\x11\0\0\0\x02$gte\0\x02\0\0\0x\0\0\0\x03u\0\x0c\0\0\0\x10w\0\x01\0\0\0\0\0\0\x02$db\0\x02\0\0\0t\0\0",
+        b"#\0\0\0\x10n\0\x01\0\0\0\x10nModified\0\x01\0\0\0\x10ok\0\x01\0\0\0\0",
+    ),
+    // What stands.
+    (
+        b"\x1c\0\0\0\x02find\0\x02\0\0\0c\0\x02$db\0\x02\0\0\0t\0\0",
+        b"\x8f\0\0\0\x03cursor\0z\0\0\0\x04firstBatch\0Q\0\0\0\x030\0\x19\0\0\0\x10_id\0\x01\0\0\0\x12v\0\0\0\0\x80\0\0\0\0\0\x031\0\x15\0\0\0\x10_id\0\x02\0\0\0\x10v\0\x03\0\0\0\0\x032\0\x15\0\0\0\x10_id\0\x03\0\0\0\x10w\0\x01\0\0\0\0\0\x12id\0\0\0\0\0\0\0\0\0\x02ns\0\x04\0\0\0t.c\0\0\x10ok\0\x01\0\0\0\0",
+    ),
+];
+
+#[test]
+fn documents_are_updated_all_or_none(rt: HostRuntime) -> Result<(), Fail> {
+    let alloc = rt.alloc();
+    let mut store = Store::new(alloc);
+    for (body, reply) in UPDATES {
+        let (body, _) = read_document(alloc, body)?;
+        assert_eq!(rt; told(alloc, &mut store, body)?.as_slice(), reply);
+    }
+    Ok(())
+}

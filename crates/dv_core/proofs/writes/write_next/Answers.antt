@@ -13,7 +13,7 @@ returns-in-Ok c =
     let (changes, made, many, leaves) = c.in-Ok.ensures in
     let old = c.args.written.now in
     let stands = c.count.ensures c.write_one.new.collections ∙ ap (λ (ns : Namespaces). with_counted (written_seen old ns) c.in-Ok.counted) leaves
-        ∙ ap (λ (n : ℕ). record (written_seen old (apply (string_bytes terms.namespace) changes c.args.collections.now)) { statements = suc old.statements; n = old.n + c.in-Ok.counted.matched; changed = old.changed + n }) (sym many) in
+    ∙ ap (λ (n : ℕ). record (written_seen old (apply (string_bytes terms.namespace) changes c.args.collections.now)) { statements = suc old.statements; n = old.n + c.in-Ok.counted.matched; changed = old.changed + n }) (sym many) in
     record {
       step = next_made (string_bytes terms.namespace) terms.ordered (written_seen c.args.written.now c.args.collections.now)
           (written_seen c.count.new.self c.write_one.new.collections) (statement_of terms.kind c.args.entry.now) c.in-Ok.counted.matched changes c.requires.due made stands;
