@@ -12,22 +12,15 @@ import random
 import bson
 from bson.int64 import Int64
 
-from measuring import LINE_BYTES, check_tools, heads, least, lines, message, parts, print_pings, row, seconds
+from measuring import LINE_BYTES, WORDS, check_tools, heads, least, lines, message, parts, person, print_pings, row, seconds
 
 MOST_BYTES = 16_777_216  # of the documents in one answer
-WORDS = "amber birch cedar dune elder fern grove heath iris juniper kelp larch moss nettle oak pine reed sage".split()
 
 
 def document(rng, identity):
     """A document of ten fields and some 200 bytes."""
     return {
-        "_id": identity,
-        "name": " ".join(rng.choices(WORDS, k=2)),
-        "city": rng.choice(WORDS),
-        "age": rng.randrange(18, 100),
-        "balance": Int64(rng.randrange(10**12)),
-        "active": rng.random() < 0.5,
-        "tags": rng.choices(WORDS, k=2),
+        **person(rng, identity),
         "address": {"street": rng.choice(WORDS), "number": rng.randrange(200)},
         "score": rng.randrange(10**6),
         "note": " ".join(rng.choices(WORDS, k=4)),

@@ -123,12 +123,9 @@ def loaded(documents):
 WORDS = "amber birch cedar dune elder fern grove heath iris juniper kelp larch moss nettle oak pine reed sage".split()
 
 
-def documents_to_find(count):
-    """Documents of ten fields and some 250 bytes. `serial` is another number below `count` in each, `bucket` one of a
-    thousand, and each of two items has one of two thousand numbers."""
-    rng = random.Random(count)
-    serials = rng.sample(range(count), count)
-    return [{
+def person(rng, identity):
+    """The fields that the documents of inserts and of finds share."""
+    return {
         "_id": identity,
         "name": " ".join(rng.choices(WORDS, k=2)),
         "city": rng.choice(WORDS),
@@ -136,6 +133,16 @@ def documents_to_find(count):
         "balance": Int64(rng.randrange(10**12)),
         "active": rng.random() < 0.5,
         "tags": rng.choices(WORDS, k=2),
+    }
+
+
+def documents_to_find(count):
+    """Documents of ten fields and some 250 bytes. `serial` is another number below `count` in each, `bucket` one of a
+    thousand, and each of two items has one of two thousand numbers."""
+    rng = random.Random(count)
+    serials = rng.sample(range(count), count)
+    return [{
+        **person(rng, identity),
         "items": [{"item": rng.randrange(2_000), "count": rng.randrange(10)} for _ in range(2)],
         "serial": serials[identity],
         "bucket": rng.randrange(1_000),
