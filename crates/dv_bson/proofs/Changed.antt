@@ -34,6 +34,18 @@ module _ (name : List ℕ) where
   pub without-nowhere : (fs : List Field) → place_under name fs ≡ None → without name fs ≡ fs
   without-nowhere fs none = all_from 0 fs none
 
+  pub value_missing : (fs : List Field) → has_name name fs ≡ false → value_under name fs ≡ None
+  value_missing [] none = refl
+  value_missing (f ∷ fs) none = grind (arith, value_missing fs)
+
+  pub put_missing : (v : Tree) (fs : List Field) → has_name name fs ≡ false → with_value_under name v fs ≡ fs
+  put_missing v [] none = refl
+  put_missing v (f ∷ fs) none = grind (arith, put_missing v fs)
+
+  pub without_missing : (fs : List Field) → has_name name fs ≡ false → without name fs ≡ fs
+  without_missing [] none = refl
+  without_missing (f ∷ fs) none = grind (arith, without_missing fs)
+
 -- ---- the field at a place has the name
 
 module _ (name : List ℕ) where

@@ -15,6 +15,7 @@ pub mod Fronts
 pub mod Shorter
 pub mod Elements
 pub mod Loop
+pub mod Turns
 pub mod Items
 pub mod Zipped
 pub mod Payloads

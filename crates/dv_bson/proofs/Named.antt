@@ -65,4 +65,4 @@ module _ (name : List ℕ) where
   value_nowhere fs found = nowhere_from 0 fs found
 
 -- for `push`: what the search for a name says of it
-pub ruleset places = (zero_names_none, is_some-place)
+pub ruleset places = (zero_names_none)

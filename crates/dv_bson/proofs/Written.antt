@@ -1,5 +1,6 @@
 -- Bytes that are appended, and a length that is put in front of them.
 use Rattle.std.proofs.Common.{◌≡◌, ℕ, ◌+◌, ◌-◌, ◌≤◌, cond, Result, Ok, Err, List, [], ◌∷◌, ◌++◌, length, take, drop, refl, sym, ap, ◌∙◌, append_assoc, length-append, length-take, length-drop, arith}
+use Rattle.std.proofs.Math.Seq.{take-length}
 use Rattle.std.specs.Int.{w32, to_le_bytes}
 use Rattle.std.specs.Result.{OnOk, is_ok}
 use Rattle.std.proofs.lemmas.List.{append-nil, take_all, take_at, take-take, drop_at, drop_all, drop-drop, take-append-le, drop-append-le}
@@ -24,6 +25,11 @@ front_append old out bytes front =
 pub appended : {T E : Type 0} (result : Result T E) (old new bytes same : List ℕ) → new ≡ cond (is_ok result) (old ++ bytes) old → bytes ≡ same → OnOk result (new ≡ old ++ same)
 appended (Ok x) old new bytes same is e = is ∙ ap (λ (part : List ℕ). old ++ part) e
 appended (Err d) old new bytes same is e = tt
+
+-- what stood before stays, whether a part is appended or memory is wanting
+pub kept : {T E : Type 0} (result : Result T E) (old new bytes : List ℕ) → new ≡ cond (is_ok result) (old ++ bytes) old → take (length old) new ≡ old
+kept (Ok x) old new bytes is = rw is (front_append old old bytes (take-length old))
+kept (Err d) old new bytes is = rw is (take-length old)
 
 -- one part more of what is left to write
 pub left_more : (out new part left rest whole : List ℕ) → new ≡ out ++ part → left ≡ part ++ rest → out ++ left ≡ whole → new ++ rest ≡ whole

@@ -9,18 +9,22 @@ use Rattle.dv_bson.specs.declared.fault.BsonFault.TheVariants.{Truncated, BadLen
 abbrev pub hex_byte : ℕ → List ℕ
 hex_byte b = digit_glyph false (b / 16) ∷ digit_glyph false (b % 16) ∷ []
 
+abbrev pub fault_name : BsonFault → List ℕ
+fault_name Truncated = codes "Truncated"
+fault_name BadLength = codes "BadLength"
+fault_name (RefusedType byte at) = codes "RefusedType"
+fault_name BadUtf8 = codes "BadUtf8"
+fault_name BadBool = codes "BadBool"
+fault_name BadArrayName = codes "BadArrayName"
+fault_name RepeatedName = codes "RepeatedName"
+fault_name TooDeep = codes "TooDeep"
+fault_name TooLarge = codes "TooLarge"
+fault_name NoMemory = codes "NoMemory"
+fault_name BadName = codes "BadName"
+
 abbrev pub fault_text : BsonFault → List ℕ
-fault_text Truncated = codes "Truncated"
-fault_text BadLength = codes "BadLength"
 fault_text (RefusedType byte at) = codes "RefusedType 0x" ++ hex_byte byte ++ codes " at " ++ decimal at
-fault_text BadUtf8 = codes "BadUtf8"
-fault_text BadBool = codes "BadBool"
-fault_text BadArrayName = codes "BadArrayName"
-fault_text RepeatedName = codes "RepeatedName"
-fault_text TooDeep = codes "TooDeep"
-fault_text TooLarge = codes "TooLarge"
-fault_text NoMemory = codes "NoMemory"
-fault_text BadName = codes "BadName"
+fault_text fault = fault_name fault
 
 abbrev pub fault_number : BsonFault → ℕ
 fault_number Truncated = 1

@@ -42,7 +42,26 @@ pub enum BsonFault {
 }
 
 impl BsonFault {
-    ghost use Rattle.dv_bson.specs.Fault.{fault_number};
+    ghost use Rattle.dv_bson.specs.Fault.{fault_name, fault_number};
+
+    /// The fault's name.
+    fn name(&self) -> &'static str
+        ensures { result.now ≡ fault_name self.now }
+    {
+        match self {
+            BsonFault::Truncated => "Truncated",
+            BsonFault::BadLength => "BadLength",
+            BsonFault::RefusedType { .. } => "RefusedType",
+            BsonFault::BadUtf8 => "BadUtf8",
+            BsonFault::BadBool => "BadBool",
+            BsonFault::BadArrayName => "BadArrayName",
+            BsonFault::RepeatedName => "RepeatedName",
+            BsonFault::TooDeep => "TooDeep",
+            BsonFault::TooLarge => "TooLarge",
+            BsonFault::NoMemory => "NoMemory",
+            BsonFault::BadName => "BadName",
+        }
+    }
 
     /// The fault's number, from 1 to 11 in the order in which the faults are declared.
     pub fn number(&self) -> u8
@@ -72,17 +91,8 @@ impl fmt::Display for BsonFault {
 
     fn fmt<W: fmt::Write>(&self, f: &mut fmt::Formatter<W>) -> fmt::Result {
         match *self {
-            BsonFault::Truncated => write!(f, "Truncated"),
-            BsonFault::BadLength => write!(f, "BadLength"),
             BsonFault::RefusedType { byte, at } => write!(f, "RefusedType 0x{byte:02x} at {at}"),
-            BsonFault::BadUtf8 => write!(f, "BadUtf8"),
-            BsonFault::BadBool => write!(f, "BadBool"),
-            BsonFault::BadArrayName => write!(f, "BadArrayName"),
-            BsonFault::RepeatedName => write!(f, "RepeatedName"),
-            BsonFault::TooDeep => write!(f, "TooDeep"),
-            BsonFault::TooLarge => write!(f, "TooLarge"),
-            BsonFault::NoMemory => write!(f, "NoMemory"),
-            BsonFault::BadName => write!(f, "BadName"),
+            _ => f.write_str(self.name()),
         }
     }
 }

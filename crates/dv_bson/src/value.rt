@@ -274,7 +274,6 @@ impl Document {
     /// Adds a field at the end. Refused with `BadName` where the name holds a zero byte, with
     /// `RepeatedName` where a field has it, and with `NoMemory`; then nothing is changed, and the value is
     /// dropped.
-    #[tactic(auto, using(crate::proofs::Named::places))]
     pub fn push(&mut self, name: &str, value: Value) -> Result<(), BsonFault>
         ensures ok { OnOk result (self.new ≡ self.old ++ (name.now, tree value) ∷ []) }
         ensures err { OnErr result (self.new ≡ self.old) }
@@ -283,24 +282,33 @@ impl Document {
         ensures repeated { IsErrOf result BsonFault.RepeatedName ↔ (has_name name.now self.old ≡ true) }
         ensures other { IfErr result (λ e. (e ≡ BsonFault.BadName) ⊎ (e ≡ BsonFault.RepeatedName) ⊎ (e ≡ BsonFault.NoMemory)) }
     {
-        if self.place_of(name).is_some() {
+        self.check_new(name)?;
+        Ok(self.add(name, value)?)
+    }
+
+    /// Whether a field with the name can be added, or why it can't be.
+    #[tactic(auto, using(crate::proofs::Named::places))]
+    fn check_new(&self, name: &str) -> Result<(), BsonFault>
+        ensures ok { OnOk result ((has_zero name.now ≡ false) × (has_name name.now self.now ≡ false)) }
+        ensures err { IfErr result (λ e. ((e ≡ BsonFault.BadName) × (has_zero name.now ≡ true) × (has_name name.now self.now ≡ false)) ⊎ ((e ≡ BsonFault.RepeatedName) × (has_name name.now self.now ≡ true) × (has_zero name.now ≡ false))) }
+    {
+        if self.has(name) {
             return Err(BsonFault::RepeatedName);
         }
         if name.as_bytes().contains(&0) {
             return Err(BsonFault::BadName);
         }
-        self.add(name, value)?;
         Ok(())
     }
 
-    /// The place of the field with the name, where there is one.
-    fn place_of(&self, name: &str) -> Option<usize>
-        ensures place { result ≡ place_under name.now self.now }
+    /// Whether a field has the name.
+    fn has(&self, name: &str) -> bool
+        ensures has { result ≡ has_name name.now self.now }
         ensures named { AreNamed self.now }
     {
         match &self.fields {
-            Some(fields) => fields.place_of(name),
-            None => None,
+            Some(fields) => fields.has(name),
+            None => false,
         }
     }
 
@@ -312,20 +320,13 @@ impl Document {
         ensures ok { OnOk result (self.new ≡ self.old ++ (name.now, tree value) ∷ []) }
         ensures err { OnErr result (self.new ≡ self.old) }
     {
-        let alloc = self.alloc;
-        let Some(shared) = &mut self.fields else {
-            let mut fields = Fields::with_room(alloc, 1)?;
-            fields.add(name, value)?;
-            self.fields = Some(Rc::new(alloc, fields)?);
-            return Ok(());
-        };
-        if let Some(fields) = Rc::get_mut(shared) {
-            return fields.add(name, value);
+        match &mut self.fields {
+            Some(shared) => Rc::make_mut(shared)?.add(name, value),
+            None => {
+                self.fields = Some(first_field(self.alloc, name, value)?);
+                Ok(())
+            }
         }
-        let mut fields = shared.try_clone()?;
-        fields.add(name, value)?;
-        *shared = Rc::new(alloc, fields)?;
-        Ok(())
     }
 
     /// Puts the value in place of the one under the name, and gives that one. Where no field has the name there is none,
@@ -336,20 +337,14 @@ impl Document {
         ensures ok { OnOk result (self.new ≡ with_value_under name.now (tree value) self.old) }
         ensures err { OnErr result (self.new ≡ self.old) }
     {
-        let alloc = self.alloc;
-        let Some(shared) = &mut self.fields else {
-            return Ok(None);
-        };
-        if let Some(fields) = Rc::get_mut(shared) {
-            return Ok(fields.replace(name, value));
-        }
-        if shared.place_of(name).is_none() {
+        if !self.has(name) {
+            drop(value);
             return Ok(None);
         }
-        let mut fields = shared.try_clone()?;
-        let before = fields.replace(name, value);
-        *shared = Rc::new(alloc, fields)?;
-        Ok(before)
+        match &mut self.fields {
+            Some(shared) => Ok(Rc::make_mut(shared)?.replace(name, value)),
+            None => unreachable!(),
+        }
     }
 
     /// Takes away the field with the name, and gives its value. Where no field has the name there is none, and nothing is
@@ -359,20 +354,13 @@ impl Document {
         ensures ok { OnOk result (self.new ≡ without name.now self.old) }
         ensures err { OnErr result (self.new ≡ self.old) }
     {
-        let alloc = self.alloc;
-        let Some(shared) = &mut self.fields else {
-            return Ok(None);
-        };
-        if let Some(fields) = Rc::get_mut(shared) {
-            return fields.remove(name);
-        }
-        if shared.place_of(name).is_none() {
+        if !self.has(name) {
             return Ok(None);
         }
-        let mut fields = shared.try_clone()?;
-        let before = fields.remove(name)?;
-        *shared = Rc::new(alloc, fields)?;
-        Ok(before)
+        match &mut self.fields {
+            Some(shared) => Rc::make_mut(shared)?.remove(name),
+            None => unreachable!(),
+        }
     }
 
     /// Lets the names of the fields lie where those of the other document do, if these are the same, or no more than as
@@ -390,24 +378,19 @@ impl Document {
     fn share_names_within(&mut self, with: &Document, levels: u32)
         ensures { self.new ≡ self.old }
     {
-        let alloc = self.alloc;
         let Some(shared) = &mut self.fields else {
             return;
         };
         let Some(others) = &with.fields else {
             return;
         };
-        if let Some(own) = Rc::get_mut(shared) {
-            own.share_names(others, levels);
+        if !gains_names(shared, others) {
             return;
         }
-        if Rc::strong_count(&shared.names) == 1
-            && shared.names.begins_as(&others.names, shared.values.len())
-        {
-            if let Ok(copy) = shared.copy_beside(alloc, others, levels) {
-                *shared = copy;
-            }
-        }
+        let Ok(own) = Rc::make_mut(shared) else {
+            return;
+        };
+        own.share_names(others, levels);
     }
 
     /// The name and the value of a field that is there.
@@ -518,7 +501,8 @@ impl Fields {
 
     /// Whether a field has the name. One look where it is the name that was to be expected.
     pub(crate) fn has(&self, name: &str) -> bool
-        ensures { result ≡ has_name name.now self.now }
+        ensures has { result ≡ has_name name.now self.now }
+        ensures named { AreNamed self.now }
     {
         let place = self.values.len();
         if place < self.names.len() && self.names.is_at(place, name) {
@@ -580,21 +564,6 @@ impl Fields {
         share_inner_names(&mut self.values, &other.values, levels);
     }
 
-    /// A copy that shares the other's names, where they are the same. Fails where memory is wanting.
-    #[cycle(sharing)]
-    fn copy_beside(
-        &self,
-        alloc: Global,
-        other: &Fields,
-        levels: u32,
-    ) -> Result<Rc<Fields>, NoMemory>
-        ensures { IfOk result (λ copy. copy.value ≡ self.now) }
-    {
-        let mut copy = self.try_clone()?;
-        copy.share_names(other, levels);
-        Ok(Rc::new(alloc, copy)?)
-    }
-
     /// Gives back what room is left, where that can be done.
     fn trim(&mut self)
         ensures { self.new ≡ self.old }
@@ -623,13 +592,48 @@ impl Fields {
     fn try_clone(&self) -> Result<Self, NoMemory>
         ensures { IfOk result (λ copy. copy ≡ self.now) }
     {
-        let mut values = Vec::with_capacity(*self.values.allocator(), self.values.len())?;
-        for value in &self.values {
-            values.push(value.try_clone()?)?;
-        }
-        let names = self.names.clone()?;
-        Ok(Fields { names, values })
+        Ok(Fields {
+            names: self.names.clone()?,
+            values: copies_of(&self.values)?,
+        })
     }
+}
+
+impl Clone for Fields {
+    ghost is_clone = { λ fields copy. copy ≡ fields };
+
+    fn clone(&self) -> Result<Self, NoMemory> {
+        self.try_clone()
+    }
+}
+
+/// Copies of the values, in order. Fails where memory is wanting.
+#[cycle(value)]
+fn copies_of(values: &Vec<Value>) -> Result<Vec<Value>, NoMemory>
+    ensures { IfOk result (λ copies. map tree copies.items ≡ map tree values.now.items) }
+{
+    let mut copies = Vec::with_capacity(*values.allocator(), values.len())?;
+    for value in values {
+        copies.push(value.try_clone()?)?;
+    }
+    Ok(copies)
+}
+
+/// One field, whose name holds no zero byte. Fails where memory is wanting.
+fn first_field(alloc: Global, name: &str, value: Value) -> Result<Rc<Fields>, NoMemory>
+    requires { has_zero name.now ≡ false }
+    ensures { IfOk result (λ fields. fields.value ≡ (name.now, tree value) ∷ []) }
+{
+    let mut fields = Fields::with_room(alloc, 1)?;
+    fields.add(name, value)?;
+    Ok(Rc::new(alloc, fields)?)
+}
+
+/// Whether the fields may take the other's names: where no copy shares them, or names that no other document has could go.
+fn gains_names(fields: &Rc<Fields>, other: &Fields) -> bool {
+    Rc::strong_count(fields) == 1
+        || (Rc::strong_count(&fields.names) == 1
+            && fields.names.begins_as(&other.names, fields.values.len()))
 }
 
 /// Lets the names of the documents among these values lie where those of the documents at their places do.
@@ -716,10 +720,8 @@ impl List {
     pub fn try_clone(&self) -> Result<Self, NoMemory>
         ensures { IfOk result (λ copy. copy ≡ self.now) }
     {
-        let mut values = Vec::with_capacity(*self.values.allocator(), self.values.len())?;
-        for value in &self.values {
-            values.push(value.try_clone()?)?;
-        }
-        Ok(List { values })
+        Ok(List {
+            values: copies_of(&self.values)?,
+        })
     }
 }

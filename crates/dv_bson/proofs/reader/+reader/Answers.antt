@@ -5,6 +5,7 @@ use Rattle.dv_bson.specs.Parts.{numbered}
 use Rattle.dv_bson.proofs.Shorter.{behind_name, frame_within}
 use Rattle.dv_bson.proofs.Elements.{field_may_be_added, array_read, numbered_push}
 use Rattle.dv_bson.proofs.Loop.{shorter, goes_on, ends, is_done, starts, too_deep, some_left, none_left}
+use Rattle.dv_bson.proofs.Turns.{fails_kind, fails_name, fails_value, gives_field, gives_element}
 use Rattle.dv_bson.proofs.reader.+reader.Goals as goal
 
 -- ---- an element
@@ -20,6 +21,37 @@ element_of-overflow_sub-at t c = behind_name _ _ _ _ _ _ c.in_ok-kind.ensures c.
 
 pub element_of-value_of-requires : goal.element_of-value_of-requires
 element_of-value_of-requires t c = (search rules, omega (arith, c.requires, behind_name _ _ _ _ _ _ c.in_ok-kind.ensures c.in_ok-rest.ensures))
+
+pub field_of-returns-in_err-kind : goal.field_of-returns-in_err-kind
+field_of-returns-in_err-kind t c =
+    let p = err_from_is_err_and c.from_residual.result c.from_residual.ensures.1 in
+    rw (p.1, p.2) (fails_kind _ _ _ _ _ _ c.in_err-kind.ensures)
+
+pub field_of-returns-in_err-name : goal.field_of-returns-in_err-name
+field_of-returns-in_err-name t c =
+    let p = err_from_is_err_and c.from_residual-in_err-name.result c.from_residual-in_err-name.ensures.1 in
+    rw (p.1, p.2) (fails_name _ _ _ _ _ _ c.in_ok-kind.ensures _ c.in_err-name.ensures)
+
+pub field_of-returns-in_err-value : goal.field_of-returns-in_err-value
+field_of-returns-in_err-value t c =
+    let p = err_from_is_err_and c.from_residual-in_err-value.result c.from_residual-in_err-value.ensures.1 in
+    rw (p.1, p.2) (fails_value _ _ _ _ _ _ c.in_ok-kind.ensures _ c.in_ok-name.ensures _ c.in_err-value.ensures)
+
+pub field_of-returns : goal.field_of-returns
+field_of-returns t c = gives_field _ _ _ _ _ _ c.in_ok-kind.ensures _ c.in_ok-name.ensures _ c.in_ok-value.ensures
+
+pub element_of-returns-in_err-kind : goal.element_of-returns-in_err-kind
+element_of-returns-in_err-kind t c =
+    let p = err_from_is_err_and c.from_residual.result c.from_residual.ensures.1 in
+    rw (p.1, p.2) (fails_kind _ _ _ _ _ _ c.in_err-kind.ensures)
+
+pub element_of-returns-in_err-rest : goal.element_of-returns-in_err-rest
+element_of-returns-in_err-rest t c =
+    let p = err_from_is_err_and c.from_residual-in_err-rest.result c.from_residual-in_err-rest.ensures.1 in
+    rw (p.1, p.2) (fails_name _ _ _ _ _ _ c.in_ok-kind.ensures _ c.in_err-rest.ensures)
+
+pub element_of-returns : goal.element_of-returns
+element_of-returns t c = gives_element _ _ _ _ _ _ c.in_ok-kind.ensures _ c.in_ok-rest.ensures (λ x. (tree x.0, x.1.now)) c.value_of.result c.value_of.ensures
 
 -- ---- a value
 

@@ -11,7 +11,7 @@ use Rattle.dv_bson.specs.Weight.{field_weighs_less, value_weighs_less}
 use Rattle.dv_bson.proofs.Items.{slice_get_seen, drop_seen}
 use Rattle.dv_bson.proofs.Payloads.{payload-int32, payload-int64, payload-string, payload-document, payload-array, payload-binary, payload-object_id, payload-boolean, payload-date, payload-null, payload-timestamp, payload-min_key, payload-max_key, length-document, length-array}
 use Rattle.dv_bson.proofs.Rest.{fields_spelling-drop, elements_spelling-drop, fields_spelling-nil, elements_spelling-nil, payload-le-fields, payload-le-elements}
-use Rattle.dv_bson.proofs.Written.{front_more, front_append, appended, left_more, left_none, length-written, append-element, framed_behind}
+use Rattle.dv_bson.proofs.Written.{front_more, front_append, kept, appended, left_more, left_none, length-written, append-element, framed_behind}
 use Rattle.dv_bson.proofs.writer.+writer.Goals as goal
 
 pub put_document-put_element-requires : goal.put_document-put_element-requires
@@ -145,3 +145,49 @@ put_value-returns-in-MinKey-clause-ok t c = rw (c.in-MinKey.is, payload-min_key)
 
 pub put_value-returns-in-MaxKey-clause-ok : goal.put_value-returns-in-MaxKey-clause-ok
 put_value-returns-in-MaxKey-clause-ok t c = rw (c.in-MaxKey.is, payload-max_key) (sym (append-nil c.args.out.now.items))
+
+pub put_document-returns-in_err-put_element-clause-front : goal.put_document-returns-in_err-put_element-clause-front
+put_document-returns-in_err-put_element-clause-front t c = front_more c.args.out.now.items c.loop-place.out.items c.put_element.new.out.items c.loop-place.invariant.front c.put_element.ensures.front
+
+pub put_document-returns-clause-front : goal.put_document-returns-clause-front
+put_document-returns-clause-front t c = (rw c.in_ok-start.ensures.ok.0 at c.close.ensures.front) ∙ c.loop-place.invariant.front
+
+pub put_list-returns-in_err-put_element-clause-front : goal.put_list-returns-in_err-put_element-clause-front
+put_list-returns-in_err-put_element-clause-front t c = front_more c.args.out.now.items c.loop-place.out.items c.put_element.new.out.items c.loop-place.invariant.front c.put_element.ensures.front
+
+pub put_list-returns-clause-front : goal.put_list-returns-clause-front
+put_list-returns-clause-front t c = (rw c.in_ok-start.ensures.ok.0 at c.close.ensures.front) ∙ c.loop-place.invariant.front
+
+pub put_element-returns-in_err-push-clause-front : goal.put_element-returns-in_err-push-clause-front
+put_element-returns-in_err-push-clause-front t c = rw c.in_err-push.ensures.items (take-length c.args.out.now.items)
+
+pub put_element-returns-in_err-extend_from_slice-clause-front : goal.put_element-returns-in_err-extend_from_slice-clause-front
+put_element-returns-in_err-extend_from_slice-clause-front t c =
+    let old = c.args.out.now.items in
+    rw (c.in_err-extend_from_slice.ensures.items, c.in_ok-push.ensures.items) (front_append old old (c.byte.result ∷ []) (take-length old))
+
+pub put_element-returns-in_err-push-2-clause-front : goal.put_element-returns-in_err-push-2-clause-front
+put_element-returns-in_err-push-2-clause-front t c =
+    let old = c.args.out.now.items in
+    rw (c.in_err-push-2.ensures.items, c.in_ok-extend_from_slice.ensures.items, c.in_ok-push.ensures.items)
+    (front_append old (old ++ c.byte.result ∷ []) c.as_bytes.result.now (front_append old old (c.byte.result ∷ []) (take-length old)))
+
+pub put_value-returns-in-Int32-clause-front : goal.put_value-returns-in-Int32-clause-front
+put_value-returns-in-Int32-clause-front t c = kept c.extend_from_slice.result c.args.out.now.items c.extend_from_slice.new.self.items c.to_le_bytes.result c.extend_from_slice.ensures.items
+
+pub put_value-returns-in-Int64-clause-front : goal.put_value-returns-in-Int64-clause-front
+put_value-returns-in-Int64-clause-front t c = kept c.extend_from_slice-in-Int64.result c.args.out.now.items c.extend_from_slice-in-Int64.new.self.items c.to_le_bytes-in-Int64.result c.extend_from_slice-in-Int64.ensures.items
+
+pub put_value-returns-in-Date-clause-front : goal.put_value-returns-in-Date-clause-front
+put_value-returns-in-Date-clause-front t c = kept c.extend_from_slice-in-Date.result c.args.out.now.items c.extend_from_slice-in-Date.new.self.items c.to_le_bytes-in-Date.result c.extend_from_slice-in-Date.ensures.items
+
+pub put_value-returns-in-Timestamp-clause-front : goal.put_value-returns-in-Timestamp-clause-front
+put_value-returns-in-Timestamp-clause-front t c = kept c.extend_from_slice-in-Timestamp.result c.args.out.now.items c.extend_from_slice-in-Timestamp.new.self.items c.to_le_bytes-in-Timestamp.result c.extend_from_slice-in-Timestamp.ensures.items
+
+pub put_value-returns-in-ObjectId-clause-front : goal.put_value-returns-in-ObjectId-clause-front
+put_value-returns-in-ObjectId-clause-front t c = kept c.extend_from_slice-in-ObjectId.result c.args.out.now.items c.extend_from_slice-in-ObjectId.new.self.items c.in-ObjectId.id c.extend_from_slice-in-ObjectId.ensures.items
+
+pub put_value-returns-in_ok-push-in-Bool-clause-front : goal.put_value-returns-in_ok-push-in-Bool-clause-front
+put_value-returns-in_ok-push-in-Bool-clause-front t c =
+    let old = c.args.out.now.items in
+    rw c.in_ok-push-in-Bool.ensures.items (front_append old old _ (take-length old))

@@ -8,4 +8,4 @@ pub returns-in-RefusedType-clause-writes : goal.returns-in-RefusedType-clause-wr
 returns-in-RefusedType-clause-writes g c =
     let byte = c.in-RefusedType.byte in
     let digits : styled_digits_output c.in_radix.result c.laid_out.result ≡ Some (fault.hex_byte byte) = rw (c.laid_out.ensures, c.in_radix.ensures) (ap Some (hex_byte false byte (omega arith))) in
-    rw c.in-RefusedType.is (rw digits at c.write-in-RefusedType.ensures.writes)
+    rw c.in-RefusedType.is (rw digits at c.write.ensures.writes)

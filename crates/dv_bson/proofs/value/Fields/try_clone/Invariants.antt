@@ -1,6 +1,0 @@
-use Rattle.std.proofs.Common.{◌≡◌, map, take}
-use Rattle.dv_bson.specs.View.{tree}
-use Rattle.dv_bson.proofs.value.Fields.try_clone.Given as goal
-
-abbrev pub invariant-loop-value : goal.invariant-loop-value
-invariant-loop-value l = map tree l.values.items ≡ map tree (take l.value-index l.value-items)
