@@ -1,15 +1,18 @@
 -- Where conditions are asked: of what a path leads to in a document, or of an element by itself.
 use Rattle.std.specs.Prelude.{List, [], ◌∷◌, Some}
 use Rattle.dv_bson.specs.View.{tree}
-use Rattle.dv_path.specs.Candidates.{Candidate, whole, leaves}
+use Rattle.dv_path.specs.Candidates.{Candidate, whole, leaves, with_elements}
+use Rattle.dv_path.specs.View.{seen}
 use Rattle.dv_match.specs.declared.place.Place.{Place}
-use Rattle.dv_match.specs.declared.place.Place.TheVariants.{Path, Element}
+use Rattle.dv_match.specs.declared.place.Place.TheVariants.{Path, Sole, Element}
 
 abbrev pub wholes : Place → List Candidate
 wholes (Path d p) = whole d.now p.now
+wholes (Sole c) = seen c ∷ []
 wholes (Element v) = Some (tree v.now) ∷ []
 
 -- with the elements of arrays, but of an element that is one by itself
 abbrev pub parts : Place → List Candidate
 parts (Path d p) = leaves d.now p.now
+parts (Sole c) = with_elements (seen c)
 parts (Element v) = Some (tree v.now) ∷ []

@@ -1,8 +1,9 @@
 -- Filters from documents: the form, or the first fault in written order (MongoDB manual, "Query and Projection Operators"). Which
 -- fault is told is this server's own.
-use Rattle.std.specs.Prelude.{◌≡◌, ◌⊎◌, ℕ, ℤ, pos, negsuc, Bool, true, false, ◌||◌, ◌&&◌, not, List, [], ◌∷◌, Option, Some, None, Result, Ok, Err, codes, ◌==◌, if◌then◌else◌}
+use Rattle.std.specs.Prelude.{◌≡◌, ◌⊎◌, ℕ, ℤ, pos, negsuc, Bool, true, false, ◌||◌, ◌&&◌, not, List, Option, Some, None, Result, Ok, Err, codes, ◌==◌, if◌then◌else◌}
 use Rattle.std.specs.List.{list_any}
 use Rattle.std.specs.Str.{bytes_eq}
+use Rattle.dv_bson.specs.Names.{begins_with_dollar}
 use Rattle.dv_bson.specs.Tree.{Tree, int32, int64, boolean, document, array, Fields, no_fields, field, Elements, no_elements, element, list_of_elements}
 use Rattle.dv_path.specs.Path.{path_of}
 use Rattle.dv_match.specs.declared.range.Range.TheVariants.{Above, AtLeast, Below, AtMost}
@@ -22,11 +23,6 @@ abbrev pub ◌>>=◌ : {A B : Type 0} → Result A FilterFault → (A → Result
 abbrev pub Gives : {X Y : Type 0} → (X → Y) → Result X FilterFault → Result Y FilterFault → Type 0
 Gives view (Ok x) parsed = parsed ≡ Ok (view x)
 Gives view (Err e) parsed = (e ≡ NoMemory) ⊎ (parsed ≡ Err e)
-
--- a dollar sign is 36
-abbrev pub begins_with_dollar : List ℕ → Bool
-begins_with_dollar [] = false
-begins_with_dollar (b ∷ bs) = b == 36
 
 -- the operators whose operand is a list of filters
 abbrev pub takes_filters : List ℕ → Bool

@@ -42,7 +42,7 @@ impl Member {
             Member::And(filters) => filters.all_match(document),
             Member::Or(filters) => filters.any_matches(document),
             Member::Nor(filters) => !filters.any_matches(document),
-            Member::At(path, conditions) => conditions.are_met(Place::Path(document, path)),
+            Member::At(path, conditions) => conditions.are_met(Place::of(document, path)),
         }
     }
 }

@@ -9,8 +9,8 @@ ghost use Rattle.dv_match.specs.Parsing.{Gives};
 
 use crate::choices::Choices;
 use crate::fault::FilterFault;
-use crate::operator::{begins_with_dollar, takes_filters};
-use dv_bson::{Document, List, Value};
+use crate::operator::takes_filters;
+use dv_bson::{Document, List, Value, begins_with_dollar};
 
 /// Whether the document is an operator list: its first name begins with a dollar sign.
 pub(crate) fn lists_operators(document: &Document) -> bool

@@ -50,13 +50,3 @@ pub(crate) fn takes_filters(name: &str) -> bool
 {
     name == "$and" || name == "$or" || name == "$nor"
 }
-
-/// Whether a name is an operator's, and not a path.
-pub(crate) fn begins_with_dollar(name: &str) -> bool
-    ensures { result ≡ defined.begins_with_dollar name.now }
-{
-    match name.as_bytes() {
-        [first, ..] => *first == b'$',
-        [] => false,
-    }
-}

@@ -13,9 +13,9 @@ use crate::form::{Condition, Conditions, Filter, Filters, Member, Test};
 use crate::operand::{
     choices_of, lists_conditions, lists_operators, plain_values_of, size_of, truth_of,
 };
-use crate::operator::{Operator, begins_with_dollar, operator_named};
+use crate::operator::{Operator, operator_named};
 use crate::range::Range;
-use dv_bson::{Document, List, Value};
+use dv_bson::{Document, List, Value, begins_with_dollar};
 use dv_path::Path;
 use std::alloc::Global;
 

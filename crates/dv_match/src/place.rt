@@ -2,21 +2,37 @@
 
 ghost use Rattle.std.specs.Prelude.{◌≡◌, Bool};
 ghost use Rattle.std.specs.List.{list_any};
+ghost use Rattle.dv_path.specs.Candidates.{whole, leaves};
 ghost use Rattle.dv_path.specs.Candidates as candidates;
 ghost use Rattle.dv_path.specs.Fold.{Answers};
 ghost use Rattle.dv_path.specs.View.{seen};
 ghost use Rattle.dv_match.specs.Asked.{wholes, parts};
 
 use dv_bson::{Document, Value};
-use dv_path::{Candidate, Path, any_leaf, any_whole};
+use dv_path::{Candidate, Path, any_leaf, any_whole, any_with_elements, sole_candidate};
 
 /// What conditions are asked of.
 #[derive(Clone, Copy)]
 pub(crate) enum Place<'a> {
     /// What the path leads to in the document.
     Path(&'a Document, &'a Path),
+    /// The one candidate of a path.
+    Sole(Candidate<'a>),
     /// An element by itself.
     Element(&'a Value),
+}
+
+impl<'a> Place<'a> {
+    /// What the path leads to in the document, looked up once for all conditions where no array stands on the way.
+    pub(crate) fn of(document: &'a Document, path: &'a Path) -> Self
+        ensures wholes { wholes result ≡ whole document.now path.now }
+        ensures parts { parts result ≡ leaves document.now path.now }
+    {
+        match sole_candidate(document, path) {
+            Some(candidate) => Place::Sole(candidate),
+            None => Place::Path(document, path),
+        }
+    }
 }
 
 /// Whether one of the place's candidates passes.
@@ -26,6 +42,7 @@ pub(crate) fn any_candidate<F: Fn(Candidate<'_>) -> bool>(place: Place<'_>, pass
 {
     match place {
         Place::Path(document, path) => any_whole(document, path, passes),
+        Place::Sole(candidate) => passes(candidate),
         Place::Element(element) => passes(Candidate::Found(element)),
     }
 }
@@ -38,6 +55,7 @@ pub(crate) fn any_part<F: Fn(Candidate<'_>) -> bool>(place: Place<'_>, passes: F
 {
     match place {
         Place::Path(document, path) => any_leaf(document, path, passes),
+        Place::Sole(candidate) => any_with_elements(candidate, &passes),
         Place::Element(element) => passes(Candidate::Found(element)),
     }
 }

@@ -8,6 +8,7 @@ pub mod SpecParts
 pub mod Walks
 pub mod Earliest
 pub mod Slotted
+pub mod Clear
 pub mod Fielded
 pub mod Placed
 pub mod Exchanged

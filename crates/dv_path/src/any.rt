@@ -9,7 +9,7 @@ ghost use Rattle.dv_path.specs.View.{seen};
 
 use crate::candidate::Candidate;
 use crate::path::Path;
-use crate::walk::fold_whole;
+use crate::walk::fold_ways;
 use dv_bson::{Document, List, Value};
 
 /// Whether one of the path's candidates passes. Takes no memory, and asks of each value of the document at most once
@@ -18,7 +18,7 @@ pub fn any_whole<F: Fn(Candidate<'_>) -> bool>(document: &Document, path: &Path,
     requires { F.IsAlwaysCallable passes }
     ensures { (test : candidates.Candidate → Bool) → Answers seen (λ x b. F.post passes x b) test → result ≡ list_any test (whole document.now path.now) }
 {
-    let stopped = fold_whole(document, path, (), |_, candidate| {
+    let stopped = fold_ways(document, path, (), |_, candidate| {
         if passes(candidate) { Err(()) } else { Ok(()) }
     });
     stopped.is_err()
@@ -37,8 +37,8 @@ pub fn any_leaf<F: Fn(Candidate<'_>) -> bool>(document: &Document, path: &Path, 
     )
 }
 
-/// Whether the candidate passes, or an element of it if it is an array.
-fn any_with_elements<F: Fn(Candidate<'_>) -> bool>(candidate: Candidate, passes: &F) -> bool
+/// Whether the candidate passes, or an element of it if it is an array. Takes no memory.
+pub fn any_with_elements<F: Fn(Candidate<'_>) -> bool>(candidate: Candidate<'_>, passes: &F) -> bool
     requires { F.IsAlwaysCallable passes.now }
     ensures { (test : candidates.Candidate → Bool) → Answers seen (λ x b. F.post passes.now x b) test → result ≡ list_any test (with_elements (seen candidate.entry)) }
 {

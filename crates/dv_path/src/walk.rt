@@ -13,10 +13,25 @@ use crate::candidate::Candidate;
 use crate::component::Component;
 use crate::path::Path;
 use crate::places::Places;
+use crate::sole::sole_candidate;
 use dv_bson::{Document, List, Value};
 
 /// Folds the candidates of a path: `f` takes the value from one to the next.
 pub fn fold_whole<T, E, F>(document: &Document, path: &Path, seed: T, f: F) -> Result<T, E>
+where
+    F: Fn(T, Candidate<'_>) -> Result<T, E>,
+    requires { F.IsAlwaysCallable f }
+    ensures { Folded seen (λ t x r. F.post f t x r) (Passes (whole document.now path.now)) seed result }
+{
+    match sole_candidate(document, path) {
+        // Most ways meet no array, and sets of places cost more than a look-up.
+        Some(candidate) => f(seed, candidate),
+        None => fold_ways(document, path, seed, f),
+    }
+}
+
+/// The same, for a path that may have many ways.
+pub(crate) fn fold_ways<T, E, F>(document: &Document, path: &Path, seed: T, f: F) -> Result<T, E>
 where
     F: Fn(T, Candidate<'_>) -> Result<T, E>,
     requires { F.IsAlwaysCallable f }

@@ -1,6 +1,6 @@
 -- Edits that are parsed one after the other.
-use Rattle.std.proofs.Common.{◌≡◌, ◌∙◌, ap, sym, refl, List, [], ◌∷◌, ◌++◌, ℕ, suc, ◌+◌, ◌≤◌, length, drop, Some, None, slice_get, Result, Ok, Err, append_assoc, append-nil, drop_of_length-le, ◌⊎◌, inl, inr}
-use Rattle.dv_bson.specs.Tree.{Tree, Field}
+use Rattle.std.proofs.Common.{◌≡◌, ◌∙◌, ap, sym, refl, List, [], ◌∷◌, ◌++◌, ℕ, ◌+◌, ◌≤◌, length, drop, Some, slice_get, Result, Ok, Err, append_assoc, append-nil, drop_of_length-le, ◌⊎◌, inl, inr}
+use Rattle.dv_bson.specs.Tree.{Field}
 use Rattle.dv_update.specs.declared.fault.UpdateFault.{UpdateFault}
 use Rattle.dv_update.specs.declared.fault.UpdateFault.TheVariants.{NoMemory}
 use Rattle.dv_update.specs.declared.operator.Operator.{Operator}

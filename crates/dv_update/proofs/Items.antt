@@ -1,5 +1,5 @@
 -- Lists that are looked at from the front, as loops over fields and elements do.
-use Rattle.std.proofs.Common.{◌≡◌, ◌∙◌, ap, sym, refl, List, [], ◌∷◌, ◌++◌, ℕ, zero, suc, ◌+◌, ◌<◌, ◌≤◌, length, drop, map, take, get_or, Some, None, slice_get, slice_index_or, arith, Bool, true, false, drop_of_length-le, codes, Ok, Err, if◌then◌else◌, ◌-◌, rules}
+use Rattle.std.proofs.Common.{◌≡◌, ◌∙◌, ap, sym, refl, List, [], ◌∷◌, ℕ, zero, suc, ◌+◌, ◌<◌, ◌≤◌, length, drop, map, Some, None, slice_get, slice_index_or, arith, true, false, drop_of_length-le, codes, Err, if◌then◌else◌, ◌-◌, rules}
 use Rattle.std.proofs.lemmas.List.{drop_more}
 use Rattle.std.proofs.lemmas.Option.{slice_get_within, slice_get_read, slice_get-map, get_or_from_slice_get}
 use Rattle.std.specs.Str.{bytes_eq}
@@ -12,7 +12,8 @@ use Rattle.dv_update.specs.Parsing.{each_alone, members}
 use Rattle.dv_update.specs.View.{edit}
 use Rattle.dv_update.specs.declared.fault.UpdateFault.TheVariants.{UnknownOperator}
 use Rattle.dv_update.specs.declared.form.Edit.{Edit}
-use Rattle.dv_match.specs.Parsing.{begins_with_dollar, lists_operators}
+use Rattle.dv_bson.specs.Names.{begins_with_dollar}
+use Rattle.dv_match.specs.Parsing.{lists_operators}
 
 pub elements_again : (vs : List Tree) → list_of_elements (elements_of vs) ≡ vs
 elements_again [] = refl

@@ -1,8 +1,7 @@
 -- What holds of updates.
-use Rattle.std.proofs.Common.{◌≡◌, ◌∙◌, ◌↔◌, ap, ap₂, sym, refl, List, [], ◌∷◌, ◌++◌, ℕ, ◌≤◌, Bool, true, false, ◌||◌, not, cond, nat_lt, length, Option, Some, None, Result, Ok, Err, codes, arith, if◌then◌else◌}
+use Rattle.std.proofs.Common.{◌≡◌, ◌∙◌, ◌↔◌, ap, ap₂, sym, refl, List, [], ◌∷◌, ◌++◌, ℕ, ◌≤◌, Bool, true, false, ◌||◌, not, cond, nat_lt, length, Some, None, Result, Ok, Err, codes, arith, if◌then◌else◌}
 use Rattle.std.specs.Cmp.{tied_itself}
 use Rattle.std.specs.Ordering.{is_gt, ordering_reverse}
-use Rattle.std.specs.Str.{bytes_eq}
 use Rattle.std.specs.declared.cmp.Ordering.{Ordering}
 use Rattle.std.specs.declared.cmp.Ordering.TheVariants.{Less, Equal, Greater}
 use Rattle.std.proofs.lemmas.Bool.Decides.{nat_tests}
@@ -20,7 +19,7 @@ use Rattle.dv_update.specs.declared.fault.UpdateFault.{UpdateFault}
 use Rattle.dv_update.specs.declared.fault.UpdateFault.TheVariants.{Conflict, IdChanged, TooLarge, TooDeep}
 use Rattle.dv_update.proofs.Items.{fields_again}
 use Rattle.dv_update.proofs.Paths.{path-exact, begins-itself}
-use Rattle.dv_update.proofs.Placed.{Alike, Alike-swap, Alike-behind}
+use Rattle.dv_update.proofs.Placed.{Alike-swap, Alike-behind}
 use Rattle.dv_update.proofs.Made.{put_taken}
 use Rattle.dv_update.proofs.PutThere.{put-again}
 use Rattle.dv_update.proofs.Sameness.{same-is, same-itself, same-fields, fields-itself}

@@ -5,7 +5,7 @@ use Rattle.dv_bson.specs.declared.value.Value.{Value}
 use Rattle.dv_bson.specs.Tree.{Tree, Field, fields_of, elements_of}
 use Rattle.dv_bson.specs.View.{tree}
 use Rattle.dv_bson.specs.Weight.{field_weighs_less, value_weighs_less}
-use Rattle.dv_match.specs.Parsing.{begins_with_dollar}
+use Rattle.dv_bson.specs.Names.{begins_with_dollar}
 use Rattle.dv_update.specs.Parsing.{has_dot, is_dotted, are_fields_dotted, are_elements_dotted}
 use Rattle.dv_update.proofs.Items.{drop_at, drop-none, drop_seen, drop_seen_none}
 

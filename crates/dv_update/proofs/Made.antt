@@ -1,7 +1,7 @@
 -- What edits leave as it is, and elements that are taken out.
-use Rattle.std.proofs.Common.{◌≡◌, ◌∙◌, ap, sym, refl, List, [], ◌∷◌, ◌++◌, ℕ, zero, suc, ◌<◌, ◌≤◌, length, map, drop, get_or, Bool, true, false, ◌||◌, not, Ok, Err, if◌then◌else◌, arith, drop_of_length-le, append-nil}
-use Rattle.std.specs.List.{list_any, filter}
-use Rattle.dv_bson.specs.Tree.{Tree, Field, elements_of, array, list_of_elements}
+use Rattle.std.proofs.Common.{◌≡◌, ◌∙◌, ap, sym, refl, List, [], ◌∷◌, ◌++◌, ℕ, zero, suc, ◌<◌, ◌≤◌, length, map, drop, get_or, Bool, true, false, ◌||◌, Ok, Err, if◌then◌else◌, arith, drop_of_length-le, append-nil}
+use Rattle.std.specs.List.{list_any}
+use Rattle.dv_bson.specs.Tree.{Tree, Field, elements_of, array}
 use Rattle.dv_bson.specs.View.{tree}
 use Rattle.dv_bson.specs.declared.value.Value.{Value}
 use Rattle.dv_path.specs.Placing.{put}

@@ -1,5 +1,5 @@
 -- Edits placed in the order of their paths, and their conflicts.
-use Rattle.std.proofs.Common.{◌≡◌, ◌∙◌, ap, ap₂, sym, refl, List, [], ◌∷◌, ◌++◌, ℕ, Bool, true, false, ◌||◌, map, Option, Some, None, cond, is_some, append_assoc, append-nil, arith, Result, Ok, Err, if◌then◌else◌}
+use Rattle.std.proofs.Common.{◌≡◌, ◌∙◌, ap, ap₂, sym, refl, List, [], ◌∷◌, ◌++◌, ℕ, Bool, true, false, ◌||◌, map, Option, Some, None, cond, is_some, append_assoc, append-nil}
 use Rattle.std.specs.Bool.{⊤}
 use Rattle.std.specs.List.{list_any, AllByRecursion}
 use Rattle.std.specs.List.Sorted.{IsStrictlySortedBy}

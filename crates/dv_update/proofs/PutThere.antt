@@ -1,5 +1,5 @@
 -- To put what stands there changes nothing.
-use Rattle.std.proofs.Common.{◌≡◌, ◌∙◌, ap, sym, refl, List, [], ◌∷◌, ◌++◌, ℕ, zero, suc, ◌<◌, ◌||◌, Bool, true, false, length, Option, Some, None, slice_get, nat_lt, nat_le, arith, Result, Ok, Err, if◌then◌else◌}
+use Rattle.std.proofs.Common.{◌≡◌, ◌∙◌, ap, sym, refl, List, [], ◌∷◌, ◌++◌, ℕ, zero, suc, ◌||◌, Bool, true, false, length, Option, Some, None, slice_get, nat_lt, nat_le, arith, Result, Ok, Err, if◌then◌else◌}
 use Rattle.std.specs.Str.{bytes_eq}
 use Rattle.std.proofs.lemmas.Bool.Decides.{nat_tests}
 use Rattle.std.proofs.lemmas.Option.{slice_get_within}
@@ -9,7 +9,7 @@ use Rattle.dv_path.specs.Path.{index_of}
 use Rattle.dv_path.specs.Placing.{result_map, with_field, with_element, put_field, put_element, put_behind, put}
 use Rattle.dv_path.specs.declared.fault.PathFault.{PathFault}
 use Rattle.dv_path.specs.declared.fault.PathFault.TheVariants.{IndexTooLarge}
-use Rattle.dv_path.specs.Slots.{Slot, taken, free, blocked, slot_of, element_slot, next_slot, slot_behind, slot}
+use Rattle.dv_path.specs.Slots.{taken, free, blocked, slot_of, element_slot, slot_behind, slot}
 
 free-stays : (names : List (List ℕ)) (v : Tree) → slot_behind names free ≡ taken v → ⊥
 free-stays [] v e = cc

@@ -1,5 +1,5 @@
 -- Values that are the same by each part are the same.
-use Rattle.std.proofs.Common.{◌≡◌, ◌∙◌, ap, ap₂, sym, refl, List, ℕ, ℤ, Bool, true, false, ◌&&◌, ◌==◌, not, arith}
+use Rattle.std.proofs.Common.{◌≡◌, ap, ap₂, refl, List, ℕ, ℤ, Bool, true, false, ◌&&◌, ◌==◌, arith}
 use Rattle.std.specs.Ordering.{int_eq}
 use Rattle.std.specs.Str.{bytes_eq}
 use Rattle.std.proofs.lemmas.Bool.Decides.{Decides-int_eq, nat_tests}

@@ -9,11 +9,11 @@ use Rattle.std.specs.Ordering.{is_gt}
 use Rattle.std.specs.Prelude.{FitsSigned}
 use Rattle.std.specs.Result.{IfOk}
 use Rattle.std.specs.Str.{IsUtf8, bytes_eq}
-use Rattle.dv_bson.specs.Names.{has_zero, value_under}
+use Rattle.dv_bson.specs.Names.{begins_with_dollar, has_zero, value_under}
 use Rattle.dv_bson.specs.Spelling.{IsValue, AreFields, spelling, levels}
 use Rattle.dv_bson.specs.Tree.{Tree, int32, int64, document, array, Fields, no_fields, field, Field, fields_of, list_of_fields, elements_of, list_of_elements}
 use Rattle.dv_match.specs.Filter.{Test}
-use Rattle.dv_match.specs.Parsing.{begins_with_dollar, lists_operators, test_in}
+use Rattle.dv_match.specs.Parsing.{lists_operators, test_in}
 use Rattle.dv_match.specs.declared.fault.FilterFault.{FilterFault}
 use Rattle.dv_path.specs.Path.{is_component, path_of}
 use Rattle.dv_path.specs.Placing.{put}

@@ -31,13 +31,12 @@ abbrev pub told : {X : Type 0} → Result X PathFault → Result X UpdateFault
 told (Ok x) = Ok x
 told (Err e) = Err (of_path e)
 
--- in a document
-abbrev pub level_limit : ℕ
-level_limit = 100
+abbrev pub component_limit : ℕ
+component_limit = 1000
 
--- what comes under more components than a document may have levels could never be stored: none of it is made
+-- what would come under more components could never be stored, having ten times the levels of any document: none of it is made
 abbrev pub is_beyond : Path → Slot → Bool
-is_beyond path free = nat_lt level_limit (length path)
+is_beyond path free = nat_lt component_limit (length path)
 is_beyond path s = false
 
 abbrev pub set_at : Path → Tree → List Field → Result (List Field) UpdateFault
@@ -160,6 +159,10 @@ leading_id (f ∷ fs) = if is_id f then Some f.1 else None
 -- in bytes
 abbrev pub document_limit : ℕ
 document_limit = 16777216
+
+-- of a document, itself the first
+abbrev pub level_limit : ℕ
+level_limit = 100
 
 -- `_id` stands in front as it did; then the limits, size first
 abbrev pub checked : List Field → List Field → Result (List Field) UpdateFault

@@ -1,13 +1,14 @@
 -- Updates from documents: the form, or the first fault in written order, and conflicts last (MongoDB manual, "Update Operators",
 -- "Replace Documents"). Which fault is told, and which names are refused, are this server's own.
-use Rattle.std.specs.Prelude.{◌≡◌, ◌⊎◌, ℕ, Bool, true, false, ◌||◌, List, [], ◌∷◌, ◌++◌, Option, Some, None, Result, Ok, Err, codes, ◌==◌, if◌then◌else◌}
+use Rattle.std.specs.Prelude.{◌≡◌, ◌⊎◌, ℕ, Bool, false, ◌||◌, List, [], ◌∷◌, ◌++◌, Option, Some, None, Result, Ok, Err, codes, ◌==◌, if◌then◌else◌}
 use Rattle.std.specs.List.{list_any}
 use Rattle.std.specs.Str.{bytes_eq}
 use Rattle.std.specs.Ordering.{is_gt}
+use Rattle.dv_bson.specs.Names.{begins_with_dollar}
 use Rattle.dv_bson.specs.Tree.{Tree, int32, int64, document, array, Fields, no_fields, field, Elements, no_elements, element, Field, fields_of, list_of_fields, list_of_elements}
 use Rattle.dv_path.specs.Path.{path_of}
 use Rattle.dv_match.specs.Filter.{Test}
-use Rattle.dv_match.specs.Parsing.{begins_with_dollar, lists_operators, test_in}
+use Rattle.dv_match.specs.Parsing.{lists_operators, test_in}
 use Rattle.dv_match.specs.declared.fault.FilterFault.{FilterFault}
 use Rattle.dv_update.specs.declared.number.Number.TheVariants.{Int32, Int64}
 use Rattle.dv_update.specs.declared.fault.UpdateFault.{UpdateFault}
@@ -15,7 +16,7 @@ use Rattle.dv_update.specs.declared.fault.UpdateFault.TheVariants.{UnknownOperat
 use Rattle.dv_update.specs.declared.operator.Operator.{Operator}
 use Rattle.dv_update.specs.declared.operator.Operator.TheVariants.{Set, Unset, Inc, Push, Pull}
 use Rattle.dv_update.specs.PathOrder.{path_order, begins}
-use Rattle.dv_update.specs.Update.{Operation, assign, take_away, increase, append, pull, Pulled, equal_to, passing, Edit, Update, replacement, operators}
+use Rattle.dv_update.specs.Update.{Operation, assign, take_away, increase, append, pull, equal_to, passing, Edit, Update, replacement, operators}
 
 -- one thing after another: the first fault is told
 infixl 10 ◌>>=◌

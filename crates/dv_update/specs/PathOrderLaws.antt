@@ -1,5 +1,4 @@
 -- The order of paths is total.
-use Rattle.std.specs.Ordering.{nat_cmp, bool_cmp}
 use Rattle.std.specs.Cmp.{IsTotalOrder, nat_cmp_total, bool_cmp_total, on_total, then_total}
 use Rattle.std.specs.Cmp.Lexicographic.{lists_total, nat_list_cmp_total}
 use Rattle.dv_update.specs.PathOrder.{is_name, number_of, component_order, path_order}

@@ -1,5 +1,5 @@
 -- An edit as a ghost value, one to one: so a proof can tell two forms apart.
-use Rattle.std.specs.Prelude.{◌≡◌, ℕ, ℤ, List, refl}
+use Rattle.std.specs.Prelude.{◌≡◌, List, refl}
 use Rattle.std.proofs.Common.{ap}
 use Rattle.std.specs.Coded.{coded×}
 use base.Stored.{Gv, gnum, gcons, gnil, Coded, coded_ℕ, coded_ℤ, coded_list}

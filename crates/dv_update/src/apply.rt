@@ -26,7 +26,8 @@ impl Update {
     /// What the update makes of the document, which stays as it is.
     ///
     /// Edits are made one after the other, and the first refusal is told: `NotViable` where no value can be put, `NotNumber`
-    /// and `Overflow` of `$inc`, `NotArray` of `$push` and `$pull`. A replacement has its own `_id`, or else the document's,
+    /// and `Overflow` of `$inc`, `NotArray` of `$push` and `$pull`, `TooDeep` where a path of more than 1,000 components leads
+    /// to nothing that is there. A replacement has its own `_id`, or else the document's,
     /// in front. Then `IdChanged` where the result doesn't begin with the `_id` with which the document begins, spelled as it
     /// is there, `TooLarge` above 16,777,216 bytes, and `TooDeep` above 100 levels. Fails with `NoMemory` where memory is
     /// wanting.
@@ -40,13 +41,13 @@ impl Update {
         if !keeps_id(document, &changed) {
             return Err(UpdateFault::IdChanged);
         }
+        if fits(&changed) {
+            return Ok(changed);
+        }
         if is_too_large(&changed) {
             return Err(UpdateFault::TooLarge);
         }
-        if !fits(&changed) {
-            return Err(UpdateFault::TooDeep);
-        }
-        Ok(changed)
+        Err(UpdateFault::TooDeep)
     }
 
     /// The same, whatever the result is.

@@ -18,8 +18,8 @@ use dv_order::compare;
 use dv_path::{Path, Slot, put_at, remove_at, slot_at};
 use std::alloc::Global;
 
-/// How many levels a document has at most, itself the first.
-const MAX_LEVELS: usize = 100;
+/// How many components a path has at most at which something new is made.
+const MOST_COMPONENTS: usize = 1_000;
 
 impl Edit {
     /// What the operator makes of the document, which is changed in place.
@@ -54,9 +54,9 @@ fn set_at(
     put(alloc, document, path, value.try_clone()?)
 }
 
-/// The value put where the path leads. `TooDeep` where nothing stands there yet, and the path is so long that what would
-/// be made could never be stored: a path may have millions of components, and walking through so deep a document takes
-/// stack for each of them.
+/// The value put where the path leads. `TooDeep` where nothing stands there yet, and the path has more than 1,000
+/// components: what would be made could never be stored, a path may have millions of components, and walking through so
+/// deep a document takes stack for each of them.
 fn put(
     alloc: Global,
     document: Document,
@@ -71,11 +71,11 @@ fn put(
     Ok(put_at(alloc, document, path, value)?)
 }
 
-/// Whether nothing stands where the path leads yet, and it has more components than a document may have levels.
+/// Whether nothing stands where the path leads yet, and it has too many components for it to be made.
 fn is_beyond(path: &Path, document: &Document) -> bool
     ensures { result ≡ defined.is_beyond path.now (slot document.now path.now) }
 {
-    path.components().len() > MAX_LEVELS && matches!(slot_at(document, path), Slot::Free)
+    path.components().len() > MOST_COMPONENTS && matches!(slot_at(document, path), Slot::Free)
 }
 
 fn increase_at(

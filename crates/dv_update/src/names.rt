@@ -2,13 +2,12 @@
 
 ghost use Rattle.std.specs.Prelude.{◌≡◌};
 ghost use Rattle.std.specs.List.{list_any};
+ghost use Rattle.dv_bson.specs.Names as names;
 ghost use Rattle.dv_bson.specs.Tree.{fields_of, elements_of};
 ghost use Rattle.dv_bson.specs.View.{tree};
-ghost use Rattle.dv_match.specs.Parsing as filters;
 ghost use Rattle.dv_update.specs.Parsing as defined;
 
-use crate::operator::begins_with_dollar;
-use dv_bson::{Document, List, Value};
+use dv_bson::{Document, List, Value, begins_with_dollar};
 
 /// Whether a name begins with a dollar sign at the top level, or holds a dot at any level.
 pub(crate) fn has_bad_name(document: &Document) -> bool
@@ -20,7 +19,7 @@ pub(crate) fn has_bad_name(document: &Document) -> bool
 /// Whether a name begins with a dollar sign, at the top level.
 #[tactic(auto, using(crate::proofs::Left::fields_left))]
 fn has_dollar(document: &Document) -> bool
-    ensures { result ≡ list_any (λ f. filters.begins_with_dollar f.0) document.now }
+    ensures { result ≡ list_any (λ f. names.begins_with_dollar f.0) document.now }
 {
     'fields: for place in 0..document.len() {
         let Some((name, _)) = document.entry(place) else {

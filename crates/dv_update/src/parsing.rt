@@ -2,6 +2,7 @@
 
 ghost use Rattle.std.specs.Prelude.{◌≡◌, map};
 ghost use Rattle.std.specs.List.{list_any};
+ghost use Rattle.dv_bson.specs.Names.{begins_with_dollar};
 ghost use Rattle.dv_bson.specs.Tree.{fields_of};
 ghost use Rattle.dv_bson.specs.View.{tree};
 ghost use Rattle.dv_match.specs.Parsing as filters;
@@ -16,9 +17,9 @@ use crate::fault::UpdateFault;
 use crate::form::{Edit, Update};
 use crate::names::has_bad_name;
 use crate::operand::operation_of;
-use crate::operator::{Operator, begins_with_dollar, operator_named};
+use crate::operator::{Operator, operator_named};
 use crate::order::in_order;
-use dv_bson::{Document, Value};
+use dv_bson::{Document, Value, begins_with_dollar};
 use dv_path::Path;
 use std::alloc::Global;
 
@@ -134,7 +135,7 @@ fn plain_path(alloc: Global, name: &str) -> Result<Path, UpdateFault>
 
 /// Whether a component begins with a dollar sign.
 fn has_dollar(path: &Path) -> bool
-    ensures { result ≡ list_any filters.begins_with_dollar path.now }
+    ensures { result ≡ list_any begins_with_dollar path.now }
 {
     path.components()
         .iter()

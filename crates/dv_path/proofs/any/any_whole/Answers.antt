@@ -5,4 +5,4 @@ use Rattle.dv_path.proofs.any.any_whole.Goals as goal
 
 pub returns : goal.returns
 returns g c test answers =
-    c.is_err.ensures.value ∙ stopped-where _ test (λ t x u h. search (rules, h.1, h, answers.at)) (λ t x e h. search (rules, h.1, h, answers.at)) (whole c.args.document.now c.args.path.now) _ c.fold_whole-stopped.result c.fold_whole-stopped.ensures
+    c.is_err.ensures.value ∙ stopped-where _ test (λ t x u h. search (rules, h.1, h, answers.at)) (λ t x e h. search (rules, h.1, h, answers.at)) (whole c.args.document.now c.args.path.now) _ c.fold_ways-stopped.result c.fold_ways-stopped.ensures

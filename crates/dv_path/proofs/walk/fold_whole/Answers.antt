@@ -1,9 +1,12 @@
-use Rattle.dv_path.proofs.Folds.{Folded-same}
-use Rattle.dv_path.proofs.Walks.{first-before, reaches-whole, whole-reaches}
+use Rattle.std.proofs.Common.{◌∙◌, ap, sym, false, rules}
+use Rattle.std.specs.List.{list_any}
+use Rattle.std.proofs.lemmas.Bool.{or_left}
+use Rattle.dv_path.specs.View.{seen}
+use Rattle.dv_path.proofs.Folds.{Folded-call, any-one}
 use Rattle.dv_path.proofs.walk.fold_whole.Goals as goal
 
-pub fold_document-requires-clause-before : goal.fold_document-requires-clause-before
-fold_document-requires-clause-before g c = first-before c.components.result.now (rw c.components.ensures.components c.components.ensures.some)
-
-pub returns : goal.returns
-returns g c = Folded-same c.fold_document.result (rw c.components.ensures.components at c.fold_document.ensures) (reaches-whole c.args.path.now c.args.document.now) (whole-reaches c.args.path.now c.args.document.now)
+pub returns-in-Some : goal.returns-in-Some
+returns-in-Some g c =
+    let x = seen c.in-Some.candidate in
+    let sole = c.in-Some.ensures.sole in
+    Folded-call c.f.result c.in-Some.candidate (search (rules, c.f.ensures)) (λ p h. record { passes = ap (list_any p) sole ∙ or_left (p x) false h }) (λ p h. any-one p x (sym (ap (list_any p) sole) ∙ h.passes))

@@ -2,7 +2,7 @@
 use Rattle.std.proofs.Common.{◌≡◌, drop}
 use Rattle.std.specs.List.{list_any}
 use Rattle.dv_bson.specs.Tree.{Field}
-use Rattle.dv_match.specs.Parsing.{begins_with_dollar}
+use Rattle.dv_bson.specs.Names.{begins_with_dollar}
 use Rattle.dv_update.proofs.names.has_dollar.Given as goal
 
 abbrev pub invariant-fields : goal.invariant-fields

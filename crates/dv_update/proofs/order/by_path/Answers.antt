@@ -1,6 +1,6 @@
 use Rattle.std.proofs.Common.{◌≡◌, ◌∙◌, ap, map, ◌++◌, ◌∷◌, [], Err, rules, inl, inr}
 use Rattle.std.proofs.lemmas.List.{map-append}
-use Rattle.dv_update.specs.View.{edit, entry}
+use Rattle.dv_update.specs.View.{edit}
 use Rattle.dv_update.proofs.Placed.{none_placed, one_placed, not_placed}
 use Rattle.dv_update.proofs.order.by_path.Goals as goal
 

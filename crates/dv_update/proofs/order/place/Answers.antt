@@ -1,4 +1,4 @@
-use Rattle.std.proofs.Common.{◌≡◌, ◌∙◌, ap, map, refl, inr, is_some, sym}
+use Rattle.std.proofs.Common.{◌∙◌, ap, map, refl, inr, is_some, sym}
 use Rattle.dv_update.specs.Parsing.{placed}
 use Rattle.dv_update.specs.Update.{Edit}
 use Rattle.dv_update.specs.View.{edit, entry, operation}

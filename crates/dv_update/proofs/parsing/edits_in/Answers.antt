@@ -1,4 +1,4 @@
-use Rattle.std.proofs.Common.{◌≡◌, ◌∙◌, ap, sym, map, Err, length, ◌≤◌, rules, arith}
+use Rattle.std.proofs.Common.{◌≡◌, map, Err, length, ◌≤◌, rules, arith}
 use Rattle.dv_bson.specs.Tree.{Field}
 use Rattle.dv_bson.specs.View.{tree}
 use Rattle.dv_update.specs.Collected.{behind}

@@ -2,7 +2,7 @@
 use Rattle.std.proofs.Common.{arith, sym, ap, ◌∙◌, ◌≡◌, ◌⊎◌, ◌==◌, length, drop, map, inl, inr, length-drop}
 use Rattle.std.proofs.lemmas.List.{length-map}
 use Rattle.std.specs.Str.{bytes_eq}
-use Rattle.dv_bson.specs.Tree.{fields_of, fields_weight, elements_of, elements_weight}
+use Rattle.dv_bson.specs.Tree.{fields_of, fields_weight}
 use Rattle.dv_bson.specs.View.{tree}
 use Rattle.dv_update.specs.Same.{is_same}
 use Rattle.dv_update.proofs.Items.{drop_at, none_there}
