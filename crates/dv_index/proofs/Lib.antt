@@ -1,7 +1,13 @@
 pub mod Lists
 pub mod Leaves
+pub mod Ends
+pub mod Entries
+pub mod Firsts
 pub mod Several
 pub mod Chosen
 pub mod Picked
 pub mod Ranges
+pub mod Built
+pub mod Places
 pub mod Sound
+pub mod Changed

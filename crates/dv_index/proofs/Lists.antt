@@ -3,6 +3,8 @@ use Rattle.std.proofs.Common.{Bor, filter, ◌≡◌, ℕ, zero, suc, ◌+◌, �
 use Rattle.std.specs.List.{list_any, flat_map}
 use Rattle.std.specs.Cmp.{eq_by_cmp_equiv}
 use Rattle.std.specs.Ordering.{is_eq}
+use Rattle.std.specs.declared.cmp.Ordering.{Ordering}
+use Rattle.std.specs.declared.cmp.Ordering.TheVariants.{Less, Equal, Greater}
 use Rattle.std.proofs.lemmas.List.Folds.{list_any-append}
 use Rattle.dv_order.specs.Key.{KeyTree, key_order}
 use Rattle.dv_order.specs.KeyLaws.{key_order_total}
@@ -45,6 +47,11 @@ any-flat_map test f (x ∷ xs) = list_any-append test (f x) (flat_map f xs) ∙ 
 -- whether keys are equal, either way round
 pub equal-back : (k l : KeyTree) → is_eq (key_order k l) ≡ is_eq (key_order l k)
 equal-back k l = (eq_by_cmp_equiv key_order_total).symm k l
+
+pub equal-from : (o : Ordering) → is_eq o ≡ true → o ≡ Equal
+equal-from Less e = absurd cc
+equal-from Equal e = refl
+equal-from Greater e = absurd cc
 
 -- what is kept of lent items is kept of what they are
 pub map-kept : {X : Type 0} (p : X → Bool) (xs : List (Bor X)) → map (λ (x : Bor X). x.now) (filter (λ (x : Bor X). p x.now) xs) ≡ filter p (map (λ (x : Bor X). x.now) xs)

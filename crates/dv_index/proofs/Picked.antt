@@ -7,12 +7,12 @@ use Rattle.std.specs.declared.cmp.Ordering.TheVariants.{Less, Equal, Greater}
 use Rattle.std.specs.Ordering.{is_eq, ordering_reverse}
 use Rattle.std.proofs.Common.{map}
 use Rattle.std.proofs.lemmas.Map.Keys.{sorted_head, sorted_tail}
-use Rattle.std.proofs.lemmas.Cmp.{alike_right}
+use Rattle.std.proofs.lemmas.Cmp.{alike_right, tied_itself}
 use Rattle.dv_bson.specs.Tree.{Field}
 use Rattle.dv_order.specs.Key.{KeyTree, key_order}
 use Rattle.dv_order.specs.KeyLaws.{key_order_total}
 use Rattle.dv_coll.specs.Collection.{IsAscending, id_key, has_key, found}
-use Rattle.dv_index.proofs.Lists.{equal-back}
+use Rattle.dv_index.proofs.Lists.{equal-back, equal-from}
 
 abbrev pub as-list : {X : Type 0} → Option X → List X
 as-list None = []
@@ -22,23 +22,18 @@ as-list (Some x) = x ∷ []
 abbrev pub picked : List KeyTree → List (List Field) → List (List Field)
 picked ids ds = flat_map (λ i. as-list (found i ds)) ids
 
-equal-from : (o : Ordering) → is_eq o ≡ true → o ≡ Equal
-equal-from Less e = absurd cc
-equal-from Equal e = refl
-equal-from Greater e = absurd cc
-
 -- d stands before each of ds
-abbrev Before : KeyTree → List (List Field) → Type 0
+abbrev pub Before : KeyTree → List (List Field) → Type 0
 Before k ds = AllByRecursion (λ e. key_order k (id_key e) ≡ Less) ds
 
 before-map : (k : KeyTree) (ds : List (List Field)) → AllByRecursion (λ l. key_order k l ≡ Less) (map id_key ds) → Before k ds
 before-map k [] h = tt
 before-map k (d ∷ ds) h = (h.0, before-map k ds h.1)
 
-head-before : (d : List Field) (ds : List (List Field)) → IsAscending (d ∷ ds) → Before (id_key d) ds
+pub head-before : (d : List Field) (ds : List (List Field)) → IsAscending (d ∷ ds) → Before (id_key d) ds
 head-before d ds h = before-map (id_key d) ds (sorted_head key_order (id_key d) (map id_key ds) h)
 
-tail-ascends : (d : List Field) (ds : List (List Field)) → IsAscending (d ∷ ds) → IsAscending ds
+pub tail-ascends : (d : List Field) (ds : List (List Field)) → IsAscending (d ∷ ds) → IsAscending ds
 tail-ascends d ds h = sorted_tail key_order (id_key d) (map id_key ds) h
 
 -- where every document of a list fails a test
@@ -49,6 +44,17 @@ none-pass p k (d ∷ ds) fails h = ap (λ b. cond b (d ∷ filter p ds) (filter 
 not_true : (b : Bool) → (b ≡ true → ⊥) → b ≡ false
 not_true true h = absurd (h refl)
 not_true false h = refl
+
+-- each document of a list that ascends is found under its `_id`
+pub all-found : (ds : List (List Field)) → IsAscending ds → AllByRecursion (λ d. found (id_key d) ds ≡ Some d) ds
+all-found [] h = tt
+all-found (d ∷ ds) h =
+    (ap (λ b. cond b (Some d) (found (id_key d) ds)) (ap is_eq (tied_itself key_order_total (id_key d))), later ds (head-before d ds h) (all-found ds (tail-ascends d ds h)))
+  where
+    later : (es : List (List Field)) → Before (id_key d) es → AllByRecursion (λ e. found (id_key e) ds ≡ Some e) es → AllByRecursion (λ e. found (id_key e) (d ∷ ds) ≡ Some e) es
+    later [] b f = tt
+    later (e ∷ es) b f =
+        (ap (λ x. cond x (Some d) (found (id_key e) ds)) (equal-back (id_key e) (id_key d) ∙ ap is_eq b.0) ∙ f.0, later es b.1 f.1)
 
 -- at most one document is under a key
 pub found-alone : (i : KeyTree) (ds : List (List Field)) → IsAscending ds → filter (has_key i) ds ≡ as-list (found i ds)

@@ -1,39 +1,12 @@
 -- Pairs of several keys with one `_id`, added or taken out one after the other.
 use Rattle.std.proofs.Common.{Result, Ok, Err, OnErr, ◌≡◌, ℕ, zero, suc, List, [], ◌∷◌, map, take, refl, ap, sym, ◌∙◌, Bool, true, false, cond, not, ◌||◌, ◌&&◌, filter, Bor}
 use Rattle.std.specs.List.{list_any}
-use Rattle.std.specs.declared.cmp.Ordering.{Ordering}
-use Rattle.std.specs.declared.cmp.Ordering.TheVariants.{Less, Equal, Greater}
-use Rattle.std.specs.Ordering.{is_eq, ordering_then}
-use Rattle.std.proofs.lemmas.Cmp.{tied_itself}
+use Rattle.std.specs.Ordering.{is_eq}
 use Rattle.dv_order.specs.Key.{KeyTree, key_order}
 use Rattle.dv_order.specs.KeyLaws.{key_order_total}
 use Rattle.dv_index.specs.Keys.{has_key}
-use Rattle.dv_index.specs.Pairs.{Pair, pair_order, has_pair}
-use Rattle.dv_index.specs.PairLaws.{pair_order_total}
-use Rattle.dv_index.proofs.Lists.{cond-or, any-map, equal-back}
-
-is_eq-then : (a b : Ordering) → is_eq (ordering_then a b) ≡ is_eq a && is_eq b
-is_eq-then Less b = refl
-is_eq-then Equal b = refl
-is_eq-then Greater b = refl
-
-pair-equal : (p : Pair) (k i key id : KeyTree) → p.0 ≡ key → p.1 ≡ id → is_eq (pair_order p (k, i)) ≡ is_eq (key_order k key) && is_eq (key_order i id)
-pair-equal p k i key id same_key same_id =
-    is_eq-then (key_order p.0 k) (key_order p.1 i)
-    ∙ ap (λ b. b && is_eq (key_order p.1 i)) (equal-back p.0 k ∙ ap (λ l. is_eq (key_order k l)) same_key)
-    ∙ ap (λ b. is_eq (key_order k key) && b) (equal-back p.1 i ∙ ap (λ l. is_eq (key_order i l)) same_id)
-
-cond-and-not : (b a : Bool) → cond b false a ≡ a && not b
-cond-and-not true true = refl
-cond-and-not true false = refl
-cond-and-not false true = refl
-cond-and-not false false = refl
-
-pub pair-added : (p : Pair) (k i key id : KeyTree) (was : Bool) → p.0 ≡ key → p.1 ≡ id → cond (is_eq (pair_order p (k, i))) true was ≡ was || (is_eq (key_order k key) && is_eq (key_order i id))
-pair-added p k i key id was same_key same_id = cond-or (is_eq (pair_order p (k, i))) was ∙ ap (λ b. was || b) (pair-equal p k i key id same_key same_id)
-
-pub pair-taken : (k i key id : KeyTree) (was : Bool) → cond (is_eq (pair_order (key, id) (k, i))) false was ≡ was && not (is_eq (key_order k key) && is_eq (key_order i id))
-pair-taken k i key id was = cond-and-not (is_eq (pair_order (key, id) (k, i))) was ∙ ap (λ b. was && not b) (pair-equal (key, id) k i key id refl refl)
+use Rattle.dv_index.specs.Pairs.{Pair, has_pair}
+use Rattle.dv_index.proofs.Lists.{any-map, equal-from}
 
 pub on-err : {T E P : Type 0} (r : Result T E) → P → OnErr r P
 on-err (Ok x) p = tt
@@ -87,7 +60,7 @@ and-false : (a : Bool) → a && false ≡ false
 and-false true = refl
 and-false false = refl
 
-any-filter : (p q : KeyTree → Bool) (b : Bool) → ((l : KeyTree) → p l ≡ true → q l ≡ b) → (ls : List KeyTree) → list_any p (filter q ls) ≡ list_any p ls && b
+pub any-filter : (p q : KeyTree → Bool) (b : Bool) → ((l : KeyTree) → p l ≡ true → q l ≡ b) → (ls : List KeyTree) → list_any p (filter q ls) ≡ list_any p ls && b
 any-filter p q b agree [] = refl
 any-filter p q b agree (l ∷ ls) = one (q l) (p l) (filter q ls) (list_any p ls) (any-filter p q b agree ls) (agree l) refl
   where
@@ -97,23 +70,13 @@ any-filter p q b agree (l ∷ ls) = one (q l) (p l) (filter q ls) (list_any p ls
     one false true rest r e h is = e ∙ ap (λ c. r && c) (sym (h refl)) ∙ and-false r ∙ h refl
     one false false rest r e h is = e
 
-equal-from : (o : Ordering) → is_eq o ≡ true → o ≡ Equal
-equal-from Less e = absurd cc
-equal-from Equal e = refl
-equal-from Greater e = absurd cc
+-- keys that stand beside each other have the same pairs
+pub same-key : (k l id : KeyTree) (ps : List Pair) → is_eq (key_order k l) ≡ true → has_pair k id ps ≡ has_pair l id ps
+same-key k l id ps e = ap (λ t. list_any t ps) (λ j p. is_eq (key_order_total.congr k l p.0 (equal-from (key_order k l) e) j) && is_eq (key_order id p.1))
 
-same-pairs : (p q : Pair) → pair_order p q ≡ Equal → (ps : List Pair) → list_any (λ r. is_eq (pair_order p r)) ps ≡ list_any (λ r. is_eq (pair_order q r)) ps
-same-pairs p q e [] = refl
-same-pairs p q e (r ∷ rs) =
-    ap (λ o. is_eq o || list_any (λ r. is_eq (pair_order p r)) rs) (pair_order_total.congr p q r e) ∙ ap (λ b. is_eq (pair_order q r) || b) (same-pairs p q e rs)
-
-same-key : (k l id : KeyTree) (ps : List Pair) → is_eq (key_order k l) ≡ true → has_pair k id ps ≡ has_pair l id ps
-same-key k l id ps e =
-    same-pairs (k, id) (l, id) (ap (λ o. ordering_then o (key_order id id)) (equal-from (key_order k l) e) ∙ tied_itself key_order_total id) ps
-
-same-id : (k i id : KeyTree) (ps : List Pair) → is_eq (key_order i id) ≡ true → has_pair k i ps ≡ has_pair k id ps
-same-id k i id ps e =
-    same-pairs (k, i) (k, id) (ap (λ o. ordering_then o (key_order i id)) (tied_itself key_order_total k) ∙ equal-from (key_order i id) e) ps
+-- and so `_id`s
+pub same-id : (k i id : KeyTree) (ps : List Pair) → is_eq (key_order i id) ≡ true → has_pair k i ps ≡ has_pair k id ps
+same-id k i id ps e = ap (λ t. list_any t ps) (λ j p. is_eq (key_order k p.0) && is_eq (key_order_total.congr i id p.1 (equal-from (key_order i id) e) j))
 
 fresh-keys : (ks : List KeyTree) (ps : List Pair) (id k : KeyTree) → has_key k (filter (λ l. not (has_pair l id ps)) ks) ≡ has_key k ks && not (has_pair k id ps)
 fresh-keys ks ps id k =
@@ -125,10 +88,17 @@ added-anyway h false true true same = ap (λ c. (true && not c) && true) (sym (s
 added-anyway h false false true same = refl
 added-anyway h false p false same = and-false (p && not h) ∙ sym (and-false p)
 
-taken-back : (h hi p s : Bool) → (s ≡ true → hi ≡ h) → hi && not ((p && not h) && s) ≡ hi
-taken-back h false p s same = refl
-taken-back h true p true same = ap (λ c. not ((p && not c) && true)) (sym (same refl)) ∙ ap (λ c. not (c && true)) (and-false p)
-taken-back h true p false same = ap not (and-false (p && not h))
+not-both : (p h : Bool) → p && not h ≡ true → h ≡ false
+not-both p false e = refl
+not-both true true e = absurd cc
+not-both false true e = absurd cc
+
+-- what wasn't there is taken out again
+pub taken-back : (h p s : Bool) → (s ≡ true → p ≡ true → h ≡ false) → h && not (p && s) ≡ h
+taken-back false p s absent = refl
+taken-back true true true absent = sym (absent refl refl)
+taken-back true true false absent = refl
+taken-back true false s absent = refl
 
 module _ (ks fresh : List KeyTree) (ps : List Pair) (id : KeyTree) (is : fresh ≡ filter (λ l. not (has_pair l id ps)) ks) (k i : KeyTree) where
   -- to add the keys whose pairs aren't there is to add them all
@@ -137,8 +107,7 @@ module _ (ks fresh : List KeyTree) (ps : List Pair) (id : KeyTree) (is : fresh �
       ap (λ b. has_pair k i ps || (b && is_eq (key_order i id))) (ap (has_key k) is ∙ fresh-keys ks ps id k)
       ∙ added-anyway (has_pair k id ps) (has_pair k i ps) (has_key k ks) (is_eq (key_order i id)) (same-id k i id ps)
 
-  -- and to take them out leaves what was there
-  pub taken-fresh : has_pair k i ps && not (has_key k fresh && is_eq (key_order i id)) ≡ has_pair k i ps
-  taken-fresh =
-      ap (λ b. has_pair k i ps && not (b && is_eq (key_order i id))) (ap (has_key k) is ∙ fresh-keys ks ps id k)
-      ∙ taken-back (has_pair k id ps) (has_pair k i ps) (has_key k ks) (is_eq (key_order i id)) (same-id k i id ps)
+module _ (ks fresh : List KeyTree) (ps : List Pair) (id : KeyTree) (is : fresh ≡ filter (λ l. not (has_pair l id ps)) ks) where
+  -- none of them is there
+  pub fresh-absent : (k : KeyTree) → has_key k fresh ≡ true → has_pair k id ps ≡ false
+  fresh-absent k e = not-both (has_key k ks) (has_pair k id ps) (sym (ap (has_key k) is ∙ fresh-keys ks ps id k) ∙ e)

@@ -1,27 +1,32 @@
 -- A document that matches a filter has a leaf in the bounds of the plan that is chosen for it.
-use Rattle.std.proofs.Common.{◌≡◌, ◌∙◌, ◌⊎◌, inl, inr, ℕ, zero, suc, ◌+◌, ◌≤◌, arith, List, [], ◌∷◌, map, refl, ap, sym, Bool, true, false, cond, ◌&&◌, ◌||◌, Option, Some, None, slice_get}
-use Rattle.std.specs.List.{list_any, filter}
+use Rattle.std.proofs.Common.{◌≡◌, ◌∙◌, ◌⊎◌, inl, inr, ℕ, zero, suc, ◌+◌, ◌≤◌, arith, List, [], ◌∷◌, map, refl, ap, sym, Bool, true, false, cond, ◌&&◌, ◌||◌, ◌==◌, Option, Some, None, slice_get}
+use Rattle.std.specs.List.{AllByRecursion, flat_map, list_any, filter}
+use Rattle.std.specs.Prelude.{codes}
 use Rattle.std.specs.Option.{option_map, option_or}
 use Rattle.std.specs.Str.{bytes_eq}
 use Rattle.std.specs.Ordering.{is_eq}
 use Rattle.std.proofs.lemmas.Slice.Eq.{bytes_eq-Decides}
 use Rattle.std.proofs.lemmas.Bool.{or_left, or_right}
 use Rattle.std.proofs.lemmas.Cmp.{tied_itself}
-use Rattle.dv_bson.specs.Tree.{Tree, Field}
-use Rattle.dv_order.specs.Order.{canon, order}
+use Rattle.dv_bson.specs.Tree.{Tree, Field, array, fields_of, list_of_fields}
+use Rattle.dv_order.specs.Order.{canon, class, order}
 use Rattle.dv_order.specs.Key.{KeyTree, value, key_order}
 use Rattle.dv_order.specs.KeyLaws.{key_order_total}
-use Rattle.dv_path.specs.Candidates.{Candidate, whole, leaves}
+use Rattle.dv_bson.specs.Names.{value_under}
+use Rattle.dv_path.specs.Candidates.{Candidate, candidates, whole, leaves, with_elements}
 use Rattle.dv_match.specs.declared.range.Range.{Range}
 use Rattle.dv_match.specs.declared.range.Range.TheVariants.{Above, AtLeast, Below, AtMost}
 use Rattle.dv_match.specs.Filter.{Member, all_of, any_of, none_of, at_path, Members, no_members, more_members, Filters, no_filters, more_filters, Condition, equal, among, in_range, Conditions, no_conditions, more_conditions}
 use Rattle.dv_match.specs.Match.{or_null, stands, matches, matches_member, matches_all, meets_all, meets}
-use Rattle.dv_coll.specs.Collection.{id_key}
+use Rattle.dv_coll.specs.Collection.{HasId, IsAscending, IsNoArray, found, id_key}
 use Rattle.dv_index.specs.Keys.{is_key_of, is_some_key, is_leaf_key}
 use Rattle.dv_index.specs.Pairs.{has_pair}
 use Rattle.dv_index.specs.Index.{IndexTree}
 use Rattle.dv_index.specs.Choice.{is_point, is_bound, same_path, first_of, first_in, first_in_member, first_in_all, first_place, chosen}
-use Rattle.dv_index.specs.Search.{is_within, has_within, stands_so, covers, IsIndexOf}
+use Rattle.dv_index.proofs.Ends.{class-canon}
+use Rattle.dv_index.proofs.Lists.{or-false}
+use Rattle.dv_index.proofs.Picked.{all-found}
+use Rattle.dv_index.specs.Search.{is_within, has_within, stands_so, covers, IsIndexOf, is_key_under}
 
 both : (a b : Bool) → a && b ≡ true → (a ≡ true) × (b ≡ true)
 both true b e = (refl, e)
@@ -134,13 +139,39 @@ chosen-within ms xs place c x d e there h =
       | inr bound ↦ (let f = found-in is_bound x.path c d ms (at-place is_bound ms 0 paths place c bound place x.path (omega arith) at) h in met-bound c x.path d f.0 f.1)
     ]
 
+-- ---- documents whose `_id`s are gathered
+narrowed : (among-ids : KeyTree → Bool) (test : List Field → Bool) (P : List Field → Type 0) → ((d : List Field) → P d → test d ≡ true → among-ids (id_key d) ≡ true) → (ds : List (List Field)) → AllByRecursion P ds → filter test (filter (λ d. among-ids (id_key d)) ds) ≡ filter test ds
+narrowed among-ids test P h [] all = refl
+narrowed among-ids test P h (d ∷ ds) all = at (among-ids (id_key d)) (test d) refl refl (narrowed among-ids test P h ds all.1)
+  where
+    at : (a b : Bool) → among-ids (id_key d) ≡ a → test d ≡ b → filter test (filter (λ d. among-ids (id_key d)) ds) ≡ filter test ds → filter test (cond a (d ∷ filter (λ d. among-ids (id_key d)) ds) (filter (λ d. among-ids (id_key d)) ds)) ≡ cond b (d ∷ filter test ds) (filter test ds)
+    at true true e f rest = ap (λ x. cond x (d ∷ filter test (filter (λ d. among-ids (id_key d)) ds)) (filter test (filter (λ d. among-ids (id_key d)) ds))) f ∙ ap (λ xs. d ∷ xs) rest
+    at true false e f rest = ap (λ x. cond x (d ∷ filter test (filter (λ d. among-ids (id_key d)) ds)) (filter test (filter (λ d. among-ids (id_key d)) ds))) f ∙ rest
+    at false true e f rest = absurd (let there = h d all.0 f in cc)
+    at false false e f rest = rest
+
+-- ---- the path `_id`
+no-elements : (v : Tree) → IsNoArray v → flat_map with_elements (Some v ∷ []) ≡ Some v ∷ []
+no-elements (array vs) h = absurd h
+no-elements v h = refl
+
+leaves-id : (f : Field) (fs : List Field) → HasId (f ∷ fs) → leaves (f ∷ fs) (codes "_id" ∷ []) ≡ Some f.1 ∷ []
+unfolding leaves whole
+leaves-id f fs h =
+    ap (λ b. flat_map with_elements (flat_map (candidates []) (cond b (Some f.1) (value_under (codes "_id") (list_of_fields (fields_of fs))) ∷ []))) ((bytes_eq-Decides (codes "_id") f.0).1 (sym h.0)) ∙ no-elements f.1 h.1
+
 -- ---- from a leaf in the bounds to a key of the index
 module _ (law : (v w : Tree) → key_order (value (canon v)) (value (canon w)) ≡ order v w) where
   covers-within : (c : Condition) (x : Candidate) → is_within c x ≡ true → covers c (value (canon (or_null x))) ≡ true
   covers-within (equal v) x e = ap is_eq (law (or_null x) v) ∙ e
   covers-within (among vs) x e = ap (λ f. list_any f vs) (λ j v. is_eq (law (or_null x) v j)) ∙ e
-  covers-within (in_range r v) x e = ap (stands_so r) (law (or_null x) v) ∙ by-range r (both _ (stands r v (or_null x)) e).1
+  covers-within (in_range r v) x e =
+      let parts = both (class (or_null x) == class v) (stands r v (or_null x)) e in
+      and-true (ap (λ n. n == class v) (class-canon (or_null x)) ∙ parts.0) (ap (stands_so r) (law (or_null x) v) ∙ by-range r parts.1)
     where
+      and-true : {a b : Bool} → a ≡ true → b ≡ true → a && b ≡ true
+      and-true {b = b} e f = ap (λ c. c && b) e ∙ f
+
       by-range : (s : Range) → stands s v (or_null x) ≡ true → stands_so s (order (or_null x) v) ≡ true
       by-range Above f = f
       by-range AtLeast f = f
@@ -164,20 +195,19 @@ module _ (law : (v w : Tree) → key_order (value (canon v)) (value (canon w)) �
 
   -- the keys of `_id`s that stand beside keys in the bounds are those of all documents that have a leaf there
   module _ (index : IndexTree) (c : Condition) (among-ids : KeyTree → Bool) (gathered : (k i : KeyTree) → covers c k ≡ true → has_pair k i index.pairs ≡ true → among-ids i ≡ true) where
-    id-gathered : (ds : List (List Field)) → IsIndexOf index ds → (d : List Field) → ((p : List Field → Bool) → p d ≡ true → list_any p ds ≡ true) → has_within c index.path d ≡ true → among-ids (id_key d) ≡ true
-    id-gathered ds holds d inside e =
-        let k = leaf-key c index.path d e in
-        gathered k.0 (id_key d) k.1 (holds.has k.0 (id_key d) ∙ inside (λ f. is_eq (key_order (id_key d) (id_key f)) && is_leaf_key k.0 index.path f) (ap (λ b. b && is_leaf_key k.0 index.path d) (ap is_eq (tied_itself key_order_total (id_key d))) ∙ k.2))
+    id-gathered : (ds : List (List Field)) → IsIndexOf index ds → (d : List Field) → found (id_key d) ds ≡ Some d → has_within c index.path d ≡ true → among-ids (id_key d) ≡ true
+    id-gathered ds holds d there e =
+        let k = leaf-key c index.path d e in gathered k.0 (id_key d) k.1 (holds.has k.0 (id_key d) ∙ ap (is_key_under k.0 index.path) there ∙ k.2)
 
-    narrowed : (test : List Field → Bool) (ds : List (List Field)) → ((d : List Field) → ((p : List Field → Bool) → p d ≡ true → list_any p ds ≡ true) → test d ≡ true → among-ids (id_key d) ≡ true) → filter test (filter (λ d. among-ids (id_key d)) ds) ≡ filter test ds
-    narrowed test [] h = refl
-    narrowed test (d ∷ ds) h = at (among-ids (id_key d)) (test d) refl refl (narrowed test ds (λ f inside. h f (λ p e. or_right (p d) (list_any p ds) (inside p e))))
-      where
-        at : (a b : Bool) → among-ids (id_key d) ≡ a → test d ≡ b → filter test (filter (λ d. among-ids (id_key d)) ds) ≡ filter test ds → filter test (cond a (d ∷ filter (λ d. among-ids (id_key d)) ds) (filter (λ d. among-ids (id_key d)) ds)) ≡ cond b (d ∷ filter test ds) (filter test ds)
-        at true true e f rest = ap (λ x. cond x (d ∷ filter test (filter (λ d. among-ids (id_key d)) ds)) (filter test (filter (λ d. among-ids (id_key d)) ds))) f ∙ ap (λ xs. d ∷ xs) rest
-        at true false e f rest = ap (λ x. cond x (d ∷ filter test (filter (λ d. among-ids (id_key d)) ds)) (filter test (filter (λ d. among-ids (id_key d)) ds))) f ∙ rest
-        at false true e f rest = absurd (let there = h d (λ p g. or_left (p d) (list_any p ds) g) f in cc)
-        at false false e f rest = rest
+    pub gathered-all : (test : List Field → Bool) (ds : List (List Field)) → IsIndexOf index ds → IsAscending ds → ((d : List Field) → test d ≡ true → has_within c index.path d ≡ true) → filter test (filter (λ d. among-ids (id_key d)) ds) ≡ filter test ds
+    gathered-all test ds holds ascending within =
+        narrowed among-ids test (λ d. found (id_key d) ds ≡ Some d) (λ d there e. id-gathered ds holds d there (within d e)) ds (all-found ds ascending)
 
-    pub gathered-all : (test : List Field → Bool) (ds : List (List Field)) → IsIndexOf index ds → ((d : List Field) → test d ≡ true → has_within c index.path d ≡ true) → filter test (filter (λ d. among-ids (id_key d)) ds) ≡ filter test ds
-    gathered-all test ds holds within = narrowed test ds (λ d inside e. id-gathered ds holds d inside (within d e))
+  -- the index on `_id` has the `_id`s alone
+  id-covered : (c : Condition) (d : List Field) → HasId d → has_within c (codes "_id" ∷ []) d ≡ true → covers c (id_key d) ≡ true
+  unfolding has_within
+  id-covered c [] h e = absurd h
+  id-covered c (f ∷ fs) h e = covers-within c (Some f.1) (sym (ap (list_any (is_within c)) (leaves-id f fs h) ∙ or-false (is_within c (Some f.1))) ∙ e)
+
+  pub gathered-ids : (c : Condition) (among-ids : KeyTree → Bool) → ((k : KeyTree) → covers c k ≡ true → among-ids k ≡ true) → (test : List Field → Bool) (ds : List (List Field)) → AllByRecursion HasId ds → ((d : List Field) → test d ≡ true → has_within c (codes "_id" ∷ []) d ≡ true) → filter test (filter (λ d. among-ids (id_key d)) ds) ≡ filter test ds
+  gathered-ids c among-ids covered test ds identified within = narrowed among-ids test HasId (λ d h e. covered (id_key d) (id-covered c d h (within d e))) ds identified

@@ -1,15 +1,36 @@
--- An index: its name, its path, and the pairs of a key under the path and the `_id` of a document that has it.
-use Rattle.std.specs.Prelude.{ℕ, List, refl}
+-- An index: its name, its path, and the pairs of a key under the path and the `_id` of a document that has it. The first one
+-- of a collection is on `_id`; it has no pairs, since the documents themselves stand in the order of their `_id`s.
+use Rattle.std.specs.Prelude.{◌≡◌, ℕ, List, [], ◌∷◌, map, codes, refl}
 use Rattle.std.specs.Coded.{Coded, coded_ℕ, coded_list, coded×, code_by}
 use Rattle.dv_order.specs.Key.{coded_key}
 use Rattle.dv_index.specs.Pairs.{Pair}
+
+-- what users see of an index
+pub record IndexForm : Type 0 where
+  pub name : List ℕ
+  pub path : List (List ℕ)
 
 pub record IndexTree : Type 0 where
   pub name : List ℕ
   pub path : List (List ℕ)
   pub pairs : List Pair
 
+abbrev pub form_of : IndexTree → IndexForm
+form_of x = record { name = x.name; path = x.path }
+
+-- the index that every collection has
+abbrev pub id_form : IndexForm
+id_form = record { name = codes "_id_"; path = codes "_id" ∷ [] }
+
+-- the first index is the one on `_id`
+abbrev pub BeginsWithId : List IndexTree → Type 0
+BeginsWithId [] = ⊥
+BeginsWithId (x ∷ xs) = form_of x ≡ id_form
+
 -- an index as a ghost value, one to one
 abbrev pub coded_index : Coded IndexTree
 coded_index =
     code_by (List ℕ × (List (List ℕ) × List Pair)) (coded× (coded_list coded_ℕ) (coded× (coded_list (coded_list coded_ℕ)) (coded_list (coded× coded_key coded_key)))) (λ x. (x.name, (x.path, x.pairs))) (λ p. record { name = p.0; path = p.1.0; pairs = p.1.1 }) (λ _. refl)
+
+abbrev pub coded_form : Coded IndexForm
+coded_form = code_by (List ℕ × List (List ℕ)) (coded× (coded_list coded_ℕ) (coded_list (coded_list coded_ℕ))) (λ x. (x.name, x.path)) (λ p. record { name = p.0; path = p.1 }) (λ _. refl)

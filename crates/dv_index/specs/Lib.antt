@@ -1,7 +1,10 @@
 pub mod Keys
 pub mod Pairs
-pub mod PairLaws
+pub mod Ids
 pub mod Index
 pub mod Choice
 pub mod View
+pub mod Ends
 pub mod Search
+pub mod Indexed
+pub mod Change

@@ -1,21 +1,24 @@
 -- Indexes as finite sets of pairs: a key, and the key of the `_id` of a document that has it.
-use Rattle.std.specs.Prelude.{Bool, List}
-use Rattle.std.specs.List.{list_any}
-use Rattle.std.specs.Ordering.{is_eq, ordering_then}
-use Rattle.std.specs.declared.cmp.Ordering.{Ordering}
+use Rattle.std.specs.Prelude.{Bool, List, map, ◌&&◌}
+use Rattle.std.specs.List.{flat_map, list_any}
+use Rattle.std.specs.Ordering.{is_eq}
 use Rattle.dv_order.specs.Key.{KeyTree, key_order}
 
 abbrev pub Pair : Type 0
 Pair = KeyTree × KeyTree
 
--- pairs stand by their keys, and then by their `_id`s
-abbrev pub pair_order : Pair → Pair → Ordering
-pair_order p q = ordering_then (key_order p.0 q.0) (key_order p.1 q.1)
+-- whether a pair is that of a key and an `_id`
+abbrev pub is_pair_of : KeyTree → KeyTree → Pair → Bool
+is_pair_of k id p = is_eq (key_order k p.0) && is_eq (key_order id p.1)
 
 -- whether a set, as its list of pairs, has the pair of a key and an `_id`
 abbrev pub has_pair : KeyTree → KeyTree → List Pair → Bool
-has_pair k id ps = list_any (λ p. is_eq (pair_order (k, id) p)) ps
+has_pair k id ps = list_any (is_pair_of k id) ps
 
 -- whether some of these pairs have an `_id`
 abbrev pub has_id : KeyTree → List Pair → Bool
 has_id id ps = list_any (λ p. is_eq (key_order id p.1)) ps
+
+-- the pairs of keys, each with the `_id`s under it
+abbrev pub pairs_of : List (KeyTree × List KeyTree) → List Pair
+pairs_of es = flat_map (λ e. map (λ id. (e.0, id)) e.1) es

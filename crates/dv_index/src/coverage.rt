@@ -1,11 +1,11 @@
 //! How many documents a plan covers.
 
-ghost use Rattle.std.specs.Prelude.{◌≡◌, ℕ, IfOk, Some, slice_get, count_by};
+ghost use Rattle.std.specs.Prelude.{◌≡◌, map, IfOk, Some, count_by};
 ghost use Rattle.dv_bson.specs.View.{tree};
 ghost use Rattle.dv_match.specs.Match as matching;
 ghost use Rattle.dv_path.specs.View.{seen};
-ghost use Rattle.dv_index.specs.Index.{IndexTree};
-ghost use Rattle.dv_index.specs.Search.{IsIndexOf, is_within, has_within};
+ghost use Rattle.dv_index.specs.Change.{AreIndexesOf, IsIndexAt};
+ghost use Rattle.dv_index.specs.Search.{is_within, has_within};
 ghost use Rattle.dv_index.specs.Search as defined;
 ghost use Rattle.dv_index.specs.View.{bounds_seen, plan_seen};
 
@@ -27,13 +27,13 @@ pub fn covered(
     collection: &Collection,
     indexes: &Indexes,
 ) -> Result<usize, NoMemory>
-    requires { (place : ℕ) (index : IndexTree) → slice_get indexes.now place ≡ Some index → IsIndexOf index collection.now }
-    ensures { IfOk result (λ count. count ≡ defined.covered (plan_seen plan.now) indexes.now collection.now) }
+    requires { AreIndexesOf indexes.now collection.now }
+    ensures { IfOk result (λ count. count ≡ defined.covered (plan_seen plan.now) (map (λ i. i.path) indexes.now) collection.now) }
 {
     match *plan {
         Plan::Scan => Ok(collection.len()),
         Plan::Index { place, bounds } => match indexes.get(place) {
-            Some(index) => covered_by(alloc, index, bounds, collection),
+            Some(index) => covered_by(alloc, place, index, bounds, collection),
             None => Ok(0),
         },
     }
@@ -42,14 +42,15 @@ pub fn covered(
 /// How many documents have a leaf in the bounds, under the path of the index.
 fn covered_by(
     alloc: Global,
+    place: usize,
     index: &Index,
     bounds: Bounds<'_>,
     collection: &Collection,
 ) -> Result<usize, NoMemory>
-    requires { IsIndexOf index.now collection.now }
+    requires { IsIndexAt place index.now collection.now }
     ensures { IfOk result (λ count. count ≡ count_by (has_within (bounds_seen bounds.entry) index.now.path) collection.now) }
 {
-    let found = candidates(alloc, index, bounds, collection)?;
+    let found = candidates(alloc, place, index, bounds, collection)?;
     Ok(count_within(&found, index.path(), bounds))
 }
 

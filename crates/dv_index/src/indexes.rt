@@ -1,12 +1,27 @@
 //! The indexes of a collection.
 
-ghost use Rattle.std.specs.Prelude.{◌≡◌, slice_get};
+ghost use Rattle.std.specs.Prelude.{◌≡◌, ◌&&◌, ◌||◌, ◌∷◌, ◌++◌, [], true, false, map, not, filter, slice_get, IfOk, IsErrOf, OnErr, OnOk};
+ghost use Rattle.std.specs.List.{AllByRecursion, list_any};
 ghost use Rattle.std.specs.Option.{option_copied};
+ghost use Rattle.std.specs.Ordering.{is_eq};
+ghost use Rattle.dv_order.specs.Key.{KeyTree, key_order};
+ghost use Rattle.dv_index.specs.Change.{AreIndexesOf, IsChangeOf, IsFresh, IsTaken, documents_after};
+ghost use Rattle.dv_index.specs.Index.{BeginsWithId, form_of, id_form};
+ghost use Rattle.dv_index.specs.Indexed.{is_dropped};
+ghost use Rattle.dv_index.specs.Keys.{has_key};
+ghost use Rattle.dv_index.specs.Pairs.{has_pair};
 
+use crate::change::{Change, carry_out};
 use crate::multi_index::MultiIndex;
-use dv_bson::Str;
-use dv_path::Path;
+use dv_bson::{NoMemory, Str};
+use dv_coll::{Collection, InsertFault};
+use dv_order::Key;
+use dv_path::{Path, PathFault};
+use std::alloc::{AllocError, Global};
 use std::marker::Model;
+
+/// The name of the index that every collection has, which is on `_id`.
+const ID_INDEX: &str = "_id_";
 
 /// An index: its name, its path, and the pairs of a key under the path and the key of the `_id` of a document that has it.
 #[derive(Debug, Drop)]
@@ -48,11 +63,29 @@ impl Index {
         &self.path
     }
 
-    /// The pairs.
+    /// The pairs. The index on `_id` has none: the documents themselves stand in the order of their `_id`s.
     pub fn pairs(&self) -> &MultiIndex
         ensures { result.now ≡ self.now.pairs }
     {
         &self.pairs
+    }
+
+    /// Adds a pair for each key, none of which is there. Where memory is wanting, the pairs are those that there were.
+    pub(crate) fn add(&mut self, keys: &[&Key], id: &Key) -> Result<(), NoMemory>
+        requires { (k : KeyTree) → has_key k (map (λ l. l.now) keys.now) ≡ true → has_pair k id.now self.old.pairs ≡ false }
+        ensures form { form_of self.new ≡ form_of self.old }
+        ensures ok { OnOk result ((k i : KeyTree) → has_pair k i self.new.pairs ≡ (has_pair k i self.old.pairs || (has_key k (map (λ l. l.now) keys.now) && is_eq (key_order i id.now)))) }
+        ensures err { OnErr result ((k i : KeyTree) → has_pair k i self.new.pairs ≡ has_pair k i self.old.pairs) }
+    {
+        self.pairs.add_fresh(keys, id)
+    }
+
+    /// Takes out the pair of each key, where it is there. Takes no memory.
+    pub(crate) fn take_out(&mut self, keys: &[&Key], id: &Key)
+        ensures form { form_of self.new ≡ form_of self.old }
+        ensures pairs { (k i : KeyTree) → has_pair k i self.new.pairs ≡ (has_pair k i self.old.pairs && not (has_key k (map (λ l. l.now) keys.now) && is_eq (key_order i id.now))) }
+    {
+        self.pairs.take_out_each(keys, id);
     }
 }
 
@@ -65,34 +98,147 @@ pub struct Indexes {
 impl Model for Indexes {
     ghost use Rattle.std.specs.Prelude.{List};
     ghost use Rattle.std.specs.Coded.{coded_list};
-    ghost use Rattle.dv_index.specs.Index.{IndexTree, coded_index};
+    ghost use Rattle.dv_index.specs.Index.{BeginsWithId, IndexTree, coded_index};
 
     ghost Value = { List IndexTree };
 
     ghost coded = { coded_list coded_index };
 
     ghost view = { λ i. i.indexes.items };
+
+    ghost invariant = { λ i. BeginsWithId i.indexes.items };
 }
 
 impl Indexes {
-    /// These indexes, in this order. Takes no memory.
-    pub fn of(indexes: Vec<Index>) -> Self
-        ensures { result ≡ indexes.items }
+    /// The index on `_id` alone. Fails where memory is wanting.
+    pub fn new(alloc: Global) -> Result<Self, NoMemory>
+        ensures { IfOk result (λ indexes. map form_of indexes ≡ id_form ∷ []) }
     {
-        Indexes { indexes }
+        let mut indexes = Vec::new(alloc);
+        indexes.push(Index {
+            name: Str::of(String::from_str(alloc, ID_INDEX)?),
+            path: id_path(alloc)?,
+            pairs: MultiIndex::new(alloc),
+        })?;
+        Ok(Indexes { indexes })
     }
 
     /// The index at a place in creation order, counted from 0, where there is one.
     pub fn get(&self, place: usize) -> Option<&Index>
-        ensures { option_copied result ≡ slice_get self.now place }
+        ensures index { option_copied result ≡ slice_get self.now place }
+        ensures id_first { BeginsWithId self.now }
     {
         self.indexes.as_slice().get(place)
     }
 
     /// The indexes in creation order.
     pub fn as_slice(&self) -> &[Index]
-        ensures { result.now ≡ self.now }
+        ensures indexes { result.now ≡ self.now }
+        ensures id_first { BeginsWithId self.now }
     {
         self.indexes.as_slice()
     }
+
+    /// Puts an index behind the others. Where memory is wanting, nothing changes, and the index is dropped.
+    pub fn push(&mut self, index: Index) -> Result<(), NoMemory>
+        ensures ok { OnOk result (self.new ≡ self.old ++ index ∷ []) }
+        ensures err { OnErr result (self.new ≡ self.old) }
+        ensures id_first { BeginsWithId self.old }
+    {
+        Ok(self.indexes.push(index)?)
+    }
+
+    /// Takes out the indexes of a name, but never the one on `_id`, and answers whether there is one. Takes no memory.
+    pub fn remove(&mut self, name: &str) -> bool
+        ensures found { result ≡ list_any (is_dropped name.now) (map form_of self.old) }
+        ensures indexes { self.new ≡ filter (λ x. not (is_dropped name.now (form_of x))) self.old }
+        ensures id_first { BeginsWithId self.old }
+    {
+        let found = has_dropped(self.indexes.as_slice(), name);
+        drop_named(&mut self.indexes, name);
+        found
+    }
+
+    /// Takes out all indexes but the one on `_id`. Takes no memory.
+    pub fn clear(&mut self)
+        ensures { map form_of self.new ≡ id_form ∷ [] }
+    {
+        self.indexes.truncate(1);
+    }
+
+    /// Changes one document, and with it the indexes. Refused as the change of the document is, and where memory is
+    /// wanting; then nothing is changed.
+    pub(crate) fn change(
+        &mut self,
+        alloc: Global,
+        documents: &mut Collection,
+        change: Change<'_>,
+    ) -> Result<(), InsertFault>
+        requires possible { IsChangeOf change documents.old }
+        requires indexed { AreIndexesOf self.old documents.old }
+        ensures documents { OnOk result (documents.new ≡ documents_after change.entry documents.old) }
+        ensures fresh { OnOk result (IsFresh change.entry documents.old) }
+        ensures indexed { OnOk result (AreIndexesOf self.new documents.new) }
+        ensures err { OnErr result (documents.new ≡ documents.old) }
+        ensures still_indexed { OnErr result (AreIndexesOf self.new documents.old) }
+        ensures forms { map form_of self.new ≡ map form_of self.old }
+        ensures taken { IsErrOf result InsertFault.Duplicate → IsTaken change.entry documents.old }
+    {
+        change_behind_first(alloc, self.indexes.as_mut_slice(), documents, change)
+    }
+}
+
+/// Changes one document, and with it the indexes but the first, which is the one on `_id`.
+fn change_behind_first(
+    alloc: Global,
+    indexes: &mut [Index],
+    documents: &mut Collection,
+    change: Change<'_>,
+) -> Result<(), InsertFault>
+    requires possible { IsChangeOf change documents.old }
+    requires indexed { AreIndexesOf indexes.old documents.old }
+    requires id_first { BeginsWithId indexes.old }
+    ensures documents { OnOk result (documents.new ≡ documents_after change.entry documents.old) }
+    ensures fresh { OnOk result (IsFresh change.entry documents.old) }
+    ensures indexed { OnOk result (AreIndexesOf indexes.new documents.new) }
+    ensures err { OnErr result (documents.new ≡ documents.old) }
+    ensures still_indexed { OnErr result (AreIndexesOf indexes.new documents.old) }
+    ensures forms { map form_of indexes.new ≡ map form_of indexes.old }
+    ensures taken { IsErrOf result InsertFault.Duplicate → IsTaken change.entry documents.old }
+{
+    let Some((_by_id, others)) = indexes.split_first_mut() else {
+        unreachable!()
+    };
+    carry_out(alloc, others, documents, change)
+}
+
+/// The path `_id`. Fails where memory is wanting.
+#[tactic(auto, unfolding(dv_path::specs::Path::path_of))]
+fn id_path(alloc: Global) -> Result<Path, NoMemory>
+    ensures { IfOk result (λ path. path ≡ id_form.path) }
+{
+    match Path::parse(alloc, "_id") {
+        Ok(path) => Ok(path),
+        Err(PathFault::NoMemory) => Err(AllocError),
+        Err(_) => unreachable!(),
+    }
+}
+
+/// Whether the index goes with a name.
+fn goes(index: &Index, name: &str) -> bool
+    ensures { result ≡ is_dropped name.now (form_of index.now) }
+{
+    index.name() == name && index.name() != ID_INDEX
+}
+
+fn has_dropped(indexes: &[Index], name: &str) -> bool
+    ensures { result ≡ list_any (λ x. is_dropped name.now (form_of x)) indexes.now }
+{
+    indexes.iter().any(|index| goes(index, name))
+}
+
+fn drop_named(indexes: &mut Vec<Index>, name: &str)
+    ensures { indexes.new.items ≡ filter (λ x. not (is_dropped name.now (form_of x))) indexes.old.items }
+{
+    indexes.retain(|index| !goes(index, name));
 }

@@ -1,6 +1,6 @@
 //! The keys of a document under a path.
 
-ghost use Rattle.std.specs.Prelude.{◌≡◌, ◌||◌, IfOk, OnOk, Some, map};
+ghost use Rattle.std.specs.Prelude.{◌≡◌, ◌||◌, not, [], IfOk, OnOk, Some, filter, map};
 ghost use Rattle.std.specs.List.{list_any};
 ghost use Rattle.std.specs.BTreeSet.{contains};
 ghost use Rattle.dv_order.specs.Key.{KeyTree, key_order};
@@ -35,6 +35,15 @@ impl Model for Keys {
 }
 
 impl Keys {
+    /// No key. Takes no memory.
+    pub(crate) fn none(alloc: Global) -> Self
+        ensures { result ≡ [] }
+    {
+        Keys {
+            keys: BTreeSet::new(alloc),
+        }
+    }
+
     /// The keys.
     pub(crate) fn as_set(&self) -> &BTreeSet<Key>
         ensures { result.now.keys ≡ self.now }
@@ -70,7 +79,8 @@ fn with_leaves(mut keys: BTreeSet<Key>, candidate: Candidate<'_>) -> Result<BTre
     Ok(keys)
 }
 
-fn add_elements(keys: &mut BTreeSet<Key>, list: &List) -> Result<(), NoMemory>
+/// Adds the keys of the list's values to a set. Where memory is wanting, some of them are added.
+pub(crate) fn add_elements(keys: &mut BTreeSet<Key>, list: &List) -> Result<(), NoMemory>
     ensures { OnOk result ((k : KeyTree) → contains key_order keys.new k ≡ (contains key_order keys.old k || is_some_key k (map Some list.now))) }
 {
     for element in list.as_slice() {
@@ -79,9 +89,30 @@ fn add_elements(keys: &mut BTreeSet<Key>, list: &List) -> Result<(), NoMemory>
     Ok(())
 }
 
-fn add_key(keys: &mut BTreeSet<Key>, value: &Value) -> Result<(), NoMemory>
+/// Adds the value's key to a set. Where memory is wanting, nothing changes.
+pub(crate) fn add_key(keys: &mut BTreeSet<Key>, value: &Value) -> Result<(), NoMemory>
     ensures { OnOk result ((k : KeyTree) → contains key_order keys.new k ≡ (contains key_order keys.old k || is_key_of (tree value.now) k)) }
 {
     let _ = keys.insert(key_of(value)?)?;
     Ok(())
+}
+
+/// The keys that aren't among others. Fails where memory is wanting.
+pub(crate) fn keys_without<'k>(
+    alloc: Global,
+    keys: &'k Keys,
+    others: &Keys,
+) -> Result<Vec<&'k Key>, NoMemory>
+    ensures { IfOk result (λ kept. map (λ k. k.now) kept.items ≡ filter (λ k. not (has_key k others.now)) keys.now) }
+{
+    keys.as_set()
+        .iter()
+        .filter(|key| !has(others, key))
+        .collect(alloc)
+}
+
+fn has(keys: &Keys, key: &Key) -> bool
+    ensures { result ≡ has_key key.now keys.now }
+{
+    keys.as_set().contains(key)
 }

@@ -1,7 +1,11 @@
 //! Indexes of BSON documents by what a path leads to.
 #![tactic(auto)]
 
+mod bounds;
+mod change;
 mod coverage;
+mod ids;
+mod indexed;
 mod indexes;
 mod keys;
 mod multi_index;
@@ -9,6 +13,7 @@ mod plan;
 mod search;
 
 pub use coverage::covered;
+pub use indexed::{Explanation, IndexedCollection};
 pub use indexes::{Index, Indexes};
 pub use keys::{Keys, keys_of};
 pub use multi_index::MultiIndex;

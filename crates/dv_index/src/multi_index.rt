@@ -1,21 +1,20 @@
 //! Indexes, by which the documents are found that have a key.
 
-ghost use Rattle.std.specs.Prelude.{◌≡◌, ◌||◌, ◌&&◌, not, [], map, filter, OnErr, OnOk, IfOk};
+ghost use Rattle.std.specs.Prelude.{◌≡◌, ◌||◌, ◌&&◌, true, false, not, [], map, filter, OnErr, OnOk, IfOk};
 ghost use Rattle.std.specs.Ordering.{is_eq};
-ghost use Rattle.dv_order.specs.Key.{KeyTree, key_order};
-ghost use Rattle.dv_index.specs.Keys.{has_key};
-ghost use Rattle.dv_index.specs.Pairs.{has_id, has_pair, pair_order};
 ghost use Rattle.std.specs.BTreeMap.Range.{IsLeBy, IsLtBy, range_contains};
 ghost use Rattle.std.specs.BTreeSet.{contains};
 ghost use Rattle.std.specs.Range.Bound.{IsForward};
+ghost use Rattle.dv_order.specs.Key.{KeyTree, key_order};
+ghost use Rattle.dv_index.specs.Keys.{has_key};
+ghost use Rattle.dv_index.specs.Pairs.{has_id, has_pair};
 
+use crate::ids::Ids;
 use crate::keys::Keys;
 use dv_bson::NoMemory;
 use dv_order::Key;
 use std::alloc::Global;
-use std::cmp::Ordering;
-use std::collections::BTreeSet;
-use std::collections::btree_map::Comparable;
+use std::collections::{BTreeMap, BTreeSet};
 use std::marker::Model;
 use std::ops::Bound;
 
@@ -23,42 +22,24 @@ use std::ops::Bound;
 #[derive(Debug, Drop)]
 pub struct MultiIndex {
     alloc: Global,
-    pairs: BTreeSet<(Key, Key)>,
+    entries: BTreeMap<Key, Ids>,
 }
 
 impl Model for MultiIndex {
     ghost use Rattle.std.specs.Prelude as prelude;
     ghost use Rattle.std.specs.Coded.{coded_list, coded×};
-    ghost use Rattle.dv_order.specs.Key.{coded_key};
-    ghost use Rattle.dv_index.specs.Pairs.{Pair};
+    ghost use Rattle.std.specs.List.Sorted.{IsStrictlySortedBy};
+    ghost use Rattle.std.specs.Map.{keys_of};
+    ghost use Rattle.dv_order.specs.Key.{coded_key, key_order};
+    ghost use Rattle.dv_index.specs.Pairs.{Pair, pairs_of};
 
     ghost Value = { prelude.List Pair };
 
     ghost coded = { coded_list (coded× coded_key coded_key) };
 
-    ghost view = { λ i. i.pairs.keys };
-}
+    ghost view = { λ i. pairs_of i.entries.entries };
 
-/// A pair that is looked up, and belongs to others.
-#[derive(Clone, Copy)]
-struct Lent<'a> {
-    key: &'a Key,
-    id: &'a Key,
-}
-
-impl Comparable<(Key, Key)> for Lent<'_> {
-    ghost use Rattle.dv_index.specs.Pairs.{pair_order};
-    ghost use Rattle.dv_index.specs.PairLaws.{pair_order_total, at_most_then_below};
-
-    ghost compare = { λ q. pair_order (q.key.now, q.id.now) };
-
-    ghost respects_cmp = { λ q. pair_order_total.congr (q.key.now, q.id.now) };
-
-    ghost below_greater = { λ q. at_most_then_below (q.key.now, q.id.now) };
-
-    fn compare(&self, pair: &(Key, Key)) -> Ordering {
-        self.key.cmp(&pair.0).then(self.id.cmp(&pair.1))
-    }
+    ghost invariant = { λ i. IsStrictlySortedBy key_order (keys_of i.entries.entries) };
 }
 
 impl MultiIndex {
@@ -68,7 +49,7 @@ impl MultiIndex {
     {
         MultiIndex {
             alloc,
-            pairs: BTreeSet::new(alloc),
+            entries: BTreeMap::new(alloc),
         }
     }
 
@@ -79,10 +60,19 @@ impl MultiIndex {
     {
         // A pair that was there stays where memory is wanting.
         let fresh = self.absent(keys, id)?;
-        match self.add_each(fresh.as_slice(), id) {
+        self.add_fresh(fresh.as_slice(), id)
+    }
+
+    /// Adds a pair for each key, none of which is there. Where memory is wanting, the pairs are those that there were.
+    pub(crate) fn add_fresh(&mut self, fresh: &[&Key], id: &Key) -> Result<(), NoMemory>
+        requires { (k : KeyTree) → has_key k (map (λ l. l.now) fresh.now) ≡ true → has_pair k id.now self.old ≡ false }
+        ensures ok { OnOk result ((k i : KeyTree) → has_pair k i self.new ≡ (has_pair k i self.old || (has_key k (map (λ l. l.now) fresh.now) && is_eq (key_order i id.now)))) }
+        ensures err { OnErr result ((k i : KeyTree) → has_pair k i self.new ≡ has_pair k i self.old) }
+    {
+        match self.add_each(fresh, id) {
             Ok(()) => Ok(()),
             Err(e) => {
-                self.take_out_each(fresh.as_slice(), id);
+                self.take_out_each(fresh, id);
                 Err(e)
             }
         }
@@ -97,18 +87,29 @@ impl MultiIndex {
         }
     }
 
-    /// Adds to a set the `_id`s' keys of the pairs between two bounds. Where memory is wanting, some of them are added.
+    /// Adds to a set the `_id`s' keys that stand under a key. Where memory is wanting, some of them are added.
+    pub(crate) fn add_ids_at(&self, key: &Key, ids: &mut BTreeSet<Key>) -> Result<(), NoMemory>
+        ensures { OnOk result ((i : KeyTree) → contains key_order ids.new i ≡ (contains key_order ids.old i || has_pair key.now i self.now)) }
+    {
+        match self.entries.get(key) {
+            Some(found) => found.add_to(ids),
+            None => Ok(()),
+        }
+    }
+
+    /// Adds to a set the `_id`s' keys of the pairs whose keys stand between two ends. Where memory is wanting, some of them
+    /// are added.
     pub(crate) fn add_ids_between(
         &self,
-        low: Bound<(Key, Key)>,
-        high: Bound<(Key, Key)>,
+        low: Bound<Key>,
+        high: Bound<Key>,
         ids: &mut BTreeSet<Key>,
     ) -> Result<(), NoMemory>
-        requires { IsForward (IsLeBy pair_order) (IsLtBy pair_order) low high }
-        ensures { OnOk result ((i : KeyTree) → contains key_order ids.new i ≡ (contains key_order ids.old i || has_id i (filter (range_contains pair_order low high) self.now))) }
+        requires { IsForward (IsLeBy key_order) (IsLtBy key_order) low high }
+        ensures { OnOk result ((i : KeyTree) → contains key_order ids.new i ≡ (contains key_order ids.old i || has_id i (filter (λ p. range_contains key_order low high p.0) self.now))) }
     {
-        for pair in self.pairs.range((low, high)) {
-            let _ = ids.insert(pair.1.try_clone()?)?;
+        for (_, found) in self.entries.range((low, high)) {
+            found.add_to(ids)?;
         }
         Ok(())
     }
@@ -126,7 +127,10 @@ impl MultiIndex {
     fn has(&self, key: &Key, id: &Key) -> bool
         ensures { result ≡ has_pair key.now id.now self.now }
     {
-        self.pairs.contains(Lent { key, id })
+        match self.entries.get(key) {
+            Some(ids) => ids.contains(id),
+            None => false,
+        }
     }
 
     /// Adds a pair for each key. Where memory is wanting, some of them are added.
@@ -140,7 +144,8 @@ impl MultiIndex {
         Ok(())
     }
 
-    fn take_out_each(&mut self, keys: &[&Key], id: &Key)
+    /// Takes out the pair of each key, where it is there. Takes no memory.
+    pub(crate) fn take_out_each(&mut self, keys: &[&Key], id: &Key)
         ensures { (k i : KeyTree) → has_pair k i self.new ≡ (has_pair k i self.old && not (has_key k (map (λ l. l.now) keys.now) && is_eq (key_order i id.now))) }
     {
         for key in keys {
@@ -152,13 +157,32 @@ impl MultiIndex {
         ensures ok { OnOk result ((k i : KeyTree) → has_pair k i self.new ≡ (has_pair k i self.old || (is_eq (key_order k key.now) && is_eq (key_order i id.now)))) }
         ensures err { OnErr result ((k i : KeyTree) → has_pair k i self.new ≡ has_pair k i self.old) }
     {
-        let _ = self.pairs.insert((key.try_clone()?, id.try_clone()?))?;
+        match self.entries.get_mut(key) {
+            Some(ids) => ids.add(id),
+            None => self.add_key(key, id),
+        }
+    }
+
+    /// Adds a key that isn't there, with one `_id`. Where memory is wanting, nothing changes.
+    fn add_key(&mut self, key: &Key, id: &Key) -> Result<(), NoMemory>
+        requires { (i : KeyTree) → has_pair key.now i self.old ≡ false }
+        ensures ok { OnOk result ((k i : KeyTree) → has_pair k i self.new ≡ (has_pair k i self.old || (is_eq (key_order k key.now) && is_eq (key_order i id.now)))) }
+        ensures err { OnErr result ((k i : KeyTree) → has_pair k i self.new ≡ has_pair k i self.old) }
+    {
+        let ids = Ids::of(self.alloc, id.try_clone()?);
+        drop(self.entries.insert(key.try_clone()?, ids)?);
         Ok(())
     }
 
     fn take_out_pair(&mut self, key: &Key, id: &Key)
         ensures { (k i : KeyTree) → has_pair k i self.new ≡ (has_pair k i self.old && not (is_eq (key_order k key.now) && is_eq (key_order i id.now))) }
     {
-        let _ = self.pairs.remove(Lent { key, id });
+        let Some(ids) = self.entries.get_mut(key) else {
+            return;
+        };
+        ids.take_out(id);
+        if ids.is_empty() {
+            drop(self.entries.remove(key));
+        }
     }
 }

@@ -1,22 +1,23 @@
 //! The documents that a plan finds.
 
-ghost use Rattle.std.specs.Prelude.{◌≡◌, ℕ, Bool, true, List as Sequence, map, filter as kept, IfOk, OnOk, slice_get, Some};
+ghost use Rattle.std.specs.Prelude.{◌≡◌, Bool, true, List as Sequence, map, filter as kept, IfOk, OnOk};
 ghost use Rattle.dv_bson.specs.Tree.{Field};
 ghost use Rattle.dv_match.specs.Match.{matches};
 ghost use Rattle.dv_index.specs.Choice.{chosen};
-ghost use Rattle.dv_index.specs.Index.{IndexTree};
 ghost use Rattle.std.specs.BTreeSet.{contains};
 ghost use Rattle.dv_coll.specs.Collection.{id_key};
-ghost use Rattle.dv_bson.specs.Tree.{min_key, max_key};
 ghost use Rattle.dv_bson.specs.View.{tree};
 ghost use Rattle.dv_match.specs.Filter.{among, equal, in_range};
-ghost use Rattle.dv_order.specs.Key.{KeyTree, key_order, value as key_of_tree};
-ghost use Rattle.dv_index.specs.Keys.{is_key_of};
+ghost use Rattle.dv_order.specs.Key.{KeyTree, key_order};
 ghost use Rattle.dv_index.specs.Pairs.{has_pair};
+ghost use Rattle.dv_index.specs.Change.{AreIndexesOf, IsIndexAt};
+ghost use Rattle.dv_index.specs.Index.{id_form};
 ghost use Rattle.dv_index.specs.Search.{IsIndexOf, covers, has_within};
 ghost use Rattle.dv_index.specs.View.{bounds_seen, plan_seen};
 
+use crate::bounds::ends_within;
 use crate::indexes::{Index, Indexes};
+use crate::keys::{add_elements, add_key};
 use crate::multi_index::MultiIndex;
 use crate::plan::{Bounds, Plan};
 use dv_bson::{Document, List, NoMemory, Value};
@@ -25,10 +26,9 @@ use dv_match::{Filter, Range};
 use dv_order::{Key, key_of, laws};
 use std::alloc::Global;
 use std::collections::BTreeSet;
-use std::ops::Bound;
 
 /// The documents that match the filter, in the order of their `_id`s. By an index only those are looked at that have a key
-/// in the plan's bounds, or in another class beyond a range's bound. Fails where memory is wanting.
+/// in the plan's bounds. Fails where memory is wanting.
 pub fn run<'c>(
     alloc: Global,
     plan: &Plan<'_>,
@@ -36,13 +36,13 @@ pub fn run<'c>(
     collection: &'c Collection,
     indexes: &Indexes,
 ) -> Result<Vec<&'c Document>, NoMemory>
-    requires indexed { (place : ℕ) (index : IndexTree) → slice_get indexes.now place ≡ Some index → IsIndexOf index collection.now }
+    requires indexed { AreIndexesOf indexes.now collection.now }
     requires planned { plan_seen plan.now ≡ chosen filter.now (map (λ i. i.path) indexes.now) }
     ensures { IfOk result (λ found. map (λ d. d.now) found.items ≡ kept (λ d. matches filter.now d) collection.now) }
 {
     if let Plan::Index { place, bounds } = *plan {
         if let Some(index) = indexes.get(place) {
-            let found = candidates(alloc, index, bounds, collection)?;
+            let found = candidates(alloc, place, index, bounds, collection)?;
             return matching(alloc, &found, filter);
         }
     }
@@ -76,8 +76,58 @@ fn matching<'c>(
         .collect(alloc)
 }
 
-/// The documents among which are all that have a leaf in the bounds, in the order of their `_id`s.
+/// The documents among which are all that have a leaf in the bounds of the index at a place, in the order of their `_id`s.
 pub(crate) fn candidates<'c>(
+    alloc: Global,
+    place: usize,
+    index: &Index,
+    bounds: Bounds<'_>,
+    collection: &'c Collection,
+) -> Result<Vec<&'c Document>, NoMemory>
+    requires { IsIndexAt place index.now collection.now }
+    ensures { IfOk result (λ found. (test : Sequence Field → Bool) → ((d : Sequence Field) → test d ≡ true → has_within (bounds_seen bounds.entry) index.now.path d ≡ true) → kept test (map (λ d. d.now) found.items) ≡ kept test collection.now) }
+{
+    if place == 0 {
+        candidates_by_id(alloc, bounds, collection)
+    } else {
+        candidates_by_key(alloc, index, bounds, collection)
+    }
+}
+
+/// The same of the index on `_id`: the documents themselves stand in the order of their `_id`s.
+fn candidates_by_id<'c>(
+    alloc: Global,
+    bounds: Bounds<'_>,
+    collection: &'c Collection,
+) -> Result<Vec<&'c Document>, NoMemory>
+    ensures { IfOk result (λ found. (test : Sequence Field → Bool) → ((d : Sequence Field) → test d ≡ true → has_within (bounds_seen bounds.entry) id_form.path d ≡ true) → kept test (map (λ d. d.now) found.items) ≡ kept test collection.now) }
+{
+    // A key stands to a bound as its value does.
+    laws::keys_stand_as_their_values();
+    // Each document has an `_id`.
+    let _ = collection.len();
+    let mut ids = BTreeSet::new(alloc);
+    match bounds {
+        Bounds::Equal(value) => {
+            add_key(&mut ids, value)?;
+            documents_of(alloc, &ids, collection)
+        }
+        Bounds::Among(choices) => {
+            add_elements(&mut ids, choices.values())?;
+            documents_of(alloc, &ids, collection)
+        }
+        Bounds::Within(..) => all_of(alloc, collection),
+    }
+}
+
+fn all_of(alloc: Global, collection: &Collection) -> Result<Vec<&Document>, NoMemory>
+    ensures { IfOk result (λ found. map (λ d. d.now) found.items ≡ collection.now) }
+{
+    collection.iter().collect(alloc)
+}
+
+/// The same of an index that has pairs.
+fn candidates_by_key<'c>(
     alloc: Global,
     index: &Index,
     bounds: Bounds<'_>,
@@ -86,8 +136,9 @@ pub(crate) fn candidates<'c>(
     requires { IsIndexOf index.now collection.now }
     ensures { IfOk result (λ found. (test : Sequence Field → Bool) → ((d : Sequence Field) → test d ≡ true → has_within (bounds_seen bounds.entry) index.now.path d ≡ true) → kept test (map (λ d. d.now) found.items) ≡ kept test collection.now) }
 {
-    // A key stands to a bound as its value does.
     laws::keys_stand_as_their_values();
+    // The documents ascend by their `_id`s.
+    let _ = collection.len();
     let ids = ids_within(alloc, index.pairs(), bounds)?;
     documents_of(alloc, &ids, collection)
 }
@@ -111,7 +162,7 @@ fn documents_of<'c>(
     Ok(found)
 }
 
-/// The `_id`s' keys of the pairs whose keys are in the bounds. Beyond a range's bound, keys of other classes are among them.
+/// The `_id`s' keys of the pairs whose keys are in the bounds.
 fn ids_within(
     alloc: Global,
     index: &MultiIndex,
@@ -123,9 +174,23 @@ fn ids_within(
     match bounds {
         Bounds::Equal(value) => add_equal(index, value, &mut ids)?,
         Bounds::Among(choices) => add_among(index, choices.values(), &mut ids)?,
-        Bounds::Within(range, value) => add_in_range(index, range, value, &mut ids)?,
+        Bounds::Within(range, value) => add_in_range(alloc, index, range, value, &mut ids)?,
     }
     Ok(ids)
+}
+
+/// Adds the `_id`s' keys of the pairs whose key is of the value's class and stands so to it.
+fn add_in_range(
+    alloc: Global,
+    index: &MultiIndex,
+    range: Range,
+    value: &Value,
+    ids: &mut BTreeSet<Key>,
+) -> Result<(), NoMemory>
+    ensures { OnOk result ((k i : KeyTree) → covers (in_range range (tree value.now)) k ≡ true → has_pair k i index.now ≡ true → contains key_order ids.new i ≡ true) }
+{
+    let ends = ends_within(alloc, range, value)?;
+    index.add_ids_between(ends.0, ends.1, ids)
 }
 
 fn add_among(index: &MultiIndex, values: &List, ids: &mut BTreeSet<Key>) -> Result<(), NoMemory>
@@ -142,47 +207,6 @@ fn add_equal(index: &MultiIndex, value: &Value, ids: &mut BTreeSet<Key>) -> Resu
     ensures found { OnOk result ((k i : KeyTree) → covers (equal (tree value.now)) k ≡ true → has_pair k i index.now ≡ true → contains key_order ids.new i ≡ true) }
     ensures kept { OnOk result ((i : KeyTree) → contains key_order ids.old i ≡ true → contains key_order ids.new i ≡ true) }
 {
-    let low = (key_of(value)?, least()?);
-    let high = (key_of(value)?, greatest()?);
-    index.add_ids_between(Bound::Included(low), Bound::Included(high), ids)
-}
-
-/// Adds the `_id`s' keys of the pairs whose key stands so to the value's.
-fn add_in_range(
-    index: &MultiIndex,
-    range: Range,
-    value: &Value,
-    ids: &mut BTreeSet<Key>,
-) -> Result<(), NoMemory>
-    ensures { OnOk result ((k i : KeyTree) → covers (in_range range (tree value.now)) k ≡ true → has_pair k i index.now ≡ true → contains key_order ids.new i ≡ true) }
-{
-    let bound = key_of(value)?;
-    match range {
-        Range::Above => {
-            index.add_ids_between(Bound::Excluded((bound, greatest()?)), Bound::Unbounded, ids)
-        }
-        Range::AtLeast => {
-            index.add_ids_between(Bound::Included((bound, least()?)), Bound::Unbounded, ids)
-        }
-        Range::Below => {
-            index.add_ids_between(Bound::Unbounded, Bound::Excluded((bound, least()?)), ids)
-        }
-        Range::AtMost => {
-            index.add_ids_between(Bound::Unbounded, Bound::Included((bound, greatest()?)), ids)
-        }
-    }
-}
-
-/// The key that no key stands before.
-fn least() -> Result<Key, NoMemory>
-    ensures { IfOk result (λ key. key ≡ key_of_tree min_key) }
-{
-    key_of(&Value::MinKey)
-}
-
-/// The key that stands before no key.
-fn greatest() -> Result<Key, NoMemory>
-    ensures { IfOk result (λ key. key ≡ key_of_tree max_key) }
-{
-    key_of(&Value::MaxKey)
+    let key = key_of(value)?;
+    index.add_ids_at(&key, ids)
 }

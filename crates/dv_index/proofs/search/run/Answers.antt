@@ -4,14 +4,18 @@ use Rattle.dv_bson.specs.Tree.{Field}
 use Rattle.dv_match.specs.Match.{matches}
 use Rattle.dv_index.specs.View.{bounds_seen, plan_seen}
 use Rattle.dv_index.proofs.Lists.{map-kept}
+use Rattle.dv_index.proofs.Places.{index-at}
 use Rattle.dv_index.proofs.Sound.{chosen-within}
 use Rattle.dv_index.proofs.search.run.Goals as goal
+
+pub candidates-requires : goal.candidates-requires
+candidates-requires c = index-at c.args.indexes.now c.in-Index.place c.in-Some.index.now c.args.collection.now c.requires.indexed c.get.ensures.id_first (sym c.in-Some.ensures.index)
 
 pub returns-in-Some : goal.returns-in-Some
 returns-in-Some c =
     let now = λ (x : Bor (List Field)). x.now in
     let test = matches c.args.filter.now in
-    let there : slice_get c.args.indexes.now c.in-Index.place ≡ Some c.in-Some.index.now = sym c.in-Some.ensures in
+    let there : slice_get c.args.indexes.now c.in-Index.place ≡ Some c.in-Some.index.now = sym c.in-Some.ensures.index in
     IfOk-weaker c.matching.result _ _ (λ found is.
     ap (map now) is
     ∙ map-kept test c.deref.result.now

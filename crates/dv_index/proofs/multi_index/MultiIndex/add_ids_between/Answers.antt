@@ -1,17 +1,26 @@
-use Rattle.std.proofs.Common.{◌∙◌, ◌||◌, ap, sym}
+use Rattle.std.proofs.Common.{◌∙◌, ◌||◌, ap, sym, filter}
+use Rattle.std.specs.BTreeMap.Range.{range_contains}
 use Rattle.std.specs.BTreeSet.{contains}
-use Rattle.std.specs.Ordering.{is_eq}
 use Rattle.dv_order.specs.Key.{key_order}
-use Rattle.dv_index.specs.Pairs.{has_id}
-use Rattle.dv_index.proofs.Lists.{cond-or, or-assoc, equal-back}
+use Rattle.dv_index.specs.Keys.{has_key}
+use Rattle.dv_index.specs.Pairs.{Pair, has_id, pairs_of}
+use Rattle.dv_index.proofs.Lists.{or-assoc}
+use Rattle.dv_index.proofs.Ranges.{ids-of-entry, pairs-between}
 use Rattle.dv_index.proofs.multi_index.MultiIndex.add_ids_between.Goals as goal
 
-pub loop-pair-preserved : goal.loop-pair-preserved
-loop-pair-preserved c = λ i.
-    let key = c.in_ok-try_clone.field-0 in
-    let was = contains key_order c.loop-pair.ids i in
-    let rest = has_id i c.next.new.self in
-    ap (λ b. b || rest) (c.in_ok-insert.ensures.updates.0 i ∙ cond-or (is_eq (key_order key i)) was ∙ ap (λ b. was || b) (equal-back key i ∙ ap (λ l. is_eq (key_order i l)) c.in_ok-try_clone.ensures))
-    ∙ or-assoc was (is_eq (key_order i c.in-Some.pair.now.1)) rest
-    ∙ ap (λ ps. was || has_id i ps) (sym c.in-Some.ensures.steps)
-    ∙ c.loop-pair.invariant i
+pub loop-found-init : goal.loop-found-init
+loop-found-init c = λ i.
+    let was = contains key_order c.args.ids.now i in
+    let within = range_contains key_order c.args.low c.args.high in
+    ap (λ es. was || has_id i (pairs_of es)) (c.into_iter-found-iterator.ensures.into_iter_gives ∙ c.range-found-items.ensures.between tt)
+    ∙ ap (λ ps. was || has_id i ps) (pairs-between within c.self.inside.entries.entries ∙ ap (filter (λ (p : Pair). within p.0)) c.self.view_is)
+
+pub loop-found-preserved : goal.loop-found-preserved
+loop-found-preserved c = λ i.
+    let was = contains key_order c.loop-found.ids i in
+    let rest = c.next.new.self in
+    ap (λ b. b || has_id i (pairs_of rest)) (c.in_ok-add_to.ensures i)
+    ∙ or-assoc was (has_key i c.in-Some.found.now) (has_id i (pairs_of rest))
+    ∙ ap (λ b. was || b) (sym (ids-of-entry i (c.in-Some.field-0-0.now, c.in-Some.found.now) rest))
+    ∙ ap (λ es. was || has_id i (pairs_of es)) (sym c.in-Some.ensures.steps)
+    ∙ c.loop-found.invariant i

@@ -5,10 +5,10 @@ use Rattle.dv_order.specs.Key.{key_order}
 use Rattle.dv_index.specs.Pairs.{has_pair}
 use Rattle.dv_index.specs.View.{bounds_seen}
 use Rattle.dv_index.proofs.Sound.{gathered-all}
-use Rattle.dv_index.proofs.search.candidates.Goals as goal
+use Rattle.dv_index.proofs.search.candidates_by_key.Goals as goal
 
 pub returns : goal.returns
 returns c =
     IfOk-weaker c.documents_of.result _ _ (λ found is test within.
     ap (filter test) is
-    ∙ gathered-all c.keys_stand_as_their_values.ensures c.args.index.now (bounds_seen c.args.bounds) (contains key_order c.in_ok-ids.ids) (λ k i covered there. c.in_ok-ids.ensures k i covered (ap (has_pair k i) c.pairs.ensures ∙ there)) test c.args.collection.now c.requires within) c.documents_of.ensures
+    ∙ gathered-all c.keys_stand_as_their_values.ensures c.args.index.now (bounds_seen c.args.bounds) (contains key_order c.in_ok-ids.ids) (λ k i covered there. c.in_ok-ids.ensures k i covered (ap (has_pair k i) c.pairs.ensures ∙ there)) test c.args.collection.now c.requires c.len.ensures.ascending within) c.documents_of.ensures

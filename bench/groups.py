@@ -1,0 +1,85 @@
+#!/usr/bin/python3
+"""What groups and lookups cost, run anew as aggregates, beside SQLite in process on the same values as columns.
+
+Needs what bench/measuring.py says. A group counts the documents and adds up a number by a field of few or of many values;
+a lookup finds for each document the one of another collection that has the same number, in SQLite by a join on an indexed
+column. docd's times hold the digits of the line that asks and of the reply.
+
+    /usr/bin/python3 bench/groups.py
+    /usr/bin/python3 bench/groups.py --count 10000 --program crates/docd/out/docd
+"""
+import argparse
+import random
+import sqlite3
+import sys
+
+import measuring
+from measuring import check_tools, heads, inserts, least, row
+
+FEW = 100  # values of the field of few values
+
+
+def documents(count):
+    """`few` is one of a hundred numbers, `many` another one in each, `code` one of a tenth as many."""
+    rng = random.Random(count)
+    return [{"_id": place, "few": rng.randrange(FEW), "many": (place * 7_919) % count, "code": rng.randrange(count // 10),
+             "amount": rng.randrange(1_000)} for place in range(count)]
+
+
+def foreign_documents(count):
+    return [{"_id": place, "code": place, "name": "name %d" % place} for place in range(count // 10)]
+
+
+def loaded_docd(count):
+    docd = measuring.loaded(documents(count))
+    docd.ask(*({**one, "insert": "d"} for one in inserts(foreign_documents(count))))
+    return docd
+
+
+def loaded_sqlite(count):
+    base = sqlite3.connect(":memory:")
+    base.execute("CREATE TABLE c (id INTEGER PRIMARY KEY, few INTEGER, many INTEGER, code INTEGER, amount INTEGER)")
+    base.execute("CREATE TABLE d (id INTEGER PRIMARY KEY, code INTEGER, name TEXT)")
+    base.executemany("INSERT INTO c VALUES (?, ?, ?, ?, ?)", [tuple(one.values()) for one in documents(count)])
+    base.executemany("INSERT INTO d VALUES (?, ?, ?)", [tuple(one.values()) for one in foreign_documents(count)])
+    base.execute("CREATE INDEX by_code ON d (code)")
+    base.commit()
+    return base
+
+
+def grouped_by(field):
+    stages = [{"$group": {"_id": "$" + field, "n": {"$sum": 1}, "total": {"$sum": "$amount"}}}]
+    return stages, "SELECT %s, count(*), sum(amount) FROM c GROUP BY %s" % (field, field)
+
+
+LOOKUP = ([{"$lookup": {"from": "d", "localField": "code", "foreignField": "code", "as": "o"}}, {"$project": {"name": "$o.name"}}],
+          "SELECT c.id, d.name FROM c JOIN d ON d.code = c.code")
+
+
+def main():
+    options = argparse.ArgumentParser(description=__doc__, formatter_class=argparse.RawDescriptionHelpFormatter)
+    options.add_argument("--count", type=int, default=100_000, help="how many documents")
+    options.add_argument("--program", default=measuring.DOCD)
+    given = options.parse_args()
+    measuring.DOCD = given.program
+    check_tools()
+    docd, base = loaded_docd(given.count), loaded_sqlite(given.count)
+    heads("over %d documents" % given.count, "rows", "milliseconds", "thousands a second", "SQLite: thousands a second",
+          "times SQLite")
+    cases = {"`$group`, %d groups" % FEW: grouped_by("few"), "`$group`, %d groups" % given.count: grouped_by("many"),
+             "`$lookup` into %d" % (given.count // 10): LOOKUP}
+    for name, (stages, sql) in cases.items():
+        command = {"aggregate": "c", "pipeline": stages, "cursor": {}}
+        script = measuring.script_of([command])
+        reply, = docd.ask(command)
+        found, told = len(reply["cursor"]["firstBatch"]), len(base.execute(sql).fetchall())
+        if found != told:
+            sys.exit("bench: %s: docd gives %d rows and SQLite %d" % (name, found, told))
+        spent, other = least(lambda: docd.send(script, 1)), least(lambda: base.execute(sql).fetchall())
+        row(name, "%d" % found, "%.1f" % (1e3 * spent), "%.0f" % (given.count / spent / 1e3),
+            "%.0f" % (given.count / other / 1e3), "%.2f" % (other / spent))
+    docd.close()
+
+
+if __name__ == "__main__":
+    main()

@@ -1,0 +1,97 @@
+-- The keys that a fold over candidates gathers.
+use Rattle.std.proofs.Common.{Bor, ◌≡◌, List, [], ◌∷◌, map, Some, refl, ap, sym, ◌∙◌, Bool, true, cond, ◌||◌, Result, Ok, ℕ, ◌≤◌, length, take, take_all}
+use Rattle.std.specs.List.{list_any, flat_map, FoldsTo}
+use Rattle.std.specs.BTreeSet.{BTreeSet, contains}
+use Rattle.std.specs.Ordering.{is_eq}
+use Rattle.dv_bson.specs.declared.value.Value.{Value}
+use Rattle.dv_bson.specs.Tree.{Tree, Field, array, elements_of, list_of_elements}
+use Rattle.dv_bson.specs.View.{tree}
+use Rattle.dv_order.specs.Order.{canon}
+use Rattle.dv_order.specs.Key.{KeyTree, value, key_order}
+use Rattle.dv_path.specs.declared.candidate.Candidate as memory
+use Rattle.dv_path.specs.declared.candidate.Candidate.TheVariants.{Found}
+use Rattle.dv_path.specs.View.{seen}
+use Rattle.dv_path.specs.Candidates.{Candidate, whole, leaves, with_elements}
+use Rattle.dv_path.specs.Fold.{Takes, FoldsOver, Passes}
+use Rattle.dv_gather.specs.Joining.{or_null, local_values, joined_by, found_under}
+use Rattle.dv_gather.specs.KeySets.{is_key_of, is_some_key}
+use Rattle.dv_gather.proofs.Lists.{same-truth, or-false, or-assoc, cond-or, any-map, any-flat_map, any-same, equal-back}
+
+pub elements_again : (vs : List Tree) → list_of_elements (elements_of vs) ≡ vs
+elements_again [] = refl
+elements_again (v ∷ vs) = ap (λ ws. v ∷ ws) (elements_again vs)
+
+-- a key that was put in
+pub key-added : (k l : KeyTree) (v : Tree) (was : Bool) → l ≡ value (canon v) → cond (is_eq (key_order l k)) true was ≡ was || is_key_of k v
+key-added k l v was is = cond-or (is_eq (key_order l k)) was ∙ ap (λ b. was || b) (equal-back l k ∙ ap (λ m. is_eq (key_order k m)) is)
+
+-- the elements of a list in memory, after a loop over all of it
+pub all-elements : (k : KeyTree) (items : List Value) (vs : List Tree) (i : ℕ) → map tree items ≡ vs → length items ≤ i → list_any (λ v. is_key_of k (tree v)) (take i items) ≡ is_some_key k vs
+all-elements k items vs i is end =
+    ap (list_any (λ v. is_key_of k (tree v))) (take_all i items end)
+    ∙ sym (ap (is_some_key k) (sym is) ∙ any-map (is_key_of k) tree items)
+
+-- the keys of a value on the local side, and as a leaf
+local-list : (k : KeyTree) (v : Value) (l : List Tree) → v ≡ Value.Array l → is_some_key k l ≡ is_some_key k (local_values (Some (tree v)))
+local-list k v l is = ap (is_some_key k) (sym (elements_again l)) ∙ ap (λ w. is_some_key k (local_values (Some (tree w)))) (sym is)
+
+local-alone : (k : KeyTree) (v : Value) → ((l : List Tree) → v ≡ Value.Array l → ⊥) → is_key_of k (tree v) ≡ is_some_key k (local_values (Some (tree v)))
+local-alone k (Value.Array l) none = absurd (none l refl)
+local-alone k v none = sym (or-false (is_key_of k (tree v)))
+
+leaf-list : (k : KeyTree) (v : Value) (l : List Tree) → v ≡ Value.Array l → is_key_of k (tree v) || is_some_key k l ≡ is_some_key k (map or_null (with_elements (Some (tree v))))
+leaf-list k v l is =
+    ap (λ w. is_key_of k (tree w) || is_some_key k l) is
+    ∙ ap (λ b. is_key_of k (array (elements_of l)) || b) (ap (is_some_key k) (sym (elements_again l)) ∙ sym (any-map (is_key_of k) or_null (map Some (list_of_elements (elements_of l))) ∙ any-map (λ c. is_key_of k (or_null c)) Some (list_of_elements (elements_of l))))
+    ∙ ap (λ w. is_some_key k (map or_null (with_elements (Some (tree w))))) (sym is)
+
+leaf-alone : (k : KeyTree) (v : Value) → ((l : List Tree) → v ≡ Value.Array l → ⊥) → is_key_of k (tree v) ≡ is_some_key k (map or_null (with_elements (Some (tree v))))
+leaf-alone k (Value.Array l) none = absurd (none l refl)
+leaf-alone k v none = sym (or-false (is_key_of k (tree v)))
+
+-- a candidate in memory that is found
+module _ (k : KeyTree) (c : memory.Candidate) (v : Bor Value) (at : c ≡ Found v) (was : Bool) where
+  here : seen c ≡ Some (tree v.now)
+  here = ap seen at
+
+  pub local-with_list : (l : List Tree) → v.now ≡ Value.Array l → was || is_some_key k l ≡ was || is_some_key k (local_values (seen c))
+  local-with_list l is = ap (λ b. was || b) (local-list k v.now l is ∙ ap (λ d. is_some_key k (local_values d)) (sym here))
+
+  pub local-without_list : ((l : List Tree) → v.now ≡ Value.Array l → ⊥) → was || is_key_of k (tree v.now) ≡ was || is_some_key k (local_values (seen c))
+  local-without_list none = ap (λ b. was || b) (local-alone k v.now none ∙ ap (λ d. is_some_key k (local_values d)) (sym here))
+
+  pub leaves-with_list : (l : List Tree) → v.now ≡ Value.Array l → (was || is_key_of k (tree v.now)) || is_some_key k l ≡ was || is_some_key k (map or_null (with_elements (seen c)))
+  leaves-with_list l is = or-assoc was (is_key_of k (tree v.now)) (is_some_key k l) ∙ ap (λ b. was || b) (leaf-list k v.now l is ∙ ap (λ d. is_some_key k (map or_null (with_elements d))) (sym here))
+
+  pub leaves-without_list : ((l : List Tree) → v.now ≡ Value.Array l → ⊥) → was || is_key_of k (tree v.now) ≡ was || is_some_key k (map or_null (with_elements (seen c)))
+  leaves-without_list none = ap (λ b. was || b) (leaf-alone k v.now none ∙ ap (λ d. is_some_key k (map or_null (with_elements d))) (sym here))
+
+module _ {X E : Type 0} (seen : X → Candidate) (call : BTreeSet KeyTree → X → Result (BTreeSet KeyTree) E → Type 0) (values : Candidate → List Tree) (steps : (t : BTreeSet KeyTree) (x : X) (u : BTreeSet KeyTree) → call t x (Ok u) → (k : KeyTree) → contains key_order u k ≡ contains key_order t k || is_some_key k (values (seen x))) where
+  folded : (t u : BTreeSet KeyTree) (cs : List Candidate) → FoldsTo (Takes seen call) t cs u → (k : KeyTree) → contains key_order u k ≡ contains key_order t k || list_any (λ c. is_some_key k (values c)) cs
+  folded t u [] h k = ap (λ s. contains key_order s k) (sym h) ∙ sym (or-false (contains key_order t k))
+  folded t u (c ∷ cs) h k =
+      let rest = list_any (λ c. is_some_key k (values c)) cs in
+      folded h.0 u cs h.2 k
+      ∙ ap (λ b. b || rest) (steps t h.1.at h.0 h.1.gives k ∙ ap (λ d. contains key_order t k || is_some_key k (values d)) h.1.is)
+      ∙ or-assoc (contains key_order t k) (is_some_key k (values c)) rest
+
+  -- what a fold from no key on gathers
+  gathered : (path : List (List ℕ)) (d : List Field) (t u : BTreeSet KeyTree) → t.keys ≡ [] → FoldsOver seen call (Passes (whole d path)) (Passes (whole d path)) t u → (k : KeyTree) → contains key_order u k ≡ list_any (λ c. is_some_key k (values c)) (whole d path)
+  gathered path d t u empty h k =
+      let test = λ (c : Candidate). is_some_key k (values c) in
+      folded t u h.taken h.calls k
+      ∙ ap (λ ks. list_any (λ l. is_eq (key_order k l)) ks || list_any test h.taken) empty
+      ∙ same-truth (list_any test h.taken) (list_any test (whole d path)) (λ e. (h.only test e).passes) (λ e. h.every test (record { passes = e }))
+
+pub gathered-local : {X E : Type 0} (seen : X → Candidate) (call : BTreeSet KeyTree → X → Result (BTreeSet KeyTree) E → Type 0) (steps : (t : BTreeSet KeyTree) (x : X) (u : BTreeSet KeyTree) → call t x (Ok u) → (k : KeyTree) → contains key_order u k ≡ contains key_order t k || is_some_key k (local_values (seen x)))
+    (path : List (List ℕ)) (d : List Field) (t u : BTreeSet KeyTree) → t.keys ≡ [] → FoldsOver seen call (Passes (whole d path)) (Passes (whole d path)) t u → (k : KeyTree) → contains key_order u k ≡ is_some_key k (joined_by path d)
+unfolding joined_by
+gathered-local seen call steps path d t u empty h k = gathered seen call local_values steps path d t u empty h k ∙ sym (any-flat_map (is_key_of k) local_values (whole d path))
+
+pub gathered-leaves : {X E : Type 0} (seen : X → Candidate) (call : BTreeSet KeyTree → X → Result (BTreeSet KeyTree) E → Type 0) (steps : (t : BTreeSet KeyTree) (x : X) (u : BTreeSet KeyTree) → call t x (Ok u) → (k : KeyTree) → contains key_order u k ≡ contains key_order t k || is_some_key k (map or_null (with_elements (seen x))))
+    (path : List (List ℕ)) (d : List Field) (t u : BTreeSet KeyTree) → t.keys ≡ [] → FoldsOver seen call (Passes (whole d path)) (Passes (whole d path)) t u → (k : KeyTree) → contains key_order u k ≡ is_some_key k (found_under path d)
+unfolding found_under leaves
+gathered-leaves seen call steps path d t u empty h k =
+    gathered seen call (λ c. map or_null (with_elements c)) steps path d t u empty h k
+    ∙ any-same (λ c. is_some_key k (map or_null (with_elements c))) (λ c. list_any (λ c. is_key_of k (or_null c)) (with_elements c)) (λ c. any-map (is_key_of k) or_null (with_elements c)) (whole d path)
+    ∙ sym (any-map (is_key_of k) or_null (flat_map with_elements (whole d path)) ∙ any-flat_map (λ c. is_key_of k (or_null c)) with_elements (whole d path))

@@ -1,0 +1,240 @@
+-- What is gathered under keys are the documents of each key.
+use Rattle.std.proofs.Common.{◌≡◌, ◌∙◌, ap, sym, refl, Bool, true, false, ◌||◌, List, [], ◌∷◌, ◌++◌, map, append_assoc, append-nil, Some, if◌then◌else◌, Vec, Result, Ok, Err}
+use Rattle.std.specs.Result.{IfOk}
+use Rattle.std.specs.List.{list_any, AllByRecursion}
+use Rattle.std.specs.List.Sorted.{IsStrictlySortedBy}
+use Rattle.std.specs.Map.{lookup}
+use Rattle.std.specs.Option.{unwrap_or}
+use Rattle.std.specs.BTreeMap.{insert_entry, is_at}
+use Rattle.std.specs.Cmp.{eq_by_cmp_equiv}
+use Rattle.std.specs.Ordering.{is_eq, ordering_reverse, match_ordering}
+use Rattle.std.specs.declared.cmp.Ordering.{Ordering}
+use Rattle.std.specs.declared.cmp.Ordering.TheVariants.{Less, Equal, Greater}
+use Rattle.dv_bson.specs.Tree.{Tree, Field}
+use Rattle.dv_order.specs.Order.{canon, order}
+use Rattle.dv_order.specs.TotalOrder.{order_total}
+use Rattle.dv_order.specs.Key.{KeyTree, value, key_order}
+use Rattle.dv_gather.specs.Groups.{Keyed, with_key, keys_from, keys_of, under, groups_of}
+use Rattle.dv_gather.specs.Gathering.{Entry, entries_of, listed, put, gathered}
+
+same-as : (v w x : Tree) → order v w ≡ Equal → order v x ≡ order w x
+same-as v w x e = order_total.congr v w x e
+
+back : (v w : Tree) (o : Ordering) → order v w ≡ o → order w v ≡ ordering_reverse o
+back v w o e = order_total.antisymm w v ∙ ap ordering_reverse e
+
+itself : (v : Tree) → is_eq (order v v) ≡ true
+itself v = (eq_by_cmp_equiv order_total).refl v
+
+-- a key compares with equal keys alike
+equal-alike : (x v w : Tree) → order v w ≡ Equal → is_eq (order x v) ≡ is_eq (order x w)
+equal-alike x v w e = (eq_by_cmp_equiv order_total).symm x v ∙ ap is_eq (same-as v w x e) ∙ (eq_by_cmp_equiv order_total).symm w x
+
+-- ---- keys in their order, with one more
+
+abbrev Above : Tree → List Tree → Type 0
+Above k = AllByRecursion (λ l. order k l ≡ Less)
+
+above-earlier : (v l : Tree) (ls : List Tree) → order v l ≡ Less → Above l ls → Above v ls
+above-earlier v l [] e h = tt
+above-earlier v l (m ∷ ls) e h = (order_total.trans v l m e h.0, above-earlier v l ls e h.1)
+
+above-same : (v l : Tree) (ls : List Tree) → order v l ≡ Equal → Above l ls → Above v ls
+above-same v l [] e h = tt
+above-same v l (m ∷ ls) e h = (same-as v l m e ∙ h.0, above-same v l ls e h.1)
+
+above-with : (k v : Tree) (ls : List Tree) → order k v ≡ Less → Above k ls → Above k (with_key v ls)
+above-with k v [] e h = (e, tt)
+above-with k v (l ∷ ls) e h = go (order v l) (above-with k v ls e h.1)
+  where
+    go : (o : Ordering) → Above k (with_key v ls) → Above k (match_ordering o (v ∷ l ∷ ls) (l ∷ ls) (l ∷ with_key v ls))
+    go Less rest = (e, h)
+    go Equal rest = h
+    go Greater rest = (h.0, rest)
+
+sorted-with : (v : Tree) (ls : List Tree) → IsStrictlySortedBy order ls → IsStrictlySortedBy order (with_key v ls)
+unfolding IsStrictlySortedBy
+sorted-with v [] h = (tt, tt)
+sorted-with v (l ∷ ls) h = go (order v l) refl (sorted-with v ls h.1)
+  where
+    go : (o : Ordering) → order v l ≡ o → IsStrictlySortedBy order (with_key v ls) → IsStrictlySortedBy order (match_ordering o (v ∷ l ∷ ls) (l ∷ ls) (l ∷ with_key v ls))
+    go Less e rest = ((e, above-earlier v l ls e h.0), h)
+    go Equal e rest = h
+    go Greater e rest = (above-with l v ls (back v l Greater e) h.0, rest)
+
+or-swap : (a b c : Bool) → a || (b || c) ≡ b || (a || c)
+or-swap true true c = refl
+or-swap true false c = refl
+or-swap false b c = refl
+
+or-right : (a b : Bool) → b ≡ true → a || b ≡ true
+or-right true b e = refl
+or-right false b e = e
+
+or-twice : (a b c : Bool) → a ≡ b → b || c ≡ a || (b || c)
+or-twice true true c e = refl
+or-twice true false c e = cc
+or-twice false b c e = refl
+
+abbrev any-equal : Tree → List Tree → Bool
+any-equal x = list_any (λ k. is_eq (order x k))
+
+any-with : (x v : Tree) (ls : List Tree) → any-equal x (with_key v ls) ≡ is_eq (order x v) || any-equal x ls
+any-with x v [] = refl
+any-with x v (l ∷ ls) = go (order v l) refl (any-with x v ls)
+  where
+    go : (o : Ordering) → order v l ≡ o → any-equal x (with_key v ls) ≡ is_eq (order x v) || any-equal x ls → any-equal x (match_ordering o (v ∷ l ∷ ls) (l ∷ ls) (l ∷ with_key v ls)) ≡ is_eq (order x v) || any-equal x (l ∷ ls)
+    go Less e rest = refl
+    go Equal e rest = or-twice (is_eq (order x v)) (is_eq (order x l)) (any-equal x ls) (equal-alike x v l e)
+    go Greater e rest = ap (λ b. is_eq (order x l) || b) rest ∙ or-swap (is_eq (order x l)) (is_eq (order x v)) (any-equal x ls)
+
+keys-keep : (x : Tree) (ks : List Tree) (ds : List Keyed) → any-equal x ks ≡ true → any-equal x (keys_from ks ds) ≡ true
+keys-keep x ks [] h = h
+keys-keep x ks (d ∷ ds) h = keys-keep x (with_key d.0 ks) ds (any-with x d.0 ks ∙ or-right (is_eq (order x d.0)) (any-equal x ks) h)
+
+keys-have : (ks : List Tree) (before after : List Keyed) (d : Keyed) → any-equal d.0 (keys_from ks (before ++ d ∷ after)) ≡ true
+keys-have ks [] after d = keys-keep d.0 (with_key d.0 ks) after (any-with d.0 d.0 ks ∙ ap (λ b. b || any-equal d.0 ks) (itself d.0))
+keys-have ks (e ∷ before) after d = keys-have (with_key e.0 ks) before after d
+
+-- each document's key is one of the keys
+pub key_there : (before after : List Keyed) (d : Keyed) → any-equal d.0 (keys_of (before ++ d ∷ after)) ≡ true
+key_there before after d = keys-have [] before after d
+
+keys-sorted : (ks : List Tree) (ds : List Keyed) → IsStrictlySortedBy order ks → IsStrictlySortedBy order (keys_from ks ds)
+keys-sorted ks [] h = h
+keys-sorted ks (d ∷ ds) h = keys-sorted (with_key d.0 ks) ds (sorted-with d.0 ks h)
+
+pub keys_ascend : (ds : List Keyed) → IsStrictlySortedBy order (keys_of ds)
+unfolding IsStrictlySortedBy
+keys_ascend ds = keys-sorted [] ds tt
+
+-- ---- entries
+
+abbrev entry : Tree → List (List Field) → Entry
+entry k l = (value (canon k), l)
+
+module _ (stands : (v w : Tree) → key_order (value (canon v)) (value (canon w)) ≡ order v w) where
+  abbrev entries : (Tree → List (List Field)) → List Tree → List Entry
+  entries f = map (λ k. entry k (f k))
+
+  module _ (v : Tree) (f g : Tree → List (List Field)) (all : List (List Field)) (others : (k : Tree) → is_eq (order k v) ≡ false → g k ≡ f k) (own : (k : Tree) → is_eq (order k v) ≡ true → g k ≡ all) where
+    apart : (k : Tree) → order v k ≡ Less → g k ≡ f k
+    apart k e = others k (ap is_eq (back v k Less e))
+
+    above-alike : (ks : List Tree) → Above v ks → entries f ks ≡ entries g ks
+    above-alike [] h = refl
+    above-alike (k ∷ ks) h = ap (λ l. entry k l ∷ entries f ks) (sym (apart k h.0)) ∙ ap (λ es. entry k (g k) ∷ es) (above-alike ks h.1)
+
+    inserted : (ks : List Tree) → IsStrictlySortedBy order ks → insert_entry key_order (entries f ks) (value (canon v)) all ≡ entries g (with_key v ks)
+    unfolding IsStrictlySortedBy
+    inserted [] h = ap (λ l. entry v l ∷ []) (sym (own v (itself v)))
+    inserted (k ∷ ks) h =
+        ap (λ o. match_ordering o (entry v all ∷ entry k (f k) ∷ entries f ks) (entry k all ∷ entries f ks) (entry k (f k) ∷ insert_entry key_order (entries f ks) (value (canon v)) all)) (stands v k)
+        ∙ go (order v k) refl (inserted ks h.1)
+      where
+        go : (o : Ordering) → order v k ≡ o → insert_entry key_order (entries f ks) (value (canon v)) all ≡ entries g (with_key v ks)
+            → match_ordering o (entry v all ∷ entry k (f k) ∷ entries f ks) (entry k all ∷ entries f ks) (entry k (f k) ∷ insert_entry key_order (entries f ks) (value (canon v)) all) ≡ entries g (match_ordering o (v ∷ k ∷ ks) (k ∷ ks) (k ∷ with_key v ks))
+        go Less e rest = ap (λ l. entry v l ∷ entry k (f k) ∷ entries f ks) (sym (own v (itself v))) ∙ ap (λ es. entry v (g v) ∷ es) (above-alike (k ∷ ks) (e, above-earlier v k ks e h.0))
+        go Equal e rest = ap (λ l. entry k l ∷ entries f ks) (sym (own k (ap is_eq (back v k Equal e)))) ∙ ap (λ es. entry k (g k) ∷ es) (above-alike ks (above-same v k ks e h.0))
+        go Greater e rest = ap (λ l. entry k l ∷ insert_entry key_order (entries f ks) (value (canon v)) all) (sym (others k (ap is_eq (back v k Greater e)))) ∙ ap (λ es. entry k (g k) ∷ es) rest
+
+  -- what stands under a key
+  found : (v : Tree) (f : Tree → List (List Field)) → ((k : Tree) → is_eq (order v k) ≡ true → f k ≡ f v) → (ks : List Tree) → (list_any (λ k. is_eq (order v k)) ks ≡ false → f v ≡ []) → listed (value (canon v)) (entries f ks) ≡ f v
+  found v f alike [] none = sym (none refl)
+  found v f alike (k ∷ ks) none = ap (λ o. unwrap_or (if is_eq o then Some (f k) else lookup (is_at (key_order (value (canon v)))) (entries f ks)) []) (stands v k) ∙ go (is_eq (order v k)) refl (found v f alike ks)
+    where
+      go : (b : Bool) → is_eq (order v k) ≡ b → ((list_any (λ k. is_eq (order v k)) ks ≡ false → f v ≡ []) → listed (value (canon v)) (entries f ks) ≡ f v) → unwrap_or (if b then Some (f k) else lookup (is_at (key_order (value (canon v)))) (entries f ks)) [] ≡ f v
+      go true e rest = alike k e
+      go false e rest = rest (λ h. none (ap (λ b. b || list_any (λ k. is_eq (order v k)) ks) e ∙ h))
+
+  -- documents that were gathered
+  record IsGathered (ks : List Tree) (ds : List Keyed) (es : List Entry) : Type 0 where
+    sorted : IsStrictlySortedBy order ks
+    complete : (v : Tree) → list_any (λ k. is_eq (order v k)) ks ≡ false → under v ds ≡ []
+    are : es ≡ entries (λ k. under k ds) ks
+
+  first-more : {X : Type 0} (b : Bool) (x : X) (xs ys last : List X) → xs ≡ ys ++ last → (if b then x ∷ xs else xs) ≡ (if b then x ∷ ys else ys) ++ last
+  first-more true x xs ys last e = ap (λ l. x ∷ l) e
+  first-more false x xs ys last e = e
+
+  under-more : (k : Tree) (ds : List Keyed) (d : Keyed) → under k (ds ++ d ∷ []) ≡ under k ds ++ (if is_eq (order k d.0) then d.1 ∷ [] else [])
+  under-more k [] d = refl
+  under-more k (e ∷ ds) d = first-more (is_eq (order k e.0)) e.1 (under k (ds ++ d ∷ [])) (under k ds) (if is_eq (order k d.0) then d.1 ∷ [] else []) (under-more k ds d)
+
+  under-alike : (v k : Tree) → order v k ≡ Equal → (ds : List Keyed) → under v ds ≡ under k ds
+  under-alike v k e [] = refl
+  under-alike v k e (d ∷ ds) = ap (λ o. if is_eq o then d.1 ∷ under v ds else under v ds) (same-as v k d.0 e) ∙ ap (λ l. if is_eq (order k d.0) then d.1 ∷ l else l) (under-alike v k e ds)
+
+  is-equal : (o : Ordering) → is_eq o ≡ true → o ≡ Equal
+  is-equal Less e = cc
+  is-equal Equal e = refl
+  is-equal Greater e = cc
+
+  neither : (a b : Bool) → a || b ≡ false → (a ≡ false) × (b ≡ false)
+  neither true b e = absurd cc
+  neither false b e = (refl, e)
+
+  gathered-one : (ks : List Tree) (ds : List Keyed) (es : List Entry) → IsGathered ks ds es → (d : Keyed) → IsGathered (with_key d.0 ks) (ds ++ d ∷ []) (put (value (canon d.0)) d.1 es)
+  gathered-one ks ds es h d = record {
+    sorted = sorted-with d.0 ks h.sorted;
+    complete = λ v none.
+        let both = neither (is_eq (order v d.0)) (list_any (λ k. is_eq (order v k)) ks) (sym (any-with v d.0 ks) ∙ none) in
+        under-more v ds d ∙ ap (λ (b : Bool). under v ds ++ (if b then d.1 ∷ [] else [])) both.0 ∙ append-nil (under v ds) ∙ h.complete v both.1;
+    are =
+        let f = λ (k : Tree). under k ds in
+        let all = under d.0 ds ++ d.1 ∷ [] in
+        ap (put (value (canon d.0)) d.1) h.are
+        ∙ ap (λ l. insert_entry key_order (entries f ks) (value (canon d.0)) (l ++ d.1 ∷ [])) (found d.0 f (λ k e. sym (under-alike d.0 k (is-equal (order d.0 k) e) ds)) ks (h.complete d.0))
+        ∙ inserted d.0 f (λ k. under k (ds ++ d ∷ [])) all
+        (λ k e. under-more k ds d ∙ ap (λ (b : Bool). under k ds ++ (if b then d.1 ∷ [] else [])) e ∙ append-nil (under k ds))
+        (λ k e. under-more k ds d ∙ ap (λ (b : Bool). under k ds ++ (if b then d.1 ∷ [] else [])) e ∙ ap (λ l. l ++ d.1 ∷ []) (under-alike k d.0 (is-equal (order k d.0) e) ds))
+        ks h.sorted;
+  }
+
+  gathered-all : (ks : List Tree) (before : List Keyed) (es : List Entry) → IsGathered ks before es → (ds : List Keyed) → IsGathered (keys_from ks ds) (before ++ ds) (gathered es ds)
+  gathered-all ks before es h [] = record { sorted = h.sorted; complete = λ v none. ap (under v) (append-nil before) ∙ h.complete v none; are = h.are ∙ ap (λ l. entries (λ k. under k l) ks) (sym (append-nil before)) }
+  gathered-all ks before es h (d ∷ ds) =
+      let rest = gathered-all (with_key d.0 ks) (before ++ d ∷ []) (put (value (canon d.0)) d.1 es) (gathered-one ks before es h d) ds in
+      let joined : (before ++ d ∷ []) ++ ds ≡ before ++ d ∷ ds = append_assoc before (d ∷ []) ds in
+      record { sorted = rest.sorted; complete = λ v none. ap (under v) (sym joined) ∙ rest.complete v none; are = rest.are ∙ ap (λ l. entries (λ k. under k l) (keys_from (with_key d.0 ks) ds)) joined }
+
+  second-of : (f : Tree → List (List Field)) (ks : List Tree) → map (λ e. e.1) (entries f ks) ≡ map f ks
+  second-of f [] = refl
+  second-of f (k ∷ ks) = ap (λ l. f k ∷ l) (second-of f ks)
+
+  start : IsGathered [] [] []
+  unfolding IsStrictlySortedBy
+  start = record { sorted = tt; complete = λ v none. refl; are = refl }
+
+  pub groups-are : (ds : List Keyed) → map (λ e. e.1) (gathered [] ds) ≡ groups_of ds
+  unfolding groups_of
+  groups-are ds = ap (map (λ e. e.1)) (gathered-all [] [] [] start ds).are ∙ second-of (λ k. under k ds) (keys_of ds)
+
+-- ---- a map in memory
+
+module _ {A : Type 0} (k : KeyTree) where
+  entries-inserted : (es : List (KeyTree × Vec (List Field) A)) (w : Vec (List Field) A) → entries_of (insert_entry key_order es k w) ≡ insert_entry key_order (entries_of es) k w.items
+  entries-inserted [] w = refl
+  entries-inserted (e ∷ es) w = go (key_order k e.0) (entries-inserted es w)
+    where
+      go : (o : Ordering) → entries_of (insert_entry key_order es k w) ≡ insert_entry key_order (entries_of es) k w.items
+          → entries_of (match_ordering o ((k, w) ∷ e ∷ es) ((e.0, w) ∷ es) (e ∷ insert_entry key_order es k w)) ≡ match_ordering o ((k, w.items) ∷ (e.0, e.1.items) ∷ entries_of es) ((e.0, w.items) ∷ entries_of es) ((e.0, e.1.items) ∷ insert_entry key_order (entries_of es) k w.items)
+      go Less rest = refl
+      go Equal rest = refl
+      go Greater rest = ap (λ l. let f : Entry = (e.0, e.1.items) in f ∷ l) rest
+
+  listed-items : (es : List (KeyTree × Vec (List Field) A)) (none : Vec (List Field) A) → none.items ≡ [] → (unwrap_or (lookup (is_at (key_order k)) es) none).items ≡ listed k (entries_of es)
+  listed-items [] none empty = empty
+  listed-items (e ∷ es) none empty = go (is_eq (key_order k e.0)) (listed-items es none empty)
+    where
+      go : (b : Bool) → (unwrap_or (lookup (is_at (key_order k)) es) none).items ≡ listed k (entries_of es) → (unwrap_or (if b then Some e.1 else lookup (is_at (key_order k)) es) none).items ≡ unwrap_or (if b then Some e.1.items else lookup (is_at (key_order k)) (entries_of es)) []
+      go true rest = refl
+      go false rest = rest
+
+  pub put-entry : (es final : List (KeyTree × Vec (List Field) A)) (d : List Field) (none was w : Vec (List Field) A) → none.items ≡ [] → was ≡ unwrap_or (lookup (is_at (key_order k)) es) none → w.items ≡ was.items ++ d ∷ [] → final ≡ insert_entry key_order es k w → entries_of final ≡ put k d (entries_of es)
+  put-entry es final d none was w empty is pushed e =
+      ap entries_of e ∙ entries-inserted es w ∙ ap (insert_entry key_order (entries_of es) k) (pushed ∙ ap (λ v. v.items ++ d ∷ []) is ∙ ap (λ l. l ++ d ∷ []) (listed-items es none empty))
+
+pub if-ok : {X E : Type 0} {P Q : X → Type 0} → ((x : X) → P x → Q x) → (r : Result X E) → IfOk r P → IfOk r Q
+if-ok f (Ok x) h = f x h
+if-ok f (Err e) h = tt

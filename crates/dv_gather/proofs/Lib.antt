@@ -1,0 +1,4 @@
+pub mod Lists
+pub mod Gathered
+pub mod Shared
+pub mod Grouped

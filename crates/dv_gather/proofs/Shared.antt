@@ -1,0 +1,122 @@
+-- Documents that share a value, by the keys of the values of one side.
+use Rattle.std.proofs.Common.{◌≡◌, ◌∙◌, ap, sym, refl, Bool, true, false, ◌||◌, List, [], ◌∷◌, filter, map, Bor, ℕ, zero, suc, ◌+◌, ◌<◌, ◌≤◌, ◌++◌, length, take, drop, get_or, slice_get, add-one, ap₂, arith, Some, if◌then◌else◌}
+use Rattle.std.proofs.lemmas.List.{map-append}
+use Rattle.std.proofs.lemmas.Option.{slice_get_read}
+use Rattle.std.specs.List.{list_any}
+use Rattle.std.specs.BTreeSet.{BTreeSet, contains}
+use Rattle.std.specs.Cmp.{eq_by_cmp_equiv}
+use Rattle.std.specs.Ordering.{is_eq}
+use Rattle.dv_bson.specs.Tree.{Tree, Field}
+use Rattle.dv_order.specs.Order.{canon, order}
+use Rattle.dv_order.specs.Key.{KeyTree, value, key_order}
+use Rattle.dv_order.specs.KeyLaws.{key_order_total}
+use Rattle.dv_gather.specs.Joining.{is_among, is_joined, joined_by, found_under, matches, as_value}
+use Rattle.dv_gather.specs.KeySets.{is_key_of, is_some_key, any_key, referred}
+use Rattle.dv_gather.proofs.Lists.{same-truth, any-same}
+
+-- equal keys are those of the same values
+alike : (k l : KeyTree) (vs : List Tree) → is_eq (key_order k l) ≡ true → is_some_key k vs ≡ is_some_key l vs
+alike k l vs e = any-same (is_key_of k) (is_key_of l) (λ v. (eq_by_cmp_equiv key_order_total).congr k l (value (canon v)) e) vs
+
+-- some item that passes
+record Some-of {X : Type 0} (p : X → Bool) (xs : List X) : Type 0 where
+  one : X
+  passes : p one ≡ true
+  among : (q : X → Bool) → q one ≡ true → list_any q xs ≡ true
+
+or-right : (a b : Bool) → b ≡ true → a || b ≡ true
+or-right true b e = refl
+or-right false b e = e
+
+or-left : (a b : Bool) → a ≡ true → a || b ≡ true
+or-left true b e = refl
+or-left false b e = cc
+
+some-of : {X : Type 0} (p : X → Bool) (xs : List X) → list_any p xs ≡ true → Some-of p xs
+some-of p [] e = absurd (let same : false ≡ true = e in cc)
+some-of {X = X} p (x ∷ xs) e = go (p x) refl (some-of p xs)
+  where
+    go : (b : Bool) → p x ≡ b → (list_any p xs ≡ true → Some-of p xs) → Some-of p (x ∷ xs)
+    go true is rest = record { one = x; passes = is; among = λ q h. or-left (q x) (list_any q xs) h }
+    go false is rest =
+        let there : Some-of p xs = rest (ap (λ b. b || list_any p xs) (sym is) ∙ e) in
+        record { one = there.one; passes = there.passes; among = λ q h. or-right (q x) (list_any q xs) (there.among q h) }
+
+key-itself : (k : KeyTree) → is_eq (key_order k k) ≡ true
+key-itself k = (eq_by_cmp_equiv key_order_total).refl k
+
+module _ (stands : (v w : Tree) → key_order (value (canon v)) (value (canon w)) ≡ order v w) where
+  -- a set of the keys of some values has a key of others exactly where one of the values is among them
+  pub any-key_is : (keys : BTreeSet KeyTree) (vs ws : List Tree) → ((k : KeyTree) → contains key_order keys k ≡ is_some_key k vs) → any_key keys.keys ws ≡ list_any (is_among ws) vs
+  any-key_is keys vs ws is = same-truth (any_key keys.keys ws) (list_any (is_among ws) vs) there back
+    where
+      among-is : (v : Tree) → is_some_key (value (canon v)) ws ≡ is_among ws v
+      among-is v = any-same (is_key_of (value (canon v))) (λ w. is_eq (order v w)) (λ w. ap is_eq (stands v w)) ws
+
+      there : any_key keys.keys ws ≡ true → list_any (is_among ws) vs ≡ true
+      there e =
+          let k : Some-of (λ k. is_some_key k ws) keys.keys = some-of (λ k. is_some_key k ws) keys.keys e in
+          let v : Some-of (is_key_of k.one) vs = some-of (is_key_of k.one) vs (sym (is k.one) ∙ k.among (λ l. is_eq (key_order k.one l)) (key-itself k.one)) in
+          v.among (is_among ws) (sym (among-is v.one) ∙ sym (alike k.one (value (canon v.one)) ws v.passes) ∙ k.passes)
+
+      back : list_any (is_among ws) vs ≡ true → any_key keys.keys ws ≡ true
+      back e =
+          let v : Some-of (is_among ws) vs = some-of (is_among ws) vs e in
+          let key = value (canon v.one) in
+          let k : Some-of (λ l. is_eq (key_order key l)) keys.keys = some-of (λ l. is_eq (key_order key l)) keys.keys (is key ∙ v.among (is_key_of key) (key-itself key)) in
+          k.among (λ k. is_some_key k ws) (sym (alike key k.one ws k.passes) ∙ among-is v.one ∙ v.passes)
+
+  filter-same : {X : Type 0} (p q : X → Bool) → ((x : X) → p x ≡ q x) → (xs : List X) → filter p xs ≡ filter q xs
+  filter-same p q h [] = refl
+  filter-same p q h (x ∷ xs) = ap (λ b. if b then x ∷ filter p xs else filter p xs) (h x) ∙ ap (λ l. if q x then x ∷ l else l) (filter-same p q h xs)
+
+  pub matches-by_keys : (keys : BTreeSet KeyTree) (local foreign : List (List ℕ)) (d : List Field) (ds : List (List Field)) → ((k : KeyTree) → contains key_order keys k ≡ is_some_key k (joined_by local d)) → filter (λ f. any_key keys.keys (found_under foreign f)) ds ≡ matches local foreign ds d
+  matches-by_keys keys local foreign d ds is = filter-same (λ f. any_key keys.keys (found_under foreign f)) (is_joined local foreign d) (λ f. any-key_is keys (joined_by local d) (found_under foreign f) is) ds
+
+-- ---- loops
+
+drop-here : {X : Type 0} (xs : List X) (i : ℕ) (x : X) → slice_get xs i ≡ Some x → drop i xs ≡ x ∷ drop (suc i) xs
+drop-here [] i x e = absurd cc
+drop-here (z ∷ xs) zero x e = let same : z ≡ x = cc in ap (λ y. y ∷ xs) same
+drop-here (z ∷ xs) (suc i) x e = drop-here xs i x e
+
+-- the element that a loop reads
+pub drop-read : {X : Type 0} (xs : List X) (i : ℕ) (x : X) → i < length xs → x ≡ get_or xs i x → drop i xs ≡ x ∷ drop (i + 1) xs
+drop-read xs i x within is = drop-here xs i x (slice_get_read xs (length xs) i x refl within is) ∙ ap (λ n. x ∷ drop n xs) (sym (add-one i))
+
+pub drop-past : {X : Type 0} (xs : List X) (i : ℕ) → length xs ≤ i → drop i xs ≡ []
+drop-past [] zero h = refl
+drop-past [] (suc i) h = refl
+drop-past (x ∷ xs) zero h = absurd (omega arith)
+drop-past (x ∷ xs) (suc i) h = drop-past xs i (omega arith)
+
+take-here : {X : Type 0} (xs : List X) (i : ℕ) (x : X) → slice_get xs i ≡ Some x → take (suc i) xs ≡ take i xs ++ x ∷ []
+take-here [] i x e = absurd cc
+take-here (z ∷ xs) zero x e = let same : z ≡ x = cc in ap (λ y. y ∷ []) same
+take-here (z ∷ xs) (suc i) x e = ap (λ l. z ∷ l) (take-here xs i x e)
+
+pub take-read : {X : Type 0} (xs : List X) (i : ℕ) (x : X) → i < length xs → x ≡ get_or xs i x → take (i + 1) xs ≡ take i xs ++ x ∷ []
+take-read xs i x within is = ap (λ n. take n xs) (add-one i) ∙ take-here xs i x (slice_get_read xs (length xs) i x refl within is)
+
+alone : (b : Bool) (d : List Field) → map as_value (if b then d ∷ [] else []) ≡ (if b then as_value d ∷ [] else [])
+alone true d = refl
+alone false d = refl
+
+first : (b : Bool) (d : List Field) (xs ys : List (List Field)) (last : List Tree) → map as_value xs ≡ map as_value ys ++ last → map as_value (if b then d ∷ xs else xs) ≡ map as_value (if b then d ∷ ys else ys) ++ last
+first true d xs ys last e = ap (λ l. as_value d ∷ l) e
+first false d xs ys last e = e
+
+chosen-one : (test : List Field → Bool) (ds : List (Bor (List Field))) (d : Bor (List Field)) → map as_value (filter test (referred (ds ++ d ∷ []))) ≡ map as_value (filter test (referred ds)) ++ (if test d.now then as_value d.now ∷ [] else [])
+chosen-one test [] d = alone (test d.now) d.now
+chosen-one test (e ∷ ds) d = first (test e.now) e.now (filter test (referred (ds ++ d ∷ []))) (filter test (referred ds)) (if test d.now then as_value d.now ∷ [] else []) (chosen-one test ds d)
+
+-- what is chosen of a document more
+pub chosen-more : (test : List Field → Bool) (ds : List (Bor (List Field))) (i : ℕ) (d : Bor (List Field)) → i < length ds → d ≡ get_or ds i d → (b : Bool) → b ≡ test d.now → map as_value (filter test (referred (take i ds))) ++ (if b then as_value d.now ∷ [] else []) ≡ map as_value (filter test (referred (take (i + 1) ds)))
+chosen-more test ds i d within is b tested =
+    ap (λ c. map as_value (filter test (referred (take i ds))) ++ (if c then as_value d.now ∷ [] else [])) tested
+    ∙ sym (ap (λ l. map as_value (filter test (referred l))) (take-read ds i d within is) ∙ chosen-one test (take i ds) d)
+
+-- a list for a row more
+pub row-more : {X Y : Type 0} (f : X → Y) (xs : List X) (i : ℕ) (x : X) (ys new : List Y) (y : Y) → i < length xs → x ≡ get_or xs i x → ys ≡ map f (take i xs) → y ≡ f x → new ≡ ys ++ y ∷ [] → new ≡ map f (take (i + 1) xs)
+row-more f xs i x ys new y within is so-far last pushed =
+    pushed ∙ ap₂ (λ a b. a ++ b ∷ []) so-far last ∙ sym (ap (map f) (take-read xs i x within is) ∙ map-append f (take i xs) (x ∷ []))

@@ -1,0 +1,32 @@
+-- The least and the greatest of values (MongoDB manual, "$min (aggregation)", "$max (aggregation)"). That the first of equal ones is
+-- taken is this server's own.
+use Rattle.std.specs.Prelude.{Bool, true, false, not, ◌&&◌, ◌||◌, List, [], ◌∷◌, if◌then◌else◌}
+use Rattle.std.specs.Ordering.{is_lt, is_gt}
+use Rattle.std.specs.declared.cmp.Ordering.{Ordering}
+use Rattle.dv_bson.specs.Tree.{Tree, null}
+use Rattle.dv_order.specs.Order.{order}
+use Rattle.dv_gather.specs.declared.extreme.Extreme.{Extreme}
+use Rattle.dv_gather.specs.declared.extreme.Extreme.TheVariants.{Least, Greatest}
+
+abbrev pub is_null : Tree → Bool
+is_null null = true
+is_null v = false
+
+abbrev pub stands_so : Extreme → Ordering → Bool
+stands_so Least o = is_lt o
+stands_so Greatest o = is_gt o
+
+-- whether a value takes the place of the best before it: not where they are equal, and null never
+abbrev pub is_better : Extreme → Tree → Tree → Bool
+is_better e v best = not (is_null v) && (is_null best || stands_so e (order v best))
+
+abbrev pub better : Extreme → Tree → Tree → Tree
+better e v best = if is_better e v best then v else best
+
+abbrev pub extreme_from : Extreme → Tree → List Tree → Tree
+extreme_from e best [] = best
+extreme_from e best (v ∷ vs) = extreme_from e (better e v best) vs
+
+-- the least or the greatest value but null, and null where there is none
+abbrev pub extreme_of : Extreme → List Tree → Tree
+extreme_of e vs = extreme_from e null vs

@@ -1,0 +1,32 @@
+-- Documents by their keys (MongoDB manual, "$group (aggregation)"). That groups stand in the order of their keys is this server's
+-- own.
+use Rattle.std.specs.Prelude.{List, [], ◌∷◌, map, if◌then◌else◌}
+use Rattle.std.specs.Ordering.{is_eq, match_ordering}
+use Rattle.dv_bson.specs.Tree.{Tree, Field}
+use Rattle.dv_order.specs.Order.{order}
+
+-- a document under a key
+abbrev pub Keyed : Type 0
+Keyed = Tree × List Field
+
+-- keys in their order with one more, unless one of them compares equal to it
+abbrev pub with_key : Tree → List Tree → List Tree
+with_key k [] = k ∷ []
+with_key k (l ∷ ls) = match_ordering (order k l) (k ∷ l ∷ ls) (l ∷ ls) (l ∷ with_key k ls)
+
+abbrev pub keys_from : List Tree → List Keyed → List Tree
+keys_from ks [] = ks
+keys_from ks (d ∷ ds) = keys_from (with_key d.0 ks) ds
+
+-- the keys of documents, ascending, each once
+abbrev pub keys_of : List Keyed → List Tree
+keys_of ds = keys_from [] ds
+
+-- the documents whose key compares equal to a key, in their order
+abbrev pub under : Tree → List Keyed → List (List Field)
+under k [] = []
+under k (d ∷ ds) = if is_eq (order k d.0) then d.1 ∷ under k ds else under k ds
+
+-- the documents of each key
+unfoldable pub groups_of : List Keyed → List (List (List Field))
+groups_of ds = map (λ k. under k ds) (keys_of ds)

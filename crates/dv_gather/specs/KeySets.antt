@@ -1,0 +1,24 @@
+-- Keys of values: words of bodies.
+use Rattle.std.specs.Prelude.{Bool, List, map}
+use Rattle.std.specs.List.{list_any}
+use Rattle.std.specs.Ordering.{is_eq}
+use denote.Ref.{Bor}
+use Rattle.dv_bson.specs.Tree.{Tree, Field}
+use Rattle.dv_order.specs.Order.{canon}
+use Rattle.dv_order.specs.Key.{KeyTree, value, key_order}
+
+-- whether k is the key of a value
+abbrev pub is_key_of : KeyTree → Tree → Bool
+is_key_of k v = is_eq (key_order k (value (canon v)))
+
+-- whether k is the key of one of these values
+abbrev pub is_some_key : KeyTree → List Tree → Bool
+is_some_key k vs = list_any (is_key_of k) vs
+
+-- whether one of these keys is that of one of these values
+abbrev pub any_key : List KeyTree → List Tree → Bool
+any_key ks vs = list_any (λ k. is_some_key k vs) ks
+
+-- the documents behind references
+abbrev pub referred : List (Bor (List Field)) → List (List Field)
+referred = map (λ r. r.now)

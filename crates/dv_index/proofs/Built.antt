@@ -1,0 +1,132 @@
+-- Lists of indexes that change, and an index that is built of all documents.
+use Rattle.std.proofs.Common.{◌≡◌, ◌∙◌, ◌++◌, ℕ, List, [], ◌∷◌, length, is_some, map, take, refl, ap, sym, subst, Bool, true, false, cond, not, ◌||◌, ◌&&◌, filter, codes, Option, None, Some, Bor}
+use Rattle.std.specs.List.{AllByRecursion, list_any}
+use Rattle.std.proofs.lemmas.List.{length-map}
+use Rattle.std.specs.Option.{option_map}
+use Rattle.std.specs.Str.{bytes_eq}
+use Rattle.std.specs.declared.cmp.Ordering.TheVariants.{Less, Equal}
+use Rattle.std.specs.Ordering.{is_eq}
+use Rattle.dv_bson.specs.Tree.{Field}
+use Rattle.dv_order.specs.Key.{KeyTree, key_order}
+use Rattle.dv_order.specs.KeyLaws.{key_order_total}
+use Rattle.dv_coll.specs.Collection.{IsAscending, found, has_key, id_key, replaced}
+use Rattle.dv_index.specs.Change.{AreIndexesOf}
+use Rattle.dv_index.specs.Index.{IndexForm, IndexTree, BeginsWithId, form_of, id_form}
+use Rattle.dv_index.specs.Indexed.{IndexedTree, is_dropped, with_documents, with_indexes, without_index}
+use Rattle.dv_index.specs.Keys.{is_leaf_key}
+use Rattle.dv_index.specs.Search.{IsIndexOf, is_key_under}
+use Rattle.dv_index.proofs.Lists.{or-false, equal-from}
+use Rattle.dv_index.proofs.Picked.{Before, head-before, tail-ascends}
+
+-- ---- lists of indexes
+pub alone : (xs : List IndexTree) (f : IndexForm) (ds : List (List Field)) → map form_of xs ≡ f ∷ [] → AreIndexesOf xs ds
+alone [] f ds e = tt
+alone (x ∷ []) f ds e = tt
+alone (x ∷ y ∷ ys) f ds e = absurd cc
+
+one-more : (P : IndexTree → Type 0) (xs : List IndexTree) (y : IndexTree) → AllByRecursion P xs → P y → AllByRecursion P (xs ++ y ∷ [])
+one-more P [] y h p = (p, tt)
+one-more P (x ∷ xs) y h p = (h.0, one-more P xs y h.1 p)
+
+pub index-pushed : (xs : List IndexTree) (y : IndexTree) (ds : List (List Field)) → BeginsWithId xs → AreIndexesOf xs ds → IsIndexOf y ds → AreIndexesOf (xs ++ y ∷ []) ds
+index-pushed [] y ds b h p = absurd b
+index-pushed (x ∷ xs) y ds b h p = one-more (λ z. IsIndexOf z ds) xs y h p
+
+pub still-begins : (xs : List IndexTree) (y : IndexTree) → BeginsWithId xs → BeginsWithId (xs ++ y ∷ [])
+still-begins [] y b = absurd b
+still-begins (x ∷ xs) y b = b
+
+pub forms-pushed : (xs : List IndexTree) (y : IndexTree) → map form_of (xs ++ y ∷ []) ≡ map form_of xs ++ form_of y ∷ []
+forms-pushed [] y = refl
+forms-pushed (x ∷ xs) y = ap (λ fs. form_of x ∷ fs) (forms-pushed xs y)
+
+module _ (name : List ℕ) where
+  stays : IndexTree → Bool
+  stays x = not (is_dropped name (form_of x))
+
+  pub forms-kept : (xs : List IndexTree) → map form_of (filter (λ x. not (is_dropped name (form_of x))) xs) ≡ without_index name (map form_of xs)
+  forms-kept [] = refl
+  forms-kept (x ∷ xs) = at (not (is_dropped name (form_of x))) (forms-kept xs)
+    where
+      at : (b : Bool) → map form_of (filter (λ y. not (is_dropped name (form_of y))) xs) ≡ without_index name (map form_of xs) → map form_of (cond b (x ∷ filter (λ y. not (is_dropped name (form_of y))) xs) (filter (λ y. not (is_dropped name (form_of y))) xs)) ≡ cond b (form_of x ∷ without_index name (map form_of xs)) (without_index name (map form_of xs))
+      at true e = ap (λ fs. form_of x ∷ fs) e
+      at false e = e
+
+  all-kept : (P : IndexTree → Type 0) (xs : List IndexTree) → AllByRecursion P xs → AllByRecursion P (filter (λ x. not (is_dropped name (form_of x))) xs)
+  all-kept P [] h = tt
+  all-kept P (x ∷ xs) h = at (not (is_dropped name (form_of x))) (all-kept P xs h.1)
+    where
+      at : (b : Bool) → AllByRecursion P (filter (λ y. not (is_dropped name (form_of y))) xs) → AllByRecursion P (cond b (x ∷ filter (λ y. not (is_dropped name (form_of y))) xs) (filter (λ y. not (is_dropped name (form_of y))) xs))
+      at true rest = (h.0, rest)
+      at false rest = rest
+
+  and-false : (a : Bool) → a && false ≡ false
+  and-false true = refl
+  and-false false = refl
+
+  id-stays : (x : IndexTree) → form_of x ≡ id_form → not (is_dropped name (form_of x)) ≡ true
+  id-stays x e = ap (λ f. not (is_dropped name f)) e ∙ ap not (and-false (bytes_eq id_form.name name))
+
+  pub kept-begin : (xs : List IndexTree) → BeginsWithId xs → BeginsWithId (filter (λ x. not (is_dropped name (form_of x))) xs)
+  kept-begin [] b = absurd b
+  kept-begin (x ∷ xs) b = subst (λ t. BeginsWithId (cond t (x ∷ filter (λ y. not (is_dropped name (form_of y))) xs) (filter (λ y. not (is_dropped name (form_of y))) xs))) (sym (id-stays x b)) b
+
+  pub kept-indexes : (xs : List IndexTree) (ds : List (List Field)) → BeginsWithId xs → AreIndexesOf xs ds → AreIndexesOf (filter (λ x. not (is_dropped name (form_of x))) xs) ds
+  kept-indexes [] ds b h = absurd b
+  kept-indexes (x ∷ xs) ds b h =
+      subst (λ t. AreIndexesOf (cond t (x ∷ filter (λ y. not (is_dropped name (form_of y))) xs) (filter (λ y. not (is_dropped name (form_of y))) xs)) ds) (sym (id-stays x b)) (all-kept (λ y. IsIndexOf y ds) xs h)
+
+pub first-begins : (xs : List IndexTree) → BeginsWithId xs → BeginsWithId (take 1 xs)
+first-begins [] b = absurd b
+first-begins (x ∷ xs) b = b
+
+pub first-alone : (xs : List IndexTree) → BeginsWithId xs → map form_of (take 1 xs) ≡ id_form ∷ []
+first-alone [] b = absurd b
+first-alone (x ∷ xs) b = ap (λ f. f ∷ []) b
+
+-- ---- an index of all documents
+-- some of these documents has an `_id` and a key
+abbrev pub some-has : (k id : KeyTree) (path : List (List ℕ)) → List (List Field) → Bool
+some-has k id path ds = list_any (λ d. is_eq (key_order id (id_key d)) && is_leaf_key k path d) ds
+
+none-later : (k id l : KeyTree) (path : List (List ℕ)) (ds : List (List Field)) → key_order id l ≡ Equal → Before l ds → some-has k id path ds ≡ false
+none-later k id l path [] e b = refl
+none-later k id l path (d ∷ ds) e b =
+    ap (λ o. (is_eq o && is_leaf_key k path d) || some-has k id path ds) (key_order_total.congr id l (id_key d) e ∙ b.0) ∙ none-later k id l path ds e b.1
+
+pub some-has-found : (k id : KeyTree) (path : List (List ℕ)) (ds : List (List Field)) → IsAscending ds → some-has k id path ds ≡ is_key_under k path (found id ds)
+some-has-found k id path [] h = refl
+some-has-found k id path (d ∷ ds) h = at (is_eq (key_order id (id_key d))) refl (some-has-found k id path ds (tail-ascends d ds h))
+  where
+    at : (b : Bool) → is_eq (key_order id (id_key d)) ≡ b → some-has k id path ds ≡ is_key_under k path (found id ds) → (b && is_leaf_key k path d) || some-has k id path ds ≡ is_key_under k path (cond b (Some d) (found id ds))
+    at true e rest = ap (λ c. is_leaf_key k path d || c) (none-later k id (id_key d) path ds (equal-from (key_order id (id_key d)) e) (head-before d ds h)) ∙ or-false (is_leaf_key k path d)
+    at false e rest = rest
+
+-- ---- indexes of the same forms
+pub same-length : (xs ys : List IndexTree) → map form_of xs ≡ map form_of ys → length xs ≡ length ys
+same-length xs ys e = sym (length-map xs form_of) ∙ ap length e ∙ length-map ys form_of
+
+pub begins-alike : (xs ys : List IndexTree) → map form_of xs ≡ map form_of ys → BeginsWithId ys → BeginsWithId xs
+begins-alike xs [] e b = absurd b
+begins-alike [] (y ∷ ys) e b = absurd cc
+begins-alike (x ∷ xs) (y ∷ ys) e b = let same : form_of x ≡ form_of y = cc in same ∙ b
+
+-- ---- a document that isn't there replaces none
+pub not-replaced : (d : List Field) (ds : List (List Field)) → is_some (found (id_key d) ds) ≡ false → replaced d ds ≡ ds
+not-replaced d [] e = refl
+not-replaced d (x ∷ xs) e = at (has_key (id_key d) x) e (not-replaced d xs)
+  where
+    at : (b : Bool) → is_some (cond b (Some x) (found (id_key d) xs)) ≡ false → (is_some (found (id_key d) xs) ≡ false → replaced d xs ≡ xs) → cond b d x ∷ replaced d xs ≡ x ∷ xs
+    at true f rest = absurd cc
+    at false f rest = ap (λ es. x ∷ es) (rest f)
+
+pub some-of-map : {X Y : Type 0} (f : X → Y) (o : Option X) → is_some (option_map f o) ≡ is_some o
+some-of-map f None = refl
+some-of-map f (Some x) = refl
+
+-- ---- a collection with its indexes, as a whole
+pub kept-whole : (x y : IndexedTree) → x ≡ y → (d : List Field) → replaced d x.documents ≡ x.documents → y ≡ with_documents (replaced d y.documents) y
+kept-whole x y e d same = subst (λ (z : IndexedTree). z ≡ with_documents (replaced d z.documents) z) e (ap (λ ds. with_documents ds x) (sym same))
+
+pub dropped-whole : (x y : IndexedTree) → x ≡ y → (name : List ℕ) (fs : List IndexForm) → fs ≡ without_index name x.indexes → with_indexes fs x ≡ with_indexes (without_index name y.indexes) y
+dropped-whole x y e name fs same = ap (λ gs. with_indexes gs x) same ∙ ap (λ (z : IndexedTree). with_indexes (without_index name z.indexes) z) e

@@ -1,0 +1,31 @@
+-- Which index stands at a place, and what the one on `_id` finds.
+use Rattle.std.proofs.Common.{◌≡◌, ◌∙◌, ℕ, zero, suc, List, [], ◌∷◌, map, refl, ap, sym, subst, Some, slice_get}
+use Rattle.std.specs.List.{AllByRecursion}
+use Rattle.std.specs.Option.{option_map}
+use Rattle.dv_bson.specs.Tree.{Field}
+use Rattle.dv_index.specs.Change.{AreIndexesOf, IsIndexAt}
+use Rattle.dv_index.specs.Index.{IndexForm, IndexTree, BeginsWithId, form_of, id_form}
+use Rattle.dv_index.specs.Search.{IsIndexOf}
+
+some-same : {X : Type 0} (x y : X) → Some x ≡ Some y → x ≡ y
+some-same x y e = cc
+
+behind : (xs : List IndexTree) (n : ℕ) (x : IndexTree) (ds : List (List Field)) → AllByRecursion (λ y. IsIndexOf y ds) xs → slice_get xs n ≡ Some x → IsIndexOf x ds
+behind [] n x ds h e = absurd cc
+behind (y ∷ ys) zero x ds h e = subst (λ z. IsIndexOf z ds) (some-same y x e) h.0
+behind (y ∷ ys) (suc n) x ds h e = behind ys n x ds h.1 e
+
+pub index-at : (xs : List IndexTree) (place : ℕ) (x : IndexTree) (ds : List (List Field)) → AreIndexesOf xs ds → BeginsWithId xs → slice_get xs place ≡ Some x → IsIndexAt place x ds
+index-at [] place x ds h b e = absurd b
+index-at (y ∷ ys) zero x ds h b e = sym (ap (λ (z : IndexTree). z.path) (some-same y x e)) ∙ ap (λ (f : IndexForm). f.path) b
+index-at (y ∷ ys) (suc n) x ds h b e = behind ys n x ds h e
+
+-- the path at a place
+pub path-at : (xs : List IndexTree) (place : ℕ) → slice_get (map (λ (x : IndexTree). x.path) xs) place ≡ option_map (λ (x : IndexTree). x.path) (slice_get xs place)
+path-at [] place = refl
+path-at (x ∷ xs) zero = refl
+path-at (x ∷ xs) (suc n) = path-at xs n
+
+pub paths-of-forms : (xs : List IndexTree) → map (λ (x : IndexTree). x.path) xs ≡ map (λ (x : IndexForm). x.path) (map form_of xs)
+paths-of-forms [] = refl
+paths-of-forms (x ∷ xs) = ap (λ ps. x.path ∷ ps) (paths-of-forms xs)

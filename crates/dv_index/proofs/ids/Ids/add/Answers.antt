@@ -1,0 +1,28 @@
+use Rattle.std.proofs.Common.{◌∙◌, ◌||◌, ap, sym}
+use Rattle.std.proofs.lemmas.Result.{on_ok_weaker, on_err_weaker}
+use Rattle.std.specs.Ordering.{is_eq}
+use Rattle.dv_order.specs.Key.{key_order}
+use Rattle.dv_index.specs.Ids.{has_first}
+use Rattle.dv_index.specs.Keys.{has_key}
+use Rattle.dv_index.proofs.Lists.{or-assoc}
+use Rattle.dv_index.proofs.Firsts.{kept-has}
+use Rattle.dv_index.proofs.ids.Ids.add.Goals as goal
+
+pub returns-clause-ok : goal.returns-clause-ok
+returns-clause-ok c = on_ok_weaker c.insert_into.result (λ known i.
+    let first = c.self.inside.first in
+    let others = c.self.inside.others.keys in
+    let same = is_eq (key_order i c.args.id.now) in
+    kept-has i first c.insert_into.new.found.keys
+    ∙ ap (λ b. has_first i first || b) (known i)
+    ∙ sym (or-assoc (has_first i first) (has_key i others) same)
+    ∙ ap (λ b. b || same) (sym (kept-has i first others))
+    ∙ ap (λ ks. has_key i ks || same) c.self.view_is) c.insert_into.ensures.ok
+
+pub returns-clause-err : goal.returns-clause-err
+returns-clause-err c = on_err_weaker c.insert_into.result (λ known i.
+    let first = c.self.inside.first in
+    kept-has i first c.insert_into.new.found.keys
+    ∙ ap (λ b. has_first i first || b) (known i)
+    ∙ sym (kept-has i first c.self.inside.others.keys)
+    ∙ ap (has_key i) c.self.view_is) c.insert_into.ensures.err

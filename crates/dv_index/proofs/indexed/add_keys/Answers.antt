@@ -1,0 +1,22 @@
+use Rattle.std.proofs.Common.{◌≡◌, ◌∙◌, ◌||◌, ◌&&◌, Bool, true, false, ap, refl}
+use Rattle.std.proofs.lemmas.Result.{on_ok_weaker}
+use Rattle.std.specs.Ordering.{is_eq}
+use Rattle.dv_coll.specs.Collection.{id_key}
+use Rattle.dv_order.specs.Key.{key_order}
+use Rattle.dv_index.specs.Keys.{has_key, is_leaf_key}
+use Rattle.dv_index.specs.Pairs.{has_pair}
+use Rattle.dv_index.proofs.indexed.add_keys.Goals as goal
+
+swapped : (a b : Bool) → a && b ≡ b && a
+swapped true true = refl
+swapped true false = refl
+swapped false true = refl
+swapped false false = refl
+
+pub returns : goal.returns
+returns c = on_ok_weaker c.add.result (λ known k i.
+    let was = has_pair k i c.args.pairs.now in
+    known k i
+    ∙ ap (λ l. was || (has_key k c.in_ok-keys.keys && is_eq (key_order i l))) c.in_ok-id.ensures
+    ∙ ap (λ b. was || (b && is_eq (key_order i (id_key c.args.document.now)))) (c.in_ok-keys.ensures k)
+    ∙ ap (λ b. was || b) (swapped (is_leaf_key k c.args.path.now c.args.document.now) (is_eq (key_order i (id_key c.args.document.now))))) c.add.ensures.ok

@@ -1,0 +1,59 @@
+-- A collection with its indexes, as users see it: documents in the order of their `_id`s, and the names and paths of the
+-- indexes in the order in which they were made. That an index has the keys of its documents is no part of it: it can't be
+-- seen from outside but by what a find costs.
+use Rattle.std.specs.Prelude.{◌≡◌, ℕ, Bool, not, ◌&&◌, List, [], ◌∷◌, map, Option, None, Some, slice_get, refl}
+use Rattle.std.specs.List.{filter, list_any}
+use Rattle.std.specs.Option.{option_map}
+use Rattle.std.specs.Coded.{Coded, coded_ℕ, coded_list, coded×, code_by}
+use Rattle.std.specs.Str.{bytes_eq}
+use Rattle.dv_bson.specs.Tree.{Field}
+use Rattle.dv_bson.specs.TreeCode.{coded_tree}
+use Rattle.dv_match.specs.Filter.{Condition, Members}
+use Rattle.dv_index.specs.Choice.{chosen}
+use Rattle.dv_index.specs.Index.{IndexForm, coded_form, id_form}
+use Rattle.dv_index.specs.Search.{covered}
+
+pub record IndexedTree : Type 0 where
+  pub documents : List (List Field)
+  pub indexes : List IndexForm
+
+-- without documents, and with the index that every collection has
+abbrev pub empty_indexed : IndexedTree
+empty_indexed = record { documents = []; indexes = id_form ∷ [] }
+
+-- with other documents, and the same indexes
+abbrev pub with_documents : List (List Field) → IndexedTree → IndexedTree
+with_documents documents c = record { documents = documents; indexes = c.indexes }
+
+-- with other indexes, and the same documents
+abbrev pub with_indexes : List IndexForm → IndexedTree → IndexedTree
+with_indexes indexes c = record { documents = c.documents; indexes = indexes }
+
+-- whether an index goes with a name; the one on `_id` never does
+abbrev pub is_dropped : List ℕ → IndexForm → Bool
+is_dropped name x = bytes_eq x.name name && not (bytes_eq x.name id_form.name)
+
+-- the indexes without those that go with a name
+abbrev pub without_index : List ℕ → List IndexForm → List IndexForm
+without_index name xs = filter (λ x. not (is_dropped name x)) xs
+
+abbrev pub paths_of : List IndexForm → List (List (List ℕ))
+paths_of xs = map (λ x. x.path) xs
+
+-- the name of the index of a plan, and none for a scan
+abbrev pub name_at : Option (ℕ × Condition) → List IndexForm → Option (List ℕ)
+name_at None xs = None
+name_at (Some plan) xs = option_map (λ x. x.name) (slice_get xs plan.0)
+
+-- the name of the index by which a filter is answered
+abbrev pub index_chosen : Members → List IndexForm → Option (List ℕ)
+index_chosen filter xs = name_at (chosen filter (paths_of xs)) xs
+
+-- how many documents it covers
+abbrev pub documents_covered : Members → IndexedTree → ℕ
+documents_covered filter c = covered (chosen filter (paths_of c.indexes)) (paths_of c.indexes) c.documents
+
+-- one to one as a ghost value
+abbrev pub coded_indexed : Coded IndexedTree
+coded_indexed =
+    code_by (List (List Field) × List IndexForm) (coded× (coded_list (coded_list (coded× (coded_list coded_ℕ) coded_tree))) (coded_list coded_form)) (λ c. (c.documents, c.indexes)) (λ p. record { documents = p.0; indexes = p.1 }) (λ _. refl)

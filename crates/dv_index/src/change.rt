@@ -1,0 +1,162 @@
+//! Changes of one document of a collection, and of the indexes with it.
+
+ghost use Rattle.std.specs.Prelude.{◌≡◌, IfOk, IsErrOf, OnErr, OnOk, map, filter, not, if◌then◌else◌};
+ghost use Rattle.std.specs.List.{AllByRecursion};
+ghost use Rattle.std.specs.Option.{option_map};
+ghost use Rattle.dv_coll.specs.Collection.{HasId, found, id_key};
+ghost use Rattle.dv_order.specs.Key.{KeyTree, key_order};
+ghost use Rattle.std.specs.Ordering.{is_eq};
+ghost use Rattle.dv_index.specs.Change.{HasIdFirst, IsChangeOf, IsFresh, IsTaken, changed_id, document_after, documents_after};
+ghost use Rattle.dv_index.specs.Index.{form_of};
+ghost use Rattle.dv_index.specs.Keys.{has_key};
+ghost use Rattle.dv_index.specs.Search.{IsIndexOf, is_key_under};
+
+use crate::indexes::Index;
+use crate::keys::{Keys, keys_of, keys_without};
+use dv_bson::{Document, NoMemory};
+use dv_coll::{Collection, InsertFault, laws};
+use dv_order::{Key, key_of};
+use dv_path::Path;
+use std::alloc::Global;
+
+/// What becomes of one document.
+#[derive(Debug, Drop)]
+pub(crate) enum Change<'k> {
+    /// It comes.
+    Insert(Document),
+    /// It comes in place of the one with an equal `_id`.
+    Replace(Document),
+    /// The one under the key of an `_id` goes.
+    Remove(&'k Key),
+}
+
+/// The keys under a path of a document as it was and as it will be, neither having keys where there is none.
+#[derive(Debug, Drop)]
+struct Moved {
+    id: Key,
+    old: Keys,
+    new: Keys,
+}
+
+/// Changes one document, and with it the indexes: first the keys that it gains are added to one index after the other,
+/// then the document is changed, which takes out of the indexes the keys that it has lost. Refused as the change of the
+/// document is, and where memory is wanting; then what was added is taken out again, and nothing is changed.
+pub(crate) fn carry_out(
+    alloc: Global,
+    indexes: &mut [Index],
+    documents: &mut Collection,
+    change: Change<'_>,
+) -> Result<(), InsertFault>
+    requires possible { IsChangeOf change documents.old }
+    requires indexed { AllByRecursion (λ x. IsIndexOf x documents.old) indexes.old }
+    ensures documents { OnOk result (documents.new ≡ documents_after change.entry documents.old) }
+    ensures found { OnOk result ((i : KeyTree) → found i documents.new ≡ (if is_eq (key_order i (changed_id change.entry)) then document_after change.entry else found i documents.old)) }
+    ensures fresh { OnOk result (IsFresh change.entry documents.old) }
+    ensures indexed { OnOk result (AllByRecursion (λ x. IsIndexOf x documents.new) indexes.new) }
+    ensures err { OnErr result (documents.new ≡ documents.old) }
+    ensures still_indexed { OnErr result (AllByRecursion (λ x. IsIndexOf x documents.old) indexes.new) }
+    ensures forms { map form_of indexes.new ≡ map form_of indexes.old }
+    ensures taken { IsErrOf result InsertFault.Duplicate → IsTaken change.entry documents.old }
+{
+    let Some((index, others)) = indexes.split_first_mut() else {
+        return change_document(documents, change);
+    };
+    let moved = keys_moved(alloc, index.path(), documents, &change)?;
+    let gained = keys_without(alloc, &moved.new, &moved.old)?;
+    let lost = keys_without(alloc, &moved.old, &moved.new)?;
+    index.add(gained.as_slice(), &moved.id)?;
+    match carry_out(alloc, others, documents, change) {
+        Ok(()) => {
+            index.take_out(lost.as_slice(), &moved.id);
+            Ok(())
+        }
+        Err(fault) => {
+            index.take_out(gained.as_slice(), &moved.id);
+            Err(fault)
+        }
+    }
+}
+
+/// Changes the document alone. Refused as an insert is.
+fn change_document(documents: &mut Collection, change: Change<'_>) -> Result<(), InsertFault>
+    requires { IsChangeOf change documents.old }
+    ensures documents { OnOk result (documents.new ≡ documents_after change.entry documents.old) }
+    ensures found { OnOk result ((i : KeyTree) → found i documents.new ≡ (if is_eq (key_order i (changed_id change.entry)) then document_after change.entry else found i documents.old)) }
+    ensures fresh { OnOk result (IsFresh change.entry documents.old) }
+    ensures err { OnErr result (documents.new ≡ documents.old) }
+    ensures taken { IsErrOf result InsertFault.Duplicate → IsTaken change.entry documents.old }
+{
+    laws::inserted_document_is_found();
+    laws::removed_document_is_not_found();
+    laws::replaced_document_is_found();
+    match change {
+        Change::Insert(document) => documents.insert(document)?,
+        Change::Replace(document) => {
+            let _ = documents.replace(document);
+        }
+        Change::Remove(key) => {
+            let _ = documents.remove(key);
+        }
+    }
+    Ok(())
+}
+
+/// The keys that the change moves. Fails where memory is wanting.
+fn keys_moved(
+    alloc: Global,
+    path: &Path,
+    documents: &Collection,
+    change: &Change<'_>,
+) -> Result<Moved, NoMemory>
+    requires { IsChangeOf change.now documents.now }
+    ensures id { IfOk result (λ moved. moved.id ≡ changed_id change.now) }
+    ensures old { IfOk result (λ moved. (k : KeyTree) → has_key k moved.old ≡ is_key_under k path.now (found (changed_id change.now) documents.now)) }
+    ensures new { IfOk result (λ moved. (k : KeyTree) → has_key k moved.new ≡ is_key_under k path.now (document_after change.now)) }
+{
+    let id = id_of(change)?;
+    let old = keys_under(alloc, path, documents.get(&id))?;
+    let new = keys_under(alloc, path, after(change))?;
+    Ok(Moved { id, old, new })
+}
+
+/// The keys of a document, where there is one. Fails where memory is wanting.
+fn keys_under(alloc: Global, path: &Path, document: Option<&Document>) -> Result<Keys, NoMemory>
+    ensures { IfOk result (λ keys. (k : KeyTree) → has_key k keys ≡ is_key_under k path.now (option_map (λ d. d.now) document.entry)) }
+{
+    match document {
+        Some(document) => keys_of(alloc, path, document),
+        None => Ok(Keys::none(alloc)),
+    }
+}
+
+/// The document that stands there afterwards.
+fn after<'c>(change: &'c Change<'_>) -> Option<&'c Document>
+    ensures { option_map (λ d. d.now) result ≡ document_after change.now }
+{
+    match change {
+        Change::Insert(document) | Change::Replace(document) => Some(document),
+        Change::Remove(_) => None,
+    }
+}
+
+/// The key of the `_id` of the document that is changed. Fails where memory is wanting.
+fn id_of(change: &Change<'_>) -> Result<Key, NoMemory>
+    requires { HasIdFirst change.now }
+    ensures { IfOk result (λ id. id ≡ changed_id change.now) }
+{
+    match change {
+        Change::Insert(document) | Change::Replace(document) => key_of_id(document),
+        Change::Remove(key) => key.try_clone(),
+    }
+}
+
+/// The key of the document's `_id`. Fails where memory is wanting.
+pub(crate) fn key_of_id(document: &Document) -> Result<Key, NoMemory>
+    requires { HasId document.now }
+    ensures { IfOk result (λ key. key ≡ id_key document.now) }
+{
+    let Some((_, id)) = document.entry(0) else {
+        unreachable!()
+    };
+    key_of(id)
+}

@@ -1,0 +1,131 @@
+//! The documents that stand under one key.
+
+ghost use Rattle.std.specs.Prelude.{◌≡◌, ◌||◌, ◌&&◌, ◌↔◌, not, [], ◌∷◌, IsTrue, OnErr, OnOk};
+ghost use Rattle.std.specs.BTreeSet.{contains};
+ghost use Rattle.std.specs.Ordering.{is_eq};
+ghost use Rattle.dv_order.specs.Key.{KeyTree, key_order};
+ghost use Rattle.dv_index.specs.Ids.{has_first};
+ghost use Rattle.dv_index.specs.Keys.{has_key};
+
+use dv_bson::NoMemory;
+use dv_order::Key;
+use std::alloc::Global;
+use std::collections::BTreeSet;
+use std::marker::Model;
+
+/// A set of keys of `_id`s. Under most keys stands one document, for which a tree would make room for fifteen: so one stands
+/// beside the tree.
+#[derive(Debug, Drop)]
+pub(crate) struct Ids {
+    first: Option<Key>,
+    others: BTreeSet<Key>,
+}
+
+impl Model for Ids {
+    ghost use Rattle.std.specs.Prelude.{List};
+    ghost use Rattle.std.specs.Coded.{coded_list};
+    ghost use Rattle.dv_order.specs.Key.{KeyTree, coded_key};
+    ghost use Rattle.dv_index.specs.Ids.{ids_kept};
+
+    ghost Value = { List KeyTree };
+
+    ghost coded = { coded_list coded_key };
+
+    ghost view = { λ i. ids_kept i.first i.others.keys };
+}
+
+impl Ids {
+    /// This one alone. Takes no memory.
+    pub(crate) fn of(alloc: Global, id: Key) -> Self
+        ensures { result ≡ id ∷ [] }
+    {
+        Ids {
+            first: Some(id),
+            others: BTreeSet::new(alloc),
+        }
+    }
+
+    /// Whether an equal one is there.
+    pub(crate) fn contains(&self, id: &Key) -> bool
+        ensures { result ≡ has_key id.now self.now }
+    {
+        is_first(&self.first, id) || self.others.contains(id)
+    }
+
+    /// Whether there is none.
+    pub(crate) fn is_empty(&self) -> bool
+        ensures { IsTrue result ↔ (self.now ≡ []) }
+    {
+        self.first.is_none() && self.others.is_empty()
+    }
+
+    /// Adds one. Where memory is wanting, nothing changes.
+    pub(crate) fn add(&mut self, id: &Key) -> Result<(), NoMemory>
+        ensures ok { OnOk result ((i : KeyTree) → has_key i self.new ≡ (has_key i self.old || is_eq (key_order i id.now))) }
+        ensures err { OnErr result ((i : KeyTree) → has_key i self.new ≡ has_key i self.old) }
+    {
+        insert_into(&mut self.others, id)
+    }
+
+    /// Takes out one, where it is there. Takes no memory.
+    pub(crate) fn take_out(&mut self, id: &Key)
+        ensures { (i : KeyTree) → has_key i self.new ≡ (has_key i self.old && not (is_eq (key_order i id.now))) }
+    {
+        drop_first(&mut self.first, id);
+        let _ = self.others.remove(id);
+    }
+
+    /// Adds all of them to a set. Where memory is wanting, some of them are added.
+    pub(crate) fn add_to(&self, found: &mut BTreeSet<Key>) -> Result<(), NoMemory>
+        ensures { OnOk result ((i : KeyTree) → contains key_order found.new i ≡ (contains key_order found.old i || has_key i self.now)) }
+    {
+        insert_first_into(found, &self.first)?;
+        insert_all_into(found, &self.others)
+    }
+}
+
+fn is_first(first: &Option<Key>, id: &Key) -> bool
+    ensures { result ≡ has_first id.now first.now }
+{
+    match first {
+        Some(first) => id == first,
+        None => false,
+    }
+}
+
+/// Takes the first one away where it is equal to this one.
+fn drop_first(first: &mut Option<Key>, id: &Key)
+    ensures { (i : KeyTree) → has_first i first.new ≡ (has_first i first.old && not (is_eq (key_order i id.now))) }
+{
+    if is_first(first, id) {
+        drop(first.take());
+    }
+}
+
+fn insert_first_into(found: &mut BTreeSet<Key>, first: &Option<Key>) -> Result<(), NoMemory>
+    ensures { OnOk result ((i : KeyTree) → contains key_order found.new i ≡ (contains key_order found.old i || has_first i first.now)) }
+{
+    match first {
+        Some(first) => insert_into(found, first),
+        None => Ok(()),
+    }
+}
+
+/// Adds all of the ids to a set. Where memory is wanting, some of them are added.
+fn insert_all_into(found: &mut BTreeSet<Key>, ids: &BTreeSet<Key>) -> Result<(), NoMemory>
+    ensures { OnOk result ((i : KeyTree) → contains key_order found.new i ≡ (contains key_order found.old i || contains key_order ids.now i)) }
+{
+    for id in ids {
+        insert_into(found, id)?;
+    }
+    Ok(())
+}
+
+/// Adds a copy of the id to a set. Where memory is wanting, nothing changes.
+pub(crate) fn insert_into(found: &mut BTreeSet<Key>, id: &Key) -> Result<(), NoMemory>
+    ensures ok { OnOk result ((i : KeyTree) → contains key_order found.new i ≡ (contains key_order found.old i || is_eq (key_order i id.now))) }
+    ensures err { OnErr result ((i : KeyTree) → contains key_order found.new i ≡ contains key_order found.old i) }
+{
+    let _ = found.insert(id.try_clone()?)?;
+    Ok(())
+}

@@ -1,0 +1,261 @@
+//! A collection with its indexes.
+
+ghost use Rattle.std.specs.Prelude.{◌≡◌, ◌↔◌, ◌||◌, ◌&&◌, ◌++◌, ◌∷◌, [], None, filter as kept, is_some, length, map, IfOk, IsErrOf, IsSome, IsTrue, OnErr, OnOk};
+ghost use Rattle.std.specs.List.{AllByRecursion, list_any};
+ghost use Rattle.std.specs.Option.{option_map};
+ghost use Rattle.dv_coll.specs.Collection.{HasId, IsAscending, found, id_key, inserted, removed, replaced};
+ghost use Rattle.dv_match.specs.Match.{matches};
+ghost use Rattle.std.specs.Ordering.{is_eq};
+ghost use Rattle.dv_order.specs.Key.{KeyTree, key_order};
+ghost use Rattle.dv_index.specs.Keys.{is_leaf_key};
+ghost use Rattle.dv_index.specs.Change.{IsChangeOf, IsTaken, documents_after};
+ghost use Rattle.dv_index.specs.Index.{form_of, id_form};
+ghost use Rattle.dv_index.specs.Indexed.{empty_indexed, is_dropped, with_documents, with_indexes, without_index};
+ghost use Rattle.dv_index.specs.Pairs.{has_pair};
+ghost use Rattle.dv_index.specs.Search.{is_key_under};
+ghost use Rattle.dv_index.specs.View.{plan_seen};
+ghost use Rattle.dv_index.specs.Indexed as defined;
+
+use crate::change::{Change, key_of_id};
+use crate::coverage::covered;
+use crate::indexes::{Index, Indexes};
+use crate::keys::keys_of;
+use crate::multi_index::MultiIndex;
+use crate::plan::{Plan, Planner};
+use crate::search::run;
+use dv_bson::{Document, NoMemory, Str};
+use dv_coll::{Collection, InsertFault, Iter};
+use dv_match::Filter;
+use dv_order::Key;
+use dv_path::Path;
+use std::alloc::{AllocError, Global};
+use std::marker::Model;
+
+/// Documents in the order of their `_id`s, no two of which are equal but for the width of integers, and indexes in the order
+/// in which they were made, the one on `_id` first. `_id` is the first field of each document, and its value no array.
+///
+/// A document is found by its `_id` in time logarithmic in their number. A change costs what its keys differ, for each index.
+#[derive(Debug, Drop)]
+pub struct IndexedCollection {
+    alloc: Global,
+    documents: Collection,
+    indexes: Indexes,
+}
+
+impl Model for IndexedCollection {
+    ghost use Rattle.std.specs.Prelude as prelude;
+    ghost use Rattle.dv_index.specs.Change.{AreIndexesOf};
+    ghost use Rattle.dv_index.specs.Index.{form_of};
+    ghost use Rattle.dv_index.specs.Indexed.{IndexedTree, coded_indexed};
+
+    ghost Value = { IndexedTree };
+
+    ghost coded = { coded_indexed };
+
+    ghost view = { λ c. record { documents = c.documents; indexes = prelude.map form_of c.indexes } };
+
+    ghost invariant = { λ c. AreIndexesOf c.indexes c.documents };
+}
+
+/// What a find does, without its documents.
+#[derive(Clone, Copy, Debug)]
+pub struct Explanation<'c> {
+    /// The name of the index by which the documents are found, and `None` where all are looked at.
+    pub index: Option<&'c str>,
+    /// How many documents have a leaf in the bounds in which the index is looked at, Missing counting as null; without an
+    /// index, how many there are.
+    pub documents: usize,
+}
+
+impl IndexedCollection {
+    /// A collection without documents and with the index on `_id` alone, whose memory will be allocated by `alloc`. Fails
+    /// where memory is wanting.
+    pub fn new(alloc: Global) -> Result<Self, NoMemory>
+        ensures { IfOk result (λ collection. collection ≡ empty_indexed) }
+    {
+        Ok(IndexedCollection {
+            alloc,
+            documents: Collection::new(alloc),
+            indexes: Indexes::new(alloc)?,
+        })
+    }
+
+    /// How many documents there are.
+    pub fn len(&self) -> usize
+        ensures count { result ≡ length self.now.documents }
+        ensures ascending { IsAscending self.now.documents }
+        ensures identified { AllByRecursion HasId self.now.documents }
+    {
+        self.documents.len()
+    }
+
+    /// Whether there is no document.
+    pub fn is_empty(&self) -> bool
+        ensures { IsTrue result ↔ (self.now.documents ≡ []) }
+    {
+        self.documents.is_empty()
+    }
+
+    /// The document under the key of its `_id`, where there is one. Takes no memory.
+    pub fn get(&self, key: &Key) -> Option<&Document>
+        ensures { option_map (λ document. document.now) result ≡ found key.now self.now.documents }
+    {
+        self.documents.get(key)
+    }
+
+    /// The documents in the order of their `_id`s. Takes no memory.
+    pub fn iter(&self) -> Iter<'_>
+        ensures documents { result ≡ self.now.documents }
+        ensures ascending { IsAscending self.now.documents }
+        ensures identified { AllByRecursion HasId self.now.documents }
+    {
+        self.documents.iter()
+    }
+
+    /// Puts the document in its place. Refused with `Duplicate` where a document has an equal `_id`, and with `NoMemory`
+    /// where memory is wanting, for the document or for its keys; then nothing is changed, and the document is dropped.
+    pub fn insert(&mut self, document: Document) -> Result<(), InsertFault>
+        requires { HasId document }
+        ensures ok { OnOk result (self.new ≡ with_documents (inserted document self.old.documents) self.old) }
+        ensures err { OnErr result (self.new ≡ self.old) }
+
+        // An equal `_id` is never inserted, and no new one refused as a duplicate.
+        ensures fresh { OnOk result (found (id_key document) self.old.documents ≡ None) }
+        ensures duplicate { IsErrOf result InsertFault.Duplicate → IsSome (found (id_key document) self.old.documents) }
+    {
+        self.indexes
+            .change(self.alloc, &mut self.documents, Change::Insert(document))
+    }
+
+    /// Puts the document in place of the one with an equal `_id`, and answers whether there is one. Where there is none,
+    /// nothing is changed, and the document is dropped. Fails where memory is wanting for the keys that it has and the other
+    /// one had not; then nothing is changed.
+    pub fn replace(&mut self, document: Document) -> Result<bool, NoMemory>
+        requires { HasId document }
+        ensures found { IfOk result (λ replaced. replaced ≡ is_some (found (id_key document) self.old.documents)) }
+        ensures ok { OnOk result (self.new ≡ with_documents (replaced document self.old.documents) self.old) }
+        ensures err { OnErr result (self.new ≡ self.old) }
+    {
+        let id = key_of_id(&document)?;
+        if self.documents.get(&id).is_none() {
+            return Ok(false);
+        }
+        self.change(Change::Replace(document))?;
+        Ok(true)
+    }
+
+    /// Takes out the document under the key of its `_id`, and answers whether there is one. Fails where memory is wanting to
+    /// look its keys up, of which there are none without an index beside that on `_id`; then nothing is changed.
+    pub fn remove(&mut self, key: &Key) -> Result<bool, NoMemory>
+        ensures found { IfOk result (λ gone. gone ≡ is_some (found key.now self.old.documents)) }
+        ensures ok { OnOk result (self.new ≡ with_documents (removed key.now self.old.documents) self.old) }
+        ensures err { OnErr result (self.new ≡ self.old) }
+    {
+        let found = self.documents.get(key).is_some();
+        self.change(Change::Remove(key))?;
+        Ok(found)
+    }
+
+    /// The indexes in the order in which they were made, the one on `_id` first: their names and paths. Takes no memory.
+    pub fn indexes(&self) -> &[Index]
+        ensures { map form_of result.now ≡ self.now.indexes }
+    {
+        self.indexes.as_slice()
+    }
+
+    /// Makes an index on a path, behind the others. That neither the name nor the path is there already is for the caller to
+    /// see. Fails where memory is wanting; then nothing is changed.
+    pub fn create_index(&mut self, name: Str, path: Path) -> Result<(), NoMemory>
+        ensures ok { OnOk result (self.new ≡ with_indexes (self.old.indexes ++ record { name = name; path = path } ∷ []) self.old) }
+        ensures err { OnErr result (self.new ≡ self.old) }
+    {
+        let pairs = pairs_of(self.alloc, &path, &self.documents)?;
+        self.indexes.push(Index::of(name, path, pairs))
+    }
+
+    /// Takes out the index of a name, but never the one on `_id`, and answers whether there is one. Takes no memory.
+    pub fn drop_index(&mut self, name: &str) -> bool
+        ensures found { result ≡ list_any (is_dropped name.now) self.old.indexes }
+        ensures indexes { self.new ≡ with_indexes (without_index name.now self.old.indexes) self.old }
+    {
+        self.indexes.remove(name)
+    }
+
+    /// Takes out all indexes but the one on `_id`. Takes no memory.
+    pub fn drop_indexes(&mut self)
+        ensures { self.new ≡ with_indexes (id_form ∷ []) self.old }
+    {
+        self.indexes.clear();
+    }
+
+    /// The documents that match the filter, in the order of their `_id`s, whatever indexes there are. By an index only those
+    /// are looked at that have a key in the plan's bounds. Fails where memory is wanting.
+    pub fn find(&self, filter: &Filter) -> Result<Vec<&Document>, NoMemory>
+        ensures { IfOk result (λ found. map (λ d. d.now) found.items ≡ kept (λ d. matches filter.now d) self.now.documents) }
+    {
+        let plan = Planner::choose(filter, &self.indexes);
+        run(self.alloc, &plan, filter, &self.documents, &self.indexes)
+    }
+
+    /// By which index a find is answered, and how many documents it covers. Fails where memory is wanting.
+    pub fn explain(&self, filter: &Filter) -> Result<Explanation<'_>, NoMemory>
+        ensures index { IfOk result (λ explanation. option_map (λ name. name.now) explanation.index ≡ defined.index_chosen filter.now self.now.indexes) }
+        ensures documents { IfOk result (λ explanation. explanation.documents ≡ defined.documents_covered filter.now self.now) }
+    {
+        let plan = Planner::choose(filter, &self.indexes);
+        Ok(Explanation {
+            index: name_of(&plan, &self.indexes),
+            documents: covered(self.alloc, &plan, &self.documents, &self.indexes)?,
+        })
+    }
+
+    /// Changes a document that is no new one, and with it the indexes. Fails where memory is wanting; then nothing is changed.
+    fn change(&mut self, change: Change<'_>) -> Result<(), NoMemory>
+        requires possible { IsChangeOf change self.old.documents }
+        requires known { IsTaken change self.old.documents → ⊥ }
+        ensures ok { OnOk result (self.new ≡ with_documents (documents_after change.entry self.old.documents) self.old) }
+        ensures err { OnErr result (self.new ≡ self.old) }
+    {
+        match self.indexes.change(self.alloc, &mut self.documents, change) {
+            Ok(()) => Ok(()),
+            Err(InsertFault::NoMemory) => Err(AllocError),
+            Err(InsertFault::Duplicate) => unreachable!(),
+        }
+    }
+}
+
+/// The pairs of the keys of all documents under a path, each with its document's `_id`. Fails where memory is wanting.
+fn pairs_of(alloc: Global, path: &Path, documents: &Collection) -> Result<MultiIndex, NoMemory>
+    ensures { IfOk result (λ pairs. (k id : KeyTree) → has_pair k id pairs ≡ is_key_under k path.now (found id documents.now)) }
+{
+    let mut pairs = MultiIndex::new(alloc);
+    for document in documents.iter() {
+        add_keys(alloc, &mut pairs, path, document)?;
+    }
+    Ok(pairs)
+}
+
+/// Adds the pairs of the document's keys. Where memory is wanting, the pairs are those that there were.
+fn add_keys(
+    alloc: Global,
+    pairs: &mut MultiIndex,
+    path: &Path,
+    document: &Document,
+) -> Result<(), NoMemory>
+    requires { HasId document.now }
+    ensures { OnOk result ((k i : KeyTree) → has_pair k i pairs.new ≡ (has_pair k i pairs.old || (is_eq (key_order i (id_key document.now)) && is_leaf_key k path.now document.now))) }
+{
+    let id = key_of_id(document)?;
+    let keys = keys_of(alloc, path, document)?;
+    pairs.add(&keys, &id)
+}
+
+/// The name of the index of a plan.
+fn name_of<'c>(plan: &Plan<'_>, indexes: &'c Indexes) -> Option<&'c str>
+    ensures { option_map (λ name. name.now) result ≡ defined.name_at (plan_seen plan.now) (map form_of indexes.now) }
+{
+    match *plan {
+        Plan::Scan => None,
+        Plan::Index { place, .. } => indexes.get(place).map(|index| index.name()),
+    }
+}
