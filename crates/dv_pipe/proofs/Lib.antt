@@ -9,3 +9,4 @@ pub mod Through
 pub mod StageLaws
 pub mod Left
 pub mod Members
+pub mod Namespaces

@@ -1,6 +1,8 @@
 -- Stages one after the other.
-use Rattle.std.proofs.Common.{◌≡◌, ◌∙◌, ap, sym, refl, Bool, true, false, ◌&&◌, List, [], ◌∷◌, ◌++◌, ℕ, zero, suc, take, min, filter, Some, None, if◌then◌else◌, arith}
-use Rattle.std.specs.List.{flat_map, AllByRecursion}
+use Rattle.std.proofs.Common.{◌≡◌, ◌∙◌, ap, sym, refl, Bool, true, false, ◌&&◌, ◌||◌, Option, List, [], ◌∷◌, ◌++◌, ℕ, zero, suc, take, min, filter, Some, None, if◌then◌else◌, arith}
+use Rattle.std.specs.List.{flat_map, list_any, AllByRecursion}
+use Rattle.std.specs.Str.{bytes_eq}
+use Rattle.std.proofs.lemmas.Slice.Eq.{bytes_eq-Decides}
 use Rattle.dv_bson.specs.Tree.{int32, int64, string, document, array, boolean, binary, object_id, date, null, timestamp, min_key, max_key}
 use Rattle.dv_path.specs.Candidates.{Candidate}
 use Rattle.dv_match.specs.Filter.{Members}
@@ -9,14 +11,47 @@ use Rattle.dv_pipe.specs.declared.stage.Stage.{Stage}
 use Rattle.dv_pipe.specs.declared.stage.Stage.TheVariants.{Match, Unwind, Limit}
 use Rattle.dv_pipe.specs.declared.unwind.Unwind as form
 use Rattle.dv_pipe.specs.Laws.{both, IsNoArray, HasNoArray, is_value, has_value}
-use Rattle.dv_pipe.specs.Sources.{Row, Source}
-use Rattle.dv_pipe.specs.Stages.{stage, through}
+use Rattle.dv_pipe.specs.Sources.{Row}
+use Rattle.dv_pipe.specs.Stages.{Lists, stage, foreign_of, looked_into, rows_at, through, evaluated, is_named, is_read}
 use Rattle.dv_pipe.specs.Unwinding.{reached, rows_of, unwound}
 
-pub through_parts : (first second : List Stage) (sources : List Source) (rows : List Row) → through (first ++ second) sources rows ≡ through second sources (through first sources rows)
+pub through_parts : (first second : List Stage) (source : List ℕ) (lists : Lists) (rows : List Row) → through (first ++ second) source lists rows ≡ through second source lists (through first source lists rows)
 unfolding through
-through_parts [] second sources rows = refl
-through_parts (s ∷ first) second sources rows = through_parts first second sources (stage s rows [])
+through_parts [] second source lists rows = refl
+through_parts (s ∷ first) second source lists rows = through_parts first second source lists (stage s rows (foreign_of s source lists))
+
+bytes-same : (a : List ℕ) → bytes_eq a a ≡ true
+bytes-same a = (bytes_eq-Decides a a).1 refl
+
+module _ (source : List ℕ) (lists others : Lists) where
+  abbrev IsSame : (List ℕ → Bool) → Type 0
+  IsSame reads = (name : List ℕ) → reads name ≡ true → lists name ≡ others name
+
+  rows-same : (looked : Option (List ℕ)) → IsSame (λ name. is_named name looked) → rows_at looked lists ≡ rows_at looked others
+  rows-same None same = refl
+  rows-same (Some name) same = same name (bytes-same name)
+
+  or-left : (a b : Bool) → a ≡ true → a || b ≡ true
+  or-left true b e = refl
+  or-left false b e = cc
+
+  or-right : (a b : Bool) → b ≡ true → a || b ≡ true
+  or-right true b e = refl
+  or-right false b e = e
+
+  through-same : (stages : List Stage) (rows : List Row) → IsSame (λ name. list_any (λ s. is_named name (looked_into s source)) stages) → through stages source lists rows ≡ through stages source others rows
+  unfolding through
+  through-same [] rows same = refl
+  through-same (s ∷ ss) rows same =
+      let rest = λ (name : List ℕ). list_any (λ s. is_named name (looked_into s source)) ss in
+      ap (λ foreign. through ss source lists (stage s rows foreign)) (rows-same (looked_into s source) (λ name h. same name (or-left (is_named name (looked_into s source)) (rest name) h)))
+      ∙ through-same ss (stage s rows (foreign_of s source others)) (λ name h. same name (or-right (is_named name (looked_into s source)) (rest name) h))
+
+  pub unread : (stages : List Stage) → IsSame (is_read stages source) → evaluated stages source lists ≡ evaluated stages source others
+  unread stages same =
+      let later = λ (name : List ℕ). list_any (λ s. is_named name (looked_into s source)) stages in
+      ap (through stages source lists) (same source (or-left (bytes_eq source source) (later source) (bytes-same source)))
+      ∙ through-same stages (others source) (λ name h. same name (or-right (bytes_eq source name) (later name) h))
 
 and-true : (a : Bool) → a && true ≡ a
 and-true true = refl

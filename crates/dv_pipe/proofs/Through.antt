@@ -7,8 +7,8 @@ use Rattle.dv_sort.specs.Sorting.{front}
 use Rattle.dv_pipe.specs.declared.stage.Stage.{Stage}
 use Rattle.dv_pipe.specs.declared.stage.Stage.TheVariants.{Match, Project, Unwind, Sort, Limit}
 use Rattle.dv_pipe.specs.Parts.{wanted}
-use Rattle.dv_pipe.specs.Sources.{Row, Source}
-use Rattle.dv_pipe.specs.Stages.{stage, through}
+use Rattle.dv_pipe.specs.Sources.{Row}
+use Rattle.dv_pipe.specs.Stages.{Lists, stage, through}
 
 take-again : {X : Type 0} (n : ℕ) (xs : List X) → take n (take n xs) ≡ take n xs
 take-again zero xs = refl
@@ -16,28 +16,28 @@ take-again (suc n) [] = refl
 take-again (suc n) (x ∷ xs) = ap (λ l. x ∷ l) (take-again n xs)
 
 -- stages see no more of the rows than are wanted
-pub through_front : (later : List Stage) (sources : List Source) (rows : List Row) → through later sources (front (wanted later) rows) ≡ through later sources rows
+pub through_front : (later : List Stage) (source : List ℕ) (lists : Lists) (rows : List Row) → through later source lists (front (wanted later) rows) ≡ through later source lists rows
 unfolding through stage
-through_front [] sources rows = refl
-through_front (Limit n ∷ later) sources rows = ap (through later sources) (take-again n rows)
-through_front (Match form ∷ later) sources rows = refl
-through_front (Project p ∷ later) sources rows = refl
-through_front (Unwind u ∷ later) sources rows = refl
-through_front (Sort parts ∷ later) sources rows = refl
+through_front [] source lists rows = refl
+through_front (Limit n ∷ later) source lists rows = ap (through later source lists) (take-again n rows)
+through_front (Match form ∷ later) source lists rows = refl
+through_front (Project p ∷ later) source lists rows = refl
+through_front (Unwind u ∷ later) source lists rows = refl
+through_front (Sort parts ∷ later) source lists rows = refl
 
-pub through_none : (stages : List Stage) (sources : List Source) (rows : List Row) → length stages ≡ 0 → through stages sources rows ≡ rows
+pub through_none : (stages : List Stage) (source : List ℕ) (lists : Lists) (rows : List Row) → length stages ≡ 0 → through stages source lists rows ≡ rows
 unfolding through
-through_none [] sources rows e = refl
-through_none (s ∷ ss) sources rows e = absurd cc
+through_none [] source lists rows e = refl
+through_none (s ∷ ss) source lists rows e = absurd cc
 
 -- the rows of a stage, and then of those behind it
-pub through_stage : (s : Stage) (later : List Stage) (rows left : List Row) → left ≡ stage s rows [] → (sources : List Source) → through later sources left ≡ through (s ∷ later) sources rows
+pub through_stage : (s : Stage) (later : List Stage) (rows left : List Row) → left ≡ stage s rows [] → (source : List ℕ) (lists : Lists) → through later source lists left ≡ through (s ∷ later) source lists rows
 unfolding through
-through_stage s later rows left e sources = ap (through later sources) e
+through_stage s later rows left e source lists = ap (through later source lists) e
 
-pub through_sort : (s : Stage) (later : List Stage) (parts : List Part) (rows left : List Row) → s ≡ Sort parts → left ≡ front (wanted later) (stable parts rows) → (sources : List Source) → through later sources left ≡ through (s ∷ later) sources rows
+pub through_sort : (s : Stage) (later : List Stage) (parts : List Part) (rows left : List Row) → s ≡ Sort parts → left ≡ front (wanted later) (stable parts rows) → (source : List ℕ) (lists : Lists) → through later source lists left ≡ through (s ∷ later) source lists rows
 unfolding through stage
-through_sort s later parts rows left is e sources = ap (through later sources) e ∙ through_front later sources (stable parts rows) ∙ ap (λ t. through (t ∷ later) sources rows) (sym is)
+through_sort s later parts rows left is e source lists = ap (through later source lists) e ∙ through_front later source lists (stable parts rows) ∙ ap (λ t. through (t ∷ later) source lists rows) (sym is)
 
 abbrev fronted : List Part → Option ℕ → List Row → Front
 fronted parts most rows = record { parts = parts; most = most; rows = rows }

@@ -20,3 +20,7 @@ rows_under namespace (s ∷ ss) = if bytes_eq namespace s.0 then s.1 else rows_u
 -- the documents behind references
 abbrev pub referred : List (Bor Row) → List Row
 referred = map (λ r. r.now)
+
+-- what stands under each namespace
+abbrev pub lists_of : List Source → List ℕ → List Row
+lists_of sources namespace = rows_under namespace sources

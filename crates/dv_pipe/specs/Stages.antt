@@ -1,14 +1,16 @@
 -- What the stages of a pipeline make of rows (MongoDB manual, "Aggregation Stages"), and pipelines, which are their stages one
 -- after the other.
-use Rattle.std.specs.Prelude.{ℕ, List, [], ◌∷◌, filter, map, take}
-use Rattle.std.specs.List.{flat_map}
+use Rattle.std.specs.Prelude.{ℕ, ◌==◌, ◌||◌, Bool, false, List, [], ◌∷◌, ◌++◌, Option, Some, None, filter, map, take}
+use Rattle.std.specs.List.{flat_map, list_any, before_first}
+use Rattle.std.specs.Option.{option_map}
+use Rattle.std.specs.Str.{bytes_eq}
 use Rattle.dv_match.specs.Match.{matches}
 use Rattle.dv_pipe.specs.declared.stage.Stage.{Stage}
 use Rattle.dv_pipe.specs.declared.stage.Stage.TheVariants.{Match, Project, Unwind, Sort, Limit}
 use Rattle.dv_sort.specs.Sorting.{stable}
 use Rattle.dv_pipe.specs.Projecting.{projected}
 use Rattle.dv_pipe.specs.Unwinding.{unwound}
-use Rattle.dv_pipe.specs.Sources.{Row, Source, rows_under}
+use Rattle.dv_pipe.specs.Sources.{Row}
 
 -- the rows that leave a stage, from those that enter it, and from the list that the stage looks into beside them
 unfoldable pub stage : Stage → List Row → List Row → List Row
@@ -18,15 +20,47 @@ stage (Unwind u) rows foreign = flat_map (unwound u) rows
 stage (Sort parts) rows foreign = stable parts rows
 stage (Limit count) rows foreign = take count rows
 
--- the list that a stage looks into: no stage names one yet
-abbrev pub foreign_of : Stage → List Source → List Row
-foreign_of s sources = []
+-- what stands under each namespace
+abbrev pub Lists : Type 0
+Lists = List ℕ → List Row
+
+-- the database of a namespace: what stands before its first dot
+abbrev pub database_of : List ℕ → List ℕ
+database_of namespace = before_first (λ b. b == 46) namespace
+
+-- the namespace of a collection in the database of another namespace
+abbrev pub beside : List ℕ → List ℕ → List ℕ
+beside source collection = database_of source ++ 46 ∷ collection
+
+-- the collection that a stage looks into beside its rows: no stage names one yet
+abbrev pub from_of : Stage → Option (List ℕ)
+from_of s = None
+
+-- the namespace that a stage looks into, in a pipeline over a source
+abbrev pub looked_into : Stage → List ℕ → Option (List ℕ)
+looked_into s source = option_map (beside source) (from_of s)
+
+abbrev pub rows_at : Option (List ℕ) → Lists → List Row
+rows_at None lists = []
+rows_at (Some namespace) lists = lists namespace
+
+-- the list that a stage looks into
+abbrev pub foreign_of : Stage → List ℕ → Lists → List Row
+foreign_of s source lists = rows_at (looked_into s source) lists
 
 -- rows through stages, one after the other
-unfoldable pub through : List Stage → List Source → List Row → List Row
-through [] sources rows = rows
-through (s ∷ ss) sources rows = through ss sources (stage s rows (foreign_of s sources))
+unfoldable pub through : List Stage → List ℕ → Lists → List Row → List Row
+through [] source lists rows = rows
+through (s ∷ ss) source lists rows = through ss source lists (stage s rows (foreign_of s source lists))
 
 -- the rows of a pipeline over a namespace
-abbrev pub evaluated : List Stage → List ℕ → List Source → List Row
-evaluated stages source sources = through stages sources (rows_under source sources)
+abbrev pub evaluated : List Stage → List ℕ → Lists → List Row
+evaluated stages source lists = through stages source lists (lists source)
+
+abbrev pub is_named : List ℕ → Option (List ℕ) → Bool
+is_named namespace None = false
+is_named namespace (Some name) = bytes_eq namespace name
+
+-- whether a pipeline over a source reads a namespace: it is the source, or a stage looks into it
+abbrev pub is_read : List Stage → List ℕ → List ℕ → Bool
+is_read stages source namespace = bytes_eq source namespace || list_any (λ s. is_named namespace (looked_into s source)) stages

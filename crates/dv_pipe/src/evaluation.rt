@@ -1,7 +1,7 @@
 //! Pipelines carried out.
 
-ghost use Rattle.std.specs.Prelude.{◌≡◌, List, [], ◌∷◌, IfOk};
-ghost use Rattle.dv_pipe.specs.Sources.{Source, referred};
+ghost use Rattle.std.specs.Prelude.{◌≡◌, ℕ, List, [], ◌∷◌, IfOk};
+ghost use Rattle.dv_pipe.specs.Sources.{lists_of, referred};
 ghost use Rattle.dv_sort.specs.Sorting.{stable, front as first_rows};
 ghost use Rattle.dv_pipe.specs.Parts as parts;
 ghost use Rattle.dv_pipe.specs.Stages as defined;
@@ -25,7 +25,7 @@ pub fn evaluate(
     source: &str,
     sources: &Sources<'_>,
 ) -> Result<Vec<Document>, NoMemory>
-    ensures { IfOk result (λ rows. rows.items ≡ defined.evaluated pipeline.now source.now sources.now) }
+    ensures { IfOk result (λ rows. rows.items ≡ defined.evaluated pipeline.now source.now (lists_of sources.now)) }
 {
     let mut rows = copies(alloc, sources.get(source))?;
     let mut stages = pipeline.stages();
@@ -55,7 +55,7 @@ fn through(
     later: &[Stage],
     rows: Vec<Document>,
 ) -> Result<Vec<Document>, NoMemory>
-    ensures { IfOk result (λ left. (sources : List Source) → defined.through later.now sources left.items ≡ defined.through (stage.now ∷ later.now) sources rows.items) }
+    ensures { IfOk result (λ left. (source : List ℕ) (lists : defined.Lists) → defined.through later.now source lists left.items ≡ defined.through (stage.now ∷ later.now) source lists rows.items) }
 {
     match stage {
         Stage::Match(filter) => Ok(matching(filter, rows)),

@@ -1,19 +1,25 @@
 //! What holds of stages and of pipelines, each the contract of a function that does nothing.
 
-ghost use Rattle.std.specs.Prelude.{◌≡◌, ◌++◌, ℕ, List, false, filter, min};
+ghost use Rattle.std.specs.Prelude.{◌≡◌, ◌++◌, ℕ, List, true, false, filter, min};
 ghost use Rattle.std.specs.List.{AllByRecursion};
 ghost use Rattle.dv_match.specs.Filter.{Members};
 ghost use Rattle.dv_pipe.specs.declared.unwind.Unwind.{Unwind};
 ghost use Rattle.dv_pipe.specs.Laws.{both, HasNoArray, has_value};
-ghost use Rattle.dv_pipe.specs.Sources.{Row, Source};
-ghost use Rattle.dv_pipe.specs.Stages.{stage, through};
+ghost use Rattle.dv_pipe.specs.Sources.{Row};
+ghost use Rattle.dv_pipe.specs.Stages.{Lists, evaluated, is_read, stage, through};
 
 use crate::stage::Stage;
 
 /// A pipeline of two parts is the one after the other.
 #[tactic(auto, using(crate::proofs::StageLaws::through_parts))]
 pub fn one_part_after_the_other()
-    ensures { (first second : List Stage) (sources : List Source) (rows : List Row) → through (first ++ second) sources rows ≡ through second sources (through first sources rows) }
+    ensures { (first second : List Stage) (source : List ℕ) (lists : Lists) (rows : List Row) → through (first ++ second) source lists rows ≡ through second source lists (through first source lists rows) }
+{}
+
+/// What stands under a namespace that a pipeline doesn't read is no matter to it.
+#[tactic(auto, using(crate::proofs::StageLaws::unread))]
+pub fn what_is_not_read_does_not_matter()
+    ensures { (stages : List Stage) (source : List ℕ) (lists others : Lists) → ((name : List ℕ) → is_read stages source name ≡ true → lists name ≡ others name) → evaluated stages source lists ≡ evaluated stages source others }
 {}
 
 /// A match of a match is the match of both filters.

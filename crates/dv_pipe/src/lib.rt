@@ -8,6 +8,7 @@ mod expr_parsing;
 mod fault;
 mod field_path;
 pub mod laws;
+mod namespace;
 mod paths;
 mod pipeline;
 mod project;

@@ -1,11 +1,14 @@
 //! Pipelines as parsed.
 
 ghost use Rattle.std.specs.Prelude.{◌≡◌, ◌≤◌, length, map, IfOk};
+ghost use Rattle.std.specs.List.{list_any};
 ghost use Rattle.dv_bson.specs.View.{tree};
 ghost use Rattle.dv_pipe.specs.Parsing.{Gives, each};
 ghost use Rattle.dv_pipe.specs.StageParsing.{stage_of, pipeline_of};
+ghost use Rattle.dv_pipe.specs.Stages.{is_named, is_read, looked_into};
 
 use crate::fault::PipelineFault;
+use crate::namespace::is_beside;
 use crate::stage::Stage;
 use dv_bson::{NoMemory, Value};
 use std::alloc::Global;
@@ -54,6 +57,27 @@ impl Pipeline {
         ensures { result.now ≡ self.now }
     {
         self.stages.as_slice()
+    }
+
+    /// Whether the pipeline over `source` reads the namespace: it is the source, or a stage looks into it. Takes no memory.
+    pub fn reads(&self, source: &str, namespace: &str) -> bool
+        ensures { result ≡ is_read self.now source.now namespace.now }
+    {
+        source == namespace || self.looks_into(source, namespace)
+    }
+
+    /// Whether a stage of the pipeline over `source` looks into the namespace.
+    fn looks_into(&self, source: &str, namespace: &str) -> bool
+        ensures { result ≡ list_any (λ s. is_named namespace.now (looked_into s source.now)) self.now }
+    {
+        'stages: for stage in &self.stages {
+            if let Some(collection) = stage.foreign() {
+                if is_beside(source, collection, namespace) {
+                    return true;
+                }
+            }
+        }
+        false
     }
 
     /// A copy of its own. Fails where memory is wanting.

@@ -1,10 +1,12 @@
 //! Stages.
 
 ghost use Rattle.std.specs.Prelude.{◌≡◌, IfOk};
+ghost use Rattle.std.specs.Option.{option_map};
 ghost use Rattle.dv_bson.specs.View.{tree};
 ghost use Rattle.dv_pipe.specs.Parsing as defined;
 ghost use Rattle.dv_pipe.specs.Parsing.{Gives};
 ghost use Rattle.dv_pipe.specs.StageParsing as stages;
+ghost use Rattle.dv_pipe.specs.Stages.{from_of};
 
 use crate::fault::PipelineFault;
 use crate::project::Project;
@@ -44,6 +46,14 @@ impl Stage {
             return Err(PipelineFault::BadSpec);
         };
         stage_named(alloc, name, operand)
+    }
+
+    /// The name of the collection that the stage looks into beside its rows, in the database of the pipeline's source;
+    /// none so far. Takes no memory.
+    pub fn foreign(&self) -> Option<&str>
+        ensures { option_map (λ name. name.now) result ≡ from_of self.now }
+    {
+        None
     }
 
     /// A copy of its own. Fails where memory is wanting.

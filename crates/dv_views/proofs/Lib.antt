@@ -1,0 +1,5 @@
+pub mod Made
+pub mod Turns
+pub mod Right
+pub mod Entries
+pub mod Marked

@@ -1,0 +1,57 @@
+-- What changes of a collection make of its documents, and what they may make of views.
+use Rattle.std.specs.Prelude.{◌≡◌, ℕ, false, List, [], ◌∷◌, map, IsSome, if◌then◌else◌, ⊤}
+use Rattle.std.specs.List.{AllByRecursion, AllZip}
+use Rattle.std.specs.Str.{bytes_eq}
+use Rattle.dv_coll.specs.Collection.{HasId, IsAscending, id_key, found}
+use Rattle.dv_flow.specs.declared.change.Change.{Change}
+use Rattle.dv_flow.specs.declared.change.Change.TheVariants.{Put, Gone}
+use Rattle.dv_flow.specs.declared.position.Part.TheVariants.{Up}
+use Rattle.dv_flow.specs.Changes.{Positioned, with_changes, forget}
+use Rattle.dv_flow.specs.Positions.{PosTree}
+use Rattle.dv_pipe.specs.Sources.{Row}
+use Rattle.dv_pipe.specs.Stages.{Lists}
+use Rattle.dv_views.specs.Views.{View, Views, stale, reads}
+
+-- where a document stands in its collection: under the key of its `_id`
+abbrev pub own_position : Row → PosTree
+own_position d = Up (id_key d) ∷ []
+
+abbrev pub positioned : List Row → Positioned
+positioned documents = map (λ d. (own_position d, d)) documents
+
+-- a collection's documents after changes
+abbrev pub changed : List Change → List Row → List Row
+changed changes documents = forget (with_changes (positioned documents) changes)
+
+-- the lists, with these changes of one of them
+abbrev pub with_changed : List ℕ → List Change → Lists → Lists
+with_changed namespace changes lists name = if bytes_eq namespace name then changed changes (lists name) else lists name
+
+-- a change that a collection makes: a document is put at its own position, or one that is there goes
+abbrev pub IsMade : Change → List Row → Type 0
+IsMade (Put pos row) documents = HasId row × (pos ≡ own_position row)
+IsMade (Gone (Up k ∷ [])) documents = IsSome (found k documents)
+IsMade (Gone pos) documents = ⊥
+
+abbrev pub AreMadeInTurn : List Change → List Row → Type 0
+AreMadeInTurn [] documents = ⊤
+AreMadeInTurn (c ∷ cs) documents = IsMade c documents × AreMadeInTurn cs (changed (c ∷ []) documents)
+
+-- changes that a collection makes one after the other
+pub record AreMade (changes : List Change) (documents : List Row) : Type 0 where
+  pub ascending : IsAscending documents
+  pub identified : AllByRecursion HasId documents
+  pub in_turn : AreMadeInTurn changes documents
+
+-- what a view may be after changes at a namespace: the same but for its mark, the very same where it doesn't read the namespace,
+-- and no more live than before
+pub record IsAfterChange (namespace : List ℕ) (before after : View) : Type 0 where
+  pub name : after.name ≡ before.name
+  pub source : after.source ≡ before.source
+  pub stages : after.stages ≡ before.stages
+  pub unread : reads before namespace ≡ false → after ≡ before
+  pub stale : before.mark ≡ stale → after.mark ≡ stale
+
+-- the same of views, one by one
+abbrev pub AreAfterChange : List ℕ → Views → Views → Type 0
+AreAfterChange namespace before after = AllZip (IsAfterChange namespace) before after
