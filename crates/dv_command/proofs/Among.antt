@@ -1,9 +1,9 @@
--- The documents among the values of an array.
+-- The values of an array, and the documents among them.
 use Rattle.std.proofs.Common.{◌≡◌, true, false, List, [], ◌∷◌, length, map, refl, ap, suc, Ok, Err}
 use Rattle.std.specs.List.{list_all}
 use Rattle.dv_bson.specs.declared.value.Value.{Value}
 use Rattle.dv_bson.specs.declared.value.Value.TheVariants.{Doc}
-use Rattle.dv_bson.specs.Tree.{Field, elements_of, fields_of, list_of_fields}
+use Rattle.dv_bson.specs.Tree.{Tree, Field, elements_of, list_of_elements, fields_of, list_of_fields}
 use Rattle.dv_bson.specs.View.{tree}
 use Rattle.dv_command.specs.Fields.{each_document}
 use Rattle.dv_command.specs.declared.refusal.Refusal.TheVariants.{TypeMismatch}
@@ -12,6 +12,10 @@ use Rattle.dv_command.specs.DocumentsView.{is_document, AreDocuments, documents_
 pub same_fields : (fs : List Field) → list_of_fields (fields_of fs) ≡ fs
 same_fields [] = refl
 same_fields (f ∷ fs) = ap (λ (rest : List Field). f ∷ rest) (same_fields fs)
+
+pub same_elements : (vs : List Tree) → list_of_elements (elements_of vs) ≡ vs
+same_elements [] = refl
+same_elements (v ∷ vs) = ap (λ (rest : List Tree). v ∷ rest) (same_elements vs)
 
 pub all_documents : (vs : List Value) → list_all is_document vs ≡ true → AreDocuments vs
 all_documents [] e = tt

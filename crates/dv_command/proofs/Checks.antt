@@ -4,7 +4,7 @@ use Rattle.std.specs.List.{slice_get}
 use Rattle.dv_bson.specs.Tree.{document, Field, fields_of}
 use Rattle.dv_command.specs.Kinds.{Place}
 use Rattle.dv_command.specs.declared.refusal.Refusal.TheVariants.{FailedToParse}
-use Rattle.dv_command.specs.Fields.{Table, check_fields, check_field, check_empty}
+use Rattle.dv_command.specs.Fields.{Table, check_fields, check_field, check_empty, check_none}
 use Rattle.dv_command.specs.Refusals.{◌>>=◌}
 use Rattle.dv_command.proofs.Lists.{drop_at}
 
@@ -17,3 +17,7 @@ check_fields-at place table fs index f e = ap (check_fields place table) (drop_a
 pub some_fields : (fs : List Field) → fs ≢ [] → check_empty (document (fields_of fs)) ≡ Err FailedToParse
 some_fields [] h = absurd (h refl)
 some_fields (f ∷ fs) h = refl
+
+pub some_field : (fs : List Field) → fs ≢ [] → check_none fs ≡ Err FailedToParse
+some_field [] h = absurd (h refl)
+some_field (f ∷ fs) h = refl

@@ -6,20 +6,20 @@ use Rattle.std.specs.Prelude.{codes, ⊤}
 use Rattle.std.specs.Str.{IsUtf8, bytes_eq}
 use Rattle.dv_bson.specs.Names.{value_under}
 use Rattle.dv_bson.specs.Spelling.{IsValue, AreFields, AreElements}
-use Rattle.dv_bson.specs.Tree.{Tree, string, document, array, Fields, no_fields, field, Elements, no_elements, element, Field, fields_of, list_of_fields}
+use Rattle.dv_bson.specs.Tree.{Tree, string, document, array, Fields, no_fields, field, Elements, no_elements, element, Field, fields_of, list_of_fields, elements_of, list_of_elements}
 use Rattle.dv_update.specs.Parsing as updates
-use Rattle.dv_update.specs.Update.{Update}
-use Rattle.dv_update.specs.declared.fault.UpdateFault.{UpdateFault}
-use Rattle.dv_command.specs.Asked.{Asked, hello, ping, insert, update, delete, find, asked_under, hello_of, ping_of, insert_of, update_of, delete_of, find_of, Statements, statements_of, checked_database, check_count, statement_limit}
-use Rattle.dv_command.specs.Fields.{Table, Lists, updating_table, update_in, update_under, document_under, write_table, find_table, check_fields, check_lists, text_in, each_document, documents_in, required, text_under, boolean_under, natural_under, documents_under}
-use Rattle.dv_command.specs.Forms.{filter_under, sort_under, filter_of}
+use Rattle.dv_pipe.specs.StageParsing as pipelines
+use Rattle.dv_pipe.specs.declared.stage.Stage.{Stage}
+use Rattle.dv_command.specs.Asked.{Asked, hello, ping, insert, update, delete, find, aggregate, create, drop, asked_under, write_under, catalog_under, hello_of, ping_of, insert_of, update_of, delete_of, find_of, aggregate_of, create_of, drop_of, ViewOn, ViewFields, view_fields, view_fields_in, view_of, Statements, statements_of, checked_database, check_count, statement_limit}
+use Rattle.dv_command.specs.Fields.{Table, Lists, updating_table, update_in, update_under, document_under, write_table, find_table, aggregate_table, create_table, drop_table, check_fields, check_lists, text_in, array_in, each_document, documents_in, required, text_under, array_under, boolean_under, natural_under, documents_under}
+use Rattle.dv_command.specs.Forms.{filter_under, sort_under, filter_of, pipeline_of}
 use Rattle.dv_command.specs.Forms as forms
 use Rattle.dv_command.specs.Entries as entries
 use Rattle.dv_command.specs.Entries.{Updating}
 use Rattle.dv_command.specs.Kinds as kinds
 use Rattle.dv_command.specs.Namespaces.{database, database_in, namespace, dotted, is_database_name, is_collection_name, longest_namespace}
-use Rattle.dv_command.specs.Refusals.{◌>>=◌, refused_by, update_refusal}
-use Rattle.dv_command.specs.Sound.{AreValid, IsNamespace, AreStatements, IsSoundlyAsked, IsSoundUpdate}
+use Rattle.dv_command.specs.Refusals.{◌>>=◌, refused_by, pipeline_refusal, update_refusal}
+use Rattle.dv_command.specs.Sound.{AreValid, IsNamespace, AreStatements, IsSoundPipeline, IsSoundView, IsSoundlyAsked, IsSoundUpdate}
 use Rattle.dv_command.specs.declared.refusal.Refusal.{Refusal}
 use Rattle.dv_command.specs.declared.refusal.Refusal.TheVariants.{BadValue, CommandNotFound, LimitReached}
 
@@ -36,6 +36,10 @@ succeeds (Err refusal) rest end is = absurd cc
 
 ends : {A : Type 0} (x y : A) → let given : Result A Refusal = Ok x in let end : Result A Refusal = Ok y in given ≡ end → x ≡ y
 ends x y is = cc
+
+parsed : {A E : Type 0} (refusal : E → Refusal) (reading : Result A E) (x : A) → refused_by refusal reading ≡ Ok x → reading ≡ Ok x
+parsed refusal (Ok y) x is = ap Ok (ends y x is)
+parsed refusal (Err fault) x is = absurd cc
 
 -- ---- what is read out of valid fields is valid
 
@@ -72,6 +76,17 @@ text_valid : (under : Option Tree) (c : List ℕ) → ((v : Tree) → under ≡ 
 text_valid None c valid is = absurd cc
 text_valid (Some (string name)) c valid is = let same : name ≡ c = cc in subst IsUtf8 same (valid (string name) refl)
 text_valid (Some v) c valid is = absurd cc
+
+elements_again : (vs : Elements) → elements_of (list_of_elements vs) ≡ vs
+elements_again no_elements = refl
+elements_again (element value vs) = ap (element value) (elements_again vs)
+
+list_valid : (under : Option Tree) (list : List Tree) → ((v : Tree) → under ≡ Some v → IsValue v) → required array_in under ≡ Ok list → AreElements (elements_of list)
+list_valid None list valid is = absurd cc
+list_valid (Some (array vs)) list valid is =
+    let elements : AreElements (elements_of (list_of_elements vs)) = rw (elements_again vs) (valid (array vs) refl) in
+    subst (λ (l : List Tree). AreElements (elements_of l)) (ends (list_of_elements vs) list is) elements
+list_valid (Some v) list valid is = absurd cc
 
 database_valid : (under : Option Tree) (d : List ℕ) → ((v : Tree) → under ≡ Some v → IsValue v) → database_in under ≡ Ok d → IsUtf8 d
 database_valid None d valid is = absurd cc
@@ -117,6 +132,35 @@ count_valid ds t is = by_test (nat_lt 100000 (length ds)) refl is
     by_test true test e = absurd cc
     by_test false test e = grind (arith, nat_tests)
 
+-- ---- pipelines and views
+
+pipeline_valid : (list : List Tree) (stages : List Stage) → AreElements (elements_of list) → pipeline_of list ≡ Ok stages → IsSoundPipeline stages
+pipeline_valid list stages valid is = record { list = list; valid = valid; is = parsed pipeline_refusal (pipelines.pipeline_of list) stages is }
+
+abbrev AreViewFields : Option ViewFields → Type 0
+AreViewFields None = ⊤
+AreViewFields (Some fields) = IsUtf8 fields.collection × AreElements (elements_of fields.list)
+
+fields_valid : (view_on pipeline : Option Tree) (fields : Option ViewFields) → ((v : Tree) → view_on ≡ Some v → IsValue v) → ((v : Tree) → pipeline ≡ Some v → IsValue v)
+    → view_fields_in view_on pipeline ≡ Ok fields → AreViewFields fields
+fields_valid None None fields first second is = subst AreViewFields (ends None fields is) tt
+fields_valid (Some view_on) (Some pipeline) fields first second is =
+    let collection = succeeds (text_in view_on) _ fields is in
+    let list = succeeds (array_in pipeline) _ fields collection.rest_is in
+    let both : Option ViewFields = Some (record { collection = collection.given; list = list.given }) in
+    subst AreViewFields {x = both} (ends both fields list.rest_is)
+    (text_valid (Some view_on) collection.given first collection.first_is, list_valid (Some pipeline) list.given second list.first_is)
+fields_valid view_on pipeline fields first second is = absurd cc
+
+view_valid : (d : List ℕ) (fields : Option ViewFields) (view : Option ViewOn) → IsUtf8 d → AreViewFields fields → view_of d fields ≡ Ok view → IsSoundView view
+view_valid d None view named valid is = subst IsSoundView (ends None view is) tt
+view_valid d (Some fields) view named valid is =
+    let source = succeeds (namespace d fields.collection) _ view is in
+    let stages = succeeds (pipeline_of fields.list) _ view source.rest_is in
+    let made : Option ViewOn = Some (record { source = source.given; stages = stages.given }) in
+    subst IsSoundView {x = made} (ends made view stages.rest_is)
+    (namespace_valid d fields.collection source.given named valid.0 source.first_is, pipeline_valid fields.list stages.given valid.1 stages.first_is)
+
 -- ---- each command
 
 module _ (body : List Field) (lists : Lists) (valid : AreFields (fields_of body)) where
@@ -130,6 +174,10 @@ module _ (body : List Field) (lists : Lists) (valid : AreFields (fields_of body)
       let beside = succeeds (check_lists lists) _ d looked.rest_is in
       subst IsUtf8 (ends named.given d beside.rest_is) (database_valid (value_under (codes "$db") body) named.given (valid_under (codes "$db")) named.first_is)
 
+  name_valid : (table : Table) (command d c ns : List ℕ) → checked_database table body lists ≡ Ok d → text_under command body ≡ Ok c → namespace d c ≡ Ok ns → IsNamespace ns
+  name_valid table command d c ns database_is collection_is is =
+      namespace_valid d c ns (checked_valid table d database_is) (text_valid (value_under command body) c (valid_under command) collection_is) is
+
   statements_valid : (command list : List ℕ) (s : Statements) → statements_of command list body lists ≡ Ok s → AreStatements s.namespace s.list
   statements_valid command list s is =
       let db = succeeds (checked_database (write_table command list) body lists) _ s is in
@@ -140,7 +188,7 @@ module _ (body : List Field) (lists : Lists) (valid : AreFields (fields_of body)
       let few = succeeds (check_count documents.given) _ s into.rest_is in
       let P : Statements → Type 0 = λ t. AreStatements t.namespace t.list in
       subst P (ends (record { namespace = into.given; list = documents.given; ordered = ordered.given }) s few.rest_is) (
-        namespace_valid db.given collection.given into.given (checked_valid (write_table command list) db.given db.first_is) (text_valid (value_under command body) collection.given (valid_under command) collection.first_is) into.first_is,
+        name_valid (write_table command list) command db.given collection.given into.given db.first_is collection.first_is into.first_is,
         documents_valid (value_under list body) documents.given (valid_under list) documents.first_is,
         count_valid documents.given few.given few.first_is,
       )
@@ -174,7 +222,43 @@ module _ (body : List Field) (lists : Lists) (valid : AreFields (fields_of body)
       let limit = succeeds (natural_under (codes "limit") body) _ a skip.rest_is in
       let asked : Asked = find (record { namespace = from.given; filter = filter.given; sort = sort.given; skip = skip.given; limit = limit.given }) in
       subst IsSoundlyAsked {x = asked} (ends asked a limit.rest_is)
-      (namespace_valid db.given collection.given from.given (checked_valid find_table db.given db.first_is) (text_valid (value_under (codes "find") body) collection.given (valid_under (codes "find")) collection.first_is) from.first_is)
+      (name_valid find_table (codes "find") db.given collection.given from.given db.first_is collection.first_is from.first_is)
+
+  aggregate_sound : (a : Asked) → aggregate_of body lists ≡ Ok a → IsSoundlyAsked a
+  aggregate_sound a is =
+      let db = succeeds (checked_database aggregate_table body lists) _ a is in
+      let collection = succeeds (text_under (codes "aggregate") body) _ a db.rest_is in
+      let list = succeeds (array_under (codes "pipeline") body) _ a collection.rest_is in
+      let from = succeeds (namespace db.given collection.given) _ a list.rest_is in
+      let stages = succeeds (pipeline_of list.given) _ a from.rest_is in
+      let asked : Asked = aggregate (record { namespace = from.given; stages = stages.given }) in
+      subst IsSoundlyAsked {x = asked} (ends asked a stages.rest_is) (
+        name_valid aggregate_table (codes "aggregate") db.given collection.given from.given db.first_is collection.first_is from.first_is,
+        pipeline_valid list.given stages.given (list_valid (value_under (codes "pipeline") body) list.given (valid_under (codes "pipeline")) list.first_is) stages.first_is,
+      )
+
+  create_sound : (a : Asked) → create_of body lists ≡ Ok a → IsSoundlyAsked a
+  create_sound a is =
+      let db = succeeds (checked_database create_table body lists) _ a is in
+      let collection = succeeds (text_under (codes "create") body) _ a db.rest_is in
+      let fields = succeeds (view_fields body) _ a collection.rest_is in
+      let name = succeeds (namespace db.given collection.given) _ a fields.rest_is in
+      let view = succeeds (view_of db.given fields.given) _ a name.rest_is in
+      let asked : Asked = create (record { namespace = name.given; view = view.given }) in
+      let are_valid = fields_valid (value_under (codes "viewOn") body) (value_under (codes "pipeline") body) fields.given (valid_under (codes "viewOn")) (valid_under (codes "pipeline")) fields.first_is in
+      subst IsSoundlyAsked {x = asked} (ends asked a view.rest_is) (
+        name_valid create_table (codes "create") db.given collection.given name.given db.first_is collection.first_is name.first_is,
+        view_valid db.given fields.given view.given (checked_valid create_table db.given db.first_is) are_valid view.first_is,
+      )
+
+  drop_sound : (a : Asked) → drop_of body lists ≡ Ok a → IsSoundlyAsked a
+  drop_sound a is =
+      let db = succeeds (checked_database drop_table body lists) _ a is in
+      let collection = succeeds (text_under (codes "drop") body) _ a db.rest_is in
+      let name = succeeds (namespace db.given collection.given) _ a collection.rest_is in
+      let asked : Asked = drop (record { namespace = name.given }) in
+      subst IsSoundlyAsked {x = asked} (ends asked a name.rest_is)
+      (name_valid drop_table (codes "drop") db.given collection.given name.given db.first_is collection.first_is name.first_is)
 
   hello_sound : (a : Asked) → hello_of body ≡ Ok a → IsSoundlyAsked a
   hello_sound a is = subst IsSoundlyAsked (ends hello a (succeeds (database body) _ a is).rest_is) tt
@@ -187,21 +271,28 @@ module _ (body : List Field) (lists : Lists) (valid : AreFields (fields_of body)
   either true this others a one rest is = one is
   either false this others a one rest is = rest is
 
+  catalog_sound : (name : List ℕ) (a : Asked) → catalog_under name body lists ≡ Ok a → IsSoundlyAsked a
+  catalog_sound name a =
+      either (bytes_eq name (codes "create")) (create_of body lists) _ a (create_sound a)
+      (either (bytes_eq name (codes "drop")) (drop_of body lists) _ a (drop_sound a)
+      (λ is. let none : Err CommandNotFound ≡ Ok a = is in absurd cc))
+
+  write_sound : (name : List ℕ) (a : Asked) → write_under name body lists ≡ Ok a → IsSoundlyAsked a
+  write_sound name a =
+      either (bytes_eq name (codes "insert")) (insert_of body lists) _ a (insert_sound a)
+      (either (bytes_eq name (codes "update")) (update_of body lists) _ a (update_sound a)
+      (either (bytes_eq name (codes "delete")) (delete_of body lists) _ a (delete_sound a)
+      (catalog_sound name a)))
+
   pub asked_sound : (name : List ℕ) (a : Asked) → asked_under name body lists ≡ Ok a → IsSoundlyAsked a
   asked_sound name a =
       either (bytes_eq name (codes "hello")) (hello_of body) _ a (hello_sound a)
       (either (bytes_eq name (codes "ping")) (ping_of body) _ a (ping_sound a)
-      (either (bytes_eq name (codes "insert")) (insert_of body lists) _ a (insert_sound a)
-      (either (bytes_eq name (codes "update")) (update_of body lists) _ a (update_sound a)
-      (either (bytes_eq name (codes "delete")) (delete_of body lists) _ a (delete_sound a)
       (either (bytes_eq name (codes "find")) (find_of body lists) _ a (find_sound a)
-      (λ is. let none : Err CommandNotFound ≡ Ok a = is in absurd cc))))))
+      (either (bytes_eq name (codes "aggregate")) (aggregate_of body lists) _ a (aggregate_sound a)
+      (write_sound name a))))
 
 -- ---- entries of updates
-
-parsed : (reading : Result Update UpdateFault) (u : Update) → refused_by update_refusal reading ≡ Ok u → reading ≡ Ok u
-parsed (Ok x) u is = ap Ok (ends x u is)
-parsed (Err fault) u is = absurd cc
 
 pub updating_sound : (entry : List Field) (asked : Updating) → AreFields (fields_of entry) → entries.updating_of entry ≡ Ok asked → IsSoundUpdate asked.update
 updating_sound entry asked valid is =
@@ -216,6 +307,6 @@ updating_sound entry asked valid is =
     let sound : IsSoundUpdate update.given = record {
       document = u.given;
       valid = update_valid (value_under (codes "u") entry) u.given (λ v under. under_valid (codes "u") entry v valid under) u.first_is;
-      is = parsed (updates.update_of u.given) update.given update.first_is;
+      is = parsed update_refusal (updates.update_of u.given) update.given update.first_is;
     } in
     subst (λ (w : Updating). IsSoundUpdate w.update) {x = made} (ends made asked update.rest_is) sound

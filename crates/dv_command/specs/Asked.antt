@@ -1,17 +1,19 @@
 -- What commands ask (MongoDB manual, "Database Commands"). The order in which refusals are told is this server's own.
-use Rattle.std.specs.Prelude.{ℕ, Bool, true, List, Result, Ok, Err, codes, nat_lt, length, if◌then◌else◌, ⊤}
+use Rattle.std.specs.Prelude.{ℕ, Bool, true, List, Option, Some, None, Result, Ok, Err, codes, nat_lt, length, if◌then◌else◌, ⊤}
 use Rattle.std.specs.Str.{bytes_eq}
-use Rattle.dv_bson.specs.Tree.{Field}
+use Rattle.dv_bson.specs.Names.{value_under}
+use Rattle.dv_bson.specs.Tree.{Tree, Field}
 use Rattle.dv_path.specs.SortSpec.{Part}
 use Rattle.dv_match.specs.Filter.{Members}
+use Rattle.dv_pipe.specs.declared.stage.Stage.{Stage}
 use Rattle.dv_command.specs.declared.command.Command.{Command}
 use Rattle.dv_command.specs.declared.command.Command.TheVariants.{Sections, Invalid}
 use Rattle.dv_command.specs.declared.refusal.Refusal.{Refusal}
-use Rattle.dv_command.specs.declared.refusal.Refusal.TheVariants.{CommandNotFound, LimitReached}
+use Rattle.dv_command.specs.declared.refusal.Refusal.TheVariants.{FailedToParse, CommandNotFound, LimitReached}
 use Rattle.dv_command.specs.Refusals.{refusal_of, ◌>>=◌}
 use Rattle.dv_command.specs.Kinds as kinds
-use Rattle.dv_command.specs.Fields.{Table, Lists, first_name, write_table, find_table, check_fields, check_lists, text_under, boolean_under, natural_under, documents_under}
-use Rattle.dv_command.specs.Forms.{filter_under, sort_under}
+use Rattle.dv_command.specs.Fields.{Table, Lists, first_name, write_table, find_table, aggregate_table, create_table, drop_table, check_fields, check_lists, text_in, array_in, text_under, array_under, boolean_under, natural_under, documents_under}
+use Rattle.dv_command.specs.Forms.{filter_under, sort_under, pipeline_of}
 use Rattle.dv_command.specs.Namespaces.{database, namespace}
 
 -- these documents into this namespace, in order; whether the first that is refused ends the command
@@ -40,6 +42,25 @@ pub record Find : Type 0 where
   pub skip : ℕ
   pub limit : ℕ
 
+-- the rows that a pipeline makes of this namespace's
+pub record Aggregate : Type 0 where
+  pub namespace : List ℕ
+  pub stages : List Stage
+
+-- what a view shows: the rows that a pipeline makes of another namespace's
+pub record ViewOn : Type 0 where
+  pub source : List ℕ
+  pub stages : List Stage
+
+-- a collection under this namespace, or a view
+pub record Create : Type 0 where
+  pub namespace : List ℕ
+  pub view : Option ViewOn
+
+-- what stands under this namespace goes
+pub record Drop : Type 0 where
+  pub namespace : List ℕ
+
 pub data Asked : Type 0 where
   hello : Asked
   ping : Asked
@@ -47,6 +68,9 @@ pub data Asked : Type 0 where
   update : Update → Asked
   delete : Delete → Asked
   find : Find → Asked
+  aggregate : Aggregate → Asked
+  create : Create → Asked
+  drop : Drop → Asked
 
 -- how many statements a command may have (MongoDB manual, "Write Command Batch Limit Size")
 abbrev pub statement_limit : ℕ
@@ -114,19 +138,81 @@ find_of body lists =
     natural_under (codes "limit") body >>= λ limit.
     Ok (find (record { namespace = from; filter = filter; sort = sort; skip = skip; limit = limit }))
 
+abbrev pub aggregate_of : List Field → Lists → Result Asked Refusal
+aggregate_of body lists =
+    checked_database aggregate_table body lists >>= λ database_name.
+    text_under (codes "aggregate") body >>= λ collection.
+    array_under (codes "pipeline") body >>= λ list.
+    namespace database_name collection >>= λ from.
+    pipeline_of list >>= λ stages.
+    Ok (aggregate (record { namespace = from; stages = stages }))
+
+-- what a view is asked by: the name of a collection of the same database, and the list of its stages
+pub record ViewFields : Type 0 where
+  pub collection : List ℕ
+  pub list : List Tree
+
+-- both fields of a view, or neither
+abbrev pub view_fields_in : Option Tree → Option Tree → Result (Option ViewFields) Refusal
+view_fields_in None None = Ok None
+view_fields_in (Some view_on) (Some pipeline) =
+    text_in view_on >>= λ collection.
+    array_in pipeline >>= λ list.
+    Ok (Some (record { collection = collection; list = list }))
+view_fields_in view_on pipeline = Err FailedToParse
+
+abbrev pub view_fields : List Field → Result (Option ViewFields) Refusal
+view_fields body = view_fields_in (value_under (codes "viewOn") body) (value_under (codes "pipeline") body)
+
+abbrev pub view_of : List ℕ → Option ViewFields → Result (Option ViewOn) Refusal
+view_of database_name None = Ok None
+view_of database_name (Some fields) =
+    namespace database_name fields.collection >>= λ source.
+    pipeline_of fields.list >>= λ stages.
+    Ok (Some (record { source = source; stages = stages }))
+
+abbrev pub create_of : List Field → Lists → Result Asked Refusal
+create_of body lists =
+    checked_database create_table body lists >>= λ database_name.
+    text_under (codes "create") body >>= λ collection.
+    view_fields body >>= λ fields.
+    namespace database_name collection >>= λ name.
+    view_of database_name fields >>= λ view.
+    Ok (create (record { namespace = name; view = view }))
+
+abbrev pub drop_of : List Field → Lists → Result Asked Refusal
+drop_of body lists =
+    checked_database drop_table body lists >>= λ database_name.
+    text_under (codes "drop") body >>= λ collection.
+    namespace database_name collection >>= λ name.
+    Ok (drop (record { namespace = name }))
+
 -- the command is the first name of the body
 abbrev pub command_name : List Field → List ℕ
 command_name body = first_name body
+
+-- what stands under namespaces
+abbrev pub catalog_under : List ℕ → List Field → Lists → Result Asked Refusal
+catalog_under name body lists =
+    if bytes_eq name (codes "create") then create_of body lists
+    else if bytes_eq name (codes "drop") then drop_of body lists
+    else Err CommandNotFound
+
+-- statements
+abbrev pub write_under : List ℕ → List Field → Lists → Result Asked Refusal
+write_under name body lists =
+    if bytes_eq name (codes "insert") then insert_of body lists
+    else if bytes_eq name (codes "update") then update_of body lists
+    else if bytes_eq name (codes "delete") then delete_of body lists
+    else catalog_under name body lists
 
 abbrev pub asked_under : List ℕ → List Field → Lists → Result Asked Refusal
 asked_under name body lists =
     if bytes_eq name (codes "hello") then hello_of body
     else if bytes_eq name (codes "ping") then ping_of body
-    else if bytes_eq name (codes "insert") then insert_of body lists
-    else if bytes_eq name (codes "update") then update_of body lists
-    else if bytes_eq name (codes "delete") then delete_of body lists
     else if bytes_eq name (codes "find") then find_of body lists
-    else Err CommandNotFound
+    else if bytes_eq name (codes "aggregate") then aggregate_of body lists
+    else write_under name body lists
 
 -- what a command asks, or the first refusal
 abbrev pub asked_by : Command → Result Asked Refusal

@@ -1,9 +1,9 @@
 -- The fields of commands and of their entries: which there may be, what their values have to be, and what is read out of them. Their names
--- and types are the MongoDB manual's ("insert", "update", "delete", "find"); which of them are there yet and which are ignored are this server's own.
+-- and types are the MongoDB manual's ("insert", "update", "delete", "find", "aggregate", "create", "drop"); which of them are there yet and which are ignored are this server's own.
 use Rattle.std.specs.Prelude.{ℕ, ℤ, pos, negsuc, ◌||◌, Bool, true, false, List, [], ◌∷◌, Option, Some, None, Result, Ok, Err, codes, if◌then◌else◌, ⊤}
 use Rattle.std.specs.Ordering.{int_eq}
 use Rattle.std.specs.Str.{bytes_eq}
-use Rattle.dv_bson.specs.Tree.{Tree, int32, int64, string, document, array, boolean, no_fields, Elements, no_elements, element, Field, list_of_fields}
+use Rattle.dv_bson.specs.Tree.{Tree, int32, int64, string, document, array, boolean, no_fields, Elements, no_elements, element, Field, list_of_fields, list_of_elements}
 use Rattle.dv_bson.specs.Names.{value_under}
 use Rattle.dv_command.specs.Kinds.{Kind, Place}
 use Rattle.dv_command.specs.Kinds as kinds
@@ -29,6 +29,16 @@ abbrev pub find_table : Table
 find_table =
     database_field ∷ (codes "find", kinds.text) ∷ (codes "filter", kinds.document) ∷ (codes "sort", kinds.document) ∷ (codes "skip", kinds.natural)
     ∷ (codes "limit", kinds.natural) ∷ (codes "projection", kinds.empty_document) ∷ []
+
+abbrev pub aggregate_table : Table
+aggregate_table =
+    database_field ∷ (codes "aggregate", kinds.text) ∷ (codes "pipeline", kinds.array) ∷ (codes "cursor", kinds.cursor) ∷ (codes "allowDiskUse", kinds.anything) ∷ []
+
+abbrev pub create_table : Table
+create_table = database_field ∷ (codes "create", kinds.text) ∷ (codes "viewOn", kinds.text) ∷ (codes "pipeline", kinds.array) ∷ []
+
+abbrev pub drop_table : Table
+drop_table = database_field ∷ (codes "drop", kinds.text) ∷ []
 
 abbrev pub deletion_table : Table
 deletion_table = (codes "q", kinds.document) ∷ (codes "limit", kinds.how_many) ∷ []
@@ -79,6 +89,10 @@ abbrev pub documents_in : Tree → Result (List (List Field)) Refusal
 documents_in (array vs) = each_document vs
 documents_in value = Err TypeMismatch
 
+abbrev pub array_in : Tree → Result (List Tree) Refusal
+array_in (array vs) = Ok (list_of_elements vs)
+array_in value = Err TypeMismatch
+
 -- an integer of either width
 abbrev pub integer_in : Tree → Result ℤ Refusal
 integer_in (int32 n) = Ok n
@@ -114,6 +128,10 @@ abbrev pub check_empty : Tree → Result ⊤ Refusal
 check_empty (document no_fields) = Ok tt
 check_empty value = Err FailedToParse
 
+abbrev pub check_none : List Field → Result ⊤ Refusal
+check_none [] = Ok tt
+check_none (f ∷ fs) = Err FailedToParse
+
 abbrev pub check_false : Bool → Result ⊤ Refusal
 check_false b = if b then Err FailedToParse else Ok tt
 
@@ -124,11 +142,13 @@ check_value kinds.text value = is_read (text_in value)
 check_value kinds.boolean value = is_read (boolean_in value)
 check_value kinds.document value = is_read (document_in value)
 check_value kinds.documents value = is_read (documents_in value)
+check_value kinds.array value = is_read (array_in value)
 check_value kinds.natural value = is_read (natural_in value)
 check_value kinds.how_many value = is_read (only_first_in value)
 check_value kinds.update value = is_read (update_in value)
 check_value kinds.only_false value = boolean_in value >>= check_false
 check_value kinds.empty_document value = check_empty value
+check_value kinds.cursor value = document_in value >>= check_none
 
 -- a field that the table doesn't name is unknown
 abbrev pub check_known : Option Kind → Tree → Result ⊤ Refusal
@@ -187,6 +207,9 @@ document_or_none name fields = optional [] document_in (value_under name fields)
 
 abbrev pub documents_under : List ℕ → List Field → Result (List (List Field)) Refusal
 documents_under name fields = required documents_in (value_under name fields)
+
+abbrev pub array_under : List ℕ → List Field → Result (List Tree) Refusal
+array_under name fields = required array_in (value_under name fields)
 
 abbrev pub only_first_under : List ℕ → List Field → Result Bool Refusal
 only_first_under name fields = required only_first_in (value_under name fields)

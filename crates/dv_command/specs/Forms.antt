@@ -1,17 +1,19 @@
--- The filters, sorts and updates that commands hold (MongoDB manual, "find": `filter`, `sort`; "update": `u`). How they are refused is this
--- server's own.
+-- The filters, sorts, updates and pipelines that commands hold (MongoDB manual, "find": `filter`, `sort`; "update": `u`; "aggregate": `pipeline`).
+-- How they are refused is this server's own.
 use Rattle.std.specs.Prelude.{ℕ, not, Bool, List, [], ◌∷◌, Option, Some, None, Result, Ok, Err}
-use Rattle.dv_bson.specs.Tree.{Field, fields_of}
+use Rattle.dv_bson.specs.Names.{begins_with_dollar}
+use Rattle.dv_bson.specs.Tree.{Tree, Field, fields_of}
 use Rattle.dv_path.specs.SortSpec.{Part, sort_spec_of}
 use Rattle.dv_match.specs.Filter.{Members}
 use Rattle.dv_match.specs.Parsing.{filter_in}
 use Rattle.dv_update.specs.Update.{Update}
 use Rattle.dv_update.specs.Parsing as updates
+use Rattle.dv_pipe.specs.StageParsing as pipelines
+use Rattle.dv_pipe.specs.declared.stage.Stage.{Stage}
 use Rattle.dv_command.specs.declared.refusal.Refusal.{Refusal}
 use Rattle.dv_command.specs.declared.refusal.Refusal.TheVariants.{BadValue}
-use Rattle.dv_command.specs.Refusals.{◌>>=◌, refused_by, filter_refusal, update_refusal}
+use Rattle.dv_command.specs.Refusals.{◌>>=◌, refused_by, filter_refusal, update_refusal, pipeline_refusal}
 use Rattle.dv_command.specs.Fields.{document_or_none, first_name}
-use Rattle.dv_command.specs.Namespaces.{begins_with_dollar}
 
 -- the filter that a document is
 abbrev pub filter_of : List Field → Result Members Refusal
@@ -33,6 +35,10 @@ update_of d = refused_by update_refusal (updates.update_of d)
 -- whether it is a replacement: its first name doesn't begin with a dollar sign
 abbrev pub is_replacement : List Field → Bool
 is_replacement d = not (begins_with_dollar (first_name d))
+
+-- the stages that a list is
+abbrev pub pipeline_of : List Tree → Result (List Stage) Refusal
+pipeline_of list = refused_by pipeline_refusal (pipelines.pipeline_of list)
 
 -- those under a name: where there is none, the document without fields stands for it
 

@@ -12,6 +12,7 @@ pub data Kind : Type 0 where
   document : Kind
   -- an array of documents
   documents : Kind
+  array : Kind
   -- an integer of either width, from 0
   natural : Kind
   -- how many documents a statement deletes: 0 for all that match, 1 for the first
@@ -22,3 +23,5 @@ pub data Kind : Type 0 where
   only_false : Kind
   -- a document without fields, and nothing else yet
   empty_document : Kind
+  -- how the rows of an answer come: a document, and one without fields yet
+  cursor : Kind

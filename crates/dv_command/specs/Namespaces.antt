@@ -2,18 +2,14 @@
 -- namespace and the codes are this server's own.
 use Rattle.std.specs.Prelude.{ℕ, false, ◌||◌, ◌&&◌, not, Bool, List, [], ◌∷◌, ◌++◌, Option, Some, None, Result, Ok, Err, codes, ◌==◌, nat_lt, length, if◌then◌else◌}
 use Rattle.dv_bson.specs.Tree.{Tree, string, Field}
-use Rattle.dv_bson.specs.Names.{value_under, has_zero}
+use Rattle.dv_bson.specs.Names.{begins_with_dollar, value_under, has_zero}
 use Rattle.dv_command.specs.declared.refusal.Refusal.{Refusal}
 use Rattle.dv_command.specs.declared.refusal.Refusal.TheVariants.{BadValue, FailedToParse, TypeMismatch}
 
--- a dot is 46, a dollar sign 36
+-- a dot is 46
 abbrev pub has_dot : List ℕ → Bool
 has_dot [] = false
 has_dot (b ∷ bs) = b == 46 || has_dot bs
-
-abbrev pub begins_with_dollar : List ℕ → Bool
-begins_with_dollar [] = false
-begins_with_dollar (b ∷ bs) = b == 36
 
 -- not empty, without a dot and without a zero byte
 abbrev pub is_database_name : List ℕ → Bool

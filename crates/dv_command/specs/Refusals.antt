@@ -9,36 +9,46 @@ use Rattle.dv_match.specs.declared.fault.FilterFault.{FilterFault}
 use Rattle.dv_match.specs.declared.fault.FilterFault.TheVariants as filtering
 use Rattle.dv_update.specs.declared.fault.UpdateFault.{UpdateFault}
 use Rattle.dv_update.specs.declared.fault.UpdateFault.TheVariants as updating
+use Rattle.dv_pipe.specs.declared.fault.PipelineFault.{PipelineFault}
+use Rattle.dv_pipe.specs.declared.fault.PipelineFault.TheVariants as piping
 use Rattle.dv_command.specs.declared.refusal.Refusal.{Refusal}
-use Rattle.dv_command.specs.declared.refusal.Refusal.TheVariants.{BadValue, FailedToParse, TypeMismatch, InvalidBson, PathNotViable, ConflictingUpdateOperators, CommandNotFound, ImmutableField, DuplicateKey, WantOfMemory, TooLarge, LimitReached}
+use Rattle.dv_command.specs.declared.refusal.Refusal.TheVariants.{BadValue, FailedToParse, TypeMismatch, InvalidBson, NamespaceNotFound, PathNotViable, ConflictingUpdateOperators, NamespaceExists, CommandNotFound, ImmutableField, DuplicateKey, WantOfMemory, TooLarge, OnView, LimitReached, ReadByView}
 
 abbrev pub code : Refusal → ℕ
 code BadValue = 2
 code FailedToParse = 9
 code TypeMismatch = 14
 code (InvalidBson fault) = 22
+code NamespaceNotFound = 26
 code PathNotViable = 28
 code ConflictingUpdateOperators = 40
+code NamespaceExists = 48
 code CommandNotFound = 59
 code ImmutableField = 66
 code DuplicateKey = 11000
 code WantOfMemory = 900
 code TooLarge = 901
+code OnView = 902
 code LimitReached = 903
+code ReadByView = 904
 
 abbrev pub code_name : Refusal → List ℕ
 code_name BadValue = codes "BadValue"
 code_name FailedToParse = codes "FailedToParse"
 code_name TypeMismatch = codes "TypeMismatch"
 code_name (InvalidBson fault) = codes "InvalidBSON"
+code_name NamespaceNotFound = codes "NamespaceNotFound"
 code_name PathNotViable = codes "PathNotViable"
 code_name ConflictingUpdateOperators = codes "ConflictingUpdateOperators"
+code_name NamespaceExists = codes "NamespaceExists"
 code_name CommandNotFound = codes "CommandNotFound"
 code_name ImmutableField = codes "ImmutableField"
 code_name DuplicateKey = codes "DuplicateKey"
 code_name WantOfMemory = codes "WantOfMemory"
 code_name TooLarge = codes "TooLarge"
+code_name OnView = codes "OnView"
 code_name LimitReached = codes "LimitReached"
+code_name ReadByView = codes "ReadByView"
 
 -- the message is the code's name; that of a document that can't be read says why
 abbrev pub message_of : Refusal → List ℕ
@@ -74,6 +84,15 @@ update_refusal updating.TooDeep = BadValue
 update_refusal updating.BadName = BadValue
 update_refusal updating.TooLarge = TooLarge
 update_refusal updating.NoMemory = WantOfMemory
+
+-- why a list of stages is no pipeline
+abbrev pub pipeline_refusal : PipelineFault → Refusal
+pipeline_refusal piping.UnknownStage = FailedToParse
+pipeline_refusal piping.BadSpec = FailedToParse
+pipeline_refusal piping.Filter = BadValue
+pipeline_refusal piping.Conflict = ConflictingUpdateOperators
+pipeline_refusal piping.TooMany = LimitReached
+pipeline_refusal piping.NoMemory = WantOfMemory
 
 -- the same, with a refusal in place of a fault
 abbrev pub refused_by : {A E : Type 0} → (E → Refusal) → Result A E → Result A Refusal

@@ -1,4 +1,4 @@
--- The documents of replies (MongoDB manual, "hello", "insert", "update", "delete", "find": their output). The codes from 900 on and what stands
+-- The documents of replies (MongoDB manual, "hello", "insert", "update", "delete", "find", "aggregate", "drop": their output). The codes from 900 on and what stands
 -- beside them, and the versions of the wire, are this server's own.
 use Rattle.std.specs.Prelude.{ℕ, ◌^◌, ◌-◌, min, List, [], ◌∷◌, ◌++◌, pos, true, false, codes, nat_lt, if◌then◌else◌}
 use Rattle.dv_bson.specs.Tree.{Tree, string, int32, int64, boolean, document, array, Field, fields_of, elements_of}
@@ -50,6 +50,10 @@ write_reply n errors = reply_of ((codes "n", count n) ∷ errors_field errors)
 -- the reply to an update: how many documents matched, how many of them changed, and the errors of its statements
 abbrev pub update_reply : ℕ → ℕ → List Tree → List Field
 update_reply n changed errors = reply_of ((codes "n", count n) ∷ (codes "nModified", count changed) ∷ errors_field errors)
+
+-- the reply to a drop: what went
+abbrev pub drop_reply : List ℕ → List Field
+drop_reply namespace = reply_of ((codes "ns", string namespace) ∷ [])
 
 -- the reply with these rows of a namespace: all at once, so that no cursor is left, and its id is 0
 abbrev pub rows_reply : List ℕ → List Tree → List Field

@@ -1,12 +1,14 @@
--- What a body with valid fields asks: documents and texts that are valid too, and not too many or too long; and what an entry does.
-use Rattle.std.specs.Prelude.{◌≡◌, ◌≤◌, ℕ, List, length, Ok, ⊤}
+-- What a body with valid fields asks: documents, texts and pipelines that are valid too, and not too many or too long; and what an entry does.
+use Rattle.std.specs.Prelude.{◌≡◌, ◌≤◌, ℕ, List, Option, Some, None, length, Ok, ⊤}
 use Rattle.std.specs.List.{AllByRecursion}
 use Rattle.std.specs.Str.{IsUtf8}
-use Rattle.dv_bson.specs.Spelling.{AreFields}
-use Rattle.dv_bson.specs.Tree.{Field, fields_of}
+use Rattle.dv_bson.specs.Spelling.{AreFields, AreElements}
+use Rattle.dv_bson.specs.Tree.{Tree, Field, fields_of, elements_of}
 use Rattle.dv_update.specs.Update.{Update}
 use Rattle.dv_update.specs.Parsing as updates
-use Rattle.dv_command.specs.Asked.{Asked, hello, ping, insert, update, delete, find, statement_limit}
+use Rattle.dv_pipe.specs.StageParsing.{pipeline_of}
+use Rattle.dv_pipe.specs.declared.stage.Stage.{Stage}
+use Rattle.dv_command.specs.Asked.{Asked, ViewOn, hello, ping, insert, update, delete, find, aggregate, create, drop, statement_limit}
 use Rattle.dv_command.specs.Namespaces.{longest_namespace}
 
 -- each document has a spelling, if it isn't too long for one
@@ -21,6 +23,17 @@ IsNamespace name = IsUtf8 name × (length name ≤ longest_namespace)
 abbrev pub AreStatements : List ℕ → List (List Field) → Type 0
 AreStatements namespace statements = IsNamespace namespace × AreValid statements × (length statements ≤ statement_limit)
 
+-- stages that a list of valid values is
+pub record IsSoundPipeline (asked : List Stage) : Type 0 where
+  pub list : List Tree
+  pub valid : AreElements (elements_of list)
+  pub is : pipeline_of list ≡ Ok asked
+
+-- a view of a namespace, where one is asked
+abbrev pub IsSoundView : Option ViewOn → Type 0
+IsSoundView None = ⊤
+IsSoundView (Some view) = IsNamespace view.source × IsSoundPipeline view.stages
+
 abbrev pub IsSoundlyAsked : Asked → Type 0
 IsSoundlyAsked hello = ⊤
 IsSoundlyAsked ping = ⊤
@@ -28,6 +41,9 @@ IsSoundlyAsked (insert asked) = AreStatements asked.namespace asked.documents
 IsSoundlyAsked (update asked) = AreStatements asked.namespace asked.entries
 IsSoundlyAsked (delete asked) = AreStatements asked.namespace asked.entries
 IsSoundlyAsked (find asked) = IsNamespace asked.namespace
+IsSoundlyAsked (aggregate asked) = IsNamespace asked.namespace × IsSoundPipeline asked.stages
+IsSoundlyAsked (create asked) = IsNamespace asked.namespace × IsSoundView asked.view
+IsSoundlyAsked (drop asked) = IsNamespace asked.namespace
 
 -- an update that a document with valid fields is
 pub record IsSoundUpdate (asked : Update) : Type 0 where

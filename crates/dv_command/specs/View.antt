@@ -1,22 +1,28 @@
 -- What stands in memory for what is defined.
 use Rattle.std.specs.Prelude.{ℕ, List, [], Option, Some, None}
+use Rattle.std.specs.Option.{option_map}
 use Rattle.std.specs.String.{string_bytes}
 use Rattle.dv_path.specs.SortSpec.{Part}
-use Rattle.dv_command.specs.Asked.{Asked, Statements, Insert, Update, Delete, Find}
+use Rattle.dv_command.specs.Asked.{Asked, Statements, Insert, Update, Delete, Find, Aggregate, ViewOn, ViewFields, Create, Drop}
 use Rattle.dv_command.specs.Asked as asking
 use Rattle.dv_update.specs.UpdateView as updates
 use Rattle.dv_command.specs.Entries.{Deletion, Updating}
 use Rattle.dv_command.specs.Kinds as kinds
 use Rattle.dv_command.specs.declared.asking.Asked as declared
-use Rattle.dv_command.specs.declared.asking.Asked.TheVariants.{Hello, Ping, Insert as Inserts, Update as Updates, Delete as Deletes, Find as Finds}
+use Rattle.dv_command.specs.declared.asking.Asked.TheVariants.{Hello, Ping, Insert as Inserts, Update as Updates, Delete as Deletes, Find as Finds, Aggregate as Aggregates, Create as Creates, Drop as Drops}
 use Rattle.dv_command.specs.declared.asking.Insert as inserting
 use Rattle.dv_command.specs.declared.asking.Update as updating
 use Rattle.dv_command.specs.declared.asking.Delete as deleting
 use Rattle.dv_command.specs.declared.asking.Find as finding
+use Rattle.dv_command.specs.declared.asking.Aggregate as aggregating
+use Rattle.dv_command.specs.declared.asking.ViewOn as viewing
+use Rattle.dv_command.specs.declared.asking.ViewFields as fields
+use Rattle.dv_command.specs.declared.asking.Create as creating
+use Rattle.dv_command.specs.declared.asking.DropNamespace as dropping
 use Rattle.dv_command.specs.declared.entries.Deletion as deletions
 use Rattle.dv_command.specs.declared.entries.Updating as updatings
 use Rattle.dv_command.specs.declared.fields.Kind as code
-use Rattle.dv_command.specs.declared.fields.Kind.TheVariants.{Anything, Text, Boolean, Document, Documents, Natural, HowMany, Update as AnUpdate, OnlyFalse, EmptyDocument}
+use Rattle.dv_command.specs.declared.fields.Kind.TheVariants.{Anything, Text, Boolean, Document, Documents, Array, Natural, HowMany, Update as AnUpdate, OnlyFalse, EmptyDocument, Cursor}
 use Rattle.dv_command.specs.declared.fields.Place as places
 use Rattle.dv_command.specs.declared.fields.Place.TheVariants.{Command, Entry}
 use Rattle.dv_command.specs.declared.fields.Rule.{Rule}
@@ -28,11 +34,13 @@ kind_seen Text = kinds.text
 kind_seen Boolean = kinds.boolean
 kind_seen Document = kinds.document
 kind_seen Documents = kinds.documents
+kind_seen Array = kinds.array
 kind_seen Natural = kinds.natural
 kind_seen HowMany = kinds.how_many
 kind_seen AnUpdate = kinds.update
 kind_seen OnlyFalse = kinds.only_false
 kind_seen EmptyDocument = kinds.empty_document
+kind_seen Cursor = kinds.cursor
 
 abbrev pub place_seen : places.Place → kinds.Place
 place_seen Command = kinds.command
@@ -61,6 +69,21 @@ delete_seen d = record { namespace = string_bytes d.namespace; entries = d.entri
 abbrev pub find_seen : finding.Find → Find
 find_seen f = record { namespace = string_bytes f.namespace; filter = f.filter; sort = sort_seen f.sort; skip = f.skip; limit = f.limit }
 
+abbrev pub aggregate_seen : aggregating.Aggregate → Aggregate
+aggregate_seen a = record { namespace = string_bytes a.namespace; stages = a.pipeline }
+
+abbrev pub view_on_seen : viewing.ViewOn → ViewOn
+view_on_seen v = record { source = string_bytes v.source; stages = v.pipeline }
+
+abbrev pub view_fields_seen : fields.ViewFields → ViewFields
+view_fields_seen f = record { collection = f.collection.now; list = f.list.now }
+
+abbrev pub create_seen : creating.Create → Create
+create_seen c = record { namespace = string_bytes c.namespace; view = option_map view_on_seen c.view }
+
+abbrev pub drop_seen : dropping.DropNamespace → Drop
+drop_seen d = record { namespace = string_bytes d.namespace }
+
 abbrev pub deletion_seen : deletions.Deletion → Deletion
 deletion_seen d = record { filter = d.filter; only_first = d.only_first }
 
@@ -74,3 +97,6 @@ asked_seen (Inserts i) = asking.insert (insert_seen i)
 asked_seen (Updates u) = asking.update (update_seen u)
 asked_seen (Deletes d) = asking.delete (delete_seen d)
 asked_seen (Finds f) = asking.find (find_seen f)
+asked_seen (Aggregates a) = asking.aggregate (aggregate_seen a)
+asked_seen (Creates c) = asking.create (create_seen c)
+asked_seen (Drops d) = asking.drop (drop_seen d)

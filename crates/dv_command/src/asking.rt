@@ -4,8 +4,10 @@ ghost use Rattle.std.specs.Prelude.{◌≤◌, length};
 ghost use Rattle.dv_command.specs.Asked.{statement_limit};
 
 use crate::documents::Documents;
+use dv_bson::List;
 use dv_match::Filter;
 use dv_path::SortSpec;
+use dv_pipe::Pipeline;
 
 /// What a command asks.
 #[derive(Drop)]
@@ -16,6 +18,9 @@ pub enum Asked<'a> {
     Update(Update<'a>),
     Delete(Delete<'a>),
     Find(Find),
+    Aggregate(Aggregate),
+    Create(Create),
+    Drop(DropNamespace),
 }
 
 /// These documents into a namespace, in order.
@@ -63,6 +68,34 @@ pub struct Find {
     pub limit: u64,
 }
 
+/// The rows that a pipeline makes of a namespace's.
+#[derive(Drop)]
+pub struct Aggregate {
+    pub namespace: String,
+    pub pipeline: Pipeline,
+}
+
+/// A collection under a namespace, or a view.
+#[derive(Drop)]
+pub struct Create {
+    pub namespace: String,
+    /// What the view shows; a collection shows nothing yet.
+    pub view: Option<ViewOn>,
+}
+
+/// What a view shows: the rows that a pipeline makes of another namespace's.
+#[derive(Drop)]
+pub struct ViewOn {
+    pub source: String,
+    pub pipeline: Pipeline,
+}
+
+/// What stands under a namespace goes.
+#[derive(Drop)]
+pub struct DropNamespace {
+    pub namespace: String,
+}
+
 /// What a command of statements says, whichever it is.
 pub(crate) struct Statements<'a> {
     pub(crate) namespace: String,
@@ -71,4 +104,13 @@ pub(crate) struct Statements<'a> {
     pub(crate) ordered: bool,
     // As many as a command may have.
     ghost few: { length list ≤ statement_limit },
+}
+
+/// The fields of a command that asks for a view.
+#[derive(Clone, Copy)]
+pub(crate) struct ViewFields<'a> {
+    /// The name of a collection of the same database.
+    pub(crate) collection: &'a str,
+    /// The stages.
+    pub(crate) list: &'a List,
 }

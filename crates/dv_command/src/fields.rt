@@ -12,7 +12,7 @@ ghost use Rattle.dv_command.specs.View.{kind_seen, place_seen, rule_seen};
 use crate::command::DocumentLists;
 use crate::documents::Documents;
 use crate::refusal::Refusal;
-use dv_bson::{Document, Value};
+use dv_bson::{Document, List, Value};
 
 /// Where fields stand.
 #[derive(Clone, Copy)]
@@ -32,6 +32,7 @@ pub(crate) enum Kind {
     Document,
     /// An array of documents.
     Documents,
+    Array,
     /// An integer of either width, from 0.
     Natural,
     /// How many documents a statement deletes: 0 for all that match, 1 for the first.
@@ -42,6 +43,8 @@ pub(crate) enum Kind {
     OnlyFalse,
     /// A document without fields, and nothing else yet.
     EmptyDocument,
+    /// How the rows of an answer come: a document, and one without fields yet.
+    Cursor,
 }
 
 /// A field that there may be: its name, and what its value has to be.
@@ -61,6 +64,26 @@ pub(crate) const FIND_RULES: [Rule; 7] = [
     Rule("limit", Kind::Natural),
     Rule("projection", Kind::EmptyDocument),
 ];
+
+/// The fields of an aggregation.
+pub(crate) const AGGREGATE_RULES: [Rule; 5] = [
+    DATABASE,
+    Rule("aggregate", Kind::Text),
+    Rule("pipeline", Kind::Array),
+    Rule("cursor", Kind::Cursor),
+    Rule("allowDiskUse", Kind::Anything),
+];
+
+/// The fields of what makes a collection or a view.
+pub(crate) const CREATE_RULES: [Rule; 4] = [
+    DATABASE,
+    Rule("create", Kind::Text),
+    Rule("viewOn", Kind::Text),
+    Rule("pipeline", Kind::Array),
+];
+
+/// The fields of a drop.
+pub(crate) const DROP_RULES: [Rule; 2] = [DATABASE, Rule("drop", Kind::Text)];
 
 /// The fields of an entry of a delete.
 pub(crate) const DELETION_RULES: [Rule; 2] = [
@@ -166,11 +189,13 @@ fn check_value(kind: Kind, value: &Value) -> Result<(), Refusal>
         Kind::Boolean => boolean_of(value).map(|_| ()),
         Kind::Document => document_of(value).map(|_| ()),
         Kind::Documents => documents_of(value).map(|_| ()),
+        Kind::Array => array_of(value).map(|_| ()),
         Kind::Natural => natural_of(value).map(|_| ()),
         Kind::HowMany => only_first_of(value).map(|_| ()),
         Kind::Update => update_of(value).map(|_| ()),
         Kind::OnlyFalse => check_false(value),
         Kind::EmptyDocument => check_empty(value),
+        Kind::Cursor => check_cursor(value),
     }
 }
 
@@ -196,8 +221,27 @@ fn check_empty(value: &Value) -> Result<(), Refusal>
     }
 }
 
+/// Looks at how the rows of an answer come: a document, in which no field is known yet.
+fn check_cursor(value: &Value) -> Result<(), Refusal>
+    ensures { result ≡ defined.check_value kinds.cursor (tree value.now) }
+{
+    check_none(document_of(value)?)
+}
+
+/// Looks at fields of which there may be none.
+#[tactic(auto, using(crate::proofs::Checks::some_field))]
+fn check_none(fields: &Document) -> Result<(), Refusal>
+    ensures { result ≡ defined.check_none fields.now }
+{
+    if fields.is_empty() {
+        Ok(())
+    } else {
+        Err(Refusal::FailedToParse)
+    }
+}
+
 /// The text that a value is. Refused with `TypeMismatch` where it is another value.
-fn text_of(value: &Value) -> Result<&str, Refusal>
+pub(crate) fn text_of(value: &Value) -> Result<&str, Refusal>
     ensures { MatchResult result (λ text. defined.text_in (tree value.now) ≡ Ok text.now) (λ refusal. defined.text_in (tree value.now) ≡ Err refusal) }
 {
     match value {
@@ -234,6 +278,17 @@ fn documents_of(value: &Value) -> Result<Documents<'_>, Refusal>
 {
     match value {
         Value::Array(list) => Documents::of(list),
+        _ => Err(Refusal::TypeMismatch),
+    }
+}
+
+/// The list that an array is. Refused with `TypeMismatch` where it is another value.
+#[tactic(auto, using(crate::proofs::Among::same_elements))]
+pub(crate) fn array_of(value: &Value) -> Result<&List, Refusal>
+    ensures { MatchResult result (λ list. defined.array_in (tree value.now) ≡ Ok list.now) (λ refusal. defined.array_in (tree value.now) ≡ Err refusal) }
+{
+    match value {
+        Value::Array(list) => Ok(list),
         _ => Err(Refusal::TypeMismatch),
     }
 }
@@ -369,6 +424,14 @@ pub(crate) fn documents_under<'a>(
     ensures { MatchResult result (λ documents. defined.documents_under name.now fields.now ≡ Ok documents) (λ refusal. defined.documents_under name.now fields.now ≡ Err refusal) }
 {
     documents_of(required(fields, name)?)
+}
+
+/// The list of the array under a name. Refused with `FailedToParse` where there is no field of the name, and with
+/// `TypeMismatch` where there is another value.
+pub(crate) fn array_under<'a>(fields: &'a Document, name: &str) -> Result<&'a List, Refusal>
+    ensures { MatchResult result (λ list. defined.array_under name.now fields.now ≡ Ok list.now) (λ refusal. defined.array_under name.now fields.now ≡ Err refusal) }
+{
+    array_of(required(fields, name)?)
 }
 
 /// Whether a statement deletes only the first document, by the value under a name: 1, and not 0. Refused with

@@ -1,4 +1,4 @@
-//! The filters, sorts and updates that commands hold.
+//! The filters, sorts, updates and pipelines that commands hold.
 
 ghost use Rattle.std.specs.Prelude.{◌≡◌};
 ghost use Rattle.dv_update.specs.UpdateView.{update};
@@ -7,11 +7,11 @@ ghost use Rattle.dv_command.specs.Refusals.{UnlessWanting};
 ghost use Rattle.dv_command.specs.View.{sort_seen};
 
 use crate::fields::{document_or, first_name};
-use crate::namespaces::begins_with_dollar;
 use crate::refusal::Refusal;
-use dv_bson::Document;
+use dv_bson::{Document, List, begins_with_dollar};
 use dv_match::Filter;
 use dv_path::SortSpec;
+use dv_pipe::Pipeline;
 use dv_update::Update;
 use std::alloc::Global;
 
@@ -66,6 +66,15 @@ pub(crate) fn update_of(alloc: Global, document: &Document) -> Result<Update, Re
     ensures { UnlessWanting update (forms.update_of document.now) result }
 {
     Ok(Update::parse(alloc, document)?)
+}
+
+/// The pipeline whose stages a list has. Refused where it has none: with `FailedToParse` for a stage that there isn't or
+/// what one doesn't take, with `BadValue` for a filter, with `ConflictingUpdateOperators` for paths of a `$project`, and
+/// with `LimitReached` for a seventeenth stage; and with `WantOfMemory`.
+pub(crate) fn pipeline_of(alloc: Global, list: &List) -> Result<Pipeline, Refusal>
+    ensures { UnlessWanting (λ pipeline. pipeline) (forms.pipeline_of list.now) result }
+{
+    Ok(Pipeline::parse(alloc, list.as_slice())?)
 }
 
 /// Whether the update that a document is is a replacement: its first name doesn't begin with a dollar sign.

@@ -9,8 +9,8 @@ ghost use Rattle.dv_command.specs.Replies.{count};
 ghost use Rattle.dv_command.specs.Entries.{Updating, updating_of};
 ghost use Rattle.dv_command.specs.Sound.{IsSoundlyAsked, IsSoundUpdate};
 
-/// What a command asks is sound where the fields of its body are: the documents in its list, how many they are, and the
-/// name of its collection.
+/// What a command asks is sound where the fields of its body are: the documents in its list, how many they are, the names
+/// of its collections, and its pipeline.
 pub fn what_is_asked_is_sound()
     ensures { (body : List Field) (lists : Lists) (asked : Asked) → AreFields (fields_of body) → asked_under (command_name body) body lists ≡ Ok asked → IsSoundlyAsked asked }
 {}

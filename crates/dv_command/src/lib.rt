@@ -13,7 +13,7 @@ mod parsing;
 mod refusal;
 pub mod replies;
 
-pub use asking::{Asked, Delete, Find, Insert, Update};
+pub use asking::{Aggregate, Asked, Create, Delete, DropNamespace, Find, Insert, Update, ViewOn};
 pub use command::{Command, DocumentList, DocumentLists};
 pub use documents::Documents;
 pub use entries::{Deletion, Updating, deletion_of, updating_of};

@@ -6,7 +6,7 @@ ghost use Rattle.dv_command.specs.Namespaces as names;
 ghost use Rattle.dv_command.specs.Refusals.{UnlessWanting};
 
 use crate::refusal::Refusal;
-use dv_bson::{Document, Value};
+use dv_bson::{Document, Value, begins_with_dollar};
 use std::alloc::Global;
 
 /// How many bytes a namespace may have.
@@ -34,13 +34,6 @@ pub fn has_dot(name: &str) -> bool
     ensures { result ≡ names.has_dot name.now }
 {
     name.as_bytes().contains(&b'.')
-}
-
-/// Whether the name begins with a dollar sign.
-pub fn begins_with_dollar(name: &str) -> bool
-    ensures { result ≡ names.begins_with_dollar name.now }
-{
-    name.as_bytes().first() == Some(&b'$')
 }
 
 /// Whether the name is not empty, without a dot and without a zero byte.

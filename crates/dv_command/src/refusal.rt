@@ -8,6 +8,7 @@ ghost use Rattle.dv_command.specs.declared.refusal.Refusal.TheVariants.{WantOfMe
 use dv_bson::BsonFault;
 use dv_coll::InsertFault;
 use dv_match::FilterFault;
+use dv_pipe::PipelineFault;
 use dv_update::UpdateFault;
 use std::alloc::{AllocError, AllocFailed, Global};
 
@@ -22,10 +23,14 @@ pub enum Refusal {
     TypeMismatch,
     /// A document of the message can't be read (22).
     InvalidBson(BsonFault),
+    /// Nothing stands under a namespace (26).
+    NamespaceNotFound,
     /// A path of an update leads to no place for a value (28).
     PathNotViable,
-    /// Two paths of an update are in each other's way (40).
+    /// Two paths of an update, or of a stage, are in each other's way (40).
     ConflictingUpdateOperators,
+    /// Something stands under a namespace (48).
+    NamespaceExists,
     /// There is no such command (59).
     CommandNotFound,
     /// An update changes a document's `_id`, or its spelling (66).
@@ -36,8 +41,12 @@ pub enum Refusal {
     WantOfMemory,
     /// A document, or what a reply would hold, is over a limit (901).
     TooLarge,
-    /// There are more statements than a command may have (903).
+    /// A view stands where only a collection may (902).
+    OnView,
+    /// There are more statements, stages or views than there may be (903).
     LimitReached,
+    /// A view reads the namespace of a view that is asked for (904).
+    ReadByView,
 }
 
 impl Refusal {
@@ -50,14 +59,18 @@ impl Refusal {
             Refusal::FailedToParse => 9,
             Refusal::TypeMismatch => 14,
             Refusal::InvalidBson(_) => 22,
+            Refusal::NamespaceNotFound => 26,
             Refusal::PathNotViable => 28,
             Refusal::ConflictingUpdateOperators => 40,
+            Refusal::NamespaceExists => 48,
             Refusal::CommandNotFound => 59,
             Refusal::ImmutableField => 66,
             Refusal::DuplicateKey => 11000,
             Refusal::WantOfMemory => 900,
             Refusal::TooLarge => 901,
+            Refusal::OnView => 902,
             Refusal::LimitReached => 903,
+            Refusal::ReadByView => 904,
         }
     }
 
@@ -70,14 +83,18 @@ impl Refusal {
             Refusal::FailedToParse => "FailedToParse",
             Refusal::TypeMismatch => "TypeMismatch",
             Refusal::InvalidBson(_) => "InvalidBSON",
+            Refusal::NamespaceNotFound => "NamespaceNotFound",
             Refusal::PathNotViable => "PathNotViable",
             Refusal::ConflictingUpdateOperators => "ConflictingUpdateOperators",
+            Refusal::NamespaceExists => "NamespaceExists",
             Refusal::CommandNotFound => "CommandNotFound",
             Refusal::ImmutableField => "ImmutableField",
             Refusal::DuplicateKey => "DuplicateKey",
             Refusal::WantOfMemory => "WantOfMemory",
             Refusal::TooLarge => "TooLarge",
+            Refusal::OnView => "OnView",
             Refusal::LimitReached => "LimitReached",
+            Refusal::ReadByView => "ReadByView",
         }
     }
 
@@ -166,6 +183,22 @@ impl From<UpdateFault> for Refusal {
             | UpdateFault::BadName => Refusal::BadValue,
             UpdateFault::TooLarge => Refusal::TooLarge,
             UpdateFault::NoMemory => Refusal::WantOfMemory,
+        }
+    }
+}
+
+impl From<PipelineFault> for Refusal {
+    ghost use Rattle.dv_command.specs.Refusals as refusals;
+
+    ghost from_gives = { λ fault refusal. refusal ≡ refusals.pipeline_refusal fault };
+
+    fn from(fault: PipelineFault) -> Refusal {
+        match fault {
+            PipelineFault::UnknownStage | PipelineFault::BadSpec => Refusal::FailedToParse,
+            PipelineFault::Filter => Refusal::BadValue,
+            PipelineFault::Conflict => Refusal::ConflictingUpdateOperators,
+            PipelineFault::TooMany => Refusal::LimitReached,
+            PipelineFault::NoMemory => Refusal::WantOfMemory,
         }
     }
 }

@@ -115,6 +115,15 @@ fn add_errors(fields: &mut Document, errors: Vec<Value>) -> Result<(), NoMemory>
     Ok(())
 }
 
+/// The reply to a drop: the namespace of what went. Fails where memory is wanting.
+pub fn drop_reply(alloc: Global, namespace: String) -> Result<Document, NoMemory>
+    ensures { IfOk result (λ reply. reply ≡ replies.drop_reply (string_bytes namespace)) }
+{
+    let mut fields = Document::new(alloc);
+    add(&mut fields, "ns", Value::Text(Str::of(namespace)))?;
+    reply_of(fields)
+}
+
 /// The reply with these rows of a namespace. Fails where memory is wanting.
 pub fn rows_reply(alloc: Global, namespace: String, rows: List) -> Result<Document, NoMemory>
     ensures { IfOk result (λ reply. reply ≡ replies.rows_reply (string_bytes namespace) rows) }

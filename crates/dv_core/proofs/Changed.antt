@@ -1,24 +1,27 @@
 -- What a step may change: nothing, or what a write does.
-use Rattle.std.proofs.Common.{◌≡◌, ◌⊎◌, ◌≤◌, ℕ, Bool, true, false, cond, List, [], ◌∷◌, length, Option, Some, None, Result, Ok, Err, pos, inl, inr, refl, sym, ap, subst, ◌∙◌, arith}
+use Rattle.std.proofs.Common.{◌≡◌, ◌⊎◌, ◌≤◌, ℕ, Bool, true, false, cond, if◌then◌else◌, List, [], ◌∷◌, length, Option, Some, None, Result, Ok, Err, pos, inl, inr, refl, sym, ap, subst, ◌∙◌, arith}
 use Rattle.std.specs.Prelude.{codes}
 use Rattle.dv_bson.specs.Names.{value_under}
 use Rattle.dv_bson.specs.Tree.{Tree, Field, int32}
-use Rattle.dv_command.specs.Asked.{Asked, hello, ping, insert, update, delete, find, asked_by}
+use Rattle.dv_command.specs.Asked.{Asked, hello, ping, insert, update, delete, find, aggregate, create, drop, asked_by}
 use Rattle.dv_command.specs.Refusals.{◌>>=◌}
-use Rattle.dv_command.specs.Replies.{reply_of, count, errors_field}
+use Rattle.dv_command.specs.Replies.{reply_of, drop_reply, count, errors_field}
+use Rattle.dv_command.specs.declared.refusal.Refusal.TheVariants.{OnView}
 use Rattle.dv_command.specs.declared.command.Command.{Command}
 use Rattle.dv_command.specs.declared.refusal.Refusal.{Refusal}
 use Rattle.dv_core.specs.declared.outcome.Outcome.{Outcome}
 use Rattle.dv_core.specs.declared.outcome.Outcome.TheVariants.{Reply, Wanting, NoReply}
-use Rattle.dv_core.specs.Changes.{Effect}
+use Rattle.dv_catalog.specs.Changes.{Effect}
 use Rattle.dv_core.specs.Delete.{delete_write}
 use Rattle.dv_core.specs.Update.{update_write}
 use Rattle.dv_core.specs.Find.{batch_reply}
 use Rattle.dv_core.specs.Insert.{insert_write}
-use Rattle.dv_core.specs.Scan.{scan}
-use Rattle.dv_core.specs.State.{State, Namespaces, documents_of}
-use Rattle.dv_core.specs.Statements.{Statement, Write, Written, nothing_written, carry_out, with_all, with_next, with_result, is_due, IsCut}
-use Rattle.dv_core.specs.Step.{Answer, answered, read_answer, write_answer, answer_to, step, write_of, WriteCut, Cut, Wants, MemoryStep}
+use Rattle.dv_catalog.specs.Scan.{scan}
+use Rattle.dv_catalog.specs.State.{State, Namespaces, documents_of, is_view, rows_of}
+use Rattle.dv_catalog.specs.Views.{aggregated, created, dropped}
+use Rattle.dv_catalog.specs.Changes.{Statement}
+use Rattle.dv_core.specs.Statements.{Write, Written, nothing_written, carry_out, with_all, with_next, with_result, is_due, IsCut}
+use Rattle.dv_core.specs.Step.{Answer, answered, read_answer, write_answer, made_answer, answer_to, step, write_of, makes, WriteCut, Cut, Wants, MemoryStep}
 
 -- what a write did, be it cut
 abbrev pub Did : Write → State → Written → Type 0
@@ -34,29 +37,55 @@ pub record Writes (old : State) (asked : Result Asked Refusal) (answer : Answer)
   pub did_so : Did write old did
   pub answers : answer ≡ write_answer old write did
 
+-- what stands under "ok"
+abbrev told : List Field → Option Tree
+told reply = value_under (codes "ok") reply
+
+-- what a command makes under a namespace, or leaves of what it takes out
+abbrev pub Made : State → Asked → State → Type 0
+Made old (create c) new = created c.namespace c.view old ≡ Ok new
+Made old (drop d) new = dropped d.namespace old ≡ Ok new
+Made old asked new = ⊥
+
+-- the answer of such a command
+pub record Makes (old : State) (asked : Result Asked Refusal) (answer : Answer) : Type 0 where
+  pub what : Asked
+  pub asks : asked ≡ Ok what
+  pub made : Made old what answer.state
+  pub tells : told answer.reply ≡ Some (int32 (pos 1))
+
 abbrev pub MayWrite : State → Result Asked Refusal → Answer → Type 0
-MayWrite old asked answer = (answer.state ≡ old) ⊎ Writes old asked answer
+MayWrite old asked answer = (answer.state ≡ old) ⊎ (Writes old asked answer ⊎ Makes old asked answer)
 
 read_leaves : (old : State) (result : Result (List Field) Refusal) → (answered old (read_answer old result)).state ≡ old
 read_leaves old (Ok reply) = refl
 read_leaves old (Err refusal) = refl
 
+carried_may : (old : State) (what : Asked) (write : Write) → write_of what ≡ Some write → (b : Bool) → MayWrite old (Ok what) (answered old (if b then Err OnView else Ok (write_answer old write (carry_out write old.namespaces))))
+carried_may old what write is true = inl refl
+carried_may old what write is false = inr (inl (record { what = what; write = write; did = carry_out write old.namespaces; asks = refl; is_write = is; did_so = inl refl; answers = refl }))
+
+made_may : (old : State) (what : Asked) (reply : List Field) → told reply ≡ Some (int32 (pos 1)) → (result : Result State Refusal) → ((new : State) → result ≡ Ok new → Made old what new)
+    → MayWrite old (Ok what) (answered old (made_answer reply result))
+made_may old what reply tells (Ok new) made = inr (inr (record { what = what; asks = refl; made = made new refl; tells = tells }))
+made_may old what reply tells (Err refusal) made = inl refl
+
 step_may : (old : State) (session : ℕ) (asked : Result Asked Refusal) → MayWrite old asked (answered old (asked >>= answer_to old session))
 step_may old session (Err refusal) = inl refl
 step_may old session (Ok hello) = inl refl
 step_may old session (Ok ping) = inl refl
-step_may old session (Ok (insert i)) =
-    inr (record { what = insert i; write = insert_write i; did = carry_out (insert_write i) old.namespaces; asks = refl; is_write = refl; did_so = inl refl; answers = refl })
-step_may old session (Ok (update u)) =
-    inr (record { what = update u; write = update_write u; did = carry_out (update_write u) old.namespaces; asks = refl; is_write = refl; did_so = inl refl; answers = refl })
-step_may old session (Ok (delete d)) =
-    inr (record { what = delete d; write = delete_write d; did = carry_out (delete_write d) old.namespaces; asks = refl; is_write = refl; did_so = inl refl; answers = refl })
-step_may old session (Ok (find f)) = inl (read_leaves old (batch_reply f.namespace (scan f.filter f.sort f.skip f.limit (documents_of f.namespace old.namespaces))))
+step_may old session (Ok (insert i)) = carried_may old (insert i) (insert_write i) refl (is_view i.namespace old.views)
+step_may old session (Ok (update u)) = carried_may old (update u) (update_write u) refl (is_view u.namespace old.views)
+step_may old session (Ok (delete d)) = carried_may old (delete d) (delete_write d) refl (is_view d.namespace old.views)
+step_may old session (Ok (find f)) = inl (read_leaves old (batch_reply f.namespace (scan f.filter f.sort f.skip f.limit (rows_of f.namespace old))))
+step_may old session (Ok (aggregate a)) = inl (read_leaves old (aggregated a.stages a.namespace old >>= batch_reply a.namespace))
+step_may old session (Ok (create c)) = made_may old (create c) (reply_of []) refl (created c.namespace c.view old) (λ new is. is)
+step_may old session (Ok (drop d)) = made_may old (drop d) (drop_reply d.namespace) refl (dropped d.namespace old) (λ new is. is)
 
 write_cut_may : (old : State) (what : Asked) (write : Option Write) → write_of what ≡ write → (answer : Answer) → WriteCut old write answer → MayWrite old (Ok what) answer
 write_cut_may old what None is answer cut = absurd cut
-write_cut_may old what (Some write) is answer (left, is_cut, answers) =
-    inr (record { what = what; write = write; did = left; asks = refl; is_write = is; did_so = inr is_cut; answers = answers })
+write_cut_may old what (Some write) is answer (on, (left, is_cut, answers)) =
+    inr (inl (record { what = what; write = write; did = left; asks = refl; is_write = is; did_so = inr is_cut; answers = answers }))
 
 cut_may : (old : State) (asked : Result Asked Refusal) (answer : Answer) → Cut old asked answer → MayWrite old asked answer
 cut_may old (Ok what) answer cut = write_cut_may old what (write_of what) refl answer cut
@@ -74,27 +103,59 @@ outcome_may old new session command (Wanting reply) wants = (record { reply = re
 outcome_may old new session command NoReply (inl stands) = (step old session command, step_may old session (asked_by command), stands)
 outcome_may old new session command NoReply (inr (answer, wants, stands)) = (answer, wants_may old command answer wants, stands)
 
--- ---- only writes change anything
+-- ---- what may change
 
-unchanged : (old : State) (asked : Result Asked Refusal) (answer : Answer) → MayWrite old asked answer → (Writes old asked answer → ⊥) → answer.state ≡ old
-unchanged old asked answer (inl same) is_not = same
-unchanged old asked answer (inr writes) is_not = absurd (is_not writes)
+made_makes : (old new : State) (what : Asked) → Made old what new → makes what ≡ true
+made_makes old new (create c) made = refl
+made_makes old new (drop d) made = refl
+made_makes old new what made = absurd made
 
-pub others_leave : (old new : State) (session : ℕ) (command : Command) (asked : Asked) (outcome : Outcome) → asked_by command ≡ Ok asked → write_of asked ≡ None → MemoryStep old session command outcome new → new ≡ old
-others_leave old new session command asked outcome asks none steps =
+-- a command that asks for no write, and makes nothing
+pub others_leave : (old new : State) (session : ℕ) (command : Command) (asked : Asked) (outcome : Outcome) → asked_by command ≡ Ok asked → write_of asked ≡ None → makes asked ≡ false
+    → MemoryStep old session command outcome new → new ≡ old
+others_leave old new session command asked outcome asks none idle steps =
     let (answer, may, stands) = outcome_may old new session command outcome steps in
-    stands ∙ unchanged old (asked_by command) answer may (λ w. let same : w.what ≡ asked = cc (w.asks, asks) in let some : write_of asked ≡ Some w.write = rw (← same) w.is_write in cc (some, none))
+    stands ∙ leave answer may
+  where
+    leave : (answer : Answer) → MayWrite old (asked_by command) answer → answer.state ≡ old
+    leave answer (inl same) = same
+    leave answer (inr (inl w)) = let same : w.what ≡ asked = cc (w.asks, asks) in let some : write_of asked ≡ Some w.write = rw (← same) w.is_write in absurd cc
+    leave answer (inr (inr m)) = let same : m.what ≡ asked = cc (m.asks, asks) in let some : makes asked ≡ true = rw (← same) (made_makes old answer.state m.what m.made) in absurd cc
 
 pub refused_leave : (old new : State) (session : ℕ) (command : Command) (refusal : Refusal) (outcome : Outcome) → asked_by command ≡ Err refusal → MemoryStep old session command outcome new → new ≡ old
 refused_leave old new session command refusal outcome asks steps =
     let (answer, may, stands) = outcome_may old new session command outcome steps in
-    stands ∙ unchanged old (asked_by command) answer may (λ w. cc (w.asks, asks))
+    stands ∙ leave answer may
+  where
+    leave : (answer : Answer) → MayWrite old (asked_by command) answer → answer.state ≡ old
+    leave answer (inl same) = same
+    leave answer (inr (inl w)) = absurd (cc (w.asks, asks))
+    leave answer (inr (inr m)) = absurd (cc (m.asks, asks))
+
+-- a command that makes nothing leaves the views
+pub views_stay : (old new : State) (session : ℕ) (command : Command) (asked : Asked) (outcome : Outcome) → asked_by command ≡ Ok asked → makes asked ≡ false → MemoryStep old session command outcome new → new.views ≡ old.views
+views_stay old new session command asked outcome asks idle steps =
+    let (answer, may, stands) = outcome_may old new session command outcome steps in
+    ap (λ (s : State). s.views) stands ∙ leave answer may
+  where
+    leave : (answer : Answer) → MayWrite old (asked_by command) answer → answer.state.views ≡ old.views
+    leave answer (inl same) = ap (λ (s : State). s.views) same
+    leave answer (inr (inl w)) = ap (λ (a : Answer). a.state.views) w.answers
+    leave answer (inr (inr m)) = let same : m.what ≡ asked = cc (m.asks, asks) in let some : makes asked ≡ true = rw (← same) (made_makes old answer.state m.what m.made) in absurd cc
+
+-- what a command leaves that isn't a write: the state, or what it made
+pub others_made : (old new : State) (session : ℕ) (command : Command) (asked : Asked) (outcome : Outcome) → asked_by command ≡ Ok asked → write_of asked ≡ None → MemoryStep old session command outcome new
+    → (new ≡ old) ⊎ Made old asked new
+others_made old new session command asked outcome asks none steps =
+    let (answer, may, stands) = outcome_may old new session command outcome steps in
+    leave answer may stands
+  where
+    leave : (answer : Answer) → MayWrite old (asked_by command) answer → new ≡ answer.state → (new ≡ old) ⊎ Made old asked new
+    leave answer (inl same) stands = inl (stands ∙ same)
+    leave answer (inr (inl w)) stands = let same : w.what ≡ asked = cc (w.asks, asks) in let some : write_of asked ≡ Some w.write = rw (← same) w.is_write in absurd cc
+    leave answer (inr (inr m)) stands = let same : m.what ≡ asked = cc (m.asks, asks) in inr (rw (stands, ← same) m.made)
 
 -- ---- what is told as refused
-
--- what stands under "ok"
-abbrev told : List Field → Option Tree
-told reply = value_under (codes "ok") reply
 
 errors_told : (errors : List Tree) (n : Tree) → told (reply_of ((codes "n", n) ∷ errors_field errors)) ≡ Some (int32 (pos 1))
 errors_told [] n = refl
@@ -106,18 +167,17 @@ update_told (e ∷ es) n changed = refl
 
 -- a write that is carried out says so
 write_told : (what : Asked) (write : Write) → write_of what ≡ Some write → (n changed : ℕ) (errors : List Tree) → told (write.reply n changed errors) ≡ Some (int32 (pos 1))
-write_told hello write is n changed errors = absurd cc
-write_told ping write is n changed errors = absurd cc
 write_told (insert i) write is n changed errors = let same : insert_write i ≡ write = cc in subst (λ (w : Write). told (w.reply n changed errors) ≡ Some (int32 (pos 1))) same (errors_told errors (count n))
 write_told (update u) write is n changed errors = let same : update_write u ≡ write = cc in subst (λ (w : Write). told (w.reply n changed errors) ≡ Some (int32 (pos 1))) same (update_told errors (count n) (count changed))
 write_told (delete d) write is n changed errors = let same : delete_write d ≡ write = cc in subst (λ (w : Write). told (w.reply n changed errors) ≡ Some (int32 (pos 1))) same (errors_told errors (count n))
-write_told (find f) write is n changed errors = absurd cc
+write_told what write is n changed errors = absurd cc
 
 refused_may : (old : State) (asked : Result Asked Refusal) (answer : Answer) → MayWrite old asked answer → told answer.reply ≡ Some (int32 (pos 0)) → answer.state ≡ old
 refused_may old asked answer (inl same) refused = same
-refused_may old asked answer (inr w) refused =
+refused_may old asked answer (inr (inl w)) refused =
     let carried : told answer.reply ≡ Some (int32 (pos 1)) = rw w.answers (write_told w.what w.write w.is_write w.did.n w.did.changed w.did.errors) in
     absurd cc
+refused_may old asked answer (inr (inr m)) refused = absurd (cc (m.tells, refused))
 
 pub refusal_leaves : (old new : State) (session : ℕ) (command : Command) (reply : List Field) → MemoryStep old session command (Reply reply) new → told reply ≡ Some (int32 (pos 0)) → new ≡ old
 refusal_leaves old new session command reply is refused =

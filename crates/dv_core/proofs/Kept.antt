@@ -1,5 +1,5 @@
 -- What statements keep of the documents of each namespace.
-use Rattle.std.proofs.Common.{◌≡◌, ℕ, zero, suc, Bool, true, false, cond, List, [], ◌∷◌, ◌++◌, length, map, not, take, Option, Some, Result, Ok, Err, is_some, if◌then◌else◌, inl, inr, refl, sym, subst}
+use Rattle.std.proofs.Common.{ℕ, zero, suc, Bool, true, false, cond, List, [], ◌∷◌, ◌++◌, length, map, not, take, Option, Some, Result, Ok, Err, is_some, if◌then◌else◌, ◌≡◌, ◌⊎◌, inl, inr, refl, sym, subst}
 use Rattle.std.proofs.lemmas.Slice.Eq.{bytes_eq-Decides}
 use Rattle.std.specs.List.{AllByRecursion}
 use Rattle.std.specs.FinMap as finite
@@ -14,19 +14,21 @@ use Rattle.dv_command.specs.declared.refusal.Refusal.{Refusal}
 use Rattle.dv_command.specs.declared.refusal.Refusal.TheVariants.{DuplicateKey}
 use Rattle.dv_command.specs.Refusals.{◌>>=◌}
 use Rattle.dv_core.specs.declared.outcome.Outcome.{Outcome}
-use Rattle.dv_core.specs.Changes.{Change, put, gone, Effect, apply, with_change, with_changes, changes_of}
+use Rattle.dv_catalog.specs.Changes.{Change, put, gone, Effect, Statement, apply, with_change, with_changes, changes_of}
 use Rattle.dv_update.specs.Update as form
-use Rattle.dv_core.specs.Delete.{delete_one, delete_chosen}
-use Rattle.dv_core.specs.Scan.{matching}
-use Rattle.dv_core.specs.Update.{changed_by, update_chosen, update_one}
-use Rattle.dv_core.specs.Insert.{insert_one, put_new}
-use Rattle.dv_core.specs.State.{State, Standing, Namespaces, collection_at, documents_of, with_documents, collection}
-use Rattle.dv_core.specs.Statements.{Statement, Write, Written, nothing_written, with_all, with_next, with_result, is_due}
+use Rattle.dv_catalog.specs.Effects.{changed_by, delete_chosen, put_new, update_chosen}
+use Rattle.dv_core.specs.Delete.{delete_one}
+use Rattle.dv_catalog.specs.Scan.{matching}
+use Rattle.dv_core.specs.Update.{update_one}
+use Rattle.dv_core.specs.Insert.{insert_one}
+use Rattle.dv_catalog.specs.State.{State, Standing, Namespaces, collection_at, documents_of, with_documents, collection}
+use Rattle.dv_core.specs.Statements.{Write, Written, nothing_written, with_all, with_next, with_result, is_due}
 use Rattle.dv_core.specs.Step.{Answer, write_of, MemoryStep}
 use Rattle.dv_core.specs.Storable.{storable}
-use Rattle.dv_core.proofs.ByNamespace.{get-insert}
-use Rattle.dv_core.proofs.Changed.{Did, outcome_may, MayWrite}
-use Rattle.dv_core.proofs.Updated.{IsGoodAfter, chosen_good, matching_good, all_changed_good}
+use Rattle.dv_catalog.specs.StateLaws.{get-insert}
+use Rattle.dv_core.proofs.Changed.{Did, outcome_may, Made, MayWrite}
+use Rattle.dv_core.proofs.Made.{made_documents}
+use Rattle.dv_catalog.specs.EffectLaws.{IsGoodAfter, chosen_good, matching_good, all_changed_good}
 
 -- of a property of the documents of a namespace, and changes that keep it
 module _ (P : List ℕ → List (List Field) → Type 0) (IsGood : Change → Type 0)
@@ -94,18 +96,26 @@ module _ (P : List ℕ → List (List Field) → Type 0) (IsGood : Change → Ty
       let changes : List Change = changes_of (c.statement (documents_of write.namespace before.namespaces)) in
       rw c.left_so (apply_holds write.namespace (take c.made changes) before.namespaces held (first_good c.made changes (parts.1.good write.namespace (documents_of write.namespace before.namespaces) (held write.namespace))))
 
-  may_hold : (old : State) (asked : Result Asked Refusal) (answer : Answer) → ((what : Asked) (write : Write) → asked ≡ Ok what → write_of what ≡ Some write → AllByRecursion Keeps write.statements)
+  made_holds : (old new : State) (what : Asked) → ((namespace : List ℕ) → P namespace []) → Made old what new → Holds old.namespaces → Holds new.namespaces
+  made_holds old new what none made h name = either (made_documents old new what made name)
+    where
+      either : (documents_of name new.namespaces ≡ documents_of name old.namespaces) ⊎ (documents_of name new.namespaces ≡ []) → P name (documents_of name new.namespaces)
+      either (inl same) = rw same (h name)
+      either (inr empty) = rw empty (none name)
+
+  may_hold : (old : State) (asked : Result Asked Refusal) (answer : Answer) → ((namespace : List ℕ) → P namespace []) → ((what : Asked) (write : Write) → asked ≡ Ok what → write_of what ≡ Some write → AllByRecursion Keeps write.statements)
       → MayWrite old asked answer → Holds old.namespaces → Holds answer.state.namespaces
-  may_hold old asked answer keep (inl same) h = rw same h
-  may_hold old asked answer keep (inr w) h = rw w.answers (did_holds w.write old w.did (keep w.what w.write w.asks w.is_write) w.did_so h)
+  may_hold old asked answer none keep (inl same) h = rw same h
+  may_hold old asked answer none keep (inr (inl w)) h = rw w.answers (did_holds w.write old w.did (keep w.what w.write w.asks w.is_write) w.did_so h)
+  may_hold old asked answer none keep (inr (inr m)) h = made_holds old answer.state m.what none m.made h
 
   -- a step whose statements keep it does
-  pub step_holds : (old new : State) (session : ℕ) (command : Command) (outcome : Outcome)
+  pub step_holds : (old new : State) (session : ℕ) (command : Command) (outcome : Outcome) → ((namespace : List ℕ) → P namespace [])
       → ((what : Asked) (write : Write) → asked_by command ≡ Ok what → write_of what ≡ Some write → AllByRecursion Keeps write.statements)
       → Holds old.namespaces → MemoryStep old session command outcome new → Holds new.namespaces
-  step_holds old new session command outcome keep h steps =
+  step_holds old new session command outcome none keep h steps =
       let (answer, may, stands) = outcome_may old new session command outcome steps in
-      rw stands (may_hold old (asked_by command) answer keep may h)
+      rw stands (may_hold old (asked_by command) answer none keep may h)
 
   -- ---- the statements of an insert
 

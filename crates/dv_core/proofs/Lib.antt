@@ -1,14 +1,11 @@
 mod Lists
 mod Spellings
 pub mod Stored
-mod ByNamespace
-pub mod Scanned
 pub mod Statements
-mod Deleted
-mod Updated
 mod Plain
 mod Steps
 mod Changed
+mod Made
 mod Kept
 mod Texts
 mod Valid
@@ -18,3 +15,4 @@ mod Parts
 mod Spelled
 mod Worked
 mod WorkedFinds
+mod WorkedViews

@@ -1,14 +1,8 @@
 -- Facts about lists and texts.
 use Rattle.std.proofs.Common.{◌≡◌, ℕ, zero, suc, ◌+◌, ◌≤◌, ◌<◌, List, [], ◌∷◌, length, map, drop, drop_of_length-le, get_or, Some, refl, sym, add-one}
 use Rattle.std.specs.List.{slice_get}
-use Rattle.std.specs.Str.{bytes_eq}
-use Rattle.std.proofs.lemmas.Bool.Decides.{same_from_decides}
 use Rattle.std.proofs.lemmas.List.{length-map}
 use Rattle.std.proofs.lemmas.Option.{slice_get_read, slice_get-map}
-use Rattle.std.proofs.lemmas.Slice.Eq.{bytes_eq-Decides}
-
-pub bytes_eq-symmetric : (a b : List ℕ) → bytes_eq a b ≡ bytes_eq b a
-bytes_eq-symmetric a b = same_from_decides _ _ (bytes_eq-Decides a b) ((λ e. sym ((bytes_eq-Decides b a).0 e)), λ e. (bytes_eq-Decides b a).1 (sym e))
 
 -- the item at a place, as what is seen of it
 pub slice_get_seen : {X Y : Type 0} (view : X → Y) (xs : List X) (ys : List Y) (place : ℕ) (x : X) → map view xs ≡ ys → place < length xs → x ≡ get_or xs place x → slice_get ys place ≡ Some (view x)

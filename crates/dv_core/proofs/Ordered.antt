@@ -11,7 +11,7 @@ use Rattle.dv_bson.specs.Spelling.{AreFields, Fits}
 use Rattle.dv_bson.specs.Tree.{Tree, array, Field, fields_of}
 use Rattle.dv_order.specs.Key.{KeyTree, key_order}
 use Rattle.dv_coll.specs.Collection.{HasId, IsAscending, found, has_key, id_key, inserted, removed, replaced}
-use Rattle.dv_command.specs.Asked.{Asked, hello, ping, insert, update, delete, find, asked_by}
+use Rattle.dv_command.specs.Asked.{Asked, insert, update, delete, asked_by}
 use Rattle.dv_command.specs.Refusals.{◌>>=◌}
 use Rattle.dv_command.specs.Entries.{Updating, updating_of}
 use Rattle.dv_command.specs.Sound.{AreValid, IsSoundUpdate}
@@ -19,35 +19,41 @@ use Rattle.dv_command.specs.declared.command.Command.{Command}
 use Rattle.dv_command.specs.declared.refusal.Refusal.{Refusal}
 use Rattle.dv_command.specs.declared.refusal.Refusal.TheVariants.{BadValue, TooLarge}
 use Rattle.dv_core.specs.declared.outcome.Outcome.{Outcome}
-use Rattle.dv_core.specs.Changes.{Change, put, gone, with_change}
+use Rattle.dv_catalog.specs.Changes.{Change, put, gone, with_change}
 use Rattle.dv_core.specs.Delete.{delete_write}
 use Rattle.dv_update.specs.Apply.{applied}
 use Rattle.dv_update.specs.Parsing.{update_of}
 use Rattle.dv_update.specs.Update as form
-use Rattle.dv_core.specs.Update.{after, update_write}
+use Rattle.dv_catalog.specs.Effects.{after}
+use Rattle.dv_core.specs.Update.{update_write}
 use Rattle.dv_core.specs.Insert.{insert_one, insert_write}
 use Rattle.dv_core.specs.Sound.{IsSoundDocument, AreSound, IsSound, IsSoundCommand}
-use Rattle.dv_core.specs.State.{State, empty_state, documents_of, AreOrdered, IsOrdered}
+use Rattle.dv_catalog.specs.State.{State, empty_state, documents_of, AreOrdered, IsOrdered}
 use Rattle.dv_core.specs.Statements.{Write}
 use Rattle.dv_core.specs.Step.{write_of, MemoryStep}
 use Rattle.dv_core.specs.Storable.{are_fields_dotted, has_dollar, id_in, is_within_limits, storable, with_id_first, without_field}
 use Rattle.dv_core.proofs.Asking.{AsksSoundly, soundly_asked}
-use Rattle.dv_core.proofs.ByNamespace.{documents_there}
+use Rattle.dv_catalog.specs.StateLaws.{documents_there}
 use Rattle.dv_core.proofs.Kept.{Keeps, insert_keeps, updates_keep, deletes_keep, step_holds}
 use Rattle.dv_core.proofs.Stored.{storable_fits}
-use Rattle.dv_core.proofs.Updated.{KeepsId, told_after, after_id}
+use Rattle.dv_catalog.specs.EffectLaws.{KeepsId, told_after, after_id}
 use Rattle.dv_core.proofs.Valid.{storable_valid}
 
 nothing_there : (namespace : List ℕ) → [] ≡ documents_of namespace empty_state.namespaces
 nothing_there namespace = sym (documents_there empty_state.namespaces namespace None (finite.get-empty (slice_cmp nat_cmp) namespace))
 
-pub empty_ordered : IsOrdered empty_state
+none_ordered : AreOrdered []
 unfolding IsStrictlySortedBy
-empty_ordered namespace = subst AreOrdered (nothing_there namespace) (tt, tt)
+none_ordered = (tt, tt)
+
+none_sound : AreSound []
+none_sound = (none_ordered, tt)
+
+pub empty_ordered : IsOrdered empty_state
+empty_ordered namespace = subst AreOrdered (nothing_there namespace) none_ordered
 
 pub empty_sound : IsSound empty_state
-unfolding IsStrictlySortedBy
-empty_sound namespace = subst AreSound (nothing_there namespace) ((tt, tt), tt)
+empty_sound namespace = subst AreSound (nothing_there namespace) none_sound
 
 -- ---- what is stored begins with its `_id`
 
@@ -131,18 +137,16 @@ module _ (laws : CollectionLaws) where
   asks_any (entry ∷ entries) = ((λ updating is. tt), asks_any entries)
 
   writes_order : (what : Asked) (write : Write) → write_of what ≡ Some write → KeepsOrder write
-  writes_order hello write is = absurd cc
-  writes_order ping write is = absurd cc
   writes_order (insert i) write is = let same : insert_write i ≡ write = cc in subst KeepsOrder same (inserts_order i.documents)
   writes_order (update u) write is =
       let same : update_write u ≡ write = cc in
       subst KeepsOrder same
       (updates_keep (λ namespace ds. AreOrdered ds) BeginsWithId changes_order (λ form. Unit {0}) (λ form any namespace ds ordered. afters_ids laws.id_stays form ds ordered.1) u.entries (asks_any u.entries))
   writes_order (delete d) write is = let same : delete_write d ≡ write = cc in subst KeepsOrder same (deletes_keep (λ namespace ds. AreOrdered ds) BeginsWithId changes_order (λ k. tt) d.entries)
-  writes_order (find f) write is = absurd cc
+  writes_order what write is = absurd cc
 
   pub steps_ordered : (old new : State) (session : ℕ) (command : Command) (outcome : Outcome) → IsOrdered old → MemoryStep old session command outcome new → IsOrdered new
-  steps_ordered old new session command outcome h steps = step_holds (λ namespace ds. AreOrdered ds) BeginsWithId changes_order old new session command outcome (λ what write asks is. writes_order what write is) h steps
+  steps_ordered old new session command outcome h steps = step_holds (λ namespace ds. AreOrdered ds) BeginsWithId changes_order old new session command outcome (λ namespace. none_ordered) (λ what write asks is. writes_order what write is) h steps
 
   -- ---- and sound, if the documents of commands are
 
@@ -204,8 +208,6 @@ module _ (laws : CollectionLaws) where
     entries_sound (entry ∷ entries) valid = ((λ updating is. sound_laws.of_entries entry updating valid.0 is), entries_sound entries valid.1)
 
     writes_sound : (command : Command) → IsSoundCommand command → (what : Asked) (write : Write) → asked_by command ≡ Ok what → write_of what ≡ Some write → KeepsSound write
-    writes_sound command sound hello write asked is = absurd cc
-    writes_sound command sound ping write asked is = absurd cc
     writes_sound command sound (insert i) write asked is =
         let same : insert_write i ≡ write = cc in
         subst KeepsSound same (inserts_sound i.documents (soundly_asked asks command (insert i) sound asked).1)
@@ -217,7 +219,7 @@ module _ (laws : CollectionLaws) where
     writes_sound command sound (delete d) write asked is =
         let same : delete_write d ≡ write = cc in
         subst KeepsSound same (deletes_keep (λ namespace ds. AreSound ds) IsSoundChange changes_sound (λ k. tt) d.entries)
-    writes_sound command sound (find f) write asked is = absurd cc
+    writes_sound command sound what write asked is = absurd cc
 
     pub steps_sound : (old new : State) (session : ℕ) (command : Command) (outcome : Outcome) → IsSoundCommand command → IsSound old → MemoryStep old session command outcome new → IsSound new
-    steps_sound old new session command outcome sound h steps = step_holds (λ namespace ds. AreSound ds) IsSoundChange changes_sound old new session command outcome (writes_sound command sound) h steps
+    steps_sound old new session command outcome sound h steps = step_holds (λ namespace ds. AreSound ds) IsSoundChange changes_sound old new session command outcome (λ namespace. none_sound) (writes_sound command sound) h steps

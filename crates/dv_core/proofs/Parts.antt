@@ -6,10 +6,10 @@ use Rattle.dv_coll.specs.Collection.{has_key, removed}
 use Rattle.dv_command.specs.Asked.{Asked, Delete, delete, asked_by}
 use Rattle.dv_command.specs.declared.command.Command.{Command}
 use Rattle.dv_core.specs.declared.outcome.Outcome.{Outcome}
-use Rattle.dv_core.specs.Changes.{Change, put, gone, with_change}
+use Rattle.dv_catalog.specs.Changes.{Change, put, gone, with_change}
 use Rattle.dv_core.specs.Delete.{delete_write}
 use Rattle.dv_core.specs.Part.{IsPart}
-use Rattle.dv_core.specs.State.{State, documents_of}
+use Rattle.dv_catalog.specs.State.{State, documents_of}
 use Rattle.dv_core.specs.Statements.{Write}
 use Rattle.dv_core.specs.Step.{write_of, MemoryStep}
 use Rattle.dv_core.proofs.Kept.{Keeps, deletes_keep, step_holds}
@@ -21,6 +21,10 @@ IsGone (gone k) = Unit {0}
 filter_whole : (ds : List (List Field)) → ds ≡ filter (λ d. true) ds
 filter_whole [] = refl
 filter_whole (d ∷ ds) = ap (λ (rest : List (List Field)). d ∷ rest) (filter_whole ds)
+
+filter_none : (ds : List (List Field)) → [] ≡ filter (λ d. false) ds
+filter_none [] = refl
+filter_none (d ∷ ds) = filter_none ds
 
 filter_step : (p : List Field → Bool) (b c : Bool) (d : List Field) (xs ys : List (List Field)) → p d ≡ c → filter p xs ≡ ys → filter p (cond b (d ∷ xs) xs) ≡ cond (b && c) (d ∷ ys) ys
 filter_step p true true d xs ys test same = rw test (ap (λ (rest : List (List Field)). d ∷ rest) same)
@@ -48,5 +52,5 @@ module _ (old : State) where
   pub delete_leaves : (new : State) (session : ℕ) (command : Command) (asked : Delete) (outcome : Outcome) → asked_by command ≡ Ok (delete asked) → MemoryStep old session command outcome new → (namespace : List ℕ)
       → IsPart (documents_of namespace new.namespaces) (documents_of namespace old.namespaces)
   delete_leaves new session command asked outcome asks steps =
-      step_holds LeftOf IsGone goes old new session command outcome (λ what write is writes. deletes_go asked what write (cc (asks, is)) writes)
+      step_holds LeftOf IsGone goes old new session command outcome (λ namespace. ((λ d. false), filter_none (documents_of namespace old.namespaces))) (λ what write is writes. deletes_go asked what write (cc (asks, is)) writes)
       (λ namespace. ((λ d. true), filter_whole (documents_of namespace old.namespaces))) steps

@@ -18,15 +18,15 @@ use Rattle.dv_command.specs.declared.refusal.Refusal.TheVariants.{InvalidBson, B
 use Rattle.dv_command.specs.Refusals.{◌>>=◌, refused_by, filter_refusal, update_refusal}
 use Rattle.dv_command.specs.Kinds.{Kind, Place}
 use Rattle.dv_command.specs.Kinds as kinds
-use Rattle.dv_command.specs.Fields.{Table, update_in, check_false, optional, updating_table, boolean_under, update_under, text_in, boolean_in, document_in, each_document, documents_in, integer_in, not_negative, natural_in, one_or_all, only_first_in, check_empty, check_value, check_known, check_field, check_fields, is_ignored, kind_in, required, deletion_table, document_under, only_first_under}
+use Rattle.dv_command.specs.Fields.{Table, update_in, check_false, optional, updating_table, boolean_under, update_under, text_in, boolean_in, document_in, each_document, documents_in, array_in, integer_in, not_negative, natural_in, one_or_all, only_first_in, check_empty, check_none, check_value, check_known, check_field, check_fields, is_ignored, kind_in, required, deletion_table, document_under, only_first_under}
 use Rattle.dv_command.specs.Forms.{filter_of, update_of, is_replacement}
 use Rattle.dv_command.specs.Entries.{Updating, deletion_of, updating_of, check_multi}
-use Rattle.dv_core.specs.Changes.{put, Effect}
-use Rattle.dv_core.specs.Delete.{all_or_first, delete_one, delete_chosen}
-use Rattle.dv_core.specs.Insert.{insert_one, put_new}
-use Rattle.dv_core.specs.Update.{after, changed_by, update_chosen, update_one}
-use Rattle.dv_core.specs.Scan.{matching}
-use Rattle.dv_core.specs.Statements.{Statement}
+use Rattle.dv_catalog.specs.Changes.{put, Effect, Statement}
+use Rattle.dv_catalog.specs.Effects.{after, all_or_first, changed_by, delete_chosen, put_new, update_chosen}
+use Rattle.dv_core.specs.Delete.{delete_one}
+use Rattle.dv_core.specs.Insert.{insert_one}
+use Rattle.dv_core.specs.Update.{update_one}
+use Rattle.dv_catalog.specs.Scan.{matching}
 use Rattle.dv_core.specs.Storable.{are_fields_dotted, has_dollar, without_field, id_in, is_within_limits, with_id_first, storable}
 
 -- a refusal of a statement, which tells of no fault in bytes
@@ -73,6 +73,10 @@ documents_plainly : (v : Tree) → IsPlainly (documents_in v)
 documents_plainly (array vs) = each_plainly vs
 documents_plainly v = tt
 
+array_plainly : (v : Tree) → IsPlainly (array_in v)
+array_plainly (array vs) = tt
+array_plainly v = tt
+
 integer_plainly : (v : Tree) → IsPlainly (integer_in v)
 integer_plainly (int32 n) = tt
 integer_plainly (int64 n) = tt
@@ -99,17 +103,23 @@ empty_plainly : (v : Tree) → IsPlainly (check_empty v)
 empty_plainly (document no_fields) = tt
 empty_plainly v = tt
 
+none_plainly : (fs : List Field) → IsPlainly (check_none fs)
+none_plainly [] = tt
+none_plainly (f ∷ fs) = tt
+
 value_plainly : (kind : Kind) (v : Tree) → IsPlainly (check_value kind v)
 value_plainly kinds.anything v = tt
 value_plainly kinds.text v = then_plainly (text_in v) _ (text_plainly v) (λ x. tt)
 value_plainly kinds.boolean v = then_plainly (boolean_in v) _ (boolean_plainly v) (λ x. tt)
 value_plainly kinds.document v = then_plainly (document_in v) _ (document_plainly v) (λ x. tt)
 value_plainly kinds.documents v = then_plainly (documents_in v) _ (documents_plainly v) (λ x. tt)
+value_plainly kinds.array v = then_plainly (array_in v) _ (array_plainly v) (λ x. tt)
 value_plainly kinds.natural v = then_plainly (natural_in v) _ (then_plainly (integer_in v) not_negative (integer_plainly v) natural_plainly) (λ x. tt)
 value_plainly kinds.how_many v = then_plainly (only_first_in v) _ (only_first_plainly v) (λ x. tt)
 value_plainly kinds.update v = then_plainly (update_in v) _ (update_plainly v) (λ x. tt)
 value_plainly kinds.only_false v = then_plainly (boolean_in v) check_false (boolean_plainly v) (λ b. test_plainly b (Err FailedToParse) (Ok tt) tt tt)
 value_plainly kinds.empty_document v = empty_plainly v
+value_plainly kinds.cursor v = then_plainly (document_in v) check_none (document_plainly v) none_plainly
 
 known_plainly : (kind : Option Kind) (v : Tree) → IsPlainly (check_known kind v)
 known_plainly None v = tt

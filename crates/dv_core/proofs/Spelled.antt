@@ -1,5 +1,5 @@
 -- Replies have a spelling.
-use Rattle.std.proofs.Common.{◌≡◌, ℕ, suc, ◌+◌, ◌*◌, ◌≤◌, ◌<◌, ◌^◌, ◌/◌, ◌%◌, ◌-◌, min, decimal, Bool, true, false, nat_lt, List, [], ◌∷◌, ◌++◌, length, map, pos, Result, Ok, Err, if◌then◌else◌, length-append, refl, sym, ap, subst, arith}
+use Rattle.std.proofs.Common.{◌≡◌, ℕ, suc, ◌+◌, ◌*◌, ◌≤◌, ◌<◌, ◌^◌, ◌/◌, ◌%◌, ◌-◌, min, decimal, Bool, true, false, ◌||◌, not, Option, Some, None, nat_lt, List, [], ◌∷◌, ◌++◌, length, map, pos, Result, Ok, Err, if◌then◌else◌, length-append, refl, sym, ap, subst, arith}
 use Rattle.std.proofs.lemmas.Bool.Decides.{nat_tests}
 use Rattle.std.proofs.lemmas.List.{length-map}
 use Rattle.std.proofs.lemmas.Int.{fits_signed_from_abs}
@@ -7,7 +7,7 @@ use Rattle.std.proofs.lemmas.Fmt.{IsAscii-decimal, length-decimal-le}
 use Rattle.std.proofs.lemmas.Str.{IsUtf8-append, IsUtf8-from_ascii}
 use Rattle.std.specs.Fmt.{digit_glyph}
 use Rattle.std.specs.Int.{w32, w64}
-use Rattle.std.specs.List.{AllByRecursion}
+use Rattle.std.specs.List.{AllByRecursion, list_all}
 use Rattle.std.specs.Prelude.{codes}
 use Rattle.std.specs.Str.{IsUtf8}
 use Rattle.dv_bson.specs.Fault.{fault_text, hex_byte}
@@ -17,26 +17,30 @@ use Rattle.dv_bson.specs.declared.fault.BsonFault.TheVariants.{Truncated, BadLen
 use Rattle.dv_bson.specs.Names.{has_name, has_zero}
 use Rattle.dv_bson.specs.Spelling.{framed, element_spelling, counted, payload, spelling, IsValue, AreFields, AreElements, Spells}
 use Rattle.dv_bson.specs.Tree.{Tree, int32, int64, boolean, string, array, Field, fields_of, list_of_fields, elements_of}
-use Rattle.dv_command.specs.Asked.{Asked, hello, ping, insert, update, delete, find, asked_by}
-use Rattle.dv_command.specs.Replies.{document_of, count, hello_reply, reply_of, refusal_reply, rows_reply, write_error, update_reply, errors_field}
+use Rattle.dv_command.specs.Asked.{Asked, Find, ViewOn, hello, ping, insert, update, delete, find, aggregate, create, drop, asked_by}
+use Rattle.dv_command.specs.Replies.{document_of, count, drop_reply, hello_reply, reply_of, refusal_reply, rows_reply, write_error, update_reply, errors_field}
 use Rattle.dv_command.specs.Refusals.{code, code_name, message_of, ◌>>=◌}
 use Rattle.dv_command.specs.declared.command.Command.{Command}
 use Rattle.dv_command.specs.declared.refusal.Refusal.{Refusal}
-use Rattle.dv_command.specs.declared.refusal.Refusal.TheVariants.{BadValue, FailedToParse, TypeMismatch, InvalidBson, PathNotViable, ConflictingUpdateOperators, ImmutableField, CommandNotFound, DuplicateKey, WantOfMemory, TooLarge, LimitReached}
-use Rattle.dv_core.specs.Changes.{Effect}
+use Rattle.dv_command.specs.declared.refusal.Refusal.TheVariants.{BadValue, FailedToParse, TypeMismatch, InvalidBson, PathNotViable, ConflictingUpdateOperators, ImmutableField, CommandNotFound, DuplicateKey, WantOfMemory, TooLarge, LimitReached, NamespaceNotFound, NamespaceExists, OnView, ReadByView}
+use Rattle.dv_catalog.specs.Changes.{Effect}
 use Rattle.dv_core.specs.Delete.{delete_one, delete_write}
 use Rattle.dv_core.specs.Update.{update_one, update_write}
 use Rattle.dv_core.specs.Insert.{insert_one, insert_write}
-use Rattle.dv_core.specs.Scan.{scan}
-use Rattle.dv_core.specs.State.{State, Namespaces, documents_of}
-use Rattle.dv_core.specs.Statements.{Statement, Write, Written, nothing_written, is_due, with_result, with_next, with_all, carry_out}
-use Rattle.dv_core.specs.Step.{answered, read_answer, answer_to, step}
-use Rattle.dv_command.specs.Sound.{IsNamespace, IsSoundlyAsked}
+use Rattle.dv_catalog.specs.Scan.{scan}
+use Rattle.dv_catalog.specs.State.{State, Namespaces, ViewForm, documents_of, is_collection, is_there, is_view, rows_of, view_named}
+use Rattle.dv_catalog.specs.State as states
+use Rattle.dv_catalog.specs.Views.{created, dropped, looks_into_view, made, with_view, with_views}
+use Rattle.dv_catalog.specs.Changes.{Statement}
+use Rattle.dv_core.specs.Statements.{Write, Written, nothing_written, is_due, with_result, with_next, with_all, carry_out}
+use Rattle.dv_core.specs.Step.{answered, read_answer, write_answer, made_answer, answer_to, step}
+use Rattle.dv_command.specs.Sound.{AreValid, IsNamespace, IsSoundlyAsked}
 use Rattle.dv_core.proofs.Asking.{AsksSoundly, soundly_asked}
 use Rattle.dv_core.proofs.Plain.{IsPlain, IsPlainly, IsPlainStatement, inserts_plain, updates_plain, deletes_plain}
-use Rattle.dv_core.proofs.Scanned.{all_scanned}
+use Rattle.dv_catalog.specs.ScanLaws.{all_scanned}
 use Rattle.dv_core.specs.Find.{total_size, batch_limit, batch_reply}
-use Rattle.dv_core.specs.Sound.{HasSpelling, IsTold, IsSound, IsSoundCommand, IsSoundDocument}
+use Rattle.dv_core.specs.Sound.{HasSpelling, IsTold, IsSound, IsSoundCommand, IsSoundDocument, ShowsValid}
+use Rattle.dv_core.specs.Storable.{is_within_limits}
 use Rattle.dv_core.proofs.Spellings.{spelling-field, spelling-nil, spelling-long, length-int32, length-int64, length-string, sizes, array-bound}
 use Rattle.dv_core.proofs.Texts.{are_ascii, IsUtf8-ascii}
 
@@ -68,9 +72,9 @@ ping_spelled = spelled ok_fields ok_valid (omega (arith, ok_size))
 
 -- ---- the documents that a find replies
 
-documents_valid : (ds : List (List Field)) → AllByRecursion IsSoundDocument ds → AreElements (elements_of (map document_of ds))
-documents_valid [] sound = tt
-documents_valid (d ∷ ds) sound = (sound.0.valid, documents_valid ds sound.1)
+documents_valid : (ds : List (List Field)) → AreValid ds → AreElements (elements_of (map document_of ds))
+documents_valid [] valid = tt
+documents_valid (d ∷ ds) valid = (valid.0, documents_valid ds valid.1)
 
 documents_size : (ds : List (List Field)) → sizes (map document_of ds) ≡ total_size ds
 documents_size [] = refl
@@ -84,7 +88,7 @@ documents_count : (ds : List (List Field)) → 5 * length ds ≤ total_size ds
 documents_count [] = omega arith
 documents_count (d ∷ ds) = omega (arith, spelling-long d, documents_count ds)
 
-module _ (namespace : List ℕ) (text : IsUtf8 namespace) (short : length namespace ≤ 120) (ds : List (List Field)) (sound : AllByRecursion IsSoundDocument ds) (together : total_size ds ≤ 16777216) where
+module _ (namespace : List ℕ) (text : IsUtf8 namespace) (short : length namespace ≤ 120) (ds : List (List Field)) (valid : AreValid ds) (together : total_size ds ≤ 16777216) where
   abbrev rows : Tree
   rows = array (elements_of (map document_of ds))
 
@@ -96,7 +100,7 @@ module _ (namespace : List ℕ) (text : IsUtf8 namespace) (short : length namesp
 
   cursor_valid : AreFields (fields_of cursor)
   cursor_valid =
-      more_valid (codes "firstBatch") rows behind refl refl refl (documents_valid ds sound)
+      more_valid (codes "firstBatch") rows behind refl refl refl (documents_valid ds valid)
       (more_valid (codes "id") (int64 (pos 0)) ((codes "ns", string namespace) ∷ []) refl refl refl no_cursor_valid (more_valid (codes "ns") (string namespace) [] refl refl refl text tt))
 
   rows_size : length (payload rows) ≤ 16777216 + 9 * 3355444 + 5
@@ -134,6 +138,10 @@ plain_short DuplicateKey plain = record { text = IsUtf8-ascii (codes "DuplicateK
 plain_short WantOfMemory plain = record { text = IsUtf8-ascii (codes "WantOfMemory") refl; few = omega arith; number = omega arith }
 plain_short TooLarge plain = record { text = IsUtf8-ascii (codes "TooLarge") refl; few = omega arith; number = omega arith }
 plain_short LimitReached plain = record { text = IsUtf8-ascii (codes "LimitReached") refl; few = omega arith; number = omega arith }
+plain_short NamespaceNotFound plain = record { text = IsUtf8-ascii (codes "NamespaceNotFound") refl; few = omega arith; number = omega arith }
+plain_short NamespaceExists plain = record { text = IsUtf8-ascii (codes "NamespaceExists") refl; few = omega arith; number = omega arith }
+plain_short OnView plain = record { text = IsUtf8-ascii (codes "OnView") refl; few = omega arith; number = omega arith }
+plain_short ReadByView plain = record { text = IsUtf8-ascii (codes "ReadByView") refl; few = omega arith; number = omega arith }
 
 -- a fault in bytes, whose numbers are told
 abbrev IsShortText : List ℕ → Type 0
@@ -199,6 +207,10 @@ name_short DuplicateKey = ascii_short (codes "DuplicateKey") refl (omega arith)
 name_short WantOfMemory = ascii_short (codes "WantOfMemory") refl (omega arith)
 name_short TooLarge = ascii_short (codes "TooLarge") refl (omega arith)
 name_short LimitReached = ascii_short (codes "LimitReached") refl (omega arith)
+name_short NamespaceNotFound = ascii_short (codes "NamespaceNotFound") refl (omega arith)
+name_short NamespaceExists = ascii_short (codes "NamespaceExists") refl (omega arith)
+name_short OnView = ascii_short (codes "OnView") refl (omega arith)
+name_short ReadByView = ascii_short (codes "ReadByView") refl (omega arith)
 
 -- an error of a statement
 abbrev IsSmall : Tree → Type 0
@@ -373,25 +385,101 @@ refusal_spelled refusal told =
       spelling-nil,
     ))
 
-find_spelled : (old : State) (namespace : List ℕ) (ds : List (List Field)) → IsNamespace namespace → AllByRecursion IsSoundDocument ds → HasSpelling (answered old (read_answer old (batch_reply namespace ds))).reply
-find_spelled old namespace ds named sound = by_size (nat_lt batch_limit (total_size ds)) refl
+-- what reads is answered: rows, if they are valid
+batch_spelled : (old : State) (namespace : List ℕ) (rows : List (List Field)) → IsNamespace namespace → AreValid rows → HasSpelling (answered old (read_answer old (batch_reply namespace rows))).reply
+batch_spelled old namespace rows named valid = by_size (not (list_all is_within_limits rows)) (nat_lt batch_limit (total_size rows)) refl
   where
-    by_size : (b : Bool) → nat_lt batch_limit (total_size ds) ≡ b → HasSpelling (answered old (read_answer old (if b then Err TooLarge else Ok (rows_reply namespace (map document_of ds))))).reply
-    by_size true test = refusal_spelled TooLarge tt
-    by_size false test = rows_spelled namespace named.0 named.1 ds sound (grind (arith, nat_tests))
+    by_size : (a b : Bool) → nat_lt batch_limit (total_size rows) ≡ b → HasSpelling (answered old (read_answer old (if a || b then Err TooLarge else Ok (rows_reply namespace (map document_of rows))))).reply
+    by_size true b test = refusal_spelled TooLarge tt
+    by_size false true test = refusal_spelled TooLarge tt
+    by_size false false test = rows_spelled namespace named.0 named.1 rows valid (grind (arith, nat_tests))
+
+aggregate_spelled : (old : State) (namespace : List ℕ) (b : Bool) (rows : List (List Field)) → IsNamespace namespace → AreValid rows
+    → HasSpelling (answered old (read_answer old ((if b then Err OnView else Ok rows) >>= batch_reply namespace))).reply
+aggregate_spelled old namespace true found named valid = refusal_spelled OnView tt
+aggregate_spelled old namespace false found named valid = batch_spelled old namespace found named valid
+
+write_or_refusal : (old : State) (b : Bool) (write : Write) (did : Written) → HasSpelling (write.reply did.n did.changed did.errors) → HasSpelling (answered old (if b then Err OnView else Ok (write_answer old write did))).reply
+write_or_refusal old true write did spelt = refusal_spelled OnView tt
+write_or_refusal old false write did spelt = spelt
+
+-- what is made is answered, or why it can't be
+abbrev IsToldOf : {A : Type 0} → Result A Refusal → Type 0
+IsToldOf (Ok x) = Unit {0}
+IsToldOf (Err refusal) = IsTold refusal
+
+made_spelled : (old : State) (reply : List Field) (made : Result State Refusal) → HasSpelling reply → IsToldOf made → HasSpelling (answered old (made_answer reply made)).reply
+made_spelled old reply (Ok new) spelt told = spelt
+made_spelled old reply (Err refusal) spelt told = refusal_spelled refusal told
+
+view_told : (a b c : Bool) (views : List ViewForm) → IsToldOf (if a then Err OnView else if b then Err ReadByView else if c then Ok views else Err LimitReached)
+view_told true b c views = tt
+view_told false true c views = tt
+view_told false false true views = tt
+view_told false false false views = tt
+
+with_views_told : (state : State) (result : Result (List ViewForm) Refusal) → IsToldOf result → IsToldOf (with_views state result)
+with_views_told state (Ok views) told = tt
+with_views_told state (Err refusal) told = told
+
+made_told : (namespace : List ℕ) (view : Option ViewOn) (state : State) → IsToldOf (made namespace view state)
+made_told namespace None state = tt
+made_told namespace (Some on) state = with_views_told state (with_view (record { name = namespace; source = on.source; stages = on.stages }) state.views) (view_told _ _ _ _)
+
+created_told : (b : Bool) (namespace : List ℕ) (view : Option ViewOn) (state : State) → IsToldOf (if b then Err NamespaceExists else made namespace view state)
+created_told true namespace view state = tt
+created_told false namespace view state = made_told namespace view state
+
+dropped_told : (a b : Bool) (one other : State) → IsToldOf (if a then Ok one else if b then Ok other else Err NamespaceNotFound)
+dropped_told true b one other = tt
+dropped_told false true one other = tt
+dropped_told false false one other = tt
+
+drop_spelled : (namespace : List ℕ) → IsNamespace namespace → HasSpelling (drop_reply namespace)
+drop_spelled namespace named =
+    spelled ((codes "ns", string namespace) ∷ ok_fields) (more_valid (codes "ns") (string namespace) ok_fields refl refl refl named.0 ok_valid)
+    (omega (arith, spelling-field (codes "ns", string namespace) ok_fields, length-string namespace, named.1, ok_size))
 
 module _ (asks : AsksSoundly) (counts : CountsAreValid) where
-  asked_spelled : (state : State) (session : ℕ) (command : Command) (asked : Asked) → IsSound state → IsSoundlyAsked asked → HasSpelling (answered state (answer_to state session asked)).reply
-  asked_spelled state session command hello sound asked = hello_spelled
-  asked_spelled state session command ping sound asked = ping_spelled
-  asked_spelled state session command (insert i) sound asked = write_spelled (insert_write i) state.namespaces (omega (arith, length-map i.documents insert_one, asked.2)) (inserts_plain i.documents) (λ n changed es. errors_spelled counts n es)
-  asked_spelled state session command (update u) sound asked = write_spelled (update_write u) state.namespaces (omega (arith, length-map u.entries update_one, asked.2)) (updates_plain u.entries) (update_spelled counts)
-  asked_spelled state session command (delete d) sound asked = write_spelled (delete_write d) state.namespaces (omega (arith, length-map d.entries delete_one, asked.2)) (deletes_plain d.entries) (λ n changed es. errors_spelled counts n es)
-  asked_spelled state session command (find f) sound asked =
-      let documents : List (List Field) = documents_of f.namespace state.namespaces in
-      find_spelled state f.namespace (scan f.filter f.sort f.skip f.limit documents) asked (all_scanned IsSoundDocument f.filter f.sort f.skip f.limit documents (sound f.namespace).1)
+  asked_spelled : (state : State) (session : ℕ) (asked : Asked) → IsSoundlyAsked asked → ShowsValid state asked → HasSpelling (answered state (answer_to state session asked)).reply
+  asked_spelled state session hello sound shows = hello_spelled
+  asked_spelled state session ping sound shows = ping_spelled
+  asked_spelled state session (insert i) sound shows =
+      write_or_refusal state (is_view i.namespace state.views) (insert_write i) (carry_out (insert_write i) state.namespaces)
+      (write_spelled (insert_write i) state.namespaces (omega (arith, length-map i.documents insert_one, sound.2)) (inserts_plain i.documents) (λ n changed es. errors_spelled counts n es))
+  asked_spelled state session (update u) sound shows =
+      write_or_refusal state (is_view u.namespace state.views) (update_write u) (carry_out (update_write u) state.namespaces)
+      (write_spelled (update_write u) state.namespaces (omega (arith, length-map u.entries update_one, sound.2)) (updates_plain u.entries) (update_spelled counts))
+  asked_spelled state session (delete d) sound shows =
+      write_or_refusal state (is_view d.namespace state.views) (delete_write d) (carry_out (delete_write d) state.namespaces)
+      (write_spelled (delete_write d) state.namespaces (omega (arith, length-map d.entries delete_one, sound.2)) (deletes_plain d.entries) (λ n changed es. errors_spelled counts n es))
+  asked_spelled state session (find f) sound shows =
+      let rows : List (List Field) = rows_of f.namespace state in
+      batch_spelled state f.namespace (scan f.filter f.sort f.skip f.limit rows) sound (all_scanned (λ d. AreFields (fields_of d)) f.filter f.sort f.skip f.limit rows shows)
+  asked_spelled state session (aggregate a) sound shows = aggregate_spelled state a.namespace (looks_into_view a.stages a.namespace state.views) _ sound.0 shows
+  asked_spelled state session (create c) sound shows = made_spelled state (reply_of []) (created c.namespace c.view state) ping_spelled (created_told (is_there c.namespace state) c.namespace c.view state)
+  asked_spelled state session (drop d) sound shows =
+      made_spelled state (drop_reply d.namespace) (dropped d.namespace state) (drop_spelled d.namespace sound) (dropped_told (is_collection d.namespace state.namespaces) (is_view d.namespace state.views) _ _)
 
-  pub replies_spelled : (state : State) (session : ℕ) (command : Command) (asked : Asked) → IsSound state → IsSoundCommand command → asked_by command ≡ Ok asked → HasSpelling (step state session command).reply
-  replies_spelled state session command asked sound valid is =
+  pub replies_spelled : (state : State) (session : ℕ) (command : Command) (asked : Asked) → IsSoundCommand command → ShowsValid state asked → asked_by command ≡ Ok asked → HasSpelling (step state session command).reply
+  replies_spelled state session command asked valid shows is =
       let carried : (step state session command).reply ≡ (answered state (answer_to state session asked)).reply = ap (λ (r : Result Asked Refusal). (answered state (r >>= answer_to state session)).reply) is in
-      subst HasSpelling (sym carried) (asked_spelled state session command asked sound (soundly_asked asks command asked valid is))
+      subst HasSpelling (sym carried) (asked_spelled state session asked (soundly_asked asks command asked valid is) shows)
+
+-- ---- what a collection shows
+
+all_valid : (ds : List (List Field)) → AllByRecursion IsSoundDocument ds → AreValid ds
+all_valid [] sound = tt
+all_valid (d ∷ ds) sound = (sound.0.valid, all_valid ds sound.1)
+
+no_view_named : (namespace : List ℕ) (views : List ViewForm) → is_view namespace views ≡ false → view_named namespace views ≡ None
+no_view_named namespace [] none = refl
+no_view_named namespace (v ∷ vs) none = by_name (no_view_named namespace vs) (states.has_name namespace v) none
+  where
+    by_name : (is_view namespace vs ≡ false → view_named namespace vs ≡ None) → (b : Bool) → (b || is_view namespace vs) ≡ false → (if b then Some v else view_named namespace vs) ≡ None
+    by_name rest true none = absurd cc
+    by_name rest false none = rest none
+
+pub collections_show_valid : (state : State) (asked : Find) → IsSound state → is_view asked.namespace state.views ≡ false → ShowsValid state (find asked)
+collections_show_valid state asked sound none =
+    rw (no_view_named asked.namespace state.views none) (all_valid (documents_of asked.namespace state.namespaces) (sound asked.namespace).1)

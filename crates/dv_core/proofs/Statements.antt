@@ -8,9 +8,10 @@ use Rattle.dv_command.specs.declared.refusal.Refusal.TheVariants.{WantOfMemory}
 use Rattle.dv_core.specs.declared.outcome.Outcome.TheVariants.{Reply, Wanting, NoReply}
 use Rattle.dv_core.specs.declared.next.Next.{Next}
 use Rattle.dv_core.specs.declared.next.Next.TheVariants.{Due, Ended}
-use Rattle.dv_core.specs.State.{Namespaces, documents_of}
-use Rattle.dv_core.specs.Changes.{Change, Effect, apply}
-use Rattle.dv_core.specs.Statements.{Statement, Write, Written, nothing_written, carry_out, with_next, with_all, with_result, is_due, next_changes, cut, AreCut, IsCut}
+use Rattle.dv_catalog.specs.State.{Namespaces, documents_of}
+use Rattle.dv_catalog.specs.Changes.{Change, Effect, apply}
+use Rattle.dv_catalog.specs.Changes.{Statement}
+use Rattle.dv_core.specs.Statements.{Write, Written, nothing_written, carry_out, with_next, with_all, with_result, is_due, next_changes, cut, AreCut, IsCut}
 use Rattle.dv_core.specs.WriteParts.{with_refusal, next_behind, reply_seen, Notes, CutsNext, NextStep, Writes}
 
 is_due-push : (ordered : Bool) (es : List Tree) (e : Tree) → is_due ordered (es ++ e ∷ []) ≡ not ordered

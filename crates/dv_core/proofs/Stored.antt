@@ -10,10 +10,12 @@ use Rattle.dv_bson.specs.Tree.{Tree, document, array, Field, fields_of, elements
 use Rattle.dv_bson.specs.Names.{value_under, has_name, has_zero, AreNamed}
 use Rattle.dv_bson.specs.Spelling.{spelling, fields_levels, levels, Fits}
 use Rattle.dv_bson.specs.View.{tree}
-use Rattle.dv_core.proofs.Lists.{bytes_eq-symmetric, slice_get_seen, drop_item, drop_seen}
+use Rattle.dv_catalog.specs.StateLaws.{bytes_eq-symmetric}
+use Rattle.dv_core.proofs.Lists.{slice_get_seen, drop_item, drop_seen}
 use Rattle.dv_core.proofs.Spellings.{spelling-field}
 use Rattle.dv_bson.specs.Weight.{field_weighs_less, value_weighs_less}
-use Rattle.dv_command.specs.Namespaces.{has_dot, begins_with_dollar}
+use Rattle.dv_bson.specs.Names.{begins_with_dollar}
+use Rattle.dv_command.specs.Namespaces.{has_dot}
 use Rattle.dv_command.specs.declared.refusal.Refusal.{Refusal}
 use Rattle.dv_command.specs.declared.refusal.Refusal.TheVariants.{TooLarge}
 use Rattle.dv_command.specs.Refusals.{◌>>=◌}

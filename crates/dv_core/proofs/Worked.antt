@@ -14,16 +14,17 @@ use Rattle.dv_command.specs.Asked.{Insert}
 use Rattle.dv_command.specs.Replies.{document_of, write_error, cut_error, reply_of, refusal_reply}
 use Rattle.dv_command.specs.declared.refusal.Refusal.{Refusal}
 use Rattle.dv_command.specs.declared.refusal.Refusal.TheVariants.{DuplicateKey, WantOfMemory}
-use Rattle.dv_core.specs.Changes.{put, Effect, with_put}
+use Rattle.dv_catalog.specs.Changes.{put, Effect, with_put}
 use Rattle.dv_core.specs.Examples.{only, one_field, number, holding, letters, InsertExamples, ReadExamples, RefusalExamples, WantExamples}
 use Rattle.dv_core.specs.Find.{batch_reply}
 use Rattle.dv_core.specs.Insert.{insert_one, insert_write}
-use Rattle.dv_core.specs.Scan.{scan}
-use Rattle.dv_core.specs.State.{State, Standing, Namespaces, documents_of, empty_state, with_documents}
-use Rattle.dv_core.specs.Statements.{Statement, Written, nothing_written, is_due, with_result, with_next, with_all, cut, IsCut}
+use Rattle.dv_catalog.specs.Scan.{scan}
+use Rattle.dv_catalog.specs.State.{State, Standing, Namespaces, documents_of, empty_state, with_documents}
+use Rattle.dv_catalog.specs.Changes.{Statement}
+use Rattle.dv_core.specs.Statements.{Written, nothing_written, is_due, with_result, with_next, with_all, cut, IsCut}
 use Rattle.dv_core.specs.Step.{Answer, answered, read_answer, write_answer}
-use Rattle.dv_core.specs.View.{standing_seen}
-use Rattle.dv_core.proofs.ByNamespace.{same_namespaces, documents_there}
+use Rattle.dv_catalog.specs.View.{standing_seen}
+use Rattle.dv_catalog.specs.StateLaws.{same_namespaces, documents_there}
 
 -- ---- what stands under t.c
 
@@ -193,7 +194,7 @@ cut_second = record {
 pub wants : WantExamples
 wants = record {
   refused = λ state session command. inl refl;
-  cut = λ session. inr (left, cut_second, refl);
-  untold = λ session. inr (write_answer empty_state (insert_write two) left, inr (left, cut_second, refl), refl);
+  cut = λ session. inr (refl, (left, cut_second, refl));
+  untold = λ session. inr (write_answer empty_state (insert_write two) left, inr (refl, (left, cut_second, refl)), refl);
   pinged = λ state new session is. let replies : reply_of [] ≡ refusal_reply WantOfMemory = ap (λ (a : Answer). a.reply) is in cc;
 }

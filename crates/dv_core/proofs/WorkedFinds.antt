@@ -16,13 +16,13 @@ use Rattle.dv_match.specs.Filter.{Members, no_members, more_members, at_path, in
 use Rattle.dv_match.specs.Match.{matches, matches_member, meets_all, meets}
 use Rattle.dv_match.specs.Parsing.{filter_in, conditions_in, operators_in, member_named, operator_named}
 use Rattle.dv_sort.specs.Sorting.{stable}
-use Rattle.dv_core.specs.Changes.{Change, gone, apply, with_changes}
+use Rattle.dv_catalog.specs.Changes.{Change, gone, apply, with_changes}
 use Rattle.dv_command.specs.Asked.{Delete}
 use Rattle.dv_core.specs.Delete.{delete_one, delete_write}
 use Rattle.dv_core.specs.Examples.{only, one_field, number, deletion, holding, three, bounded, nulls, keyed, DeleteExamples, FindExamples}
 use Rattle.dv_core.specs.Find.{batch_reply}
-use Rattle.dv_core.specs.Scan.{scan}
-use Rattle.dv_core.specs.State.{documents_of, empty_state, with_documents}
+use Rattle.dv_catalog.specs.Scan.{scan}
+use Rattle.dv_catalog.specs.State.{documents_of, empty_state, with_documents}
 use Rattle.dv_core.specs.Statements.{nothing_written, with_next}
 use Rattle.dv_core.specs.Step.{answered, read_answer, write_answer}
 use Rattle.dv_core.proofs.Worked.{t_c, nothing_in, put_there, put_twice, wrote, wrote_so, looked_at}

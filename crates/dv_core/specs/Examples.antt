@@ -6,7 +6,7 @@ use Rattle.dv_command.specs.declared.command.Command.{Command}
 use Rattle.dv_command.specs.declared.command.Command.TheVariants.{Sections, Invalid}
 use Rattle.dv_command.specs.Replies.{document_of, hello_reply}
 use Rattle.dv_core.specs.declared.outcome.Outcome.TheVariants.{Reply, Wanting, NoReply}
-use Rattle.dv_core.specs.State.{State, empty_state, with_documents}
+use Rattle.dv_catalog.specs.State.{State, ViewForm, empty_state, with_documents}
 use Rattle.dv_core.specs.Step.{step, MemoryStep}
 
 -- ---- words for them
@@ -28,7 +28,7 @@ IsRefused body code name = (state : State) → Does state body (refusal code nam
 
 -- with these documents in the collection of a namespace
 abbrev pub with_collection : List ℕ → List (List Field) → State → State
-with_collection namespace documents state = record { namespaces = with_documents namespace documents state.namespaces }
+with_collection namespace documents state = record state { namespaces = with_documents namespace documents state.namespaces }
 
 -- the state with these documents alone
 abbrev pub holding : List (List Field) → State
@@ -195,7 +195,7 @@ pub record ReadExamples : Type 0 where
 pub record RefusalExamples : Type 0 where
   pub no_database : IsRefused ping 9 (codes "FailedToParse")
   pub dotted_database : IsRefused (on (codes "a.b") ping) 2 (codes "BadValue")
-  pub unknown_command : IsRefused (on (codes "t") ((codes "drop", string (codes "c")) ∷ [])) 59 (codes "CommandNotFound")
+  pub unknown_command : IsRefused (on (codes "t") ((codes "count", string (codes "c")) ∷ [])) 59 (codes "CommandNotFound")
   pub no_documents : IsRefused (on (codes "t") ((codes "insert", string (codes "c")) ∷ [])) 9 (codes "FailedToParse")
   -- 1 is to be inserted, which is no document
   pub no_document : IsRefused (insert_values (codes "c") (number 1 ∷ [])) 14 (codes "TypeMismatch")
@@ -216,6 +216,55 @@ pub record RefusalExamples : Type 0 where
   -- a namespace of 120 bytes, and one of 121
   pub longest_namespace : Does empty_state (find_in (letters 118)) (find_reply (codes "t." ++ letters 118) []) empty_state
   pub namespace_too_long : IsRefused (find_in (letters 119)) 2 (codes "BadValue")
+
+-- {_id: 1} and {_id: 2}
+abbrev pub two : List (List Field)
+two = only 1 ∷ only 2 ∷ []
+
+-- with a view v over c, which has no stages
+abbrev pub viewing : State → State
+viewing state = record state { views = record { name = codes "t.v"; source = codes "t.c"; stages = [] } ∷ [] }
+
+abbrev pub create : List ℕ → List Field
+create name = on (codes "t") ((codes "create", string name) ∷ [])
+
+-- a view over another collection, without stages
+abbrev pub create_view : List ℕ → List ℕ → List Field
+create_view name source = create name ++ (codes "viewOn", string source) ∷ (codes "pipeline", array (elements_of [])) ∷ []
+
+abbrev pub drop : List ℕ → List Field
+drop name = on (codes "t") ((codes "drop", string name) ∷ [])
+
+-- all rows, through no stages
+abbrev pub aggregate : List ℕ → List Field
+aggregate name = on (codes "t") ((codes "aggregate", string name) ∷ (codes "pipeline", array (elements_of [])) ∷ (codes "cursor", document no_fields) ∷ [])
+
+abbrev pub done : List Field
+done = (codes "ok", number 1) ∷ []
+
+abbrev pub drop_reply : List ℕ → List Field
+drop_reply namespace = (codes "ns", string namespace) ∷ done
+
+pub record ViewExamples : Type 0 where
+  pub created : Does empty_state (create_view (codes "v") (codes "c")) done (viewing empty_state)
+  -- a view reads c, which isn't there; so no view may stand there, but a collection may
+  pub read : Does (viewing empty_state) (create_view (codes "c") (codes "d")) (refusal 904 (codes "ReadByView")) (viewing empty_state)
+  pub collection : Does (viewing empty_state) (create (codes "c")) done (viewing (holding []))
+  -- a view over itself, one over a view, and one where a view stands
+  pub itself : Does (viewing empty_state) (create_view (codes "w") (codes "w")) (refusal 904 (codes "ReadByView")) (viewing empty_state)
+  pub over_view : Does (viewing empty_state) (create_view (codes "w") (codes "v")) (refusal 902 (codes "OnView")) (viewing empty_state)
+  pub again : Does (viewing empty_state) (create_view (codes "v") (codes "c")) (refusal 48 (codes "NamespaceExists")) (viewing empty_state)
+  -- a collection where a collection stands
+  pub collection_again : Does (holding two) (create (codes "c")) (refusal 48 (codes "NamespaceExists")) (holding two)
+  -- a view takes no documents
+  pub written : Does (viewing empty_state) (insert_values (codes "v") (document_of (only 1) ∷ [])) (refusal 902 (codes "OnView")) (viewing empty_state)
+  -- it has those of c, as long as c has them
+  pub empty : Does (viewing empty_state) (find_in (codes "v")) (find_reply (codes "t.v") []) (viewing empty_state)
+  pub found : Does (viewing (holding two)) (find_in (codes "v")) (find_reply (codes "t.v") two) (viewing (holding two))
+  pub aggregated : Does (viewing (holding two)) (aggregate (codes "v")) (find_reply (codes "t.v") two) (viewing (holding two))
+  pub source_dropped : Does (viewing (holding two)) (drop (codes "c")) (drop_reply (codes "t.c")) (viewing empty_state)
+  pub dropped : Does (viewing empty_state) (drop (codes "v")) (drop_reply (codes "t.v")) empty_state
+  pub nothing_there : Does empty_state (drop (codes "v")) (refusal 26 (codes "NamespaceNotFound")) empty_state
 
 -- what is told of want of memory
 pub record WantExamples : Type 0 where

@@ -1,20 +1,15 @@
 -- Inserting documents (MongoDB manual, "insert").
-use Rattle.std.specs.Prelude.{List, [], ◌∷◌, Ok, Err, is_some, map, if◌then◌else◌}
+use Rattle.std.specs.Prelude.{List, map}
 use Rattle.dv_bson.specs.Tree.{Field}
-use Rattle.dv_coll.specs.Collection.{id_key, found}
-use Rattle.dv_command.specs.declared.refusal.Refusal.TheVariants.{DuplicateKey}
+use Rattle.dv_catalog.specs.Changes.{Statement}
+use Rattle.dv_catalog.specs.Effects.{put_new}
 use Rattle.dv_command.specs.Asked.{Insert}
 use Rattle.dv_command.specs.Refusals.{◌>>=◌}
 use Rattle.dv_command.specs.Replies.{write_reply}
-use Rattle.dv_core.specs.Changes.{put}
 use Rattle.dv_core.specs.Storable.{storable}
-use Rattle.dv_core.specs.Statements.{Statement, Write}
+use Rattle.dv_core.specs.Statements.{Write}
 
--- a document as it is stored is put in its place; refused where one has an equal `_id`
-abbrev pub put_new : List Field → Statement
-put_new d documents = if is_some (found (id_key d) documents) then Err DuplicateKey else Ok (record { matched = 1; changes = put d ∷ [] })
-
--- one document to insert
+-- one document to insert, as it is stored
 abbrev pub insert_one : List Field → Statement
 insert_one d documents = storable d >>= λ stored. put_new stored documents
 

@@ -8,7 +8,10 @@ use Rattle.dv_command.specs.declared.command.Command.TheVariants.{Sections, Inva
 use Rattle.dv_bson.specs.declared.fault.BsonFault.TheVariants.{RefusedType}
 use Rattle.dv_command.specs.declared.refusal.Refusal.{Refusal}
 use Rattle.dv_command.specs.declared.refusal.Refusal.TheVariants.{InvalidBson}
-use Rattle.dv_core.specs.State.{State, documents_of, AreOrdered}
+use Rattle.dv_catalog.specs.State.{State, documents_of, rows_of, AreOrdered}
+use Rattle.dv_command.specs.Asked.{Asked, find, aggregate}
+use Rattle.dv_command.specs.Sound.{AreValid}
+use Rattle.dv_pipe.specs.Stages.{evaluated}
 
 -- a document that is valid at each of its levels, and within the limits for what is read and stored
 pub record IsSoundDocument (d : List Field) : Type 0 where
@@ -35,3 +38,9 @@ IsTold refusal = ⊤
 -- a document that can be written
 abbrev pub HasSpelling : List Field → Type 0
 HasSpelling d = Spells d (spelling d)
+
+-- the rows that a command shows are valid at each of their levels
+abbrev pub ShowsValid : State → Asked → Type 0
+ShowsValid state (find asked) = AreValid (rows_of asked.namespace state)
+ShowsValid state (aggregate asked) = AreValid (evaluated asked.stages asked.namespace (λ name. rows_of name state))
+ShowsValid state asked = ⊤

@@ -4,12 +4,8 @@ use Rattle.std.specs.Prelude.{◌≡◌, ℕ, suc, ◌+◌, ◌<◌, ◌⊎◌, 
 use Rattle.dv_bson.specs.Tree.{Tree, Field}
 use Rattle.dv_command.specs.declared.refusal.Refusal.{Refusal}
 use Rattle.dv_command.specs.Replies.{document_of, write_error, cut_error}
-use Rattle.dv_core.specs.State.{Namespaces, documents_of}
-use Rattle.dv_core.specs.Changes.{Change, Effect, apply, changes_of}
-
--- a statement: what it does to the documents of a namespace, or why it is refused
-abbrev pub Statement : Type 0
-Statement = List (List Field) → Result Effect Refusal
+use Rattle.dv_catalog.specs.State.{Namespaces, documents_of}
+use Rattle.dv_catalog.specs.Changes.{Change, Effect, Statement, apply, changes_of}
 
 -- what a write's statements did so far: how many were looked at, how many documents those that were carried out are counted for, and
 -- how many changes they made, the errors of the others, and what stands under the namespaces

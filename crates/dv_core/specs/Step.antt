@@ -1,21 +1,21 @@
 -- The machine: what each command answers, and the state that it leaves.
-use Rattle.std.specs.Prelude.{◌≡◌, ℕ, ◌⊎◌, List, [], Option, Some, None, Result, Ok, Err}
+use Rattle.std.specs.Prelude.{◌≡◌, ℕ, ◌⊎◌, Bool, true, false, List, [], Option, Some, None, Result, Ok, Err, if◌then◌else◌}
 use Rattle.dv_bson.specs.Tree.{Field}
 use Rattle.dv_command.specs.declared.command.Command.{Command}
 use Rattle.dv_command.specs.declared.refusal.Refusal.{Refusal}
-use Rattle.dv_command.specs.declared.refusal.Refusal.TheVariants.{WantOfMemory}
-use Rattle.dv_command.specs.Asked.{Asked, hello, ping, insert, update, delete, find, asked_by}
+use Rattle.dv_command.specs.declared.refusal.Refusal.TheVariants.{OnView, WantOfMemory}
+use Rattle.dv_command.specs.Asked.{Asked, hello, ping, insert, update, delete, find, aggregate, create, drop, asked_by}
 use Rattle.dv_command.specs.Refusals.{◌>>=◌}
-use Rattle.dv_command.specs.Replies.{reply_of, hello_reply, refusal_reply}
+use Rattle.dv_command.specs.Replies.{reply_of, hello_reply, drop_reply, refusal_reply}
 use Rattle.dv_core.specs.declared.outcome.Outcome.{Outcome}
 use Rattle.dv_core.specs.declared.outcome.Outcome.TheVariants.{Reply, Wanting, NoReply}
-use Rattle.dv_core.specs.State.{State, documents_of}
+use Rattle.dv_catalog.specs.State.{State, is_view}
+use Rattle.dv_catalog.specs.Views.{created, dropped}
 use Rattle.dv_core.specs.Statements.{Write, Written, carry_out, IsCut}
 use Rattle.dv_core.specs.Insert.{insert_write}
 use Rattle.dv_core.specs.Update.{update_write}
 use Rattle.dv_core.specs.Delete.{delete_write}
-use Rattle.dv_core.specs.Find.{batch_reply}
-use Rattle.dv_core.specs.Scan.{scan}
+use Rattle.dv_core.specs.Find.{aggregate_reply, find_reply}
 
 -- the reply to a command, and the state after it
 pub record Answer : Type 0 where
@@ -32,9 +32,13 @@ read_answer state result = result >>= λ reply. Ok (record { reply = reply; stat
 abbrev pub write_answer : State → Write → Written → Answer
 write_answer old write did = record { reply = write.reply did.n did.changed did.errors; state = record old { namespaces = did.namespaces } }
 
--- what a write answers and leaves
+-- what a write answers and leaves; there is none on a view
 abbrev pub carried_out : State → Write → Result Answer Refusal
-carried_out state write = Ok (write_answer state write (carry_out write state.namespaces))
+carried_out state write = if is_view write.namespace state.views then Err OnView else Ok (write_answer state write (carry_out write state.namespaces))
+
+-- a command that makes something under a namespace, or takes it out
+abbrev pub made_answer : List Field → Result State Refusal → Result Answer Refusal
+made_answer reply result = result >>= λ state. Ok (record { reply = reply; state = state })
 
 -- what a command of a session answers, by what it asks
 abbrev pub answer_to : State → ℕ → Asked → Result Answer Refusal
@@ -43,8 +47,10 @@ answer_to state session ping = read_answer state (Ok (reply_of []))
 answer_to state session (insert asked) = carried_out state (insert_write asked)
 answer_to state session (update asked) = carried_out state (update_write asked)
 answer_to state session (delete asked) = carried_out state (delete_write asked)
-answer_to state session (find asked) =
-    read_answer state (batch_reply asked.namespace (scan asked.filter asked.sort asked.skip asked.limit (documents_of asked.namespace state.namespaces)))
+answer_to state session (find asked) = read_answer state (find_reply asked state)
+answer_to state session (aggregate asked) = read_answer state (aggregate_reply asked state)
+answer_to state session (create asked) = made_answer (reply_of []) (created asked.namespace asked.view state)
+answer_to state session (drop asked) = made_answer (drop_reply asked.namespace) (dropped asked.namespace state)
 
 -- a refusal leaves the state
 abbrev pub answered : State → Result Answer Refusal → Answer
@@ -57,7 +63,7 @@ step state session command = answered state (asked_by command >>= answer_to stat
 
 -- ---- under want of memory
 
--- the write that a command is, if it is one; no other command changes a document
+-- the write that a command is, if it is one
 abbrev pub write_of : Asked → Option Write
 write_of hello = None
 write_of ping = None
@@ -65,11 +71,20 @@ write_of (insert asked) = Some (insert_write asked)
 write_of (update asked) = Some (update_write asked)
 write_of (delete asked) = Some (delete_write asked)
 write_of (find asked) = None
+write_of (aggregate asked) = None
+write_of (create asked) = None
+write_of (drop asked) = None
 
--- the answers of a write that is cut at one of its statements
+-- whether a command makes something under a namespace, or takes it out
+abbrev pub makes : Asked → Bool
+makes (create asked) = true
+makes (drop asked) = true
+makes asked = false
+
+-- the answers of a write that is cut at one of its statements; one on a view isn't carried out
 abbrev pub WriteCut : State → Option Write → Answer → Type 0
 WriteCut old None answer = ⊥
-WriteCut old (Some write) answer = (left : Written) × IsCut write old.namespaces left × (answer ≡ write_answer old write left)
+WriteCut old (Some write) answer = (is_view write.namespace old.views ≡ false) × ((left : Written) × IsCut write old.namespaces left × (answer ≡ write_answer old write left))
 
 -- a command that is refused isn't cut
 abbrev pub Cut : State → Result Asked Refusal → Answer → Type 0

@@ -7,7 +7,8 @@ use Rattle.dv_bson.specs.Names.{value_under}
 use Rattle.dv_bson.specs.Spelling.{spelling, levels}
 use Rattle.dv_command.specs.declared.refusal.Refusal.{Refusal}
 use Rattle.dv_command.specs.declared.refusal.Refusal.TheVariants.{BadValue, TooLarge}
-use Rattle.dv_command.specs.Namespaces.{has_dot, begins_with_dollar}
+use Rattle.dv_bson.specs.Names.{begins_with_dollar}
+use Rattle.dv_command.specs.Namespaces.{has_dot}
 use Rattle.dv_command.specs.Refusals.{◌>>=◌}
 
 -- whether a dot stands in a name, at any level

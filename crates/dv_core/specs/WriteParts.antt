@@ -4,17 +4,18 @@ use Rattle.std.specs.declared.alloc.AllocError.{AllocError}
 use Rattle.dv_bson.specs.Tree.{Field}
 use Rattle.dv_bson.specs.View.{tree}
 use Rattle.dv_command.specs.declared.refusal.Refusal.{Refusal}
-use Rattle.dv_command.specs.declared.refusal.Refusal.TheVariants.{WantOfMemory}
+use Rattle.dv_command.specs.declared.refusal.Refusal.TheVariants.{OnView, WantOfMemory}
 use Rattle.dv_command.specs.Replies.{document_of, write_error, cut_error}
 use Rattle.dv_core.specs.declared.outcome.Outcome.{Outcome}
 use Rattle.dv_core.specs.declared.outcome.Outcome.TheVariants.{Reply, Wanting, NoReply}
-use Rattle.dv_core.specs.declared.counted.Counted.{Counted}
+use Rattle.dv_catalog.specs.declared.counted.Counted.{Counted}
 use Rattle.dv_core.specs.declared.written.Written as declared
 use Rattle.dv_core.specs.declared.next.Next.{Next}
 use Rattle.dv_core.specs.declared.next.Next.TheVariants.{Due, Ended, Cut}
-use Rattle.dv_core.specs.State.{Namespaces, documents_of}
-use Rattle.dv_core.specs.Changes.{Change, apply, with_changes}
-use Rattle.dv_core.specs.Statements.{Statement, Write, Written, carry_out, with_next, is_due, next_changes, cut, IsCut}
+use Rattle.dv_catalog.specs.State.{Namespaces, State, is_view}
+use Rattle.dv_catalog.specs.Changes.{Statement}
+use Rattle.dv_core.specs.StepParts.{Refuses}
+use Rattle.dv_core.specs.Statements.{Write, Written, carry_out, with_next, is_due, next_changes, cut, IsCut}
 
 -- what statements did, and what they left
 abbrev pub written_seen : declared.Written → Namespaces → Written
@@ -53,24 +54,6 @@ abbrev pub outcome_of : Result Outcome AllocError → Outcome
 outcome_of (Ok outcome) = outcome
 outcome_of (Err e) = NoReply
 
--- a statement makes its changes, and tells for how many documents it is counted and how many changes it made; or it is refused, if
--- only for want of memory, and nothing is changed
-abbrev pub Makes : {B : Type 0} → (B → Counted) → List ℕ → Statement → Namespaces → Result B Refusal → Namespaces → Type 0
-Makes counted namespace statement old (Ok x) new =
-    (changes : List Change) × (statement (documents_of namespace old) ≡ Ok (record { matched = (counted x).matched; changes = changes })) × (length changes ≡ (counted x).changed)
-    × (new ≡ apply namespace changes old)
-Makes counted namespace statement old (Err refusal) new = ((statement (documents_of namespace old) ≡ Err refusal) ⊎ (refusal ≡ WantOfMemory)) × (new ≡ old)
-
--- one document and one change
-abbrev pub one : Counted
-one = record { matched = 1; changed = 1 }
-
--- the same, on the documents of a collection
-abbrev pub Alters : Statement → List (List Field) → Result Counted Refusal → List (List Field) → Type 0
-Alters statement old (Ok counted) new =
-    (changes : List Change) × (statement old ≡ Ok (record { matched = counted.matched; changes = changes })) × (length changes ≡ counted.changed) × (new ≡ with_changes old changes)
-Alters statement old (Err refusal) new = ((statement old ≡ Err refusal) ⊎ (refusal ≡ WantOfMemory)) × (new ≡ old)
-
 module _ (namespace : List ℕ) (ordered : Bool) where
   -- the next statement is cut behind some of its changes
   pub record CutsNext (so_far : Written) (statement : Statement) (now : Written) : Type 0 where
@@ -91,3 +74,11 @@ abbrev pub Writes : Write → Namespaces → Outcome → Namespaces → Type 0
 Writes write old (Reply reply) new = (reply ≡ reply_seen write (carry_out write old)) × (new ≡ (carry_out write old).namespaces)
 Writes write old (Wanting reply) new = (left : Written) × IsCut write old left × (reply ≡ reply_seen write left) × (new ≡ left.namespaces)
 Writes write old NoReply new = (new ≡ (carry_out write old).namespaces) ⊎ ((left : Written) × IsCut write old left × (new ≡ left.namespaces))
+
+abbrev pub WritesWhere : Bool → Write → State → Outcome → State → Type 0
+WritesWhere false write old outcome new = Writes write old.namespaces outcome new.namespaces × (new.views ≡ old.views)
+WritesWhere true write old outcome new = Refuses OnView outcome × (new ≡ old)
+
+-- a write on a collection; one on a view is refused
+abbrev pub WritesOn : Write → State → Outcome → State → Type 0
+WritesOn write old outcome new = WritesWhere (is_view write.namespace old.views) write old outcome new

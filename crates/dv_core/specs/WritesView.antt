@@ -9,7 +9,8 @@ use Rattle.dv_core.specs.declared.writes.Terms.{Terms}
 use Rattle.dv_core.specs.Insert.{insert_one}
 use Rattle.dv_core.specs.Update.{update_one}
 use Rattle.dv_core.specs.Delete.{delete_one}
-use Rattle.dv_core.specs.Statements.{Statement, Write}
+use Rattle.dv_catalog.specs.Changes.{Statement}
+use Rattle.dv_core.specs.Statements.{Write}
 
 abbrev pub statement_of : Kind → List Field → Statement
 statement_of Insert = insert_one

@@ -8,9 +8,9 @@ ghost use Rattle.dv_coll.specs.Collection.{HasId};
 ghost use Rattle.dv_core.specs.Storable as stored;
 ghost use Rattle.dv_command.specs.Refusals.{UnlessWanting};
 
-use dv_bson::{Document, List, NoMemory, Value, fits};
+use dv_bson::{Document, List, NoMemory, Value, begins_with_dollar, fits};
 use dv_command::Refusal;
-use dv_command::namespaces::{begins_with_dollar, has_dot};
+use dv_command::namespaces::has_dot;
 use dv_command::replies::add;
 use std::alloc::Global;
 

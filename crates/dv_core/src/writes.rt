@@ -1,21 +1,22 @@
 //! Writes: their statements one after the other.
 
-ghost use Rattle.std.specs.Prelude.{◌≡◌, ◌<◌, ◌≤◌, true, length, map};
+ghost use Rattle.std.specs.Prelude.{◌≡◌, ◌<◌, ◌≤◌, true, false, length, map};
 ghost use Rattle.std.specs.String.{string_bytes};
 ghost use Rattle.dv_bson.specs.View.{tree};
 ghost use Rattle.dv_command.specs.Asked.{statement_limit};
 ghost use Rattle.dv_core.specs.Statements.{is_due};
-ghost use Rattle.dv_core.specs.WriteParts.{written_seen, outcome_of, Makes, NextStep, Writes};
+ghost use Rattle.dv_catalog.specs.Parts.{Makes};
+ghost use Rattle.dv_catalog.specs.State.{is_view};
+ghost use Rattle.dv_core.specs.WriteParts.{written_seen, outcome_of, NextStep, Writes};
 ghost use Rattle.dv_core.specs.WritesView.{statement_of, write_seen};
 
-use crate::collections::Collections;
-use crate::counted::Counted;
 use crate::kind::Kind;
 use crate::next::Next;
 use crate::outcome::Outcome;
 use crate::storable::storable;
 use crate::written::Written;
 use dv_bson::{Document, NoMemory};
+use dv_catalog::{Catalog, Counted};
 use dv_command::{Documents, Refusal, deletion_of, updating_of};
 use std::alloc::Global;
 
@@ -32,14 +33,16 @@ pub(crate) struct Terms {
 /// is wanting for the reply, there is none.
 pub(crate) fn write_all(
     alloc: Global,
-    collections: &mut Collections,
+    catalog: &mut Catalog,
     terms: &Terms,
     entries: Documents<'_>,
 ) -> Outcome
-    requires { length entries ≤ statement_limit }
-    ensures { Writes (write_seen terms.now entries.entry) collections.old result collections.new }
+    requires few { length entries ≤ statement_limit }
+    requires collection { is_view (string_bytes terms.now.namespace) catalog.old.views ≡ false }
+    ensures writes { Writes (write_seen terms.now entries.entry) catalog.old.namespaces result catalog.new.namespaces }
+    ensures views { catalog.new.views ≡ catalog.old.views }
 {
-    match write_each(alloc, collections, terms, entries) {
+    match write_each(alloc, catalog, terms, entries) {
         Ok(outcome) => outcome,
         Err(_) => Outcome::NoReply,
     }
@@ -48,16 +51,18 @@ pub(crate) fn write_all(
 /// Carries out the statements one after the other. Fails where memory is wanting for the reply.
 fn write_each(
     alloc: Global,
-    collections: &mut Collections,
+    catalog: &mut Catalog,
     terms: &Terms,
     entries: Documents<'_>,
 ) -> Result<Outcome, NoMemory>
-    requires { length entries ≤ statement_limit }
-    ensures { Writes (write_seen terms.now entries.entry) collections.old (outcome_of result) collections.new }
+    requires few { length entries ≤ statement_limit }
+    requires collection { is_view (string_bytes terms.now.namespace) catalog.old.views ≡ false }
+    ensures writes { Writes (write_seen terms.now entries.entry) catalog.old.namespaces (outcome_of result) catalog.new.namespaces }
+    ensures views { catalog.new.views ≡ catalog.old.views }
 {
     let mut written = Written::new(alloc);
     'entries: for entry in entries {
-        match write_next(alloc, collections, terms, entry, &mut written)? {
+        match write_next(alloc, catalog, terms, entry, &mut written)? {
             Next::Due => {}
             Next::Ended => break,
             Next::Cut => return Ok(Outcome::Wanting(written.reply(alloc, terms.kind)?)),
@@ -70,16 +75,18 @@ fn write_each(
 /// wanting for the statement's error.
 fn write_next(
     alloc: Global,
-    collections: &mut Collections,
+    catalog: &mut Catalog,
     terms: &Terms,
     entry: &Document,
     written: &mut Written,
 ) -> Result<Next, NoMemory>
     requires room { written.old.statements < statement_limit }
     requires due { is_due terms.now.ordered (map tree written.old.errors.items) ≡ true }
-    ensures step { NextStep (string_bytes terms.now.namespace) terms.now.ordered (written_seen written.old collections.old) (statement_of terms.now.kind entry.now) result (written_seen written.new collections.new) }
+    requires collection { is_view (string_bytes terms.now.namespace) catalog.old.views ≡ false }
+    ensures step { NextStep (string_bytes terms.now.namespace) terms.now.ordered (written_seen written.old catalog.old.namespaces) (statement_of terms.now.kind entry.now) result (written_seen written.new catalog.new.namespaces) }
+    ensures views { catalog.new.views ≡ catalog.old.views }
 {
-    match write_one(alloc, collections, terms, entry) {
+    match write_one(alloc, catalog, terms, entry) {
         Ok(counted) => {
             written.count(counted);
             Ok(Next::Due)
@@ -91,21 +98,23 @@ fn write_next(
 /// Carries out one statement, and answers what it is counted for. Where it is refused, nothing is changed.
 fn write_one(
     alloc: Global,
-    collections: &mut Collections,
+    catalog: &mut Catalog,
     terms: &Terms,
     entry: &Document,
 ) -> Result<Counted, Refusal>
-    ensures { Makes (λ counted. counted) (string_bytes terms.now.namespace) (statement_of terms.now.kind entry.now) collections.old result collections.new }
+    requires { is_view (string_bytes terms.now.namespace) catalog.old.views ≡ false }
+    ensures makes { Makes (λ counted. counted) (string_bytes terms.now.namespace) (statement_of terms.now.kind entry.now) catalog.old.namespaces result catalog.new.namespaces }
+    ensures views { catalog.new.views ≡ catalog.old.views }
 {
     match terms.kind {
         Kind::Insert => {
-            collections.insert(&terms.namespace, storable(alloc, entry)?)?;
+            catalog.insert(&terms.namespace, storable(alloc, entry)?)?;
             Ok(Counted {
                 matched: 1,
                 changed: 1,
             })
         }
-        Kind::Update => collections.update(&terms.namespace, &updating_of(alloc, entry)?),
-        Kind::Delete => collections.delete(&terms.namespace, &deletion_of(alloc, entry)?),
+        Kind::Update => catalog.update(&terms.namespace, &updating_of(alloc, entry)?),
+        Kind::Delete => catalog.delete(&terms.namespace, &deletion_of(alloc, entry)?),
     }
 }

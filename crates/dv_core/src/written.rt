@@ -2,10 +2,10 @@
 
 ghost use Rattle.std.specs.Prelude.{◌*◌, ◌≤◌, ◌^◌};
 
-use crate::counted::Counted;
 use crate::kind::Kind;
 use crate::next::{Next, error_of, next_behind};
 use dv_bson::{Document, NoMemory, Value};
+use dv_catalog::Counted;
 use dv_command::Refusal;
 use dv_command::replies::{update_reply, write_reply};
 use std::alloc::Global;
@@ -26,7 +26,7 @@ pub(crate) struct Written {
 impl Written {
     ghost use Rattle.std.specs.Prelude.{◌≡◌, ◌<◌, IfOk, map};
     ghost use Rattle.dv_command.specs.Asked.{statement_limit};
-    ghost use Rattle.dv_core.specs.State.{Namespaces};
+    ghost use Rattle.dv_catalog.specs.State.{Namespaces};
     ghost use Rattle.dv_core.specs.Statements.{nothing_written};
     ghost use Rattle.dv_core.specs.WriteParts.{written_seen, with_counted, Notes};
     ghost use Rattle.dv_core.specs.WritesView.{reply_by};

@@ -1,4 +1,5 @@
-use Rattle.dv_core.proofs.Changed.{others_leave, refused_leave}
+use Rattle.dv_core.proofs.Changed.{others_leave, refused_leave, views_stay}
+use Rattle.dv_core.proofs.Made.{create_leaves, drop_leaves}
 use Rattle.dv_core.proofs.laws.only_writes_change_documents.Goals as goal
 
 pub returns-clause-others : goal.returns-clause-others
@@ -6,3 +7,12 @@ returns-clause-others c = others_leave
 
 pub returns-clause-refused : goal.returns-clause-refused
 returns-clause-refused c = refused_leave
+
+pub returns-clause-views : goal.returns-clause-views
+returns-clause-views c = views_stay
+
+pub returns-clause-created : goal.returns-clause-created
+returns-clause-created c = create_leaves
+
+pub returns-clause-dropped : goal.returns-clause-dropped
+returns-clause-dropped c = drop_leaves

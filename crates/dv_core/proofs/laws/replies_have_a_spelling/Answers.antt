@@ -1,8 +1,11 @@
-use Rattle.dv_core.proofs.Spelled.{refusal_spelled, replies_spelled}
+use Rattle.dv_core.proofs.Spelled.{collections_show_valid, refusal_spelled, replies_spelled}
 use Rattle.dv_core.proofs.laws.replies_have_a_spelling.Goals as goal
 
 pub returns-clause-answered : goal.returns-clause-answered
 returns-clause-answered c = replies_spelled c.what_is_asked_is_sound.ensures c.a_count_has_a_spelling.ensures
+
+pub returns-clause-shown : goal.returns-clause-shown
+returns-clause-shown c = collections_show_valid
 
 pub returns-clause-refused : goal.returns-clause-refused
 returns-clause-refused c = refusal_spelled

@@ -1,4 +1,4 @@
-use Rattle.std.proofs.Common.{ap, arith, List, map, length, ◌≡◌, refl}
+use Rattle.std.proofs.Common.{ap, arith, List, map, length, ◌≡◌, ◌∙◌, refl}
 use Rattle.dv_bson.specs.Tree.{Field}
 use Rattle.std.proofs.lemmas.Result.{err_from_is_err_and}
 use Rattle.std.specs.String.{string_bytes}
@@ -11,12 +11,13 @@ use Rattle.dv_core.proofs.writes.write_each.Goals.{in-None, in-Some+in_ok-write_
 
 pub entries-init : goal.entries-init
 entries-init c =
-    let nothing = c.new-written.ensures c.args.collections.now in
+    let nothing = c.new-written.ensures c.args.catalog.now.namespaces in
     let all = c.into_iter-entry-iterator.ensures.into_iter_gives in
     let terms = c.args.terms.now in
     record {
-      reached = rw (nothing, all) (starts (string_bytes terms.namespace) terms.ordered (map (statement_of terms.kind) c.args.entries) c.args.collections.now);
-      room = rw all (omega (arith, c.requires, ap (λ (w : Written). w.statements) nothing));
+      reached = rw (nothing, all) (starts (string_bytes terms.namespace) terms.ordered (map (statement_of terms.kind) c.args.entries) c.args.catalog.now.namespaces);
+      same = refl;
+      room = rw all (omega (arith, c.requires.few, ap (λ (w : Written). w.statements) nothing));
     }
 
 pub entries-preserved : goal.entries-preserved
@@ -27,56 +28,57 @@ entries-preserved c =
     let room = ap (λ (es : List (List Field)). length es) c.in-Some.ensures.steps in
     record {
       reached = due_behind _ _ _ _ _ _ _ here _ next;
+      same = c.in_ok-write_next.ensures.views ∙ c.entries.invariant.same;
       room = omega (arith, counted, room, c.entries.invariant.room);
     }
 
-pub returns-in_err-write_next : goal.returns-in_err-write_next
-returns-in_err-write_next c =
+pub returns-in_err-write_next-clause-writes : goal.returns-in_err-write_next-clause-writes
+returns-in_err-write_next-clause-writes c =
     let p = err_from_is_err_and c.from_residual.result c.from_residual.ensures.1 in
     let here = rw c.in-Some.ensures.steps at c.entries.invariant.reached in
     let cuts = c.in_err-write_next.ensures.step in
-    rw p.1 (cut_untold (write_seen c.args.terms.now c.args.entries) c.args.collections.now cuts.0 _ (cut_here _ _ _ _ _ _ _ here cuts.0 cuts.1) cuts.2)
+    rw p.1 (cut_untold (write_seen c.args.terms.now c.args.entries) c.args.catalog.now.namespaces cuts.0 _ (cut_here _ _ _ _ _ _ _ here cuts.0 cuts.1) cuts.2)
 
-pub returns-in_err-reply-in-Cut : goal.returns-in_err-reply-in-Cut
-returns-in_err-reply-in-Cut c =
+pub returns-in_err-reply-in-Cut-clause-writes : goal.returns-in_err-reply-in-Cut-clause-writes
+returns-in_err-reply-in-Cut-clause-writes c =
     let p = err_from_is_err_and c.from_residual-in_err-reply-in-Cut.result c.from_residual-in_err-reply-in-Cut.ensures.1 in
     let here = rw c.in-Some.ensures.steps at c.entries.invariant.reached in
     let cuts = rw c.in-Cut.is at c.in_ok-write_next.ensures.step in
-    rw p.1 (cut_untold (write_seen c.args.terms.now c.args.entries) c.args.collections.now (written_seen c.write_next.new.written c.write_next.new.collections) _ (cut_here _ _ _ _ _ _ _ here _ cuts) refl)
+    rw p.1 (cut_untold (write_seen c.args.terms.now c.args.entries) c.args.catalog.now.namespaces (written_seen c.write_next.new.written c.write_next.new.catalog.namespaces) _ (cut_here _ _ _ _ _ _ _ here _ cuts) refl)
 
-pub returns-in-Cut : goal.returns-in-Cut
-returns-in-Cut c =
+pub returns-in-Cut-clause-writes : goal.returns-in-Cut-clause-writes
+returns-in-Cut-clause-writes c =
     let here = rw c.in-Some.ensures.steps at c.entries.invariant.reached in
     let cuts = rw c.in-Cut.is at c.in_ok-write_next.ensures.step in
-    cut_replied (write_seen c.args.terms.now c.args.entries) c.args.collections.now (written_seen c.write_next.new.written c.write_next.new.collections) _ (cut_here _ _ _ _ _ _ _ here _ cuts) c.in_ok-reply-in-Cut.ensures
+    cut_replied (write_seen c.args.terms.now c.args.entries) c.args.catalog.now.namespaces (written_seen c.write_next.new.written c.write_next.new.catalog.namespaces) _ (cut_here _ _ _ _ _ _ _ here _ cuts) c.in_ok-reply-in-Cut.ensures
 
-pub returns-in_err-reply : goal.returns-in_err-reply
-returns-in_err-reply c =
+pub returns-in_err-reply-clause-writes : goal.returns-in_err-reply-clause-writes
+returns-in_err-reply-clause-writes c =
     let p = err_from_is_err_and c.from_residual-in_err-reply.result c.from_residual-in_err-reply.ensures.1 in
     let write = write_seen c.args.terms.now c.args.entries in
-    let all : written_seen c.match-next.written c.match-next.collections ≡ carry_out write c.args.collections.now =
+    let all : written_seen c.match-next.written c.match-next.catalog.namespaces ≡ carry_out write c.args.catalog.now.namespaces =
     elim c.match-next.branch [
       | in-None w ↦
           let here = rw w.in-None.ensures.steps.0 at c.entries.invariant.reached in
-          rw (w.written-is, w.collections-is) (at_end _ _ _ _ _ here)
+          rw (w.written-is, w.catalog-is) (at_end _ _ _ _ _ here)
       | in-Some+in_ok-write_next+in-Ended w ↦
           let here = rw w.in-Some.ensures.steps at c.entries.invariant.reached in
           let next = rw w.in-Ended.is at w.in_ok-write_next.ensures.step in
-          rw (w.written-is, w.collections-is) (ends _ _ _ _ _ _ _ here _ next)
+          rw (w.written-is, w.catalog-is) (ends _ _ _ _ _ _ _ here _ next)
     ] in
-    rw p.1 (done_untold write c.args.collections.now (written_seen c.match-next.written c.match-next.collections) all)
+    rw p.1 (done_untold write c.args.catalog.now.namespaces (written_seen c.match-next.written c.match-next.catalog.namespaces) all)
 
-pub returns : goal.returns
-returns c =
+pub returns-clause-writes : goal.returns-clause-writes
+returns-clause-writes c =
     let write = write_seen c.args.terms.now c.args.entries in
-    let all : written_seen c.match-next.written c.match-next.collections ≡ carry_out write c.args.collections.now =
+    let all : written_seen c.match-next.written c.match-next.catalog.namespaces ≡ carry_out write c.args.catalog.now.namespaces =
     elim c.match-next.branch [
       | in-None w ↦
           let here = rw w.in-None.ensures.steps.0 at c.entries.invariant.reached in
-          rw (w.written-is, w.collections-is) (at_end _ _ _ _ _ here)
+          rw (w.written-is, w.catalog-is) (at_end _ _ _ _ _ here)
       | in-Some+in_ok-write_next+in-Ended w ↦
           let here = rw w.in-Some.ensures.steps at c.entries.invariant.reached in
           let next = rw w.in-Ended.is at w.in_ok-write_next.ensures.step in
-          rw (w.written-is, w.collections-is) (ends _ _ _ _ _ _ _ here _ next)
+          rw (w.written-is, w.catalog-is) (ends _ _ _ _ _ _ _ here _ next)
     ] in
-    done_replied write c.args.collections.now (written_seen c.match-next.written c.match-next.collections) _ all c.in_ok-reply.ensures
+    done_replied write c.args.catalog.now.namespaces (written_seen c.match-next.written c.match-next.catalog.namespaces) _ all c.in_ok-reply.ensures

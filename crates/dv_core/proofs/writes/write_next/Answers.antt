@@ -1,31 +1,27 @@
 use Rattle.std.proofs.Common.{ℕ, suc, ◌+◌, ap, refl, sym, ◌∙◌}
 use Rattle.std.specs.String.{string_bytes}
 use Rattle.dv_core.specs.WriteParts.{written_seen, with_counted}
-use Rattle.dv_core.specs.Changes.{apply}
-use Rattle.dv_core.specs.State.{Namespaces}
+use Rattle.dv_catalog.specs.Changes.{apply}
+use Rattle.dv_catalog.specs.State.{Namespaces}
 use Rattle.dv_core.specs.WritesView.{statement_of}
 use Rattle.dv_core.proofs.Statements.{next_made, next_noted}
 use Rattle.dv_core.proofs.writes.write_next.Goals as goal
 
-pub returns-in-Ok : goal.returns-in-Ok
-returns-in-Ok c =
+pub returns-in-Ok-clause-step : goal.returns-in-Ok-clause-step
+returns-in-Ok-clause-step c =
     let terms = c.args.terms.now in
-    let (changes, made, many, leaves) = c.in-Ok.ensures in
+    let (changes, made, many, leaves) = c.in-Ok.ensures.makes in
     let old = c.args.written.now in
-    let stands = c.count.ensures c.write_one.new.collections ∙ ap (λ (ns : Namespaces). with_counted (written_seen old ns) c.in-Ok.counted) leaves
-    ∙ ap (λ (n : ℕ). record (written_seen old (apply (string_bytes terms.namespace) changes c.args.collections.now)) { statements = suc old.statements; n = old.n + c.in-Ok.counted.matched; changed = old.changed + n }) (sym many) in
-    record {
-      step = next_made (string_bytes terms.namespace) terms.ordered (written_seen c.args.written.now c.args.collections.now)
-          (written_seen c.count.new.self c.write_one.new.collections) (statement_of terms.kind c.args.entry.now) c.in-Ok.counted.matched changes c.requires.due made stands;
-    }
+    let stands = c.count.ensures c.write_one.new.catalog.namespaces ∙ ap (λ (ns : Namespaces). with_counted (written_seen old ns) c.in-Ok.counted) leaves
+    ∙ ap (λ (n : ℕ). record (written_seen old (apply (string_bytes terms.namespace) changes c.args.catalog.now.namespaces)) { statements = suc old.statements; n = old.n + c.in-Ok.counted.matched; changed = old.changed + n }) (sym many) in
+    next_made (string_bytes terms.namespace) terms.ordered (written_seen c.args.written.now c.args.catalog.now.namespaces)
+    (written_seen c.count.new.self c.write_one.new.catalog.namespaces) (statement_of terms.kind c.args.entry.now) c.in-Ok.counted.matched changes c.requires.due made stands
 
-pub returns-in-Err : goal.returns-in-Err
-returns-in-Err c =
+pub returns-in-Err-clause-step : goal.returns-in-Err-clause-step
+returns-in-Err-clause-step c =
     let terms = c.args.terms.now in
-    record {
-      step = next_noted (string_bytes terms.namespace) terms.ordered (written_seen c.args.written.now c.args.collections.now) (statement_of terms.kind c.args.entry.now)
-          (written_seen c.note.new.self) c.in-Err.refusal c.requires.due c.in-Err.ensures.0 c.note.result (c.note.ensures c.args.collections.now) (λ ns. refl) c.write_one.new.collections c.in-Err.ensures.1;
-    }
+    next_noted (string_bytes terms.namespace) terms.ordered (written_seen c.args.written.now c.args.catalog.now.namespaces) (statement_of terms.kind c.args.entry.now)
+    (written_seen c.note.new.self) c.in-Err.refusal c.requires.due c.in-Err.ensures.makes.0 c.note.result (c.note.ensures c.args.catalog.now.namespaces) (λ ns. refl) c.write_one.new.catalog.namespaces c.in-Err.ensures.makes.1
 
 pub note-requires : goal.note-requires
 note-requires c = c.requires.room

@@ -1,0 +1,113 @@
+-- Documents that are deleted.
+use Rattle.std.proofs.Common.{◌≡◌, ℕ, Bool, true, false, cond, not, List, [], ◌∷◌, drop, length, map, Option, Some, None, is_some, Ok, refl, sym, ap, subst, ◌∙◌, arith}
+use Rattle.std.proofs.lemmas.List.{length-map}
+use Rattle.std.specs.List.{AllByRecursion}
+use Rattle.std.specs.List.Sorted.{IsStrictlySortedBy}
+use Rattle.std.specs.Ordering.{is_eq}
+use Rattle.std.specs.declared.cmp.Ordering.{Ordering}
+use Rattle.std.specs.declared.cmp.Ordering.TheVariants.{Less}
+use Rattle.dv_bson.specs.Tree.{Field}
+use Rattle.dv_coll.specs.Collection.{HasId, IsAscending, id_key, found, has_key, removed}
+use Rattle.dv_command.specs.Entries.{Deletion}
+use Rattle.dv_match.specs.Filter.{Members}
+use Rattle.dv_match.specs.Match.{matches}
+use Rattle.dv_order.specs.Key.{KeyTree, key_order}
+use Rattle.dv_catalog.specs.Changes.{Change, gone, with_changes}
+use Rattle.dv_catalog.specs.Effects.{all_or_first, without, delete_chosen}
+use Rattle.dv_catalog.specs.EffectView.{ArePlaced}
+use Rattle.dv_catalog.specs.EffectLaws.{chosen_good, matching_good}
+use Rattle.dv_catalog.specs.Scan.{matching, limited}
+use Rattle.dv_catalog.proofs.Keys.{all_there, own_key, AreThere, AreBefore, before_matching}
+
+none_chosen : (first : Bool) → all_or_first first [] ≡ []
+none_chosen false = refl
+none_chosen true = refl
+
+-- no document is deleted where there is none
+pub delete_none : (deletion : Deletion) → delete_chosen deletion [] ≡ Ok (record { matched = 0; changes = [] })
+delete_none deletion = ap (λ (ds : List (List Field)). Ok (without ds)) (none_chosen deletion.only_first)
+
+-- a limit of 1 is the first, one of 0 is all
+limit_chosen : (first : Bool) (ds : List (List Field)) → limited (cond first 1 0) (drop 0 ds) ≡ all_or_first first ds
+limit_chosen true ds = refl
+limit_chosen false ds = refl
+
+all_gone : (ds : List (List Field)) → map gone (map id_key ds) ≡ map (λ d. gone (id_key d)) ds
+all_gone [] = refl
+all_gone (d ∷ ds) = ap (λ (rest : List Change). gone (id_key d) ∷ rest) (all_gone ds)
+
+-- ---- those that go are there, each when its turn comes
+
+abbrev pub NoLongerFound : Type 0
+NoLongerFound = (k l : KeyTree) (ds : List (List Field)) → found l (removed k ds) ≡ cond (is_eq (key_order k l)) None (found l ds)
+
+behind_less : (o : Ordering) (there : Option (List Field)) → o ≡ Less → is_some there ≡ true → is_some (cond (is_eq o) None there) ≡ true
+behind_less o there less is = rw less is
+
+left_there : NoLongerFound → (k : KeyTree) (documents others : List (List Field)) → AllByRecursion (λ e. key_order k (id_key e) ≡ Less) others → AreThere documents others → AreThere (removed k documents) others
+left_there law k documents [] behind there = tt
+left_there law k documents (e ∷ es) behind there = (
+  ap is_some (law k (id_key e) documents) ∙ behind_less (key_order k (id_key e)) (found (id_key e) documents) behind.0 there.0,
+  left_there law k documents es behind.1 there.1,
+)
+
+pub gone_placed : NoLongerFound → (documents others : List (List Field)) → AreBefore others → AreThere documents others → ArePlaced documents (map gone (map id_key others))
+gone_placed law documents [] before there = tt
+gone_placed law documents (d ∷ ds) before there = (there.0, gone_placed law (removed (id_key d) documents) ds before.1 (left_there law (id_key d) documents ds before.0 there.1))
+
+-- ---- a deletion
+
+chosen_before : (first : Bool) (ds : List (List Field)) → AreBefore ds → AreBefore (all_or_first first ds)
+chosen_before false ds before = before
+chosen_before true [] before = tt
+chosen_before true (d ∷ ds) before = (tt, tt)
+
+module _ (deletion : Deletion) (old ds : List (List Field)) where
+  abbrev Finds : ℕ → Type 0
+  Finds limit = ds ≡ limited limit (drop 0 (matching deletion.filter old))
+
+  chosen : (limit : ℕ) → limit ≡ cond deletion.only_first 1 0 → Finds limit → ds ≡ all_or_first deletion.only_first (matching deletion.filter old)
+  chosen limit limits finds = finds ∙ ap (λ (n : ℕ). limited n (drop 0 (matching deletion.filter old))) limits ∙ limit_chosen deletion.only_first (matching deletion.filter old)
+
+  pub deletes_identified : (limit : ℕ) → limit ≡ cond deletion.only_first 1 0 → Finds limit → AllByRecursion HasId old → AllByRecursion HasId ds
+  deletes_identified limit limits finds all =
+      let rows = matching deletion.filter old in
+      subst (AllByRecursion HasId) (sym (chosen limit limits finds)) (chosen_good HasId deletion.only_first rows (matching_good HasId deletion.filter old all))
+
+  module _ (keys : List KeyTree) (limit : ℕ) (limits : limit ≡ cond deletion.only_first 1 0) (finds : Finds limit) (keyed : keys ≡ map id_key ds) where
+    pub deletes : (count : ℕ) → count ≡ length ds → delete_chosen deletion old ≡ Ok (record { matched = count; changes = map gone keys })
+    deletes count many =
+        let goes : map (λ d. gone (id_key d)) ds ≡ map gone keys = sym (all_gone ds) ∙ ap (map gone) (sym keyed) in
+        ap (λ (es : List (List Field)). Ok (without es)) (sym (chosen limit limits finds)) ∙ (λ i. Ok (record { matched = sym many i; changes = goes i }))
+
+    pub deletes_placed : NoLongerFound → AreBefore old → ArePlaced old (map gone keys)
+    deletes_placed law before =
+        let first = deletion.only_first in
+        let rows = matching deletion.filter old in
+        let are = chosen limit limits finds in
+        let before_chosen : AreBefore ds = subst AreBefore (sym are) (chosen_before first rows (before_matching deletion.filter old before)) in
+        let there : AreThere old ds =
+        subst (λ (es : List (List Field)). AreThere old es) (sym are)
+        (chosen_good (λ d. is_some (found (id_key d) old) ≡ true) first rows (matching_good (λ d. is_some (found (id_key d) old) ≡ true) deletion.filter old (all_there old))) in
+        subst (λ (ks : List KeyTree). ArePlaced old (map gone ks)) (sym keyed) (gone_placed law old ds before_chosen there)
+
+-- ---- all go
+
+kept : (b : Bool) (d : List Field) (ds : List (List Field)) → b ≡ false → cond b (d ∷ ds) ds ≡ ds
+kept true d ds is = absurd cc
+kept false d ds is = refl
+
+kept_others : (k : KeyTree) (ds : List (List Field)) → AllByRecursion (λ e. key_order k (id_key e) ≡ Less) ds → removed k ds ≡ ds
+kept_others k [] behind = refl
+kept_others k (d ∷ ds) behind =
+    ap (λ (o : Ordering). cond (not (is_eq o)) (d ∷ removed k ds) (removed k ds)) behind.0 ∙ ap (λ (rest : List (List Field)). d ∷ rest) (kept_others k ds behind.1)
+
+removed_first : (d : List Field) (ds : List (List Field)) → AllByRecursion (λ e. key_order (id_key d) (id_key e) ≡ Less) ds → removed (id_key d) (d ∷ ds) ≡ ds
+removed_first d ds behind = kept (not (has_key (id_key d) d)) d (removed (id_key d) ds) (ap not (own_key d)) ∙ kept_others (id_key d) ds behind
+
+pub all_go : (ds : List (List Field)) → AreBefore ds → with_changes ds (map (λ d. gone (id_key d)) ds) ≡ []
+all_go [] before = refl
+all_go (d ∷ ds) before = ap (λ (rest : List (List Field)). with_changes rest (map (λ e. gone (id_key e)) ds)) (removed_first d ds before.0) ∙ all_go ds before.1
+
+pub all_go_placed : NoLongerFound → (ds : List (List Field)) → AreBefore ds → ArePlaced ds (map (λ d. gone (id_key d)) ds)
+all_go_placed law ds before = subst (ArePlaced ds) (all_gone ds) (gone_placed law ds ds before (all_there ds))

@@ -1,0 +1,180 @@
+-- Views stay right over collections that change.
+use Rattle.std.proofs.Common.{◌≡◌, ◌⊎◌, inl, inr, ◌||◌, ℕ, Bool, true, false, cond, if◌then◌else◌, List, [], ◌∷◌, ◌++◌, map, Option, Some, None, is_some, Result, Ok, Err, refl, sym, ap, subst, ◌∙◌}
+use Rattle.std.proofs.lemmas.Slice.Eq.{bytes_eq-Decides}
+use Rattle.std.specs.FinMap as finite
+use Rattle.std.specs.List.{AllByRecursion, AllZip, list_any}
+use Rattle.std.specs.Str.{bytes_eq}
+use Rattle.dv_bson.specs.Tree.{Field}
+use Rattle.dv_flow.specs.declared.change.Change as flow
+use Rattle.dv_pipe.specs.Stages.{Lists}
+use Rattle.dv_views.specs.Changed.{AreAfterChange, AreMade, IsAfterChange, changed, with_changed}
+use Rattle.dv_views.specs.Views.{AreRight, View, Views}
+use Rattle.dv_views.specs.Views as views
+use Rattle.dv_catalog.specs.CatalogParts.{IsKept, form_of}
+use Rattle.dv_catalog.specs.Changes.{Change, Effect, put, gone, apply, changes_of, with_change, with_changes}
+use Rattle.dv_catalog.specs.EffectView.{AreAble, ArePlaced, BeginsWithId, IsAble, IsPlaced}
+use Rattle.dv_catalog.specs.Effects.{put_new}
+use Rattle.dv_coll.specs.Collection.{found, id_key}
+use Rattle.dv_command.specs.declared.refusal.Refusal.{Refusal}
+use Rattle.dv_command.specs.declared.refusal.Refusal.TheVariants.{DuplicateKey}
+use Rattle.dv_catalog.specs.State.{AreOrdered, Namespaces, Standing, State, ViewForm, collection, collection_at, documents_of, with_documents, has_name, is_collection, is_view, lists_of}
+use Rattle.dv_catalog.specs.StateLaws.{get-insert, get-remove}
+use Rattle.dv_catalog.specs.Told.{told}
+use Rattle.dv_catalog.specs.Views.{reads_name}
+
+-- ---- views and their forms
+
+pub reads_forms : (registry : Views) (name : List ℕ) → reads_name (map form_of registry) name ≡ views.reads_name registry name
+reads_forms [] name = refl
+reads_forms (v ∷ vs) name = ap (λ (b : Bool). views.reads v name || b) (reads_forms vs name)
+
+pub view_forms : (registry : Views) (name : List ℕ) → is_view name (map form_of registry) ≡ views.has_view name registry
+view_forms [] name = refl
+view_forms (v ∷ vs) name = ap (λ (b : Bool). bytes_eq name v.name || b) (view_forms vs name)
+
+same_form : (namespace : List ℕ) (v w : View) → IsAfterChange namespace v w → form_of w ≡ form_of v
+same_form namespace v w after = λ i. record { name = after.name i; source = after.source i; stages = after.stages i }
+
+pub same_forms : (namespace : List ℕ) (before after : Views) → AreAfterChange namespace before after → map form_of after ≡ map form_of before
+same_forms namespace [] [] all = refl
+same_forms namespace [] (w ∷ ws) all = absurd all
+same_forms namespace (v ∷ vs) [] all = absurd all
+same_forms namespace (v ∷ vs) (w ∷ ws) all = λ i. same_form namespace v w all.0 i ∷ same_forms namespace vs ws all.1 i
+
+-- ---- what changes leave under each namespace
+
+is_same : (a b : List ℕ) → bytes_eq a b ≡ true → a ≡ b
+is_same a b e = (bytes_eq-Decides a b).0 e
+
+put_documents : (b : Bool) (documents : List (List Field)) (there : Option Standing) → (collection_at (cond b (Some (collection (record { documents = documents }))) there)).documents ≡ cond b documents (collection_at there).documents
+put_documents true documents there = refl
+put_documents false documents there = refl
+
+own_documents : (b : Bool) (old : Namespaces) (namespace name : List ℕ) → bytes_eq namespace name ≡ b → documents_of name old ≡ cond b (documents_of namespace old) (documents_of name old)
+own_documents true old namespace name e = ap (λ (n : List ℕ). documents_of n old) (sym (is_same namespace name e))
+own_documents false old namespace name e = refl
+
+pub documents_after : (old : Namespaces) (namespace : List ℕ) (changes : List Change) (name : List ℕ) → documents_of name (apply namespace changes old) ≡ cond (bytes_eq namespace name) (with_changes (documents_of namespace old) changes) (documents_of name old)
+documents_after old namespace [] name = own_documents (bytes_eq namespace name) old namespace name refl
+documents_after old namespace (change ∷ changes) name =
+    let documents = with_changes (documents_of namespace old) (change ∷ changes) in
+    ap (λ (there : Option Standing). (collection_at there).documents) (get-insert old namespace (collection (record { documents = documents })) name) ∙ put_documents (bytes_eq namespace name) documents (finite.get old name)
+
+there_after : (b : Bool) (s : Standing) (there : Option Standing) → is_some (cond b (Some s) there) ≡ true → (b ≡ true) ⊎ (is_some there ≡ true)
+there_after true s there e = inl refl
+there_after false s there e = inr e
+
+put_there : (old : Namespaces) (namespace : List ℕ) (documents : List (List Field)) (name : List ℕ) → is_collection name (with_documents namespace documents old) ≡ true → (bytes_eq namespace name ≡ true) ⊎ (is_collection name old ≡ true)
+put_there old namespace documents name e =
+    there_after (bytes_eq namespace name) (collection (record { documents = documents })) (finite.get old name)
+    (ap is_some (sym (get-insert old namespace (collection (record { documents = documents })) name)) ∙ e)
+
+pub collections_after : (old : Namespaces) (namespace : List ℕ) (changes : List Change) (name : List ℕ) → is_collection name (apply namespace changes old) ≡ true → (bytes_eq namespace name ≡ true) ⊎ (is_collection name old ≡ true)
+collections_after old namespace [] name e = inr e
+collections_after old namespace (change ∷ changes) name e = put_there old namespace (with_changes (documents_of namespace old) (change ∷ changes)) name e
+
+-- ---- what is placed can be told
+
+able_placed : (documents : List (List Field)) (change : Change) → IsPlaced documents change → IsAble documents change
+able_placed documents change placed = by_kind change placed
+  where
+    by_kind : (c : Change) → IsPlaced documents c → IsAble documents c
+    by_kind (put d) placed = placed.0
+    by_kind (gone k) placed = placed
+
+pub all_able : (documents : List (List Field)) (changes : List Change) → ArePlaced documents changes → AreAble documents changes
+all_able documents [] placed = tt
+all_able documents (change ∷ changes) placed = (able_placed documents change placed.0, all_able (with_change documents change) changes placed.1)
+
+-- ---- after changes
+
+abbrev pub MadeAsTold : Type 0
+MadeAsTold = (documents : List (List Field)) (changes : List Change) → AreOrdered documents → AreAble documents changes → AreMade (map told changes) documents × (changed (map told changes) documents ≡ with_changes documents changes)
+
+abbrev pub UnreadIsNoMatter : Type 0
+UnreadIsNoMatter = (registry : Views) (lists others : Lists) → ((name : List ℕ) → views.reads_name registry name ≡ true → lists name ≡ others name) → AreRight lists registry → AreRight others registry
+
+-- the changes as they are told to views, or nothing, where no view reads the namespace
+abbrev pub AreTold : List ℕ → Views → List Change → List flow.Change → Type 0
+AreTold namespace registry changes tell = (tell ≡ map told changes) ⊎ ((tell ≡ []) × (views.reads_name registry namespace ≡ false))
+
+abbrev pub StaysRight : List ℕ → List flow.Change → Views → Views → Type 0
+StaysRight namespace tell before after = (lists : Lists) → AreMade tell (lists namespace) → AreRight lists before → AreRight (with_changed namespace tell lists) after
+
+module _ (made : MadeAsTold) (unread : UnreadIsNoMatter) (old new : Namespaces) (before after : Views) (namespace : List ℕ) (changes : List Change) (tell : List flow.Change) (kept : IsKept old before)
+    (ordered : AreOrdered (documents_of namespace old)) (able : AreAble (documents_of namespace old) changes)
+    (documents : (name : List ℕ) → documents_of name new ≡ cond (bytes_eq namespace name) (with_changes (documents_of namespace old) changes) (documents_of name old)) (are : AreTold namespace before changes tell)
+    (right : StaysRight namespace tell before after) (others : AreAfterChange namespace before after) where
+  told_lists : (b : Bool) (name : List ℕ) → bytes_eq namespace name ≡ b → changed (map told changes) (documents_of namespace old) ≡ with_changes (documents_of namespace old) changes
+      → (if b then changed (map told changes) (documents_of name old) else documents_of name old) ≡ cond b (with_changes (documents_of namespace old) changes) (documents_of name old)
+  told_lists true name e is = ap (λ (n : List ℕ). changed (map told changes) (documents_of n old)) (sym (is_same namespace name e)) ∙ is
+  told_lists false name e is = refl
+
+  right_told : tell ≡ map told changes → AreRight (lists_of new) after
+  right_told is =
+      let both = made (documents_of namespace old) changes ordered able in
+      let stays : AreRight (with_changed namespace tell (lists_of old)) after = right (lists_of old) (subst (λ (cs : List flow.Change). AreMade cs (documents_of namespace old)) (sym is) both.0) kept.right in
+      let lists : with_changed namespace tell (lists_of old) ≡ lists_of new =
+      ap (λ (cs : List flow.Change). with_changed namespace cs (lists_of old)) is ∙ (λ i name. (told_lists (bytes_eq namespace name) name refl both.1 ∙ sym (documents name)) i) in
+      subst (λ (lists : Lists). AreRight lists after) lists stays
+
+  nothing_told : (b : Bool) (name : List ℕ) → bytes_eq namespace name ≡ b → views.reads_name before namespace ≡ false → views.reads_name after name ≡ true
+      → changed [] (documents_of namespace old) ≡ documents_of namespace old
+      → (if b then changed [] (documents_of name old) else documents_of name old) ≡ cond b (with_changes (documents_of namespace old) changes) (documents_of name old)
+  nothing_told true name e not_read read is =
+      let same : views.reads_name after name ≡ views.reads_name before name = sym (reads_forms after name) ∙ ap (λ (forms : List ViewForm). reads_name forms name) (same_forms namespace before after others) ∙ reads_forms before name in
+      let here : views.reads_name before name ≡ false = subst (λ (n : List ℕ). views.reads_name before n ≡ false) (is_same namespace name e) not_read in
+      absurd (cc (same, here, read))
+  nothing_told false name e not_read read is = refl
+
+  right_unread : tell ≡ [] → views.reads_name before namespace ≡ false → AreRight (lists_of new) after
+  right_unread is not_read =
+      let nothing = made (documents_of namespace old) [] ordered tt in
+      let stays : AreRight (with_changed namespace [] (lists_of old)) after =
+      subst (λ (cs : List flow.Change). AreRight (with_changed namespace cs (lists_of old)) after) is (right (lists_of old) (subst (λ (cs : List flow.Change). AreMade cs (documents_of namespace old)) (sym is) nothing.0) kept.right) in
+      unread after (with_changed namespace [] (lists_of old)) (lists_of new) (λ name read. nothing_told (bytes_eq namespace name) name refl not_read read nothing.1 ∙ sym (documents name)) stays
+
+  pub right_after : AreRight (lists_of new) after
+  right_after = by_told are
+    where
+      by_told : AreTold namespace before changes tell → AreRight (lists_of new) after
+      by_told (inl is) = right_told is
+      by_told (inr (is, not_read)) = right_unread is not_read
+
+  apart_after : is_view namespace (map form_of before) ≡ false → ((name : List ℕ) → is_collection name new ≡ true → (bytes_eq namespace name ≡ true) ⊎ (is_collection name old ≡ true))
+      → (name : List ℕ) → is_view name (map form_of before) ≡ true → is_collection name new ≡ false
+  apart_after no_view collections name view = by_there (is_collection name new) refl
+    where
+      no : (bytes_eq namespace name ≡ true) ⊎ (is_collection name old ≡ true) → ⊥
+      no (inl e) = let none : is_view name (map form_of before) ≡ false = subst (λ (n : List ℕ). is_view n (map form_of before) ≡ false) (is_same namespace name e) no_view in cc
+      no (inr e) = cc (kept.apart name view, e)
+
+      by_there : (b : Bool) → is_collection name new ≡ b → b ≡ false
+      by_there true e = absurd (no (collections name e))
+      by_there false e = refl
+
+  pub kept_after : is_view namespace (map form_of before) ≡ false → ((name : List ℕ) → is_collection name new ≡ true → (bytes_eq namespace name ≡ true) ⊎ (is_collection name old ≡ true)) → IsKept new after
+  kept_after no_view collections =
+      let forms = same_forms namespace before after others in
+      record {
+        right = right_after;
+        apart = λ name view. apart_after no_view collections name (subst (λ (fs : List ViewForm). is_view name fs ≡ true) forms view);
+      }
+
+-- ---- what a statement is told as
+
+placed_begins : (documents : List (List Field)) (change : Change) → IsPlaced documents change → BeginsWithId change
+placed_begins documents (put d) placed = placed.0
+placed_begins documents (gone k) placed = tt
+
+pub all_begin : (documents : List (List Field)) (changes : List Change) → ArePlaced documents changes → AllByRecursion BeginsWithId changes
+all_begin documents [] placed = tt
+all_begin documents (change ∷ changes) placed = (placed_begins documents change placed.0, all_begin (with_change documents change) changes placed.1)
+
+-- a new document is one put
+pub new_put : (d : List Field) (documents : List (List Field)) (changes : List Change) → put_new d documents ≡ Ok (record { matched = 1; changes = changes }) → changes ≡ put d ∷ []
+new_put d documents changes is = by_found (is_some (found (id_key d) documents)) is
+  where
+    by_found : (b : Bool) → (let result : Result Effect Refusal = if b then Err DuplicateKey else Ok (record { matched = 1; changes = put d ∷ [] }) in result ≡ Ok (record { matched = 1; changes = changes })) → changes ≡ put d ∷ []
+    by_found true is = absurd cc
+    by_found false is = sym (ap changes_of is)

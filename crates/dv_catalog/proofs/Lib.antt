@@ -1,0 +1,12 @@
+mod Keys
+mod ByNamespace
+pub mod Scanned
+mod Deleted
+mod Updated
+mod Order
+pub mod ToldChanges
+mod Keeping
+mod Refreshed
+mod Sourced
+mod Making
+mod Kept

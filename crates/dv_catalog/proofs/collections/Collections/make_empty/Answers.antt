@@ -1,0 +1,8 @@
+use Rattle.std.specs.String.{string_bytes}
+use Rattle.dv_catalog.proofs.ByNamespace.{standing-insert}
+use Rattle.dv_catalog.proofs.collections.Collections.make_empty.Goals as goal
+
+pub returns-clause-ok : goal.returns-clause-ok
+returns-clause-ok c =
+    let with_none = standing-insert c.self.inside.collections c.insert.new.self (string_bytes c.in_ok-namespace.namespace) c.new.result c.in_ok-insert.ensures.updates in
+    rw (c.new.ensures, c.self.view_is, c.in_ok-namespace.ensures.ok) at with_none

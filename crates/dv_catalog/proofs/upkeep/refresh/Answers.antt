@@ -1,0 +1,29 @@
+use Rattle.std.proofs.Common.{◌≡◌, map, refl}
+use Rattle.dv_pipe.specs.Sources as pipes
+use Rattle.dv_views.specs.Views as views
+use Rattle.dv_catalog.specs.CatalogParts.{form_of}
+use Rattle.dv_catalog.specs.SourceParts.{AreFor}
+use Rattle.dv_catalog.specs.State.{documents_of, lists_of}
+use Rattle.dv_catalog.proofs.Refreshed.{anew_or_same, fresh_if_done, refresh_right, refreshed_forms, refreshed_fresh}
+use Rattle.dv_catalog.proofs.upkeep.refresh.Goals as goal
+
+pub returns-clause-right : goal.returns-clause-right
+returns-clause-right c = λ right.
+    let namespaces = c.args.collections.now in
+    let source = c.in-Some-Some.source.now in
+    let stages = c.in-Some-Some.pipeline.now in
+    let are : AreFor stages source (documents_of source namespaces) namespaces c.in_ok-sources.sources = rw (c.in_ok-rows.ensures, c.rows.ensures.documents) at c.in_ok-sources.ensures in
+    anew_or_same (views.AreRight (lists_of namespaces)) c.refresh.result c.refresh.new.self (views.refreshed c.args.name.now (pipes.lists_of c.in_ok-sources.sources) c.args.registry.now) c.args.registry.now c.refresh.ensures.ok c.refresh.ensures.err
+    (refresh_right c.what_is_not_read_does_not_matter.ensures namespaces c.in_ok-sources.sources c.args.name.now source stages c.args.registry.now c.len.ensures.named_apart c.in-Some-Some.ensures c.in-Some-Some.ensures' are right) right
+
+pub returns-clause-forms : goal.returns-clause-forms
+returns-clause-forms c =
+    let old = c.args.registry.now in
+    anew_or_same (λ (vs : views.Views). map form_of vs ≡ map form_of old) c.refresh.result c.refresh.new.self (views.refreshed c.args.name.now (pipes.lists_of c.in_ok-sources.sources) old) old c.refresh.ensures.ok c.refresh.ensures.err
+    (refreshed_forms c.args.name.now (pipes.lists_of c.in_ok-sources.sources) old) refl
+
+pub returns-clause-fresh : goal.returns-clause-fresh
+returns-clause-fresh c =
+    let old = c.args.registry.now in
+    fresh_if_done c.args.name.now c.refresh.result c.refresh.new.self (views.refreshed c.args.name.now (pipes.lists_of c.in_ok-sources.sources) old) c.refresh.ensures.ok
+    (refreshed_fresh c.args.name.now (pipes.lists_of c.in_ok-sources.sources) old)

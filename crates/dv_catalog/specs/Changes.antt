@@ -1,0 +1,44 @@
+-- What statements change: one document after the other.
+use Rattle.std.specs.Prelude.{ℕ, List, [], ◌∷◌, Result, Ok, Err, is_some, if◌then◌else◌}
+use Rattle.dv_bson.specs.Tree.{Field}
+use Rattle.dv_order.specs.Key.{KeyTree}
+use Rattle.dv_coll.specs.Collection.{id_key, found, inserted, removed, replaced}
+use Rattle.dv_command.specs.declared.refusal.Refusal.{Refusal}
+use Rattle.dv_catalog.specs.State.{Namespaces, documents_of, with_documents}
+
+-- a document put among the others, or the document under a key gone
+pub data Change : Type 0 where
+  put : List Field → Change
+  gone : KeyTree → Change
+
+-- a document in place of the one that has an equal `_id`, or where none has in a place of its own
+abbrev pub with_put : List Field → List (List Field) → List (List Field)
+with_put d documents = if is_some (found (id_key d) documents) then replaced d documents else inserted d documents
+
+abbrev pub with_change : List (List Field) → Change → List (List Field)
+with_change documents (put d) = with_put d documents
+with_change documents (gone k) = removed k documents
+
+abbrev pub with_changes : List (List Field) → List Change → List (List Field)
+with_changes documents [] = documents
+with_changes documents (change ∷ changes) = with_changes (with_change documents change) changes
+
+-- the documents of a namespace after these changes, one after the other; without any, all is left as it is, and no collection is made
+abbrev pub apply : List ℕ → List Change → Namespaces → Namespaces
+apply namespace [] namespaces = namespaces
+apply namespace (change ∷ changes) namespaces =
+    with_documents namespace (with_changes (documents_of namespace namespaces) (change ∷ changes)) namespaces
+
+-- what a statement does: how many documents it is counted for, and its changes in order
+pub record Effect : Type 0 where
+  pub matched : ℕ
+  pub changes : List Change
+
+-- none where the statement is refused
+abbrev pub changes_of : Result Effect Refusal → List Change
+changes_of (Ok effect) = effect.changes
+changes_of (Err refusal) = []
+
+-- a statement: what it does to the documents of a namespace, or why it is refused
+abbrev pub Statement : Type 0
+Statement = List (List Field) → Result Effect Refusal

@@ -1,0 +1,45 @@
+-- What the statements of a write do to documents, once they are parsed (MongoDB manual, "insert", "update", "delete").
+use Rattle.std.specs.Prelude.{Bool, true, false, not, List, [], ◌∷◌, length, map, take, Result, Ok, Err, is_some, if◌then◌else◌}
+use Rattle.dv_bson.specs.Tree.{Field, fields_of}
+use Rattle.dv_coll.specs.Collection.{id_key, found}
+use Rattle.dv_update.specs.Apply.{applied}
+use Rattle.dv_update.specs.Same.{same_fields}
+use Rattle.dv_update.specs.Update as form
+use Rattle.dv_command.specs.declared.refusal.Refusal.{Refusal}
+use Rattle.dv_command.specs.declared.refusal.Refusal.TheVariants.{DuplicateKey}
+use Rattle.dv_command.specs.Entries.{Deletion, Updating}
+use Rattle.dv_command.specs.Refusals.{◌>>=◌, refused_by, update_refusal}
+use Rattle.dv_catalog.specs.Changes.{Effect, Statement, gone, put}
+use Rattle.dv_catalog.specs.Scan.{matching}
+
+-- a document is put in its place; refused where one has an equal `_id`
+abbrev pub put_new : List Field → Statement
+put_new d documents = if is_some (found (id_key d) documents) then Err DuplicateKey else Ok (record { matched = 1; changes = put d ∷ [] })
+
+-- all documents, or the first alone
+abbrev pub all_or_first : Bool → List (List Field) → List (List Field)
+all_or_first false documents = documents
+all_or_first true documents = take 1 documents
+
+-- these documents go
+abbrev pub without : List (List Field) → Effect
+without documents = record { matched = length documents; changes = map (λ d. gone (id_key d)) documents }
+
+-- those that match go, all of them or the first in the order of the `_id`s
+abbrev pub delete_chosen : Deletion → Statement
+delete_chosen deletion documents = Ok (without (all_or_first deletion.only_first (matching deletion.filter documents)))
+
+-- what an update makes of a document, or why it is refused
+abbrev pub after : form.Update → List Field → Result (List Field) Refusal
+after update d = refused_by update_refusal (applied update d)
+
+-- what it makes of documents, in order, without those that stay as they are spelled; or the first refusal
+abbrev pub changed_by : form.Update → List (List Field) → Result (List (List Field)) Refusal
+changed_by update [] = Ok []
+changed_by update (d ∷ ds) = after update d >>= λ e. changed_by update ds >>= λ es. Ok (if same_fields (fields_of d) (fields_of e) then es else e ∷ es)
+
+-- those that match are updated, all of them or the first in the order of the `_id`s; all before the first is changed
+abbrev pub update_chosen : Updating → Statement
+update_chosen updating documents =
+    let chosen = all_or_first (not updating.multi) (matching updating.filter documents) in
+    changed_by updating.update chosen >>= λ changed. Ok (record { matched = length chosen; changes = map put changed })

@@ -1,0 +1,19 @@
+pub mod State
+pub mod Changes
+pub mod Scan
+pub mod Effects
+pub mod Views
+-- words that only bodies need
+pub mod StateCode
+pub mod View
+pub mod ScanParts
+pub mod Parts
+pub mod EffectView
+pub mod RowsView
+pub mod SourceParts
+pub mod Told
+pub mod CatalogParts
+-- facts that a crate above may cite
+pub mod StateLaws
+pub mod ScanLaws
+pub mod EffectLaws

@@ -1,0 +1,10 @@
+-- What stands in memory for rows.
+use Rattle.std.specs.Prelude.{List, []}
+use Rattle.dv_bson.specs.Tree.{Field}
+use Rattle.dv_catalog.specs.declared.rows.Origin.{Origin}
+use Rattle.dv_catalog.specs.declared.rows.Origin.TheVariants.{Nothing, Collection, View}
+
+abbrev pub rows : Origin → List (List Field)
+rows Nothing = []
+rows (Collection documents) = documents
+rows (View others) = others

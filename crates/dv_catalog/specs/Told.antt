@@ -1,0 +1,12 @@
+-- Changes of a collection as views are told of them.
+use Rattle.std.specs.Prelude.{[], ◌∷◌}
+use Rattle.dv_flow.specs.declared.change.Change as flow
+use Rattle.dv_flow.specs.declared.change.Change.TheVariants.{Put, Gone}
+use Rattle.dv_flow.specs.declared.position.Part.TheVariants.{Up}
+use Rattle.dv_coll.specs.Collection.{id_key}
+use Rattle.dv_catalog.specs.Changes.{Change, put, gone}
+
+-- a document stands under the key of its `_id`
+abbrev pub told : Change → flow.Change
+told (put d) = Put (Up (id_key d) ∷ []) d
+told (gone k) = Gone (Up k ∷ [])

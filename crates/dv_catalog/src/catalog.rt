@@ -1,0 +1,298 @@
+//! Collections and views together.
+
+ghost use Rattle.std.specs.Prelude.{◌≡◌};
+ghost use Rattle.dv_catalog.specs.CatalogParts.{view_refusal};
+
+use crate::collections::Collections;
+use crate::counted::Counted;
+use crate::delete::deleted;
+use crate::effect::Effect;
+use crate::laws::told_changes_are_made;
+use crate::scan::scan;
+use crate::sources::{references, sources_of};
+use crate::told::{each_gone, one_put, told};
+use crate::update::updated;
+use crate::upkeep::{looks_into_view, refresh, refresh_all, rows_in};
+use dv_bson::{Document, NoMemory};
+use dv_command::{Aggregate, Create, Deletion, Find, Refusal, Updating, ViewOn};
+use dv_pipe::evaluate;
+use dv_views::{Registry, ViewFault};
+use std::alloc::Global;
+use std::marker::Model;
+
+/// What a statement is counted for that does nothing.
+const NOTHING: Counted = Counted {
+    matched: 0,
+    changed: 0,
+};
+
+/// Collections, and views over them in the order in which they were made. Each view that isn't stale keeps the rows of
+/// its pipeline over the documents of the collections, as they are at this moment.
+#[derive(Debug, Drop)]
+pub struct Catalog {
+    alloc: Global,
+    collections: Collections,
+    views: Registry,
+}
+
+impl Model for Catalog {
+    ghost use Rattle.dv_catalog.specs.State.{State};
+    ghost use Rattle.dv_catalog.specs.StateCode.{coded_state};
+    ghost use Rattle.dv_catalog.specs.CatalogParts.{IsKept, state_of};
+
+    ghost Value = { State };
+
+    ghost coded = { coded_state };
+
+    ghost view = { λ c. state_of c.collections c.views };
+
+    ghost invariant = { λ c. IsKept c.collections c.views };
+}
+
+impl Catalog {
+    ghost use Rattle.std.specs.FinMap as finite;
+    ghost use Rattle.std.specs.Prelude.{◌≡◌, true, false, Some, IfOk, OnOk, OnErr, length};
+    ghost use Rattle.dv_coll.specs.Collection.{HasId};
+    ghost use Rattle.dv_command.specs.Refusals.{UnlessWanting};
+    ghost use Rattle.dv_command.specs.View.{aggregate_seen, create_seen, deletion_seen, find_seen, updating_seen, view_on_seen};
+    ghost use Rattle.dv_catalog.specs.Changes.{apply};
+    ghost use Rattle.dv_catalog.specs.Effects as effects;
+    ghost use Rattle.dv_catalog.specs.EffectView.{ArePlaced, changes_seen};
+    ghost use Rattle.dv_catalog.specs.Parts.{Leaves, Makes, one};
+    ghost use Rattle.dv_catalog.specs.Scan as scans;
+    ghost use Rattle.dv_catalog.specs.State.{AreOrdered, documents_of, empty_state, is_collection, is_there, is_view, rows_of};
+    ghost use Rattle.dv_catalog.specs.Views as making;
+
+    /// Nothing.
+    pub fn new(alloc: Global) -> Self
+        ensures { result ≡ empty_state }
+    {
+        Catalog {
+            alloc,
+            collections: Collections::new(alloc),
+            views: Registry::new(alloc),
+        }
+    }
+
+    /// Whether a view stands under the namespace. Takes no memory.
+    pub fn is_view(&self, namespace: &str) -> bool
+        ensures { result ≡ is_view namespace.now self.now.views }
+    {
+        self.views.has(namespace)
+    }
+
+    /// Puts a document into the collection of a namespace, which is made where it isn't there. Refused with
+    /// `DuplicateKey` where a document has an equal `_id`, and with `WantOfMemory`; then nothing is changed, and no
+    /// collection is made.
+    pub fn insert(&mut self, namespace: &str, document: Document) -> Result<(), Refusal>
+        requires identified { HasId document }
+        requires collection { is_view namespace.now self.old.views ≡ false }
+        ensures made { Makes (λ _. one) namespace.now (effects.put_new document) self.old.namespaces result self.new.namespaces }
+        ensures views { self.new.views ≡ self.old.views }
+    {
+        // Behind the change nothing may want memory.
+        let told = if self.views.is_read(namespace) {
+            one_put(self.alloc, &document)?
+        } else {
+            Vec::new(self.alloc)
+        };
+        told_changes_are_made();
+        dv_views::laws::what_is_not_read_does_not_matter();
+        self.collections.ordered(namespace);
+        self.collections.insert(namespace, document)?;
+        self.views.apply(namespace, &told);
+        Ok(())
+    }
+
+    /// Updates the documents of a namespace that an updating is for. Refused as the first of them is, and where memory is
+    /// wanting; then nothing is changed.
+    pub fn update(&mut self, namespace: &str, updating: &Updating) -> Result<Counted, Refusal>
+        requires { is_view namespace.now self.old.views ≡ false }
+        ensures made { Makes (λ counted. counted) namespace.now (effects.update_chosen (updating_seen updating.now)) self.old.namespaces result self.new.namespaces }
+        ensures views { self.new.views ≡ self.old.views }
+    {
+        let effect = match self.collections.get(namespace) {
+            Some(collection) => updated(self.alloc, collection, updating)?,
+            None => return Ok(NOTHING),
+        };
+        Ok(self.carry_out(namespace, effect)?)
+    }
+
+    /// Takes out the documents of a namespace that a deletion is for. Refused where memory is wanting; then nothing is
+    /// changed.
+    pub fn delete(&mut self, namespace: &str, deletion: &Deletion) -> Result<Counted, Refusal>
+        requires { is_view namespace.now self.old.views ≡ false }
+        ensures made { Makes (λ counted. counted) namespace.now (effects.delete_chosen (deletion_seen deletion.now)) self.old.namespaces result self.new.namespaces }
+        ensures views { self.new.views ≡ self.old.views }
+    {
+        let effect = match self.collections.get(namespace) {
+            Some(collection) => deleted(self.alloc, collection, deletion)?,
+            None => return Ok(NOTHING),
+        };
+        Ok(self.carry_out(namespace, effect)?)
+    }
+
+    /// Makes the changes of an effect, tells the views of them, and answers what the statement is counted for. Fails
+    /// where memory is wanting; then nothing is changed.
+    fn carry_out(&mut self, namespace: &str, effect: Effect) -> Result<Counted, NoMemory>
+        requires collection { is_view namespace.now self.old.views ≡ false }
+        requires ordered { AreOrdered (documents_of namespace.now self.old.namespaces) }
+        requires placed { ArePlaced (documents_of namespace.now self.old.namespaces) (changes_seen effect.changes) }
+        ensures counted { IfOk result (λ counted. counted ≡ record { matched = effect.matched; changed = length (changes_seen effect.changes) }) }
+        ensures made { OnOk result (self.new.namespaces ≡ apply namespace.now (changes_seen effect.changes) self.old.namespaces) }
+        ensures kept { OnErr result (self.new ≡ self.old) }
+        ensures views { self.new.views ≡ self.old.views }
+    {
+        let Effect { matched, changes } = effect;
+        // Behind the first change nothing may want memory.
+        let told = if self.views.is_read(namespace) {
+            told(self.alloc, &changes)?
+        } else {
+            Vec::new(self.alloc)
+        };
+        told_changes_are_made();
+        dv_views::laws::what_is_not_read_does_not_matter();
+        let changed = changes.len();
+        self.collections.make(namespace, changes);
+        self.views.apply(namespace, &told);
+        Ok(Counted { matched, changed })
+    }
+
+    /// Rebuilds the views that are stale, in the order in which they were made; one for which memory is wanting stays
+    /// so.
+    pub fn refresh(&mut self)
+        ensures { self.new ≡ self.old }
+    {
+        refresh_all(self.alloc, &self.collections, &mut self.views);
+    }
+
+    /// The rows under a namespace that a find is for, in its order. A stale view is rebuilt first. Fails where memory is
+    /// wanting.
+    pub fn find(&mut self, find: &Find) -> Result<Vec<Document>, NoMemory>
+        ensures same { self.new ≡ self.old }
+        ensures rows { let asked = find_seen find.now in
+            IfOk result (λ rows. rows.items ≡ scans.scan asked.filter asked.sort asked.skip asked.limit (rows_of asked.namespace self.old)) }
+    {
+        refresh(
+            self.alloc,
+            &self.collections,
+            &mut self.views,
+            &find.namespace,
+        )?;
+        scan(
+            self.alloc,
+            rows_in(&self.collections, &self.views, &find.namespace),
+            find,
+        )
+    }
+
+    /// The rows of a pipeline over what stands under a namespace. A stale view is rebuilt first. Refused with `OnView`
+    /// where the pipeline looks into a view, and where memory is wanting.
+    pub fn aggregate(&mut self, aggregate: &Aggregate) -> Result<Vec<Document>, Refusal>
+        ensures same { self.new ≡ self.old }
+        ensures rows { let asked = aggregate_seen aggregate.now in
+            UnlessWanting (λ rows. rows.items) (making.aggregated asked.stages asked.namespace self.old) result }
+    {
+        let Aggregate {
+            namespace,
+            pipeline,
+        } = aggregate;
+        if looks_into_view(self.alloc, &self.views, namespace, pipeline)? {
+            return Err(Refusal::OnView);
+        }
+        refresh(self.alloc, &self.collections, &mut self.views, namespace)?;
+        dv_pipe::laws::what_is_not_read_does_not_matter();
+        let rows = references(
+            self.alloc,
+            rows_in(&self.collections, &self.views, namespace),
+        )?;
+        let sources = sources_of(self.alloc, &self.collections, pipeline, namespace, rows)?;
+        Ok(evaluate(self.alloc, pipeline, namespace, &sources)?)
+    }
+
+    /// Makes a collection without documents, or a view, which has its rows from then on. Refused with `NamespaceExists`
+    /// where something stands under the namespace; then, for a view, with `OnView` where it would read a view, with
+    /// `ReadByView` where a view reads the namespace or it would read itself, and with `LimitReached` where there are
+    /// 1,000 views; and with `WantOfMemory`. Then nothing is changed.
+    pub fn create(&mut self, create: Create) -> Result<(), Refusal>
+        ensures { let asked = create_seen create in Leaves (making.created asked.namespace asked.view self.old) self.old result self.new }
+    {
+        let Create { namespace, view } = create;
+        if self.collections.has(&namespace) || self.views.has(&namespace) {
+            return Err(Refusal::NamespaceExists);
+        }
+        match view {
+            None => {
+                dv_views::laws::what_is_not_read_does_not_matter();
+                Ok(self.collections.make_empty(&namespace)?)
+            }
+            Some(view) => self.create_view(&namespace, view),
+        }
+    }
+
+    /// Makes a view under a namespace where nothing stands, as `create` does.
+    fn create_view(&mut self, namespace: &str, view: ViewOn) -> Result<(), Refusal>
+        requires { is_there namespace.now self.old ≡ false }
+        ensures { Leaves (making.made namespace.now (Some (view_on_seen view)) self.old) self.old result self.new }
+    {
+        let ViewOn { source, pipeline } = view;
+        dv_pipe::laws::what_is_not_read_does_not_matter();
+        dv_views::laws::a_new_view_leaves_views_right();
+        let rows = references(self.alloc, self.collections.rows(&source))?;
+        let sources = sources_of(self.alloc, &self.collections, &pipeline, &source, rows)?;
+        match self.views.create(namespace, &source, pipeline, &sources) {
+            Ok(()) => Ok(()),
+            Err(fault) => Err(refusal_of(fault)),
+        }
+    }
+
+    /// Takes out what stands under a namespace: a collection, without which the views that read it find it empty, or a
+    /// view. Refused with `NamespaceNotFound` where nothing stands there, and with `WantOfMemory`; then nothing is
+    /// changed.
+    pub fn remove(&mut self, namespace: &str) -> Result<(), Refusal>
+        ensures { Leaves (making.dropped namespace.now self.old) self.old result self.new }
+    {
+        if self.collections.has(namespace) {
+            return Ok(self.remove_collection(namespace)?);
+        }
+        dv_views::laws::a_removed_view_leaves_views_right();
+        if self.views.remove(namespace) {
+            return Ok(());
+        }
+        Err(Refusal::NamespaceNotFound)
+    }
+
+    /// Takes out the collection of a namespace, which is there. Fails where memory is wanting; then nothing is changed.
+    fn remove_collection(&mut self, namespace: &str) -> Result<(), NoMemory>
+        requires { is_collection namespace.now self.old.namespaces ≡ true }
+        ensures ok { OnOk result (self.new ≡ record self.old { namespaces = finite.remove self.old.namespaces namespace.now }) }
+        ensures err { OnErr result (self.new ≡ self.old) }
+    {
+        // Behind the change nothing may want memory.
+        let told = if self.views.is_read(namespace) {
+            each_gone(self.alloc, self.collections.rows(namespace))?
+        } else {
+            Vec::new(self.alloc)
+        };
+        told_changes_are_made();
+        dv_views::laws::what_is_not_read_does_not_matter();
+        dv_coll::laws::removed_document_is_not_found();
+        self.collections.ordered(namespace);
+        self.collections.remove(namespace);
+        self.views.apply(namespace, &told);
+        Ok(())
+    }
+}
+
+/// How a command is refused for the fault of a new view.
+fn refusal_of(fault: ViewFault) -> Refusal
+    ensures { result ≡ view_refusal fault }
+{
+    match fault {
+        ViewFault::Exists => Refusal::NamespaceExists,
+        ViewFault::ReadByView => Refusal::ReadByView,
+        ViewFault::OnView => Refusal::OnView,
+        ViewFault::LimitReached => Refusal::LimitReached,
+        ViewFault::NoMemory => Refusal::WantOfMemory,
+    }
+}

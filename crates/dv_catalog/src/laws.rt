@@ -1,0 +1,33 @@
+//! What holds of changes, each the contract of a function that does nothing.
+
+ghost use Rattle.std.specs.Prelude.{◌≡◌, List, map};
+ghost use Rattle.dv_bson.specs.Tree.{Field};
+ghost use Rattle.dv_catalog.specs.Changes.{Change, with_change, with_changes};
+ghost use Rattle.dv_catalog.specs.EffectView.{AreAble, BeginsWithId};
+ghost use Rattle.dv_catalog.specs.State.{AreOrdered};
+ghost use Rattle.dv_catalog.specs.Told.{told};
+ghost use Rattle.dv_views.specs.Changed.{AreMade, changed};
+
+/// Documents stay in the order of their `_id`s after a change, if a document that is put begins with its `_id`.
+pub fn changes_keep_the_order()
+    ensures { (documents : List (List Field)) (change : Change) → AreOrdered documents → BeginsWithId change → AreOrdered (with_change documents change) }
+{
+    dv_coll::laws::inserted_documents_ascend();
+    dv_coll::laws::inserted_documents_begin_with_ids();
+    dv_coll::laws::removed_documents_ascend();
+    dv_coll::laws::removed_documents_begin_with_ids();
+    dv_coll::laws::replaced_documents_ascend();
+    dv_coll::laws::replaced_documents_begin_with_ids();
+}
+
+/// Changes that can be made, as they are told to views, are those that a collection makes.
+pub(crate) fn told_changes_are_made()
+    ensures { (documents : List (List Field)) (changes : List Change) → AreOrdered documents → AreAble documents changes
+        → AreMade (map told changes) documents × (changed (map told changes) documents ≡ with_changes documents changes) }
+{
+    changes_keep_the_order();
+    dv_views::laws::a_put_is_the_collections();
+    dv_views::laws::a_gone_is_the_collections();
+    dv_views::laws::no_change_changes_nothing();
+    dv_views::laws::changes_follow_on();
+}

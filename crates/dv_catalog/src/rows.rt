@@ -1,0 +1,85 @@
+//! What stands under a namespace, row by row.
+
+ghost use Rattle.std.specs.Prelude.{◌≡◌, []};
+
+use dv_bson::Document;
+use dv_coll::Iter;
+use std::marker::Model;
+
+/// Where rows come from.
+#[derive(Drop)]
+enum Origin<'a> {
+    /// Nothing stands there.
+    Nothing,
+    /// The documents of a collection, in the order of their `_id`s.
+    Collection(Iter<'a>),
+    /// The rows of a view.
+    View(dv_views::Rows<'a>),
+}
+
+/// Rows that are still to come.
+#[derive(Drop)]
+pub(crate) struct Rows<'a> {
+    origin: Origin<'a>,
+}
+
+impl<'a> Model for Rows<'a> {
+    ghost use Rattle.std.specs.Prelude as prelude;
+    ghost use Rattle.std.specs.Coded.{coded_list, coded×, coded_ℕ};
+    ghost use Rattle.dv_bson.specs.Tree.{Field};
+    ghost use Rattle.dv_bson.specs.TreeCode.{coded_tree};
+    ghost use Rattle.dv_catalog.specs.RowsView as seen;
+
+    ghost Value = { prelude.List (prelude.List Field) };
+
+    ghost coded = { coded_list (coded_list (coded× (coded_list coded_ℕ) coded_tree)) };
+
+    ghost view = { λ r. seen.rows r.origin };
+}
+
+impl<'a> Rows<'a> {
+    /// No row.
+    pub(crate) fn none() -> Self
+        ensures { result ≡ [] }
+    {
+        Rows {
+            origin: Origin::Nothing,
+        }
+    }
+
+    /// The documents of a collection.
+    pub(crate) fn of_collection(documents: Iter<'a>) -> Self
+        ensures { result ≡ documents.entry }
+    {
+        Rows {
+            origin: Origin::Collection(documents),
+        }
+    }
+
+    /// The rows of a view.
+    pub(crate) fn of_view(rows: dv_views::Rows<'a>) -> Self
+        ensures { result ≡ rows.entry }
+    {
+        Rows {
+            origin: Origin::View(rows),
+        }
+    }
+}
+
+impl<'a> Iterator for Rows<'a> {
+    type Item = &'a Document;
+
+    ghost use Rattle.std.specs.Iterator.{YieldsFirstRef, item_count};
+
+    ghost next_gives = { YieldsFirstRef (λ i. i) };
+
+    ghost remaining = { item_count (λ i. i) };
+
+    fn next(&mut self) -> Option<&'a Document> {
+        match &mut self.origin {
+            Origin::Nothing => None,
+            Origin::Collection(documents) => documents.next(),
+            Origin::View(rows) => rows.next(),
+        }
+    }
+}

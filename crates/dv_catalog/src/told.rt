@@ -1,0 +1,99 @@
+//! Changes as they are told to views.
+
+ghost use Rattle.std.specs.Prelude.{◌≡◌, ◌∷◌, [], IfOk, map};
+ghost use Rattle.std.specs.List.{AllByRecursion};
+ghost use Rattle.dv_coll.specs.Collection.{HasId, id_key};
+ghost use Rattle.dv_catalog.specs.Changes as changing;
+ghost use Rattle.dv_catalog.specs.EffectView.{BeginsWithId, changes_seen};
+ghost use Rattle.dv_catalog.specs.Told as defined;
+ghost use Rattle.dv_flow.specs.declared.position.Part.TheVariants.{Up};
+
+use crate::delete::key_of_id;
+use crate::effect::Changes;
+use crate::rows::Rows;
+use dv_bson::{Document, NoMemory};
+use dv_flow::{Change, Part, Pos};
+use dv_order::Key;
+use std::alloc::Global;
+
+/// The changes as they are told to views. Fails where memory is wanting.
+pub(crate) fn told(alloc: Global, changes: &Changes) -> Result<Vec<Change>, NoMemory>
+    requires { AllByRecursion BeginsWithId (changes_seen changes.now) }
+    ensures { IfOk result (λ all. all.items ≡ map defined.told (changes_seen changes.now)) }
+{
+    match changes {
+        Changes::Put(documents) => all_put(alloc, documents),
+        Changes::Gone(keys) => all_gone(alloc, keys),
+    }
+}
+
+fn all_put(alloc: Global, documents: &[Document]) -> Result<Vec<Change>, NoMemory>
+    requires { AllByRecursion HasId documents.now }
+    ensures { IfOk result (λ all. all.items ≡ map defined.told (map changing.put documents.now)) }
+{
+    let mut all = Vec::with_capacity(alloc, documents.len())?;
+    'documents: for document in documents {
+        all.push(put(alloc, document)?)?;
+    }
+    Ok(all)
+}
+
+fn all_gone(alloc: Global, keys: &[Key]) -> Result<Vec<Change>, NoMemory>
+    ensures { IfOk result (λ all. all.items ≡ map defined.told (map changing.gone keys.now)) }
+{
+    let mut all = Vec::with_capacity(alloc, keys.len())?;
+    'keys: for key in keys {
+        all.push(gone(alloc, key.try_clone()?)?)?;
+    }
+    Ok(all)
+}
+
+/// Each of the documents goes. Fails where memory is wanting.
+pub(crate) fn each_gone(alloc: Global, documents: Rows<'_>) -> Result<Vec<Change>, NoMemory>
+    requires { AllByRecursion HasId documents }
+    ensures { IfOk result (λ all. all.items ≡ map defined.told (map (λ d. changing.gone (id_key d)) documents.entry)) }
+{
+    let mut all = Vec::new(alloc);
+    'documents: for document in documents {
+        all.push(gone(alloc, key_of_id(document)?)?)?;
+    }
+    Ok(all)
+}
+
+/// A document is put. Fails where memory is wanting.
+pub(crate) fn one_put(alloc: Global, document: &Document) -> Result<Vec<Change>, NoMemory>
+    requires { HasId document.now }
+    ensures { IfOk result (λ all. all.items ≡ defined.told (changing.put document.now) ∷ []) }
+{
+    let mut all = Vec::with_capacity(alloc, 1)?;
+    all.push(put(alloc, document)?)?;
+    Ok(all)
+}
+
+/// The document, which is shared, put at its place.
+fn put(alloc: Global, document: &Document) -> Result<Change, NoMemory>
+    requires { HasId document.now }
+    ensures { IfOk result (λ change. change ≡ defined.told (changing.put document.now)) }
+{
+    Ok(Change::Put {
+        pos: place(alloc, key_of_id(document)?)?,
+        row: document.try_clone()?,
+    })
+}
+
+fn gone(alloc: Global, key: Key) -> Result<Change, NoMemory>
+    ensures { IfOk result (λ change. change ≡ defined.told (changing.gone key)) }
+{
+    Ok(Change::Gone {
+        pos: place(alloc, key)?,
+    })
+}
+
+/// The position under a key.
+fn place(alloc: Global, key: Key) -> Result<Pos, NoMemory>
+    ensures { IfOk result (λ pos. pos ≡ Up key ∷ []) }
+{
+    let mut parts = Vec::with_capacity(alloc, 1)?;
+    parts.push(Part::Up(key))?;
+    Ok(Pos::of(parts))
+}

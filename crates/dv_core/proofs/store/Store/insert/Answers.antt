@@ -1,4 +1,0 @@
-use Rattle.dv_core.proofs.store.Store.insert.Goals as goal
-
-pub returns : goal.returns
-returns c = rw (← c.self.view_is) c.write_all.ensures
