@@ -1,5 +1,5 @@
 -- What a script does, line by line, and what is written.
-use Rattle.std.specs.Prelude.{◌≡◌, ℕ, ◌<◌, ◌≤◌, ◌⊎◌, Bool, true, false, List, [], ◌∷◌, ◌++◌, ◌==◌, Option, Some, None, Ok, count_by, is_some, replicate, slice_get, slice_set}
+use Rattle.std.specs.Prelude.{◌≡◌, ℕ, ◌⊎◌, Bool, true, false, List, [], ◌∷◌, ◌++◌, ◌==◌, Option, Some, None, Ok, replicate, slice_get, slice_set}
 use Rattle.std.specs.Bool.{MatchBool}
 use Rattle.std.specs.List.{All, slice_split}
 use Rattle.dv_wire.specs.declared.hub.Fed.{Fed}
@@ -29,20 +29,12 @@ pub record Standing : Type 0 where
 abbrev pub standing_of : Sessions → World → Standing
 standing_of sessions hub = record { sessions = sessions.places; hub = hub }
 
--- how many sessions of a script may be opened and not ended
-abbrev pub open_limit : ℕ
-open_limit = 1
-
 -- the session of a number: the one that stands under it, or one that is opened and put there
 abbrev pub Finds : Standing → ℕ → Session → Standing → Type 0
 Finds old number session new =
     ((slice_get old.sessions number ≡ Some (Some session)) × (new ≡ old))
-    ⊎ ((slice_get old.sessions number ≡ Some None) × (count_by is_some old.sessions < open_limit) × (session.is_closed ≡ false)
+    ⊎ ((slice_get old.sessions number ≡ Some None) × (session.is_closed ≡ false)
     × Opens old.hub (Ok session.id) new.hub × (new.sessions ≡ slice_set old.sessions number (Some session)))
-
--- no session is opened for the number, since another one is open
-abbrev pub IsSecond : Standing → ℕ → Type 0
-IsSecond old number = (slice_get old.sessions number ≡ Some None) × (open_limit ≤ count_by is_some old.sessions)
 
 -- whether a session that answered so takes no more bytes
 abbrev pub is_closing : Fed → Bool
@@ -70,19 +62,13 @@ Does old Skip text new = (text ≡ []) × (new ≡ old)
 Does old (Bytes number bytes) text new = (session : Session) × (mid : Standing) × Finds old number session mid × Brings mid number session bytes text new
 Does old (End number) text new = (session : Session) × (mid : Standing) × Finds old number session mid × EndsSession mid number session text new
 
--- what a line says would open a session beside another one
-abbrev pub OpensSecond : Standing → Line → Type 0
-OpensSecond old Skip = ⊥
-OpensSecond old (Bytes number bytes) = IsSecond old number
-OpensSecond old (End number) = IsSecond old number
-
 -- a line as it stands in a script is done
 abbrev pub DoesLine : Standing → List ℕ → List ℕ → Standing → Type 0
 DoesLine old line text new = (meant : Line) × IsLine meant line × Does old meant text new
 
--- a line is bad that has no form, or would open a session beside another one
-abbrev pub IsBad : Standing → List ℕ → Type 0
-IsBad old line = ((meant : Line) → IsLine meant line → ⊥) ⊎ ((meant : Line) × IsLine meant line × OpensSecond old meant)
+-- a line is bad that has no form
+abbrev pub IsBad : List ℕ → Type 0
+IsBad line = (meant : Line) → IsLine meant line → ⊥
 
 -- lines are done one after the other
 abbrev pub DoesLines : Standing → List (List ℕ) → List ℕ → Standing → Type 0

@@ -3,7 +3,7 @@
 ghost use Rattle.std.specs.Prelude.{◌≡◌, ◌<◌, ◌≤◌, ◌+◌, ◌↔◌, ◌++◌, ◌∷◌, ℕ, List, [], length, replicate, string_bytes, take, IfOk, IfSome, MatchOption, OnOk};
 ghost use Rattle.std.specs.Io.KnownBytes.{Appends, Consumes, IsAtEnd, Keeps};
 ghost use Rattle.dv_wire.specs.Schedule.{Opens};
-ghost use Rattle.docd.specs.Script.{Does, DoesLine, Finds, HasNoLf, IsBad, IsSecond, Runs, Standing, TakesPiece, begun, standing_of};
+ghost use Rattle.docd.specs.Script.{Does, DoesLine, Finds, HasNoLf, IsBad, Runs, Standing, TakesPiece, begun, standing_of};
 
 use crate::line::{LONGEST_LINE, line};
 use crate::output::{end_text, fed_text};
@@ -20,14 +20,10 @@ const MOST_READS: u64 = 4_294_967_296;
 /// The most bytes that one read takes.
 const PIECE: usize = 65_536;
 
-/// How many sessions of a script may be opened and not ended.
-const OPEN_LIMIT: usize = 1;
-
 /// Why a script ends before its last line.
 #[derive(Clone, Copy, Debug, PartialEq, Eq, Error)]
 pub enum ScriptFault {
-    /// A line has no form, is too long, or would open a session more than may be open. Lines count from 1, those
-    /// that are skipped too.
+    /// A line has no form, or is too long. Lines count from 1, those that are skipped too.
     #[error("line {line}: bad line")]
     BadLine { line: u64 },
     /// The reader failed, or took too many reads.
@@ -197,7 +193,7 @@ impl Progress {
         ensures kept { self.new ≡ record self.old { sessions = self.new.sessions } }
         ensures done { IfOk result (λ text.
             DoesLine (standing_of self.old.sessions hub.old) self.old.line.items (string_bytes text) (standing_of self.new.sessions hub.new)) }
-        ensures bad { (n : ℕ) → result ≡ Err (ScriptFault.BadLine n) → (n ≡ self.old.number) × IsBad (standing_of self.old.sessions hub.old) self.old.line.items }
+        ensures bad { (n : ℕ) → result ≡ Err (ScriptFault.BadLine n) → (n ≡ self.old.number) × IsBad self.old.line.items }
     {
         match line(self.alloc, self.line.as_slice()) {
             Ok(Line::Skip) => Ok(String::new(self.alloc)),
@@ -213,7 +209,7 @@ impl Progress {
         ensures kept { self.new ≡ record self.old { sessions = self.new.sessions } }
         ensures done { IfOk result (λ text.
             Does (standing_of self.old.sessions hub.old) (Line.Bytes number bytes.now) (string_bytes text) (standing_of self.new.sessions hub.new)) }
-        ensures bad { (n : ℕ) → result ≡ Err (ScriptFault.BadLine n) → (n ≡ self.old.number) × IsSecond (standing_of self.old.sessions hub.old) number }
+        ensures never_bad { (n : ℕ) → result ≡ Err (ScriptFault.BadLine n) → ⊥ }
     {
         let session = self.session(hub, number)?;
         if session.is_closed {
@@ -237,7 +233,7 @@ impl Progress {
         ensures kept { self.new ≡ record self.old { sessions = self.new.sessions } }
         ensures done { IfOk result (λ text.
             Does (standing_of self.old.sessions hub.old) (Line.End number) (string_bytes text) (standing_of self.new.sessions hub.new)) }
-        ensures bad { (n : ℕ) → result ≡ Err (ScriptFault.BadLine n) → (n ≡ self.old.number) × IsSecond (standing_of self.old.sessions hub.old) number }
+        ensures never_bad { (n : ℕ) → result ≡ Err (ScriptFault.BadLine n) → ⊥ }
     {
         let session = self.session(hub, number)?;
         let unfinished = hub.end(session.id);
@@ -251,16 +247,11 @@ impl Progress {
         ensures kept { self.new ≡ record self.old { sessions = self.new.sessions } }
         ensures found { IfOk result (λ session.
             Finds (standing_of self.old.sessions hub.old) number session (standing_of self.new.sessions hub.new)) }
-        ensures second { IsSecond (standing_of self.old.sessions hub.old) number
-            → result ≡ Err (ScriptFault.BadLine self.old.number) }
         ensures full { result ≡ Err ScriptFault.Sessions → Opens hub.old (Err HubFault.TooManySessions) hub.new }
-        ensures bad { (n : ℕ) → result ≡ Err (ScriptFault.BadLine n) → (n ≡ self.old.number) × IsSecond (standing_of self.old.sessions hub.old) number }
+        ensures never_bad { (n : ℕ) → result ≡ Err (ScriptFault.BadLine n) → ⊥ }
     {
         if let Some(session) = self.sessions.get(number) {
             return Ok(session);
-        }
-        if self.sessions.count() >= OPEN_LIMIT {
-            return Err(self.bad_line());
         }
         let session = Session {
             id: hub.open()?,

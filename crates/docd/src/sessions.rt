@@ -1,6 +1,6 @@
 //! The sessions of a script, by their numbers in it.
 
-ghost use Rattle.std.specs.Prelude.{◌≡◌, ◌<◌, None, count_by, is_some, length, replicate, slice_get, slice_set};
+ghost use Rattle.std.specs.Prelude.{◌≡◌, ◌<◌, None, replicate, slice_get, slice_set};
 
 use crate::line::NUMBERS;
 use dv_wire::SessionId;
@@ -45,15 +45,5 @@ impl Sessions {
         ensures { self.new.places ≡ slice_set self.old.places number session }
     {
         self.places[number as usize] = session;
-    }
-
-    /// How many there are.
-    pub fn count(&self) -> usize
-        ensures { result ≡ count_by is_some self.now.places }
-    {
-        self.places
-            .iter()
-            .filter(|session| session.is_some())
-            .count()
     }
 }

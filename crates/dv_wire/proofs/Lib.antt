@@ -10,3 +10,5 @@ mod Worlds
 mod Soundness
 mod Cuts
 mod Worked
+pub mod Plays
+pub mod Orders

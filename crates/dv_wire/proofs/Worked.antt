@@ -127,9 +127,10 @@ ping_run state session =
 pub sessions : SessionExamples
 sessions = record {
   first = λ state. (lit< tt, lit< tt, refl, refl);
-  second = λ state session new opens. omega (arith, opens.0);
+  another = λ state next sessions many lt. (omega arith, omega arith, refl, refl);
+  too_many = λ state next sessions session new many opens. omega (arith, opens.0);
   not_too_many = λ state new refused. elim refused.0 [ inl many ↦ omega (arith, many) | inr none ↦ omega (arith, none) ];
-  after_an_end = λ state. (lit< tt, lit< tt, refl, refl);
+  after_an_end = λ state others many. (omega arith, lit< tt, refl, refl);
   last_number = λ state. (lit< tt, lit< tt, refl, refl);
   no_number = λ state session new opens. omega (arith, opens.1);
   unfinished = refl;

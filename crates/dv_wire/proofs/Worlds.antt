@@ -36,11 +36,11 @@ at_next first (s ∷ ss) next numbered =
     let other : s.0 ≡ next → ⊥ = (λ e. omega arith) in
     rw (ne_eqb s.0 next other) (at_next (suc s.0) ss next numbered.1)
 
-AreNumbered-append : (first : ℕ) (ss : List (ℕ × Conversation)) (next : ℕ) (now : Conversation) → AreNumbered first ss next → AreNumbered first (ss ++ (next, now) ∷ []) (suc next)
+pub AreNumbered-append : (first : ℕ) (ss : List (ℕ × Conversation)) (next : ℕ) (now : Conversation) → AreNumbered first ss next → AreNumbered first (ss ++ (next, now) ∷ []) (suc next)
 AreNumbered-append first [] next now numbered = (numbered, omega arith)
 AreNumbered-append first (s ∷ ss) next now numbered = (numbered.0, AreNumbered-append (suc s.0) ss next now numbered.1)
 
-AreNumbered-with : (session first : ℕ) (now : Conversation) (ss : List (ℕ × Conversation)) (next : ℕ) → AreNumbered first ss next → AreNumbered first (with_conversation session now ss) next
+pub AreNumbered-with : (session first : ℕ) (now : Conversation) (ss : List (ℕ × Conversation)) (next : ℕ) → AreNumbered first ss next → AreNumbered first (with_conversation session now ss) next
 AreNumbered-with session first now [] next numbered = numbered
 AreNumbered-with session first now (s ∷ ss) next numbered =
     elim (cases_Bool (eqb s.0 session)) [
@@ -48,7 +48,7 @@ AreNumbered-with session first now (s ∷ ss) next numbered =
       | inr other ↦ rw other (numbered.0, AreNumbered-with session (suc s.0) now ss next numbered.1)
     ]
 
-AreNumbered-but : (session first : ℕ) (ss : List (ℕ × Conversation)) (next : ℕ) → AreNumbered first ss next → AreNumbered first (sessions_but session ss) next
+pub AreNumbered-but : (session first : ℕ) (ss : List (ℕ × Conversation)) (next : ℕ) → AreNumbered first ss next → AreNumbered first (sessions_but session ss) next
 AreNumbered-but session first [] next numbered = numbered
 AreNumbered-but session first (s ∷ ss) next numbered =
     elim (cases_Bool (eqb s.0 session)) [

@@ -1,5 +1,5 @@
 -- Worked examples of messages and sessions: what closes a session, at each limit and on both sides of it.
-use Rattle.std.specs.Prelude.{◌≡◌, ℕ, Bool, true, false, List, [], ◌∷◌, ◌++◌, Some, None, Ok, Err, pos, codes}
+use Rattle.std.specs.Prelude.{◌≡◌, ◌<◌, ℕ, suc, length, Bool, true, false, List, [], ◌∷◌, ◌++◌, Some, None, Ok, Err, pos, codes}
 use Rattle.dv_bson.specs.Tree.{string, int32, Field}
 use Rattle.dv_wire.specs.declared.fault.CloseFault.{CloseFault}
 use Rattle.dv_wire.specs.declared.fault.CloseFault.TheVariants.{BadLength, BadOpCode, BadFlag, Checksum, BadSection, NoMemory}
@@ -26,11 +26,11 @@ Closes bytes fault = Brings bytes [] (closed fault)
 
 -- a header: messageLength, requestID 7, responseTo 0, and opCode in two bytes
 abbrev pub header : ℕ → List ℕ → List ℕ
-header length code = length ∷ 0 ∷ 0 ∷ 0 ∷ 7 ∷ 0 ∷ 0 ∷ 0 ∷ 0 ∷ 0 ∷ 0 ∷ 0 ∷ (code ++ 0 ∷ 0 ∷ [])
+header size code = size ∷ 0 ∷ 0 ∷ 0 ∷ 7 ∷ 0 ∷ 0 ∷ 0 ∷ 0 ∷ 0 ∷ 0 ∷ 0 ∷ (code ++ 0 ∷ 0 ∷ [])
 
 -- a header of OP_MSG, 2013
 abbrev pub op_msg_header : ℕ → List ℕ
-op_msg_header length = header length (0xdd ∷ 0x07 ∷ [])
+op_msg_header size = header size (0xdd ∷ 0x07 ∷ [])
 
 -- a message of 26 bytes with these flags, and without any
 abbrev pub flagged : List ℕ → List ℕ
@@ -38,7 +38,7 @@ flagged flags = op_msg_header 26 ++ flags ++ 0 ∷ 5 ∷ 0 ∷ 0 ∷ 0 ∷ 0 ∷
 
 -- a message without flags, with these sections, which are short
 abbrev pub sectioned : ℕ → List ℕ → List ℕ
-sectioned length sections = op_msg_header length ++ 0 ∷ 0 ∷ 0 ∷ 0 ∷ sections
+sectioned size sections = op_msg_header size ++ 0 ∷ 0 ∷ 0 ∷ 0 ∷ sections
 
 abbrev pub empty_document : List ℕ
 empty_document = 5 ∷ 0 ∷ 0 ∷ 0 ∷ 0 ∷ []
@@ -121,10 +121,14 @@ id number = record { number = number }
 
 pub record SessionExamples : Type 0 where
   pub first : (state : State) → Opens (world state 0 []) (Ok (id 0)) (world state 1 ((0, reading []) ∷ []))
-  -- another one only once it has ended, be it closed
-  pub second : (state : State) (session : SessionId) (new : World) → Opens (world state 1 ((0, closed BadLength) ∷ [])) (Ok session) new → ⊥
+  -- a thousand may be opened and not ended, closed ones among them, and another one only once one of them has ended
+  pub another : (state : State) (next : ℕ) (sessions : List (ℕ × Conversation)) → length sessions ≡ 999 → next < 4294967296
+      → Opens (world state next sessions) (Ok (id next)) (world state (suc next) (sessions ++ (next, reading []) ∷ []))
+  pub too_many : (state : State) (next : ℕ) (sessions : List (ℕ × Conversation)) (session : SessionId) (new : World) → length sessions ≡ 1000
+      → Opens (world state next sessions) (Ok session) new → ⊥
   pub not_too_many : (state : State) (new : World) → Opens (world state 0 []) (Err TooManySessions) new → ⊥
-  pub after_an_end : (state : State) → Opens (end 0 (world state 1 ((0, closed BadLength) ∷ []))) (Ok (id 1)) (world state 2 ((1, reading []) ∷ []))
+  pub after_an_end : (state : State) (others : List (ℕ × Conversation)) → length others ≡ 999
+      → Opens (end 0 (world state 1000 ((0, closed BadLength) ∷ others))) (Ok (id 1000)) (world state 1001 (others ++ (1000, reading []) ∷ []))
   -- there are 4,294,967,296 numbers
   pub last_number : (state : State) → Opens (world state 4294967295 []) (Ok (id 4294967295)) (world state 4294967296 ((4294967295, reading []) ∷ []))
   pub no_number : (state : State) (session : SessionId) (new : World) → Opens (world state 4294967296 []) (Ok session) new → ⊥

@@ -1,6 +1,8 @@
 -- messages and sessions
 pub mod Message
 pub mod Schedule
+pub mod Playing
+pub mod Order
 pub mod Sound
 pub mod Fault
 pub mod Examples

@@ -117,7 +117,7 @@ sessions_but session (s ∷ ss) = if s.0 == session then ss else s ∷ sessions_
 
 -- how many sessions may be opened and not ended
 abbrev pub session_limit : ℕ
-session_limit = 1
+session_limit = 1000
 
 -- how many numbers there are for sessions, from 0 on
 abbrev pub number_limit : ℕ

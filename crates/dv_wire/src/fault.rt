@@ -2,8 +2,9 @@
 
 ghost use Rattle.std.specs.Prelude.{◌≡◌};
 ghost use Rattle.dv_wire.specs.declared.fault.CloseFault.TheVariants.{NoMemory};
+ghost use Rattle.dv_wire.specs.declared.fault.HubFault.TheVariants as hub_faults;
 
-use std::alloc::AllocError;
+use std::alloc::{AllocError, AllocFailed};
 
 /// What closes a session.
 #[derive(Clone, Copy, Debug, PartialEq, Eq)]
@@ -68,5 +69,13 @@ impl From<AllocError> for CloseFault {
 
     fn from(_e: AllocError) -> CloseFault {
         CloseFault::NoMemory
+    }
+}
+
+impl<T: Drop> From<AllocFailed<T>> for HubFault {
+    ghost from_gives = { λ _ fault. fault ≡ hub_faults.NoMemory };
+
+    fn from(_e: AllocFailed<T>) -> HubFault {
+        HubFault::NoMemory
     }
 }

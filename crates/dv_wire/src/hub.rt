@@ -1,10 +1,14 @@
 //! The sessions, and the bytes that come from them.
 
-ghost use Rattle.std.specs.Prelude.{◌≡◌, ◌==◌, IfOk, suc};
+ghost use Rattle.std.specs.Prelude.{◌≡◌, ◌==◌, ℕ, IfOk, map, suc};
 ghost use Rattle.std.specs.List.{position_from};
+ghost use Rattle.dv_wire.specs.Sound.{AreNumbered};
+ghost use Rattle.dv_wire.specs.View.{session_seen};
 
+use crate::events::{Event, Said};
 use crate::fault::{CloseFault, HubFault};
 use crate::session::{Conversation, Session};
+use dv_bson::{Bytes, NoMemory};
 use dv_core::Store;
 use std::alloc::Global;
 use std::marker::Model;
@@ -27,7 +31,10 @@ pub enum Fed {
 }
 
 /// How many sessions may be opened and not ended.
-const SESSION_LIMIT: usize = 1;
+const SESSION_LIMIT: usize = 1000;
+
+/// How many numbers there are for sessions.
+const NUMBER_LIMIT: u64 = 4_294_967_296;
 
 /// A store and the sessions that speak to it.
 #[derive(Debug, Drop)]
@@ -36,6 +43,7 @@ pub struct Hub {
     store: Store,
     /// The number of the next session, at most 2^32.
     next: u64,
+    /// In the order of their numbers.
     sessions: Vec<Session>,
 }
 
@@ -51,10 +59,17 @@ impl Model for Hub {
     ghost use Rattle.dv_wire.specs.View.{session_seen};
 
     ghost view = { λ h. record { state = h.store; next = h.next; sessions = map session_seen h.sessions.items } };
+
+    ghost use Rattle.dv_wire.specs.Sound.{AreNumbered};
+
+    ghost invariant = { λ h. AreNumbered 0 (map session_seen h.sessions.items) h.next };
 }
 
 impl Hub {
+    ghost use Rattle.std.specs.Prelude.{◌++◌, List, OnErr, OnOk};
     ghost use Rattle.dv_wire.specs.Schedule.{world_of, conversation_of, Opens, Feeds, Appends, unfinished_in, end as end_of};
+    ghost use Rattle.dv_wire.specs.Playing.{Happens, Plays};
+    ghost use Rattle.dv_wire.specs.declared.events.Said as heard;
 
     /// A store without any session. Sessions and their bytes are allocated by `alloc`.
     pub fn new(alloc: Global, store: Store) -> Self
@@ -68,22 +83,22 @@ impl Hub {
         }
     }
 
-    /// Opens a session, and answers its number. Refused with `TooManySessions` where one was opened and hasn't ended,
-    /// be it closed, or no number is left, and with `NoMemory`; then nothing is changed.
+    /// Opens a session, and answers its number. Refused with `TooManySessions` where 1,000 were opened and haven't
+    /// ended, be they closed, or no number is left, and with `NoMemory`; then nothing is changed.
     pub fn open(&mut self) -> Result<SessionId, HubFault>
         ensures opened { Opens self.old result self.new }
         ensures state { self.new.state ≡ self.old.state }
         ensures numbers { IfOk result (λ session. (session.number ≡ self.old.next) × (self.new.next ≡ suc self.old.next)) }
     {
-        if self.sessions.len() >= SESSION_LIMIT {
+        if self.sessions.len() >= SESSION_LIMIT || self.next >= NUMBER_LIMIT {
             return Err(HubFault::TooManySessions);
         }
-        let number = u32::try_from(self.next).map_err(|_| HubFault::TooManySessions)?;
+        let number = self.next as u32;
         let session = Session {
             number,
             conversation: Conversation::Reading(Vec::new(self.alloc)),
         };
-        self.sessions.push(session).map_err(|_| HubFault::NoMemory)?;
+        self.sessions.push(session)?;
         self.next += 1;
         Ok(SessionId { number })
     }
@@ -116,16 +131,44 @@ impl Hub {
         let session = self.sessions.remove(place);
         session.conversation.unfinished_len()
     }
-}
 
-/// The place of the session with the number, where it is there.
-fn place_of(sessions: &[Session], number: u32) -> Option<usize>
-    ensures { result ≡ position_from (λ s. s.number == number) 0 sessions.now }
-{
-    for (place, session) in sessions.iter().enumerate() {
-        if session.number == number {
-            return Some(place);
+    /// Lets events happen in order, as `open`, `feed` and `end` do, and puts what they answer behind what `out` holds.
+    /// Fails where memory is wanting to hold as many answers; then nothing happens. Want of memory for a reply's bytes
+    /// closes its session, as in `feed`.
+    pub fn play(&mut self, events: &[Event], out: &mut Vec<Said>) -> Result<(), NoMemory>
+        ensures played { OnOk result ((said : List heard.Said) × (out.new.items ≡ out.old.items ++ said) × Plays self.old events.now said self.new) }
+        ensures refused { OnErr result ((out.new.items ≡ out.old.items) × (self.new ≡ self.old)) }
+    {
+        out.reserve(events.len())?;
+        'events: for event in events {
+            let said = self.happen(event);
+            // There is room for it.
+            out.push(said)?;
+        }
+        Ok(())
+    }
+
+    fn happen(&mut self, event: &Event) -> Said
+        ensures { Happens self.old event.now result self.new }
+    {
+        match event {
+            Event::Open => Said::Opened(self.open()),
+            Event::Piece(session, piece) => {
+                let mut replies = Vec::new(self.alloc);
+                let fed = self.feed(*session, piece.as_slice(), &mut replies);
+                Said::Fed(fed, Bytes::of(replies))
+            }
+            Event::End(session) => Said::Ended(self.end(*session)),
         }
     }
-    None
+}
+
+/// The place of the session with the number, where it is there, among sessions in the order of their numbers.
+fn place_of(sessions: &[Session], number: u32) -> Option<usize>
+    requires { (next : ℕ) × AreNumbered 0 (map session_seen sessions.now) next }
+    ensures { result ≡ position_from (λ s. s.number == number) 0 sessions.now }
+{
+    sessions
+        .binary_search_by_key(&number, |session| session.number)
+        .ok()
 }

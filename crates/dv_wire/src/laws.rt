@@ -1,6 +1,6 @@
 //! What holds of streams and of sessions, however their bytes come.
 
-ghost use Rattle.std.specs.Prelude.{◌≡◌, ◌≢◌, ◌↔◌, ℕ, suc, true, List, [], ◌∷◌, ◌++◌, Some, None, Result, Ok, Err};
+ghost use Rattle.std.specs.Prelude.{◌≡◌, ◌≢◌, ◌↔◌, ℕ, suc, true, List, [], ◌∷◌, ◌++◌, Some, None, Result, Ok, Err, length};
 ghost use Rattle.dv_bson.specs.Spelling.{IsBytes};
 ghost use Rattle.dv_core.specs.Sound.{IsSound};
 ghost use Rattle.dv_core.specs.State.{State};
@@ -12,7 +12,13 @@ ghost use Rattle.dv_wire.specs.declared.fault.HubFault.{HubFault};
 ghost use Rattle.dv_wire.specs.declared.hub.Fed.{Fed};
 ghost use Rattle.dv_wire.specs.declared.hub.Fed.TheVariants as fed;
 ghost use Rattle.dv_wire.specs.declared.hub.SessionId.{SessionId};
+ghost use Rattle.dv_wire.specs.declared.events.Event.{Event};
+ghost use Rattle.dv_wire.specs.declared.events.Event.TheVariants as events;
+ghost use Rattle.dv_wire.specs.declared.events.Said.{Said};
+ghost use Rattle.dv_wire.specs.declared.events.Said.TheVariants as said;
 ghost use Rattle.dv_wire.specs.Message as wire;
+ghost use Rattle.dv_wire.specs.Order.{answers, order, plain_play, replies_behind, state_behind};
+ghost use Rattle.dv_wire.specs.Playing.{ComesInTwo, Plays};
 ghost use Rattle.dv_wire.specs.Schedule.{Run, CarriesOut, command_of, silence, World, world_of, conversation_of, Opens, Feeds, FeedsAll, end, fed_of, plain_run, stream_of, world_behind};
 
 /// A stream of which more comes splits as before, and then as its rest with what comes; behind a fault nothing does.
@@ -31,6 +37,28 @@ pub fn messages_are_spelled()
 pub fn cuts_do_not_matter()
     ensures { (old new : World) (session : ℕ) (piece : List ℕ) (pieces : List (List ℕ)) (bytes : List ℕ) (answer : Fed)
         → Feeds old session (stream_of piece pieces) bytes answer new ↔ FeedsAll old session piece pieces bytes answer new }
+{}
+
+/// Wherever in a schedule a piece of a session's bytes is cut in two, the same may be answered, event by event, and the
+/// same world left: the whole piece may answer what its two parts may answer one behind the other, and what is told of the
+/// second part may be told of the whole.
+pub fn a_piece_may_come_in_two()
+    ensures { (old new : World) (before after : List Event) (session : SessionId) (piece more : List ℕ) (answers behind : List Said) (told : Fed) (bytes : List ℕ) → length before ≡ length answers
+        → Plays old (before ++ events.Piece session (piece ++ more) ∷ after) (answers ++ said.Fed told bytes ∷ behind) new
+        ↔ ComesInTwo old before session piece more after answers told bytes behind new }
+{}
+
+/// Where memory is never wanting, only the order counts in which sessions are opened and end and their messages become
+/// whole: the state that a schedule leaves, and what it answers to each session, are those of a machine that takes one
+/// message after the other in that order. So two schedules of one order answer the same to each session and leave the same
+/// state, however their bytes are cut and interleaved. Such a run is one of those that are allowed.
+pub fn only_the_order_counts()
+    ensures state { (world : World) (all : List Event) → (plain_play world all).world.state ≡ state_behind world.state (order world.next world.sessions all) }
+    ensures answers { (session : ℕ) (world : World) (all : List Event) → answers session all (plain_play world all).said ≡ replies_behind session world.state (order world.next world.sessions all) }
+    ensures equal { (world : World) (one two : List Event) → order world.next world.sessions one ≡ order world.next world.sessions two
+        → ((plain_play world one).world.state ≡ (plain_play world two).world.state)
+        × ((session : ℕ) → answers session one (plain_play world one).said ≡ answers session two (plain_play world two).said) }
+    ensures allowed { (world : World) (all : List Event) → Plays world all (plain_play world all).said (plain_play world all).world }
 {}
 
 /// The plain run is allowed: whatever the pieces are, a session that is open may answer what the steps of its messages

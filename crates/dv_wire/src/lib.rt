@@ -1,6 +1,7 @@
 //! OP_MSG messages in and out, and the sessions that they come from.
 #![tactic(auto)]
 
+mod events;
 mod fault;
 mod front;
 mod hub;
@@ -9,5 +10,6 @@ mod reply;
 mod session;
 
 pub use dv_core::Store;
+pub use events::{Event, Said};
 pub use fault::{CloseFault, HubFault};
 pub use hub::{Fed, Hub, SessionId};

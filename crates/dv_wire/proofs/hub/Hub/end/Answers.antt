@@ -1,6 +1,6 @@
 use Rattle.std.proofs.Common.{refl, sym, ap, ◌∙◌, arith}
 use Rattle.dv_wire.specs.Schedule.{unfinished_in}
-use Rattle.dv_wire.proofs.Sessions.{nowhere, within, there, sessions_but-remove}
+use Rattle.dv_wire.proofs.Sessions.{nowhere, within, there, sessions_but-remove, numbered_but}
 use Rattle.dv_wire.proofs.hub.Hub.end.Goals as goal
 
 pub returns-in_default-clause-unfinished : goal.returns-in_default-clause-unfinished
@@ -25,3 +25,8 @@ pub returns-clause-ended : goal.returns-clause-ended
 returns-clause-ended c =
     let less = sessions_but-remove c.args.session.number c.in-Some.place c.deref.result.now (sym c.place_of.ensures ∙ c.in-Some.is) in
     rw (← c.self.view_is, c.remove-session.ensures.items, ← c.deref.ensures.value) (rw less refl)
+
+pub invariant_of-self : goal.invariant_of-self
+invariant_of-self c =
+    let place = rw c.deref.ensures.value at (sym c.place_of.ensures ∙ c.in-Some.is) in
+    rw c.remove-session.ensures.items (numbered_but c.args.session.number c.in-Some.place c.self.inside.sessions.items c.self.inside.next place c.self.invariant)

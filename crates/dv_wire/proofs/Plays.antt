@@ -1,0 +1,77 @@
+-- Schedules: one event more, and a piece of a session's bytes as two.
+use Rattle.std.proofs.Common.{◌≡◌, ℕ, zero, suc, ◌+◌, ◌<◌, List, [], ◌∷◌, ◌++◌, length, get_or, take, refl, sym, ap, subst, ◌∙◌, arith}
+use Rattle.dv_wire.specs.declared.events.Event.{Event}
+use Rattle.dv_wire.specs.declared.events.Event.TheVariants as events
+use Rattle.dv_wire.specs.declared.events.Said.{Said}
+use Rattle.dv_wire.specs.declared.events.Said.TheVariants as said
+use Rattle.dv_wire.specs.declared.hub.Fed.{Fed}
+use Rattle.dv_wire.specs.declared.hub.SessionId.{SessionId}
+use Rattle.dv_wire.specs.Schedule.{World, FeedsAll}
+use Rattle.dv_wire.specs.Playing.{Happens, Plays, ComesInTwo}
+use Rattle.dv_wire.proofs.Cuts.{feeds_joined, feeds_all}
+
+pub taken : (events : List Event) (i : ℕ) (item : Event) → i < length events → item ≡ get_or events i item → take (i + 1) events ≡ take i events ++ item ∷ []
+taken [] i item lt is = absurd (omega arith)
+taken (event ∷ events) zero item lt is = ap (λ (e : Event). e ∷ []) (sym is)
+taken (event ∷ events) (suc i) item lt is =
+    let one : suc i + 1 ≡ suc (i + 1) = omega arith in
+    rw one (ap (λ (es : List Event). event ∷ es) (taken events i item (omega arith) is))
+
+pub plays_more : (old mid new : World) (events : List Event) (all : List Said) (event : Event) (last : Said) → Plays old events all mid → Happens mid event last new
+    → Plays old (events ++ event ∷ []) (all ++ last ∷ []) new
+plays_more old mid new [] all event last (nothing, same) happens =
+    rw nothing (last, [], new, refl, subst (λ (w : World). Happens w event last new) same happens, (refl, refl))
+plays_more old mid new (next ∷ events) all event last (first, others, between, is, here, behind) happens =
+    rw is (first, others ++ last ∷ [], between, refl, here, plays_more between mid new events others event last behind happens)
+
+-- ---- a piece as two
+
+module _ (session : SessionId) (piece more : List ℕ) (after : List Event) (told : Fed) (behind : List Said) where
+  pub in_two : (old new : World) (before : List Event) (answers : List Said) (bytes : List ℕ) → length before ≡ length answers
+      → Plays old (before ++ events.Piece session (piece ++ more) ∷ after) (answers ++ said.Fed told bytes ∷ behind) new
+      → ComesInTwo old before session piece more after answers told bytes behind new
+  in_two old new [] [] bytes same (first, others, mid, is, here, rest) =
+      let whole : said.Fed told bytes ≡ first = cc in
+      let all : behind ≡ others = cc in
+      let feeds = subst (λ (s : Said). Happens old (events.Piece session (piece ++ more)) s mid) (sym whole) here in
+      let (one, two, between, told_first, both, feeds_first, feeds_second) = feeds_all old mid session.number piece (more ∷ []) bytes told feeds in (
+        one,
+        two,
+        told_first,
+        both,
+        (
+          said.Fed told_first one,
+          said.Fed told two ∷ behind,
+          between,
+          refl,
+          feeds_first,
+          (said.Fed told two, behind, mid, refl, feeds_second, subst (λ (ss : List Said). Plays mid after ss new) (sym all) rest),
+        ),
+      )
+  in_two old new [] (answer ∷ answers) bytes same plays = absurd (omega arith)
+  in_two old new (event ∷ before) [] bytes same plays = absurd (omega arith)
+  in_two old new (event ∷ before) (answer ∷ answers) bytes same (first, others, mid, is, here, rest) =
+      let head : answer ≡ first = cc in
+      let tail : others ≡ answers ++ said.Fed told bytes ∷ behind = cc in
+      let (one, two, told_first, both, plays) = in_two mid new before answers bytes (omega arith) (subst (λ (ss : List Said). Plays mid (before ++ events.Piece session (piece ++ more) ∷ after) ss new) tail rest) in
+      (one, two, told_first, both, (answer, _, mid, refl, subst (λ (s : Said). Happens old event s mid) (sym head) here, plays))
+
+  pub as_one : (old new : World) (before : List Event) (answers : List Said) (bytes : List ℕ) → length before ≡ length answers
+      → ComesInTwo old before session piece more after answers told bytes behind new
+      → Plays old (before ++ events.Piece session (piece ++ more) ∷ after) (answers ++ said.Fed told bytes ∷ behind) new
+  as_one old new [] [] bytes same (one, two, told_first, both, (first, others, mid, is, here, (second, others', mid', is', here', rest))) =
+      let first_is : said.Fed told_first one ≡ first = cc in
+      let others_are : said.Fed told two ∷ behind ≡ second ∷ others' = cc in
+      let second_is : said.Fed told two ≡ second = cc in
+      let behind_is : behind ≡ others' = cc in
+      let feeds : FeedsAll old session.number piece (more ∷ []) bytes told mid' =
+      (one, two, mid, told_first, both, subst (λ (s : Said). Happens old (events.Piece session piece) s mid) (sym first_is) here, subst (λ (s : Said). Happens mid (events.Piece session more) s mid') (sym second_is) here') in
+      (said.Fed told bytes, behind, mid', refl, feeds_joined old mid' session.number piece (more ∷ []) bytes told feeds, subst (λ (ss : List Said). Plays mid' after ss new) (sym behind_is) rest)
+  as_one old new [] (answer ∷ answers) bytes same plays = absurd (omega arith)
+  as_one old new (event ∷ before) [] bytes same plays = absurd (omega arith)
+  as_one old new (event ∷ before) (answer ∷ answers) bytes same (one, two, told_first, both, (first, others, mid, is, here, rest)) =
+      let head : answer ≡ first = cc in
+      let tail : others ≡ answers ++ said.Fed told_first one ∷ said.Fed told two ∷ behind = cc in
+      let plays = as_one mid new before answers bytes (omega arith)
+      (one, two, told_first, both, subst (λ (ss : List Said). Plays mid (before ++ events.Piece session piece ∷ events.Piece session more ∷ after) ss new) tail rest) in
+      (answer, _, mid, refl, subst (λ (s : Said). Happens old event s mid) (sym head) here, plays)

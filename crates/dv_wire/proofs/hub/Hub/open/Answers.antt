@@ -1,0 +1,6 @@
+use Rattle.std.proofs.Common.{refl}
+use Rattle.dv_wire.proofs.Sessions.{numbered_more}
+use Rattle.dv_wire.proofs.hub.Hub.open.Goals as goal
+
+pub invariant_of-self-2 : goal.invariant_of-self-2
+invariant_of-self-2 c = numbered_more c.self.inside.sessions.items c.push.new.self.items c.self.inside.next _ c.self.invariant c.in_ok-push.ensures.items refl
