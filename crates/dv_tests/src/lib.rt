@@ -9,6 +9,8 @@ mod coll;
 #[cfg(test)]
 mod filters;
 #[cfg(test)]
+mod long_paths;
+#[cfg(test)]
 mod order;
 #[cfg(test)]
 mod paths;
@@ -22,5 +24,7 @@ mod sorts;
 mod store;
 #[cfg(test)]
 mod updates;
+#[cfg(test)]
+mod views;
 #[cfg(test)]
 mod wire;
