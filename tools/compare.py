@@ -19,7 +19,7 @@ import sys
 from collections import Counter
 
 import machine
-from model.values import ARRAY, BsonFault, DOCUMENT, INT32, INT64, MAX_KEY, MIN_KEY, NULL, TEXT, read_document, spelling
+from model.values import ARRAY, BOOLEAN, BsonFault, DOCUMENT, INT32, INT64, MAX_KEY, MIN_KEY, NULL, TEXT, read_document, spelling
 from random_scripts import Maker, edges
 
 HERE = os.path.dirname(os.path.dirname(os.path.abspath(__file__)))
@@ -125,6 +125,8 @@ def shown(value):
         return "[%s]" % ", ".join(map(shown, held))
     if kind in WORDS:
         return WORDS[kind] % (() if held is None else held)
+    if kind == BOOLEAN:
+        return "true" if held else "false"
     return '"%s"' % held.decode() if kind == TEXT else "<%02x %s>" % (kind, held)
 
 
@@ -146,8 +148,11 @@ def count_replies(output, seen):
         _, fields = message_of(line)
         reply = dict(fields or [])
         if b"cursor" in reply:
-            found = dict(reply[b"cursor"][1])[b"firstBatch"][1]
+            _, (_, found) = reply[b"cursor"][1][0]
             seen["answers with documents" if found else "answers without"] += 1
+            seen["answers with more to come"] += dict(reply[b"cursor"][1])[b"id"][1] != 0
+        elif b"stage" in reply:
+            seen["plans by an index" if b"index" in reply else "plans without"] += 1
         elif b"n" in reply:
             seen["writes that write" if reply[b"n"][1] else "writes that don't"] += 1
             seen["write errors"] += len(reply.get(b"writeErrors", (ARRAY, []))[1])

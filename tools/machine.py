@@ -9,25 +9,29 @@ here. `tools/compare.py` runs random scripts through both.
     python3 tools/machine.py < examples/inserts.hex
     python3 tools/machine.py --commands hello,delete < examples/inserts.hex
 
-What isn't among the commands is refused; `ping` and `insert` are always there, and a `find` of all documents.
+What isn't among the commands is refused; `ping` and `insert` are always there, and a `find` of all documents. `indexes`
+stands for createIndexes, dropIndexes and explain; `cursors` for batches, getMore and killCursors; `sessions` for several
+sessions side by side; `sections` for lists of documents beside a message's body.
 """
 import argparse
 import bisect
 import re
-import struct
 import sys
 from collections import namedtuple
 
 from model import refusals
+from model.cursors import Cursor, Cursors, FIRST_BATCH, split
 from model.filters import filter_of
+from model.indexes import ON_ID, covered, entry_of, plan_of, with_indexes
+from model.messages import Closing, message, take_message
 from model.paths import field_of, sort_of, sorted_rows
 from model.pipelines import is_collection_name, pipeline_of, rows_of
-from model.refusals import (BAD_VALUE, COMMAND_NOT_FOUND, DUPLICATE_KEY, FAILED_TO_PARSE, INVALID_BSON, LIMIT_REACHED,
-                            NAMESPACE_EXISTS, NAMESPACE_NOT_FOUND, ON_VIEW, READ_BY_VIEW, Refusal, TOO_LARGE, TYPE_MISMATCH,
-                            WANT_OF_MEMORY, refused)
+from model.refusals import (BAD_VALUE, COMMAND_NOT_FOUND, DUPLICATE_KEY, FAILED_TO_PARSE, INDEX_NOT_FOUND, INVALID_BSON,
+                            LIMIT_REACHED, NAMESPACE_EXISTS, NAMESPACE_NOT_FOUND, ON_VIEW, READ_BY_VIEW, Refusal, TOO_LARGE,
+                            TYPE_MISMATCH, WANT_OF_MEMORY, refused)
 from model.updates import is_replacement, update_of
-from model.values import (ARRAY, BOOLEAN, BsonFault, DOCUMENT, INT32, INT64, MOST_BYTES, MOST_LEVELS, NUMBERS, TEXT, int32,
-                          is_storable, key, levels, read_document, size, spelling)
+from model.values import (ARRAY, BOOLEAN, BsonFault, DOCUMENT, INT32, INT64, MOST_BYTES, MOST_LEVELS, NUMBERS, TEXT,
+                          is_storable, key, levels, read_document, size)
 
 MOST_STATEMENTS = 100_000
 MOST_VIEWS = 1_000
@@ -36,8 +40,9 @@ LONGEST_LINE = 131_200
 LINE = re.compile(rb"(?s:#.*)?|(0|[1-9][0-9]{0,2}) (?:(end)|([0-9A-Fa-f]{2}(?: *[0-9A-Fa-f]{2})*))")
 
 # What docd may have beside `ping`, `insert` and a find of all documents; `find` stands for all fields of it.
-CHOICES = ["hello", "find", "delete", "update", "aggregate", "create", "drop", "group", "lookup"]
-AT_HAND = ["hello", "find", "update", "delete"]
+CHOICES = ["hello", "find", "delete", "update", "aggregate", "create", "drop", "group", "lookup", "indexes", "cursors",
+           "sessions", "sections"]
+AT_HAND = ["hello", "find", "update", "delete", "aggregate", "create", "drop", "sessions"]
 commands = set(AT_HAND)
 
 # Fields that every command takes and that change nothing.
@@ -47,19 +52,16 @@ IGNORED = set(b"lsid $readPreference $clusterTime readConcern writeConcern comme
 OK = b"ok", (INT32, 1)
 
 
-class Closing(Exception):
-    """A session is closed, with the number of the fault."""
-
-
 class NoSuchCut(Exception):
     """A write can't end for want of memory where it was asked to."""
 
 
 class Collection:
-    """Documents in the ascending order of the keys of their `_id`s."""
+    """Documents in the ascending order of the keys of their `_id`s, and its indexes in the order in which they were
+    made."""
 
     def __init__(self):
-        self.keys, self.documents = [], []
+        self.keys, self.documents, self.indexes = [], [], [ON_ID]
 
     def has(self, wanted):
         at = bisect.bisect_left(self.keys, wanted)
@@ -82,10 +84,10 @@ Effect = namedtuple("Effect", "matched changes")
 
 
 class Store:
-    """The collections and views by namespace."""
+    """The collections and views by namespace, and the cursors."""
 
     def __init__(self):
-        self.collections, self.views = {}, {}
+        self.collections, self.views, self.cursors = {}, {}, Cursors()
 
     def rows(self, place):
         """The documents of a collection or a view; none under any other name."""
@@ -104,38 +106,68 @@ class Store:
 
 
 def execute(store, body, cut=None):
-    """Carries a command out and gives its reply. A write may be cut for want of memory: at which statement, and behind
-    how many of its changes."""
+    """Carries a command without lists beside its body out and gives its reply. A write may be cut for want of memory: at
+    which statement, and behind how many of its changes."""
+    return answer_to(store, None, [(None, [body])], cut)
+
+
+def answer_to(store, session, sections, cut=None):
+    """Carries out the command that a message's sections bring, and gives its reply."""
     try:
-        return carry_out(store, read_document(body), cut)
+        read = {name: [read_document(one) for one in documents] for name, documents in sections}
+        (body,) = read.pop(None)
+        return carry_out(store, session, body, read, cut)
     except BsonFault as fault:
         return refused(INVALID_BSON, b"InvalidBSON: " + fault.args[0])
     except Refusal as fault:
         return refused(fault.code)
 
 
-def carry_out(store, body, cut):
+def carry_out(store, session, body, lists, cut):
     name = body[0][0] if body else b""
-    if name not in COMMANDS or not is_at_hand(name):
+    if name not in COMMANDS or not is_at_hand(name) or name == b"explain" and not is_of_find(body[0][1]):
         raise Refusal(COMMAND_NOT_FOUND)
     database, fields = database_name(body), dict(body)
     if name in FIELDS:
         check_fields(body, fields_at_hand(name), IGNORED | {b"$db"})
+        put_lists(fields, lists, LISTS.get(name))
         if any(needed not in fields for needed in needed_by(name, fields)):
             raise Refusal(FAILED_TO_PARSE)
     if name in WRITES:
         return write(store, namespace(database, fields[name][1]), name, fields, cut)
     if cut is not None:
         raise NoSuchCut
+    if name in OF_SESSIONS:
+        return COMMANDS[name](store, session, database, fields)
     return COMMANDS[name](store, database, fields)
 
 
+def is_of_find(value):
+    """Whether a document begins with `find`."""
+    kind, held = value
+    return kind == DOCUMENT and bool(held) and held[0][0] == b"find"
+
+
+def put_lists(fields, lists, wanted):
+    """Puts the documents beside a body under the name of the command's list, which may not be in the body too."""
+    for name, documents in lists.items():
+        if name != wanted or name in fields:
+            raise Refusal(FAILED_TO_PARSE)
+        fields[name] = ARRAY, [(DOCUMENT, one) for one in documents]
+
+
+OPTION_OF = {b"createIndexes": "indexes", b"dropIndexes": "indexes", b"explain": "indexes", b"getMore": "cursors",
+             b"killCursors": "cursors"}
+
+
 def is_at_hand(name):
-    return name in (b"ping", b"insert", b"find") or name.decode() in commands
+    return name in (b"ping", b"insert", b"find") or OPTION_OF.get(name, name.decode()) in commands
 
 
 def fields_at_hand(name):
-    return FIND_ALL if name == b"find" and "find" not in commands else FIELDS[name]
+    if name == b"find" and "find" not in commands:
+        return FIND_ALL
+    return FIELDS[name] | (BATCHES.get(name, {}) if "cursors" in commands else {})
 
 
 def database_name(body):
@@ -170,6 +202,26 @@ def natural(kind, held):
         raise Refusal(TYPE_MISMATCH)
     if held < 0:
         raise Refusal(BAD_VALUE)
+
+
+def any_number(kind, held):
+    if kind not in NUMBERS:
+        raise Refusal(TYPE_MISMATCH)
+
+
+def numbers(kind, held):
+    of_kind(ARRAY)(kind, held)
+    for one in held:
+        any_number(*one)
+
+
+def batch_document(kind, held):
+    of_kind(DOCUMENT)(kind, held)
+    check_fields(held, {b"batchSize": natural})
+
+
+def find_document(kind, held):
+    check_fields(held, fields_at_hand(b"find"), IGNORED)
 
 
 def zero_or_one(kind, held):
@@ -214,7 +266,13 @@ FIELDS = {
     b"aggregate": {b"aggregate": text, b"pipeline": array, b"cursor": empty_document, b"allowDiskUse": anything},
     b"create": {b"create": text, b"viewOn": text, b"pipeline": array},
     b"drop": {b"drop": text},
+    b"createIndexes": {b"createIndexes": text, b"indexes": documents},
+    b"dropIndexes": {b"dropIndexes": text, b"index": text},
+    b"explain": {b"explain": find_document, b"verbosity": anything},
+    b"getMore": {b"getMore": any_number, b"collection": text, b"batchSize": natural},
+    b"killCursors": {b"killCursors": text, b"cursors": numbers},
 }
+BATCHES = {b"find": {b"batchSize": natural, b"singleBatch": boolean}, b"aggregate": {b"cursor": batch_document}}
 FIND_ALL = {b"find": text, b"filter": empty_document}
 UPDATE_ENTRY = {b"q": document, b"u": update_document, b"multi": boolean, b"upsert": false_alone}
 DELETE_ENTRY = {b"q": document, b"limit": zero_or_one}
@@ -233,7 +291,9 @@ def check_fields(body, fields, ignored=frozenset()):
 def needed_by(name, fields):
     if name == b"create":
         return (b"viewOn", b"pipeline") if b"viewOn" in fields or b"pipeline" in fields else ()
-    return {b"aggregate": [b"pipeline"], **{write: [lists] for write, (lists, _) in WRITES.items()}}.get(name, [])
+    others = {b"aggregate": [b"pipeline"], b"createIndexes": [b"indexes"], b"dropIndexes": [b"index"],
+              b"getMore": [b"collection"], b"killCursors": [b"cursors"]}
+    return [LISTS[name]] if name in LISTS else others.get(name, [])
 
 
 def joined(database, name):
@@ -352,30 +412,64 @@ def fits(document):
     return size(document) <= MOST_BYTES and levels(DOCUMENT, document) <= MOST_LEVELS
 
 
-def find(store, database, fields):
+def find(store, session, database, fields):
+    place, test, parts = query(database, fields)
+    rows = sorted_rows(parts, [row for row in store.rows(place) if test(row)])
+    skip, limit = (fields.get(name, (INT32, 0))[1] for name in (b"skip", b"limit"))
+    rows = rows[skip:skip + limit if limit else None]
+    return first_answer(store, Cursor(session, place, rows), fields, fields.get(b"singleBatch", (BOOLEAN, False))[1])
+
+
+def query(database, fields):
+    """The namespace of a find, its filter as a test, and the parts of its sort."""
     place = namespace(database, fields[b"find"][1])
     test = filter_of(fields.get(b"filter", (DOCUMENT, []))[1])
     order = fields.get(b"sort", (DOCUMENT, []))[1]
-    parts = sort_of(order) if order else []
-    rows = sorted_rows(parts, [row for row in store.rows(place) if test(row)])
-    skip, limit = (fields.get(name, (INT32, 0))[1] for name in (b"skip", b"limit"))
-    return answer(place, rows[skip:skip + limit if limit else None])
+    return place, test, sort_of(order) if order else []
 
 
-def answer(place, rows):
-    """All rows in one batch."""
-    if sum(map(size, rows)) > MOST_BYTES or not all(map(fits, rows)):
+def first_answer(store, cursor, fields, is_single):
+    """The first batch of a cursor's rows, and the cursor's id, where rows are left and one is kept of them."""
+    if "cursors" not in commands:
+        if sum(map(size, cursor.rows)) > MOST_BYTES:
+            raise Refusal(TOO_LARGE)
+        batch, rest = cursor.rows, []
+    else:
+        batch, rest = split(cursor.rows, fields.get(b"batchSize", (INT32, FIRST_BATCH))[1])
+    rest = [] if is_single else rest
+    if rest:
+        store.cursors.check_room()
+    if not all(map(fits, cursor.rows)):
         raise Refusal(TOO_LARGE)
-    batch = (ARRAY, [(DOCUMENT, row) for row in rows])
-    return [(b"cursor", (DOCUMENT, [(b"firstBatch", batch), (b"id", (INT64, 0)), (b"ns", (TEXT, place))])), OK]
+    return answer(cursor.place, b"firstBatch", batch, store.cursors.keep(cursor._replace(rows=rest)))
 
 
-def aggregate(store, database, fields):
+def answer(place, name, batch, identity):
+    batch = ARRAY, [(DOCUMENT, row) for row in batch]
+    return [(b"cursor", (DOCUMENT, [(name, batch), (b"id", (INT64, identity)), (b"ns", (TEXT, place))])), OK]
+
+
+def get_more(store, session, database, fields):
+    place = namespace(database, fields[b"collection"][1])
+    most = fields.get(b"batchSize", (INT32, 0))[1]
+    batch, identity = store.cursors.more(fields[b"getMore"][1], session, place, most or None)
+    return answer(place, b"nextBatch", batch, identity)
+
+
+def kill_cursors(store, session, database, fields):
+    place = namespace(database, fields[b"killCursors"][1])
+    told = store.cursors.kill([held for _, held in fields[b"cursors"][1]], session, place)
+    return [(name, (ARRAY, [(INT64, one) for one in ones]))
+            for name, ones in zip((b"cursorsKilled", b"cursorsNotFound"), told)] + [OK]
+
+
+def aggregate(store, session, database, fields):
     place = namespace(database, fields[b"aggregate"][1])
     functions, names = pipeline_at_hand(fields)
     if any(joined(database, name) in store.views for name in names):
         raise Refusal(ON_VIEW)
-    return answer(place, rows_of(functions, store.rows(place), store.looker(place)))
+    rows = rows_of(functions, store.rows(place), store.looker(place))
+    return first_answer(store, Cursor(session, place, rows), dict(fields.get(b"cursor", (DOCUMENT, []))[1]), False)
 
 
 def pipeline_at_hand(fields):
@@ -412,77 +506,101 @@ def drop(store, database, fields):
     return [(b"ns", (TEXT, place)), OK]
 
 
+def create_indexes(store, database, fields):
+    place = namespace(database, fields[b"createIndexes"][1])
+    wanted = [entry_of(entry) for _, entry in fields[b"indexes"][1]]
+    if place in store.views:
+        raise Refusal(ON_VIEW)
+    old = store.collections[place].indexes if place in store.collections else [ON_ID]
+    new = with_indexes(old, wanted)
+    store.collections.setdefault(place, Collection()).indexes = new
+    return [(b"numIndexesBefore", (INT32, len(old))), (b"numIndexesAfter", (INT32, len(new))), OK]
+
+
+def drop_indexes(store, database, fields):
+    place, name = namespace(database, fields[b"dropIndexes"][1]), fields[b"index"][1]
+    if place in store.views:
+        raise Refusal(ON_VIEW)
+    if place not in store.collections:
+        raise Refusal(NAMESPACE_NOT_FOUND)
+    collection = store.collections[place]
+    old = collection.indexes
+    if name == ON_ID[0]:
+        raise Refusal(BAD_VALUE)
+    if name != b"*" and all(name != other for other, _ in old):
+        raise Refusal(INDEX_NOT_FOUND)
+    collection.indexes = [index for index in old if index == ON_ID or name not in (b"*", index[0])]
+    return [(b"nIndexesWas", (INT32, len(old))), OK]
+
+
+def explain(store, database, fields):
+    inner = dict(fields[b"explain"][1])
+    place, _, _ = query(database, inner)
+    rows, stage, plan = store.rows(place), b"VIEW" if place in store.views else b"COLLSCAN", None
+    if place in store.collections:
+        plan = plan_of(inner.get(b"filter", (DOCUMENT, []))[1], store.collections[place].indexes)
+    if plan is None:
+        return [(b"stage", (TEXT, stage)), (b"docs", (INT64, len(rows))), OK]
+    return [(b"stage", (TEXT, b"IXSCAN")), (b"index", (TEXT, plan[0])), (b"docs", (INT64, covered(plan, rows))), OK]
+
+
 # The list of a write's statements, and what one does.
 WRITES = {b"insert": (b"documents", insert_one), b"update": (b"updates", update_one), b"delete": (b"deletes", delete_one)}
 COMMANDS = {b"ping": ping, b"hello": hello, b"find": find, b"aggregate": aggregate, b"create": create, b"drop": drop,
-            **dict.fromkeys(WRITES)}
+            b"createIndexes": create_indexes, b"dropIndexes": drop_indexes, b"explain": explain, b"getMore": get_more,
+            b"killCursors": kill_cursors, **dict.fromkeys(WRITES)}
+OF_SESSIONS = {b"find", b"aggregate", b"getMore", b"killCursors"}  # what they answer goes by the session
+# The lists that may stand beside a body.
+LISTS = {name: lists for name, (lists, _) in WRITES.items()}
 
 
-def take_message(stream):
-    """The length, requestID, flag bits and body of the whole message in front of a stream, None where it isn't there
-    yet. A closing fault is told as soon as the bytes show it."""
-    length = int32(stream, 0) if len(stream) >= 4 else None
-    if length is not None and not 26 <= length <= 48_000_000:
-        raise Closing(1)
-    if len(stream) >= 16 and int32(stream, 12) != 2013:
-        raise Closing(2)
-    flags = struct.unpack_from("<I", stream, 16)[0] if len(stream) >= 20 else 0
-    if flags & 1:
-        raise Closing(4)
-    if flags & 0xFFFC:
-        raise Closing(3)
-    if length is None or len(stream) < length:
-        return None
-    # One section of kind 0, whose document ends where the message does.
-    if stream[20] != 0 or int32(stream, 21) != length - 21:
-        raise Closing(5)
-    return length, int32(stream, 4), flags, stream[21:length]
+class Session:
+    """Its bytes that no message has taken, and whether a fault has closed it."""
 
-
-def message(request, body):
-    """The bytes of a reply to the message with this requestID."""
-    data = spelling(body)
-    return struct.pack("<iiiiIB", 21 + len(data), 0, request, 2013, 0, 0) + data
+    def __init__(self):
+        self.stream, self.is_closed = b"", False
 
 
 class Machine:
-    """The store, and the one session that may be open: its number, its bytes that no message has taken, and whether a
-    fault has closed it."""
+    """The store, and the open sessions by their numbers in the script."""
 
     def __init__(self):
-        self.store, self.open, self.stream, self.is_closed = Store(), None, b"", False
+        self.store, self.sessions = Store(), {}
 
     def line(self, text):
-        """What one line of a script prints, as a list of lines, or None: it is bad, or would open a second session."""
+        """What one line of a script prints, as a list of lines, or None: it is bad, or would open a session too many."""
         form = LINE.fullmatch(text)
-        if len(text) > LONGEST_LINE or not form or self.open not in (None, form[1] or self.open):
+        if len(text) > LONGEST_LINE or not form:
             return None
-        if form[1] is None:
+        number = form[1]
+        if number is None:
             return []
-        if self.open is None:
-            self.open, self.stream, self.is_closed = form[1], b"", False
-        return self.end() if form[2] else self.feed(bytes.fromhex(form[3].decode()))
+        if number not in self.sessions:
+            if self.sessions and "sessions" not in commands:
+                return None
+            self.sessions[number] = Session()
+        return self.end(number) if form[2] else self.feed(number, bytes.fromhex(form[3].decode()))
 
-    def end(self):
-        said = [b"%s end %d" % (self.open, 0 if self.is_closed else len(self.stream))]
-        self.open = None
-        return said
+    def end(self, number):
+        session = self.sessions.pop(number)
+        self.store.cursors.end(session)
+        return [b"%s end %d" % (number, 0 if session.is_closed else len(session.stream))]
 
-    def feed(self, data):
-        said = []
-        if self.is_closed:
+    def feed(self, number, data):
+        session, said = self.sessions[number], []
+        if session.is_closed:
             return said
-        self.stream += data
+        session.stream += data
         try:
-            while (taken := take_message(self.stream)) is not None:
-                length, request, flags, body = taken
-                self.stream = self.stream[length:]
-                reply = execute(self.store, body)
+            while (taken := take_message(session.stream, "sections" in commands)) is not None:
+                length, request, flags, sections = taken
+                session.stream = session.stream[length:]
+                reply = answer_to(self.store, session, sections)
                 if not flags & 2:
-                    said.append(b"%s %s" % (self.open, message(request, reply).hex().encode()))
+                    said.append(b"%s %s" % (number, message(request, reply).hex().encode()))
         except Closing as fault:
-            self.is_closed = True
-            said.append(b"%s closed %d" % (self.open, fault.args[0]))
+            session.is_closed = True
+            said.append(b"%s closed %d" % (number, fault.args[0]))
         return said
 
 

@@ -7,7 +7,10 @@ begins with a word instead of a brace is short for a command on the collection c
 
     insert DOCUMENTS             find FILTER [SORT]        delete ENTRIES
     update ON UPDATE [multi]     aggregate STAGES          view STAGES (named v, over c)
+    explain FILTER
     (`update` first puts the document ON alone into an empty collection, and answers what is found then)
+
+A line that begins with a number and `>` is one of that session, the others are of session 0.
 
     python3 tools/machine_rows.py
 """
@@ -26,6 +29,46 @@ an equal number of the other width is the same _id
 a range's two bounds may hold of two elements
     insert [{_id: 1, a: [0, 5]}, {_id: 2, a: 4}, {_id: 3, a: 1}] => {n: 3, ok: 1}
     find {a: {$gt: 1, $lt: 3}} => ids 1
+    explain {a: {$gt: 1, $lt: 3}} => {stage: "COLLSCAN", docs: 3L, ok: 1}
+    {createIndexes: "c", indexes: [{key: {a: 1}, name: "a_1"}]} => {numIndexesBefore: 1, numIndexesAfter: 2, ok: 1}
+    find {a: {$gt: 1, $lt: 3}} => ids 1
+    explain {a: {$gt: 1, $lt: 3}} => {stage: "IXSCAN", index: "a_1", docs: 2L, ok: 1}
+
+a document is found once by an index, whatever elements match
+    insert [{_id: 1, a: [1, 1L, 2]}] => {n: 1, ok: 1}
+    {createIndexes: "c", indexes: [{key: {a: 1}, name: "a_1"}]} => {numIndexesBefore: 1, numIndexesAfter: 2, ok: 1}
+    find {a: {$in: [1, 2]}} => ids 1
+    explain {a: {$in: [1, 2]}} => {stage: "IXSCAN", index: "a_1", docs: 1L, ok: 1}
+    {createIndexes: "c", indexes: [{key: {a: 1}, name: "b_1"}]} => code 40
+    {createIndexes: "c", indexes: [{key: {b: 1}, name: "b_1"}, {key: {c: 1}, name: "b_1"}]} => code 40
+    {createIndexes: "c", indexes: [{key: {_id: -1}, name: "a_1"}]} => {numIndexesBefore: 2, numIndexesAfter: 2, ok: 1}
+    {dropIndexes: "c", index: "_id_"} => code 2
+    {dropIndexes: "c", index: "x_1"} => code 27
+    {dropIndexes: "c", index: "*"} => {nIndexesWas: 2, ok: 1}
+    {createIndexes: "d", indexes: []} => {numIndexesBefore: 1, numIndexesAfter: 1, ok: 1}
+    {drop: "d"} => {ns: "t.d", ok: 1}
+
+an equality on a later index comes before a range on an earlier one
+    {createIndexes: "c", indexes: [{key: {a: 1}, name: "a_1"}, {key: {b: 1}, name: "b_1"}]} => {numIndexesBefore: 1, numIndexesAfter: 3, ok: 1}
+    insert [{_id: 1, a: 2, b: 1}, {_id: 2, a: 3, b: 2}] => {n: 2, ok: 1}
+    find {$and: [{a: {$gte: 2}}, {b: 1}]} => ids 1
+    explain {$and: [{a: {$gte: 2}}, {b: 1}]} => {stage: "IXSCAN", index: "b_1", docs: 1L, ok: 1}
+    explain {$or: [{a: 2}]} => {stage: "COLLSCAN", docs: 2L, ok: 1}
+
+a cursor keeps the rows of its moment, for its session
+    insert [{_id: 1}, {_id: 2}, {_id: 3}] => {n: 3, ok: 1}
+    {find: "c", batchSize: 1} => {cursor: {firstBatch: [{_id: 1}], id: 1L, ns: "t.c"}, ok: 1}
+    1> {delete: "c", deletes: [{q: {}, limit: 0}]} => {n: 3, ok: 1}
+    1> {getMore: 1L, collection: "c"} => code 43
+    {getMore: 1L, collection: "c"} => {cursor: {nextBatch: [{_id: 2}, {_id: 3}], id: 0L, ns: "t.c"}, ok: 1}
+    {getMore: 1L, collection: "c"} => code 43
+
+batches without rows, and cursors that are killed
+    insert [{_id: 1}] => {n: 1, ok: 1}
+    {find: "c", batchSize: 0} => {cursor: {firstBatch: [], id: 1L, ns: "t.c"}, ok: 1}
+    1> {killCursors: "c", cursors: [1L, 9L]} => {cursorsKilled: [], cursorsNotFound: [1L, 9L], ok: 1}
+    {killCursors: "c", cursors: [1L, 9L]} => {cursorsKilled: [1L], cursorsNotFound: [9L], ok: 1}
+    {find: "c", batchSize: 0, singleBatch: true} => {cursor: {firstBatch: [], id: 0L, ns: "t.c"}, ok: 1}
 
 null, missing and empty
     insert [{_id: 1}, {_id: 2, a: null}, {_id: 3, a: []}, {_id: 4, a: [null]}] => {n: 4, ok: 1}
@@ -153,6 +196,38 @@ SCRIPTS = {
         0 29000000 00000000 01000000 dd070000 00000000 00 14000000 106e0001000000 106f6b0001000000 00
         0 69000000 00000000 02000000 dd070000 00000000 00 54000000 03 637572736f7200 3f000000 04 6669727374426174636800 16000000 03 3000 0e000000 10 5f696400 01000000 00 00 12 696400 0000000000000000 02 6e7300 04000000 742e6300 00 10 6f6b00 01000000 00
     """),
+    "documents beside the body": ("""
+        0 5a000000 0b000000 00000000 dd070000 00000000 00 28000000 02 696e7365727400 02000000 6300 08 6f72646572656400 01 02 24646200 02000000 7400 00 01 1c000000 646f63756d656e747300 0e000000 10 5f696400 01000000 00
+        1 19000000
+    """, """
+        0 29000000 00000000 0b000000 dd070000 00000000 00 14000000 106e0001000000 106f6b0001000000 00
+        1 closed 1
+    """),
+    "two sessions, of which one ends inside a message": ("""
+        0 2f000000 07000000
+        1 2f000000 09000000 00000000 dd070000 00000000 00 1a000000 1070696e670001000000 0224646200020000007400 00
+        0 00000000 dd070000 00000000 00 1a000000 1070696e670001000000 0224646200020000007400 00 2f
+        0 end
+        1 2f000000 0a000000 00000000 d4070000
+        1 end
+    """, """
+        1 220000000000000009000000dd07000000000000000d000000106f6b000100000000
+        0 220000000000000007000000dd07000000000000000d000000106f6b000100000000
+        0 end 1
+        1 closed 2
+        1 end 0
+    """),
+    "faults of sections": ("""
+        0 1a000000 01000000 00000000 dd070000 00000000 00 05000000 00
+        1 20000000 01000000 00000000 dd070000 00000000 00 05000000 00 00 05000000 00
+        2 1b000000 01000000 00000000 dd070000 00000000 01 06000000 6100
+        3 1b000000 01000000 00000000 dd070000 00000000 01 ffffffff 6100
+    """, """
+        0 66000000000000000100000 0dd07000000000000005100000010 6f6b0000000000 02 6572726d736700 10000000 436f6d6d616e644e6f74466f756e6400 10 636f646500 3b000000 02 636f64654e616d6500 10000000 436f6d6d616e644e6f74466f756e6400 00
+        1 closed 5
+        2 closed 5
+        3 closed 5
+    """),
     "an unfinished message at a session's end": ("""
         0 2f000000 07000000
         0 00000000 dd070000 00000000 00 1a000000 1070696e670001000000 0224646200020000007400 00 2f
@@ -244,6 +319,8 @@ def commands_of(text):
         return [[(b"find", name), (b"filter", parts[0])] + [(b"sort", part) for part in parts[1:]]]
     if word == "delete":
         return [[(b"delete", name), (b"deletes", parts[0])]]
+    if word == "explain":
+        return [[(b"explain", (DOCUMENT, [(b"find", name), (b"filter", parts[0])]))]]
     if word == "aggregate":
         return [[(b"aggregate", name), (b"pipeline", parts[0])]]
     if word == "view":
@@ -255,8 +332,8 @@ def commands_of(text):
     return [emptied, [(b"insert", name), (b"documents", (ARRAY, parts[:1]))], changed, [(b"find", name)]]
 
 
-def answered(store, command):
-    return machine.execute(store, spelling(command + [(b"$db", (TEXT, b"t"))]))
+def answered(store, session, command):
+    return machine.answer_to(store, session, [(None, [spelling(command + [(b"$db", (TEXT, b"t"))])])])
 
 
 def holds(replies, wanted):
@@ -281,7 +358,9 @@ def check_examples(tell):
             store, name = machine.Store(), line
         elif line:
             text, wanted = line.strip().split(" =>")
-            replies = [answered(store, command) for command in commands_of(text)]
+            session, is_named, rest = text.partition("> ")
+            session, text = (session, rest) if is_named and session.isdigit() else ("0", text)
+            replies = [answered(store, session, command) for command in commands_of(text)]
             tell(holds(replies, wanted.strip()), "%s: %s\n    %r" % (name, line.strip(), replies[-1]))
 
 

@@ -7,6 +7,8 @@ something: a path is walked through one of them, and an operand is what stands t
 import struct
 
 import machine
+from model import messages
+from model.paths import whole
 from model.values import (ARRAY, BINARY, BOOLEAN, DATETIME, DOCUMENT, INT32, INT64, MAX_KEY, MIN_KEY, NULL, NUMBERS, OBJECT_ID,
                           TEXT, TIMESTAMP, payload)
 
@@ -55,7 +57,19 @@ def array(values):
 
 
 def message(body, request=1, flags=0):
-    return struct.pack("<iiiiIB", 21 + len(body), request, 0, 2013, flags, 0) + body
+    return joined([section(None, [body])], request, flags)
+
+
+def joined(sections, request, flags):
+    """The bytes of a message of these sections."""
+    data = b"".join(sections)
+    return struct.pack("<iiiiI", 20 + len(data), request, 0, 2013, flags) + data
+
+
+def section(name, documents):
+    """The bytes of a section: the body, or a list of documents under a name."""
+    data = b"".join(documents)
+    return b"\0" + data if name is None else b"\1" + struct.pack("<i", 5 + len(name) + len(data)) + name + b"\0" + data
 
 
 def distinct(fields):
@@ -483,12 +497,16 @@ class Maker(Pipelines):
 
     def __init__(self, rng, commands):
         super().__init__(rng)
-        self.commands, self.messages = commands, 0
+        self.commands, self.messages, self.session = commands, 0, object()
         self.makers = [self.insert] * 5 + [self.find] * 10 + [self.ping]
         shares = {"hello": (self.hello, 1), "delete": (self.delete, 3), "update": (self.update_command, 7),
                   "aggregate": (self.aggregate, 7), "create": (self.create, 2), "drop": (self.drop, 1)}
         for name, (maker, share) in shares.items():
             self.makers += [maker] * (share * (name in commands))
+        if "indexes" in commands:
+            self.makers += [self.create_indexes] * 3 + [self.drop_indexes] + [self.explain] * 4
+        if "cursors" in commands:
+            self.makers += [self.get_more] * 6 + [self.kill_cursors]
 
     def collection(self):
         if self.often(0.96):
@@ -521,10 +539,29 @@ class Maker(Pipelines):
         fields = [(b"find", self.collection())]
         if "find" not in self.commands:
             return fields + [(b"filter", document([]))] * self.often(0.5)
-        others = [(b"filter", self.filter())] * self.often(0.85) + [(b"sort", self.sort())] * self.often(0.4)
+        others = [(b"filter", self.filter_by_index())] * self.often(0.85) + [(b"sort", self.sort())] * self.often(0.4)
         others += [(b"skip", self.natural())] * self.often(0.15) + [(b"limit", self.natural())] * self.often(0.3)
-        others += [(b"projection", document([]))] * self.often(0.03)
+        others += [(b"projection", document([]))] * self.often(0.03) + self.batch(0.4)
         return fields + (others if self.often(0.7) else self.rng.sample(others, len(others)))
+
+    def filter_by_index(self):
+        """A filter; where there are indexes, mostly one that begins with a path of one of them."""
+        made, collection = self.filter(), self.store.collections.get(b"t.c")
+        if len(collection.indexes if collection else []) < 2 or self.often(0.4):
+            return made
+        path = b".".join(self.rng.choice(collection.indexes)[1])
+        candidates = [one for fields in self.documents[:20] for one in whole((DOCUMENT, fields), path.split(b".")) if one]
+        condition = path, self.condition(self.rng.choice(candidates or [NOTHING]), 1)
+        if self.often(0.2):
+            condition = b"$and", array([document([condition]), *([made] * self.often(0.5))])
+        return document(distinct([condition, *made[1][1:]]))
+
+    def batch(self, share):
+        """How many documents a batch has, and whether it is the only one."""
+        if "cursors" not in self.commands:
+            return []
+        single = [(b"singleBatch", boolean(self.often(0.5)))] * self.often(0.1)
+        return [(b"batchSize", self.natural())] * self.often(share) + single
 
     def natural(self):
         if self.often(0.05):
@@ -586,7 +623,8 @@ class Maker(Pipelines):
 
     def aggregate(self):
         fields = [(b"aggregate", self.collection()), (b"pipeline", self.pipeline(self.commands))]
-        fields += [(b"cursor", document([]))] * self.often(0.5) + [(b"allowDiskUse", self.value(3))] * self.often(0.05)
+        fields += [(b"cursor", document([field for field in self.batch(0.6) if field[0] == b"batchSize"]))] * self.often(0.5)
+        fields += [(b"allowDiskUse", self.value(3))] * self.often(0.05)
         return fields + [(b"cursor", document([(b"x", number(1))]))] * self.often(0.01)
 
     def create(self):
@@ -597,6 +635,53 @@ class Maker(Pipelines):
     def drop(self):
         name = self.rng.choice([b"c", b"d", b"d", b"v", b"v", b"w", b"w"])
         return [(b"drop", text(name) if self.often(0.9) else self.collection())]
+
+    def create_indexes(self):
+        entries = [self.index_entry() for _ in range(self.rng.choice([0, 1, 1, 1, 2, 3]))]
+        return [(b"createIndexes", self.collection()), (b"indexes", array(entries))]
+
+    def index_entry(self):
+        path = self.rng.choice([b"a", b"a", b"b", b"a.b", b"a.0", b"_id"]) if self.often(0.7) else self.path()[0]
+        name = path.replace(b"\0", b"") + b"_1" if self.often(0.9) else self.rng.choice([b"a_1", b"_id_", b"", b"x" * 120, b"x" * 121])
+        key = [(path, number(self.rng.choice([1, -1]), self.often(0.2)))]
+        if self.often(0.03):
+            key = self.rng.choice([[], key + [(b"z", number(1))], [(path, number(2))], [(path, text(b"1"))]])
+        fields = [(b"key", document(key)), (b"name", text(name))] + [(b"v", self.value(3))] * self.often(0.1)
+        fields += [(b"unique", boolean(self.often(0.2)))] * self.often(0.05)
+        return self.entry(fields)
+
+    def drop_indexes(self):
+        name = self.rng.choice([b"a_1", b"b_1", b"a.b_1", b"_id_", b"*", b"x"])
+        return [(b"dropIndexes", self.collection()), (b"index", text(name) if self.often(0.95) else self.value(3))]
+
+    def explain(self):
+        find = self.find()
+        if self.often(0.05):
+            find = self.rng.choice([find[::-1], [], find + [(b"$db", text(b"t"))], find + [(b"lsid", NOTHING)], find + [(b"x", NOTHING)]])
+        held = document(distinct(find)) if self.often(0.97) else self.value(2)
+        return [(b"explain", held)] + [(b"verbosity", self.value(3))] * self.often(0.2)
+
+    def cursor(self):
+        """The id of a cursor that is there, was there, or never was, and its collection, if it is there."""
+        kept, latest = self.store.cursors.open, self.store.cursors.last
+        own = [one for one in kept if kept[one].session is self.session] or list(kept)
+        if own and self.often(0.8):
+            one = self.rng.choice(own)
+            return number(one, self.often(0.9)), text(kept[one].place.partition(b".")[2])
+        return number(self.rng.choice([-1, 0, latest, latest - 1, latest + 1, 2**40]), self.often(0.9)), self.collection()
+
+    def get_more(self):
+        if self.often(0.5) and not self.store.cursors.open:
+            return self.find()
+        identity, collection = self.cursor()
+        fields = [(b"getMore", identity if self.often(0.97) else self.value(2)),
+                  (b"collection", collection if self.often(0.95) else self.collection())]
+        return fields + [(b"batchSize", self.natural())] * self.often(0.5)
+
+    def kill_cursors(self):
+        cursors = [self.cursor() for _ in range(self.rng.choice([0, 1, 2, 3]))] + [(self.value(3), NOTHING)] * self.often(0.03)
+        collection = cursors[0][1] if cursors and self.often(0.8) else self.collection()
+        return [(b"killCursors", collection), (b"cursors", array(identity for identity, _ in cursors))]
 
     def changed(self, fields):
         place = self.rng.randrange(len(fields))
@@ -623,9 +708,11 @@ class Maker(Pipelines):
     def carried_out(self, data):
         """The same message, which the model's store has carried out."""
         try:
-            machine.execute(self.store, data[21:])
-        except (IndexError, struct.error):
-            pass  # its body's length isn't one
+            taken = messages.take_message(data, "sections" in self.commands)
+            if taken:
+                machine.answer_to(self.store, self.session, taken[3])
+        except messages.Closing:
+            pass
         return data
 
     def message(self):
@@ -633,7 +720,7 @@ class Maker(Pipelines):
         flags = self.rng.choice([2, 65536, 65538, 2**31]) if self.often(0.1) else 0
         if self.often(0.003):
             flags = self.rng.choice([1, 4, 5, 2**15])
-        data = message(spelled(self.command()), self.rng.randint(-2**31, 2**31 - 1), flags)
+        data = joined(self.sections(self.command()), self.rng.randint(-2**31, 2**31 - 1), flags)
         if self.often(0.03):
             # A byte of the fields, mostly, since one in front of them closes the session.
             place = self.rng.randrange(25 if self.often(0.9) else 0, len(data) - 1)
@@ -643,6 +730,26 @@ class Maker(Pipelines):
             data += self.rng.choice([b"", b"\0", spelled([]), b"\1" + struct.pack("<i", 6) + b"x\0"])
             data = struct.pack("<i", self.rng.choice([len(data), 25, -1, 48_000_001])) + data[4:]
         return self.carried_out(data)
+
+    def sections(self, fields):
+        """The sections of a message of these fields: a list of documents may stand beside the body."""
+        lists = []
+        if "sections" in self.commands and self.often(0.4):
+            at = next((at for at, (_, (kind, held)) in enumerate(fields)
+                       if kind == ARRAY and not isinstance(held, Broken) and all(one[0] == DOCUMENT for one in held)), None)
+            if at is not None:
+                name, (_, held) = fields[at]
+                lists.append(section(name, [data_of(*one) for one in held]))
+                if self.often(0.97):
+                    fields = fields[:at] + fields[at + 1:]
+            if self.often(0.04):
+                name = self.rng.choice([b"documents", b"deletes", b"x", b"", b"\xff"])
+                lists.append(section(name, [spelled([])] * self.rng.randrange(3)))
+        made = [section(None, [spelled(fields)]), *lists]
+        made += [section(None, [spelled([])])] * ("sections" in self.commands and self.often(0.003))
+        if self.often(0.4):
+            self.rng.shuffle(made)
+        return made
 
     def pieces(self, messages):
         """The same bytes, cut in another way."""
@@ -657,22 +764,36 @@ class Maker(Pipelines):
 
     def script(self):
         """The lines of a script, and lines that bring the same messages, each as a line of its own."""
-        cut, plain = [], []
-        for _ in range(self.rng.randint(1, 4)):
-            session = self.rng.choice([0, 0, 7, 999])
-            messages = [] if self.made else [self.first()]
-            messages += [self.message() for _ in range(self.rng.randint(1, 25))]
-            messages.append(message(spelled([*FIND, (b"$db", text(b"t"))])))  # shows what stands in the end
-            for lines, pieces in ((cut, self.pieces(messages)), (plain, messages)):
-                lines += [self.line(session, piece[at:at + PIECE]) for piece in pieces for at in range(0, len(piece), PIECE)]
-            ends = self.often(0.97)
-            for lines in (cut, plain):
-                lines += [b"%d end" % session] * ends
+        interleaves = "sessions" in self.commands and self.often(0.7)
+        numbers = self.rng.sample([0, 7, 255, 999], 4) if interleaves else [self.rng.choice([0, 0, 7, 999]) for _ in range(4)]
+        runs = [self.run(number) for number in numbers[:self.rng.randint(1, 4)]]
+        cut, plain = [lines for lines, _ in runs], [lines for _, lines in runs]
+        if interleaves:
+            cut, plain = self.interleaved(cut), self.interleaved(plain)
+        else:
+            cut, plain = sum(cut, []), sum(plain, [])
         if self.often(0.05):
             last = self.rng.choice([b"0", b"1000 end", b"0 0", b"00 end", b" ", b"1 end ", b"5 end", b"# end", b""])
             cut.append(last)
             plain.append(last)
         return cut, plain
+
+    def run(self, number):
+        """The lines of one session, cut anywhere, and a message in each."""
+        self.session = object()
+        made = [] if self.made else [self.first()]
+        made += [self.message() for _ in range(self.rng.randint(1, 25))]
+        made.append(message(spelled([*FIND, (b"$db", text(b"t"))])))  # shows what stands in the end
+        ends = [b"%d end" % number] * self.often(0.97)
+        return tuple([self.line(number, piece[at:at + PIECE]) for piece in pieces for at in range(0, len(piece), PIECE)] + ends
+                     for pieces in (self.pieces(made), made))
+
+    def interleaved(self, runs):
+        """The lines of the runs, each run's in their order."""
+        order = [place for place, lines in enumerate(runs) for _ in lines]
+        self.rng.shuffle(order)
+        left = [iter(lines) for lines in runs]
+        return [next(left[place]) for place in order]
 
     def line(self, session, piece):
         digits = piece.hex(" ") if self.often(0.2) and len(piece) < 40_000 else piece.hex()
@@ -681,8 +802,12 @@ class Maker(Pipelines):
 
 def lines_of(*bodies):
     """The lines of session 0 that bring these commands."""
+    return lines_of_session(0, *bodies)
+
+
+def lines_of_session(session, *bodies):
     stream = b"".join(message(spelled([*body, (b"$db", text(b"t"))])) for body in bodies)
-    return [b"0 %s" % stream[i:i + PIECE].hex().encode() for i in range(0, len(stream), PIECE)]
+    return [b"%d %s" % (session, stream[i:i + PIECE].hex().encode()) for i in range(0, len(stream), PIECE)]
 
 
 def insert(documents, *others):

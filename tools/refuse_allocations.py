@@ -123,6 +123,16 @@ def three(*commands):
     return [Message(0, insert("c", there)), *commands, End(0), Message(1, {"find": "c", "$db": "t"}), End(1)]
 
 
+def viewed(*commands):
+    """Commands on a collection of which there are two views, and what it and they hold afterwards."""
+    there = [{"_id": place, "n": 7 - place, "tags": ["t%d" % place, "all"]} for place in range(1, 4)]
+    views = {"v": [{"$match": {"n": {"$gte": 4}}}, {"$unwind": "$tags"}, {"$project": {"tag": "$tags"}}],
+             "w": [{"$sort": {"n": 1}}, {"$limit": 2}]}
+    made = [{"create": name, "viewOn": "c", "pipeline": stages, "$db": "t"} for name, stages in views.items()]
+    finds = [Message(1, {"find": name, "$db": "t"}) for name in ("v", "w", "c", "v")]
+    return [Message(0, insert("c", there)), *(Message(0, one) for one in made), *commands, End(0), *finds, End(1)]
+
+
 def delete(*entries):
     return Message(0, {"delete": "c", "deletes": list(entries), "$db": "t"})
 
@@ -154,6 +164,8 @@ SOME = {"n": {"$lt": 6}, "tags": "all"}
 SORTED = {"find": "c", "filter": {"$or": [{"tags": {"$in": ["t2", "t4", "t9"]}}, {"in.a": {"$gte": 4}}]},
           "sort": {"tags": -1, "n": 1}, "skip": 1, "limit": 2, "$db": "t"}
 EACH = {"q": SOME, "u": {"$set": {"x.y": "new"}, "$push": {"tags": "more"}, "$inc": {"n": 1}}, "multi": True}
+STAGES = [{"$match": {"n": {"$lt": 6}}}, {"$unwind": "$tags"}, {"$project": {"both": {"a": "$tags", "b": "$in.a"}}},
+          {"$sort": {"both": -1}}, {"$limit": 3}]
 # The scripts that need more than pings, inserts and finds of all documents, by what they need.
 FURTHER = {
     "find": {"a find with a sort": three(Message(0, SORTED)),
@@ -167,6 +179,17 @@ FURTHER = {
                                        {"q": {}, "u": {"$pull": {"tags": "all"}}},
                                        {"q": {"_id": 1}, "u": {"$unset": {"in": 1}}},
                                        {"q": {}, "u": {"$inc": {"in": 1}}, "multi": True}))},
+    "aggregate": {"an aggregate": three(Message(0, {"aggregate": "c", "pipeline": STAGES, "cursor": {}, "$db": "t"}))},
+    "create": {"two views and an insert": viewed(Message(0, insert("c", [{"_id": 0, "n": 5, "tags": ["new"]}]))),
+               "two views and an update": viewed(update({"q": {"n": {"$gt": 4}}, "u": {"$inc": {"n": -2}}, "multi": True})),
+               "two views and a delete": viewed(delete({"q": {"n": {"$gt": 4}}, "limit": 0})),
+               "a collection and a view that is refused": viewed(Message(0, {"create": "d", "$db": "t"}),
+                                                                 Message(0, {"create": "v", "$db": "t"}))},
+    "drop": {"two views and a drop": viewed(Message(0, {"drop": "c", "$db": "t"}), Message(0, {"drop": "w", "$db": "t"}))},
+    "group": {"groups": three(Message(0, {"aggregate": "c", "pipeline": [{"$unwind": "$tags"}, {"$group": {
+        "_id": "$tags", "n": {"$sum": "$n"}, "least": {"$min": "$in"}, "all": {"$push": "$n"}}}], "cursor": {}, "$db": "t"}))},
+    "lookup": {"a lookup": three(Message(0, {"aggregate": "c", "pipeline": [{"$lookup": {
+        "from": "c", "localField": "n", "foreignField": "_id", "as": "others"}}], "cursor": {}, "$db": "t"}))},
 }
 
 

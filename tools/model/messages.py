@@ -1,0 +1,79 @@
+"""OP_MSG: whole messages taken off a stream, and replies."""
+import struct
+
+from model.values import BsonFault, int32, spelling, utf8
+
+BODY, LIST = 0, 1  # kinds of sections
+
+
+class Closing(Exception):
+    """A session is closed, with the number of the fault."""
+
+
+def wanted(is_right):
+    if not is_right:
+        raise Closing(5)
+
+
+def take_message(stream, has_lists):
+    """The length, requestID, flag bits and sections of the whole message in front of a stream, None where it isn't there
+    yet. A section is its identifier, None for the body's, and the bytes of its documents. A closing fault is told as soon
+    as the bytes show it. Where lists aren't to be had, there is the body alone."""
+    length = int32(stream, 0) if len(stream) >= 4 else None
+    if length is not None and not 26 <= length <= 48_000_000:
+        raise Closing(1)
+    if len(stream) >= 16 and int32(stream, 12) != 2013:
+        raise Closing(2)
+    flags = struct.unpack_from("<I", stream, 16)[0] if len(stream) >= 20 else 0
+    if flags & 1:
+        raise Closing(4)
+    if flags & 0xFFFC:
+        raise Closing(3)
+    if length is None or len(stream) < length:
+        return None
+    sections = sections_of(stream[20:length])
+    wanted(has_lists or len(sections) == 1)
+    return length, int32(stream, 4), flags, sections
+
+
+def sections_of(data):
+    sections, at = [], 0
+    while at < len(data):
+        kind = data[at]
+        if kind == BODY:
+            documents, at = framed(data, at + 1, len(data), most=1)
+            sections.append((None, documents))
+            continue
+        wanted(kind == LIST and at + 5 <= len(data))
+        start, end = at + 5, at + 1 + int32(data, at + 1)
+        zero = data.find(0, start, end)
+        wanted(end <= len(data) and zero >= 0)
+        documents, at = framed(data, zero + 1, end)
+        sections.append((identifier(data[start:zero]), documents))
+    names = [name for name, _ in sections]
+    wanted(names.count(None) == 1 and len(set(names)) == len(names))
+    return sections
+
+
+def identifier(text):
+    try:
+        return utf8(text)
+    except BsonFault:
+        raise Closing(5) from None
+
+
+def framed(data, at, end, most=None):
+    """The bytes of the documents from a place to the end, or of so many, and where they end."""
+    documents = []
+    while at < end and len(documents) != most:
+        wanted(at + 4 <= end and 5 <= int32(data, at) <= end - at)
+        documents.append(data[at:at + int32(data, at)])
+        at += len(documents[-1])
+    wanted(most in (None, len(documents)))
+    return documents, at
+
+
+def message(request, body):
+    """The bytes of a reply to the message with this requestID."""
+    data = spelling(body)
+    return struct.pack("<iiiiIB", 21 + len(data), 0, request, 2013, 0, 0) + data
