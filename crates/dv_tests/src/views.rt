@@ -85,7 +85,10 @@ fn a_view_has_its_rows_until_what_it_reads_changes(rt: HostRuntime) -> Result<()
     let before = documents_of(alloc, &ORDERED)?;
     let mut registry = Registry::new(alloc);
     let first_two = pipeline(alloc, &FIRST_TWO)?;
-    assert_eq!(rt; registry.create("t.v", "t.c", first_two, &sources_of(alloc, &before)?), Ok(()));
+    assert_eq!(rt;
+        registry.create("t.v", "t.c", first_two, &sources_of(alloc, &before)?),
+        Ok(())
+    );
     assert_eq!(rt; registry.state("t.v"), Some(ViewState::Live));
     assert!(rt; keeps(alloc, &registry, "t.v", &ORDERED[..2])?);
 
@@ -137,7 +140,10 @@ fn views_stand_in_creation_order(rt: HostRuntime) -> Result<(), Fail> {
     let none = Sources::new(alloc);
     let mut registry = Registry::new(alloc);
     for name in ["t.x", "t.a", "t.m"] {
-        assert_eq!(rt; registry.create(name, "t.c", pipeline(alloc, &FIRST_TWO)?, &none), Ok(()));
+        assert_eq!(rt;
+            registry.create(name, "t.c", pipeline(alloc, &FIRST_TWO)?, &none),
+            Ok(())
+        );
     }
     assert!(rt; registry.remove("t.x"));
     assert!(rt; !registry.remove("t.x"));
