@@ -1,17 +1,18 @@
 -- Names beside values, as one value is put in place of another, or a field is taken away.
-use Rattle.std.proofs.Common.{◌≡◌, ℕ, zero, suc, ◌+◌, ◌-◌, ◌≤◌, ◌<◌, true, false, List, [], ◌∷◌, ◌++◌, length, take, drop, map, Some, None, refl, sym, ap, ◌∙◌, arith, add-one}
+use Rattle.std.proofs.Common.{◌≡◌, ℕ, zero, suc, ◌+◌, ◌-◌, ◌≤◌, ◌<◌, true, false, List, [], ◌∷◌, ◌++◌, length, take, drop, map, Some, None, is_some, refl, sym, ap, ◌∙◌, arith, add-one}
 use Rattle.std.specs.Prelude.{slice_set, slice_index_or, remove}
-use Rattle.std.specs.List.{zip, position_from}
+use Rattle.std.specs.List.{zip, position_from, drop-map}
 use Rattle.std.specs.Str.{bytes_eq}
 use Rattle.std.proofs.lemmas.Grind.{common_steps}
-use Rattle.std.proofs.lemmas.List.{length-map}
+use Rattle.std.proofs.lemmas.List.{length-map, take-map}
 use Rattle.std.proofs.lemmas.Slice.Zip.{length-zip, get_or-zip}
 use Rattle.std.proofs.Math.ListN.{get_or-map}
 use Rattle.dv_bson.specs.declared.value.Value.{Value}
 use Rattle.dv_bson.specs.Tree.{Tree, Field}
 use Rattle.dv_bson.specs.Names.{bare, AreNamed, place_under, value_under, with_value_under, without, has_name}
+use Rattle.dv_bson.specs.Put.{with_value_at}
 use Rattle.dv_bson.specs.View.{tree}
-use Rattle.dv_bson.proofs.Named.{place_within, value_there}
+use Rattle.dv_bson.proofs.Named.{place_within, value_there, is_some-place}
 use Rattle.dv_bson.proofs.Zipped.{zip-take}
 
 abbrev Texts : Type 0
@@ -46,6 +47,28 @@ module _ (name : List ℕ) where
   without_missing [] none = refl
   without_missing (f ∷ fs) none = grind (arith, without_missing fs)
 
+-- ---- the value at a place
+
+pub zip-at : (v : Tree) (place : ℕ) (ns : Texts) (vs : List Tree) → zip ns (slice_set vs place v) ≡ with_value_at place v (zip ns vs)
+zip-at v place [] vs = refl
+zip-at v zero (n ∷ ns) [] = refl
+zip-at v (suc place) (n ∷ ns) [] = refl
+zip-at v zero (n ∷ ns) (w ∷ vs) = refl
+zip-at v (suc place) (n ∷ ns) (w ∷ vs) = ap (λ (fs : List Field). (n, w) ∷ fs) (zip-at v place ns vs)
+
+pub length-put : (v : Tree) (place : ℕ) (vs : List Tree) → length (slice_set vs place v) ≡ length vs
+length-put v place [] = refl
+length-put v zero (w ∷ vs) = refl
+length-put v (suc place) (w ∷ vs) = ap suc (length-put v place vs)
+
+around-tree : (v : Tree) (place : ℕ) (vs : List Tree) → place < length vs → (take place vs ++ v ∷ []) ++ drop (place + 1) vs ≡ slice_set vs place v
+around-tree v place [] lt = absurd (omega arith)
+around-tree v zero (w ∷ vs) lt = refl
+around-tree v (suc place) (w ∷ vs) lt = rw add-one (ap (λ (ws : List Tree). w ∷ ws) (rw add-one at (around-tree v place vs (omega arith))))
+
+pub around : (v : Tree) (place : ℕ) (values : List Value) → place < length values → (map tree (take place values) ++ v ∷ []) ++ map tree (drop (place + 1) values) ≡ slice_set (map tree values) place v
+around v place values lt = rw (← take-map tree place values, ← drop-map tree (place + 1) values) (around-tree v place (map tree values) (rw length-map lt))
+
 -- ---- the field at a place has the name
 
 module _ (name : List ℕ) where
@@ -59,6 +82,11 @@ module _ (name : List ℕ) where
   put_from v i zero k (n ∷ ns) (w ∷ vs) at found = grind (arith, found_behind (i + 1) k (zip ns vs))
   put_from v i (suc j) k (n ∷ ns) (w ∷ vs) at found = grind (arith, put_from v (i + 1) j k ns vs)
 
+  at_from : (v : Tree) (i j k : ℕ) (fs : List Field) → k ≡ i + j → position_from (λ f. bytes_eq name f.0) i fs ≡ Some k → with_value_at j v fs ≡ with_value_under name v fs
+  at_from v i j k [] at found = absurd cc
+  at_from v i zero k (f ∷ fs) at found = grind (arith, found_behind (i + 1) k fs)
+  at_from v i (suc j) k (f ∷ fs) at found = grind (arith, at_from v (i + 1) j k fs)
+
   without_from : (i j k : ℕ) (ns : Texts) (vs : List Tree) → k ≡ i + j → position_from (λ f. bytes_eq name f.0) i (zip ns vs) ≡ Some k → zip (remove ns j) (remove vs j) ≡ without name (zip ns vs)
   without_from i j k [] vs at found = absurd cc
   without_from i j k (n ∷ ns) [] at found = absurd cc
@@ -67,6 +95,18 @@ module _ (name : List ℕ) where
 
   pub zip-put : (v : Tree) (place : ℕ) (ns : Texts) (vs : List Tree) → place_under name (zip ns vs) ≡ Some place → zip ns (slice_set vs place v) ≡ with_value_under name v (zip ns vs)
   zip-put v place ns vs found = put_from v 0 place place ns vs (omega arith) found
+
+  pub with_value_at-found : (v : Tree) (place : ℕ) (fs : List Field) → Some place ≡ place_under name fs → with_value_at place v fs ≡ with_value_under name v fs
+  with_value_at-found v place fs found = at_from v 0 place place fs (omega arith) (sym found)
+
+  pub found_within : (place : ℕ) (fs : List Field) → Some place ≡ place_under name fs → place < length fs
+  found_within place fs found = place_within name place fs (sym found)
+
+  pub found_has : (place : ℕ) (fs : List Field) → Some place ≡ place_under name fs → has_name name fs ≡ true
+  found_has place fs found = sym (is_some-place name 0 fs) ∙ ap is_some (sym found)
+
+  pub nowhere_has_not : (fs : List Field) → None ≡ place_under name fs → has_name name fs ≡ false
+  nowhere_has_not fs none = sym (is_some-place name 0 fs) ∙ ap is_some (sym none)
 
   -- names that have no value go with the one that is taken away
   pub zip-without : (place : ℕ) (ns : Texts) (vs : List Tree) → place_under name (zip ns vs) ≡ Some place → zip (remove (take (length vs) ns) place) (remove vs place) ≡ without name (zip ns vs)

@@ -10,3 +10,4 @@ pub mod Reading
 pub mod Fault
 pub mod Parts
 pub mod Weight
+pub mod Put

@@ -1,6 +1,7 @@
 //! The name of a field.
 
 ghost use Rattle.std.specs.Prelude.{◌≡◌, IfOk};
+ghost use Rattle.std.specs.Str.{bytes_eq};
 ghost use Rattle.dv_bson.specs.Names as names;
 
 use crate::NoMemory;
@@ -56,6 +57,22 @@ impl Name {
             Kept::Short(text) => text.as_str(),
             Kept::Long(text) => text.as_str(),
         }
+    }
+
+    /// Whether this is the name. Most others are of another length or end otherwise, which is seen at once.
+    #[inline]
+    pub(crate) fn is(&self, name: &str) -> bool
+        ensures { result ≡ bytes_eq self.now name.now }
+    {
+        let own = self.as_str();
+        let len = own.len();
+        if len != name.len() {
+            return false;
+        }
+        if len > 0 && own.as_bytes()[len - 1] != name.as_bytes()[len - 1] {
+            return false;
+        }
+        own == name
     }
 
     /// A copy of its own. Fails where memory is wanting.

@@ -164,7 +164,7 @@ fn place_among(names: &[Name], name: &str) -> Option<usize>
     ensures { result ≡ place_under name.now (map bare names.now) }
 {
     for (place, there) in names.iter().enumerate() {
-        if there.as_str() == name {
+        if there.is(name) {
             return Some(place);
         }
     }

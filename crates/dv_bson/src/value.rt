@@ -1,8 +1,9 @@
 //! Values, documents and lists of values.
 
-ghost use Rattle.std.specs.Prelude.{◌≡◌, ◌+◌, ◌<◌, ◌≤◌, ◌↔◌, ◌⊎◌, Some, [], ◌∷◌, ◌++◌, true, false, length, take, map, IsTrue, OnOk, OnErr, IfOk, IfErr, IsErrOf, slice_get};
+ghost use Rattle.std.specs.Prelude.{◌≡◌, ◌+◌, ◌<◌, ◌≤◌, ◌↔◌, ◌⊎◌, if◌then◌else◌, Some, None, [], ◌∷◌, ◌++◌, true, false, length, slice_set, take, map, IsTrue, OnOk, OnErr, IfOk, IfErr, IsErrOf, slice_get};
 ghost use Rattle.std.specs.Option.{option_map};
 ghost use Rattle.dv_bson.specs.Names.{bare, AreNamed, place_under, value_under, with_value_under, without, has_name, has_zero};
+ghost use Rattle.dv_bson.specs.Put.{with_value_at};
 ghost use Rattle.dv_bson.specs.Spelling.{kind_of};
 ghost use Rattle.dv_bson.specs.View.{tree};
 
@@ -347,6 +348,21 @@ impl Document {
         }
     }
 
+    /// Puts the value in place of the one under the name, which is dropped. Where no field has the name, nothing is changed
+    /// and the value is given back; where memory is wanting, nothing is changed and it is dropped. Memory is taken only
+    /// where a copy shares the fields: then the other values are copied. In time logarithmic in the number of fields where
+    /// none does.
+    pub fn put(&mut self, name: &str, value: Value) -> Result<Option<Value>, NoMemory>
+        ensures back { IfOk result (λ back. option_map tree back ≡ (if has_name name.now self.old then None else Some (tree value))) }
+        ensures ok { OnOk result (self.new ≡ with_value_under name.now (tree value) self.old) }
+        ensures err { OnErr result (self.new ≡ self.old) }
+    {
+        match &mut self.fields {
+            Some(shared) => put_value(self.alloc, shared, name, value),
+            None => Ok(Some(value)),
+        }
+    }
+
     /// Takes away the field with the name, and gives its value. Where no field has the name there is none, and nothing is
     /// changed; neither is it where memory is wanting. In time linear in the number of fields.
     pub fn remove(&mut self, name: &str) -> Result<Option<Value>, NoMemory>
@@ -534,6 +550,17 @@ impl Fields {
         Some(replace(&mut self.values[place], value))
     }
 
+    /// A copy with this value in place of the one at `place`. It shares the names. Fails where memory is wanting.
+    fn copy_with(&self, place: usize, value: Value) -> Result<Self, NoMemory>
+        requires { place < length self.now }
+        ensures { IfOk result (λ copy. copy ≡ with_value_at place (tree value) self.now) }
+    {
+        Ok(Fields {
+            names: self.names.clone()?,
+            values: copies_with(&self.values, place, value)?,
+        })
+    }
+
     /// Takes away the field with the name, and gives its value, where there is one. The names are copied without it.
     fn remove(&mut self, name: &str) -> Result<Option<Value>, NoMemory>
         ensures before { IfOk result (λ before. option_map tree before ≡ value_under name.now self.old) }
@@ -617,6 +644,52 @@ fn copies_of(values: &Vec<Value>) -> Result<Vec<Value>, NoMemory>
         copies.push(value.try_clone()?)?;
     }
     Ok(copies)
+}
+
+/// Copies of the values, in order, with this one in place of the one at `place`. Fails where memory is wanting.
+fn copies_with(values: &Vec<Value>, place: usize, value: Value) -> Result<Vec<Value>, NoMemory>
+    requires { place < length values.now.items }
+    ensures { IfOk result (λ copies. map tree copies.items ≡ slice_set (map tree values.now.items) place (tree value)) }
+{
+    let mut copies = Vec::with_capacity(*values.allocator(), values.len())?;
+    put_copies(&mut copies, &values[..place])?;
+    copies.push(value)?;
+    put_copies(&mut copies, &values[place + 1..])?;
+    Ok(copies)
+}
+
+/// Puts copies of the values behind those that are there. Fails where memory is wanting.
+fn put_copies(copies: &mut Vec<Value>, values: &[Value]) -> Result<(), NoMemory>
+    ensures { OnOk result (map tree copies.new.items ≡ map tree copies.old.items ++ map tree values.now) }
+{
+    for value in values {
+        copies.push(value.try_clone()?)?;
+    }
+    Ok(())
+}
+
+/// Puts the value in place of the one under the name; where no field has the name, the value is given back. Fields that a
+/// copy shares are copied without the one that goes.
+fn put_value(
+    alloc: Global,
+    shared: &mut Rc<Fields>,
+    name: &str,
+    value: Value,
+) -> Result<Option<Value>, NoMemory>
+    ensures back { IfOk result (λ back. option_map tree back ≡ (if has_name name.now shared.old.value then None else Some (tree value))) }
+    ensures ok { OnOk result (shared.new.value ≡ with_value_under name.now (tree value) shared.old.value) }
+    ensures err { OnErr result (shared.new.value ≡ shared.old.value) }
+{
+    let Some(place) = shared.place_of(name) else {
+        return Ok(Some(value));
+    };
+    if let Some(own) = Rc::get_mut(shared) {
+        own.replace(name, value);
+        return Ok(None);
+    }
+    let changed = shared.copy_with(place, value)?;
+    *shared = Rc::new(alloc, changed)?;
+    Ok(None)
 }
 
 /// One field, whose name holds no zero byte. Fails where memory is wanting.

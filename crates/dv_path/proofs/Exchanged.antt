@@ -34,6 +34,23 @@ pub new-field : (name : List ℕ) (v : Tree) (fs : List Field) → value_under n
 new-field name v [] none = refl
 new-field name v (f ∷ fs) none = new-case (bytes_eq name f.0) name v f fs none (new-field name v fs)
 
+-- a field put in one look, or given back and put at the end
+pub put-in-place : (name : List ℕ) (v : Tree) (fs : List Field) → has_name name fs ≡ true → with_value_under name v fs ≡ with_field name (Some v) fs
+put-in-place name v [] there = absurd cc
+put-in-place name v (f ∷ fs) there = grind (arith, put-in-place name v fs)
+
+pub put-at-end : (name : List ℕ) (v : Tree) (fs : List Field) → has_name name fs ≡ false → (with_value_under name v fs ≡ fs) × (fs ++ (name, v) ∷ [] ≡ with_field name (Some v) fs)
+put-at-end name v [] none = (refl, refl)
+put-at-end name v (f ∷ fs) none = grind (arith, put-at-end name v fs)
+
+pub none-back : (there : Bool) (v : Tree) → None ≡ (if there then None else Some v) → there ≡ true
+none-back true v e = refl
+none-back false v e = absurd cc
+
+pub given-back : (there : Bool) (w v : Tree) → Some w ≡ (if there then None else Some v) → (there ≡ false) × (w ≡ v)
+given-back true w v e = absurd cc
+given-back false w v e = (refl, cc)
+
 -- one value put under a name after another
 twice-case : (here : Bool) (name : List ℕ) (u v w : Tree) (f : Field) (fs : List Field) → bytes_eq name f.0 ≡ here → (if here then Some f.1 else value_under name fs) ≡ Some w → (value_under name fs ≡ Some w → with_value_under name v (with_value_under name u fs) ≡ with_field name (Some v) fs) → with_value_under name v (if here then (f.0, u) ∷ fs else f ∷ with_value_under name u fs) ≡ (if here then field_with f.0 (Some v) ++ fs else f ∷ with_field name (Some v) fs)
 twice-case true name u v w f fs is there later = rw is refl

@@ -1,10 +1,10 @@
 //! Putting a value where a path leads.
 
-ghost use Rattle.std.specs.Prelude.{◌≡◌, ◌≤◌, ◌++◌, ◌∷◌, [], length, map, false, IfOk, OnOk};
+ghost use Rattle.std.specs.Prelude.{◌≡◌, ◌≤◌, ◌++◌, ◌∷◌, [], Some, length, map, false, IfOk, OnOk};
 ghost use Rattle.dv_bson.specs.Names.{has_name};
 ghost use Rattle.dv_bson.specs.View.{tree};
 ghost use Rattle.dv_path.specs.Path.{index_of};
-ghost use Rattle.dv_path.specs.Placing.{Gives, put, put_behind, put_element, put_field, with_element};
+ghost use Rattle.dv_path.specs.Placing.{Gives, put, put_behind, put_element, put_field, with_element, with_field};
 
 use crate::component::Component;
 use crate::exchange::{put_element_back, put_field_back, take_element, take_field};
@@ -50,6 +50,10 @@ fn put_into_document(
     ensures { Gives (λ changed. changed) result (put_field (put_behind rest.now (tree value)) component.now document) }
 {
     let mut document = document;
+    if rest.is_empty() {
+        put_last(&mut document, component, value)?;
+        return Ok(document);
+    }
     let Some(there) = take_field(&mut document, component)? else {
         let put = nested(alloc, rest, value)?;
         add_field(&mut document, component, put)?;
@@ -58,6 +62,16 @@ fn put_into_document(
     let put = put_into_value(alloc, there, rest, value)?;
     put_field_back(&mut document, component, put)?;
     Ok(document)
+}
+
+/// Puts the value under the component's name: in place of the one that is there, or else at the end.
+fn put_last(document: &mut Document, component: &Component, value: Value) -> Result<(), NoMemory>
+    ensures { OnOk result (document.new ≡ with_field component.now (Some (tree value)) document.old) }
+{
+    match document.put(component.as_str(), value)? {
+        None => Ok(()),
+        Some(value) => add_field(document, component, value),
+    }
 }
 
 /// The value that is there, with the other one where the rest of the path leads from it on.
