@@ -1,10 +1,10 @@
 -- The keys that a fold over candidates gathers.
-use Rattle.std.proofs.Common.{Bor, ◌≡◌, List, [], ◌∷◌, map, Some, refl, ap, sym, ◌∙◌, Bool, true, cond, ◌||◌, Result, Ok, ℕ, ◌≤◌, length, take, take_all}
+use Rattle.std.proofs.Common.{Bor, ◌≡◌, List, [], ◌∷◌, map, Some, refl, ap, sym, ◌∙◌, Bool, true, false, cond, ◌||◌, ◌&&◌, ◌==◌, Result, Ok, ℕ, ◌≤◌, length, take, take_all}
 use Rattle.std.specs.List.{list_any, flat_map, FoldsTo}
 use Rattle.std.specs.BTreeSet.{BTreeSet, contains}
 use Rattle.std.specs.Ordering.{is_eq}
 use Rattle.dv_bson.specs.declared.value.Value.{Value}
-use Rattle.dv_bson.specs.Tree.{Tree, Field, array, elements_of, list_of_elements}
+use Rattle.dv_bson.specs.Tree.{Tree, Field, array, elements_of, fields_of, list_of_elements, list_of_fields}
 use Rattle.dv_bson.specs.View.{tree}
 use Rattle.dv_order.specs.Order.{canon}
 use Rattle.dv_order.specs.Key.{KeyTree, value, key_order}
@@ -15,11 +15,16 @@ use Rattle.dv_path.specs.Candidates.{Candidate, whole, leaves, with_elements}
 use Rattle.dv_path.specs.Fold.{Takes, FoldsOver, Passes}
 use Rattle.dv_gather.specs.Joining.{or_null, local_values, joined_by, found_under}
 use Rattle.dv_gather.specs.KeySets.{is_key_of, is_some_key}
-use Rattle.dv_gather.proofs.Lists.{same-truth, or-false, or-assoc, cond-or, any-map, any-flat_map, any-same, equal-back}
+use Rattle.dv_gather.specs.Places.{is_found}
+use Rattle.dv_gather.proofs.Lists.{same-truth, or-false, or-assoc, and-either, cond-or, any-and, any-map, any-flat_map, any-same, equal-back}
 
 pub elements_again : (vs : List Tree) → list_of_elements (elements_of vs) ≡ vs
 elements_again [] = refl
 elements_again (v ∷ vs) = ap (λ ws. v ∷ ws) (elements_again vs)
+
+pub fields_again : (fs : List Field) → list_of_fields (fields_of fs) ≡ fs
+fields_again [] = refl
+fields_again (f ∷ fs) = ap (λ gs. f ∷ gs) (fields_again fs)
 
 -- a key that was put in
 pub key-added : (k l : KeyTree) (v : Tree) (was : Bool) → l ≡ value (canon v) → cond (is_eq (key_order l k)) true was ≡ was || is_key_of k v
@@ -60,38 +65,43 @@ module _ (k : KeyTree) (c : memory.Candidate) (v : Bor Value) (at : c ≡ Found 
   pub local-without_list : ((l : List Tree) → v.now ≡ Value.Array l → ⊥) → was || is_key_of k (tree v.now) ≡ was || is_some_key k (local_values (seen c))
   local-without_list none = ap (λ b. was || b) (local-alone k v.now none ∙ ap (λ d. is_some_key k (local_values d)) (sym here))
 
-  pub leaves-with_list : (l : List Tree) → v.now ≡ Value.Array l → (was || is_key_of k (tree v.now)) || is_some_key k l ≡ was || is_some_key k (map or_null (with_elements (seen c)))
-  leaves-with_list l is = or-assoc was (is_key_of k (tree v.now)) (is_some_key k l) ∙ ap (λ b. was || b) (leaf-list k v.now l is ∙ ap (λ d. is_some_key k (map or_null (with_elements d))) (sym here))
+  -- a place is kept under the keys of a leaf, where it is the sought one
+  pub placed-with_list : (b : Bool) (l : List Tree) → v.now ≡ Value.Array l → (was || (b && is_key_of k (tree v.now))) || (b && is_some_key k l) ≡ was || (b && is_some_key k (map or_null (with_elements (seen c))))
+  placed-with_list b l is = and-either was b (is_key_of k (tree v.now)) (is_some_key k l) ∙ ap (λ x. was || (b && x)) (leaf-list k v.now l is ∙ ap (λ d. is_some_key k (map or_null (with_elements d))) (sym here))
 
-  pub leaves-without_list : ((l : List Tree) → v.now ≡ Value.Array l → ⊥) → was || is_key_of k (tree v.now) ≡ was || is_some_key k (map or_null (with_elements (seen c)))
-  leaves-without_list none = ap (λ b. was || b) (leaf-alone k v.now none ∙ ap (λ d. is_some_key k (map or_null (with_elements d))) (sym here))
+  pub placed-without_list : (b : Bool) → ((l : List Tree) → v.now ≡ Value.Array l → ⊥) → was || (b && is_key_of k (tree v.now)) ≡ was || (b && is_some_key k (map or_null (with_elements (seen c))))
+  placed-without_list b none = ap (λ x. was || (b && x)) (leaf-alone k v.now none ∙ ap (λ d. is_some_key k (map or_null (with_elements d))) (sym here))
 
-module _ {X E : Type 0} (seen : X → Candidate) (call : BTreeSet KeyTree → X → Result (BTreeSet KeyTree) E → Type 0) (values : Candidate → List Tree) (steps : (t : BTreeSet KeyTree) (x : X) (u : BTreeSet KeyTree) → call t x (Ok u) → (k : KeyTree) → contains key_order u k ≡ contains key_order t k || is_some_key k (values (seen x))) where
-  folded : (t u : BTreeSet KeyTree) (cs : List Candidate) → FoldsTo (Takes seen call) t cs u → (k : KeyTree) → contains key_order u k ≡ contains key_order t k || list_any (λ c. is_some_key k (values c)) cs
-  folded t u [] h k = ap (λ s. contains key_order s k) (sym h) ∙ sym (or-false (contains key_order t k))
-  folded t u (c ∷ cs) h k =
-      let rest = list_any (λ c. is_some_key k (values c)) cs in
-      folded h.0 u cs h.2 k
-      ∙ ap (λ b. b || rest) (steps t h.1.at h.0 h.1.gives k ∙ ap (λ d. contains key_order t k || is_some_key k (values d)) h.1.is)
-      ∙ or-assoc (contains key_order t k) (is_some_key k (values c)) rest
+-- what holds after a fold: what held before, or what some candidate brings
+module _ {X E T : Type 0} (seen : X → Candidate) (call : T → X → Result T E → Type 0) (has : T → Bool) (test : Candidate → Bool) (steps : (t : T) (x : X) (u : T) → call t x (Ok u) → has u ≡ has t || test (seen x)) where
+  folded : (t u : T) (cs : List Candidate) → FoldsTo (Takes seen call) t cs u → has u ≡ has t || list_any test cs
+  folded t u [] h = ap has (sym h) ∙ sym (or-false (has t))
+  folded t u (c ∷ cs) h =
+      folded h.0 u cs h.2
+      ∙ ap (λ b. b || list_any test cs) (steps t h.1.at h.0 h.1.gives ∙ ap (λ d. has t || test d) h.1.is)
+      ∙ or-assoc (has t) (test c) (list_any test cs)
 
-  -- what a fold from no key on gathers
-  gathered : (path : List (List ℕ)) (d : List Field) (t u : BTreeSet KeyTree) → t.keys ≡ [] → FoldsOver seen call (Passes (whole d path)) (Passes (whole d path)) t u → (k : KeyTree) → contains key_order u k ≡ list_any (λ c. is_some_key k (values c)) (whole d path)
-  gathered path d t u empty h k =
-      let test = λ (c : Candidate). is_some_key k (values c) in
-      folded t u h.taken h.calls k
-      ∙ ap (λ ks. list_any (λ l. is_eq (key_order k l)) ks || list_any test h.taken) empty
-      ∙ same-truth (list_any test h.taken) (list_any test (whole d path)) (λ e. (h.only test e).passes) (λ e. h.every test (record { passes = e }))
+  gathered : (path : List (List ℕ)) (d : List Field) (t u : T) → FoldsOver seen call (Passes (whole d path)) (Passes (whole d path)) t u → has u ≡ has t || list_any test (whole d path)
+  gathered path d t u h =
+      folded t u h.taken h.calls
+      ∙ ap (λ b. has t || b) (same-truth (list_any test h.taken) (list_any test (whole d path)) (λ e. (h.only test e).passes) (λ e. h.every test (record { passes = e })))
 
 pub gathered-local : {X E : Type 0} (seen : X → Candidate) (call : BTreeSet KeyTree → X → Result (BTreeSet KeyTree) E → Type 0) (steps : (t : BTreeSet KeyTree) (x : X) (u : BTreeSet KeyTree) → call t x (Ok u) → (k : KeyTree) → contains key_order u k ≡ contains key_order t k || is_some_key k (local_values (seen x)))
     (path : List (List ℕ)) (d : List Field) (t u : BTreeSet KeyTree) → t.keys ≡ [] → FoldsOver seen call (Passes (whole d path)) (Passes (whole d path)) t u → (k : KeyTree) → contains key_order u k ≡ is_some_key k (joined_by path d)
 unfolding joined_by
-gathered-local seen call steps path d t u empty h k = gathered seen call local_values steps path d t u empty h k ∙ sym (any-flat_map (is_key_of k) local_values (whole d path))
+gathered-local seen call steps path d t u empty h k =
+    gathered seen call (λ s. contains key_order s k) (λ c. is_some_key k (local_values c)) (λ t x u h. steps t x u h k) path d t u h
+    ∙ ap (λ ks. list_any (λ l. is_eq (key_order k l)) ks || list_any (λ c. is_some_key k (local_values c)) (whole d path)) empty
+    ∙ sym (any-flat_map (is_key_of k) local_values (whole d path))
 
-pub gathered-leaves : {X E : Type 0} (seen : X → Candidate) (call : BTreeSet KeyTree → X → Result (BTreeSet KeyTree) E → Type 0) (steps : (t : BTreeSet KeyTree) (x : X) (u : BTreeSet KeyTree) → call t x (Ok u) → (k : KeyTree) → contains key_order u k ≡ contains key_order t k || is_some_key k (map or_null (with_elements (seen x))))
-    (path : List (List ℕ)) (d : List Field) (t u : BTreeSet KeyTree) → t.keys ≡ [] → FoldsOver seen call (Passes (whole d path)) (Passes (whole d path)) t u → (k : KeyTree) → contains key_order u k ≡ is_some_key k (found_under path d)
+found-leaves : (k : KeyTree) (path : List (List ℕ)) (d : List Field) → list_any (λ c. is_some_key k (map or_null (with_elements c))) (whole d path) ≡ is_some_key k (found_under path d)
 unfolding found_under leaves
-gathered-leaves seen call steps path d t u empty h k =
-    gathered seen call (λ c. map or_null (with_elements c)) steps path d t u empty h k
-    ∙ any-same (λ c. is_some_key k (map or_null (with_elements c))) (λ c. list_any (λ c. is_key_of k (or_null c)) (with_elements c)) (λ c. any-map (is_key_of k) or_null (with_elements c)) (whole d path)
+found-leaves k path d =
+    any-same (λ c. is_some_key k (map or_null (with_elements c))) (λ c. list_any (λ c. is_key_of k (or_null c)) (with_elements c)) (λ c. any-map (is_key_of k) or_null (with_elements c)) (whole d path)
     ∙ sym (any-map (is_key_of k) or_null (flat_map with_elements (whole d path)) ∙ any-flat_map (λ c. is_key_of k (or_null c)) with_elements (whole d path))
+
+pub gathered-leaves : {X E T : Type 0} (seen : X → Candidate) (call : T → X → Result T E → Type 0) (has : T → KeyTree → ℕ → Bool) (place : ℕ) (steps : (t : T) (x : X) (u : T) → call t x (Ok u) → (k : KeyTree) (i : ℕ) → has u k i ≡ has t k i || ((place == i) && is_some_key k (map or_null (with_elements (seen x)))))
+    (path : List (List ℕ)) (d : List Field) (t u : T) → FoldsOver seen call (Passes (whole d path)) (Passes (whole d path)) t u → (k : KeyTree) (i : ℕ) → has u k i ≡ has t k i || ((place == i) && is_found path k d)
+gathered-leaves seen call has place steps path d t u h k i =
+    gathered seen call (λ t. has t k i) (λ c. (place == i) && is_some_key k (map or_null (with_elements c))) (λ t x u h. steps t x u h k i) path d t u h
+    ∙ ap (λ b. has t k i || b) (any-and (place == i) (λ c. is_some_key k (map or_null (with_elements c))) (whole d path) ∙ ap (λ b. (place == i) && b) (found-leaves k path d))

@@ -32,14 +32,14 @@ equal-alike x v w e = (eq_by_cmp_equiv order_total).symm x v ∙ ap is_eq (same-
 
 -- ---- keys in their order, with one more
 
-abbrev Above : Tree → List Tree → Type 0
+abbrev pub Above : Tree → List Tree → Type 0
 Above k = AllByRecursion (λ l. order k l ≡ Less)
 
 above-earlier : (v l : Tree) (ls : List Tree) → order v l ≡ Less → Above l ls → Above v ls
 above-earlier v l [] e h = tt
 above-earlier v l (m ∷ ls) e h = (order_total.trans v l m e h.0, above-earlier v l ls e h.1)
 
-above-same : (v l : Tree) (ls : List Tree) → order v l ≡ Equal → Above l ls → Above v ls
+pub above-same : (v l : Tree) (ls : List Tree) → order v l ≡ Equal → Above l ls → Above v ls
 above-same v l [] e h = tt
 above-same v l (m ∷ ls) e h = (same-as v l m e ∙ h.0, above-same v l ls e h.1)
 
@@ -76,7 +76,7 @@ or-twice true true c e = refl
 or-twice true false c e = cc
 or-twice false b c e = refl
 
-abbrev any-equal : Tree → List Tree → Bool
+abbrev pub any-equal : Tree → List Tree → Bool
 any-equal x = list_any (λ k. is_eq (order x k))
 
 any-with : (x v : Tree) (ls : List Tree) → any-equal x (with_key v ls) ≡ is_eq (order x v) || any-equal x ls

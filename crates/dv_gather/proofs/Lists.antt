@@ -1,5 +1,5 @@
 -- Tests of lists, and of keys, which compare equal either way round.
-use Rattle.std.proofs.Common.{◌≡◌, ℕ, zero, suc, ◌+◌, ◌<◌, List, [], ◌∷◌, length, map, take, get_or, refl, ap, sym, ◌∙◌, arith, Bool, true, false, cond, ◌||◌, add-one}
+use Rattle.std.proofs.Common.{◌≡◌, ℕ, zero, suc, ◌+◌, ◌<◌, List, [], ◌∷◌, length, map, take, get_or, refl, ap, sym, ◌∙◌, arith, Bool, true, false, cond, ◌||◌, ◌&&◌, add-one}
 use Rattle.std.specs.List.{list_any, flat_map}
 use Rattle.std.specs.Cmp.{eq_by_cmp_equiv}
 use Rattle.std.specs.Ordering.{is_eq}
@@ -19,6 +19,16 @@ or-false false = refl
 pub or-assoc : (a b c : Bool) → (a || b) || c ≡ a || (b || c)
 or-assoc true b c = refl
 or-assoc false b c = refl
+
+-- one of two, under a condition
+pub and-either : (was b a c : Bool) → (was || (b && a)) || (b && c) ≡ was || (b && (a || c))
+and-either was true a c = or-assoc was a c
+and-either was false a c = or-false (was || false)
+
+pub any-and : {X : Type 0} (b : Bool) (p : X → Bool) (xs : List X) → list_any (λ x. b && p x) xs ≡ b && list_any p xs
+any-and true p xs = refl
+any-and false p [] = refl
+any-and false p (x ∷ xs) = any-and false p xs
 
 pub cond-or : (b a : Bool) → cond b true a ≡ a || b
 cond-or true true = refl
@@ -49,3 +59,7 @@ any-same p q same (x ∷ xs) = ap (λ b. b || list_any p xs) (same x) ∙ ap (λ
 -- whether keys are equal, either way round
 pub equal-back : (k l : KeyTree) → is_eq (key_order k l) ≡ is_eq (key_order l k)
 equal-back k l = (eq_by_cmp_equiv key_order_total).symm k l
+
+pub and-never : (was b : Bool) → was || (b && false) ≡ was
+and-never was true = or-false was
+and-never was false = or-false was

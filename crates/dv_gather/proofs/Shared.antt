@@ -1,5 +1,5 @@
 -- Documents that share a value, by the keys of the values of one side.
-use Rattle.std.proofs.Common.{◌≡◌, ◌∙◌, ap, sym, refl, Bool, true, false, ◌||◌, List, [], ◌∷◌, filter, map, Bor, ℕ, zero, suc, ◌+◌, ◌<◌, ◌≤◌, ◌++◌, length, take, drop, get_or, slice_get, add-one, ap₂, arith, Some, if◌then◌else◌}
+use Rattle.std.proofs.Common.{◌≡◌, ◌∙◌, ap, sym, refl, Bool, true, false, ◌||◌, List, [], ◌∷◌, filter, map, ℕ, zero, suc, ◌+◌, ◌<◌, ◌++◌, length, take, get_or, slice_get, add-one, ap₂, Some, if◌then◌else◌}
 use Rattle.std.proofs.lemmas.List.{map-append}
 use Rattle.std.proofs.lemmas.Option.{slice_get_read}
 use Rattle.std.specs.List.{list_any}
@@ -10,8 +10,8 @@ use Rattle.dv_bson.specs.Tree.{Tree, Field}
 use Rattle.dv_order.specs.Order.{canon, order}
 use Rattle.dv_order.specs.Key.{KeyTree, value, key_order}
 use Rattle.dv_order.specs.KeyLaws.{key_order_total}
-use Rattle.dv_gather.specs.Joining.{is_among, is_joined, joined_by, found_under, matches, as_value}
-use Rattle.dv_gather.specs.KeySets.{is_key_of, is_some_key, any_key, referred}
+use Rattle.dv_gather.specs.Joining.{is_among, is_joined, joined_by, found_under, matches}
+use Rattle.dv_gather.specs.KeySets.{is_key_of, is_some_key, any_key}
 use Rattle.dv_gather.proofs.Lists.{same-truth, any-same}
 
 -- equal keys are those of the same values
@@ -75,21 +75,6 @@ module _ (stands : (v w : Tree) → key_order (value (canon v)) (value (canon w)
 
 -- ---- loops
 
-drop-here : {X : Type 0} (xs : List X) (i : ℕ) (x : X) → slice_get xs i ≡ Some x → drop i xs ≡ x ∷ drop (suc i) xs
-drop-here [] i x e = absurd cc
-drop-here (z ∷ xs) zero x e = let same : z ≡ x = cc in ap (λ y. y ∷ xs) same
-drop-here (z ∷ xs) (suc i) x e = drop-here xs i x e
-
--- the element that a loop reads
-pub drop-read : {X : Type 0} (xs : List X) (i : ℕ) (x : X) → i < length xs → x ≡ get_or xs i x → drop i xs ≡ x ∷ drop (i + 1) xs
-drop-read xs i x within is = drop-here xs i x (slice_get_read xs (length xs) i x refl within is) ∙ ap (λ n. x ∷ drop n xs) (sym (add-one i))
-
-pub drop-past : {X : Type 0} (xs : List X) (i : ℕ) → length xs ≤ i → drop i xs ≡ []
-drop-past [] zero h = refl
-drop-past [] (suc i) h = refl
-drop-past (x ∷ xs) zero h = absurd (omega arith)
-drop-past (x ∷ xs) (suc i) h = drop-past xs i (omega arith)
-
 take-here : {X : Type 0} (xs : List X) (i : ℕ) (x : X) → slice_get xs i ≡ Some x → take (suc i) xs ≡ take i xs ++ x ∷ []
 take-here [] i x e = absurd cc
 take-here (z ∷ xs) zero x e = let same : z ≡ x = cc in ap (λ y. y ∷ []) same
@@ -97,24 +82,6 @@ take-here (z ∷ xs) (suc i) x e = ap (λ l. z ∷ l) (take-here xs i x e)
 
 pub take-read : {X : Type 0} (xs : List X) (i : ℕ) (x : X) → i < length xs → x ≡ get_or xs i x → take (i + 1) xs ≡ take i xs ++ x ∷ []
 take-read xs i x within is = ap (λ n. take n xs) (add-one i) ∙ take-here xs i x (slice_get_read xs (length xs) i x refl within is)
-
-alone : (b : Bool) (d : List Field) → map as_value (if b then d ∷ [] else []) ≡ (if b then as_value d ∷ [] else [])
-alone true d = refl
-alone false d = refl
-
-first : (b : Bool) (d : List Field) (xs ys : List (List Field)) (last : List Tree) → map as_value xs ≡ map as_value ys ++ last → map as_value (if b then d ∷ xs else xs) ≡ map as_value (if b then d ∷ ys else ys) ++ last
-first true d xs ys last e = ap (λ l. as_value d ∷ l) e
-first false d xs ys last e = e
-
-chosen-one : (test : List Field → Bool) (ds : List (Bor (List Field))) (d : Bor (List Field)) → map as_value (filter test (referred (ds ++ d ∷ []))) ≡ map as_value (filter test (referred ds)) ++ (if test d.now then as_value d.now ∷ [] else [])
-chosen-one test [] d = alone (test d.now) d.now
-chosen-one test (e ∷ ds) d = first (test e.now) e.now (filter test (referred (ds ++ d ∷ []))) (filter test (referred ds)) (if test d.now then as_value d.now ∷ [] else []) (chosen-one test ds d)
-
--- what is chosen of a document more
-pub chosen-more : (test : List Field → Bool) (ds : List (Bor (List Field))) (i : ℕ) (d : Bor (List Field)) → i < length ds → d ≡ get_or ds i d → (b : Bool) → b ≡ test d.now → map as_value (filter test (referred (take i ds))) ++ (if b then as_value d.now ∷ [] else []) ≡ map as_value (filter test (referred (take (i + 1) ds)))
-chosen-more test ds i d within is b tested =
-    ap (λ c. map as_value (filter test (referred (take i ds))) ++ (if c then as_value d.now ∷ [] else [])) tested
-    ∙ sym (ap (λ l. map as_value (filter test (referred l))) (take-read ds i d within is) ∙ chosen-one test (take i ds) d)
 
 -- a list for a row more
 pub row-more : {X Y : Type 0} (f : X → Y) (xs : List X) (i : ℕ) (x : X) (ys new : List Y) (y : Y) → i < length xs → x ≡ get_or xs i x → ys ≡ map f (take i xs) → y ≡ f x → new ≡ ys ++ y ∷ [] → new ≡ map f (take (i + 1) xs)

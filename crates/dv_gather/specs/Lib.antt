@@ -1,7 +1,14 @@
+pub mod Examples
 pub mod Extremes
 pub mod Gathering
+pub mod GroupCode
+pub mod GroupParsing
+pub mod GroupView
+pub mod Grouping
 pub mod Groups
-pub mod JoinedView
 pub mod Joining
 pub mod KeySets
+pub mod Lookups
+pub mod Places
 pub mod Sums
+pub mod Valid

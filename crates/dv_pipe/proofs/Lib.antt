@@ -1,12 +1,8 @@
-pub mod Each
 pub mod Items
 pub mod Single
 pub mod Sought
 pub mod Pipelines
-pub mod Unwound
-pub mod Dollars
 pub mod Through
 pub mod StageLaws
-pub mod Left
-pub mod Members
+pub mod Valid
 pub mod Namespaces

@@ -1,18 +1,13 @@
 -- Pipelines parsed.
-use Rattle.std.proofs.Common.{◌≡◌, ◌∙◌, ap, List, ◌<◌, ◌≤◌, take, map, length, Result, Ok, Err, arith, nat_le, true, false, ◌⊎◌, inl, inr, if◌then◌else◌}
+use Rattle.std.proofs.Common.{◌≡◌, ◌∙◌, ap, List, ◌<◌, ◌≤◌, take, map, length, Result, Ok, Err, arith, nat_le, true, false, if◌then◌else◌}
 use Rattle.std.proofs.lemmas.List.{take-map, length-map}
 use Rattle.dv_bson.specs.Tree.{Tree}
-use Rattle.dv_pipe.specs.declared.fault.PipelineFault.{PipelineFault}
-use Rattle.dv_pipe.specs.declared.fault.PipelineFault.TheVariants.{TooMany, NoMemory}
+use Rattle.dv_row.specs.declared.fault.PipelineFault.{PipelineFault}
+use Rattle.dv_row.specs.declared.fault.PipelineFault.TheVariants.{TooMany}
 use Rattle.dv_pipe.specs.declared.stage.Stage.{Stage}
-use Rattle.dv_pipe.specs.Parsing.{◌>>=◌, Gives, each}
+use Rattle.dv_row.specs.Parsing.{◌>>=◌, each}
 use Rattle.dv_pipe.specs.StageParsing.{stage_of, pipeline_of}
 use Rattle.dv_pipe.proofs.Items.{take-past}
-
--- a fault of a part is that of the whole
-pub gives-fault : {X Y Y' : Type 0} (view : X → Y) (r : Result X PipelineFault) (e : PipelineFault) (parsed : Result Y' PipelineFault) (whole : Result Y PipelineFault) → r ≡ Err e → (e ≡ NoMemory) ⊎ (parsed ≡ Err e) → (parsed ≡ Err e → whole ≡ Err e) → Gives view r whole
-gives-fault view r e parsed whole is (inl m) f = rw is (inl m)
-gives-fault view r e parsed whole is (inr p) f = rw is (inr (f p))
 
 abbrev at_most : List Tree → List Stage → Result (List Stage) PipelineFault
 at_most list stages = if nat_le (length list) 16 then Ok stages else Err TooMany

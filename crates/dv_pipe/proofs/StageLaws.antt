@@ -9,11 +9,11 @@ use Rattle.dv_match.specs.Filter.{Members}
 use Rattle.dv_match.specs.Match.{matches, matches_member, matches_all}
 use Rattle.dv_pipe.specs.declared.stage.Stage.{Stage}
 use Rattle.dv_pipe.specs.declared.stage.Stage.TheVariants.{Match, Unwind, Limit}
-use Rattle.dv_pipe.specs.declared.unwind.Unwind as form
+use Rattle.dv_row.specs.declared.unwind.Unwind as form
 use Rattle.dv_pipe.specs.Laws.{both, IsNoArray, HasNoArray, is_value, has_value}
 use Rattle.dv_pipe.specs.Sources.{Row}
 use Rattle.dv_pipe.specs.Stages.{Lists, stage, foreign_of, looked_into, rows_at, through, evaluated, is_named, is_read}
-use Rattle.dv_pipe.specs.Unwinding.{reached, rows_of, unwound}
+use Rattle.dv_row.specs.Unwinding.{reached, rows_of, unwound}
 
 pub through_parts : (first second : List Stage) (source : List ℕ) (lists : Lists) (rows : List Row) → through (first ++ second) source lists rows ≡ through second source lists (through first source lists rows)
 unfolding through

@@ -5,7 +5,7 @@ use Rattle.dv_sort.specs.Sorting.{stable}
 use Rattle.dv_sort.specs.Front.{Front, no_rows, front_of}
 use Rattle.dv_sort.specs.Sorting.{front}
 use Rattle.dv_pipe.specs.declared.stage.Stage.{Stage}
-use Rattle.dv_pipe.specs.declared.stage.Stage.TheVariants.{Match, Project, Unwind, Sort, Limit}
+use Rattle.dv_pipe.specs.declared.stage.Stage.TheVariants.{Match, Project, Unwind, Sort, Limit, Group, Lookup}
 use Rattle.dv_pipe.specs.Parts.{wanted}
 use Rattle.dv_pipe.specs.Sources.{Row}
 use Rattle.dv_pipe.specs.Stages.{Lists, stage, through}
@@ -24,17 +24,15 @@ through_front (Match form ∷ later) source lists rows = refl
 through_front (Project p ∷ later) source lists rows = refl
 through_front (Unwind u ∷ later) source lists rows = refl
 through_front (Sort parts ∷ later) source lists rows = refl
+through_front (Group g ∷ later) source lists rows = refl
+through_front (Lookup l ∷ later) source lists rows = refl
 
 pub through_none : (stages : List Stage) (source : List ℕ) (lists : Lists) (rows : List Row) → length stages ≡ 0 → through stages source lists rows ≡ rows
 unfolding through
 through_none [] source lists rows e = refl
 through_none (s ∷ ss) source lists rows e = absurd cc
 
--- the rows of a stage, and then of those behind it
-pub through_stage : (s : Stage) (later : List Stage) (rows left : List Row) → left ≡ stage s rows [] → (source : List ℕ) (lists : Lists) → through later source lists left ≡ through (s ∷ later) source lists rows
-unfolding through
-through_stage s later rows left e source lists = ap (through later source lists) e
-
+-- the first rows of a sort, as far as later stages see them
 pub through_sort : (s : Stage) (later : List Stage) (parts : List Part) (rows left : List Row) → s ≡ Sort parts → left ≡ front (wanted later) (stable parts rows) → (source : List ℕ) (lists : Lists) → through later source lists left ≡ through (s ∷ later) source lists rows
 unfolding through stage
 through_sort s later parts rows left is e source lists = ap (through later source lists) e ∙ through_front later source lists (stable parts rows) ∙ ap (λ t. through (t ∷ later) source lists rows) (sym is)

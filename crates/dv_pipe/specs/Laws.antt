@@ -4,7 +4,7 @@ use Rattle.dv_bson.specs.Tree.{array, null}
 use Rattle.dv_path.specs.Candidates.{Candidate}
 use Rattle.dv_match.specs.Filter.{Members, all_of, no_members, more_members, no_filters, more_filters}
 use Rattle.dv_pipe.specs.Sources.{Row}
-use Rattle.dv_pipe.specs.Unwinding.{reached}
+use Rattle.dv_row.specs.Unwinding.{reached}
 
 -- the filter {$and: [f, g]}
 abbrev pub both : Members → Members → Members

@@ -1,15 +1,5 @@
-pub mod AskedView
-pub mod Expressions
-pub mod ExpressionCode
-pub mod ExpressionFalls
-pub mod ExpressionView
-pub mod Fault
 pub mod Laws
-pub mod Parsing
 pub mod Parts
-pub mod Projecting
-pub mod ProjectParsing
 pub mod Sources
 pub mod StageParsing
 pub mod Stages
-pub mod Unwinding

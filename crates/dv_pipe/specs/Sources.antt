@@ -2,11 +2,7 @@
 use Rattle.std.specs.Prelude.{ℕ, List, [], ◌∷◌, map, if◌then◌else◌}
 use Rattle.std.specs.Str.{bytes_eq}
 use denote.Ref.{Bor}
-use Rattle.dv_bson.specs.Tree.{Field}
-
--- a row is a document: the list of its fields
-abbrev pub Row : Type 0
-Row = List Field
+pub use Rattle.dv_row.specs.Row.{Row}
 
 -- a namespace and its documents
 abbrev pub Source : Type 0

@@ -1,14 +1,49 @@
 -- Pipelines from lists of documents: the form, or the first fault in written order (MongoDB manual, "Aggregation Stages"). Which
 -- stages there are, and which fault is told, is this server's own.
-use Rattle.std.specs.Prelude.{ℕ, nat_le, List, length, take, Result, Ok, Err, codes, if◌then◌else◌}
+use Rattle.std.specs.Prelude.{ℕ, ℤ, pos, negsuc, ◌==◌, nat_le, Option, Some, None, List, length, take, Result, Ok, Err, codes, if◌then◌else◌}
 use Rattle.std.specs.Str.{bytes_eq}
-use Rattle.dv_bson.specs.Tree.{Tree, document, no_fields, field}
-use Rattle.dv_pipe.specs.declared.fault.PipelineFault.{PipelineFault}
-use Rattle.dv_pipe.specs.declared.fault.PipelineFault.TheVariants.{UnknownStage, BadSpec, TooMany}
+use Rattle.dv_bson.specs.Tree.{Tree, int32, int64, document, no_fields, field, list_of_fields}
+use Rattle.dv_path.specs.SortSpec.{Part, sort_spec_of}
+use Rattle.dv_match.specs.Filter.{Members}
+use Rattle.dv_match.specs.Parsing.{filter_in}
+use Rattle.dv_match.specs.declared.fault.FilterFault.{FilterFault}
+use Rattle.dv_row.specs.declared.fault.PipelineFault.{PipelineFault}
+use Rattle.dv_row.specs.declared.fault.PipelineFault.TheVariants.{UnknownStage, BadSpec, TooMany}
 use Rattle.dv_pipe.specs.declared.stage.Stage.{Stage}
 use Rattle.dv_pipe.specs.declared.stage.Stage.TheVariants as stages
-use Rattle.dv_pipe.specs.Parsing.{◌>>=◌, each, filter_form, count_in, sort_in, unwind_in}
-use Rattle.dv_pipe.specs.ProjectParsing.{project_in}
+use Rattle.dv_row.specs.Fault.{of_filter}
+use Rattle.dv_row.specs.Parsing.{◌>>=◌, each, unwind_in}
+use Rattle.dv_row.specs.ProjectParsing.{project_in}
+use Rattle.dv_gather.specs.GroupParsing.{group_in}
+use Rattle.dv_gather.specs.Lookups.{lookup_in}
+
+-- a number from 1
+abbrev pub from_one : ℤ → Result ℕ PipelineFault
+from_one (pos n) = if n == 0 then Err BadSpec else Ok n
+from_one (negsuc n) = Err BadSpec
+
+abbrev pub count_in : Tree → Result ℕ PipelineFault
+count_in (int32 n) = from_one n
+count_in (int64 n) = from_one n
+count_in v = Err BadSpec
+
+-- a filter's form, or that there is none
+abbrev pub of_parsed : Result Members FilterFault → Result Members PipelineFault
+of_parsed (Ok form) = Ok form
+of_parsed (Err e) = Err (of_filter e)
+
+abbrev pub filter_form : Tree → Result Members PipelineFault
+filter_form (document fs) = of_parsed (filter_in fs)
+filter_form v = Err BadSpec
+
+-- a sort, or that there is none
+abbrev pub sort_or_fault : Option (List Part) → Result (List Part) PipelineFault
+sort_or_fault None = Err BadSpec
+sort_or_fault (Some parts) = Ok parts
+
+abbrev pub sort_in : Tree → Result (List Part) PipelineFault
+sort_in (document fs) = sort_or_fault (sort_spec_of (list_of_fields fs))
+sort_in v = Err BadSpec
 
 -- a stage by its name
 unfoldable pub stage_named : List ℕ → Tree → Result Stage PipelineFault
@@ -18,6 +53,8 @@ stage_named name v =
     else if bytes_eq name (codes "$unwind") then (unwind_in v >>= λ u. Ok (stages.Unwind u))
     else if bytes_eq name (codes "$sort") then (sort_in v >>= λ parts. Ok (stages.Sort parts))
     else if bytes_eq name (codes "$limit") then (count_in v >>= λ count. Ok (stages.Limit count))
+    else if bytes_eq name (codes "$group") then (group_in v >>= λ g. Ok (stages.Group g))
+    else if bytes_eq name (codes "$lookup") then (lookup_in v >>= λ l. Ok (stages.Lookup l))
     else Err UnknownStage
 
 -- a stage is a document of one name

@@ -6,10 +6,12 @@ use Rattle.std.specs.Option.{option_map}
 use Rattle.std.specs.Str.{bytes_eq}
 use Rattle.dv_match.specs.Match.{matches}
 use Rattle.dv_pipe.specs.declared.stage.Stage.{Stage}
-use Rattle.dv_pipe.specs.declared.stage.Stage.TheVariants.{Match, Project, Unwind, Sort, Limit}
+use Rattle.dv_pipe.specs.declared.stage.Stage.TheVariants.{Match, Project, Unwind, Sort, Limit, Group, Lookup}
 use Rattle.dv_sort.specs.Sorting.{stable}
-use Rattle.dv_pipe.specs.Projecting.{projected}
-use Rattle.dv_pipe.specs.Unwinding.{unwound}
+use Rattle.dv_row.specs.Projecting.{projected}
+use Rattle.dv_row.specs.Unwinding.{unwound}
+use Rattle.dv_gather.specs.Grouping.{grouped}
+use Rattle.dv_gather.specs.Lookups.{looked_up}
 use Rattle.dv_pipe.specs.Sources.{Row}
 
 -- the rows that leave a stage, from those that enter it, and from the list that the stage looks into beside them
@@ -19,6 +21,8 @@ stage (Project p) rows foreign = map (projected p) rows
 stage (Unwind u) rows foreign = flat_map (unwound u) rows
 stage (Sort parts) rows foreign = stable parts rows
 stage (Limit count) rows foreign = take count rows
+stage (Group g) rows foreign = grouped g rows
+stage (Lookup l) rows foreign = looked_up l rows foreign
 
 -- what stands under each namespace
 abbrev pub Lists : Type 0
@@ -32,8 +36,9 @@ database_of namespace = before_first (λ b. b == 46) namespace
 abbrev pub beside : List ℕ → List ℕ → List ℕ
 beside source collection = database_of source ++ 46 ∷ collection
 
--- the collection that a stage looks into beside its rows: no stage names one yet
+-- the collection that a stage looks into beside its rows
 abbrev pub from_of : Stage → Option (List ℕ)
+from_of (Lookup l) = Some l.from
 from_of s = None
 
 -- the namespace that a stage looks into, in a pipeline over a source

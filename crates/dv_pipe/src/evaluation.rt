@@ -7,13 +7,12 @@ ghost use Rattle.dv_pipe.specs.Parts as parts;
 ghost use Rattle.dv_pipe.specs.Stages as defined;
 
 use crate::pipeline::Pipeline;
-use crate::project::Project;
 use crate::sources::Sources;
 use crate::stage::Stage;
-use crate::unwind::Unwind;
 use dv_bson::{Document, NoMemory};
 use dv_match::Filter;
 use dv_path::SortSpec;
+use dv_row::{Project, Unwind};
 use dv_sort::{Sorter, laws};
 use std::alloc::Global;
 
@@ -30,10 +29,21 @@ pub fn evaluate(
     let mut rows = copies(alloc, sources.get(source))?;
     let mut stages = pipeline.stages();
     'stages: while let Some((stage, later)) = stages.split_first() {
-        rows = through(alloc, stage, later, rows)?;
+        let foreign = foreign_of(stage, source, sources);
+        rows = through(alloc, stage, later, rows, foreign)?;
         stages = later;
     }
     Ok(rows)
+}
+
+/// The documents that the stage looks into beside its rows.
+fn foreign_of<'s, 'd>(stage: &Stage, source: &str, sources: &'s Sources<'d>) -> &'s [&'d Document]
+    ensures { referred result.now ≡ defined.foreign_of stage.now source.now (lists_of sources.now) }
+{
+    match stage.foreign() {
+        Some(collection) => sources.beside(source, collection),
+        None => sources.nothing(),
+    }
 }
 
 /// Copies of the documents, which share their memory.
@@ -54,8 +64,9 @@ fn through(
     stage: &Stage,
     later: &[Stage],
     rows: Vec<Document>,
+    foreign: &[&Document],
 ) -> Result<Vec<Document>, NoMemory>
-    ensures { IfOk result (λ left. (source : List ℕ) (lists : defined.Lists) → defined.through later.now source lists left.items ≡ defined.through (stage.now ∷ later.now) source lists rows.items) }
+    ensures { IfOk result (λ left. (source : List ℕ) (lists : defined.Lists) → referred foreign.now ≡ defined.foreign_of stage.now source lists → defined.through later.now source lists left.items ≡ defined.through (stage.now ∷ later.now) source lists rows.items) }
 {
     match stage {
         Stage::Match(filter) => Ok(matching(filter, rows)),
@@ -63,6 +74,8 @@ fn through(
         Stage::Unwind(unwind) => unwound(alloc, unwind, &rows),
         Stage::Sort(spec) => sorted(alloc, spec, wanted(later), &rows),
         Stage::Limit(count) => Ok(front(*count, rows)),
+        Stage::Group(group) => group.rows(alloc, &rows),
+        Stage::Lookup(lookup) => lookup.rows(alloc, &rows, foreign),
     }
 }
 

@@ -1,11 +1,14 @@
 //! What holds of stages and of pipelines, each the contract of a function that does nothing.
 
-ghost use Rattle.std.specs.Prelude.{◌≡◌, ◌++◌, ℕ, List, true, false, filter, min};
+ghost use Rattle.std.specs.Prelude.{◌≡◌, ◌++◌, ℕ, List, true, false, filter, min, Ok};
 ghost use Rattle.std.specs.List.{AllByRecursion};
+ghost use Rattle.dv_bson.specs.Spelling.{AreFields, AreElements};
+ghost use Rattle.dv_bson.specs.Tree.{Tree, elements_of, fields_of};
 ghost use Rattle.dv_match.specs.Filter.{Members};
-ghost use Rattle.dv_pipe.specs.declared.unwind.Unwind.{Unwind};
+ghost use Rattle.dv_row.specs.declared.unwind.Unwind.{Unwind};
 ghost use Rattle.dv_pipe.specs.Laws.{both, HasNoArray, has_value};
 ghost use Rattle.dv_pipe.specs.Sources.{Row};
+ghost use Rattle.dv_pipe.specs.StageParsing.{pipeline_of};
 ghost use Rattle.dv_pipe.specs.Stages.{Lists, evaluated, is_read, stage, through};
 
 use crate::stage::Stage;
@@ -38,4 +41,10 @@ pub fn limit_of_a_limit()
 #[tactic(auto, using(crate::proofs::StageLaws::unwind_plain))]
 pub fn unwind_without_arrays()
     ensures { (u : Unwind) (rows foreign : List Row) → u.preserve ≡ false → AllByRecursion (HasNoArray u.path) rows → stage (Stage.Unwind u) rows foreign ≡ filter (has_value u.path) rows }
+{}
+
+/// What a pipeline makes of valid documents is valid, where its stages were read from valid values.
+#[tactic(auto, using(crate::proofs::Valid::comes_out_valid))]
+pub fn what_comes_out_is_valid()
+    ensures { (list : List Tree) (stages : List Stage) (source : List ℕ) (lists : Lists) → AreElements (elements_of list) → pipeline_of list ≡ Ok stages → ((name : List ℕ) → AllByRecursion (λ d. AreFields (fields_of d)) (lists name)) → AllByRecursion (λ d. AreFields (fields_of d)) (evaluated stages source lists) }
 {}

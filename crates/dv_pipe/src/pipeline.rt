@@ -3,14 +3,14 @@
 ghost use Rattle.std.specs.Prelude.{◌≡◌, ◌≤◌, length, map, IfOk};
 ghost use Rattle.std.specs.List.{list_any};
 ghost use Rattle.dv_bson.specs.View.{tree};
-ghost use Rattle.dv_pipe.specs.Parsing.{Gives, each};
+ghost use Rattle.dv_row.specs.Parsing.{Gives, each};
 ghost use Rattle.dv_pipe.specs.StageParsing.{stage_of, pipeline_of};
 ghost use Rattle.dv_pipe.specs.Stages.{is_named, is_read, looked_into};
 
-use crate::fault::PipelineFault;
 use crate::namespace::is_beside;
 use crate::stage::Stage;
 use dv_bson::{NoMemory, Value};
+use dv_row::PipelineFault;
 use std::alloc::Global;
 use std::marker::Model;
 
@@ -31,9 +31,10 @@ impl Model for Pipeline {
 
     ghost use Rattle.std.specs.Coded.{codes};
     ghost use Rattle.dv_match.specs.contracts.form.Filter as filters;
-    ghost use Rattle.dv_pipe.specs.contracts.expr.Computed as computed;
+    ghost use Rattle.dv_row.specs.contracts.expr.Computed as computed;
+    ghost use Rattle.dv_gather.specs.contracts.group.Group as groups;
 
-    ghost coded = { Prim.hlevel (codes, filters.the_row.coded, computed.the_row.coded) };
+    ghost coded = { Prim.hlevel (codes, filters.the_row.coded, computed.the_row.coded, groups.the_row.coded) };
 
     ghost view = { λ p. p.stages.items };
 }

@@ -2,7 +2,9 @@
 
 ghost use Rattle.std.specs.Prelude.{◌≡◌, ◌++◌, ◌∷◌, [], OnOk, OnErr};
 ghost use Rattle.dv_pipe.specs.Sources.{rows_under, referred};
+ghost use Rattle.dv_pipe.specs.Stages as stages;
 
+use crate::namespace::is_beside;
 use dv_bson::{Document, NoMemory, Str};
 use std::alloc::Global;
 use std::marker::Model;
@@ -73,6 +75,26 @@ impl<'a> Sources<'a> {
                 return source.documents.as_slice();
             }
         }
+        self.none.as_slice()
+    }
+
+    /// The documents of the collection in the database of `source`: those that were added first under its namespace, and
+    /// none where it isn't there. Takes no memory.
+    pub(crate) fn beside(&self, source: &str, collection: &str) -> &[&'a Document]
+        ensures { referred result.now ≡ rows_under (stages.beside source.now collection.now) self.now }
+    {
+        'sources: for other in &self.sources {
+            if is_beside(source, collection, other.namespace.as_str()) {
+                return other.documents.as_slice();
+            }
+        }
+        self.none.as_slice()
+    }
+
+    /// No documents.
+    pub(crate) fn nothing(&self) -> &[&'a Document]
+        ensures { referred result.now ≡ [] }
+    {
         self.none.as_slice()
     }
 }

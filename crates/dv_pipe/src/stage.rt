@@ -3,17 +3,15 @@
 ghost use Rattle.std.specs.Prelude.{◌≡◌, IfOk};
 ghost use Rattle.std.specs.Option.{option_map};
 ghost use Rattle.dv_bson.specs.View.{tree};
-ghost use Rattle.dv_pipe.specs.Parsing as defined;
-ghost use Rattle.dv_pipe.specs.Parsing.{Gives};
-ghost use Rattle.dv_pipe.specs.StageParsing as stages;
+ghost use Rattle.dv_row.specs.Parsing.{Gives};
+ghost use Rattle.dv_pipe.specs.StageParsing as defined;
 ghost use Rattle.dv_pipe.specs.Stages.{from_of};
 
-use crate::fault::PipelineFault;
-use crate::project::Project;
-use crate::unwind::Unwind;
 use dv_bson::{NoMemory, Value};
+use dv_gather::{Group, Lookup};
 use dv_match::Filter;
 use dv_path::SortSpec;
+use dv_row::{PipelineFault, Project, Unwind};
 use std::alloc::Global;
 
 /// What makes other rows of rows.
@@ -29,12 +27,16 @@ pub enum Stage {
     Sort(SortSpec),
     /// `$limit`: the first rows, so many at most.
     Limit(u64),
+    /// `$group`: a row for each group of rows.
+    Group(Group),
+    /// `$lookup`: each row with the documents of another collection that it is joined with.
+    Lookup(Lookup),
 }
 
 impl Stage {
     /// The stage that the value is, a document of one name, or its first fault in written order.
     pub(crate) fn parse(alloc: Global, value: &Value) -> Result<Stage, PipelineFault>
-        ensures { Gives (λ stage. stage) result (stages.stage_of (tree value.now)) }
+        ensures { Gives (λ stage. stage) result (defined.stage_of (tree value.now)) }
     {
         let Value::Doc(document) = value else {
             return Err(PipelineFault::BadSpec);
@@ -48,12 +50,15 @@ impl Stage {
         stage_named(alloc, name, operand)
     }
 
-    /// The name of the collection that the stage looks into beside its rows, in the database of the pipeline's source;
-    /// none so far. Takes no memory.
+    /// The name of the collection that the stage looks into beside its rows, in the database of the pipeline's source.
+    /// Takes no memory.
     pub fn foreign(&self) -> Option<&str>
         ensures { option_map (λ name. name.now) result ≡ from_of self.now }
     {
-        None
+        match self {
+            Stage::Lookup(lookup) => Some(lookup.from.as_str()),
+            _ => None,
+        }
     }
 
     /// A copy of its own. Fails where memory is wanting.
@@ -66,6 +71,8 @@ impl Stage {
             Stage::Unwind(unwind) => Ok(Stage::Unwind(unwind.try_clone()?)),
             Stage::Sort(spec) => Ok(Stage::Sort(spec.try_clone()?)),
             Stage::Limit(count) => Ok(Stage::Limit(*count)),
+            Stage::Group(group) => Ok(Stage::Group(group.try_clone()?)),
+            Stage::Lookup(lookup) => Ok(Stage::Lookup(lookup.try_clone()?)),
         }
     }
 }
@@ -73,7 +80,7 @@ impl Stage {
 /// The stage of this name.
 #[tactic(auto, unfolding(crate::specs::StageParsing::stage_named))]
 fn stage_named(alloc: Global, name: &str, operand: &Value) -> Result<Stage, PipelineFault>
-    ensures { Gives (λ stage. stage) result (stages.stage_named name.now (tree operand.now)) }
+    ensures { Gives (λ stage. stage) result (defined.stage_named name.now (tree operand.now)) }
 {
     match name {
         "$match" => Ok(Stage::Match(filter_of(alloc, operand)?)),
@@ -81,6 +88,8 @@ fn stage_named(alloc: Global, name: &str, operand: &Value) -> Result<Stage, Pipe
         "$unwind" => Ok(Stage::Unwind(Unwind::parse(alloc, operand)?)),
         "$sort" => Ok(Stage::Sort(sort_of(alloc, operand)?)),
         "$limit" => Ok(Stage::Limit(count_of(operand)?)),
+        "$group" => Ok(Stage::Group(Group::parse(alloc, operand)?)),
+        "$lookup" => Ok(Stage::Lookup(Lookup::parse(alloc, operand)?)),
         _ => Err(PipelineFault::UnknownStage),
     }
 }

@@ -1,7 +1,7 @@
 use Rattle.std.proofs.Common.{◌∙◌, ap, sym, map}
 use Rattle.dv_gather.specs.Gathering.{Entry, entries_of, gathered, seen}
 use Rattle.dv_gather.proofs.Grouped.{groups-are, if-ok}
-use Rattle.dv_gather.proofs.Shared.{drop-past}
+use Rattle.dv_row.specs.EachLaws.{drop-past}
 use Rattle.dv_gather.proofs.grouping.groups.Goals as goal
 
 pub returns : goal.returns

@@ -1,6 +1,6 @@
 use Rattle.std.proofs.Common.{◌∙◌, ap, map}
 use Rattle.dv_pipe.specs.Stages.{stage}
-use Rattle.dv_pipe.specs.Projecting.{projected}
+use Rattle.dv_row.specs.Projecting.{projected}
 use Rattle.dv_pipe.proofs.Items.{take-past}
 use Rattle.dv_pipe.proofs.evaluation.projected.Goals as goal
 

@@ -1,7 +1,7 @@
 use Rattle.std.proofs.Common.{◌∙◌, ap}
 use Rattle.std.specs.List.{flat_map}
 use Rattle.dv_pipe.specs.Stages.{stage}
-use Rattle.dv_pipe.specs.Unwinding.{unwound}
+use Rattle.dv_row.specs.Unwinding.{unwound}
 use Rattle.dv_pipe.proofs.Items.{take-past}
 use Rattle.dv_pipe.proofs.evaluation.unwound.Goals as goal
 

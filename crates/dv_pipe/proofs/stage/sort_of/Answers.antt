@@ -1,8 +1,8 @@
 use Rattle.std.proofs.Common.{◌∙◌, ap, sym, inr}
 use Rattle.dv_bson.specs.View.{tree}
 use Rattle.dv_path.specs.SortSpec.{sort_spec_of}
-use Rattle.dv_pipe.specs.Parsing.{sort_in, sort_or_fault}
-use Rattle.dv_pipe.proofs.Unwound.{list-of-fields_of}
+use Rattle.dv_pipe.specs.StageParsing.{sort_in, sort_or_fault}
+use Rattle.dv_pipe.proofs.Single.{list-of-fields_of}
 use Rattle.dv_pipe.proofs.stage.sort_of.Goals as goal
 
 pub returns-in-Some : goal.returns-in-Some

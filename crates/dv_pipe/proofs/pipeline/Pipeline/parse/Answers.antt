@@ -1,6 +1,7 @@
 use Rattle.std.proofs.Common.{◌≡◌, Err, inr, rules}
 use Rattle.dv_bson.specs.View.{tree}
-use Rattle.dv_pipe.proofs.Pipelines.{gives-fault, many-fault, many, few-fault, few-stages}
+use Rattle.dv_row.specs.EachLaws.{gives-fault}
+use Rattle.dv_pipe.proofs.Pipelines.{many-fault, many, few-fault, few-stages}
 use Rattle.dv_pipe.proofs.pipeline.Pipeline.parse.Goals as goal
 
 pub returns-in_err-each_stage : goal.returns-in_err-each_stage

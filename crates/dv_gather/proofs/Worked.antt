@@ -1,0 +1,25 @@
+-- Worked examples, computed from the definitions alone.
+use Rattle.std.proofs.Common.{◌≡◌, refl, pos, List, [], ◌∷◌, Ok, codes}
+use Rattle.dv_bson.specs.Tree.{int64, null}
+use Rattle.dv_path.specs.Candidates.{whole, leaves}
+use Rattle.dv_path.specs.Expression.{expr}
+use Rattle.dv_path.specs.Path.{path_of}
+use Rattle.dv_row.specs.ExpressionParsing.{expression_in}
+use Rattle.dv_row.specs.Expressions.{value_of}
+use Rattle.dv_gather.specs.Examples.{int, text, doc, list, a_group, group_rows, group_row, after_group, a_lookup, seven, eight, nine, after_lookup}
+use Rattle.dv_gather.specs.GroupParsing.{group_in}
+use Rattle.dv_gather.specs.Grouping.{grouped}
+use Rattle.dv_gather.specs.Groups.{groups_of}
+use Rattle.dv_gather.specs.Joining.{joined_by, found_under}
+use Rattle.dv_gather.specs.Lookups.{lookup_in, looked_up}
+use Rattle.dv_gather.specs.Sums.{spelled}
+
+pub rows_in_groups : after_group a_group group_rows ≡ Ok (group_row null (int 2) (int 2 ∷ []) (int 2) ∷ group_row (text (codes "a")) (int 3) (int 3 ∷ null ∷ []) (int 3) ∷ group_row (text (codes "b")) null [] (int 0) ∷ [])
+unfolding group_in grouped groups_of expression_in value_of expr path_of spelled
+rows_in_groups = refl
+
+-- {_id: 1} and {_id: 2, p: [1, 2]}
+pub rows_looked_up : after_lookup a_lookup (((codes "_id", int 1) ∷ []) ∷ ((codes "_id", int 2) ∷ (codes "p", list (int 1 ∷ int 2 ∷ [])) ∷ []) ∷ []) (seven ∷ eight ∷ nine ∷ [])
+    ≡ Ok (((codes "_id", int 1) ∷ (codes "o", list (doc seven ∷ [])) ∷ []) ∷ ((codes "_id", int 2) ∷ (codes "p", list (int 1 ∷ int 2 ∷ [])) ∷ (codes "o", list (doc eight ∷ doc nine ∷ [])) ∷ []) ∷ [])
+unfolding lookup_in looked_up joined_by found_under whole leaves path_of
+rows_looked_up = refl

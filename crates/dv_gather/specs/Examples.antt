@@ -1,0 +1,62 @@
+-- Worked examples: what $group and $lookup make of rows, the stage and the rows as they are written.
+use Rattle.std.specs.Prelude.{ℕ, pos, List, [], ◌∷◌, Result, Ok, Err, codes}
+use Rattle.dv_bson.specs.Tree.{Tree, int32, int64, string, document, array, null, Field, fields_of, elements_of}
+use Rattle.dv_row.specs.declared.fault.PipelineFault.{PipelineFault}
+use Rattle.dv_row.specs.Parsing.{◌>>=◌}
+use Rattle.dv_row.specs.Row.{Row}
+use Rattle.dv_gather.specs.GroupParsing.{group_in}
+use Rattle.dv_gather.specs.Grouping.{grouped}
+use Rattle.dv_gather.specs.Lookups.{lookup_in, looked_up}
+
+abbrev pub int : ℕ → Tree
+int n = int32 (pos n)
+
+abbrev pub text : List ℕ → Tree
+text bytes = string bytes
+
+abbrev pub doc : List Field → Tree
+doc fields = document (fields_of fields)
+
+abbrev pub list : List Tree → Tree
+list vs = array (elements_of vs)
+
+-- a field of a $group: an accumulator of a value
+abbrev pub by : List ℕ → List ℕ → Tree → Field
+by name word v = (name, doc ((word, v) ∷ []))
+
+-- {_id: "$k", lo: {$min: "$v"}, all: {$push: "$v"}, s: {$sum: "$v"}}
+abbrev pub a_group : Tree
+a_group = doc ((codes "_id", text (codes "$k")) ∷ by (codes "lo") (codes "$min") (text (codes "$v")) ∷ by (codes "all") (codes "$push") (text (codes "$v")) ∷ by (codes "s") (codes "$sum") (text (codes "$v")) ∷ [])
+
+-- {_id: 1, k: "a", v: 3}, {_id: 2, k: "a", v: null}, {_id: 3, k: "b"}, {_id: 4, v: 2}
+abbrev pub group_rows : List Row
+group_rows =
+    ((codes "_id", int 1) ∷ (codes "k", text (codes "a")) ∷ (codes "v", int 3) ∷ [])
+    ∷ ((codes "_id", int 2) ∷ (codes "k", text (codes "a")) ∷ (codes "v", null) ∷ [])
+    ∷ ((codes "_id", int 3) ∷ (codes "k", text (codes "b")) ∷ [])
+    ∷ ((codes "_id", int 4) ∷ (codes "v", int 2) ∷ []) ∷ []
+
+abbrev pub group_row : Tree → Tree → List Tree → Tree → Row
+group_row id least all sum = (codes "_id", id) ∷ (codes "lo", least) ∷ (codes "all", list all) ∷ (codes "s", sum) ∷ []
+
+-- what a $group makes of rows
+abbrev pub after_group : Tree → List Row → Result (List Row) PipelineFault
+after_group v rows = group_in v >>= λ g. Ok (grouped g rows)
+
+-- {from: "d", localField: "p", foreignField: "f", as: "o"}
+abbrev pub a_lookup : Tree
+a_lookup = doc ((codes "from", text (codes "d")) ∷ (codes "localField", text (codes "p")) ∷ (codes "foreignField", text (codes "f")) ∷ (codes "as", text (codes "o")) ∷ [])
+
+-- {_id: 7}, {_id: 8, f: 2}, {_id: 9, f: [1, 2L]}
+abbrev pub seven : Row
+seven = (codes "_id", int 7) ∷ []
+
+abbrev pub eight : Row
+eight = (codes "_id", int 8) ∷ (codes "f", int 2) ∷ []
+
+abbrev pub nine : Row
+nine = (codes "_id", int 9) ∷ (codes "f", list (int 1 ∷ int64 (pos 2) ∷ [])) ∷ []
+
+-- what a $lookup makes of rows
+abbrev pub after_lookup : Tree → List Row → List Row → Result (List Row) PipelineFault
+after_lookup v rows others = lookup_in v >>= λ l. Ok (looked_up l rows others)

@@ -1,0 +1,76 @@
+-- Parts that are parsed one after the other: what loops go by.
+use Rattle.std.proofs.Common.{◌≡◌, ◌∙◌, ap, sym, refl, List, [], ◌∷◌, ◌++◌, ℕ, zero, suc, ◌+◌, ◌<◌, ◌≤◌, add-one, drop, map, length, Some, None, slice_get, get_or, arith, append_assoc, append-nil, Result, Ok, Err, ◌⊎◌, inl, inr}
+use Rattle.std.proofs.lemmas.Option.{slice_get_read}
+use Rattle.dv_row.specs.declared.fault.PipelineFault.{PipelineFault}
+use Rattle.dv_row.specs.declared.fault.PipelineFault.TheVariants.{NoMemory}
+use Rattle.dv_row.specs.Parsing.{◌>>=◌, Gives, each}
+
+pub drop-here : {X : Type 0} (xs : List X) (i : ℕ) (x : X) → slice_get xs i ≡ Some x → drop i xs ≡ x ∷ drop (suc i) xs
+drop-here [] i x e = absurd cc
+drop-here (z ∷ xs) zero x e = let same : z ≡ x = cc in ap (λ y. y ∷ xs) same
+drop-here (z ∷ xs) (suc i) x e = drop-here xs i x e
+
+-- the element that a loop reads
+pub drop-read : {X : Type 0} (xs : List X) (i : ℕ) (x : X) → i < length xs → x ≡ get_or xs i x → drop i xs ≡ x ∷ drop (i + 1) xs
+drop-read xs i x within is = drop-here xs i x (slice_get_read xs (length xs) i x refl within is) ∙ ap (λ n. x ∷ drop n xs) (sym (add-one i))
+
+pub drop-past : {X : Type 0} (xs : List X) (i : ℕ) → length xs ≤ i → drop i xs ≡ []
+drop-past [] zero h = refl
+drop-past [] (suc i) h = refl
+drop-past (x ∷ xs) zero h = absurd (omega arith)
+drop-past (x ∷ xs) (suc i) h = drop-past xs i (omega arith)
+
+-- the element that a look-up gives
+pub drop-found : {X : Type 0} (xs : List X) (i : ℕ) (x : X) → Some x ≡ slice_get xs i → drop i xs ≡ x ∷ drop (i + 1) xs
+drop-found xs i x e = drop-here xs i x (sym e) ∙ ap (λ n. x ∷ drop n xs) (sym (add-one i))
+
+pub none-there : {X : Type 0} (xs : List X) (i : ℕ) → slice_get xs i ≡ None → length xs ≤ i
+none-there [] i e = omega arith
+none-there (x ∷ xs) zero e = absurd cc
+none-there (x ∷ xs) (suc i) e = omega (arith, none-there xs i e)
+
+abbrev pub after : {Y : Type 0} → List Y → Result (List Y) PipelineFault → Result (List Y) PipelineFault
+after ys (Ok rest) = Ok (ys ++ rest)
+after ys (Err e) = Err e
+
+after-one : {Y : Type 0} (ys : List Y) (y : Y) (r : Result (List Y) PipelineFault) → after ys (r >>= λ zs. Ok (y ∷ zs)) ≡ after (ys ++ y ∷ []) r
+after-one ys y (Ok zs) = ap Ok (sym (append_assoc ys (y ∷ []) zs))
+after-one ys y (Err e) = refl
+
+pub none-yet : {Y : Type 0} (r : Result (List Y) PipelineFault) → r ≡ after [] r
+none-yet (Ok ys) = refl
+none-yet (Err e) = refl
+
+-- those before a place are parsed: they give ys
+pub record IsParsedTo {X Y : Type 0} (f : X → Result Y PipelineFault) (xs : List X) (i : ℕ) (ys : List Y) : Type 0 where
+  pub so_far : each f xs ≡ after ys (each f (drop i xs))
+
+pub parsed-none : {X Y : Type 0} (f : X → Result Y PipelineFault) (xs : List X) → IsParsedTo f xs 0 []
+parsed-none f xs = record { so_far = none-yet (each f xs) }
+
+module _ {X Y : Type 0} (f : X → Result Y PipelineFault) (xs : List X) (i : ℕ) (ys : List Y) (parsed : IsParsedTo f xs i ys) where
+  pub parsed-next : (x : X) (y : Y) → drop i xs ≡ x ∷ drop (i + 1) xs → f x ≡ Ok y → IsParsedTo f xs (i + 1) (ys ++ y ∷ [])
+  parsed-next x y here e =
+      record { so_far = parsed.so_far ∙ ap (λ l. after ys (each f l)) here ∙ ap (λ r. after ys (r >>= λ y. each f (drop (i + 1) xs) >>= λ zs. Ok (y ∷ zs))) e ∙ after-one ys y (each f (drop (i + 1) xs)) }
+
+  pub parsed-refused : (x : X) (e : PipelineFault) → drop i xs ≡ x ∷ drop (i + 1) xs → f x ≡ Err e → each f xs ≡ Err e
+  parsed-refused x e here told = parsed.so_far ∙ ap (λ l. after ys (each f l)) here ∙ ap (λ r. after ys (r >>= λ y. each f (drop (i + 1) xs) >>= λ zs. Ok (y ∷ zs))) told
+
+  pub parsed-more : (x : X) (y : Y) → i < length xs → x ≡ get_or xs i x → f x ≡ Ok y → IsParsedTo f xs (i + 1) (ys ++ y ∷ [])
+  parsed-more x y within is e = parsed-next x y (drop-read xs i x within is) e
+
+  pub parsed-fault : (x : X) (e : PipelineFault) → i < length xs → x ≡ get_or xs i x → f x ≡ Err e → each f xs ≡ Err e
+  parsed-fault x e within is told = parsed-refused x e (drop-read xs i x within is) told
+
+  pub parsed-all : length xs ≤ i → each f xs ≡ Ok ys
+  parsed-all past = parsed.so_far ∙ ap (λ l. after ys (each f l)) (drop-past xs i past) ∙ ap Ok (append-nil ys)
+
+-- each over what is seen of a list
+pub each-map : {W X Y : Type 0} (f : X → Result Y PipelineFault) (view : W → X) (ws : List W) → each f (map view ws) ≡ each (λ w. f (view w)) ws
+each-map f view [] = refl
+each-map f view (w ∷ ws) = ap (λ r. f (view w) >>= λ y. r >>= λ ys. Ok (y ∷ ys)) (each-map f view ws)
+
+-- a fault of a part is that of the whole
+pub gives-fault : {X Y Y' : Type 0} (view : X → Y) (r : Result X PipelineFault) (e : PipelineFault) (parsed : Result Y' PipelineFault) (whole : Result Y PipelineFault) → r ≡ Err e → (e ≡ NoMemory) ⊎ (parsed ≡ Err e) → (parsed ≡ Err e → whole ≡ Err e) → Gives view r whole
+gives-fault view r e parsed whole is (inl m) f = rw is (inl m)
+gives-fault view r e parsed whole is (inr p) f = rw is (inr (f p))

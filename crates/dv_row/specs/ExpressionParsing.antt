@@ -1,0 +1,60 @@
+-- Expressions from values: the form, or the first fault in written order (MongoDB manual, "Aggregation Expressions"). That numbers
+-- and booleans don't stand for themselves in a $project, and which fault is told, is this server's own.
+use Rattle.std.specs.Prelude.{ℕ, ◌==◌, ◌||◌, Bool, true, false, List, [], ◌∷◌, Option, Some, None, Result, Ok, Err, codes, if◌then◌else◌}
+use Rattle.std.specs.Str.{bytes_eq}
+use Rattle.dv_bson.specs.Tree.{Tree, int32, int64, string, boolean, document, array, Fields, no_fields, field}
+use Rattle.dv_bson.specs.Names.{begins_with_dollar}
+use Rattle.dv_match.specs.Parsing.{is_not_zero}
+use Rattle.dv_row.specs.declared.fault.PipelineFault.{PipelineFault}
+use Rattle.dv_row.specs.declared.fault.PipelineFault.TheVariants.{BadSpec}
+use Rattle.dv_row.specs.Expressions.{Expression, at_path, constant, made, Computed, nothing, computed}
+use Rattle.dv_row.specs.Parsing.{◌>>=◌, path_in}
+
+-- what a number or a boolean switches on or off
+abbrev pub switch_in : Tree → Option Bool
+switch_in (boolean b) = Some b
+switch_in (int32 n) = Some (is_not_zero n)
+switch_in (int64 n) = Some (is_not_zero n)
+switch_in v = None
+
+-- the value that stands alone under $literal
+abbrev pub literal_in : Fields → Option Tree
+literal_in (field name v no_fields) = if bytes_eq (codes "$literal") name then Some v else None
+literal_in fs = None
+
+abbrev pub has_dot : List ℕ → Bool
+has_dot [] = false
+has_dot (b ∷ bs) = b == 46 || has_dot bs
+
+-- a text behind a dollar sign is a path, and another stands for itself
+abbrev pub text_expression : List ℕ → Result Expression PipelineFault
+text_expression text = if begins_with_dollar text then (path_in text >>= λ path. Ok (at_path path)) else Ok (constant (string text))
+
+abbrev pub literal_or_made : Option Tree → Result Computed PipelineFault → Result Expression PipelineFault
+literal_or_made (Some v) fields = Ok (constant v)
+literal_or_made None fields = fields >>= λ es. Ok (made es)
+
+-- a name that an expression may stand under in a document of expressions
+abbrev pub under_name : List ℕ → Result Expression PipelineFault → Result (List ℕ × Expression) PipelineFault
+under_name name e = if begins_with_dollar name || has_dot name then Err BadSpec else (e >>= λ e. Ok (name, e))
+
+abbrev pub constant_or_fault : Option Bool → Tree → Result Expression PipelineFault
+constant_or_fault (Some switch) v = Err BadSpec
+constant_or_fault None v = Ok (constant v)
+
+-- a value that stands for itself: numbers and booleans only where they are no switches
+abbrev pub constant_in : Bool → Tree → Result Expression PipelineFault
+constant_in true v = Ok (constant v)
+constant_in false v = constant_or_fault (switch_in v) v
+
+-- an expression; `plain` says whether numbers and booleans stand for themselves
+unfoldable mutual
+  pub expression_in : Bool → Tree → Result Expression PipelineFault
+  expression_in plain (string text) = text_expression text
+  expression_in plain (document fs) = literal_or_made (literal_in fs) (computed_in plain fs)
+  expression_in plain (array vs) = Err BadSpec
+  expression_in plain v = constant_in plain v
+
+  pub computed_in : Bool → Fields → Result Computed PipelineFault
+  computed_in plain no_fields = Ok nothing
+  computed_in plain (field name v fs) = under_name name (expression_in plain v) >>= λ e. computed_in plain fs >>= λ es. Ok (computed e.0 e.1 es)

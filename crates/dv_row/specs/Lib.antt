@@ -1,0 +1,15 @@
+pub mod AskedView
+pub mod EachLaws
+pub mod Expressions
+pub mod ExpressionCode
+pub mod ExpressionFalls
+pub mod ExpressionParsing
+pub mod ExpressionView
+pub mod Fault
+pub mod Parsing
+pub mod Projecting
+pub mod ProjectParsing
+pub mod Row
+pub mod Unwinding
+pub mod Valid
+pub mod ValidRows

@@ -1,0 +1,168 @@
+//! Expressions.
+
+ghost use Rattle.std.specs.Prelude.{◌≡◌, ◌++◌, map, IfOk, OnOk, OnErr};
+ghost use Rattle.std.specs.Option.{option_map};
+ghost use Rattle.dv_bson.specs.Tree.{fields_of};
+ghost use Rattle.dv_bson.specs.View.{tree};
+ghost use Rattle.dv_row.specs.Expressions as defined;
+ghost use Rattle.dv_row.specs.ExpressionView.{expression, named};
+
+use dv_bson::{BsonFault, Document, NoMemory, Str, Value};
+use dv_path::{Path, expr_value};
+use std::alloc::{AllocError, Global};
+use std::marker::Model;
+
+/// What is computed over a row.
+#[cycle(expr)]
+#[derive(Debug, Drop)]
+pub enum Expr {
+    /// What the path leads to.
+    Path(Path),
+    /// The value itself.
+    Constant(Value),
+    /// A document of fields that are computed.
+    Document(Computed),
+}
+
+/// A field that is computed over a row.
+#[cycle(expr)]
+#[derive(Debug, Drop)]
+pub struct ComputedField {
+    /// The field's name.
+    pub name: Str,
+    /// What gives its value.
+    pub expr: Expr,
+}
+
+/// Fields that are computed over a row, in written order.
+#[cycle(expr)]
+#[derive(Debug, Drop)]
+pub struct Computed {
+    fields: Vec<ComputedField>,
+}
+
+impl Model for Computed {
+    ghost use Rattle.std.specs.Prelude.{map};
+    ghost use Rattle.dv_row.specs.Expressions as forms;
+    ghost use Rattle.dv_row.specs.Expressions.{computed_of, computed_weight};
+    ghost use Rattle.dv_row.specs.ExpressionCode.{coded_computed};
+
+    ghost Value = { forms.Computed };
+
+    ghost coded = { coded_computed };
+
+    ghost use Rattle.dv_row.specs.ExpressionView.{named};
+
+    ghost view = { λ c. computed_of (map named c.fields.items) };
+
+    ghost size = { computed_weight };
+
+    ghost use Rattle.std.proofs.Common.{arith};
+    ghost use Rattle.dv_row.specs.ExpressionFalls.{computed_fall};
+
+    ghost size_decreases = { λ c h. omega (arith, computed_fall c.fields.items) };
+}
+
+impl Expr {
+    /// The value over the row; `None` where it is missing. Fails where memory is wanting.
+    #[cycle(values)]
+    #[tactic(auto, unfolding(crate::specs::Expressions::value_of))]
+    pub fn value(&self, alloc: Global, row: &Document) -> Result<Option<Value>, NoMemory>
+        ensures { IfOk result (λ value. option_map tree value ≡ defined.value_of (expression self.now) row.now) }
+    {
+        match self {
+            Expr::Path(path) => expr_value(alloc, row, path),
+            Expr::Constant(value) => Ok(Some(value.try_clone()?)),
+            Expr::Document(computed) => {
+                let mut document = Document::new(alloc);
+                computed.push_values(alloc, row, &mut document)?;
+                Ok(Some(Value::Doc(document)))
+            }
+        }
+    }
+
+    /// A copy of its own. Fails where memory is wanting.
+    #[cycle(expr_copying)]
+    pub fn try_clone(&self) -> Result<Self, NoMemory>
+        ensures { IfOk result (λ copy. copy ≡ self.now) }
+    {
+        match self {
+            Expr::Path(path) => Ok(Expr::Path(path.try_clone()?)),
+            Expr::Constant(value) => Ok(Expr::Constant(value.try_clone()?)),
+            Expr::Document(computed) => Ok(Expr::Document(computed.try_clone()?)),
+        }
+    }
+}
+
+impl ComputedField {
+    /// A copy of its own. Fails where memory is wanting.
+    #[cycle(expr_copying)]
+    pub fn try_clone(&self) -> Result<Self, NoMemory>
+        ensures { IfOk result (λ copy. copy ≡ self.now) }
+    {
+        Ok(ComputedField {
+            name: self.name.try_clone()?,
+            expr: self.expr.try_clone()?,
+        })
+    }
+}
+
+impl Computed {
+    /// The list of these fields. Takes no memory.
+    pub fn of(fields: Vec<ComputedField>) -> Self
+        ensures { result ≡ defined.computed_of (map named fields.items) }
+    {
+        Computed { fields }
+    }
+
+    /// The fields in written order.
+    pub fn as_slice(&self) -> &[ComputedField]
+        ensures { defined.computed_of (map named result.now) ≡ self.now }
+    {
+        self.fields.as_slice()
+    }
+
+    /// Puts the fields that aren't missing behind those of a document.
+    #[cycle(values)]
+    pub(crate) fn push_values(
+        &self,
+        alloc: Global,
+        row: &Document,
+        document: &mut Document,
+    ) -> Result<(), NoMemory>
+        ensures { OnOk result (document.new ≡ defined.with_computed self.now row.now document.old) }
+    {
+        'fields: for field in &self.fields {
+            let value = field.expr.value(alloc, row)?;
+            push_field(document, field.name.as_str(), value)?;
+        }
+        Ok(())
+    }
+
+    /// A copy of its own. Fails where memory is wanting.
+    #[cycle(expr_copying)]
+    pub fn try_clone(&self) -> Result<Self, NoMemory>
+        ensures { IfOk result (λ copy. copy ≡ self.now) }
+    {
+        let mut fields = Vec::with_capacity(*self.fields.allocator(), self.fields.len())?;
+        for field in &self.fields {
+            fields.push(field.try_clone()?)?;
+        }
+        Ok(Computed { fields })
+    }
+}
+
+/// Puts a field behind those of the document, where there is a value. A name that stands there already, or that no field
+/// may have, is left out. Fails where memory is wanting; then nothing is changed.
+pub fn push_field(document: &mut Document, name: &str, value: Option<Value>) -> Result<(), NoMemory>
+    ensures ok { OnOk result (document.new ≡ defined.with_field name.now (option_map tree value) document.old) }
+    ensures err { OnErr result (document.new ≡ document.old) }
+{
+    let Some(value) = value else {
+        return Ok(());
+    };
+    match document.push(name, value) {
+        Err(BsonFault::NoMemory) => Err(AllocError),
+        _ => Ok(()),
+    }
+}

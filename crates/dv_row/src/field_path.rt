@@ -1,0 +1,33 @@
+//! Paths behind a dollar sign.
+
+ghost use Rattle.std.specs.Prelude.{◌≡◌};
+ghost use Rattle.std.specs.Prelude.{◌≡◌};
+ghost use Rattle.std.specs.Option.{option_map};
+ghost use Rattle.dv_row.specs.Parsing as defined;
+ghost use Rattle.dv_row.specs.Parsing.{Gives, path_in};
+
+use crate::fault::PipelineFault;
+use dv_bson::begins_with_dollar;
+use dv_path::Path;
+use std::alloc::Global;
+
+/// The path behind a dollar sign. Refused with `BadSpec` where there is none, or where another dollar sign follows, and with
+/// `NoMemory`.
+pub(crate) fn field_path(alloc: Global, text: &str) -> Result<Path, PipelineFault>
+    ensures { Gives (λ path. path) result (path_in text.now) }
+{
+    let Some(path) = behind_dollar(text) else {
+        return Err(PipelineFault::BadSpec);
+    };
+    if begins_with_dollar(path) {
+        return Err(PipelineFault::BadSpec);
+    }
+    Ok(Path::parse(alloc, path)?)
+}
+
+/// What stands behind a dollar sign.
+fn behind_dollar(text: &str) -> Option<&str>
+    ensures { option_map (λ behind. behind.now) result ≡ defined.behind_dollar text.now }
+{
+    text.strip_prefix('$')
+}

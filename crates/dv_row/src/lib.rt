@@ -1,0 +1,20 @@
+//! What stages make of one row: expressions, `$project` and `$unwind`.
+#![tactic(auto)]
+
+mod asked;
+mod expr;
+mod expr_parsing;
+mod fault;
+mod field_path;
+pub mod laws;
+mod paths;
+mod project;
+mod switch;
+mod unwind;
+
+pub use expr::{Computed, ComputedField, Expr, push_field};
+pub use fault::PipelineFault;
+pub use paths::Paths;
+pub use project::Project;
+pub use switch::has_dot;
+pub use unwind::Unwind;

@@ -1,0 +1,26 @@
+//! What stands for itself, and what switches a field on or off.
+
+ghost use Rattle.std.specs.Prelude.{◌≡◌};
+ghost use Rattle.dv_bson.specs.View.{tree};
+ghost use Rattle.dv_row.specs.ExpressionParsing as defined;
+
+use dv_bson::Value;
+
+/// Whether a number, of which 0 is false, or a boolean switches on or off; `None` of any other value.
+pub(crate) fn switch_of(value: &Value) -> Option<bool>
+    ensures { result ≡ defined.switch_in (tree value.now) }
+{
+    match value {
+        Value::Bool(truth) => Some(*truth),
+        Value::Int32(number) => Some(*number != 0),
+        Value::Int64(number) => Some(*number != 0),
+        _ => None,
+    }
+}
+
+/// Whether a dot stands in the name.
+pub fn has_dot(name: &str) -> bool
+    ensures { result ≡ defined.has_dot name.now }
+{
+    name.as_bytes().contains(&b'.')
+}
