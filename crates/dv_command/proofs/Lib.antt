@@ -1,5 +1,3 @@
-mod Lists
 mod Sounding
-pub mod Checks
-pub mod Among
+mod Names
 pub mod Errors

@@ -1,27 +1,30 @@
--- What a body with valid fields asks is sound.
-use Rattle.std.proofs.Common.{◌≡◌, ◌<◌, ◌≤◌, ◌&&◌, not, nat_lt, ℕ, zero, suc, Bool, true, false, if◌then◌else◌, List, [], ◌∷◌, length, get_or, Option, Some, None, Result, Ok, Err, refl, ap, subst, arith}
+-- What a body with valid fields and valid lists beside it asks is sound.
+use Rattle.std.proofs.Common.{◌≡◌, ◌<◌, ◌≤◌, ◌&&◌, not, nat_lt, ℕ, ℤ, pos, negsuc, zero, suc, Bool, true, false, if◌then◌else◌, List, [], ◌∷◌, length, get_or, Option, Some, None, Result, Ok, Err, refl, ap, subst, arith}
 use Rattle.std.proofs.lemmas.Bool.Decides.{nat_tests}
 use Rattle.std.proofs.lemmas.Str.{IsUtf8-append, IsUtf8-from_ascii}
 use Rattle.std.specs.Prelude.{codes, ⊤}
 use Rattle.std.specs.Str.{IsUtf8, bytes_eq}
 use Rattle.dv_bson.specs.Names.{value_under}
 use Rattle.dv_bson.specs.Spelling.{IsValue, AreFields, AreElements}
-use Rattle.dv_bson.specs.Tree.{Tree, string, document, array, Fields, no_fields, field, Elements, no_elements, element, Field, fields_of, list_of_fields, elements_of, list_of_elements}
+use Rattle.dv_bson.specs.Tree.{Tree, int32, int64, string, document, array, Fields, no_fields, field, Elements, no_elements, element, Field, fields_of, list_of_fields, elements_of, list_of_elements}
 use Rattle.dv_update.specs.Parsing as updates
 use Rattle.dv_pipe.specs.StageParsing as pipelines
 use Rattle.dv_pipe.specs.declared.stage.Stage.{Stage}
-use Rattle.dv_command.specs.Asked.{Asked, hello, ping, insert, update, delete, find, aggregate, create, drop, asked_under, write_under, catalog_under, hello_of, ping_of, insert_of, update_of, delete_of, find_of, aggregate_of, create_of, drop_of, ViewOn, ViewFields, view_fields, view_fields_in, view_of, Statements, statements_of, checked_database, check_count, statement_limit}
-use Rattle.dv_command.specs.Fields.{Table, Lists, updating_table, update_in, update_under, document_under, write_table, find_table, aggregate_table, create_table, drop_table, check_fields, check_lists, text_in, array_in, each_document, documents_in, required, text_under, array_under, boolean_under, natural_under, documents_under}
+use Rattle.dv_command.specs.Asked.{Asked, Find, hello, ping, insert, update, delete, find, aggregate, get_more, kill_cursors, create, drop, create_indexes, drop_indexes, explain, asked_under, read_under, cursor_under, write_under, catalog_under, index_under, hello_of, ping_of, insert_of, update_of, delete_of, find_of, find_in, aggregate_of, cursor_size, first_batch_size, get_more_of, kill_cursors_of, create_of, drop_of, create_indexes_of, drop_indexes_of, explain_of, explained, explained_by, ViewOn, ViewFields, view_fields, view_fields_in, view_of, Statements, statements_of, looked_database, checked_database, check_count, statement_limit}
+use Rattle.dv_fields.specs.Fields as reading
+use Rattle.dv_fields.specs.Fields.{Table, update_in, update_under, document_under, check_fields, first_name, text_in, document_in, array_in, integer_in, each_document, documents_in, required, text_under, array_under, boolean_under, integer_under, integers_under, natural_under}
+use Rattle.dv_command.specs.Tables.{updating_table, index_table, write_table, find_fields, find_table, aggregate_table, get_more_table, kill_cursors_table, create_table, drop_table, create_indexes_table, drop_indexes_table, explain_table}
+use Rattle.dv_command.specs.Lists.{Lists, check_none, check_only, list_under, in_either, documents_under}
 use Rattle.dv_command.specs.Forms.{filter_under, sort_under, filter_of, pipeline_of}
 use Rattle.dv_command.specs.Forms as forms
 use Rattle.dv_command.specs.Entries as entries
-use Rattle.dv_command.specs.Entries.{Updating}
-use Rattle.dv_command.specs.Kinds as kinds
-use Rattle.dv_command.specs.Namespaces.{database, database_in, namespace, dotted, is_database_name, is_collection_name, longest_namespace}
-use Rattle.dv_command.specs.Refusals.{◌>>=◌, refused_by, pipeline_refusal, update_refusal}
-use Rattle.dv_command.specs.Sound.{AreValid, IsNamespace, AreStatements, IsSoundPipeline, IsSoundView, IsSoundlyAsked, IsSoundUpdate}
-use Rattle.dv_command.specs.declared.refusal.Refusal.{Refusal}
-use Rattle.dv_command.specs.declared.refusal.Refusal.TheVariants.{BadValue, CommandNotFound, LimitReached}
+use Rattle.dv_command.specs.Entries.{Updating, IndexAsked, index_of, key_path, check_index_name, longest_index_name}
+use Rattle.dv_fields.specs.Kinds as kinds
+use Rattle.dv_fields.specs.Namespaces.{database, database_in, namespace, dotted, is_database_name, is_collection_name, longest_namespace}
+use Rattle.dv_fields.specs.Refusals.{◌>>=◌, each, refused_by, pipeline_refusal, update_refusal}
+use Rattle.dv_command.specs.Sound.{AreValid, AreValidLists, AreIds, IsSoundIndex, AreSoundIndexes, IsNamespace, AreStatements, IsSoundPipeline, IsSoundView, IsSoundlyAsked, IsSoundUpdate}
+use Rattle.dv_fields.specs.declared.refusal.Refusal.{Refusal}
+use Rattle.dv_fields.specs.declared.refusal.Refusal.TheVariants.{BadValue, CommandNotFound, LimitReached}
 
 -- ---- one thing after another that succeeds
 
@@ -72,6 +75,22 @@ documents_valid None ds valid is = absurd cc
 documents_valid (Some (array vs)) ds valid is = each_valid vs ds (valid (array vs) refl) is
 documents_valid (Some v) ds valid is = absurd cc
 
+one_list_valid : (list others : Option (List (List Field))) (b : Bool) (ds : List (List Field)) → (list ≡ Some ds → AreValid ds) → (others ≡ Some ds → AreValid ds) → (if b then list else others) ≡ Some ds → AreValid ds
+one_list_valid list others true ds first rest is = first is
+one_list_valid list others false ds first rest is = rest is
+
+beside_valid : (name : List ℕ) (lists : Lists) (ds : List (List Field)) → AreValidLists lists → list_under name lists ≡ Some ds → AreValid ds
+beside_valid name [] ds valid is = absurd cc
+beside_valid name (list ∷ lists) ds valid is =
+    one_list_valid (Some list.1) (list_under name lists) (bytes_eq name list.0) ds (λ e. let same : list.1 ≡ ds = cc in subst AreValid same valid.0) (beside_valid name lists ds valid.1) is
+
+either_valid : (under : Option Tree) (beside : Option (List (List Field))) (ds : List (List Field)) → ((v : Tree) → under ≡ Some v → IsValue v) → ((es : List (List Field)) → beside ≡ Some es → AreValid es)
+    → in_either under beside ≡ Ok ds → AreValid ds
+either_valid (Some value) None ds valid others is = documents_valid (Some value) ds valid is
+either_valid None (Some documents) ds valid others is = subst AreValid (ends documents ds is) (others documents refl)
+either_valid None None ds valid others is = absurd cc
+either_valid (Some value) (Some documents) ds valid others is = absurd cc
+
 text_valid : (under : Option Tree) (c : List ℕ) → ((v : Tree) → under ≡ Some v → IsValue v) → required text_in under ≡ Ok c → IsUtf8 c
 text_valid None c valid is = absurd cc
 text_valid (Some (string name)) c valid is = let same : name ≡ c = cc in subst IsUtf8 same (valid (string name) refl)
@@ -97,11 +116,34 @@ database_valid (Some (string name)) d valid is = named (is_database_name name) i
     named false e = absurd cc
 database_valid (Some v) d valid is = absurd cc
 
-update_valid : (under : Option Tree) (d : List Field) → ((v : Tree) → under ≡ Some v → IsValue v) → required update_in under ≡ Ok d → AreFields (fields_of d)
-update_valid None d valid is = absurd cc
-update_valid (Some (document fs)) d valid is =
+wider : (n : ℤ) → IsValue (int32 n) → IsValue (int64 n)
+wider (pos n) fits = omega arith
+wider (negsuc n) fits = omega arith
+
+-- an integer of either width is told with the greater one
+integer_valid : (v : Tree) (n : ℤ) → IsValue v → integer_in v ≡ Ok n → IsValue (int64 n)
+integer_valid (int32 m) n valid is = let same : m ≡ n = cc in subst (λ (k : ℤ). IsValue (int64 k)) same (wider m valid)
+integer_valid (int64 m) n valid is = let same : m ≡ n = cc in subst (λ (k : ℤ). IsValue (int64 k)) same valid
+integer_valid v n valid is = absurd cc
+
+integers_valid : (vs : List Tree) (ns : List ℤ) → AreElements (elements_of vs) → each integer_in vs ≡ Ok ns → AreIds ns
+integers_valid [] ns valid is = subst AreIds (ends [] ns is) tt
+integers_valid (v ∷ vs) ns valid is =
+    let first = succeeds (integer_in v) _ ns is in
+    let others = succeeds (each integer_in vs) _ ns first.rest_is in
+    subst AreIds (ends (first.given ∷ others.given) ns others.rest_is) (integer_valid v first.given valid.0 first.first_is, integers_valid vs others.given valid.1 others.first_is)
+
+document_valid : (under : Option Tree) (d : List Field) → ((v : Tree) → under ≡ Some v → IsValue v) → required document_in under ≡ Ok d → AreFields (fields_of d)
+document_valid None d valid is = absurd cc
+document_valid (Some (document fs)) d valid is =
     let fields : AreFields (fields_of (list_of_fields fs)) = rw (fields_again fs) (valid (document fs) refl) in
     subst (λ (e : List Field). AreFields (fields_of e)) (ends (list_of_fields fs) d is) fields
+document_valid (Some v) d valid is = absurd cc
+
+-- an update that isn't a document is none
+update_valid : (under : Option Tree) (d : List Field) → ((v : Tree) → under ≡ Some v → IsValue v) → required update_in under ≡ Ok d → AreFields (fields_of d)
+update_valid None d valid is = absurd cc
+update_valid (Some (document fs)) d valid is = document_valid (Some (document fs)) d valid is
 update_valid (Some (array vs)) d valid is = absurd cc
 update_valid (Some v) d valid is = absurd cc
 
@@ -132,6 +174,35 @@ count_valid ds t is = by_test (nat_lt 100000 (length ds)) refl is
     by_test true test e = absurd cc
     by_test false test e = grind (arith, nat_tests)
 
+-- ---- indexes
+
+index_name_short : (name : List ℕ) (t : ⊤) → check_index_name name ≡ Ok t → length name ≤ longest_index_name
+index_name_short name t is = by_test (nat_lt 120 (length name)) refl is
+  where
+    by_test : (b : Bool) → nat_lt 120 (length name) ≡ b → (if b then Err BadValue else Ok tt) ≡ Ok t → length name ≤ longest_index_name
+    by_test true test e = absurd cc
+    by_test false test e = grind (arith, nat_tests)
+
+index_valid : (entry : List Field) (index : IndexAsked) → AreFields (fields_of entry) → index_of entry ≡ Ok index → IsSoundIndex index
+index_valid entry index valid is =
+    let looked = succeeds (check_fields kinds.entry index_table entry) _ index is in
+    let key = succeeds (document_under (codes "key") entry) _ index looked.rest_is in
+    let name = succeeds (text_under (codes "name") entry) _ index key.rest_is in
+    let path = succeeds (key_path key.given) _ index name.rest_is in
+    let short = succeeds (check_index_name name.given) _ index path.rest_is in
+    let made : IndexAsked = record { name = name.given; path = path.given } in
+    subst IsSoundIndex {x = made} (ends made index short.rest_is) (
+      text_valid (value_under (codes "name") entry) name.given (λ v under. under_valid (codes "name") entry v valid under) name.first_is,
+      index_name_short name.given short.given short.first_is,
+    )
+
+indexes_valid : (list : List (List Field)) (indexes : List IndexAsked) → AreValid list → each index_of list ≡ Ok indexes → AreSoundIndexes indexes
+indexes_valid [] indexes valid is = subst AreSoundIndexes (ends [] indexes is) tt
+indexes_valid (entry ∷ list) indexes valid is =
+    let first = succeeds (index_of entry) _ indexes is in
+    let others = succeeds (each index_of list) _ indexes first.rest_is in
+    subst AreSoundIndexes (ends (first.given ∷ others.given) indexes others.rest_is) (index_valid entry first.given valid.0 first.first_is, indexes_valid list others.given valid.1 others.first_is)
+
 -- ---- pipelines and views
 
 pipeline_valid : (list : List Tree) (stages : List Stage) → AreElements (elements_of list) → pipeline_of list ≡ Ok stages → IsSoundPipeline stages
@@ -161,35 +232,69 @@ view_valid d (Some fields) view named valid is =
     subst IsSoundView {x = made} (ends made view stages.rest_is)
     (namespace_valid d fields.collection source.given named valid.0 source.first_is, pipeline_valid fields.list stages.given valid.1 stages.first_is)
 
+-- ---- finds
+
+find_valid : (d : List ℕ) (body : List Field) (asked : Find) → IsUtf8 d → AreFields (fields_of body) → find_in d body ≡ Ok asked → IsNamespace asked.namespace
+find_valid d body asked named valid is =
+    let collection = succeeds (text_under (codes "find") body) _ asked is in
+    let from = succeeds (namespace d collection.given) _ asked collection.rest_is in
+    let filter = succeeds (filter_under (codes "filter") body) _ asked from.rest_is in
+    let sort = succeeds (sort_under (codes "sort") body) _ asked filter.rest_is in
+    let skip = succeeds (natural_under (codes "skip") 0 body) _ asked sort.rest_is in
+    let limit = succeeds (natural_under (codes "limit") 0 body) _ asked skip.rest_is in
+    let size = succeeds (natural_under (codes "batchSize") first_batch_size body) _ asked limit.rest_is in
+    let single = succeeds (boolean_under (codes "singleBatch") false body) _ asked size.rest_is in
+    let made : Find = record { namespace = from.given; filter = filter.given; sort = sort.given; skip = skip.given; limit = limit.given; batch_size = size.given; single_batch = single.given } in
+    let P : Find → Type 0 = λ f. IsNamespace f.namespace in
+    subst P {x = made} (ends made asked single.rest_is)
+    (namespace_valid d collection.given from.given named (text_valid (value_under (codes "find") body) collection.given (λ v under. under_valid (codes "find") body v valid under) collection.first_is) from.first_is)
+
+explained_valid : (reading : Result (List Field) Refusal) (d : List Field) → ((e : List Field) → reading ≡ Ok e → AreFields (fields_of e)) → explained_by reading ≡ Ok d → AreFields (fields_of d)
+explained_valid (Ok fields) d valid is = by_test (bytes_eq (first_name fields) (codes "find")) is
+  where
+    by_test : (b : Bool) → (if b then Ok fields else Err CommandNotFound) ≡ Ok d → AreFields (fields_of d)
+    by_test true e = subst (λ (f : List Field). AreFields (fields_of f)) (ends fields d e) (valid fields refl)
+    by_test false e = absurd cc
+explained_valid (Err refusal) d valid is = absurd cc
+
 -- ---- each command
 
-module _ (body : List Field) (lists : Lists) (valid : AreFields (fields_of body)) where
+module _ (body : List Field) (lists : Lists) (valid : AreFields (fields_of body)) (beside : AreValidLists lists) where
   valid_under : (name : List ℕ) (v : Tree) → value_under name body ≡ Some v → IsValue v
   valid_under name v under = under_valid name body v valid under
 
-  checked_valid : (table : Table) (d : List ℕ) → checked_database table body lists ≡ Ok d → IsUtf8 d
-  checked_valid table d is =
+  database_sound : (d : List ℕ) → database body ≡ Ok d → IsUtf8 d
+  database_sound d is = database_valid (value_under (codes "$db") body) d (valid_under (codes "$db")) is
+
+  looked_valid : (table : Table) (d : List ℕ) → looked_database table body ≡ Ok d → IsUtf8 d
+  looked_valid table d is =
       let named = succeeds (database body) _ d is in
       let looked = succeeds (check_fields kinds.command table body) _ d named.rest_is in
-      let beside = succeeds (check_lists lists) _ d looked.rest_is in
-      subst IsUtf8 (ends named.given d beside.rest_is) (database_valid (value_under (codes "$db") body) named.given (valid_under (codes "$db")) named.first_is)
+      subst IsUtf8 (ends named.given d looked.rest_is) (database_sound named.given named.first_is)
 
-  name_valid : (table : Table) (command d c ns : List ℕ) → checked_database table body lists ≡ Ok d → text_under command body ≡ Ok c → namespace d c ≡ Ok ns → IsNamespace ns
-  name_valid table command d c ns database_is collection_is is =
-      namespace_valid d c ns (checked_valid table d database_is) (text_valid (value_under command body) c (valid_under command) collection_is) is
+  checked_valid : (table : Table) (d : List ℕ) → checked_database table body lists ≡ Ok d → IsUtf8 d
+  checked_valid table d is =
+      let looked = succeeds (looked_database table body) _ d is in
+      let none = succeeds (check_none lists) _ d looked.rest_is in
+      subst IsUtf8 (ends looked.given d none.rest_is) (looked_valid table looked.given looked.first_is)
+
+  name_valid : (command d c ns : List ℕ) → IsUtf8 d → text_under command body ≡ Ok c → namespace d c ≡ Ok ns → IsNamespace ns
+  name_valid command d c ns database_is collection_is is =
+      namespace_valid d c ns database_is (text_valid (value_under command body) c (valid_under command) collection_is) is
 
   statements_valid : (command list : List ℕ) (s : Statements) → statements_of command list body lists ≡ Ok s → AreStatements s.namespace s.list
   statements_valid command list s is =
-      let db = succeeds (checked_database (write_table command list) body lists) _ s is in
-      let collection = succeeds (text_under command body) _ s db.rest_is in
-      let documents = succeeds (documents_under list body) _ s collection.rest_is in
+      let db = succeeds (looked_database (write_table command list) body) _ s is in
+      let only = succeeds (check_only list lists) _ s db.rest_is in
+      let collection = succeeds (text_under command body) _ s only.rest_is in
+      let documents = succeeds (documents_under list body lists) _ s collection.rest_is in
       let ordered = succeeds (boolean_under (codes "ordered") true body) _ s documents.rest_is in
       let into = succeeds (namespace db.given collection.given) _ s ordered.rest_is in
       let few = succeeds (check_count documents.given) _ s into.rest_is in
       let P : Statements → Type 0 = λ t. AreStatements t.namespace t.list in
       subst P (ends (record { namespace = into.given; list = documents.given; ordered = ordered.given }) s few.rest_is) (
-        name_valid (write_table command list) command db.given collection.given into.given db.first_is collection.first_is into.first_is,
-        documents_valid (value_under list body) documents.given (valid_under list) documents.first_is,
+        name_valid command db.given collection.given into.given (looked_valid (write_table command list) db.given db.first_is) collection.first_is into.first_is,
+        either_valid (value_under list body) (list_under list lists) documents.given (valid_under list) (λ es under. beside_valid list lists es beside under) documents.first_is,
         count_valid documents.given few.given few.first_is,
       )
 
@@ -214,27 +319,45 @@ module _ (body : List Field) (lists : Lists) (valid : AreFields (fields_of body)
   find_sound : (a : Asked) → find_of body lists ≡ Ok a → IsSoundlyAsked a
   find_sound a is =
       let db = succeeds (checked_database find_table body lists) _ a is in
-      let collection = succeeds (text_under (codes "find") body) _ a db.rest_is in
-      let from = succeeds (namespace db.given collection.given) _ a collection.rest_is in
-      let filter = succeeds (filter_under (codes "filter") body) _ a from.rest_is in
-      let sort = succeeds (sort_under (codes "sort") body) _ a filter.rest_is in
-      let skip = succeeds (natural_under (codes "skip") body) _ a sort.rest_is in
-      let limit = succeeds (natural_under (codes "limit") body) _ a skip.rest_is in
-      let asked : Asked = find (record { namespace = from.given; filter = filter.given; sort = sort.given; skip = skip.given; limit = limit.given }) in
-      subst IsSoundlyAsked {x = asked} (ends asked a limit.rest_is)
-      (name_valid find_table (codes "find") db.given collection.given from.given db.first_is collection.first_is from.first_is)
+      let asked = succeeds (find_in db.given body) _ a db.rest_is in
+      subst IsSoundlyAsked (ends (find asked.given) a asked.rest_is) (find_valid db.given body asked.given (checked_valid find_table db.given db.first_is) valid asked.first_is)
 
   aggregate_sound : (a : Asked) → aggregate_of body lists ≡ Ok a → IsSoundlyAsked a
   aggregate_sound a is =
       let db = succeeds (checked_database aggregate_table body lists) _ a is in
       let collection = succeeds (text_under (codes "aggregate") body) _ a db.rest_is in
       let list = succeeds (array_under (codes "pipeline") body) _ a collection.rest_is in
-      let from = succeeds (namespace db.given collection.given) _ a list.rest_is in
+      let batch_size = succeeds (cursor_size body) _ a list.rest_is in
+      let from = succeeds (namespace db.given collection.given) _ a batch_size.rest_is in
       let stages = succeeds (pipeline_of list.given) _ a from.rest_is in
-      let asked : Asked = aggregate (record { namespace = from.given; stages = stages.given }) in
+      let asked : Asked = aggregate (record { namespace = from.given; stages = stages.given; batch_size = batch_size.given }) in
       subst IsSoundlyAsked {x = asked} (ends asked a stages.rest_is) (
-        name_valid aggregate_table (codes "aggregate") db.given collection.given from.given db.first_is collection.first_is from.first_is,
+        name_valid (codes "aggregate") db.given collection.given from.given (checked_valid aggregate_table db.given db.first_is) collection.first_is from.first_is,
         pipeline_valid list.given stages.given (list_valid (value_under (codes "pipeline") body) list.given (valid_under (codes "pipeline")) list.first_is) stages.first_is,
+      )
+
+  get_more_sound : (a : Asked) → get_more_of body lists ≡ Ok a → IsSoundlyAsked a
+  get_more_sound a is =
+      let db = succeeds (checked_database get_more_table body lists) _ a is in
+      let id = succeeds (integer_under (codes "getMore") body) _ a db.rest_is in
+      let collection = succeeds (text_under (codes "collection") body) _ a id.rest_is in
+      let batch_size = succeeds (natural_under (codes "batchSize") 0 body) _ a collection.rest_is in
+      let from = succeeds (namespace db.given collection.given) _ a batch_size.rest_is in
+      let asked : Asked = get_more (record { id = id.given; namespace = from.given; batch_size = batch_size.given }) in
+      subst IsSoundlyAsked {x = asked} (ends asked a from.rest_is)
+      (name_valid (codes "collection") db.given collection.given from.given (checked_valid get_more_table db.given db.first_is) collection.first_is from.first_is)
+
+  kill_cursors_sound : (a : Asked) → kill_cursors_of body lists ≡ Ok a → IsSoundlyAsked a
+  kill_cursors_sound a is =
+      let db = succeeds (checked_database kill_cursors_table body lists) _ a is in
+      let collection = succeeds (text_under (codes "killCursors") body) _ a db.rest_is in
+      let ids = succeeds (integers_under (codes "cursors") body) _ a collection.rest_is in
+      let list = succeeds (array_under (codes "cursors") body) _ ids.given ids.first_is in
+      let from = succeeds (namespace db.given collection.given) _ a ids.rest_is in
+      let asked : Asked = kill_cursors (record { namespace = from.given; ids = ids.given }) in
+      subst IsSoundlyAsked {x = asked} (ends asked a from.rest_is) (
+        name_valid (codes "killCursors") db.given collection.given from.given (checked_valid kill_cursors_table db.given db.first_is) collection.first_is from.first_is,
+        integers_valid list.given ids.given (list_valid (value_under (codes "cursors") body) list.given (valid_under (codes "cursors")) list.first_is) list.rest_is,
       )
 
   create_sound : (a : Asked) → create_of body lists ≡ Ok a → IsSoundlyAsked a
@@ -247,7 +370,7 @@ module _ (body : List Field) (lists : Lists) (valid : AreFields (fields_of body)
       let asked : Asked = create (record { namespace = name.given; view = view.given }) in
       let are_valid = fields_valid (value_under (codes "viewOn") body) (value_under (codes "pipeline") body) fields.given (valid_under (codes "viewOn")) (valid_under (codes "pipeline")) fields.first_is in
       subst IsSoundlyAsked {x = asked} (ends asked a view.rest_is) (
-        name_valid create_table (codes "create") db.given collection.given name.given db.first_is collection.first_is name.first_is,
+        name_valid (codes "create") db.given collection.given name.given (checked_valid create_table db.given db.first_is) collection.first_is name.first_is,
         view_valid db.given fields.given view.given (checked_valid create_table db.given db.first_is) are_valid view.first_is,
       )
 
@@ -258,7 +381,42 @@ module _ (body : List Field) (lists : Lists) (valid : AreFields (fields_of body)
       let name = succeeds (namespace db.given collection.given) _ a collection.rest_is in
       let asked : Asked = drop (record { namespace = name.given }) in
       subst IsSoundlyAsked {x = asked} (ends asked a name.rest_is)
-      (name_valid drop_table (codes "drop") db.given collection.given name.given db.first_is collection.first_is name.first_is)
+      (name_valid (codes "drop") db.given collection.given name.given (checked_valid drop_table db.given db.first_is) collection.first_is name.first_is)
+
+  create_indexes_sound : (a : Asked) → create_indexes_of body lists ≡ Ok a → IsSoundlyAsked a
+  create_indexes_sound a is =
+      let db = succeeds (checked_database create_indexes_table body lists) _ a is in
+      let collection = succeeds (text_under (codes "createIndexes") body) _ a db.rest_is in
+      let list = succeeds (reading.documents_under (codes "indexes") body) _ a collection.rest_is in
+      let name = succeeds (namespace db.given collection.given) _ a list.rest_is in
+      let indexes = succeeds (each index_of list.given) _ a name.rest_is in
+      let asked : Asked = create_indexes (record { namespace = name.given; indexes = indexes.given }) in
+      subst IsSoundlyAsked {x = asked} (ends asked a indexes.rest_is) (
+        name_valid (codes "createIndexes") db.given collection.given name.given (checked_valid create_indexes_table db.given db.first_is) collection.first_is name.first_is,
+        indexes_valid list.given indexes.given (documents_valid (value_under (codes "indexes") body) list.given (valid_under (codes "indexes")) list.first_is) indexes.first_is,
+      )
+
+  drop_indexes_sound : (a : Asked) → drop_indexes_of body lists ≡ Ok a → IsSoundlyAsked a
+  drop_indexes_sound a is =
+      let db = succeeds (checked_database drop_indexes_table body lists) _ a is in
+      let collection = succeeds (text_under (codes "dropIndexes") body) _ a db.rest_is in
+      let index = succeeds (text_under (codes "index") body) _ a collection.rest_is in
+      let name = succeeds (namespace db.given collection.given) _ a index.rest_is in
+      let asked : Asked = drop_indexes (record { namespace = name.given; index = index.given }) in
+      subst IsSoundlyAsked {x = asked} (ends asked a name.rest_is)
+      (name_valid (codes "dropIndexes") db.given collection.given name.given (checked_valid drop_indexes_table db.given db.first_is) collection.first_is name.first_is)
+
+  explain_sound : (a : Asked) → explain_of body lists ≡ Ok a → IsSoundlyAsked a
+  explain_sound a is =
+      let inside = succeeds (explained body) _ a is in
+      let db = succeeds (database body) _ a inside.rest_is in
+      let looked = succeeds (check_fields kinds.command find_fields inside.given) _ a db.rest_is in
+      let others = succeeds (checked_database explain_table body lists) _ a looked.rest_is in
+      let asked = succeeds (find_in db.given inside.given) _ a others.rest_is in
+      let explained_fields =
+      explained_valid (document_under (codes "explain") body) inside.given (λ e under. document_valid (value_under (codes "explain") body) e (valid_under (codes "explain")) under) inside.first_is in
+      let made : Asked = explain (record { find = asked.given }) in
+      subst IsSoundlyAsked {x = made} (ends made a asked.rest_is) (find_valid db.given inside.given asked.given (database_sound db.given db.first_is) explained_fields asked.first_is)
 
   hello_sound : (a : Asked) → hello_of body ≡ Ok a → IsSoundlyAsked a
   hello_sound a is = subst IsSoundlyAsked (ends hello a (succeeds (database body) _ a is).rest_is) tt
@@ -271,11 +429,18 @@ module _ (body : List Field) (lists : Lists) (valid : AreFields (fields_of body)
   either true this others a one rest is = one is
   either false this others a one rest is = rest is
 
+  index_sound : (name : List ℕ) (a : Asked) → index_under name body lists ≡ Ok a → IsSoundlyAsked a
+  index_sound name a =
+      either (bytes_eq name (codes "createIndexes")) (create_indexes_of body lists) _ a (create_indexes_sound a)
+      (either (bytes_eq name (codes "dropIndexes")) (drop_indexes_of body lists) _ a (drop_indexes_sound a)
+      (either (bytes_eq name (codes "explain")) (explain_of body lists) _ a (explain_sound a)
+      (λ is. let none : Err CommandNotFound ≡ Ok a = is in absurd cc)))
+
   catalog_sound : (name : List ℕ) (a : Asked) → catalog_under name body lists ≡ Ok a → IsSoundlyAsked a
   catalog_sound name a =
       either (bytes_eq name (codes "create")) (create_of body lists) _ a (create_sound a)
       (either (bytes_eq name (codes "drop")) (drop_of body lists) _ a (drop_sound a)
-      (λ is. let none : Err CommandNotFound ≡ Ok a = is in absurd cc))
+      (index_sound name a))
 
   write_sound : (name : List ℕ) (a : Asked) → write_under name body lists ≡ Ok a → IsSoundlyAsked a
   write_sound name a =
@@ -284,13 +449,23 @@ module _ (body : List Field) (lists : Lists) (valid : AreFields (fields_of body)
       (either (bytes_eq name (codes "delete")) (delete_of body lists) _ a (delete_sound a)
       (catalog_sound name a)))
 
+  cursor_sound : (name : List ℕ) (a : Asked) → cursor_under name body lists ≡ Ok a → IsSoundlyAsked a
+  cursor_sound name a =
+      either (bytes_eq name (codes "getMore")) (get_more_of body lists) _ a (get_more_sound a)
+      (either (bytes_eq name (codes "killCursors")) (kill_cursors_of body lists) _ a (kill_cursors_sound a)
+      (write_sound name a))
+
+  read_sound : (name : List ℕ) (a : Asked) → read_under name body lists ≡ Ok a → IsSoundlyAsked a
+  read_sound name a =
+      either (bytes_eq name (codes "find")) (find_of body lists) _ a (find_sound a)
+      (either (bytes_eq name (codes "aggregate")) (aggregate_of body lists) _ a (aggregate_sound a)
+      (cursor_sound name a))
+
   pub asked_sound : (name : List ℕ) (a : Asked) → asked_under name body lists ≡ Ok a → IsSoundlyAsked a
   asked_sound name a =
       either (bytes_eq name (codes "hello")) (hello_of body) _ a (hello_sound a)
       (either (bytes_eq name (codes "ping")) (ping_of body) _ a (ping_sound a)
-      (either (bytes_eq name (codes "find")) (find_of body lists) _ a (find_sound a)
-      (either (bytes_eq name (codes "aggregate")) (aggregate_of body lists) _ a (aggregate_sound a)
-      (write_sound name a))))
+      (read_sound name a))
 
 -- ---- entries of updates
 

@@ -1,20 +1,24 @@
 -- What commands ask (MongoDB manual, "Database Commands"). The order in which refusals are told is this server's own.
-use Rattle.std.specs.Prelude.{ℕ, Bool, true, List, Option, Some, None, Result, Ok, Err, codes, nat_lt, length, if◌then◌else◌, ⊤}
+use Rattle.std.specs.Prelude.{ℕ, ℤ, Bool, true, false, List, Option, Some, None, Result, Ok, Err, codes, nat_lt, length, if◌then◌else◌, ⊤}
 use Rattle.std.specs.Str.{bytes_eq}
 use Rattle.dv_bson.specs.Names.{value_under}
 use Rattle.dv_bson.specs.Tree.{Tree, Field}
 use Rattle.dv_path.specs.SortSpec.{Part}
 use Rattle.dv_match.specs.Filter.{Members}
 use Rattle.dv_pipe.specs.declared.stage.Stage.{Stage}
+use Rattle.dv_fields.specs.declared.refusal.Refusal.{Refusal}
+use Rattle.dv_fields.specs.declared.refusal.Refusal.TheVariants.{FailedToParse, CommandNotFound, LimitReached}
+use Rattle.dv_fields.specs.Refusals.{refusal_of, ◌>>=◌, each}
+use Rattle.dv_fields.specs.Kinds as kinds
+use Rattle.dv_fields.specs.Fields as reading
+use Rattle.dv_fields.specs.Fields.{Table, first_name, check_fields, text_in, array_in, text_under, array_under, boolean_under, document_under, document_or_none, integer_under, integers_under, natural_under}
+use Rattle.dv_fields.specs.Namespaces.{database, namespace}
 use Rattle.dv_command.specs.declared.command.Command.{Command}
 use Rattle.dv_command.specs.declared.command.Command.TheVariants.{Sections, Invalid}
-use Rattle.dv_command.specs.declared.refusal.Refusal.{Refusal}
-use Rattle.dv_command.specs.declared.refusal.Refusal.TheVariants.{FailedToParse, CommandNotFound, LimitReached}
-use Rattle.dv_command.specs.Refusals.{refusal_of, ◌>>=◌}
-use Rattle.dv_command.specs.Kinds as kinds
-use Rattle.dv_command.specs.Fields.{Table, Lists, first_name, write_table, find_table, aggregate_table, create_table, drop_table, check_fields, check_lists, text_in, array_in, text_under, array_under, boolean_under, natural_under, documents_under}
+use Rattle.dv_command.specs.Tables.{write_table, find_fields, find_table, aggregate_table, get_more_table, kill_cursors_table, create_table, drop_table, create_indexes_table, drop_indexes_table, explain_table}
+use Rattle.dv_command.specs.Lists.{Lists, check_none, check_only, documents_under}
 use Rattle.dv_command.specs.Forms.{filter_under, sort_under, pipeline_of}
-use Rattle.dv_command.specs.Namespaces.{database, namespace}
+use Rattle.dv_command.specs.Entries.{IndexAsked, index_of}
 
 -- these documents into this namespace, in order; whether the first that is refused ends the command
 pub record Insert : Type 0 where
@@ -34,18 +38,33 @@ pub record Delete : Type 0 where
   pub entries : List (List Field)
   pub ordered : Bool
 
--- the documents of this namespace that match, sorted, behind the first so many, and at most so many; a limit of 0 is none
+-- the documents of this namespace that match, sorted, behind the first so many, and at most so many; a limit of 0 is none. How many come in the first batch, and whether
+-- it is the only one
 pub record Find : Type 0 where
   pub namespace : List ℕ
   pub filter : Members
   pub sort : List Part
   pub skip : ℕ
   pub limit : ℕ
+  pub batch_size : ℕ
+  pub single_batch : Bool
 
--- the rows that a pipeline makes of this namespace's
+-- the rows that a pipeline makes of this namespace's, and how many come in the first batch
 pub record Aggregate : Type 0 where
   pub namespace : List ℕ
   pub stages : List Stage
+  pub batch_size : ℕ
+
+-- the next rows of the cursor of this id over this namespace: at most so many, or for 0 as many as one reply may hold
+pub record GetMore : Type 0 where
+  pub id : ℤ
+  pub namespace : List ℕ
+  pub batch_size : ℕ
+
+-- the cursors of these ids over this namespace go
+pub record KillCursors : Type 0 where
+  pub namespace : List ℕ
+  pub ids : List ℤ
 
 -- what a view shows: the rows that a pipeline makes of another namespace's
 pub record ViewOn : Type 0 where
@@ -61,6 +80,20 @@ pub record Create : Type 0 where
 pub record Drop : Type 0 where
   pub namespace : List ℕ
 
+-- these indexes of this namespace, in order
+pub record CreateIndexes : Type 0 where
+  pub namespace : List ℕ
+  pub indexes : List IndexAsked
+
+-- the index of this name goes from this namespace; for `*` all go but the one on `_id`
+pub record DropIndexes : Type 0 where
+  pub namespace : List ℕ
+  pub index : List ℕ
+
+-- how this find is answered
+pub record Explain : Type 0 where
+  pub find : Find
+
 pub data Asked : Type 0 where
   hello : Asked
   ping : Asked
@@ -69,8 +102,17 @@ pub data Asked : Type 0 where
   delete : Delete → Asked
   find : Find → Asked
   aggregate : Aggregate → Asked
+  get_more : GetMore → Asked
+  kill_cursors : KillCursors → Asked
   create : Create → Asked
   drop : Drop → Asked
+  create_indexes : CreateIndexes → Asked
+  drop_indexes : DropIndexes → Asked
+  explain : Explain → Asked
+
+-- how many rows come in a first batch where none says so
+abbrev pub first_batch_size : ℕ
+first_batch_size = 101
 
 -- how many statements a command may have (MongoDB manual, "Write Command Batch Limit Size")
 abbrev pub statement_limit : ℕ
@@ -87,12 +129,18 @@ hello_of body = database body >>= λ _. Ok hello
 abbrev pub ping_of : List Field → Result Asked Refusal
 ping_of body = database body >>= λ _. Ok ping
 
--- the database of a command whose fields, and the lists beside it, are those that it may have
-abbrev pub checked_database : Table → List Field → Lists → Result (List ℕ) Refusal
-checked_database table body lists =
+-- the database of a command whose fields are those that it may have
+abbrev pub looked_database : Table → List Field → Result (List ℕ) Refusal
+looked_database table body =
     database body >>= λ name.
     check_fields kinds.command table body >>= λ _.
-    check_lists lists >>= λ _.
+    Ok name
+
+-- that of one that has no list beside its body either
+abbrev pub checked_database : Table → List Field → Lists → Result (List ℕ) Refusal
+checked_database table body lists =
+    looked_database table body >>= λ name.
+    check_none lists >>= λ _.
     Ok name
 
 -- what a command of statements says: its namespace, its list, and whether the first statement that is refused ends it
@@ -104,9 +152,10 @@ pub record Statements : Type 0 where
 -- by the names of the command and of its list
 abbrev pub statements_of : List ℕ → List ℕ → List Field → Lists → Result Statements Refusal
 statements_of command list body lists =
-    checked_database (write_table command list) body lists >>= λ database_name.
+    looked_database (write_table command list) body >>= λ database_name.
+    check_only list lists >>= λ _.
     text_under command body >>= λ collection.
-    documents_under list body >>= λ statements.
+    documents_under list body lists >>= λ statements.
     boolean_under (codes "ordered") true body >>= λ ordered.
     namespace database_name collection >>= λ into.
     check_count statements >>= λ _.
@@ -127,25 +176,57 @@ delete_of body lists =
     statements_of (codes "delete") (codes "deletes") body lists >>= λ s.
     Ok (delete (record { namespace = s.namespace; entries = s.list; ordered = s.ordered }))
 
-abbrev pub find_of : List Field → Lists → Result Asked Refusal
-find_of body lists =
-    checked_database find_table body lists >>= λ database_name.
+-- what a find of a database asks
+abbrev pub find_in : List ℕ → List Field → Result Find Refusal
+find_in database_name body =
     text_under (codes "find") body >>= λ collection.
     namespace database_name collection >>= λ from.
     filter_under (codes "filter") body >>= λ filter.
     sort_under (codes "sort") body >>= λ sort.
-    natural_under (codes "skip") body >>= λ skip.
-    natural_under (codes "limit") body >>= λ limit.
-    Ok (find (record { namespace = from; filter = filter; sort = sort; skip = skip; limit = limit }))
+    natural_under (codes "skip") 0 body >>= λ skip.
+    natural_under (codes "limit") 0 body >>= λ limit.
+    natural_under (codes "batchSize") first_batch_size body >>= λ batch_size.
+    boolean_under (codes "singleBatch") false body >>= λ single_batch.
+    Ok (record { namespace = from; filter = filter; sort = sort; skip = skip; limit = limit; batch_size = batch_size; single_batch = single_batch })
+
+abbrev pub find_of : List Field → Lists → Result Asked Refusal
+find_of body lists =
+    checked_database find_table body lists >>= λ database_name.
+    find_in database_name body >>= λ asked.
+    Ok (find asked)
+
+-- how many rows come in the first batch, by the field `cursor`
+abbrev pub cursor_size : List Field → Result ℕ Refusal
+cursor_size body =
+    document_or_none (codes "cursor") body >>= λ cursor.
+    natural_under (codes "batchSize") first_batch_size cursor
 
 abbrev pub aggregate_of : List Field → Lists → Result Asked Refusal
 aggregate_of body lists =
     checked_database aggregate_table body lists >>= λ database_name.
     text_under (codes "aggregate") body >>= λ collection.
     array_under (codes "pipeline") body >>= λ list.
+    cursor_size body >>= λ batch_size.
     namespace database_name collection >>= λ from.
     pipeline_of list >>= λ stages.
-    Ok (aggregate (record { namespace = from; stages = stages }))
+    Ok (aggregate (record { namespace = from; stages = stages; batch_size = batch_size }))
+
+abbrev pub get_more_of : List Field → Lists → Result Asked Refusal
+get_more_of body lists =
+    checked_database get_more_table body lists >>= λ database_name.
+    integer_under (codes "getMore") body >>= λ id.
+    text_under (codes "collection") body >>= λ collection.
+    natural_under (codes "batchSize") 0 body >>= λ batch_size.
+    namespace database_name collection >>= λ from.
+    Ok (get_more (record { id = id; namespace = from; batch_size = batch_size }))
+
+abbrev pub kill_cursors_of : List Field → Lists → Result Asked Refusal
+kill_cursors_of body lists =
+    checked_database kill_cursors_table body lists >>= λ database_name.
+    text_under (codes "killCursors") body >>= λ collection.
+    integers_under (codes "cursors") body >>= λ ids.
+    namespace database_name collection >>= λ from.
+    Ok (kill_cursors (record { namespace = from; ids = ids }))
 
 -- what a view is asked by: the name of a collection of the same database, and the list of its stages
 pub record ViewFields : Type 0 where
@@ -187,16 +268,59 @@ drop_of body lists =
     namespace database_name collection >>= λ name.
     Ok (drop (record { namespace = name }))
 
+abbrev pub create_indexes_of : List Field → Lists → Result Asked Refusal
+create_indexes_of body lists =
+    checked_database create_indexes_table body lists >>= λ database_name.
+    text_under (codes "createIndexes") body >>= λ collection.
+    reading.documents_under (codes "indexes") body >>= λ entries.
+    namespace database_name collection >>= λ name.
+    each index_of entries >>= λ indexes.
+    Ok (create_indexes (record { namespace = name; indexes = indexes }))
+
+abbrev pub drop_indexes_of : List Field → Lists → Result Asked Refusal
+drop_indexes_of body lists =
+    checked_database drop_indexes_table body lists >>= λ database_name.
+    text_under (codes "dropIndexes") body >>= λ collection.
+    text_under (codes "index") body >>= λ index.
+    namespace database_name collection >>= λ name.
+    Ok (drop_indexes (record { namespace = name; index = index }))
+
+-- what is explained is a document that begins with `find`
+abbrev pub explained_by : Result (List Field) Refusal → Result (List Field) Refusal
+explained_by (Ok fields) = if bytes_eq (first_name fields) (codes "find") then Ok fields else Err CommandNotFound
+explained_by (Err refusal) = Err CommandNotFound
+
+abbrev pub explained : List Field → Result (List Field) Refusal
+explained body = explained_by (document_under (codes "explain") body)
+
+-- the command's own field stands first, so what is in it is looked at before the other fields
+abbrev pub explain_of : List Field → Lists → Result Asked Refusal
+explain_of body lists =
+    explained body >>= λ inside.
+    database body >>= λ database_name.
+    check_fields kinds.command find_fields inside >>= λ _.
+    checked_database explain_table body lists >>= λ _.
+    find_in database_name inside >>= λ asked.
+    Ok (explain (record { find = asked }))
+
 -- the command is the first name of the body
 abbrev pub command_name : List Field → List ℕ
 command_name body = first_name body
+
+-- indexes
+abbrev pub index_under : List ℕ → List Field → Lists → Result Asked Refusal
+index_under name body lists =
+    if bytes_eq name (codes "createIndexes") then create_indexes_of body lists
+    else if bytes_eq name (codes "dropIndexes") then drop_indexes_of body lists
+    else if bytes_eq name (codes "explain") then explain_of body lists
+    else Err CommandNotFound
 
 -- what stands under namespaces
 abbrev pub catalog_under : List ℕ → List Field → Lists → Result Asked Refusal
 catalog_under name body lists =
     if bytes_eq name (codes "create") then create_of body lists
     else if bytes_eq name (codes "drop") then drop_of body lists
-    else Err CommandNotFound
+    else index_under name body lists
 
 -- statements
 abbrev pub write_under : List ℕ → List Field → Lists → Result Asked Refusal
@@ -206,13 +330,25 @@ write_under name body lists =
     else if bytes_eq name (codes "delete") then delete_of body lists
     else catalog_under name body lists
 
+-- cursors
+abbrev pub cursor_under : List ℕ → List Field → Lists → Result Asked Refusal
+cursor_under name body lists =
+    if bytes_eq name (codes "getMore") then get_more_of body lists
+    else if bytes_eq name (codes "killCursors") then kill_cursors_of body lists
+    else write_under name body lists
+
+-- rows
+abbrev pub read_under : List ℕ → List Field → Lists → Result Asked Refusal
+read_under name body lists =
+    if bytes_eq name (codes "find") then find_of body lists
+    else if bytes_eq name (codes "aggregate") then aggregate_of body lists
+    else cursor_under name body lists
+
 abbrev pub asked_under : List ℕ → List Field → Lists → Result Asked Refusal
 asked_under name body lists =
     if bytes_eq name (codes "hello") then hello_of body
     else if bytes_eq name (codes "ping") then ping_of body
-    else if bytes_eq name (codes "find") then find_of body lists
-    else if bytes_eq name (codes "aggregate") then aggregate_of body lists
-    else write_under name body lists
+    else read_under name body lists
 
 -- what a command asks, or the first refusal
 abbrev pub asked_by : Command → Result Asked Refusal

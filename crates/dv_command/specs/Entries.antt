@@ -1,15 +1,18 @@
--- The entries of commands of statements, each read when its turn comes (MongoDB manual, "delete": `deletes`; "update": `updates`). The
--- order in which refusals are told is this server's own.
-use Rattle.std.specs.Prelude.{◌&&◌, Bool, false, List, Result, Ok, Err, codes, if◌then◌else◌, ⊤}
+-- The entries of commands (MongoDB manual, "delete": `deletes`; "update": `updates`; "createIndexes": `indexes`), those of statements each read when its turn comes.
+-- The order in which refusals are told is this server's own.
+use Rattle.std.specs.Prelude.{ℕ, ◌&&◌, Bool, false, List, [], ◌∷◌, is_some, Result, Ok, Err, codes, nat_lt, length, if◌then◌else◌, ⊤}
 use Rattle.dv_bson.specs.Tree.{Field}
+use Rattle.dv_path.specs.Path.{path_of}
+use Rattle.dv_path.specs.SortSpec.{direction_of}
 use Rattle.dv_match.specs.Filter.{Members}
 use Rattle.dv_update.specs.Update.{Update}
-use Rattle.dv_command.specs.declared.refusal.Refusal.{Refusal}
-use Rattle.dv_command.specs.declared.refusal.Refusal.TheVariants.{FailedToParse}
-use Rattle.dv_command.specs.Refusals.{◌>>=◌}
-use Rattle.dv_command.specs.Kinds as kinds
-use Rattle.dv_command.specs.Fields.{deletion_table, updating_table, check_fields, boolean_under, document_under, only_first_under, update_under}
-use Rattle.dv_command.specs.Forms.{filter_of, update_of, is_replacement}
+use Rattle.dv_fields.specs.declared.refusal.Refusal.{Refusal}
+use Rattle.dv_fields.specs.declared.refusal.Refusal.TheVariants.{BadValue, FailedToParse}
+use Rattle.dv_fields.specs.Refusals.{◌>>=◌}
+use Rattle.dv_fields.specs.Kinds as kinds
+use Rattle.dv_fields.specs.Fields.{check_fields, boolean_under, document_under, only_first_under, text_under, update_under}
+use Rattle.dv_command.specs.Tables.{deletion_table, updating_table, index_table}
+use Rattle.dv_command.specs.Forms.{filter_of, update_of, is_replacement, or_bad_value}
 
 -- the documents that match go: all, or only the first
 pub record Deletion : Type 0 where
@@ -46,3 +49,30 @@ updating_of entry =
     filter_of q >>= λ filter.
     update_of u >>= λ update.
     Ok (record { filter = filter; update = update; multi = multi })
+
+-- an index over a path; its direction has no effect
+pub record IndexAsked : Type 0 where
+  pub name : List ℕ
+  pub path : List (List ℕ)
+
+-- a key has one field: its name is the path, and its value a direction
+abbrev pub key_path : List Field → Result (List (List ℕ)) Refusal
+key_path [] = Err BadValue
+key_path (f ∷ fs) = if is_some (direction_of f.1) then or_bad_value (path_of f.0) else Err BadValue
+
+-- in bytes
+abbrev pub longest_index_name : ℕ
+longest_index_name = 120
+
+abbrev pub check_index_name : List ℕ → Result ⊤ Refusal
+check_index_name name = if nat_lt longest_index_name (length name) then Err BadValue else Ok tt
+
+-- its fields as they stand, then those that are missing, then the key, then the name
+abbrev pub index_of : List Field → Result IndexAsked Refusal
+index_of entry =
+    check_fields kinds.entry index_table entry >>= λ _.
+    document_under (codes "key") entry >>= λ key.
+    text_under (codes "name") entry >>= λ name.
+    key_path key >>= λ path.
+    check_index_name name >>= λ _.
+    Ok (record { name = name; path = path })

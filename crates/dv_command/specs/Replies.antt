@@ -1,10 +1,10 @@
--- The documents of replies (MongoDB manual, "hello", "insert", "update", "delete", "find", "aggregate", "drop": their output). The codes from 900 on and what stands
+-- The documents of replies (MongoDB manual, "hello", "insert", "update", "delete", "find", "aggregate", "getMore", "killCursors", "drop", "createIndexes", "dropIndexes", "explain": their output). The codes from 900 on and what stands
 -- beside them, and the versions of the wire, are this server's own.
-use Rattle.std.specs.Prelude.{ℕ, ◌^◌, ◌-◌, min, List, [], ◌∷◌, ◌++◌, pos, true, false, codes, nat_lt, if◌then◌else◌}
+use Rattle.std.specs.Prelude.{ℕ, ◌^◌, ◌-◌, min, List, [], ◌∷◌, ◌++◌, Option, Some, None, pos, true, false, codes, nat_lt, if◌then◌else◌}
 use Rattle.dv_bson.specs.Tree.{Tree, string, int32, int64, boolean, document, array, Field, fields_of, elements_of}
-use Rattle.dv_command.specs.declared.refusal.Refusal.{Refusal}
-use Rattle.dv_command.specs.declared.refusal.Refusal.TheVariants.{WantOfMemory}
-use Rattle.dv_command.specs.Refusals.{code, code_name, message_of}
+use Rattle.dv_fields.specs.declared.refusal.Refusal.{Refusal}
+use Rattle.dv_fields.specs.declared.refusal.Refusal.TheVariants.{WantOfMemory}
+use Rattle.dv_fields.specs.Refusals.{code, code_name, message_of}
 
 -- a document as a value
 abbrev pub document_of : List Field → Tree
@@ -55,7 +55,36 @@ update_reply n changed errors = reply_of ((codes "n", count n) ∷ (codes "nModi
 abbrev pub drop_reply : List ℕ → List Field
 drop_reply namespace = reply_of ((codes "ns", string namespace) ∷ [])
 
--- the reply with these rows of a namespace: all at once, so that no cursor is left, and its id is 0
-abbrev pub rows_reply : List ℕ → List Tree → List Field
-rows_reply namespace rows =
-    reply_of ((codes "cursor", document_of ((codes "firstBatch", array (elements_of rows)) ∷ (codes "id", int64 (pos 0)) ∷ (codes "ns", string namespace) ∷ [])) ∷ [])
+-- the reply with a batch of rows of a namespace, and the cursor that has the others; 0 where there is none
+abbrev pub batch_reply : List ℕ → List ℕ → ℕ → List Tree → List Field
+batch_reply batch namespace id rows =
+    reply_of ((codes "cursor", document_of ((batch, array (elements_of rows)) ∷ (codes "id", int64 (pos id)) ∷ (codes "ns", string namespace) ∷ [])) ∷ [])
+
+-- to a find or an aggregation
+abbrev pub first_batch_reply : List ℕ → ℕ → List Tree → List Field
+first_batch_reply namespace id rows = batch_reply (codes "firstBatch") namespace id rows
+
+-- to a getMore
+abbrev pub next_batch_reply : List ℕ → ℕ → List Tree → List Field
+next_batch_reply namespace id rows = batch_reply (codes "nextBatch") namespace id rows
+
+-- the reply to what ends cursors: those that went, and those that weren't there
+abbrev pub kill_cursors_reply : List Tree → List Tree → List Field
+kill_cursors_reply killed missing = reply_of ((codes "cursorsKilled", array (elements_of killed)) ∷ (codes "cursorsNotFound", array (elements_of missing)) ∷ [])
+
+-- the reply to what makes indexes: how many there were, and how many there are
+abbrev pub create_indexes_reply : ℕ → ℕ → List Field
+create_indexes_reply before after = reply_of ((codes "numIndexesBefore", count before) ∷ (codes "numIndexesAfter", count after) ∷ [])
+
+-- the reply to what takes indexes out: how many there were
+abbrev pub drop_indexes_reply : ℕ → List Field
+drop_indexes_reply before = reply_of ((codes "nIndexesWas", count before) ∷ [])
+
+-- the index is told only where there is one
+abbrev pub index_field : Option (List ℕ) → List Field
+index_field None = []
+index_field (Some name) = (codes "index", string name) ∷ []
+
+-- the reply to an explain: by which way the documents are found, by which index, and how many it covers
+abbrev pub explain_reply : List ℕ → Option (List ℕ) → ℕ → List Field
+explain_reply stage index documents = reply_of (((codes "stage", string stage) ∷ index_field index) ++ (codes "docs", int64 (pos documents)) ∷ [])

@@ -1,19 +1,25 @@
--- What a body with valid fields asks: documents, texts and pipelines that are valid too, and not too many or too long; and what an entry does.
-use Rattle.std.specs.Prelude.{◌≡◌, ◌≤◌, ℕ, List, Option, Some, None, length, Ok, ⊤}
+-- What a body with valid fields, and with valid lists beside it, asks: documents, texts and pipelines that are valid too, and not too many or too long; and what an entry does.
+use Rattle.std.specs.Prelude.{◌≡◌, ◌≤◌, ℕ, ℤ, List, Option, Some, None, length, Ok, ⊤}
 use Rattle.std.specs.List.{AllByRecursion}
 use Rattle.std.specs.Str.{IsUtf8}
-use Rattle.dv_bson.specs.Spelling.{AreFields, AreElements}
-use Rattle.dv_bson.specs.Tree.{Tree, Field, fields_of, elements_of}
+use Rattle.dv_bson.specs.Spelling.{IsValue, AreFields, AreElements}
+use Rattle.dv_bson.specs.Tree.{Tree, int64, Field, fields_of, elements_of}
 use Rattle.dv_update.specs.Update.{Update}
 use Rattle.dv_update.specs.Parsing as updates
 use Rattle.dv_pipe.specs.StageParsing.{pipeline_of}
 use Rattle.dv_pipe.specs.declared.stage.Stage.{Stage}
-use Rattle.dv_command.specs.Asked.{Asked, ViewOn, hello, ping, insert, update, delete, find, aggregate, create, drop, statement_limit}
-use Rattle.dv_command.specs.Namespaces.{longest_namespace}
+use Rattle.dv_command.specs.Asked.{Asked, ViewOn, hello, ping, insert, update, delete, find, aggregate, get_more, kill_cursors, create, drop, create_indexes, drop_indexes, explain, statement_limit}
+use Rattle.dv_command.specs.Entries.{IndexAsked, longest_index_name}
+use Rattle.dv_command.specs.Lists.{Lists}
+use Rattle.dv_fields.specs.Namespaces.{longest_namespace}
 
 -- each document has a spelling, if it isn't too long for one
 abbrev pub AreValid : List (List Field) → Type 0
 AreValid documents = AllByRecursion (λ d. AreFields (fields_of d)) documents
+
+-- and so has each in the lists beside a body
+abbrev pub AreValidLists : Lists → Type 0
+AreValidLists lists = AllByRecursion (λ list. AreValid list.1) lists
 
 -- in UTF-8, and not too long
 abbrev pub IsNamespace : List ℕ → Type 0
@@ -34,6 +40,17 @@ abbrev pub IsSoundView : Option ViewOn → Type 0
 IsSoundView None = ⊤
 IsSoundView (Some view) = IsNamespace view.source × IsSoundPipeline view.stages
 
+-- numbers that are told as they were asked
+abbrev pub AreIds : List ℤ → Type 0
+AreIds ids = AllByRecursion (λ id. IsValue (int64 id)) ids
+
+-- a name in UTF-8, and not too long
+abbrev pub IsSoundIndex : IndexAsked → Type 0
+IsSoundIndex index = IsUtf8 index.name × (length index.name ≤ longest_index_name)
+
+abbrev pub AreSoundIndexes : List IndexAsked → Type 0
+AreSoundIndexes indexes = AllByRecursion IsSoundIndex indexes
+
 abbrev pub IsSoundlyAsked : Asked → Type 0
 IsSoundlyAsked hello = ⊤
 IsSoundlyAsked ping = ⊤
@@ -42,8 +59,13 @@ IsSoundlyAsked (update asked) = AreStatements asked.namespace asked.entries
 IsSoundlyAsked (delete asked) = AreStatements asked.namespace asked.entries
 IsSoundlyAsked (find asked) = IsNamespace asked.namespace
 IsSoundlyAsked (aggregate asked) = IsNamespace asked.namespace × IsSoundPipeline asked.stages
+IsSoundlyAsked (get_more asked) = IsNamespace asked.namespace
+IsSoundlyAsked (kill_cursors asked) = IsNamespace asked.namespace × AreIds asked.ids
 IsSoundlyAsked (create asked) = IsNamespace asked.namespace × IsSoundView asked.view
 IsSoundlyAsked (drop asked) = IsNamespace asked.namespace
+IsSoundlyAsked (create_indexes asked) = IsNamespace asked.namespace × AreSoundIndexes asked.indexes
+IsSoundlyAsked (drop_indexes asked) = IsNamespace asked.namespace
+IsSoundlyAsked (explain asked) = IsNamespace asked.find.namespace
 
 -- an update that a document with valid fields is
 pub record IsSoundUpdate (asked : Update) : Type 0 where

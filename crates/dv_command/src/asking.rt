@@ -3,10 +3,10 @@
 ghost use Rattle.std.specs.Prelude.{◌≤◌, length};
 ghost use Rattle.dv_command.specs.Asked.{statement_limit};
 
-use crate::documents::Documents;
-use dv_bson::List;
+use dv_bson::{List, Str};
+use dv_fields::Documents;
 use dv_match::Filter;
-use dv_path::SortSpec;
+use dv_path::{Path, SortSpec};
 use dv_pipe::Pipeline;
 
 /// What a command asks.
@@ -19,8 +19,13 @@ pub enum Asked<'a> {
     Delete(Delete<'a>),
     Find(Find),
     Aggregate(Aggregate),
+    GetMore(GetMore),
+    KillCursors(KillCursors),
     Create(Create),
     Drop(DropNamespace),
+    CreateIndexes(CreateIndexes),
+    DropIndexes(DropIndexes),
+    Explain(Explain),
 }
 
 /// These documents into a namespace, in order.
@@ -66,6 +71,10 @@ pub struct Find {
     pub skip: u64,
     /// How many documents there are at most; 0 is no limit.
     pub limit: u64,
+    /// How many documents come in the first batch at most.
+    pub batch_size: u64,
+    /// Whether the first batch is the only one.
+    pub single_batch: bool,
 }
 
 /// The rows that a pipeline makes of a namespace's.
@@ -73,6 +82,26 @@ pub struct Find {
 pub struct Aggregate {
     pub namespace: String,
     pub pipeline: Pipeline,
+    /// How many rows come in the first batch at most.
+    pub batch_size: u64,
+}
+
+/// The next rows of a cursor over a namespace.
+#[derive(Drop)]
+pub struct GetMore {
+    /// The cursor's, where there is such a cursor.
+    pub id: i64,
+    pub namespace: String,
+    /// How many rows come at most; 0 is as many as a reply may hold.
+    pub batch_size: u64,
+}
+
+/// Cursors over a namespace go.
+#[derive(Drop)]
+pub struct KillCursors {
+    pub namespace: String,
+    /// Those of the cursors, where there are such cursors.
+    pub ids: Vec<i64>,
 }
 
 /// A collection under a namespace, or a view.
@@ -94,6 +123,34 @@ pub struct ViewOn {
 #[derive(Drop)]
 pub struct DropNamespace {
     pub namespace: String,
+}
+
+/// Indexes of a namespace, in order.
+#[derive(Drop)]
+pub struct CreateIndexes {
+    pub namespace: String,
+    pub indexes: Vec<IndexAsked>,
+}
+
+/// An index over a path. Its direction has no effect.
+#[derive(Drop)]
+pub struct IndexAsked {
+    pub name: Str,
+    pub path: Path,
+}
+
+/// An index of a namespace goes, or all but the one on `_id`.
+#[derive(Drop)]
+pub struct DropIndexes {
+    pub namespace: String,
+    /// The index's name, or `*` for all.
+    pub index: String,
+}
+
+/// How a find is answered.
+#[derive(Drop)]
+pub struct Explain {
+    pub find: Find,
 }
 
 /// What a command of statements says, whichever it is.

@@ -1,5 +1,12 @@
 //! Commands as messages bring them.
 
+ghost use Rattle.std.specs.Prelude.{◌≡◌, map};
+ghost use Rattle.std.specs.List.{list_all};
+ghost use Rattle.std.specs.Option.{option_map};
+ghost use Rattle.std.specs.Str.{bytes_eq};
+ghost use Rattle.dv_command.specs.Lists as defined;
+ghost use Rattle.dv_command.specs.ListsView.{list_seen};
+
 use dv_bson::{BsonFault, Document, Str};
 use std::alloc::Global;
 use std::marker::Model;
@@ -46,8 +53,7 @@ impl Model for DocumentLists {
 }
 
 impl DocumentLists {
-    ghost use Rattle.std.specs.Prelude.{◌≡◌, ◌↔◌, [], IsTrue, map};
-    ghost use Rattle.dv_command.specs.ListsView.{list_seen};
+    ghost use Rattle.std.specs.Prelude.{◌↔◌, [], IsTrue};
 
     /// No list.
     pub fn new(alloc: Global) -> Self
@@ -65,10 +71,48 @@ impl DocumentLists {
         DocumentLists { lists }
     }
 
+    /// The documents of the first list of a name; `None` where there is no such list.
+    pub fn under(&self, name: &str) -> Option<&[Document]>
+        ensures { option_map (λ documents. documents.now) result ≡ defined.list_under name.now self.now }
+    {
+        list_under(self.lists.as_slice(), name)
+    }
+
+    /// Whether no list has another name.
+    pub fn are_only(&self, name: &str) -> bool
+        ensures { result ≡ list_all (λ list. bytes_eq name.now list.0) self.now }
+    {
+        are_only(self.lists.as_slice(), name)
+    }
+
     /// Whether there is no list.
     pub fn is_empty(&self) -> bool
         ensures { IsTrue result ↔ (self.now ≡ []) }
     {
         self.lists.is_empty()
     }
+}
+
+/// The documents of the first list of a name; `None` where there is no such list.
+fn list_under<'a>(lists: &'a [DocumentList], name: &str) -> Option<&'a [Document]>
+    ensures { option_map (λ documents. documents.now) result ≡ defined.list_under name.now (map list_seen lists.now) }
+{
+    'lists: for list in lists {
+        if name == list.name.as_str() {
+            return Some(list.documents.as_slice());
+        }
+    }
+    None
+}
+
+/// Whether no list has another name.
+fn are_only(lists: &[DocumentList], name: &str) -> bool
+    ensures { result ≡ list_all (λ list. bytes_eq name.now list.0) (map list_seen lists.now) }
+{
+    'lists: for list in lists {
+        if name != list.name.as_str() {
+            return false;
+        }
+    }
+    true
 }

@@ -1,18 +1,24 @@
-//! The entries of commands of statements.
+//! The entries of commands.
 
-ghost use Rattle.std.specs.Prelude.{◌≡◌};
+ghost use Rattle.std.specs.Prelude.{◌≡◌, is_some};
+ghost use Rattle.dv_bson.specs.View.{tree};
+ghost use Rattle.dv_path.specs.Path as paths;
+ghost use Rattle.dv_path.specs.SortSpec.{direction_of, direction_of_number};
+ghost use Rattle.dv_command.specs.Forms.{or_bad_value};
 ghost use Rattle.dv_command.specs.Entries as entries;
-ghost use Rattle.dv_command.specs.Refusals.{UnlessWanting};
-ghost use Rattle.dv_command.specs.View.{deletion_seen, updating_seen};
+ghost use Rattle.dv_fields.specs.Refusals.{UnlessWanting};
+ghost use Rattle.dv_command.specs.View.{deletion_seen, index_seen, updating_seen};
 
-use crate::fields::{
-    DELETION_RULES, Place, UPDATING_RULES, boolean_under, check_fields, document_under,
-    only_first_under, update_under,
-};
+use crate::asking::IndexAsked;
 use crate::forms::{filter_of, is_replacement, update_of};
-use crate::refusal::Refusal;
-use dv_bson::Document;
+use crate::rules::{DELETION_RULES, INDEX_RULES, UPDATING_RULES};
+use dv_bson::{Document, Str, Value};
+use dv_fields::fields::{
+    boolean_under, check_fields, document_under, only_first_under, text_under, update_under,
+};
+use dv_fields::{Place, Refusal};
 use dv_match::Filter;
+use dv_path::{Path, PathFault};
 use dv_update::Update;
 use std::alloc::Global;
 
@@ -72,6 +78,77 @@ fn check_multi(multi: bool, update: &Document) -> Result<(), Refusal>
 {
     if multi && is_replacement(update) {
         Err(Refusal::FailedToParse)
+    } else {
+        Ok(())
+    }
+}
+
+/// How many bytes the name of an index may have.
+const LONGEST_INDEX_NAME: usize = 120;
+
+/// The index that an entry asks, or the first refusal: for its fields in the order in which they stand (`FailedToParse`
+/// for a key with more than one field and for `unique: true`), for those that are missing (`FailedToParse`), for its key
+/// and its name (`BadValue`). It may be refused with `WantOfMemory` in place of any of these.
+pub(crate) fn index_of(alloc: Global, entry: &Document) -> Result<IndexAsked, Refusal>
+    ensures { UnlessWanting index_seen (entries.index_of entry.now) result }
+{
+    check_fields(Place::Entry, &INDEX_RULES, entry)?;
+    let key = document_under(entry, "key")?;
+    let name = text_under(entry, "name")?;
+    let path = key_path(alloc, key)?;
+    check_index_name(name)?;
+    Ok(IndexAsked {
+        name: Str::of(String::from_str(alloc, name)?),
+        path,
+    })
+}
+
+/// The path of a key's first field. Refused with `BadValue` where the key has no field, or its first one's name is no path
+/// or its value no direction; and with `WantOfMemory`.
+fn key_path(alloc: Global, key: &Document) -> Result<Path, Refusal>
+    ensures { UnlessWanting (λ path. path) (entries.key_path key.now) result }
+{
+    match key.entry(0) {
+        Some((name, value)) if is_direction(value) => path_of(alloc, name),
+        _ => Err(Refusal::BadValue),
+    }
+}
+
+/// The path that a text is. Refused with `BadValue` where it is none, and with `WantOfMemory`.
+fn path_of(alloc: Global, text: &str) -> Result<Path, Refusal>
+    ensures { UnlessWanting (λ path. path) (or_bad_value (paths.path_of text.now)) result }
+{
+    match Path::parse(alloc, text) {
+        Ok(path) => Ok(path),
+        Err(PathFault::NoMemory) => Err(Refusal::WantOfMemory),
+        Err(_) => Err(Refusal::BadValue),
+    }
+}
+
+/// Whether the value is a direction: 1 or -1, of either width.
+fn is_direction(value: &Value) -> bool
+    ensures { result ≡ is_some (direction_of (tree value.now)) }
+{
+    match value {
+        Value::Int32(number) => is_unit(i64::from(*number)),
+        Value::Int64(number) => is_unit(*number),
+        _ => false,
+    }
+}
+
+/// Whether the number is 1 or -1.
+fn is_unit(number: i64) -> bool
+    ensures { result ≡ is_some (direction_of_number number) }
+{
+    matches!(number, 1 | -1)
+}
+
+/// Refuses the name of an index with `BadValue` where it is over 120 bytes.
+fn check_index_name(name: &str) -> Result<(), Refusal>
+    ensures { result ≡ entries.check_index_name name.now }
+{
+    if name.len() > LONGEST_INDEX_NAME {
+        Err(Refusal::BadValue)
     } else {
         Ok(())
     }

@@ -3,12 +3,12 @@
 ghost use Rattle.std.specs.Prelude.{◌≡◌};
 ghost use Rattle.dv_update.specs.UpdateView.{update};
 ghost use Rattle.dv_command.specs.Forms as forms;
-ghost use Rattle.dv_command.specs.Refusals.{UnlessWanting};
+ghost use Rattle.dv_fields.specs.Refusals.{UnlessWanting};
 ghost use Rattle.dv_command.specs.View.{sort_seen};
 
-use crate::fields::{document_or, first_name};
-use crate::refusal::Refusal;
 use dv_bson::{Document, List, begins_with_dollar};
+use dv_fields::Refusal;
+use dv_fields::fields::{document_or, first_name};
 use dv_match::Filter;
 use dv_path::SortSpec;
 use dv_pipe::Pipeline;

@@ -4,15 +4,15 @@ ghost use Rattle.std.specs.Prelude.{◌≡◌, ℕ, List, Ok};
 ghost use Rattle.dv_bson.specs.Spelling.{AreFields, IsValue};
 ghost use Rattle.dv_bson.specs.Tree.{Field, fields_of};
 ghost use Rattle.dv_command.specs.Asked.{Asked, asked_under, command_name};
-ghost use Rattle.dv_command.specs.Fields.{Lists};
+ghost use Rattle.dv_command.specs.Lists.{Lists};
 ghost use Rattle.dv_command.specs.Replies.{count};
 ghost use Rattle.dv_command.specs.Entries.{Updating, updating_of};
-ghost use Rattle.dv_command.specs.Sound.{IsSoundlyAsked, IsSoundUpdate};
+ghost use Rattle.dv_command.specs.Sound.{AreValidLists, IsSoundlyAsked, IsSoundUpdate};
 
-/// What a command asks is sound where the fields of its body are: the documents in its list, how many they are, the names
-/// of its collections, and its pipeline.
+/// What a command asks is sound where the fields of its body and the lists beside it are: the documents in its list, how
+/// many they are, the names of its collections and of its indexes, its pipeline, and the ids of its cursors.
 pub fn what_is_asked_is_sound()
-    ensures { (body : List Field) (lists : Lists) (asked : Asked) → AreFields (fields_of body) → asked_under (command_name body) body lists ≡ Ok asked → IsSoundlyAsked asked }
+    ensures { (body : List Field) (lists : Lists) (asked : Asked) → AreFields (fields_of body) → AreValidLists lists → asked_under (command_name body) body lists ≡ Ok asked → IsSoundlyAsked asked }
 {}
 
 /// The update that an entry asks is that of a document with valid fields, where the entry's fields are.

@@ -2,20 +2,24 @@
 #![tactic(auto)]
 
 mod asking;
+mod catalog;
+mod checked;
 mod command;
-mod documents;
 mod entries;
-mod fields;
 mod forms;
 pub mod laws;
-pub mod namespaces;
+mod lists;
 mod parsing;
-mod refusal;
+mod reads;
 pub mod replies;
+mod rules;
+mod statements;
 
-pub use asking::{Aggregate, Asked, Create, Delete, DropNamespace, Find, Insert, Update, ViewOn};
+pub use asking::{
+    Aggregate, Asked, Create, CreateIndexes, Delete, DropIndexes, DropNamespace, Explain, Find,
+    GetMore, IndexAsked, Insert, KillCursors, Update, ViewOn,
+};
 pub use command::{Command, DocumentList, DocumentLists};
-pub use documents::Documents;
+pub use dv_fields::{Documents, Refusal, namespaces};
 pub use entries::{Deletion, Updating, deletion_of, updating_of};
 pub use parsing::parse;
-pub use refusal::Refusal;

@@ -1,13 +1,16 @@
 //! The documents of replies.
 
 ghost use Rattle.std.specs.Prelude.{◌≡◌, ◌∷◌, [], ◌++◌, ◌^◌, ◌<◌, false, IfOk, OnOk, codes, map};
+ghost use Rattle.std.specs.Option.{option_map};
+ghost use Rattle.std.specs.Str.{bytes_eq};
 ghost use Rattle.std.specs.String.{string_bytes};
 ghost use Rattle.dv_bson.specs.Names.{has_name, has_zero};
+ghost use Rattle.dv_bson.specs.Tree.{string};
 ghost use Rattle.dv_bson.specs.View.{tree};
 ghost use Rattle.dv_command.specs.Replies as replies;
 
-use crate::refusal::Refusal;
 use dv_bson::{Document, List, NoMemory, Str, Value};
+use dv_fields::Refusal;
 use std::alloc::{AllocError, Global};
 
 /// The reply to a command that was carried out: these fields, and `ok: 1`. Fails where memory is wanting.
@@ -124,17 +127,116 @@ pub fn drop_reply(alloc: Global, namespace: String) -> Result<Document, NoMemory
     reply_of(fields)
 }
 
-/// The reply with these rows of a namespace. Fails where memory is wanting.
-pub fn rows_reply(alloc: Global, namespace: String, rows: List) -> Result<Document, NoMemory>
-    ensures { IfOk result (λ reply. reply ≡ replies.rows_reply (string_bytes namespace) rows) }
+/// The reply to a find or an aggregation: the first of its rows, and the cursor that has the others, 0 where there is none.
+/// Fails where memory is wanting.
+pub fn first_batch_reply(
+    alloc: Global,
+    namespace: String,
+    id: u64,
+    rows: List,
+) -> Result<Document, NoMemory>
+    requires { id < 2 ^ 63 }
+    ensures { IfOk result (λ reply. reply ≡ replies.first_batch_reply (string_bytes namespace) id rows) }
+{
+    batch_reply(alloc, "firstBatch", namespace, id, rows)
+}
+
+/// The reply to what asks for the next rows of a cursor: these rows, and the cursor that has the others, 0 where there is
+/// none. Fails where memory is wanting.
+pub fn next_batch_reply(
+    alloc: Global,
+    namespace: String,
+    id: u64,
+    rows: List,
+) -> Result<Document, NoMemory>
+    requires { id < 2 ^ 63 }
+    ensures { IfOk result (λ reply. reply ≡ replies.next_batch_reply (string_bytes namespace) id rows) }
+{
+    batch_reply(alloc, "nextBatch", namespace, id, rows)
+}
+
+/// The reply with a batch of rows under the name of such a batch, which isn't that of another field.
+fn batch_reply(
+    alloc: Global,
+    batch: &str,
+    namespace: String,
+    id: u64,
+    rows: List,
+) -> Result<Document, NoMemory>
+    requires fits { id < 2 ^ 63 }
+    requires whole { has_zero batch.now ≡ false }
+    requires no_id { bytes_eq (codes "id") batch.now ≡ false }
+    requires no_ns { bytes_eq (codes "ns") batch.now ≡ false }
+    ensures { IfOk result (λ reply. reply ≡ replies.batch_reply batch.now (string_bytes namespace) id rows) }
 {
     let mut cursor = Document::new(alloc);
-    add(&mut cursor, "firstBatch", Value::Array(rows))?;
-    add(&mut cursor, "id", Value::Int64(0))?;
+    add(&mut cursor, batch, Value::Array(rows))?;
+    add(&mut cursor, "id", Value::Int64(id as i64))?;
     add(&mut cursor, "ns", Value::Text(Str::of(namespace)))?;
     let mut fields = Document::new(alloc);
     add(&mut fields, "cursor", Value::Doc(cursor))?;
     reply_of(fields)
+}
+
+/// The reply to what ends cursors: the ids of those that went, and those of which there was none. Fails where memory is
+/// wanting.
+pub fn kill_cursors_reply(alloc: Global, killed: List, missing: List) -> Result<Document, NoMemory>
+    ensures { IfOk result (λ reply. reply ≡ replies.kill_cursors_reply killed missing) }
+{
+    let mut fields = Document::new(alloc);
+    add(&mut fields, "cursorsKilled", Value::Array(killed))?;
+    add(&mut fields, "cursorsNotFound", Value::Array(missing))?;
+    reply_of(fields)
+}
+
+/// The reply to what makes indexes: how many the collection had, and how many it has. Fails where memory is wanting.
+pub fn create_indexes_reply(
+    alloc: Global,
+    before: usize,
+    after: usize,
+) -> Result<Document, NoMemory>
+    ensures { IfOk result (λ reply. reply ≡ replies.create_indexes_reply before after) }
+{
+    let mut fields = Document::new(alloc);
+    add(&mut fields, "numIndexesBefore", count(before as u128))?;
+    add(&mut fields, "numIndexesAfter", count(after as u128))?;
+    reply_of(fields)
+}
+
+/// The reply to what takes indexes out: how many the collection had. Fails where memory is wanting.
+pub fn drop_indexes_reply(alloc: Global, before: usize) -> Result<Document, NoMemory>
+    ensures { IfOk result (λ reply. reply ≡ replies.drop_indexes_reply before) }
+{
+    let mut fields = Document::new(alloc);
+    add(&mut fields, "nIndexesWas", count(before as u128))?;
+    reply_of(fields)
+}
+
+/// The reply to an explain: the stage that finds the documents, the index by which it does where there is one, and how many
+/// documents it covers. Fails where memory is wanting.
+pub fn explain_reply(
+    alloc: Global,
+    stage: &str,
+    index: Option<&str>,
+    documents: usize,
+) -> Result<Document, NoMemory>
+    requires { documents < 2 ^ 63 }
+    ensures { IfOk result (λ reply. reply ≡ replies.explain_reply stage.now (option_map (λ name. name.now) index.entry) documents) }
+{
+    let mut fields = Document::new(alloc);
+    add(&mut fields, "stage", text_value(alloc, stage)?)?;
+    if let Some(name) = index {
+        add(&mut fields, "index", text_value(alloc, name)?)?;
+    }
+    add(&mut fields, "docs", Value::Int64(documents as i64))?;
+    reply_of(fields)
+}
+
+/// A text as a value. Fails where memory is wanting.
+fn text_value(alloc: Global, text: &str) -> Result<Value, NoMemory>
+    ensures { IfOk result (λ value. tree value ≡ string text.now) }
+{
+    Ok(Value::Text(Str::of(String::from_str(alloc, text)?)))
 }
 
 /// A number as int32 where it fits, else as int64; one beyond the greatest int64 is told as that.

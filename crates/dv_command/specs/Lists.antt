@@ -1,0 +1,36 @@
+-- The lists of documents that a message brings beside a command's body (MongoDB manual, "OP_MSG": sections of kind 1).
+use Rattle.std.specs.Prelude.{ℕ, List, [], ◌∷◌, Option, Some, None, Result, Ok, Err, if◌then◌else◌, ⊤}
+use Rattle.std.specs.List.{list_all}
+use Rattle.std.specs.Str.{bytes_eq}
+use Rattle.dv_bson.specs.Names.{value_under}
+use Rattle.dv_bson.specs.Tree.{Tree, Field}
+use Rattle.dv_fields.specs.Fields.{documents_in}
+use Rattle.dv_fields.specs.declared.refusal.Refusal.{Refusal}
+use Rattle.dv_fields.specs.declared.refusal.Refusal.TheVariants.{FailedToParse}
+
+-- lists of documents, by their names
+abbrev pub Lists : Type 0
+Lists = List (List ℕ × List (List Field))
+
+-- most commands have no list that may stand beside the body
+abbrev pub check_none : Lists → Result ⊤ Refusal
+check_none [] = Ok tt
+check_none (list ∷ lists) = Err FailedToParse
+
+-- a command of statements has one
+abbrev pub check_only : List ℕ → Lists → Result ⊤ Refusal
+check_only name lists = if list_all (λ list. bytes_eq name list.0) lists then Ok tt else Err FailedToParse
+
+abbrev pub list_under : List ℕ → Lists → Option (List (List Field))
+list_under name [] = None
+list_under name (list ∷ lists) = if bytes_eq name list.0 then Some list.1 else list_under name lists
+
+-- a list of documents that has to stand in the body or beside it, and not in both
+abbrev pub in_either : Option Tree → Option (List (List Field)) → Result (List (List Field)) Refusal
+in_either (Some value) None = documents_in value
+in_either None (Some documents) = Ok documents
+in_either None None = Err FailedToParse
+in_either (Some value) (Some documents) = Err FailedToParse
+
+abbrev pub documents_under : List ℕ → List Field → Lists → Result (List (List Field)) Refusal
+documents_under name body lists = in_either (value_under name body) (list_under name lists)

@@ -1,0 +1,124 @@
+//! Commands of what stands under namespaces: collections, views and indexes.
+
+ghost use Rattle.std.specs.Prelude.{◌≡◌, Ok, Err, MatchResult, map};
+ghost use Rattle.std.specs.Option.{option_map};
+ghost use Rattle.dv_command.specs.Asked as asking;
+ghost use Rattle.dv_command.specs.Entries as entered;
+ghost use Rattle.dv_command.specs.View.{asked_seen, index_seen, view_fields_seen, view_on_seen};
+ghost use Rattle.dv_fields.specs.Refusals.{UnlessWanting, each};
+
+use crate::asking::{
+    Asked, Create, CreateIndexes, DropIndexes, DropNamespace, IndexAsked, ViewFields, ViewOn,
+};
+use crate::checked::checked_database;
+use crate::command::DocumentLists;
+use crate::entries::index_of;
+use crate::forms::pipeline_of;
+use crate::rules::{CREATE_INDEXES_RULES, CREATE_RULES, DROP_INDEXES_RULES, DROP_RULES};
+use dv_bson::Document;
+use dv_fields::fields::{array_of, documents_under, text_of, text_under};
+use dv_fields::namespaces::namespace;
+use dv_fields::{Documents, Refusal};
+use std::alloc::Global;
+
+pub(crate) fn create_of<'a>(
+    alloc: Global,
+    body: &'a Document,
+    lists: &'a DocumentLists,
+) -> Result<Asked<'a>, Refusal>
+    ensures { UnlessWanting asked_seen (asking.create_of body.now lists.now) result }
+{
+    let database = checked_database(&CREATE_RULES, body, lists)?;
+    let collection = text_under(body, "create")?;
+    let fields = view_fields(body)?;
+    let namespace = namespace(alloc, database, collection)?;
+    let view = view_of(alloc, database, fields)?;
+    Ok(Asked::Create(Create { namespace, view }))
+}
+
+/// The fields of a view that a body asks for; `None` where it has neither. Refused with `FailedToParse` where it has only
+/// one of them, and with `TypeMismatch` where one has another type than it has to.
+fn view_fields(body: &Document) -> Result<Option<ViewFields<'_>>, Refusal>
+    ensures { MatchResult result (λ fields. asking.view_fields body.now ≡ Ok (option_map view_fields_seen fields)) (λ refusal. asking.view_fields body.now ≡ Err refusal) }
+{
+    match (body.get("viewOn"), body.get("pipeline")) {
+        (None, None) => Ok(None),
+        (Some(view_on), Some(pipeline)) => Ok(Some(ViewFields {
+            collection: text_of(view_on)?,
+            list: array_of(pipeline)?,
+        })),
+        _ => Err(Refusal::FailedToParse),
+    }
+}
+
+/// The view of a collection of the database by the fields that ask for one.
+fn view_of(
+    alloc: Global,
+    database: &str,
+    fields: Option<ViewFields<'_>>,
+) -> Result<Option<ViewOn>, Refusal>
+    ensures { UnlessWanting (option_map view_on_seen) (asking.view_of database.now (option_map view_fields_seen fields.entry)) result }
+{
+    let Some(ViewFields { collection, list }) = fields else {
+        return Ok(None);
+    };
+    let source = namespace(alloc, database, collection)?;
+    let pipeline = pipeline_of(alloc, list)?;
+    Ok(Some(ViewOn { source, pipeline }))
+}
+
+pub(crate) fn drop_of<'a>(
+    alloc: Global,
+    body: &'a Document,
+    lists: &'a DocumentLists,
+) -> Result<Asked<'a>, Refusal>
+    ensures { UnlessWanting asked_seen (asking.drop_of body.now lists.now) result }
+{
+    let database = checked_database(&DROP_RULES, body, lists)?;
+    let collection = text_under(body, "drop")?;
+    let namespace = namespace(alloc, database, collection)?;
+    Ok(Asked::Drop(DropNamespace { namespace }))
+}
+
+pub(crate) fn create_indexes_of<'a>(
+    alloc: Global,
+    body: &'a Document,
+    lists: &'a DocumentLists,
+) -> Result<Asked<'a>, Refusal>
+    ensures { UnlessWanting asked_seen (asking.create_indexes_of body.now lists.now) result }
+{
+    let database = checked_database(&CREATE_INDEXES_RULES, body, lists)?;
+    let collection = text_under(body, "createIndexes")?;
+    let entries = documents_under(body, "indexes")?;
+    let namespace = namespace(alloc, database, collection)?;
+    let indexes = indexes_of(alloc, entries)?;
+    Ok(Asked::CreateIndexes(CreateIndexes { namespace, indexes }))
+}
+
+/// The indexes that entries ask, or the first refusal of one.
+fn indexes_of(alloc: Global, entries: Documents<'_>) -> Result<Vec<IndexAsked>, Refusal>
+    ensures { UnlessWanting (λ indexes. map index_seen indexes.items) (each entered.index_of entries.entry) result }
+{
+    let mut indexes = Vec::with_capacity(alloc, entries.len())?;
+    'entries: for entry in entries {
+        indexes.push(index_of(alloc, entry)?)?;
+    }
+    Ok(indexes)
+}
+
+pub(crate) fn drop_indexes_of<'a>(
+    alloc: Global,
+    body: &'a Document,
+    lists: &'a DocumentLists,
+) -> Result<Asked<'a>, Refusal>
+    ensures { UnlessWanting asked_seen (asking.drop_indexes_of body.now lists.now) result }
+{
+    let database = checked_database(&DROP_INDEXES_RULES, body, lists)?;
+    let collection = text_under(body, "dropIndexes")?;
+    let index = text_under(body, "index")?;
+    let namespace = namespace(alloc, database, collection)?;
+    Ok(Asked::DropIndexes(DropIndexes {
+        namespace,
+        index: String::from_str(alloc, index)?,
+    }))
+}

@@ -1,0 +1,49 @@
+//! Lists of documents beside a body.
+
+ghost use Rattle.std.specs.Prelude.{◌≡◌, Ok, Err, MatchResult};
+ghost use Rattle.dv_command.specs.Lists as defined;
+
+use crate::command::DocumentLists;
+use dv_bson::Document;
+use dv_fields::fields::documents_of;
+use dv_fields::{Documents, Refusal};
+
+/// Looks at the lists beside the body of a command that has none: one is refused with `FailedToParse`.
+pub(crate) fn check_none(lists: &DocumentLists) -> Result<(), Refusal>
+    ensures { result ≡ defined.check_none lists.now }
+{
+    if lists.is_empty() {
+        Ok(())
+    } else {
+        Err(Refusal::FailedToParse)
+    }
+}
+
+/// Looks at the lists beside the body of a command that has one of this name: another one is refused with
+/// `FailedToParse`.
+pub(crate) fn check_only(name: &str, lists: &DocumentLists) -> Result<(), Refusal>
+    ensures { result ≡ defined.check_only name.now lists.now }
+{
+    if lists.are_only(name) {
+        Ok(())
+    } else {
+        Err(Refusal::FailedToParse)
+    }
+}
+
+/// The documents of a list that has to stand in the body under this name or beside it. Refused with `FailedToParse` where
+/// it stands in neither or in both, and with `TypeMismatch` where another value than an array of documents stands in the
+/// body.
+pub(crate) fn documents_under<'a>(
+    name: &str,
+    body: &'a Document,
+    lists: &'a DocumentLists,
+) -> Result<Documents<'a>, Refusal>
+    ensures { MatchResult result (λ documents. defined.documents_under name.now body.now lists.now ≡ Ok documents) (λ refusal. defined.documents_under name.now body.now lists.now ≡ Err refusal) }
+{
+    match (body.get(name), lists.under(name)) {
+        (Some(value), None) => documents_of(value),
+        (None, Some(documents)) => Ok(Documents::beside(documents)),
+        _ => Err(Refusal::FailedToParse),
+    }
+}

@@ -1,0 +1,151 @@
+//! Commands that answer rows, or how they are found, and those of cursors.
+
+ghost use Rattle.std.specs.Prelude.{◌≡◌, Ok, Err, MatchResult};
+ghost use Rattle.dv_command.specs.Asked as asking;
+ghost use Rattle.dv_command.specs.View.{asked_seen, find_seen};
+ghost use Rattle.dv_fields.specs.Refusals.{UnlessWanting};
+
+use crate::asking::{Aggregate, Asked, Explain, Find, GetMore, KillCursors};
+use crate::checked::checked_database;
+use crate::command::DocumentLists;
+use crate::forms::{filter_under, pipeline_of, sort_under};
+use crate::rules::{
+    AGGREGATE_RULES, EXPLAIN_RULES, EXPLAINED_RULES, FIND_RULES, GET_MORE_RULES, KILL_CURSORS_RULES,
+};
+use dv_bson::Document;
+use dv_fields::fields::{
+    array_under, boolean_under, check_fields, document_or, document_under, first_name,
+    integer_under, integers_under, natural_under, text_under,
+};
+use dv_fields::namespaces::{database, namespace};
+use dv_fields::{Place, Refusal};
+use std::alloc::Global;
+
+/// How many rows come in a first batch where none says so.
+const FIRST_BATCH_SIZE: u64 = 101;
+
+pub(crate) fn find_of<'a>(
+    alloc: Global,
+    body: &'a Document,
+    lists: &'a DocumentLists,
+) -> Result<Asked<'a>, Refusal>
+    ensures { UnlessWanting asked_seen (asking.find_of body.now lists.now) result }
+{
+    let database = checked_database(&FIND_RULES, body, lists)?;
+    Ok(Asked::Find(find_in(alloc, database, body)?))
+}
+
+/// What a find of a database asks, whose fields were looked at.
+fn find_in(alloc: Global, database: &str, body: &Document) -> Result<Find, Refusal>
+    ensures { UnlessWanting find_seen (asking.find_in database.now body.now) result }
+{
+    let collection = text_under(body, "find")?;
+    let namespace = namespace(alloc, database, collection)?;
+    let filter = filter_under(alloc, body, "filter")?;
+    let sort = sort_under(alloc, body, "sort")?;
+    let skip = natural_under(body, "skip", 0)?;
+    let limit = natural_under(body, "limit", 0)?;
+    let batch_size = natural_under(body, "batchSize", FIRST_BATCH_SIZE)?;
+    let single_batch = boolean_under(body, "singleBatch", false)?;
+    Ok(Find {
+        namespace,
+        filter,
+        sort,
+        skip,
+        limit,
+        batch_size,
+        single_batch,
+    })
+}
+
+pub(crate) fn aggregate_of<'a>(
+    alloc: Global,
+    body: &'a Document,
+    lists: &'a DocumentLists,
+) -> Result<Asked<'a>, Refusal>
+    ensures { UnlessWanting asked_seen (asking.aggregate_of body.now lists.now) result }
+{
+    let database = checked_database(&AGGREGATE_RULES, body, lists)?;
+    let collection = text_under(body, "aggregate")?;
+    let list = array_under(body, "pipeline")?;
+    let batch_size = cursor_size(alloc, body)?;
+    let namespace = namespace(alloc, database, collection)?;
+    let pipeline = pipeline_of(alloc, list)?;
+    Ok(Asked::Aggregate(Aggregate {
+        namespace,
+        pipeline,
+        batch_size,
+    }))
+}
+
+/// How many rows come in the first batch, by the field `cursor`, where it is there and says so.
+fn cursor_size(alloc: Global, body: &Document) -> Result<u64, Refusal>
+    ensures { result ≡ asking.cursor_size body.now }
+{
+    let none = Document::new(alloc);
+    natural_under(
+        document_or(body, "cursor", &none)?,
+        "batchSize",
+        FIRST_BATCH_SIZE,
+    )
+}
+
+pub(crate) fn get_more_of<'a>(
+    alloc: Global,
+    body: &'a Document,
+    lists: &'a DocumentLists,
+) -> Result<Asked<'a>, Refusal>
+    ensures { UnlessWanting asked_seen (asking.get_more_of body.now lists.now) result }
+{
+    let database = checked_database(&GET_MORE_RULES, body, lists)?;
+    let id = integer_under(body, "getMore")?;
+    let collection = text_under(body, "collection")?;
+    let batch_size = natural_under(body, "batchSize", 0)?;
+    let namespace = namespace(alloc, database, collection)?;
+    Ok(Asked::GetMore(GetMore {
+        id,
+        namespace,
+        batch_size,
+    }))
+}
+
+pub(crate) fn kill_cursors_of<'a>(
+    alloc: Global,
+    body: &'a Document,
+    lists: &'a DocumentLists,
+) -> Result<Asked<'a>, Refusal>
+    ensures { UnlessWanting asked_seen (asking.kill_cursors_of body.now lists.now) result }
+{
+    let database = checked_database(&KILL_CURSORS_RULES, body, lists)?;
+    let collection = text_under(body, "killCursors")?;
+    let ids = integers_under(alloc, body, "cursors")?;
+    let namespace = namespace(alloc, database, collection)?;
+    Ok(Asked::KillCursors(KillCursors { namespace, ids }))
+}
+
+pub(crate) fn explain_of<'a>(
+    alloc: Global,
+    body: &'a Document,
+    lists: &'a DocumentLists,
+) -> Result<Asked<'a>, Refusal>
+    ensures { UnlessWanting asked_seen (asking.explain_of body.now lists.now) result }
+{
+    let inside = explained(body)?;
+    let database = database(body)?;
+    // The command's own field stands first, so what is in it is looked at before the other fields.
+    check_fields(Place::Command, &EXPLAINED_RULES, inside)?;
+    checked_database(&EXPLAIN_RULES, body, lists)?;
+    let find = find_in(alloc, database, inside)?;
+    Ok(Asked::Explain(Explain { find }))
+}
+
+/// The document that is explained. Refused with `CommandNotFound` where another value stands there, or a document that
+/// doesn't begin with `find`.
+fn explained(body: &Document) -> Result<&Document, Refusal>
+    ensures { MatchResult result (λ inside. asking.explained body.now ≡ Ok inside.now) (λ refusal. asking.explained body.now ≡ Err refusal) }
+{
+    match document_under(body, "explain") {
+        Ok(inside) if first_name(inside) == "find" => Ok(inside),
+        _ => Err(Refusal::CommandNotFound),
+    }
+}

@@ -1,0 +1,11 @@
+//! The fields of commands and of their entries, the names of databases and collections, and why a command is refused.
+#![tactic(auto)]
+
+mod documents;
+pub mod fields;
+pub mod namespaces;
+mod refusal;
+
+pub use documents::Documents;
+pub use fields::{Kind, Place, Rule};
+pub use refusal::Refusal;

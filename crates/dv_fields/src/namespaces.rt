@@ -1,0 +1,66 @@
+//! The names of databases and collections.
+
+ghost use Rattle.std.specs.Prelude.{◌≡◌, Ok, Err, MatchResult};
+ghost use Rattle.std.specs.String.{string_bytes};
+ghost use Rattle.dv_fields.specs.Namespaces as names;
+ghost use Rattle.dv_fields.specs.Refusals.{UnlessWanting};
+
+use crate::refusal::Refusal;
+use dv_bson::{Document, Value, begins_with_dollar};
+use std::alloc::Global;
+
+/// How many bytes a namespace may have.
+const LONGEST_NAMESPACE: usize = 120;
+
+/// The database that a command names, in its field `$db`.
+pub fn database(body: &Document) -> Result<&str, Refusal>
+    ensures { MatchResult result (λ name. names.database body.now ≡ Ok name.now) (λ refusal. names.database body.now ≡ Err refusal) }
+{
+    match body.get("$db") {
+        None => Err(Refusal::FailedToParse),
+        Some(Value::Text(name)) => {
+            if is_database_name(name.as_str()) {
+                Ok(name.as_str())
+            } else {
+                Err(Refusal::BadValue)
+            }
+        }
+        Some(_) => Err(Refusal::TypeMismatch),
+    }
+}
+
+/// Whether a dot stands in the name.
+pub fn has_dot(name: &str) -> bool
+    ensures { result ≡ names.has_dot name.now }
+{
+    name.as_bytes().contains(&b'.')
+}
+
+/// Whether the name is not empty, without a dot and without a zero byte.
+fn is_database_name(name: &str) -> bool
+    ensures { result ≡ names.is_database_name name.now }
+{
+    !name.is_empty() && !has_dot(name) && !name.as_bytes().contains(&0)
+}
+
+/// The namespace of a database's collection: the two names joined by a dot. Refused with `BadValue` where the
+/// collection's name is empty, holds a zero byte or begins with a dollar sign, or the namespace is over 120 bytes;
+/// and with `WantOfMemory`.
+pub fn namespace(alloc: Global, database: &str, collection: &str) -> Result<String, Refusal>
+    ensures { UnlessWanting string_bytes (names.namespace database.now collection.now) result }
+{
+    // One byte more is the dot's.
+    let is_short = database.len() + 1 + collection.len() <= LONGEST_NAMESPACE;
+    if is_short && is_collection_name(collection) {
+        Ok(format!(in alloc; "{database}.{collection}")?)
+    } else {
+        Err(Refusal::BadValue)
+    }
+}
+
+/// Whether the name is not empty, without a dollar sign in front and without a zero byte.
+fn is_collection_name(name: &str) -> bool
+    ensures { result ≡ names.is_collection_name name.now }
+{
+    !name.is_empty() && !begins_with_dollar(name) && !name.as_bytes().contains(&0)
+}
