@@ -16,44 +16,58 @@ use Rattle.dv_catalog.specs.StateLaws.{same_namespaces, get-insert, get-remove}
 use Rattle.dv_coll.specs.Collection.{id_key, found, inserted}
 use Rattle.dv_coll.specs.declared.fault.InsertFault.{InsertFault}
 use Rattle.dv_coll.specs.declared.fault.InsertFault.TheVariants.{Duplicate, NoMemory}
-use Rattle.dv_command.specs.declared.refusal.Refusal.{Refusal}
-use Rattle.dv_command.specs.declared.refusal.Refusal.TheVariants.{DuplicateKey, WantOfMemory}
-use Rattle.dv_command.specs.Refusals.{insert_refusal}
-use Rattle.dv_catalog.specs.Changes.{Change, put, gone, with_put, apply, with_changes}
+use Rattle.dv_fields.specs.declared.refusal.Refusal.{Refusal}
+use Rattle.dv_fields.specs.declared.refusal.Refusal.TheVariants.{DuplicateKey, WantOfMemory}
+use Rattle.dv_fields.specs.Refusals.{insert_refusal}
+use Rattle.dv_catalog.specs.Changes.{Change, Effect, put, gone, with_put, apply, with_changes}
 use Rattle.dv_catalog.specs.Effects.{put_new}
-use Rattle.dv_catalog.specs.State.{Standing, Namespaces, collection_at, documents_of, with_documents}
+use Rattle.dv_catalog.specs.State.{Collection, Standing, Namespaces, collection_at, collection_of, documents_of, with_documents}
+use Rattle.dv_index.specs.Indexed.{empty_indexed}
 use Rattle.dv_catalog.specs.View.{standing_seen, standing_by_namespace}
 use Rattle.dv_catalog.specs.EffectView.{IsPlaced, ArePlaced}
 use Rattle.dv_catalog.specs.Parts.{Makes, one}
+use Rattle.dv_catalog.specs.declared.stopped.Stopped.{Stopped}
+use Rattle.dv_catalog.proofs.Stopping.{stops_before}
 
-seen-updated : (b : Bool) (documents : List (List Field)) (before : Option (List (List Field))) → option_map standing_seen (cond b (Some documents) before) ≡ cond b (Some (standing_seen documents)) (option_map standing_seen before)
-seen-updated true documents before = refl
-seen-updated false documents before = refl
+seen-updated : (b : Bool) (c : Collection) (before : Option Collection) → option_map standing_seen (cond b (Some c) before) ≡ cond b (Some (standing_seen c)) (option_map standing_seen before)
+seen-updated true c before = refl
+seen-updated false c before = refl
 
-seen-removed : (b : Bool) (before : Option (List (List Field))) → option_map standing_seen (cond b None before) ≡ cond b None (option_map standing_seen before)
+seen-removed : (b : Bool) (before : Option Collection) → option_map standing_seen (cond b None before) ≡ cond b None (option_map standing_seen before)
 seen-removed true before = refl
 seen-removed false before = refl
 
+-- a collection in place of that of a namespace
+abbrev pub with_collection : List ℕ → Collection → Namespaces → Namespaces
+with_collection name c namespaces = finite.insert namespaces name (standing_seen c)
+
 module _ {Y : Type 0} where
-  find-lookup : (name : List ℕ) (es : List (String Y × List (List Field)))
+  find-lookup : (name : List ℕ) (es : List (String Y × Collection))
       → finite.find (slice_cmp nat_cmp) name (map (λ e. (string_bytes e.0, standing_seen e.1)) es) ≡ option_map standing_seen (lookup (is_at (λ k. slice_cmp nat_cmp name (string_bytes k))) es)
   find-lookup name [] = grind arith
   find-lookup name (e ∷ es) = grind (arith, find-lookup name es)
 
-  pub get-standing : (m : BTreeMap (String Y) (List (List Field))) (name : List ℕ) → finite.get (standing_by_namespace m) name ≡ option_map standing_seen (get_by_text m name)
+  pub get-standing : (m : BTreeMap (String Y) Collection) (name : List ℕ) → finite.get (standing_by_namespace m) name ≡ option_map standing_seen (get_by_text m name)
   get-standing m name = finite.get-from_entries nat_list_cmp_total _ name ∙ find-lookup name m.entries
 
-  pub standing-insert : (m n : BTreeMap (String Y) (List (List Field))) (name : List ℕ) (documents : List (List Field))
-      → UpdatesBy string_cmp (λ k. slice_cmp nat_cmp name (string_bytes k)) m n (Some documents) → standing_by_namespace n ≡ with_documents name documents (standing_by_namespace m)
-  standing-insert m n name documents updated =
+  -- the collection that stands there
+  pub collection-there : (m : BTreeMap (String Y) Collection) (name : List ℕ) (c : Collection) → Some c ≡ get_by_text m name → collection_of name (standing_by_namespace m) ≡ c
+  collection-there m name c there = ap collection_at (get-standing m name ∙ ap (option_map standing_seen) (sym there))
+
+  pub none-there : (m : BTreeMap (String Y) Collection) (name : List ℕ) → None ≡ get_by_text m name → finite.get (standing_by_namespace m) name ≡ None
+  none-there m name none = get-standing m name ∙ ap (option_map standing_seen) (sym none)
+
+  pub standing-insert : (m n : BTreeMap (String Y) Collection) (name : List ℕ) (c : Collection)
+      → UpdatesBy string_cmp (λ k. slice_cmp nat_cmp name (string_bytes k)) m n (Some c) → standing_by_namespace n ≡ with_collection name c (standing_by_namespace m)
+  standing-insert m n name c updated =
       same_namespaces _ _ (λ q.
       get-standing n q
-      ∙ ap (option_map standing_seen) (btree_map_updates_text name m n (Some documents) updated q)
-      ∙ seen-updated (bytes_eq name q) documents (get_by_text m q)
-      ∙ ap (cond (bytes_eq name q) (Some (standing_seen documents))) (sym (get-standing m q))
-      ∙ sym (get-insert (standing_by_namespace m) name (standing_seen documents) q))
+      ∙ ap (option_map standing_seen) (btree_map_updates_text name m n (Some c) updated q)
+      ∙ seen-updated (bytes_eq name q) c (get_by_text m q)
+      ∙ ap (cond (bytes_eq name q) (Some (standing_seen c))) (sym (get-standing m q))
+      ∙ sym (get-insert (standing_by_namespace m) name (standing_seen c) q))
 
-  pub standing-remove : (m n : BTreeMap (String Y) (List (List Field))) (name : List ℕ) → UpdatesBy string_cmp (λ k. slice_cmp nat_cmp name (string_bytes k)) m n None
+  pub standing-remove : (m n : BTreeMap (String Y) Collection) (name : List ℕ) → UpdatesBy string_cmp (λ k. slice_cmp nat_cmp name (string_bytes k)) m n None
       → standing_by_namespace n ≡ finite.remove (standing_by_namespace m) name
   standing-remove m n name updated =
       same_namespaces _ _ (λ q.
@@ -63,54 +77,69 @@ module _ {Y : Type 0} where
       ∙ ap (cond (bytes_eq name q) None) (sym (get-standing m q))
       ∙ sym (get-remove (standing_by_namespace m) name q))
 
-  -- after a write over the documents of a namespace
-  pub standing-written : (m n : BTreeMap (String Y) (List (List Field))) (name : List ℕ) (old new : List (List Field)) → Some old ≡ get_by_text m name
-      → WritesThrough string_cmp (λ k. slice_cmp nat_cmp name (string_bytes k)) m new n → standing_by_namespace n ≡ with_documents name new (standing_by_namespace m)
+  -- after a write over the collection of a namespace
+  pub standing-written : (m n : BTreeMap (String Y) Collection) (name : List ℕ) (old new : Collection) → Some old ≡ get_by_text m name
+      → WritesThrough string_cmp (λ k. slice_cmp nat_cmp name (string_bytes k)) m new n → standing_by_namespace n ≡ with_collection name new (standing_by_namespace m)
   standing-written m n name old new there writes = standing-insert m n name new (writes.3 (rw (← there) refl))
 
   -- what a namespace has already, put there again
-  pub same-written : (m : BTreeMap (String Y) (List (List Field))) (name : List ℕ) (documents : List (List Field)) → Some documents ≡ get_by_text m name → with_documents name documents (standing_by_namespace m) ≡ standing_by_namespace m
-  same-written m name documents there =
-      let here : finite.get (standing_by_namespace m) name ≡ Some (standing_seen documents) = get-standing m name ∙ ap (option_map standing_seen) (sym there) in
-      same_namespaces _ _ (λ q. get-insert (standing_by_namespace m) name (standing_seen documents) q ∙ grind (arith, here, (bytes_eq-Decides name q).0))
+  pub same-written : (m : BTreeMap (String Y) Collection) (name : List ℕ) (c : Collection) → Some c ≡ get_by_text m name → with_collection name c (standing_by_namespace m) ≡ standing_by_namespace m
+  same-written m name c there =
+      let here : finite.get (standing_by_namespace m) name ≡ Some (standing_seen c) = get-standing m name ∙ ap (option_map standing_seen) (sym there) in
+      same_namespaces _ _ (λ q. get-insert (standing_by_namespace m) name (standing_seen c) q ∙ grind (arith, here, (bytes_eq-Decides name q).0))
+
+-- what is made of the collection that stands there
+pub made-there : (old : Namespaces) (name : List ℕ) (c : Collection) (make : Collection → Collection) → collection_of name old ≡ c → with_collection name (make c) old ≡ with_collection name (make (collection_of name old)) old
+made-there old name c make are = ap (λ (there : Collection). with_collection name (make there) old) (sym are)
+
+-- a collection without documents, where none is
+pub with_empty : (old : Namespaces) (name : List ℕ) → finite.get old name ≡ None → with_collection name empty_indexed old ≡ with_documents name [] old
+with_empty old name none = ap (λ (there : Option Standing). with_collection name (record (collection_at there) { documents = [] }) old) (sym none)
 
 -- ---- a document more among those of a namespace
 
-module _ (old : Namespaces) (namespace : List ℕ) (d : List Field) (documents : List (List Field)) (are : documents_of namespace old ≡ documents) where
-  pub makes_new : (new : Namespaces) → found (id_key d) documents ≡ None → new ≡ with_documents namespace (inserted d documents) old → Makes {B = Unit {0}} (λ _. one) namespace (put_new d) old (Ok tt) new
+module _ (old : Namespaces) (namespace : List ℕ) (d : List Field) (c : Collection) (are : collection_of namespace old ≡ c) where
+  abbrev does : Result Effect Refusal
+  does = put_new d (documents_of namespace old)
+
+  documents : documents_of namespace old ≡ c.documents
+  documents = ap (λ (there : Collection). there.documents) are
+
+  pub makes_new : (new : Namespaces) → found (id_key d) c.documents ≡ None → new ≡ with_collection namespace (record c { documents = inserted d c.documents }) old → Makes {B = Unit {0}} (λ _. one) namespace (put_new d) old (Ok tt) new
   makes_new new none more =
-      let fresh : put_new d documents ≡ Ok (record { matched = 1; changes = put d ∷ [] }) = rw none refl in
-      let put_there : with_put d documents ≡ inserted d documents = rw none refl in (
+      let fresh : put_new d c.documents ≡ Ok (record { matched = 1; changes = put d ∷ [] }) = rw none refl in
+      let put_there : with_put d c.documents ≡ inserted d c.documents = rw none refl in (
         put d ∷ [],
-        ap (put_new d) are ∙ fresh,
+        ap (put_new d) documents ∙ fresh,
         refl,
-        more ∙ ap (λ (ds : List (List Field)). with_documents namespace ds old) (sym (ap (with_put d) are ∙ put_there)),
+        more
+            ∙ ap (λ (ds : List (List Field)). with_collection namespace (record c { documents = ds }) old) (sym (ap (with_put d) documents ∙ put_there))
+            ∙ made-there old namespace c (λ there. record there { documents = with_put d (documents_of namespace old) }) are,
       )
 
   -- where the collection refuses the document, it is refused so
-  refuses_equal : (fault : InsertFault) → (IsErrOf {T = Unit {0}} (Err fault) Duplicate → IsSome (found (id_key d) documents))
-      → (put_new d (documents_of namespace old) ≡ Err (insert_refusal fault)) ⊎ (insert_refusal fault ≡ WantOfMemory)
+  refuses_equal : (fault : InsertFault) → (IsErrOf {T = Unit {0}} (Err fault) Duplicate → IsSome (found (id_key d) c.documents)) → (does ≡ Err (insert_refusal fault)) ⊎ (insert_refusal fault ≡ WantOfMemory)
   refuses_equal Duplicate twice =
-      let there : put_new d documents ≡ Err DuplicateKey = rw (twice refl) refl in
-      inl (ap (put_new d) are ∙ there)
+      let there : put_new d c.documents ≡ Err DuplicateKey = rw (twice refl) refl in
+      inl (ap (put_new d) documents ∙ there)
   refuses_equal NoMemory twice = inr refl
 
-  pub not_made : (new : Namespaces) (fault : InsertFault) (result : Result (Unit {0}) Refusal) (refusal : Refusal) → result ≡ Err refusal → refusal ≡ insert_refusal fault
-      → (IsErrOf {T = Unit {0}} (Err fault) Duplicate → IsSome (found (id_key d) documents)) → new ≡ old → Makes (λ _. one) namespace (put_new d) old result new
-  not_made new fault result refusal is from twice same = rw is (rw from (refuses_equal fault twice, same))
+  pub not_made : (new : Namespaces) (fault : InsertFault) (result : Result (Unit {0}) Stopped) (stopped : Stopped) → result ≡ Err stopped → stopped ≡ record { refusal = insert_refusal fault; done = 0 }
+      → (IsErrOf {T = Unit {0}} (Err fault) Duplicate → IsSome (found (id_key d) c.documents)) → new ≡ old → Makes (λ _. one) namespace (put_new d) old result new
+  not_made new fault result stopped is from twice same = rw is (stops_before namespace does old new same {B = Unit {0}} (λ _. one) (insert_refusal fault) stopped from (refuses_equal fault twice))
 
 -- ---- changes of the documents of a namespace
 
-module _ (old : Namespaces) (namespace : List ℕ) (documents : List (List Field)) (are : documents_of namespace old ≡ documents) (same : with_documents namespace documents old ≡ old) where
-  pub applied : (changes : List Change) (new : Namespaces) → new ≡ with_documents namespace (with_changes documents changes) old → new ≡ apply namespace changes old
+module _ (old : Namespaces) (namespace : List ℕ) (c : Collection) (are : collection_of namespace old ≡ c) (same : with_collection namespace c old ≡ old) where
+  pub applied : (changes : List Change) (new : Namespaces) → new ≡ with_collection namespace (record c { documents = with_changes c.documents changes }) old → new ≡ apply namespace changes old
   applied [] new is = is ∙ same
-  applied (change ∷ changes) new is = is ∙ ap (λ (ds : List (List Field)). with_documents namespace (with_changes ds (change ∷ changes)) old) (sym are)
+  applied (change ∷ changes) new is = is ∙ made-there old namespace c (λ there. record there { documents = with_changes there.documents (change ∷ changes) }) are
 
 none_here : (change : Change) → IsPlaced [] change → ⊥
 none_here (put d) placed = let none : false ≡ true = placed.1 in cc
 none_here (gone k) placed = let none : false ≡ true = placed in cc
 
 -- where no collection is, there is nothing to change
-pub none_applied : (old : Namespaces) (namespace : List ℕ) (changes : List Change) → documents_of namespace old ≡ [] → ArePlaced (documents_of namespace old) changes → old ≡ apply namespace changes old
-none_applied old namespace [] none placed = refl
-none_applied old namespace (change ∷ changes) none placed = absurd (none_here change (subst (λ (ds : List (List Field)). IsPlaced ds change) none placed.0))
+pub none_to_change : (changes : List Change) → ArePlaced [] changes → changes ≡ []
+none_to_change [] placed = refl
+none_to_change (change ∷ changes) placed = absurd (none_here change placed.0)

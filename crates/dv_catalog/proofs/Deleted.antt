@@ -16,7 +16,7 @@ use Rattle.dv_catalog.specs.Changes.{Change, gone, with_changes}
 use Rattle.dv_catalog.specs.Effects.{all_or_first, without, delete_chosen}
 use Rattle.dv_catalog.specs.EffectView.{ArePlaced}
 use Rattle.dv_catalog.specs.EffectLaws.{chosen_good, matching_good}
-use Rattle.dv_catalog.specs.Scan.{matching, limited}
+use Rattle.dv_catalog.specs.Scan.{matching}
 use Rattle.dv_catalog.proofs.Keys.{all_there, own_key, AreThere, AreBefore, before_matching}
 
 none_chosen : (first : Bool) → all_or_first first [] ≡ []
@@ -26,11 +26,6 @@ none_chosen true = refl
 -- no document is deleted where there is none
 pub delete_none : (deletion : Deletion) → delete_chosen deletion [] ≡ Ok (record { matched = 0; changes = [] })
 delete_none deletion = ap (λ (ds : List (List Field)). Ok (without ds)) (none_chosen deletion.only_first)
-
--- a limit of 1 is the first, one of 0 is all
-limit_chosen : (first : Bool) (ds : List (List Field)) → limited (cond first 1 0) (drop 0 ds) ≡ all_or_first first ds
-limit_chosen true ds = refl
-limit_chosen false ds = refl
 
 all_gone : (ds : List (List Field)) → map gone (map id_key ds) ≡ map (λ d. gone (id_key d)) ds
 all_gone [] = refl
@@ -62,32 +57,23 @@ chosen_before false ds before = before
 chosen_before true [] before = tt
 chosen_before true (d ∷ ds) before = (tt, tt)
 
-module _ (deletion : Deletion) (old ds : List (List Field)) where
-  abbrev Finds : ℕ → Type 0
-  Finds limit = ds ≡ limited limit (drop 0 (matching deletion.filter old))
+module _ (deletion : Deletion) (old ds : List (List Field)) (finds : ds ≡ all_or_first deletion.only_first (matching deletion.filter old)) where
+  pub deletes_identified : AllByRecursion HasId old → AllByRecursion HasId ds
+  deletes_identified all = subst (AllByRecursion HasId) (sym finds) (chosen_good HasId deletion.only_first (matching deletion.filter old) (matching_good HasId deletion.filter old all))
 
-  chosen : (limit : ℕ) → limit ≡ cond deletion.only_first 1 0 → Finds limit → ds ≡ all_or_first deletion.only_first (matching deletion.filter old)
-  chosen limit limits finds = finds ∙ ap (λ (n : ℕ). limited n (drop 0 (matching deletion.filter old))) limits ∙ limit_chosen deletion.only_first (matching deletion.filter old)
-
-  pub deletes_identified : (limit : ℕ) → limit ≡ cond deletion.only_first 1 0 → Finds limit → AllByRecursion HasId old → AllByRecursion HasId ds
-  deletes_identified limit limits finds all =
-      let rows = matching deletion.filter old in
-      subst (AllByRecursion HasId) (sym (chosen limit limits finds)) (chosen_good HasId deletion.only_first rows (matching_good HasId deletion.filter old all))
-
-  module _ (keys : List KeyTree) (limit : ℕ) (limits : limit ≡ cond deletion.only_first 1 0) (finds : Finds limit) (keyed : keys ≡ map id_key ds) where
+  module _ (keys : List KeyTree) (keyed : keys ≡ map id_key ds) where
     pub deletes : (count : ℕ) → count ≡ length ds → delete_chosen deletion old ≡ Ok (record { matched = count; changes = map gone keys })
     deletes count many =
         let goes : map (λ d. gone (id_key d)) ds ≡ map gone keys = sym (all_gone ds) ∙ ap (map gone) (sym keyed) in
-        ap (λ (es : List (List Field)). Ok (without es)) (sym (chosen limit limits finds)) ∙ (λ i. Ok (record { matched = sym many i; changes = goes i }))
+        ap (λ (es : List (List Field)). Ok (without es)) (sym finds) ∙ (λ i. Ok (record { matched = sym many i; changes = goes i }))
 
     pub deletes_placed : NoLongerFound → AreBefore old → ArePlaced old (map gone keys)
     deletes_placed law before =
         let first = deletion.only_first in
         let rows = matching deletion.filter old in
-        let are = chosen limit limits finds in
-        let before_chosen : AreBefore ds = subst AreBefore (sym are) (chosen_before first rows (before_matching deletion.filter old before)) in
+        let before_chosen : AreBefore ds = subst AreBefore (sym finds) (chosen_before first rows (before_matching deletion.filter old before)) in
         let there : AreThere old ds =
-        subst (λ (es : List (List Field)). AreThere old es) (sym are)
+        subst (λ (es : List (List Field)). AreThere old es) (sym finds)
         (chosen_good (λ d. is_some (found (id_key d) old) ≡ true) first rows (matching_good (λ d. is_some (found (id_key d) old) ≡ true) deletion.filter old (all_there old))) in
         subst (λ (ks : List KeyTree). ArePlaced old (map gone ks)) (sym keyed) (gone_placed law old ds before_chosen there)
 

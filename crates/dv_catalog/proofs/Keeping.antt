@@ -1,5 +1,6 @@
 -- Views stay right over collections that change.
-use Rattle.std.proofs.Common.{◌≡◌, ◌⊎◌, inl, inr, ◌||◌, ℕ, Bool, true, false, cond, if◌then◌else◌, List, [], ◌∷◌, ◌++◌, map, Option, Some, None, is_some, Result, Ok, Err, refl, sym, ap, subst, ◌∙◌}
+use Rattle.std.proofs.Common.{◌≡◌, ◌⊎◌, inl, inr, ◌||◌, ℕ, Bool, true, false, cond, if◌then◌else◌, List, [], ◌∷◌, ◌++◌, map, Option, Some, None, is_some, Result, Ok, Err, take, refl, sym, ap, subst, ◌∙◌, arith}
+use Rattle.std.proofs.lemmas.List.{take-map, take_all}
 use Rattle.std.proofs.lemmas.Slice.Eq.{bytes_eq-Decides}
 use Rattle.std.specs.FinMap as finite
 use Rattle.std.specs.List.{AllByRecursion, AllZip, list_any}
@@ -15,9 +16,9 @@ use Rattle.dv_catalog.specs.Changes.{Change, Effect, put, gone, apply, changes_o
 use Rattle.dv_catalog.specs.EffectView.{AreAble, ArePlaced, BeginsWithId, IsAble, IsPlaced}
 use Rattle.dv_catalog.specs.Effects.{put_new}
 use Rattle.dv_coll.specs.Collection.{found, id_key}
-use Rattle.dv_command.specs.declared.refusal.Refusal.{Refusal}
-use Rattle.dv_command.specs.declared.refusal.Refusal.TheVariants.{DuplicateKey}
-use Rattle.dv_catalog.specs.State.{AreOrdered, Namespaces, Standing, State, ViewForm, collection, collection_at, documents_of, with_documents, has_name, is_collection, is_view, lists_of}
+use Rattle.dv_fields.specs.declared.refusal.Refusal.{Refusal}
+use Rattle.dv_fields.specs.declared.refusal.Refusal.TheVariants.{DuplicateKey}
+use Rattle.dv_catalog.specs.State.{AreOrdered, Collection, Namespaces, Standing, State, ViewForm, collection, collection_at, collection_of, documents_of, has_name, is_collection, is_view, lists_of}
 use Rattle.dv_catalog.specs.StateLaws.{get-insert, get-remove}
 use Rattle.dv_catalog.specs.Told.{told}
 use Rattle.dv_catalog.specs.Views.{reads_name}
@@ -46,32 +47,33 @@ same_forms namespace (v ∷ vs) (w ∷ ws) all = λ i. same_form namespace v w a
 is_same : (a b : List ℕ) → bytes_eq a b ≡ true → a ≡ b
 is_same a b e = (bytes_eq-Decides a b).0 e
 
-put_documents : (b : Bool) (documents : List (List Field)) (there : Option Standing) → (collection_at (cond b (Some (collection (record { documents = documents }))) there)).documents ≡ cond b documents (collection_at there).documents
-put_documents true documents there = refl
-put_documents false documents there = refl
+put_documents : (b : Bool) (c : Collection) (there : Option Standing) → (collection_at (cond b (Some (collection c)) there)).documents ≡ cond b c.documents (collection_at there).documents
+put_documents true c there = refl
+put_documents false c there = refl
 
 own_documents : (b : Bool) (old : Namespaces) (namespace name : List ℕ) → bytes_eq namespace name ≡ b → documents_of name old ≡ cond b (documents_of namespace old) (documents_of name old)
 own_documents true old namespace name e = ap (λ (n : List ℕ). documents_of n old) (sym (is_same namespace name e))
 own_documents false old namespace name e = refl
 
+-- with a collection put under a namespace
+pub documents_put : (old : Namespaces) (namespace : List ℕ) (c : Collection) (name : List ℕ) → documents_of name (finite.insert old namespace (collection c)) ≡ cond (bytes_eq namespace name) c.documents (documents_of name old)
+documents_put old namespace c name =
+    ap (λ (there : Option Standing). (collection_at there).documents) (get-insert old namespace (collection c) name) ∙ put_documents (bytes_eq namespace name) c (finite.get old name)
+
 pub documents_after : (old : Namespaces) (namespace : List ℕ) (changes : List Change) (name : List ℕ) → documents_of name (apply namespace changes old) ≡ cond (bytes_eq namespace name) (with_changes (documents_of namespace old) changes) (documents_of name old)
 documents_after old namespace [] name = own_documents (bytes_eq namespace name) old namespace name refl
-documents_after old namespace (change ∷ changes) name =
-    let documents = with_changes (documents_of namespace old) (change ∷ changes) in
-    ap (λ (there : Option Standing). (collection_at there).documents) (get-insert old namespace (collection (record { documents = documents })) name) ∙ put_documents (bytes_eq namespace name) documents (finite.get old name)
+documents_after old namespace (change ∷ changes) name = documents_put old namespace (record (collection_of namespace old) { documents = with_changes (documents_of namespace old) (change ∷ changes) }) name
 
 there_after : (b : Bool) (s : Standing) (there : Option Standing) → is_some (cond b (Some s) there) ≡ true → (b ≡ true) ⊎ (is_some there ≡ true)
 there_after true s there e = inl refl
 there_after false s there e = inr e
 
-put_there : (old : Namespaces) (namespace : List ℕ) (documents : List (List Field)) (name : List ℕ) → is_collection name (with_documents namespace documents old) ≡ true → (bytes_eq namespace name ≡ true) ⊎ (is_collection name old ≡ true)
-put_there old namespace documents name e =
-    there_after (bytes_eq namespace name) (collection (record { documents = documents })) (finite.get old name)
-    (ap is_some (sym (get-insert old namespace (collection (record { documents = documents })) name)) ∙ e)
+pub put_there : (old : Namespaces) (namespace : List ℕ) (c : Collection) (name : List ℕ) → is_collection name (finite.insert old namespace (collection c)) ≡ true → (bytes_eq namespace name ≡ true) ⊎ (is_collection name old ≡ true)
+put_there old namespace c name e = there_after (bytes_eq namespace name) (collection c) (finite.get old name) (ap is_some (sym (get-insert old namespace (collection c) name)) ∙ e)
 
 pub collections_after : (old : Namespaces) (namespace : List ℕ) (changes : List Change) (name : List ℕ) → is_collection name (apply namespace changes old) ≡ true → (bytes_eq namespace name ≡ true) ⊎ (is_collection name old ≡ true)
 collections_after old namespace [] name e = inr e
-collections_after old namespace (change ∷ changes) name e = put_there old namespace (with_changes (documents_of namespace old) (change ∷ changes)) name e
+collections_after old namespace (change ∷ changes) name e = put_there old namespace (record (collection_of namespace old) { documents = with_changes (documents_of namespace old) (change ∷ changes) }) name e
 
 -- ---- what is placed can be told
 
@@ -97,6 +99,11 @@ UnreadIsNoMatter = (registry : Views) (lists others : Lists) → ((name : List �
 -- the changes as they are told to views, or nothing, where no view reads the namespace
 abbrev pub AreTold : List ℕ → Views → List Change → List flow.Change → Type 0
 AreTold namespace registry changes tell = (tell ≡ map told changes) ⊎ ((tell ≡ []) × (views.reads_name registry namespace ≡ false))
+
+-- the front of what is told is told of the first changes
+pub told_first : (n : ℕ) (namespace : List ℕ) (registry : Views) (changes : List Change) (tell : List flow.Change) → AreTold namespace registry changes tell → AreTold namespace registry (take n changes) (take n tell)
+told_first n namespace registry changes tell (inl is) = inl (ap (take n) is ∙ take-map told n changes)
+told_first n namespace registry changes tell (inr is) = inr (ap (take n) is.0 ∙ take_all n [] (omega arith), is.1)
 
 abbrev pub StaysRight : List ℕ → List flow.Change → Views → Views → Type 0
 StaysRight namespace tell before after = (lists : Lists) → AreMade tell (lists namespace) → AreRight lists before → AreRight (with_changed namespace tell lists) after
@@ -160,6 +167,31 @@ module _ (made : MadeAsTold) (unread : UnreadIsNoMatter) (old new : Namespaces) 
         right = right_after;
         apart = λ name view. apart_after no_view collections name (subst (λ (fs : List ViewForm). is_view name fs ≡ true) forms view);
       }
+
+-- ---- a collection put under a namespace with the documents that stand there
+
+module _ (unread : UnreadIsNoMatter) (old : Namespaces) (namespace : List ℕ) (c : Collection) (vs : Views) (same : c.documents ≡ documents_of namespace old) where
+  same_lists : (name : List ℕ) → documents_of name old ≡ documents_of name (finite.insert old namespace (collection c))
+  same_lists name =
+      own_documents (bytes_eq namespace name) old namespace name refl
+      ∙ ap (λ (ds : List (List Field)). cond (bytes_eq namespace name) ds (documents_of name old)) (sym same)
+      ∙ sym (documents_put old namespace c name)
+
+  pub kept_same_documents : is_view namespace (map form_of vs) ≡ false → IsKept old vs → IsKept (finite.insert old namespace (collection c)) vs
+  kept_same_documents no_view kept = record {
+    right = unread vs (lists_of old) (lists_of (finite.insert old namespace (collection c))) (λ name _. same_lists name) kept.right;
+    apart = λ name view. apart_put name view (is_collection name (finite.insert old namespace (collection c))) refl;
+  }
+    where
+      apart_put : (name : List ℕ) → is_view name (map form_of vs) ≡ true → (b : Bool) → is_collection name (finite.insert old namespace (collection c)) ≡ b → b ≡ false
+      apart_put name view false e = refl
+      apart_put name view true e = by_side (put_there old namespace c name e)
+        where
+          by_side : (bytes_eq namespace name ≡ true) ⊎ (is_collection name old ≡ true) → true ≡ false
+          by_side (inl named) =
+              let here : is_view name (map form_of vs) ≡ false = subst (λ (n : List ℕ). is_view n (map form_of vs) ≡ false) (is_same namespace name named) no_view in
+              cc
+          by_side (inr there) = let none = kept.apart name view in cc
 
 -- ---- what a statement is told as
 

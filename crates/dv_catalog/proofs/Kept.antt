@@ -6,7 +6,7 @@ use Rattle.std.specs.Str.{bytes_eq}
 use Rattle.dv_bson.specs.Tree.{Field}
 use Rattle.dv_coll.specs.Collection.{id_key}
 use Rattle.dv_command.specs.Asked.{ViewOn}
-use Rattle.dv_command.specs.declared.refusal.Refusal.TheVariants.{NamespaceExists, NamespaceNotFound, WantOfMemory}
+use Rattle.dv_fields.specs.declared.refusal.Refusal.TheVariants.{NamespaceExists, NamespaceNotFound, WantOfMemory}
 use Rattle.dv_flow.specs.declared.change.Change as flow
 use Rattle.dv_pipe.specs.Sources as pipes
 use Rattle.dv_pipe.specs.Stages.{Lists, evaluated}
@@ -17,12 +17,12 @@ use Rattle.dv_views.specs.declared.fault.ViewFault.{ViewFault}
 use Rattle.dv_catalog.specs.CatalogParts.{IsKept, form_of, is_stale, rows_kept, state_of, view_refusal}
 use Rattle.dv_catalog.specs.Changes.{Change, gone, with_changes}
 use Rattle.dv_catalog.specs.SourceParts.{AreFor}
-use Rattle.dv_catalog.specs.State.{AreOrdered, Namespaces, Standing, State, ViewForm, collection, collection_at, documents_of, is_collection, is_there, is_view, lists_of, rows_of, with_documents}
-use Rattle.dv_catalog.specs.StateLaws.{get-insert, get-remove}
+use Rattle.dv_catalog.specs.State.{AreOrdered, Namespaces, Standing, State, ViewForm, collection_at, collection_of, documents_of, is_collection, is_there, is_view, lists_of, rows_of, with_documents}
+use Rattle.dv_catalog.specs.StateLaws.{get-remove}
 use Rattle.dv_catalog.specs.Views as creating
 use Rattle.dv_catalog.specs.Views.{aggregated, created, dropped, looks_into_view, with_view, with_views}
 use Rattle.dv_catalog.proofs.Deleted.{NoLongerFound, all_go, all_go_placed}
-use Rattle.dv_catalog.proofs.Keeping.{AreTold, MadeAsTold, StaysRight, UnreadIsNoMatter, all_able, kept_after, view_forms}
+use Rattle.dv_catalog.proofs.Keeping.{AreTold, MadeAsTold, StaysRight, UnreadIsNoMatter, all_able, kept_after, kept_same_documents, view_forms}
 use Rattle.dv_catalog.proofs.Keys.{before_ascending}
 use Rattle.dv_catalog.proofs.Making.{aggregates, form, kept_new, less_state, new_state, no_fault, result_of, same_state, view_fault, which_fault}
 use Rattle.dv_catalog.proofs.Refreshed.{Agreeing, over_sources, rows_shown_are}
@@ -166,29 +166,12 @@ not_created name view state e = by_there (is_there name state) (Err NamespaceExi
 pub created_is_made : (name : List ℕ) (view : Option ViewOn) (state : State) → is_there name state ≡ false → created name view state ≡ creating.made name view state
 created_is_made name view state e = first (is_there name state) (Err NamespaceExists) (creating.made name view state) e
 
--- a collection without documents changes nothing to views that find none there
-nothing_there : (there : Option Standing) → is_some there ≡ false → (collection_at there).documents ≡ []
-nothing_there None none = refl
-nothing_there (Some s) none = absurd cc
+pub not_there : (there : Option Standing) → is_some there ≡ false → there ≡ None
+not_there None none = refl
+not_there (Some s) none = absurd cc
 
-empty_documents : (b : Bool) (there : Option Standing) → (b ≡ true → is_some there ≡ false) → (collection_at there).documents ≡ (collection_at (cond b (Some (collection (record { documents = [] }))) there)).documents
-empty_documents true there none = nothing_there there (none refl)
-empty_documents false there none = refl
-
-module _ (unread : UnreadIsNoMatter) (name : List ℕ) (namespaces : Namespaces) (vs : Views) (none : is_collection name namespaces ≡ false) (no_view : has_view name vs ≡ false) where
-  same_lists : (n : List ℕ) → documents_of n namespaces ≡ documents_of n (with_documents name [] namespaces)
-  same_lists n =
-      empty_documents (bytes_eq name n) (finite.get namespaces n) (λ e. subst (λ (m : List ℕ). is_collection m namespaces ≡ false) ((bytes_eq-Decides name n).0 e) none)
-      ∙ ap (λ (there : Option Standing). (collection_at there).documents) (sym (get-insert namespaces name (collection (record { documents = [] })) n))
-
-  apart_more : IsKept namespaces vs → (n : List ℕ) (b : Bool) → bytes_eq name n ≡ b → is_view n (map form_of vs) ≡ true → is_some (cond b (Some (collection (record { documents = [] }))) (finite.get namespaces n)) ≡ false
-  apart_more kept n true e view =
-      let here : has_view n vs ≡ false = subst (λ (m : List ℕ). has_view m vs ≡ false) ((bytes_eq-Decides name n).0 e) no_view in
-      absurd (cc (view_forms vs n, here, view))
-  apart_more kept n false e view = kept.apart n view
-
-  pub kept_empty : IsKept namespaces vs → IsKept (with_documents name [] namespaces) vs
-  kept_empty kept = record {
-    right = unread vs (lists_of namespaces) (lists_of (with_documents name [] namespaces)) (λ n _. same_lists n) kept.right;
-    apart = λ n view. ap is_some (get-insert namespaces name (collection (record { documents = [] })) n) ∙ apart_more kept n (bytes_eq name n) refl view;
-  }
+-- a collection without documents, where none is
+pub kept_empty : UnreadIsNoMatter → (name : List ℕ) (namespaces : Namespaces) (vs : Views) → finite.get namespaces name ≡ None → has_view name vs ≡ false → IsKept namespaces vs → IsKept (with_documents name [] namespaces) vs
+kept_empty unread name namespaces vs none no_view kept =
+    let nothing : [] ≡ documents_of name namespaces = sym (ap (λ (there : Option Standing). (collection_at there).documents) none) in
+    kept_same_documents unread namespaces name (record (collection_of name namespaces) { documents = [] }) vs nothing (view_forms vs name ∙ no_view) kept

@@ -1,5 +1,8 @@
 mod Keys
 mod ByNamespace
+mod Stopping
+mod ByEntry
+mod Explaining
 pub mod Scanned
 mod Deleted
 mod Updated
@@ -10,3 +13,4 @@ mod Refreshed
 mod Sourced
 mod Making
 mod Kept
+mod MadeIndexes

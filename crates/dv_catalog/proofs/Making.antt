@@ -8,8 +8,8 @@ use Rattle.std.specs.Option.{option_map}
 use Rattle.std.specs.Str.{bytes_eq}
 use Rattle.dv_bson.specs.Tree.{Field}
 use Rattle.dv_command.specs.Asked.{ViewOn}
-use Rattle.dv_command.specs.declared.refusal.Refusal.{Refusal}
-use Rattle.dv_command.specs.declared.refusal.Refusal.TheVariants.{OnView, ReadByView, LimitReached, WantOfMemory}
+use Rattle.dv_fields.specs.declared.refusal.Refusal.{Refusal}
+use Rattle.dv_fields.specs.declared.refusal.Refusal.TheVariants.{OnView, ReadByView, LimitReached, WantOfMemory}
 use Rattle.dv_pipe.specs.Sources as pipes
 use Rattle.dv_pipe.specs.Stages.{Lists, beside, evaluated, from_of, is_named, is_read, looked_into}
 use Rattle.dv_pipe.specs.declared.stage.Stage.{Stage}

@@ -9,8 +9,9 @@ use Rattle.dv_pipe.specs.Sources.{Source, rows_under}
 use Rattle.dv_pipe.specs.Stages.{beside, from_of, is_named, is_read, looked_into}
 use Rattle.dv_pipe.specs.declared.stage.Stage.{Stage}
 use Rattle.dv_catalog.specs.SourceParts.{AreFor, with_rows}
-use Rattle.dv_catalog.specs.State.{Namespaces, documents_of}
+use Rattle.dv_catalog.specs.State.{Namespaces, ViewForm, documents_of, is_view}
 use Rattle.dv_catalog.specs.StateLaws.{bytes_eq-symmetric}
+use Rattle.dv_catalog.specs.Views.{is_view_at, looks_into_view}
 
 abbrev pub is_among : List ℕ → List Source → Bool
 is_among name [] = false
@@ -151,3 +152,24 @@ module _ (stages : List Stage) (source : List ℕ) (rows : List (List Field)) (n
         named name (inr e) =
             inr (subst (λ (n : List ℕ). bytes_eq name n || look_into rest source name ≡ true) (sym is)
             (subst (λ (f : Option (List ℕ)). is_named name (option_map (beside source) f) || look_into rest source name ≡ true) (sym from) e))
+
+-- ---- whether a stage looks into a view, one after the other
+
+module _ (source : List ℕ) (forms : List ViewForm) (s : Stage) (rest : List Stage) (all : Bool) (so_far : looks_into_view (s ∷ rest) source forms ≡ all) where
+  looks_first : (b : Bool) → is_view_at (looked_into s source) forms ≡ b → b || looks_into_view rest source forms ≡ all
+  looks_first b is = ap (λ (c : Bool). c || looks_into_view rest source forms) (sym is) ∙ so_far
+
+  at_view : (from : Option (List ℕ)) → from ≡ from_of s → is_view_at (looked_into s source) forms ≡ is_view_at (option_map (beside source) from) forms
+  at_view from is = ap (λ (f : Option (List ℕ)). is_view_at (option_map (beside source) f) forms) (sym is)
+
+  -- a stage that looks into nothing
+  pub looks_past : None ≡ from_of s → looks_into_view rest source forms ≡ all
+  looks_past none = looks_first false (at_view None none)
+
+  -- one that looks into a collection
+  pub looks_on : (collection : List ℕ) → Some collection ≡ from_of s → is_view (beside source collection) forms ≡ false → looks_into_view rest source forms ≡ all
+  looks_on collection from none = looks_first false (at_view (Some collection) from ∙ none)
+
+  -- one that looks into a view
+  pub looks_here : (collection : List ℕ) → Some collection ≡ from_of s → is_view (beside source collection) forms ≡ true → true ≡ all
+  looks_here collection from there = looks_first true (at_view (Some collection) from ∙ there)

@@ -20,12 +20,12 @@ use Rattle.dv_catalog.specs.EffectView.{ArePlaced}
 use Rattle.dv_catalog.proofs.Keys.{AreThere, all_there}
 use Rattle.dv_update.specs.Update as form
 use Rattle.dv_command.specs.Entries.{Updating}
-use Rattle.dv_command.specs.Refusals.{◌>>=◌, refused_by, update_refusal}
-use Rattle.dv_command.specs.declared.refusal.Refusal.{Refusal}
-use Rattle.dv_command.specs.declared.refusal.Refusal.TheVariants.{WantOfMemory}
+use Rattle.dv_fields.specs.Refusals.{◌>>=◌, refused_by, update_refusal}
+use Rattle.dv_fields.specs.declared.refusal.Refusal.{Refusal}
+use Rattle.dv_fields.specs.declared.refusal.Refusal.TheVariants.{WantOfMemory}
 use Rattle.dv_catalog.specs.Changes.{Change, put, Effect, with_changes}
 use Rattle.dv_catalog.specs.Effects.{all_or_first}
-use Rattle.dv_catalog.specs.Scan.{matching, limited}
+use Rattle.dv_catalog.specs.Scan.{matching}
 use Rattle.dv_catalog.specs.Effects.{after, changed_by, update_chosen}
 use Rattle.dv_catalog.specs.EffectLaws.{KeepsId, IsGoodAfter, chosen_good, matching_good, all_changed_good, after_id}
 
@@ -41,24 +41,16 @@ pub update_none : (updating : Updating) → update_chosen updating [] ≡ Ok (re
 unfolding updates_of
 update_none updating = ap (updates_of updating.update) (none_chosen (not updating.multi))
 
--- a limit of 1 is the first, one of 0 is all
-limit_chosen : (multi : Bool) (ds : List (List Field)) → limited (cond multi 0 1) (drop 0 ds) ≡ all_or_first (not multi) ds
-limit_chosen true ds = refl
-limit_chosen false ds = refl
-
-module _ (updating : Updating) (old ds : List (List Field)) (limit : ℕ) (limits : limit ≡ cond updating.multi 0 1) (finds : ds ≡ limited limit (drop 0 (matching updating.filter old))) where
-  chosen : ds ≡ all_or_first (not updating.multi) (matching updating.filter old)
-  chosen = finds ∙ ap (λ (n : ℕ). limited n (drop 0 (matching updating.filter old))) limits ∙ limit_chosen updating.multi (matching updating.filter old)
-
+module _ (updating : Updating) (old ds : List (List Field)) (finds : ds ≡ all_or_first (not updating.multi) (matching updating.filter old)) where
   pub updates : (changed : List (List Field)) (count : ℕ) → changed_by updating.update ds ≡ Ok changed → count ≡ length ds → update_chosen updating old ≡ Ok (record { matched = count; changes = map put changed })
   unfolding updates_of
   updates changed count does many =
-      ap (updates_of updating.update) (sym chosen) ∙ ap (λ (r : Result (List (List Field)) Refusal). r >>= λ es. Ok (record { matched = length ds; changes = map put es })) does ∙ (λ i. Ok (record { matched = sym many i; changes = map put changed }))
+      ap (updates_of updating.update) (sym finds) ∙ ap (λ (r : Result (List (List Field)) Refusal). r >>= λ es. Ok (record { matched = length ds; changes = map put es })) does ∙ (λ i. Ok (record { matched = sym many i; changes = map put changed }))
 
   pub update_refused : (refusal : Refusal) → (changed_by updating.update ds ≡ Err refusal) ⊎ (refusal ≡ WantOfMemory) → (update_chosen updating old ≡ Err refusal) ⊎ (refusal ≡ WantOfMemory)
   unfolding updates_of
   update_refused refusal (inl refused) =
-      inl (ap (updates_of updating.update) (sym chosen) ∙ ap (λ (r : Result (List (List Field)) Refusal). r >>= λ es. Ok (record { matched = length ds; changes = map put es })) refused)
+      inl (ap (updates_of updating.update) (sym finds) ∙ ap (λ (r : Result (List (List Field)) Refusal). r >>= λ es. Ok (record { matched = length ds; changes = map put es })) refused)
   update_refused refusal (inr want) = inr want
 
 -- ---- what is put is there
@@ -105,14 +97,13 @@ puts_placed law documents (d ∷ ds) ids there = (
 )
 
 -- what becomes of the documents that an updating is for
-pub updates_placed : StillFound → KeepsId → (updating : Updating) (old ds changed : List (List Field)) (limit : ℕ) → limit ≡ cond updating.multi 0 1 → ds ≡ limited limit (drop 0 (matching updating.filter old))
-    → AllByRecursion HasId old → changed_by updating.update ds ≡ Ok changed → ArePlaced old (map put changed)
-updates_placed still law updating old ds changed limit limits finds all does =
+pub updates_placed : StillFound → KeepsId → (updating : Updating) (old ds changed : List (List Field)) → ds ≡ all_or_first (not updating.multi) (matching updating.filter old) → AllByRecursion HasId old
+    → changed_by updating.update ds ≡ Ok changed → ArePlaced old (map put changed)
+updates_placed still law updating old ds changed finds all does =
     let rows = matching updating.filter old in
-    let are : ds ≡ all_or_first (not updating.multi) rows = chosen updating old ds limit limits finds in
     let there : AreThere old ds =
-    subst (λ (es : List (List Field)). AreThere old es) (sym are)
+    subst (λ (es : List (List Field)). AreThere old es) (sym finds)
     (chosen_good (λ d. is_some (found (id_key d) old) ≡ true) (not updating.multi) rows (matching_good (λ d. is_some (found (id_key d) old) ≡ true) updating.filter old (all_there old))) in
-    let ids : AllByRecursion HasId ds = subst (AllByRecursion HasId) (sym are) (chosen_good HasId (not updating.multi) rows (matching_good HasId updating.filter old all)) in
+    let ids : AllByRecursion HasId ds = subst (AllByRecursion HasId) (sym finds) (chosen_good HasId (not updating.multi) rows (matching_good HasId updating.filter old all)) in
     let both = both_placed old changed (all_changed_good (IsPlaced old) updating.update ds changed does (afters_placed law updating.update old ds ids there)) in
     puts_placed still old changed both.0 both.1

@@ -2,8 +2,8 @@
 use Rattle.std.specs.Prelude.{◌≡◌, true, false, Bool, ℕ, List, map, Option, Some, None}
 use Rattle.std.specs.Option.{option_map}
 use Rattle.dv_bson.specs.Tree.{Field}
-use Rattle.dv_command.specs.declared.refusal.Refusal.{Refusal}
-use Rattle.dv_command.specs.declared.refusal.Refusal.TheVariants.{NamespaceExists, OnView, ReadByView, LimitReached, WantOfMemory}
+use Rattle.dv_fields.specs.declared.refusal.Refusal.{Refusal}
+use Rattle.dv_fields.specs.declared.refusal.Refusal.TheVariants.{NamespaceExists, OnView, ReadByView, LimitReached, WantOfMemory}
 use Rattle.dv_views.specs.declared.fault.ViewFault.{ViewFault}
 use Rattle.dv_views.specs.declared.fault.ViewFault.TheVariants.{Exists, NoMemory}
 use Rattle.dv_views.specs.declared.fault.ViewFault.TheVariants as faults

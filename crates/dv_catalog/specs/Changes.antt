@@ -3,7 +3,7 @@ use Rattle.std.specs.Prelude.{ℕ, List, [], ◌∷◌, Result, Ok, Err, is_some
 use Rattle.dv_bson.specs.Tree.{Field}
 use Rattle.dv_order.specs.Key.{KeyTree}
 use Rattle.dv_coll.specs.Collection.{id_key, found, inserted, removed, replaced}
-use Rattle.dv_command.specs.declared.refusal.Refusal.{Refusal}
+use Rattle.dv_fields.specs.declared.refusal.Refusal.{Refusal}
 use Rattle.dv_catalog.specs.State.{Namespaces, documents_of, with_documents}
 
 -- a document put among the others, or the document under a key gone

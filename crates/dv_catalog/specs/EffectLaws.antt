@@ -10,8 +10,8 @@ use Rattle.dv_update.specs.Apply.{applied}
 use Rattle.dv_update.specs.Same.{same_fields}
 use Rattle.dv_update.specs.Update as form
 use Rattle.dv_update.specs.declared.fault.UpdateFault.{UpdateFault}
-use Rattle.dv_command.specs.Refusals.{◌>>=◌, refused_by, update_refusal}
-use Rattle.dv_command.specs.declared.refusal.Refusal.{Refusal}
+use Rattle.dv_fields.specs.Refusals.{◌>>=◌, refused_by, update_refusal}
+use Rattle.dv_fields.specs.declared.refusal.Refusal.{Refusal}
 use Rattle.dv_catalog.specs.Effects.{after, all_or_first, changed_by}
 use Rattle.dv_catalog.specs.Scan.{matching}
 

@@ -3,13 +3,16 @@ pub mod Changes
 pub mod Scan
 pub mod Effects
 pub mod Views
+pub mod IndexMaking
 -- words that only bodies need
 pub mod StateCode
 pub mod View
 pub mod ScanParts
 pub mod Parts
+pub mod IndexParts
 pub mod EffectView
 pub mod RowsView
+pub mod SearchedView
 pub mod SourceParts
 pub mod Told
 pub mod CatalogParts

@@ -1,24 +1,40 @@
--- What the parts of a write give.
-use Rattle.std.specs.Prelude.{◌≡◌, ◌⊎◌, ℕ, List, length, Result, Ok, Err}
-use Rattle.dv_command.specs.declared.refusal.Refusal.{Refusal}
-use Rattle.dv_command.specs.declared.refusal.Refusal.TheVariants.{WantOfMemory}
+-- What the parts of a write, and of other commands that change something, give.
+use Rattle.std.specs.Prelude.{◌≡◌, ◌<◌, ◌⊎◌, ℕ, List, length, take, Result, Ok, Err}
+use Rattle.dv_fields.specs.declared.refusal.Refusal.{Refusal}
+use Rattle.dv_fields.specs.declared.refusal.Refusal.TheVariants.{WantOfMemory}
 use Rattle.dv_catalog.specs.declared.counted.Counted.{Counted}
-use Rattle.dv_catalog.specs.State.{Namespaces, State, documents_of}
-use Rattle.dv_catalog.specs.Changes.{Change, Statement, apply}
+use Rattle.dv_catalog.specs.declared.stopped.Stopped.{Stopped}
+use Rattle.dv_catalog.specs.State.{Namespaces, documents_of}
+use Rattle.dv_catalog.specs.Changes.{Change, Effect, Statement, apply, changes_of}
 
--- a statement makes its changes, and tells for how many documents it is counted and how many changes it made; or it is refused, if
--- only for want of memory, and nothing is changed
-abbrev pub Makes : {B : Type 0} → (B → Counted) → List ℕ → Statement → Namespaces → Result B Refusal → Namespaces → Type 0
-Makes counted namespace statement old (Ok x) new =
-    (changes : List Change) × (statement (documents_of namespace old) ≡ Ok (record { matched = (counted x).matched; changes = changes })) × (length changes ≡ (counted x).changed)
-    × (new ≡ apply namespace changes old)
-Makes counted namespace statement old (Err refusal) new = ((statement (documents_of namespace old) ≡ Err refusal) ⊎ (refusal ≡ WantOfMemory)) × (new ≡ old)
+-- a statement that is refused changes nothing
+pub record IsRefused (does : Result Effect Refusal) (old : Namespaces) (stopped : Stopped) (new : Namespaces) : Type 0 where
+  pub so : does ≡ Err stopped.refusal
+  pub none : stopped.done ≡ 0
+  pub kept : new ≡ old
+
+-- memory is wanting behind the first so many of its changes, and these are made: not all of them, or none
+pub record IsCut (namespace : List ℕ) (does : Result Effect Refusal) (old : Namespaces) (stopped : Stopped) (new : Namespaces) : Type 0 where
+  pub so : stopped.refusal ≡ WantOfMemory
+  pub fewer : (stopped.done ≡ 0) ⊎ (stopped.done < length (changes_of does))
+  pub made : new ≡ apply namespace (take stopped.done (changes_of does)) old
+
+-- what a statement does is done: its changes are made, and it is told for how many documents it is counted and how many changes it
+-- made; or it is refused; or it is cut for want of memory
+abbrev pub MakesSo : {B : Type 0} → (B → Counted) → List ℕ → Result Effect Refusal → Namespaces → Result B Stopped → Namespaces → Type 0
+MakesSo counted namespace does old (Ok x) new =
+    (changes : List Change) × (does ≡ Ok (record { matched = (counted x).matched; changes = changes })) × (length changes ≡ (counted x).changed) × (new ≡ apply namespace changes old)
+MakesSo counted namespace does old (Err stopped) new = IsRefused does old stopped new ⊎ IsCut namespace does old stopped new
+
+-- the same of a statement on the documents of a namespace
+abbrev pub Makes : {B : Type 0} → (B → Counted) → List ℕ → Statement → Namespaces → Result B Stopped → Namespaces → Type 0
+Makes counted namespace statement old result new = MakesSo counted namespace (statement (documents_of namespace old)) old result new
 
 -- one document and one change
 abbrev pub one : Counted
 one = record { matched = 1; changed = 1 }
 
 -- what is made of a state, or why it is refused, if only for want of memory; then it is left as it is
-abbrev pub Leaves : Result State Refusal → State → Result (Unit {0}) Refusal → State → Type 0
+abbrev pub Leaves : {S B : Type 0} → Result S Refusal → S → Result B Refusal → S → Type 0
 Leaves defined old (Ok x) new = defined ≡ Ok new
 Leaves defined old (Err refusal) new = ((defined ≡ Err refusal) ⊎ (refusal ≡ WantOfMemory)) × (new ≡ old)

@@ -1,6 +1,7 @@
 -- What commands read and change: what stands under each namespace. That no two documents of a collection have an equal `_id` is the
 -- MongoDB manual's ("Documents", "The _id Field"), and so is that a view's rows are those of its pipeline ("Views"); that documents
--- stand in the order of their `_id`s is this server's own.
+-- stand in the order of their `_id`s is this server's own. That each collection has an index on `_id`, which can't be dropped, is the
+-- MongoDB manual's ("Indexes", "Default Index").
 use Rattle.std.specs.Prelude.{◌||◌, not, Bool, ℕ, List, [], Option, Some, None, filter}
 use Rattle.std.specs.Cmp.Lexicographic.{slice_cmp}
 use Rattle.std.specs.FinMap as finite
@@ -9,12 +10,15 @@ use Rattle.std.specs.Ordering.{nat_cmp}
 use Rattle.std.specs.Str.{bytes_eq}
 use Rattle.dv_bson.specs.Tree.{Field}
 use Rattle.dv_coll.specs.Collection.{HasId, IsAscending}
+use Rattle.dv_index.specs.Index.{IndexForm}
+use Rattle.dv_index.specs.Indexed.{IndexedTree, empty_indexed}
 use Rattle.dv_pipe.specs.declared.stage.Stage.{Stage}
 use Rattle.dv_pipe.specs.Stages.{Lists, evaluated}
 
--- a collection's documents, in the order of their `_id`s
-pub record Collection : Type 0 where
-  pub documents : List (List Field)
+-- a collection: its documents, in the order of their `_id`s, and the names and paths of its indexes, in the order in which they were
+-- made, that on `_id` first. What an index holds is no part of it
+abbrev pub Collection : Type 0
+Collection = IndexedTree
 
 -- what is kept under a namespace
 pub data Standing : Type 0 where
@@ -41,20 +45,28 @@ empty_state = record { namespaces = finite.empty; views = [] }
 -- ---- collections
 
 abbrev pub collection_at : Option Standing → Collection
-collection_at None = record { documents = [] }
+collection_at None = empty_indexed
 collection_at (Some (collection c)) = c
 
--- the collection of a namespace; one without documents where it isn't there
+-- the collection of a namespace; where it isn't there, one without documents and with the index on `_id` alone
 abbrev pub collection_of : List ℕ → Namespaces → Collection
 collection_of namespace namespaces = collection_at (finite.get namespaces namespace)
 
 abbrev pub documents_of : List ℕ → Namespaces → List (List Field)
 documents_of namespace namespaces = (collection_of namespace namespaces).documents
 
+abbrev pub indexes_of : List ℕ → Namespaces → List IndexForm
+indexes_of namespace namespaces = (collection_of namespace namespaces).indexes
+
 -- with these documents in the collection of a namespace, be it there or not
 abbrev pub with_documents : List ℕ → List (List Field) → Namespaces → Namespaces
 with_documents namespace documents namespaces =
     finite.insert namespaces namespace (collection (record (collection_of namespace namespaces) { documents = documents }))
+
+-- with these indexes of the collection of a namespace, be it there or not
+abbrev pub with_indexes : List ℕ → List IndexForm → Namespaces → Namespaces
+with_indexes namespace indexes namespaces =
+    finite.insert namespaces namespace (collection (record (collection_of namespace namespaces) { indexes = indexes }))
 
 -- what the collections hold
 abbrev pub lists_of : Namespaces → Lists

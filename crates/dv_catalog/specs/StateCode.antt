@@ -2,26 +2,19 @@
 use Rattle.std.specs.Prelude.{◌≡◌, ℕ, List, refl}
 use Rattle.std.specs.Coded.{Coded, code_by, coded_list, coded×, coded_ℕ}
 use Rattle.std.specs.FinMap as finite
-use Rattle.dv_bson.specs.Tree.{Field}
-use Rattle.dv_bson.specs.TreeCode.{coded_tree}
+use Rattle.dv_index.specs.Indexed.{coded_indexed}
 use Rattle.dv_pipe.specs.contracts.pipeline.Pipeline as pipelines
 use Rattle.dv_pipe.specs.declared.stage.Stage.{Stage}
-use Rattle.dv_catalog.specs.State.{Standing, collection, Namespaces, ViewForm, State}
+use Rattle.dv_catalog.specs.State.{Collection, Standing, collection, Namespaces, ViewForm, State}
 
-abbrev coded_documents : Coded (List (List Field))
-coded_documents = coded_list (coded_list (coded× (coded_list coded_ℕ) coded_tree))
+abbrev collection_in : Standing → Collection
+collection_in (collection c) = c
 
-abbrev documents_in : Standing → List (List Field)
-documents_in (collection c) = c.documents
-
-abbrev standing_of : List (List Field) → Standing
-standing_of documents = collection (record { documents = documents })
-
-pub same_standing : (s : Standing) → standing_of (documents_in s) ≡ s
+pub same_standing : (s : Standing) → collection (collection_in s) ≡ s
 same_standing (collection c) = refl
 
 abbrev pub coded_standing : Coded Standing
-coded_standing = code_by (List (List Field)) coded_documents documents_in standing_of same_standing
+coded_standing = code_by Collection coded_indexed collection_in collection same_standing
 
 abbrev pub coded_namespaces : Coded Namespaces
 coded_namespaces = finite.code (coded_list coded_ℕ) coded_standing

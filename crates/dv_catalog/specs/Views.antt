@@ -7,8 +7,8 @@ use Rattle.dv_pipe.specs.declared.stage.Stage.{Stage}
 use Rattle.dv_pipe.specs.Stages.{evaluated, is_read, looked_into}
 use Rattle.dv_bson.specs.Tree.{Field}
 use Rattle.dv_command.specs.Asked.{ViewOn}
-use Rattle.dv_command.specs.declared.refusal.Refusal.{Refusal}
-use Rattle.dv_command.specs.declared.refusal.Refusal.TheVariants.{NamespaceExists, NamespaceNotFound, OnView, ReadByView, LimitReached}
+use Rattle.dv_fields.specs.declared.refusal.Refusal.{Refusal}
+use Rattle.dv_fields.specs.declared.refusal.Refusal.TheVariants.{NamespaceExists, NamespaceNotFound, OnView, ReadByView, LimitReached}
 use Rattle.dv_catalog.specs.State.{State, ViewForm, is_view, is_collection, is_there, rows_of, with_documents, without_view}
 
 -- how many views there are at most

@@ -6,15 +6,21 @@ ghost use Rattle.dv_catalog.specs.CatalogParts.{view_refusal};
 use crate::collections::Collections;
 use crate::counted::Counted;
 use crate::delete::deleted;
-use crate::effect::Effect;
+use crate::effect::{Changes, Effect};
+use crate::explained::{Explained, explained_in, explained_view};
+use crate::indexing::IndexCounts;
 use crate::laws::told_changes_are_made;
 use crate::scan::scan;
+use crate::searched::searched_in;
 use crate::sources::{references, sources_of};
+use crate::stopped::Stopped;
 use crate::told::{each_gone, one_put, told};
 use crate::update::updated;
 use crate::upkeep::{looks_into_view, refresh, refresh_all, rows_in};
 use dv_bson::{Document, NoMemory};
 use dv_command::{Aggregate, Create, Deletion, Find, Refusal, Updating, ViewOn};
+use dv_index::NewIndex;
+use dv_match::Filter;
 use dv_pipe::evaluate;
 use dv_views::{Registry, ViewFault};
 use std::alloc::Global;
@@ -51,16 +57,19 @@ impl Model for Catalog {
 
 impl Catalog {
     ghost use Rattle.std.specs.FinMap as finite;
-    ghost use Rattle.std.specs.Prelude.{◌≡◌, true, false, Some, IfOk, OnOk, OnErr, length};
+    ghost use Rattle.std.specs.Prelude.{◌≡◌, ◌≤◌, true, false, map, take, Ok, Some, IfOk, OnOk, OnErr, length};
     ghost use Rattle.dv_coll.specs.Collection.{HasId};
-    ghost use Rattle.dv_command.specs.Refusals.{UnlessWanting};
+    ghost use Rattle.dv_fields.specs.Refusals.{UnlessWanting};
     ghost use Rattle.dv_command.specs.View.{aggregate_seen, create_seen, deletion_seen, find_seen, updating_seen, view_on_seen};
     ghost use Rattle.dv_catalog.specs.Changes.{apply};
     ghost use Rattle.dv_catalog.specs.Effects as effects;
-    ghost use Rattle.dv_catalog.specs.EffectView.{ArePlaced, changes_seen};
-    ghost use Rattle.dv_catalog.specs.Parts.{Leaves, Makes, one};
+    ghost use Rattle.dv_catalog.specs.EffectView.{ArePlaced, changes_seen, effect_seen};
+    ghost use Rattle.dv_catalog.specs.IndexMaking as indexing;
+    ghost use Rattle.dv_catalog.specs.IndexParts.{explained_seen};
+    ghost use Rattle.dv_catalog.specs.Parts.{Leaves, Makes, MakesSo, one};
     ghost use Rattle.dv_catalog.specs.Scan as scans;
-    ghost use Rattle.dv_catalog.specs.State.{AreOrdered, documents_of, empty_state, is_collection, is_there, is_view, rows_of};
+    ghost use Rattle.dv_catalog.specs.State.{AreOrdered, documents_of, empty_state, indexes_of, is_collection, is_there, is_view, rows_of};
+    ghost use Rattle.dv_index.specs.View.{form_of_new};
     ghost use Rattle.dv_catalog.specs.Views as making;
 
     /// Nothing.
@@ -84,7 +93,7 @@ impl Catalog {
     /// Puts a document into the collection of a namespace, which is made where it isn't there. Refused with
     /// `DuplicateKey` where a document has an equal `_id`, and with `WantOfMemory`; then nothing is changed, and no
     /// collection is made.
-    pub fn insert(&mut self, namespace: &str, document: Document) -> Result<(), Refusal>
+    pub fn insert(&mut self, namespace: &str, document: Document) -> Result<(), Stopped>
         requires identified { HasId document }
         requires collection { is_view namespace.now self.old.views ≡ false }
         ensures made { Makes (λ _. one) namespace.now (effects.put_new document) self.old.namespaces result self.new.namespaces }
@@ -104,9 +113,9 @@ impl Catalog {
         Ok(())
     }
 
-    /// Updates the documents of a namespace that an updating is for. Refused as the first of them is, and where memory is
-    /// wanting; then nothing is changed.
-    pub fn update(&mut self, namespace: &str, updating: &Updating) -> Result<Counted, Refusal>
+    /// Updates the documents of a namespace that an updating is for. Refused as the first of them is; then nothing is
+    /// changed. Where memory is wanting, the first so many changes, not all of them, are made.
+    pub fn update(&mut self, namespace: &str, updating: &Updating) -> Result<Counted, Stopped>
         requires { is_view namespace.now self.old.views ≡ false }
         ensures made { Makes (λ counted. counted) namespace.now (effects.update_chosen (updating_seen updating.now)) self.old.namespaces result self.new.namespaces }
         ensures views { self.new.views ≡ self.old.views }
@@ -115,12 +124,12 @@ impl Catalog {
             Some(collection) => updated(self.alloc, collection, updating)?,
             None => return Ok(NOTHING),
         };
-        Ok(self.carry_out(namespace, effect)?)
+        self.carry_out(namespace, effect)
     }
 
-    /// Takes out the documents of a namespace that a deletion is for. Refused where memory is wanting; then nothing is
-    /// changed.
-    pub fn delete(&mut self, namespace: &str, deletion: &Deletion) -> Result<Counted, Refusal>
+    /// Takes out the documents of a namespace that a deletion is for. Where memory is wanting, the first so many, not all of
+    /// them, are taken out.
+    pub fn delete(&mut self, namespace: &str, deletion: &Deletion) -> Result<Counted, Stopped>
         requires { is_view namespace.now self.old.views ≡ false }
         ensures made { Makes (λ counted. counted) namespace.now (effects.delete_chosen (deletion_seen deletion.now)) self.old.namespaces result self.new.namespaces }
         ensures views { self.new.views ≡ self.old.views }
@@ -129,33 +138,53 @@ impl Catalog {
             Some(collection) => deleted(self.alloc, collection, deletion)?,
             None => return Ok(NOTHING),
         };
-        Ok(self.carry_out(namespace, effect)?)
+        self.carry_out(namespace, effect)
     }
 
-    /// Makes the changes of an effect, tells the views of them, and answers what the statement is counted for. Fails
-    /// where memory is wanting; then nothing is changed.
-    fn carry_out(&mut self, namespace: &str, effect: Effect) -> Result<Counted, NoMemory>
+    /// Makes the changes of an effect, one after the other, tells the views of them, and answers what the statement is
+    /// counted for. Where memory is wanting, the first so many, not all of them, are made, and the views are told of these.
+    fn carry_out(&mut self, namespace: &str, effect: Effect) -> Result<Counted, Stopped>
         requires collection { is_view namespace.now self.old.views ≡ false }
         requires ordered { AreOrdered (documents_of namespace.now self.old.namespaces) }
         requires placed { ArePlaced (documents_of namespace.now self.old.namespaces) (changes_seen effect.changes) }
-        ensures counted { IfOk result (λ counted. counted ≡ record { matched = effect.matched; changed = length (changes_seen effect.changes) }) }
-        ensures made { OnOk result (self.new.namespaces ≡ apply namespace.now (changes_seen effect.changes) self.old.namespaces) }
-        ensures kept { OnErr result (self.new ≡ self.old) }
+        ensures made { MakesSo (λ counted. counted) namespace.now (Ok (effect_seen effect)) self.old.namespaces result self.new.namespaces }
         ensures views { self.new.views ≡ self.old.views }
     {
         let Effect { matched, changes } = effect;
-        // Behind the first change nothing may want memory.
-        let told = if self.views.is_read(namespace) {
+        let changed = changes.len();
+        let done = self.make(namespace, changes)?;
+        if done < changed {
+            return Err(Stopped {
+                refusal: Refusal::WantOfMemory,
+                done,
+            });
+        }
+        Ok(Counted { matched, changed })
+    }
+
+    /// Makes changes, one after the other, until memory is wanting, tells the views of those that were made, and answers how
+    /// many these are. Fails where memory is wanting before the first; then nothing is changed.
+    fn make(&mut self, namespace: &str, changes: Changes) -> Result<usize, NoMemory>
+        requires collection { is_view namespace.now self.old.views ≡ false }
+        requires ordered { AreOrdered (documents_of namespace.now self.old.namespaces) }
+        requires placed { ArePlaced (documents_of namespace.now self.old.namespaces) (changes_seen changes) }
+        ensures count { IfOk result (λ done. done ≤ length (changes_seen changes)) }
+        ensures made { IfOk result (λ done. self.new.namespaces ≡ apply namespace.now (take done (changes_seen changes)) self.old.namespaces) }
+        ensures kept { OnErr result (self.new ≡ self.old) }
+        ensures views { self.new.views ≡ self.old.views }
+    {
+        // Behind the first change nothing but another one may want memory.
+        let mut told = if self.views.is_read(namespace) {
             told(self.alloc, &changes)?
         } else {
             Vec::new(self.alloc)
         };
         told_changes_are_made();
         dv_views::laws::what_is_not_read_does_not_matter();
-        let changed = changes.len();
-        self.collections.make(namespace, changes);
+        let done = self.collections.make(namespace, changes);
+        told.truncate(done);
         self.views.apply(namespace, &told);
-        Ok(Counted { matched, changed })
+        Ok(done)
     }
 
     /// Rebuilds the views that are stale, in the order in which they were made; one for which memory is wanting stays
@@ -181,9 +210,22 @@ impl Catalog {
         )?;
         scan(
             self.alloc,
-            rows_in(&self.collections, &self.views, &find.namespace),
+            searched_in(&self.collections, &self.views, &find.namespace),
             find,
         )
+    }
+
+    /// How the rows under a namespace that match a filter are found, and how many are looked at. A stale view is rebuilt
+    /// first. Fails where memory is wanting.
+    pub fn explain(&mut self, namespace: &str, filter: &Filter) -> Result<Explained, NoMemory>
+        ensures same { self.new ≡ self.old }
+        ensures explained { IfOk result (λ told. explained_seen told ≡ indexing.explained namespace.now filter.now self.old) }
+    {
+        refresh(self.alloc, &self.collections, &mut self.views, namespace)?;
+        if let Some(rows) = self.views.rows(namespace) {
+            return Ok(explained_view(rows));
+        }
+        explained_in(self.alloc, &self.collections, namespace, filter)
     }
 
     /// The rows of a pipeline over what stands under a namespace. A stale view is rebuilt first. Refused with `OnView`
@@ -196,6 +238,7 @@ impl Catalog {
         let Aggregate {
             namespace,
             pipeline,
+            ..
         } = aggregate;
         if looks_into_view(self.alloc, &self.views, namespace, pipeline)? {
             return Err(Refusal::OnView);
@@ -281,6 +324,39 @@ impl Catalog {
         self.collections.remove(namespace);
         self.views.apply(namespace, &told);
         Ok(())
+    }
+
+    /// Makes the indexes of these entries under a namespace, in their order, but those that are there; the collection is
+    /// made where it isn't there. Refused with `OnView` on a view; then with `ConflictingUpdateOperators` where the name or
+    /// the path of an entry alone is there or comes by an earlier one; then with `LimitReached` where there would be more
+    /// than 64; and with `WantOfMemory`. Then nothing is changed.
+    pub fn create_indexes(
+        &mut self,
+        namespace: &str,
+        entries: Vec<NewIndex>,
+    ) -> Result<IndexCounts, Refusal>
+        ensures made { Leaves (indexing.indexes_created namespace.now (map form_of_new entries.items) self.old) self.old result self.new }
+        ensures counts { IfOk result (λ counts. counts ≡ record { before = length (indexes_of namespace.now self.old.namespaces); after = length (indexes_of namespace.now self.new.namespaces) }) }
+    {
+        if self.views.has(namespace) {
+            return Err(Refusal::OnView);
+        }
+        dv_views::laws::what_is_not_read_does_not_matter();
+        self.collections.create_indexes(namespace, entries)
+    }
+
+    /// Drops the index of a name under a namespace, or with `*` all but that on `_id`, and answers how many there were.
+    /// Refused with `OnView` on a view, with `NamespaceNotFound` where nothing stands there, with `BadValue` for the index on
+    /// `_id`, and with `IndexNotFound` where there is none of the name; then nothing is changed. Takes no memory.
+    pub fn drop_indexes(&mut self, namespace: &str, name: &str) -> Result<usize, Refusal>
+        ensures made { Leaves (indexing.indexes_dropped namespace.now name.now self.old) self.old result self.new }
+        ensures count { IfOk result (λ count. count ≡ length (indexes_of namespace.now self.old.namespaces)) }
+    {
+        if self.views.has(namespace) {
+            return Err(Refusal::OnView);
+        }
+        dv_views::laws::what_is_not_read_does_not_matter();
+        self.collections.drop_indexes(namespace, name)
     }
 }
 

@@ -1,32 +1,36 @@
 //! The collections by their namespaces.
 
-ghost use Rattle.std.specs.Prelude.{◌≡◌, [], None, false, IsTrue, OnErr, OnOk, IfOk};
+ghost use Rattle.std.specs.Prelude.{◌≡◌, ◌≤◌, [], None, length, map, take, OnErr, OnOk, IfOk, if◌then◌else◌};
+ghost use Rattle.dv_fields.specs.declared.refusal.Refusal.TheVariants.{NamespaceNotFound};
 ghost use Rattle.std.specs.FinMap as finite;
 ghost use Rattle.std.specs.Option.{option_map};
 ghost use Rattle.dv_coll.specs.Collection.{HasId};
 ghost use Rattle.dv_catalog.specs.Changes.{apply};
 ghost use Rattle.dv_catalog.specs.Effects.{put_new};
 ghost use Rattle.dv_catalog.specs.EffectView.{ArePlaced, changes_seen};
-ghost use Rattle.dv_catalog.specs.Parts.{Makes, one};
-ghost use Rattle.dv_catalog.specs.State.{AreOrdered, documents_of, empty_state, is_collection, with_documents};
+ghost use Rattle.dv_catalog.specs.IndexMaking as making;
+ghost use Rattle.dv_catalog.specs.IndexParts.{namespaces_so};
+ghost use Rattle.dv_catalog.specs.Parts.{Leaves, Makes, one};
+ghost use Rattle.dv_catalog.specs.State.{AreOrdered, documents_of, empty_state, indexes_of, is_collection, with_documents};
 ghost use Rattle.dv_catalog.specs.View.{standing_seen};
+ghost use Rattle.dv_index.specs.View.{form_of_new};
 
-use crate::delete::remove_each;
 use crate::effect::Changes;
+use crate::indexing::{IndexCounts, create_each, drop_named};
 use crate::rows::Rows;
-use crate::update::replace_each;
+use crate::stopped::Stopped;
 use dv_bson::{Document, NoMemory};
-use dv_coll::Collection;
 use dv_command::Refusal;
+use dv_index::{IndexedCollection, NewIndex};
 use std::alloc::Global;
 use std::collections::BTreeMap;
 use std::marker::Model;
 
-/// Collections, found in time logarithmic in their number.
+/// Collections with their indexes, found in time logarithmic in their number.
 #[derive(Debug, Drop)]
 pub(crate) struct Collections {
     alloc: Global,
-    collections: BTreeMap<String, Collection>,
+    collections: BTreeMap<String, IndexedCollection>,
 }
 
 impl Model for Collections {
@@ -54,7 +58,7 @@ impl Collections {
     }
 
     /// The collection of a namespace, where it is there.
-    pub(crate) fn get(&self, namespace: &str) -> Option<&Collection>
+    pub(crate) fn get(&self, namespace: &str) -> Option<&IndexedCollection>
         ensures { option_map (λ collection. standing_seen collection.now) result ≡ finite.get self.now namespace.now }
     {
         self.collections.get(namespace)
@@ -88,7 +92,7 @@ impl Collections {
     /// Puts a document into the collection of a namespace, which is made where it isn't there. Refused with
     /// `DuplicateKey` where a document has an equal `_id`, and with `WantOfMemory`; then nothing is changed, and no
     /// collection is made.
-    pub(crate) fn insert(&mut self, namespace: &str, document: Document) -> Result<(), Refusal>
+    pub(crate) fn insert(&mut self, namespace: &str, document: Document) -> Result<(), Stopped>
         requires { HasId document }
         ensures { Makes (λ _. one) namespace.now (put_new document) self.old result self.new }
     {
@@ -100,41 +104,90 @@ impl Collections {
 
     /// Puts a document into a new collection of a namespace that has none. Refused where memory is wanting; then
     /// nothing is changed.
-    fn insert_first(&mut self, namespace: &str, document: Document) -> Result<(), Refusal>
+    fn insert_first(&mut self, namespace: &str, document: Document) -> Result<(), Stopped>
         requires identified { HasId document }
         requires fresh { finite.get self.old namespace.now ≡ None }
         ensures { Makes (λ _. one) namespace.now (put_new document) self.old result self.new }
     {
-        let mut collection = Collection::new(self.alloc);
+        let mut collection = IndexedCollection::new(self.alloc)?;
         collection.insert(document)?;
         let namespace = String::from_str(self.alloc, namespace)?;
         self.collections.insert(namespace, collection)?;
         Ok(())
     }
 
-    /// Makes these changes of the documents of a namespace. Takes no memory.
-    pub(crate) fn make(&mut self, namespace: &str, changes: Changes)
+    /// Makes these changes of the documents of a namespace, one after the other, until memory is wanting, and answers how
+    /// many were made.
+    pub(crate) fn make(&mut self, namespace: &str, changes: Changes) -> usize
         requires { ArePlaced (documents_of namespace.now self.old) (changes_seen changes) }
-        ensures { self.new ≡ apply namespace.now (changes_seen changes) self.old }
+        ensures count { result ≤ length (changes_seen changes) }
+        ensures made { self.new ≡ apply namespace.now (take result (changes_seen changes)) self.old }
     {
-        if let Some(collection) = self.collections.get_mut(namespace) {
-            match changes {
-                Changes::Put(documents) => replace_each(collection, documents),
-                Changes::Gone(keys) => remove_each(collection, &keys),
-            }
+        match self.collections.get_mut(namespace) {
+            Some(collection) => changes.make_in(collection),
+            // Where there is no document, none is changed.
+            None => 0,
         }
     }
 
-    /// Makes the collection of a namespace, without documents, in place of any. Fails where memory is wanting; then
-    /// nothing is changed.
+    /// Makes the collection of a namespace that has none, without documents. Fails where memory is wanting; then nothing
+    /// is changed.
     pub(crate) fn make_empty(&mut self, namespace: &str) -> Result<(), NoMemory>
+        requires { finite.get self.old namespace.now ≡ None }
         ensures ok { OnOk result (self.new ≡ with_documents namespace.now [] self.old) }
         ensures err { OnErr result (self.new ≡ self.old) }
     {
+        let collection = IndexedCollection::new(self.alloc)?;
         let namespace = String::from_str(self.alloc, namespace)?;
-        self.collections
-            .insert(namespace, Collection::new(self.alloc))?;
+        self.collections.insert(namespace, collection)?;
         Ok(())
+    }
+
+    /// Makes the indexes of the collection of a namespace that aren't there; the collection is made where it isn't there.
+    /// Refused with `ConflictingUpdateOperators` where the name or the path of one is there alone, then with `LimitReached`
+    /// where there would be more than 64, and with `WantOfMemory`; then nothing is changed, and no collection is made.
+    pub(crate) fn create_indexes(
+        &mut self,
+        namespace: &str,
+        entries: Vec<NewIndex>,
+    ) -> Result<IndexCounts, Refusal>
+        ensures made { Leaves (namespaces_so namespace.now (making.with_all (map form_of_new entries.items) (indexes_of namespace.now self.old)) self.old) self.old result self.new }
+        ensures counts { IfOk result (λ counts. counts ≡ record { before = length (indexes_of namespace.now self.old); after = length (indexes_of namespace.now self.new) }) }
+    {
+        match self.collections.get_mut(namespace) {
+            Some(collection) => create_each(self.alloc, collection, entries),
+            None => self.create_indexed(namespace, entries),
+        }
+    }
+
+    /// Makes the collection of a namespace that has none, with indexes, as `create_indexes` does.
+    fn create_indexed(
+        &mut self,
+        namespace: &str,
+        entries: Vec<NewIndex>,
+    ) -> Result<IndexCounts, Refusal>
+        requires { finite.get self.old namespace.now ≡ None }
+        ensures made { Leaves (namespaces_so namespace.now (making.with_all (map form_of_new entries.items) (indexes_of namespace.now self.old)) self.old) self.old result self.new }
+        ensures counts { IfOk result (λ counts. counts ≡ record { before = length (indexes_of namespace.now self.old); after = length (indexes_of namespace.now self.new) }) }
+    {
+        let mut collection = IndexedCollection::new(self.alloc)?;
+        let counts = create_each(self.alloc, &mut collection, entries)?;
+        let namespace = String::from_str(self.alloc, namespace)?;
+        self.collections.insert(namespace, collection)?;
+        Ok(counts)
+    }
+
+    /// Drops the index of a name of the collection of a namespace, or with `*` all but that on `_id`, and answers how many
+    /// there were. Refused with `NamespaceNotFound` where the collection isn't there, with `BadValue` for the index on `_id`,
+    /// and with `IndexNotFound` where there is none of the name; then nothing is changed.
+    pub(crate) fn drop_indexes(&mut self, namespace: &str, name: &str) -> Result<usize, Refusal>
+        ensures made { Leaves (if is_collection namespace.now self.old then namespaces_so namespace.now (making.without_named name.now (indexes_of namespace.now self.old)) self.old else Err NamespaceNotFound) self.old result self.new }
+        ensures count { IfOk result (λ count. count ≡ length (indexes_of namespace.now self.old)) }
+    {
+        let Some(collection) = self.collections.get_mut(namespace) else {
+            return Err(Refusal::NamespaceNotFound);
+        };
+        drop_named(collection, name)
     }
 
     /// Takes out the collection of a namespace. Takes no memory.

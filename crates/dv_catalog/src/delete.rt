@@ -1,39 +1,40 @@
 //! Deleting documents.
 
-ghost use Rattle.std.specs.Prelude.{◌≡◌, map, Ok, IfOk};
+ghost use Rattle.std.specs.Prelude.{◌≡◌, ◌≤◌, length, map, take, IfOk, Ok};
 ghost use Rattle.std.specs.List.{AllByRecursion};
 ghost use Rattle.dv_coll.specs.Collection.{HasId, id_key};
-ghost use Rattle.dv_command.specs.Refusals.{UnlessWanting};
 ghost use Rattle.dv_command.specs.View.{deletion_seen};
 ghost use Rattle.dv_catalog.specs.Changes.{gone, with_changes};
 ghost use Rattle.dv_catalog.specs.Effects.{delete_chosen};
 ghost use Rattle.dv_catalog.specs.EffectView.{ArePlaced, changes_seen, effect_seen};
 ghost use Rattle.dv_catalog.specs.State.{AreOrdered};
+ghost use Rattle.dv_index.specs.Indexed.{with_documents};
+ghost use Rattle.dv_pipe.specs.Sources.{referred};
 
+use crate::chosen::chosen;
 use crate::effect::{Changes, Effect};
-use crate::rows::Rows;
-use crate::scan::matching;
 use dv_bson::{Document, NoMemory};
-use dv_coll::{Collection, laws};
+use dv_coll::laws;
 use dv_command::Deletion;
+use dv_index::IndexedCollection;
 use dv_order::{Key, key_of};
 use std::alloc::Global;
 
 /// What a deletion does to the documents of a collection. Fails where memory is wanting.
 pub(crate) fn deleted(
     alloc: Global,
-    collection: &Collection,
+    collection: &IndexedCollection,
     deletion: &Deletion,
 ) -> Result<Effect, NoMemory>
-    ensures effect { IfOk result (λ effect. delete_chosen (deletion_seen deletion.now) collection.now ≡ Ok (effect_seen effect)) }
-    ensures ordered { AreOrdered collection.now }
-    ensures placed { IfOk result (λ effect. ArePlaced collection.now (changes_seen effect.changes)) }
+    ensures effect { IfOk result (λ effect. delete_chosen (deletion_seen deletion.now) collection.now.documents ≡ Ok (effect_seen effect)) }
+    ensures ordered { AreOrdered collection.now.documents }
+    ensures placed { IfOk result (λ effect. ArePlaced collection.now.documents (changes_seen effect.changes)) }
 {
-    let limit = if deletion.only_first { 1 } else { 0 };
-    let rows = Rows::of_collection(collection.iter());
-    let documents = matching(alloc, rows, &deletion.filter, 0, limit)?;
-    let keys = keys_of(alloc, &documents)?;
     laws::removed_document_is_not_found();
+    // The documents are in order, and begin with their `_id`s.
+    let _ = collection.len();
+    let documents = chosen(collection, &deletion.filter, deletion.only_first)?;
+    let keys = keys_of(alloc, &documents)?;
     Ok(Effect {
         matched: documents.len(),
         changes: Changes::Gone(keys),
@@ -41,9 +42,9 @@ pub(crate) fn deleted(
 }
 
 /// The keys of the documents' `_id`s. Fails where memory is wanting.
-fn keys_of(alloc: Global, documents: &[Document]) -> Result<Vec<Key>, NoMemory>
-    requires { AllByRecursion HasId documents.now }
-    ensures { IfOk result (λ keys. keys.items ≡ map id_key documents.now) }
+fn keys_of(alloc: Global, documents: &[&Document]) -> Result<Vec<Key>, NoMemory>
+    requires { AllByRecursion HasId (referred documents.now) }
+    ensures { IfOk result (λ keys. keys.items ≡ map id_key (referred documents.now)) }
 {
     let mut keys = Vec::with_capacity(alloc, documents.len())?;
     'documents: for document in documents {
@@ -63,11 +64,15 @@ pub(crate) fn key_of_id(document: &Document) -> Result<Key, NoMemory>
     key_of(id)
 }
 
-/// Takes out the documents under the keys. Takes no memory.
-pub(crate) fn remove_each(collection: &mut Collection, keys: &[Key])
-    ensures { collection.new ≡ with_changes collection.old (map gone keys.now) }
+/// Takes out the documents under the keys, until memory is wanting, and answers how many were taken out.
+pub(crate) fn remove_each(collection: &mut IndexedCollection, keys: &[Key]) -> usize
+    ensures count { result ≤ length keys.now }
+    ensures made { collection.new ≡ with_documents (with_changes collection.old.documents (take result (map gone keys.now))) collection.old }
 {
-    'keys: for key in keys {
-        let _ = collection.remove(key);
+    'keys: for (place, key) in keys.iter().enumerate() {
+        let Ok(_) = collection.remove(key) else {
+            return place;
+        };
     }
+    keys.len()
 }

@@ -2,17 +2,25 @@
 #![tactic(auto)]
 
 mod catalog;
+mod chosen;
 mod collections;
 mod counted;
 mod delete;
 mod effect;
+mod explained;
+mod indexing;
 pub mod laws;
 mod rows;
 mod scan;
+mod searched;
 mod sources;
+mod stopped;
 mod told;
 mod update;
 mod upkeep;
 
 pub use catalog::Catalog;
 pub use counted::Counted;
+pub use explained::{Explained, Way};
+pub use indexing::IndexCounts;
+pub use stopped::Stopped;

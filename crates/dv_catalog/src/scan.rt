@@ -2,66 +2,51 @@
 
 ghost use Rattle.std.specs.Prelude.{◌≡◌, drop, IfOk};
 ghost use Rattle.dv_command.specs.View.{sort_seen};
+ghost use Rattle.dv_catalog.specs.SearchedView.{searched};
 ghost use Rattle.dv_catalog.specs.Scan as scans;
 ghost use Rattle.dv_catalog.specs.ScanParts.{IsEnough};
+ghost use Rattle.dv_pipe.specs.Sources.{referred};
 ghost use Rattle.dv_sort.specs.Sorting.{front, stable};
 
-use crate::rows::Rows;
+use crate::searched::{Searched, first_found};
 use dv_bson::{Document, NoMemory};
 use dv_command::Find;
-use dv_match::Filter;
 use dv_path::SortSpec;
 use dv_sort::{Sorter, laws};
 use std::alloc::Global;
 
 /// The rows that a find is for, in its order. Fails where memory is wanting.
-pub(crate) fn scan(alloc: Global, rows: Rows<'_>, find: &Find) -> Result<Vec<Document>, NoMemory>
-    ensures { IfOk result (λ found. found.items ≡ scans.scan find.now.filter (sort_seen find.now.sort) find.now.skip find.now.limit rows.entry) }
+pub(crate) fn scan(
+    alloc: Global,
+    within: Searched<'_>,
+    find: &Find,
+) -> Result<Vec<Document>, NoMemory>
+    ensures { IfOk result (λ found. found.items ≡ scans.scan find.now.filter (sort_seen find.now.sort) find.now.skip find.now.limit (searched within.entry)) }
 {
-    let Some(sort) = &find.sort else {
-        laws::without_a_path();
-        return matching(alloc, rows, &find.filter, find.skip, find.limit);
-    };
-    let found = sorted(
-        alloc,
-        rows,
-        &find.filter,
-        sort,
-        most_of(find.skip, find.limit),
-    )?;
+    let most = most_of(find.skip, find.limit);
+    let found = in_order(alloc, within, find, most)?;
     Ok(window(found, find.skip, find.limit))
 }
 
-/// The rows that match the filter, in their order, without the first `skip` of them, and not more than `limit`, where 0
-/// stands for all. Looks at no row behind the last of these. Fails where memory is wanting.
-pub(crate) fn matching(
+/// The first rows that match a find's filter, in its order: `most` of them, or all. Fails where memory is wanting.
+fn in_order(
     alloc: Global,
-    rows: Rows<'_>,
-    filter: &Filter,
-    mut skip: u64,
-    limit: u64,
+    within: Searched<'_>,
+    find: &Find,
+    most: Option<usize>,
 ) -> Result<Vec<Document>, NoMemory>
-    ensures { IfOk result (λ found. found.items ≡ scans.limited limit (drop skip (scans.matching filter.now rows.entry))) }
+    ensures { IfOk result (λ found. found.items ≡ front most (stable (sort_seen find.now.sort) (scans.matching find.now.filter (searched within.entry)))) }
 {
-    let mut found = Vec::new(alloc);
-    'rows: for row in rows {
-        if !filter.matches(row) {
-            continue;
-        }
-        if skip > 0 {
-            skip -= 1;
-            continue;
-        }
-        found.push(row.try_clone()?)?;
-        // There is a row, so a limit of 0 isn't reached.
-        if found.len() as u64 == limit {
-            break;
-        }
+    if let Some(sort) = &find.sort {
+        let all = first_found(alloc, within, &find.filter, None)?;
+        return sorted(alloc, &all, sort, most);
     }
-    Ok(found)
+    laws::without_a_path();
+    let first = first_found(alloc, within, &find.filter, most)?;
+    copies(alloc, &first)
 }
 
-/// How many rows of a sort are looked at, where these many are left out and `limit` are wanted; `None` for all.
+/// How many rows are looked for, where these many are left out and `limit` are wanted; `None` for all.
 fn most_of(skip: u64, limit: u64) -> Option<usize>
     ensures { IsEnough skip limit result }
 {
@@ -71,22 +56,30 @@ fn most_of(skip: u64, limit: u64) -> Option<usize>
     skip.checked_add(limit).map(|most| most as usize)
 }
 
-/// The first rows that match the filter, in the order of the sort: `most` of them, or all. Fails where memory is wanting.
+/// The rows, which are shared. Fails where memory is wanting.
+fn copies(alloc: Global, rows: &[&Document]) -> Result<Vec<Document>, NoMemory>
+    ensures { IfOk result (λ copies. copies.items ≡ referred rows.now) }
+{
+    let mut copies = Vec::with_capacity(alloc, rows.len())?;
+    'rows: for row in rows {
+        copies.push(row.try_clone()?)?;
+    }
+    Ok(copies)
+}
+
+/// The first rows in the order of the sort: `most` of them, or all. Fails where memory is wanting.
 fn sorted(
     alloc: Global,
-    rows: Rows<'_>,
-    filter: &Filter,
+    rows: &[&Document],
     sort: &SortSpec,
     most: Option<usize>,
 ) -> Result<Vec<Document>, NoMemory>
-    ensures { IfOk result (λ found. found.items ≡ front most (stable sort.now (scans.matching filter.now rows.entry))) }
+    ensures { IfOk result (λ found. found.items ≡ front most (stable sort.now (referred rows.now))) }
 {
     laws::one_row_more();
     let mut sorter = Sorter::new(alloc, sort, most);
     'rows: for row in rows {
-        if filter.matches(row) {
-            sorter.push(row.try_clone()?)?;
-        }
+        sorter.push(row.try_clone()?)?;
     }
     sorter.into_rows()
 }

@@ -24,21 +24,17 @@ alone [] f ds e = tt
 alone (x ∷ []) f ds e = tt
 alone (x ∷ y ∷ ys) f ds e = absurd cc
 
-one-more : (P : IndexTree → Type 0) (xs : List IndexTree) (y : IndexTree) → AllByRecursion P xs → P y → AllByRecursion P (xs ++ y ∷ [])
-one-more P [] y h p = (p, tt)
-one-more P (x ∷ xs) y h p = (h.0, one-more P xs y h.1 p)
+all-more : (P : IndexTree → Type 0) (xs ys : List IndexTree) → AllByRecursion P xs → AllByRecursion P ys → AllByRecursion P (xs ++ ys)
+all-more P [] ys h p = p
+all-more P (x ∷ xs) ys h p = (h.0, all-more P xs ys h.1 p)
 
-pub index-pushed : (xs : List IndexTree) (y : IndexTree) (ds : List (List Field)) → BeginsWithId xs → AreIndexesOf xs ds → IsIndexOf y ds → AreIndexesOf (xs ++ y ∷ []) ds
-index-pushed [] y ds b h p = absurd b
-index-pushed (x ∷ xs) y ds b h p = one-more (λ z. IsIndexOf z ds) xs y h p
+pub indexes-more : (xs ys : List IndexTree) (ds : List (List Field)) → BeginsWithId xs → AreIndexesOf xs ds → AllByRecursion (λ y. IsIndexOf y ds) ys → AreIndexesOf (xs ++ ys) ds
+indexes-more [] ys ds b h p = absurd b
+indexes-more (x ∷ xs) ys ds b h p = all-more (λ z. IsIndexOf z ds) xs ys h p
 
-pub still-begins : (xs : List IndexTree) (y : IndexTree) → BeginsWithId xs → BeginsWithId (xs ++ y ∷ [])
-still-begins [] y b = absurd b
-still-begins (x ∷ xs) y b = b
-
-pub forms-pushed : (xs : List IndexTree) (y : IndexTree) → map form_of (xs ++ y ∷ []) ≡ map form_of xs ++ form_of y ∷ []
-forms-pushed [] y = refl
-forms-pushed (x ∷ xs) y = ap (λ fs. form_of x ∷ fs) (forms-pushed xs y)
+pub still-begins : (xs ys : List IndexTree) → BeginsWithId xs → BeginsWithId (xs ++ ys)
+still-begins [] ys b = absurd b
+still-begins (x ∷ xs) ys b = b
 
 module _ (name : List ℕ) where
   stays : IndexTree → Bool

@@ -1,5 +1,5 @@
 -- Tests of lists, and of keys, which compare equal either way round.
-use Rattle.std.proofs.Common.{Bor, filter, ◌≡◌, ℕ, zero, suc, ◌+◌, ◌<◌, List, [], ◌∷◌, length, map, take, get_or, refl, ap, sym, ◌∙◌, arith, Bool, true, false, cond, ◌||◌, add-one}
+use Rattle.std.proofs.Common.{Bor, filter, ◌≡◌, ℕ, zero, suc, ◌+◌, ◌<◌, ◌≤◌, List, [], ◌∷◌, length, map, take, get_or, refl, ap, sym, ◌∙◌, arith, Bool, true, false, cond, ◌||◌, add-one}
 use Rattle.std.specs.List.{list_any, flat_map}
 use Rattle.std.specs.Cmp.{eq_by_cmp_equiv}
 use Rattle.std.specs.Ordering.{is_eq}
@@ -65,3 +65,12 @@ map-kept {X = X} p (x ∷ xs) = at (p x.now) (map-kept p xs)
 pub length-lent : {X : Type 0} (xs : List (Bor X)) → length (map (λ (x : Bor X). x.now) xs) ≡ length xs
 length-lent [] = refl
 length-lent (x ∷ xs) = ap suc (length-lent xs)
+
+-- no more are kept than there are
+pub length-kept : {X : Type 0} (p : X → Bool) (xs : List X) → length (filter p xs) ≤ length xs
+length-kept p [] = omega arith
+length-kept p (x ∷ xs) = at (p x) (length-kept p xs)
+  where
+    at : (b : Bool) → length (filter p xs) ≤ length xs → length (cond b (x ∷ filter p xs) (filter p xs)) ≤ length (x ∷ xs)
+    at true h = omega arith
+    at false h = omega arith

@@ -1,8 +1,11 @@
--- What a plan in memory stands for: the place of an index and the condition that bounds its keys, or none, for a scan.
+-- What a plan in memory stands for: the place of an index and the condition that bounds its keys, or none, for a scan. And what an index
+-- is that isn't made yet.
 use Rattle.std.specs.Prelude.{ℕ, Bool, Option, Some, None}
 use Rattle.dv_bson.specs.View.{tree}
 use Rattle.dv_match.specs.Filter.{Condition, equal, among, in_range}
 use Rattle.dv_index.specs.Choice.{is_point, is_bound}
+use Rattle.dv_index.specs.Index.{IndexForm}
+use Rattle.dv_index.specs.declared.indexes.NewIndex.{NewIndex}
 use Rattle.dv_index.specs.declared.plan.Bounds.{Bounds}
 use Rattle.dv_index.specs.declared.plan.Bounds.TheVariants as bounds
 use Rattle.dv_index.specs.declared.plan.Plan.{Plan}
@@ -22,3 +25,6 @@ plan_seen (plans.Index place b) = Some (place, bounds_seen b)
 abbrev pub has_kind : Kind → Condition → Bool
 has_kind kinds.Point = is_point
 has_kind kinds.Bound = is_bound
+
+abbrev pub form_of_new : NewIndex → IndexForm
+form_of_new x = record { name = x.name; path = x.path }

@@ -1,6 +1,6 @@
 //! A collection with its indexes.
 
-ghost use Rattle.std.specs.Prelude.{◌≡◌, ◌↔◌, ◌||◌, ◌&&◌, ◌++◌, ◌∷◌, [], None, filter as kept, is_some, length, map, IfOk, IsErrOf, IsSome, IsTrue, OnErr, OnOk};
+ghost use Rattle.std.specs.Prelude.{◌≡◌, ◌↔◌, ◌||◌, ◌&&◌, ◌++◌, ◌∷◌, [], None, filter as kept, is_some, length, map, take, IfOk, IsErrOf, IsSome, IsTrue, OnErr, OnOk};
 ghost use Rattle.std.specs.List.{AllByRecursion, list_any};
 ghost use Rattle.std.specs.Option.{option_map};
 ghost use Rattle.dv_coll.specs.Collection.{HasId, IsAscending, found, id_key, inserted, removed, replaced};
@@ -10,19 +10,19 @@ ghost use Rattle.dv_order.specs.Key.{KeyTree, key_order};
 ghost use Rattle.dv_index.specs.Keys.{is_leaf_key};
 ghost use Rattle.dv_index.specs.Change.{IsChangeOf, IsTaken, documents_after};
 ghost use Rattle.dv_index.specs.Index.{form_of, id_form};
+ghost use Rattle.dv_index.specs.View.{form_of_new, plan_seen};
 ghost use Rattle.dv_index.specs.Indexed.{empty_indexed, is_dropped, with_documents, with_indexes, without_index};
 ghost use Rattle.dv_index.specs.Pairs.{has_pair};
-ghost use Rattle.dv_index.specs.Search.{is_key_under};
-ghost use Rattle.dv_index.specs.View.{plan_seen};
+ghost use Rattle.dv_index.specs.Search.{IsIndexOf, is_key_under};
 ghost use Rattle.dv_index.specs.Indexed as defined;
 
 use crate::change::{Change, key_of_id};
 use crate::coverage::covered;
-use crate::indexes::{Index, Indexes};
+use crate::indexes::{Index, Indexes, NewIndex};
 use crate::keys::keys_of;
 use crate::multi_index::MultiIndex;
 use crate::plan::{Plan, Planner};
-use crate::search::run;
+use crate::search::{run, run_first};
 use dv_bson::{Document, NoMemory, Str};
 use dv_coll::{Collection, InsertFault, Iter};
 use dv_match::Filter;
@@ -163,14 +163,15 @@ impl IndexedCollection {
         self.indexes.as_slice()
     }
 
-    /// Makes an index on a path, behind the others. That neither the name nor the path is there already is for the caller to
-    /// see. Fails where memory is wanting; then nothing is changed.
-    pub fn create_index(&mut self, name: Str, path: Path) -> Result<(), NoMemory>
-        ensures ok { OnOk result (self.new ≡ with_indexes (self.old.indexes ++ record { name = name; path = path } ∷ []) self.old) }
+    /// Makes indexes, behind the others in this order. That neither the name nor the path of one is there already is for the
+    /// caller to see. Takes time as the keys of all documents want to be put in order. Fails where memory is wanting; then
+    /// none is made.
+    pub fn create_indexes(&mut self, wanted: Vec<NewIndex>) -> Result<(), NoMemory>
+        ensures ok { OnOk result (self.new ≡ with_indexes (self.old.indexes ++ map form_of_new wanted.items) self.old) }
         ensures err { OnErr result (self.new ≡ self.old) }
     {
-        let pairs = pairs_of(self.alloc, &path, &self.documents)?;
-        self.indexes.push(Index::of(name, path, pairs))
+        let made = indexes_over(self.alloc, wanted, &self.documents)?;
+        self.indexes.append(made)
     }
 
     /// Takes out the index of a name, but never the one on `_id`, and answers whether there is one. Takes no memory.
@@ -195,6 +196,22 @@ impl IndexedCollection {
     {
         let plan = Planner::choose(filter, &self.indexes);
         run(self.alloc, &plan, filter, &self.documents, &self.indexes)
+    }
+
+    /// The first documents that match the filter, in the order of their `_id`s, and not more than `most`. Where all documents
+    /// are looked at, no document behind the last of these is. Fails where memory is wanting.
+    pub fn find_first(&self, filter: &Filter, most: usize) -> Result<Vec<&Document>, NoMemory>
+        ensures { IfOk result (λ found. map (λ d. d.now) found.items ≡ take most (kept (λ d. matches filter.now d) self.now.documents)) }
+    {
+        let plan = Planner::choose(filter, &self.indexes);
+        run_first(
+            self.alloc,
+            &plan,
+            filter,
+            &self.documents,
+            &self.indexes,
+            most,
+        )
     }
 
     /// By which index a find is answered, and how many documents it covers. Fails where memory is wanting.
@@ -222,6 +239,32 @@ impl IndexedCollection {
             Err(InsertFault::Duplicate) => unreachable!(),
         }
     }
+}
+
+/// Indexes over all documents, in the order in which they are wanted. Fails where memory is wanting.
+fn indexes_over(
+    alloc: Global,
+    wanted: Vec<NewIndex>,
+    documents: &Collection,
+) -> Result<Vec<Index>, NoMemory>
+    ensures forms { IfOk result (λ made. map form_of made.items ≡ map form_of_new wanted.items) }
+    ensures indexes { IfOk result (λ made. AllByRecursion (λ x. IsIndexOf x documents.now) made.items) }
+{
+    let mut made = Vec::with_capacity(alloc, wanted.len())?;
+    'wanted: for index in wanted {
+        made.push(index_over(alloc, index, documents)?)?;
+    }
+    Ok(made)
+}
+
+/// An index over all documents. Fails where memory is wanting.
+fn index_over(alloc: Global, wanted: NewIndex, documents: &Collection) -> Result<Index, NoMemory>
+    ensures form { IfOk result (λ index. form_of index ≡ form_of_new wanted) }
+    ensures index { IfOk result (λ index. IsIndexOf index documents.now) }
+{
+    let NewIndex { name, path } = wanted;
+    let pairs = pairs_of(alloc, &path, documents)?;
+    Ok(Index::of(name, path, pairs))
 }
 
 /// The pairs of the keys of all documents under a path, each with its document's `_id`. Fails where memory is wanting.

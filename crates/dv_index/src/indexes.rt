@@ -89,6 +89,13 @@ impl Index {
     }
 }
 
+/// An index that isn't made yet: its name and its path.
+#[derive(Debug, Drop)]
+pub struct NewIndex {
+    pub name: Str,
+    pub path: Path,
+}
+
 /// The indexes of a collection in creation order, the one on `_id` first.
 #[derive(Debug, Drop)]
 pub struct Indexes {
@@ -139,13 +146,13 @@ impl Indexes {
         self.indexes.as_slice()
     }
 
-    /// Puts an index behind the others. Where memory is wanting, nothing changes, and the index is dropped.
-    pub fn push(&mut self, index: Index) -> Result<(), NoMemory>
-        ensures ok { OnOk result (self.new ≡ self.old ++ index ∷ []) }
+    /// Puts indexes behind the others. Where memory is wanting, nothing changes, and they are dropped.
+    pub fn append(&mut self, mut more: Vec<Index>) -> Result<(), NoMemory>
+        ensures ok { OnOk result (self.new ≡ self.old ++ more.items) }
         ensures err { OnErr result (self.new ≡ self.old) }
         ensures id_first { BeginsWithId self.old }
     {
-        Ok(self.indexes.push(index)?)
+        self.indexes.append(&mut more)
     }
 
     /// Takes out the indexes of a name, but never the one on `_id`, and answers whether there is one. Takes no memory.

@@ -14,8 +14,8 @@ mod search;
 
 pub use coverage::covered;
 pub use indexed::{Explanation, IndexedCollection};
-pub use indexes::{Index, Indexes};
+pub use indexes::{Index, Indexes, NewIndex};
 pub use keys::{Keys, keys_of};
 pub use multi_index::MultiIndex;
-pub use plan::{Bounds, Plan, Planner};
+pub use plan::{Bounds, Plan, Planner, same_path};
 pub use search::run;

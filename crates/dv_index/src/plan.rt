@@ -136,7 +136,8 @@ fn bounds_of<'f>(wanted: &'f Condition, kind: Kind) -> Option<Bounds<'f>>
     }
 }
 
-fn same_path(first: &[Component], second: &[Component]) -> bool
+/// Whether two paths, by their components, are the same. Takes no memory.
+pub fn same_path(first: &[Component], second: &[Component]) -> bool
     ensures { result ≡ choices.same_path first.now second.now }
 {
     let mut rest = second;

@@ -1,6 +1,6 @@
 //! The documents that a plan finds.
 
-ghost use Rattle.std.specs.Prelude.{◌≡◌, Bool, true, List as Sequence, map, filter as kept, IfOk, OnOk};
+ghost use Rattle.std.specs.Prelude.{◌≡◌, Bool, true, List as Sequence, map, take, filter as kept, IfOk, OnOk};
 ghost use Rattle.dv_bson.specs.Tree.{Field};
 ghost use Rattle.dv_match.specs.Match.{matches};
 ghost use Rattle.dv_index.specs.Choice.{chosen};
@@ -40,39 +40,66 @@ pub fn run<'c>(
     requires planned { plan_seen plan.now ≡ chosen filter.now (map (λ i. i.path) indexes.now) }
     ensures { IfOk result (λ found. map (λ d. d.now) found.items ≡ kept (λ d. matches filter.now d) collection.now) }
 {
+    // No more documents match than there are.
+    run_first(alloc, plan, filter, collection, indexes, collection.len())
+}
+
+/// The first documents that match the filter, as `run` finds them, and not more than `most`. A scan ends at the last of
+/// these.
+pub(crate) fn run_first<'c>(
+    alloc: Global,
+    plan: &Plan<'_>,
+    filter: &Filter,
+    collection: &'c Collection,
+    indexes: &Indexes,
+    most: usize,
+) -> Result<Vec<&'c Document>, NoMemory>
+    requires indexed { AreIndexesOf indexes.now collection.now }
+    requires planned { plan_seen plan.now ≡ chosen filter.now (map (λ i. i.path) indexes.now) }
+    ensures { IfOk result (λ found. map (λ d. d.now) found.items ≡ take most (kept (λ d. matches filter.now d) collection.now)) }
+{
     if let Plan::Index { place, bounds } = *plan {
         if let Some(index) = indexes.get(place) {
             let found = candidates(alloc, place, index, bounds, collection)?;
-            return matching(alloc, &found, filter);
+            return matching(alloc, &found, filter, most);
         }
     }
-    scan(alloc, filter, collection)
+    scan(alloc, filter, collection, most)
 }
 
 fn scan<'c>(
     alloc: Global,
     filter: &Filter,
     collection: &'c Collection,
+    most: usize,
 ) -> Result<Vec<&'c Document>, NoMemory>
-    ensures { IfOk result (λ found. map (λ d. d.now) found.items ≡ kept (λ d. matches filter.now d) collection.now) }
+    ensures { IfOk result (λ found. map (λ d. d.now) found.items ≡ take most (kept (λ d. matches filter.now d) collection.now)) }
 {
-    collection
-        .iter()
-        .filter(|document| filter.matches(document))
-        .collect(alloc)
+    let mut found = Vec::new(alloc);
+    'documents: for document in collection.iter() {
+        if found.len() == most {
+            return Ok(found);
+        }
+        if filter.matches(document) {
+            found.push(document)?;
+        }
+    }
+    Ok(found)
 }
 
 fn matching<'c>(
     alloc: Global,
     documents: &[&'c Document],
     filter: &Filter,
+    most: usize,
 ) -> Result<Vec<&'c Document>, NoMemory>
-    ensures { IfOk result (λ found. found.items ≡ kept (λ d. matches filter.now d.now) documents.now) }
+    ensures { IfOk result (λ found. found.items ≡ take most (kept (λ d. matches filter.now d.now) documents.now)) }
 {
     documents
         .iter()
         .copied()
         .filter(|document| filter.matches(document))
+        .take(most)
         .collect(alloc)
 }
 

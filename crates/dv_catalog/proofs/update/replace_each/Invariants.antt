@@ -1,12 +1,14 @@
-use Rattle.std.proofs.Common.{◌≡◌, map}
+use Rattle.std.proofs.Common.{◌≡◌, length, map}
 use Rattle.std.specs.Vec.Iter.{into_iter_items}
-use Rattle.dv_catalog.specs.Changes.{put, with_changes}
+use Rattle.dv_catalog.specs.Changes.{put}
 use Rattle.dv_catalog.specs.EffectView.{ArePlaced}
+use Rattle.dv_catalog.proofs.Stopping.{AreMadeSoFar}
 use Rattle.dv_catalog.proofs.update.replace_each.Given as goal
 
--- what is left to be put, into what is there now
+-- what was put so far, and what is left to be put into what is there now
 abbrev pub invariant-documents : goal.invariant-documents
 invariant-documents l = record {
-  replaced : with_changes l.collection (map put (into_iter_items l.document-iterator)) ≡ with_changes l.fn.collection (map put l.fn.documents.items);
-  placed : ArePlaced l.collection (map put (into_iter_items l.document-iterator));
+  made : AreMadeSoFar put l.fn.collection l.fn.documents.items l.made (into_iter_items l.document-iterator) l.collection;
+  placed : ArePlaced l.collection.documents (map put (into_iter_items l.document-iterator));
+  all : l.count ≡ length l.fn.documents.items;
 }

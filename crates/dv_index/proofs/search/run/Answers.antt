@@ -1,23 +1,13 @@
-use Rattle.std.proofs.Common.{Bor, ◌≡◌, ◌∙◌, List, ap, sym, filter, map, Some, slice_get}
+use Rattle.std.proofs.Common.{◌≡◌, ◌≤◌, ◌∙◌, List, ap, sym, filter, length, map, take}
+use Rattle.std.proofs.lemmas.List.{take_all}
 use Rattle.std.proofs.lemmas.Result.{IfOk-weaker}
 use Rattle.dv_bson.specs.Tree.{Field}
 use Rattle.dv_match.specs.Match.{matches}
-use Rattle.dv_index.specs.View.{bounds_seen, plan_seen}
-use Rattle.dv_index.proofs.Lists.{map-kept}
-use Rattle.dv_index.proofs.Places.{index-at}
-use Rattle.dv_index.proofs.Sound.{chosen-within}
+use Rattle.dv_index.proofs.Lists.{length-kept}
 use Rattle.dv_index.proofs.search.run.Goals as goal
 
-pub candidates-requires : goal.candidates-requires
-candidates-requires c = index-at c.args.indexes.now c.in-Index.place c.in-Some.index.now c.args.collection.now c.requires.indexed c.get.ensures.id_first (sym c.in-Some.ensures.index)
-
-pub returns-in-Some : goal.returns-in-Some
-returns-in-Some c =
-    let now = λ (x : Bor (List Field)). x.now in
+pub returns : goal.returns
+returns c =
     let test = matches c.args.filter.now in
-    let there : slice_get c.args.indexes.now c.in-Index.place ≡ Some c.in-Some.index.now = sym c.in-Some.ensures.index in
-    IfOk-weaker c.matching.result _ _ (λ found is.
-    ap (map now) is
-    ∙ map-kept test c.deref.result.now
-    ∙ ap (λ xs. filter test (map now xs)) c.deref.ensures.value
-    ∙ c.in_ok-found.ensures test (λ d h. chosen-within c.args.filter.now c.args.indexes.now c.in-Index.place (bounds_seen c.in-Index.bounds) c.in-Some.index.now d (sym c.requires.planned ∙ ap plan_seen c.in-Index.is) there h)) c.matching.ensures
+    let ds = c.args.collection.now in
+    IfOk-weaker c.run_first.result _ _ (λ found is. is ∙ ap (λ n. take n (filter test ds)) c.len.ensures.count ∙ take_all (length ds) (filter test ds) (length-kept test ds)) c.run_first.ensures

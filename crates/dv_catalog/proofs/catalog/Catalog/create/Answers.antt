@@ -5,7 +5,7 @@ use Rattle.dv_command.specs.View.{view_on_seen}
 use Rattle.dv_views.specs.Views.{has_view}
 use Rattle.dv_catalog.specs.CatalogParts.{state_of}
 use Rattle.dv_catalog.specs.State.{is_collection, is_there}
-use Rattle.dv_catalog.proofs.Kept.{created_is_made, is_free, is_taken, kept_empty, not_created}
+use Rattle.dv_catalog.proofs.Kept.{created_is_made, is_free, is_taken, kept_empty, not_created, not_there}
 use Rattle.dv_catalog.proofs.catalog.Catalog.create.Goals as goal
 use Rattle.dv_catalog.proofs.catalog.Catalog.create.Goals.{then-has-via-then-has, then-has-via-else-has+then-has-2}
 
@@ -24,7 +24,7 @@ invariant_of-self-in-None c =
     let name = string_bytes c.args.create.namespace in
     let none = sym (rw c.deref.ensures at c.has.ensures) ∙ c.if-has.false in
     let no_view = sym (rw c.deref-else-has.ensures at c.has-else-has.ensures) ∙ c.if-has-2.false in
-    rw (rw c.deref-in-None.ensures at c.in_ok-make_empty-in-None.ensures.ok) (kept_empty c.what_is_not_read_does_not_matter.ensures name c.self.inside.collections c.self.inside.views none no_view c.self.invariant)
+    rw (rw c.deref-in-None.ensures at c.in_ok-make_empty-in-None.ensures.ok) (kept_empty c.what_is_not_read_does_not_matter.ensures name c.self.inside.collections c.self.inside.views (not_there _ none) no_view c.self.invariant)
 
 pub returns-in-None : goal.returns-in-None
 returns-in-None c =

@@ -1,11 +1,11 @@
-use Rattle.std.proofs.Common.{◌≡◌, Bor, List, Option, Some, None, refl}
+use Rattle.std.proofs.Common.{◌≡◌, Bor, Option, Some, None, refl}
 use Rattle.std.specs.Option.{option_map, option_copied}
-use Rattle.dv_bson.specs.Tree.{Field}
+use Rattle.dv_catalog.specs.State.{Collection}
 use Rattle.dv_catalog.specs.View.{standing_seen}
 use Rattle.dv_catalog.proofs.ByNamespace.{get-standing}
 use Rattle.dv_catalog.proofs.collections.Collections.get.Goals as goal
 
-seen_copied : (there : Option (Bor (List (List Field)))) → option_map (λ c. standing_seen c.now) there ≡ option_map standing_seen (option_copied there)
+seen_copied : (there : Option (Bor Collection)) → option_map (λ c. standing_seen c.now) there ≡ option_map standing_seen (option_copied there)
 seen_copied None = refl
 seen_copied (Some c) = refl
 

@@ -1,0 +1,31 @@
+use Rattle.std.proofs.Common.{inl, inr, take, sym, ap, ◌∙◌}
+use Rattle.dv_catalog.specs.EffectView.{changes_seen}
+use Rattle.dv_catalog.specs.State.{Namespaces, documents_of}
+use Rattle.dv_catalog.proofs.Keeping.{AreTold, all_able, all_begin, collections_after, documents_after, kept_after, same_forms, told_first}
+use Rattle.dv_catalog.proofs.Stopping.{first_placed}
+use Rattle.dv_catalog.proofs.catalog.Catalog.make.Goals as goal
+use Rattle.dv_catalog.proofs.catalog.Catalog.make.Goals.{then-is_read+in_ok-told, else-is_read}
+
+pub told-requires : goal.told-requires
+told-requires c = all_begin _ (changes_seen c.args.changes) c.requires.placed
+
+pub invariant_of-self : goal.invariant_of-self
+invariant_of-self c =
+    let old = c.self.inside.collections in
+    let before = c.self.inside.views in
+    let name = c.args.namespace.now in
+    let changes = changes_seen c.args.changes in
+    let made = take c.make-done.result changes in
+    let told : AreTold name before changes c.if-is_read.told.items =
+    elim c.if-is_read.branch [
+      | then-is_read+in_ok-told w ↦ inl (rw w.told-is w.in_ok-told.ensures)
+      | else-is_read w ↦ inr (rw w.told-is w.new-told.ensures.items, sym c.is_read.ensures ∙ w.if-is_read.false)
+    ] in
+    let first : AreTold name before made c.truncate.new.self.items = rw c.truncate.ensures.items (told_first c.make-done.result name before changes c.if-is_read.told.items told) in
+    let placed = first_placed (documents_of name old) changes c.make-done.result (rw (← c.self.view_is) at c.requires.placed) in
+    kept_after c.told_changes_are_made.ensures c.what_is_not_read_does_not_matter.ensures old c.make-done.new.self before c.apply.new.self name made c.truncate.new.self.items c.self.invariant (rw (← c.self.view_is) at c.requires.ordered)
+    (all_able (documents_of name old) made placed) (λ n. ap (λ (ns : Namespaces). documents_of n ns) c.make-done.ensures.made ∙ documents_after old name made n) first (rw c.deref.ensures.value at c.apply.ensures.right)
+    c.apply.ensures.others (rw (← c.self.view_is) at c.requires.collection) (λ n e. collections_after old name made n (rw c.make-done.ensures.made at e))
+
+pub returns-clause-views : goal.returns-clause-views
+returns-clause-views c = rw (← c.self.view_is) (same_forms c.args.namespace.now c.self.inside.views c.apply.new.self c.apply.ensures.others)

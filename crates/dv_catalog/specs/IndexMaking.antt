@@ -1,0 +1,110 @@
+-- Making indexes, dropping them, and telling by which one a find is answered (MongoDB manual, "createIndexes", "dropIndexes",
+-- "explain"). The limit, the order of refusals, and that an entry is refused where its name or its path alone is there, are this server's
+-- own.
+use Rattle.std.specs.Prelude.{◌&&◌, ◌||◌, Bool, ℕ, List, [], ◌∷◌, ◌++◌, Option, Some, None, Result, Ok, Err, codes, length, nat_lt, if◌then◌else◌}
+use Rattle.std.specs.FinMap as finite
+use Rattle.std.specs.List.{list_any}
+use Rattle.std.specs.Str.{bytes_eq}
+use Rattle.dv_fields.specs.declared.refusal.Refusal.{Refusal}
+use Rattle.dv_fields.specs.declared.refusal.Refusal.TheVariants.{BadValue, NamespaceNotFound, IndexNotFound, ConflictingUpdateOperators, OnView, LimitReached}
+use Rattle.dv_fields.specs.Refusals.{◌>>=◌}
+use Rattle.dv_index.specs.Choice.{same_path}
+use Rattle.dv_index.specs.Index.{IndexForm, id_form}
+use Rattle.dv_index.specs.Indexed.{documents_covered, index_chosen, is_dropped, without_index}
+use Rattle.dv_match.specs.Filter.{Members}
+use Rattle.dv_catalog.specs.State.{Collection, Standing, State, collection, indexes_of, is_collection, is_view, rows_of, with_indexes}
+
+-- how many indexes a collection has at most, that on `_id` among them
+abbrev pub index_limit : ℕ
+index_limit = 64
+
+abbrev pub is_same : IndexForm → IndexForm → Bool
+is_same x y = bytes_eq x.name y.name && same_path x.path y.path
+
+-- whether they share a name or a path
+abbrev pub is_alike : IndexForm → IndexForm → Bool
+is_alike x y = bytes_eq x.name y.name || same_path x.path y.path
+
+-- whether nothing is to be made for an entry: it is on `_id`, or its index is there
+abbrev pub is_made : IndexForm → List IndexForm → Bool
+is_made x indexes = same_path x.path id_form.path || list_any (is_same x) indexes
+
+-- ---- making
+
+-- the indexes and one more where it isn't there; refused where its name or its path alone is
+abbrev pub with_index : IndexForm → List IndexForm → Result (List IndexForm) Refusal
+with_index x indexes =
+    if is_made x indexes then Ok indexes
+    else if list_any (is_alike x) indexes then Err ConflictingUpdateOperators
+    else Ok (indexes ++ x ∷ [])
+
+-- entry by entry; an index that an earlier entry makes counts as there
+abbrev pub with_entries : List IndexForm → List IndexForm → Result (List IndexForm) Refusal
+with_entries [] indexes = Ok indexes
+with_entries (x ∷ xs) indexes = with_index x indexes >>= λ more. with_entries xs more
+
+abbrev pub within_limit : List IndexForm → Result (List IndexForm) Refusal
+within_limit indexes = if nat_lt index_limit (length indexes) then Err LimitReached else Ok indexes
+
+-- all entries, or why none is made
+abbrev pub with_all : List IndexForm → List IndexForm → Result (List IndexForm) Refusal
+with_all entries indexes = with_entries entries indexes >>= within_limit
+
+-- ---- dropping
+
+-- the indexes but the one of a name, or, for a star, all but that on `_id`, which can't be dropped
+abbrev pub without_named : List ℕ → List IndexForm → Result (List IndexForm) Refusal
+without_named name indexes =
+    if bytes_eq name (codes "*") then Ok (id_form ∷ [])
+    else if bytes_eq name id_form.name then Err BadValue
+    else if list_any (is_dropped name) indexes then Ok (without_index name indexes)
+    else Err IndexNotFound
+
+-- ---- commands
+
+-- with the indexes that are made of those of a namespace, if they are
+abbrev pub with_indexes_so : List ℕ → Result (List IndexForm) Refusal → State → Result State Refusal
+with_indexes_so namespace made state = made >>= λ indexes. Ok (record state { namespaces = with_indexes namespace indexes state.namespaces })
+
+-- the state with these indexes; the collection is made where it isn't there. Refused on a view
+abbrev pub indexes_created : List ℕ → List IndexForm → State → Result State Refusal
+indexes_created namespace entries state =
+    if is_view namespace state.views then Err OnView
+    else with_indexes_so namespace (with_all entries (indexes_of namespace state.namespaces)) state
+
+-- the state without these indexes. Refused on a view, and where nothing stands under the namespace
+abbrev pub indexes_dropped : List ℕ → List ℕ → State → Result State Refusal
+indexes_dropped namespace name state =
+    if is_view namespace state.views then Err OnView
+    else if is_collection namespace state.namespaces then with_indexes_so namespace (without_named name (indexes_of namespace state.namespaces)) state
+    else Err NamespaceNotFound
+
+-- ---- explaining
+
+-- how rows are found: those of a view, by the index of a name, or by looking at all documents
+pub data Way : Type 0 where
+  over_view : Way
+  by_index : List ℕ → Way
+  over_all : Way
+
+-- and how many of them are looked at
+pub record Explained : Type 0 where
+  pub way : Way
+  pub documents : ℕ
+
+abbrev pub way_by : Option (List ℕ) → Way
+way_by None = over_all
+way_by (Some name) = by_index name
+
+abbrev pub explained_of : Members → Collection → Explained
+explained_of filter c = record { way = way_by (index_chosen filter c.indexes); documents = documents_covered filter c }
+
+-- none are looked at where nothing stands
+abbrev pub explained_at : Members → Option Standing → Explained
+explained_at filter None = record { way = over_all; documents = 0 }
+explained_at filter (Some (collection c)) = explained_of filter c
+
+abbrev pub explained : List ℕ → Members → State → Explained
+explained namespace filter state =
+    if is_view namespace state.views then record { way = over_view; documents = length (rows_of namespace state) }
+    else explained_at filter (finite.get state.namespaces namespace)

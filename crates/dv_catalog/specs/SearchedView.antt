@@ -1,0 +1,9 @@
+-- What stands in memory for what a find looks through.
+use Rattle.std.specs.Prelude.{List}
+use Rattle.dv_bson.specs.Tree.{Field}
+use Rattle.dv_catalog.specs.declared.searched.Searched.{Searched}
+use Rattle.dv_catalog.specs.declared.searched.Searched.TheVariants.{Collection, Rows}
+
+abbrev pub searched : Searched → List (List Field)
+searched (Collection c) = c.now.documents
+searched (Rows others) = others

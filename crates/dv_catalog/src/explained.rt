@@ -1,0 +1,81 @@
+//! How a find is answered.
+
+ghost use Rattle.std.specs.Prelude.{◌≡◌, length, IfOk};
+ghost use Rattle.std.specs.FinMap as finite;
+ghost use Rattle.dv_catalog.specs.IndexMaking as making;
+ghost use Rattle.dv_catalog.specs.IndexParts.{explained_seen};
+
+use crate::collections::Collections;
+use dv_bson::NoMemory;
+use dv_index::IndexedCollection;
+use dv_match::Filter;
+use dv_views::Rows;
+use std::alloc::Global;
+
+/// How rows are found.
+#[derive(Debug, Drop)]
+pub enum Way {
+    /// They are those of a view.
+    View,
+    /// By the index of this name.
+    Index(String),
+    /// By looking at all documents.
+    All,
+}
+
+/// How the rows of a find are found.
+#[derive(Debug, Drop)]
+pub struct Explained {
+    pub way: Way,
+    /// How many documents or rows are looked at; by an index those that have a leaf in the bounds in which it is looked at,
+    /// Missing counting as null.
+    pub documents: usize,
+}
+
+/// How the rows of a view are found.
+pub(crate) fn explained_view(rows: Rows<'_>) -> Explained
+    ensures { explained_seen result ≡ record { way = making.over_view; documents = length rows.entry } }
+{
+    Explained {
+        way: Way::View,
+        documents: rows.count(),
+    }
+}
+
+/// How documents are found in the collection of a namespace, by looking at none where it isn't there. Fails where memory is
+/// wanting.
+pub(crate) fn explained_in(
+    alloc: Global,
+    collections: &Collections,
+    namespace: &str,
+    filter: &Filter,
+) -> Result<Explained, NoMemory>
+    ensures { IfOk result (λ told. explained_seen told ≡ making.explained_at filter.now (finite.get collections.now namespace.now)) }
+{
+    match collections.get(namespace) {
+        Some(collection) => explained_of(alloc, collection, filter),
+        None => Ok(Explained {
+            way: Way::All,
+            documents: 0,
+        }),
+    }
+}
+
+/// How documents of a collection are found. Fails where memory is wanting.
+fn explained_of(
+    alloc: Global,
+    collection: &IndexedCollection,
+    filter: &Filter,
+) -> Result<Explained, NoMemory>
+    ensures { IfOk result (λ told. explained_seen told ≡ making.explained_of filter.now collection.now) }
+{
+    let explanation = collection.explain(filter)?;
+    let way = match explanation.index {
+        Some(name) => Way::Index(String::from_str(alloc, name)?),
+        None => Way::All,
+    };
+    Ok(Explained {
+        way,
+        documents: explanation.documents,
+    })
+}

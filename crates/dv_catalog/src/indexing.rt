@@ -1,0 +1,175 @@
+//! Making the indexes of a collection, and dropping them.
+
+ghost use Rattle.std.specs.Prelude.{◌≡◌, ◌++◌, ◌||◌, map, length, IfOk};
+ghost use Rattle.std.specs.List.{list_any};
+ghost use Rattle.dv_fields.specs.Refusals.{UnlessWanting};
+ghost use Rattle.dv_index.specs.Choice.{same_path as is_same_path};
+ghost use Rattle.dv_index.specs.Index.{form_of, id_form};
+ghost use Rattle.dv_index.specs.View.{form_of_new};
+ghost use Rattle.dv_catalog.specs.IndexMaking as making;
+ghost use Rattle.dv_catalog.specs.IndexParts.{collection_so};
+ghost use Rattle.dv_catalog.specs.Parts.{Leaves};
+
+use dv_command::Refusal;
+use dv_index::{Index, IndexedCollection, NewIndex, same_path};
+use dv_path::Path;
+use std::alloc::Global;
+
+/// How many indexes a collection has at most, that on `_id` among them.
+const INDEX_LIMIT: usize = 64;
+
+/// How many indexes a collection had, and how many it has.
+#[derive(Clone, Copy, Debug)]
+pub struct IndexCounts {
+    pub before: usize,
+    pub after: usize,
+}
+
+/// Makes the indexes of a collection that aren't there. Refused with `ConflictingUpdateOperators` where the name or the path
+/// of one is there alone, then with `LimitReached` where there would be more than 64, and with `WantOfMemory`; then none is
+/// made.
+pub(crate) fn create_each(
+    alloc: Global,
+    collection: &mut IndexedCollection,
+    entries: Vec<NewIndex>,
+) -> Result<IndexCounts, Refusal>
+    ensures made { Leaves (collection_so collection.old (making.with_all (map form_of_new entries.items) collection.old.indexes)) collection.old result collection.new }
+    ensures counts { IfOk result (λ counts. counts ≡ record { before = length collection.old.indexes; after = length collection.new.indexes }) }
+{
+    let before = collection.indexes().len();
+    let fresh = fresh_among(alloc, collection.indexes(), entries)?;
+    let more = fresh.len();
+    if before > INDEX_LIMIT || more > INDEX_LIMIT - before {
+        return Err(Refusal::LimitReached);
+    }
+    collection.create_indexes(fresh)?;
+    Ok(IndexCounts {
+        before,
+        after: before + more,
+    })
+}
+
+/// The entries whose indexes aren't there, where an index of an earlier entry counts as there. Refused with
+/// `ConflictingUpdateOperators` at the first whose name or path is there alone, and with `WantOfMemory`.
+fn fresh_among(
+    alloc: Global,
+    there: &[Index],
+    entries: Vec<NewIndex>,
+) -> Result<Vec<NewIndex>, Refusal>
+    ensures { UnlessWanting (λ fresh. map form_of there.now ++ map form_of_new fresh.items) (making.with_entries (map form_of_new entries.items) (map form_of there.now)) result }
+{
+    let mut fresh = Vec::new(alloc);
+    'entries: for entry in entries {
+        if is_made(&entry, there, &fresh) {
+            continue;
+        }
+        if is_half_made(&entry, there, &fresh) {
+            return Err(Refusal::ConflictingUpdateOperators);
+        }
+        fresh.push(entry)?;
+    }
+    Ok(fresh)
+}
+
+/// Whether nothing is to be made for an entry: it is on `_id`, or its index is there, or comes.
+fn is_made(entry: &NewIndex, there: &[Index], fresh: &[NewIndex]) -> bool
+    ensures { result ≡ making.is_made (form_of_new entry.now) (map form_of there.now ++ map form_of_new fresh.now) }
+{
+    if is_id(&entry.path) {
+        return true;
+    }
+    if is_there(entry, there) {
+        return true;
+    }
+    comes(entry, fresh)
+}
+
+/// Whether the index of an entry is there.
+fn is_there(entry: &NewIndex, there: &[Index]) -> bool
+    ensures { result ≡ list_any (λ x. making.is_same (form_of_new entry.now) (form_of x)) there.now }
+{
+    there
+        .iter()
+        .any(|index| is_same(entry, index.name(), index.path()))
+}
+
+/// Whether the index of an entry comes.
+fn comes(entry: &NewIndex, fresh: &[NewIndex]) -> bool
+    ensures { result ≡ list_any (λ x. making.is_same (form_of_new entry.now) (form_of_new x)) fresh.now }
+{
+    fresh
+        .iter()
+        .any(|index| is_same(entry, index.name.as_str(), &index.path))
+}
+
+/// Whether the name or the path of an entry is there, or comes.
+fn is_half_made(entry: &NewIndex, there: &[Index], fresh: &[NewIndex]) -> bool
+    ensures { result ≡ list_any (making.is_alike (form_of_new entry.now)) (map form_of there.now ++ map form_of_new fresh.now) }
+{
+    if is_half_there(entry, there) {
+        return true;
+    }
+    half_comes(entry, fresh)
+}
+
+/// Whether the name or the path of an entry is there.
+fn is_half_there(entry: &NewIndex, there: &[Index]) -> bool
+    ensures { result ≡ list_any (λ x. making.is_alike (form_of_new entry.now) (form_of x)) there.now }
+{
+    there
+        .iter()
+        .any(|index| is_alike(entry, index.name(), index.path()))
+}
+
+/// Whether the name or the path of an entry comes.
+fn half_comes(entry: &NewIndex, fresh: &[NewIndex]) -> bool
+    ensures { result ≡ list_any (λ x. making.is_alike (form_of_new entry.now) (form_of_new x)) fresh.now }
+{
+    fresh
+        .iter()
+        .any(|index| is_alike(entry, index.name.as_str(), &index.path))
+}
+
+/// Whether an entry has this name and this path.
+fn is_same(entry: &NewIndex, name: &str, path: &Path) -> bool
+    ensures { result ≡ making.is_same (form_of_new entry.now) (record { name = name.now; path = path.now }) }
+{
+    entry.name.as_str() == name && same_path(entry.path.components(), path.components())
+}
+
+/// Whether an entry has this name or this path.
+fn is_alike(entry: &NewIndex, name: &str, path: &Path) -> bool
+    ensures { result ≡ making.is_alike (form_of_new entry.now) (record { name = name.now; path = path.now }) }
+{
+    entry.name.as_str() == name || same_path(entry.path.components(), path.components())
+}
+
+/// Whether the path is `_id`.
+fn is_id(path: &Path) -> bool
+    ensures { result ≡ is_same_path path.now id_form.path }
+{
+    match path.components() {
+        [only] => only.as_str() == "_id",
+        _ => false,
+    }
+}
+
+/// Drops the index of a name, or with `*` all but that on `_id`, and answers how many there were. Refused with `BadValue` for
+/// that on `_id`, and with `IndexNotFound` where there is none of the name; then nothing is changed.
+pub(crate) fn drop_named(collection: &mut IndexedCollection, name: &str) -> Result<usize, Refusal>
+    ensures made { Leaves (collection_so collection.old (making.without_named name.now collection.old.indexes)) collection.old result collection.new }
+    ensures count { IfOk result (λ count. count ≡ length collection.old.indexes) }
+{
+    let count = collection.indexes().len();
+    if name == "*" {
+        collection.drop_indexes();
+        return Ok(count);
+    }
+    if name == "_id_" {
+        return Err(Refusal::BadValue);
+    }
+    if !collection.drop_index(name) {
+        return Err(Refusal::IndexNotFound);
+    }
+    Ok(count)
+}

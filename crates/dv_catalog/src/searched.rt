@@ -1,0 +1,81 @@
+//! What a find looks through.
+
+ghost use Rattle.std.specs.Prelude.{◌≡◌, IfOk};
+ghost use Rattle.dv_catalog.specs.CatalogParts.{rows_kept};
+ghost use Rattle.dv_catalog.specs.SearchedView.{searched};
+ghost use Rattle.dv_catalog.specs.Scan as scans;
+ghost use Rattle.dv_pipe.specs.Sources.{referred};
+ghost use Rattle.dv_sort.specs.Sorting.{front};
+
+use crate::collections::Collections;
+use crate::rows::Rows;
+use dv_bson::{Document, NoMemory};
+use dv_index::IndexedCollection;
+use dv_match::Filter;
+use dv_views::Registry;
+use std::alloc::Global;
+
+/// What stands under a namespace.
+pub(crate) enum Searched<'a> {
+    /// A collection, with its indexes.
+    Collection(&'a IndexedCollection),
+    /// The rows of a view, or none.
+    Rows(Rows<'a>),
+}
+
+/// What stands under a namespace; the rows of a stale view aren't there.
+pub(crate) fn searched_in<'a>(
+    collections: &'a Collections,
+    registry: &'a Registry,
+    namespace: &str,
+) -> Searched<'a>
+    ensures { searched result ≡ rows_kept namespace.now collections.now registry.now }
+{
+    if let Some(rows) = registry.rows(namespace) {
+        return Searched::Rows(Rows::of_view(rows));
+    }
+    match collections.get(namespace) {
+        Some(collection) => Searched::Collection(collection),
+        None => Searched::Rows(Rows::none()),
+    }
+}
+
+/// The first rows that match the filter, in their order: `most` of them, or all. Of a collection they are found by its
+/// indexes. Fails where memory is wanting.
+pub(crate) fn first_found<'a>(
+    alloc: Global,
+    within: Searched<'a>,
+    filter: &Filter,
+    most: Option<usize>,
+) -> Result<Vec<&'a Document>, NoMemory>
+    ensures { IfOk result (λ found. referred found.items ≡ front most (scans.matching filter.now (searched within.entry))) }
+{
+    match within {
+        Searched::Collection(collection) => match most {
+            Some(most) => collection.find_first(filter, most),
+            None => collection.find(filter),
+        },
+        Searched::Rows(rows) => first_matching(alloc, rows, filter, most),
+    }
+}
+
+/// The first rows that match the filter, in their order: `most` of them, or all. Fails where memory is wanting.
+fn first_matching<'a>(
+    alloc: Global,
+    rows: Rows<'a>,
+    filter: &Filter,
+    most: Option<usize>,
+) -> Result<Vec<&'a Document>, NoMemory>
+    ensures { IfOk result (λ found. referred found.items ≡ front most (scans.matching filter.now rows.entry)) }
+{
+    let mut found = Vec::new(alloc);
+    'rows: for row in rows {
+        if most == Some(found.len()) {
+            return Ok(found);
+        }
+        if filter.matches(row) {
+            found.push(row)?;
+        }
+    }
+    Ok(found)
+}
