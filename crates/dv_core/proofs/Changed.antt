@@ -1,31 +1,37 @@
 -- What a step may change: nothing, or what a write does.
-use Rattle.std.proofs.Common.{◌≡◌, ◌⊎◌, ◌≤◌, ℕ, Bool, true, false, cond, if◌then◌else◌, List, [], ◌∷◌, length, Option, Some, None, Result, Ok, Err, pos, inl, inr, refl, sym, ap, subst, ◌∙◌, arith}
+use Rattle.std.proofs.Common.{◌≡◌, ◌⊎◌, ◌≤◌, ℕ, Bool, true, false, cond, if◌then◌else◌, List, [], ◌∷◌, length, map, Option, Some, None, Result, Ok, Err, pos, inl, inr, refl, sym, ap, subst, ◌∙◌, arith}
 use Rattle.std.specs.Prelude.{codes}
 use Rattle.dv_bson.specs.Names.{value_under}
 use Rattle.dv_bson.specs.Tree.{Tree, Field, int32}
-use Rattle.dv_command.specs.Asked.{Asked, hello, ping, insert, update, delete, find, aggregate, create, drop, asked_by}
-use Rattle.dv_command.specs.Refusals.{◌>>=◌}
-use Rattle.dv_command.specs.Replies.{reply_of, drop_reply, count, errors_field}
-use Rattle.dv_command.specs.declared.refusal.Refusal.TheVariants.{OnView}
+use Rattle.dv_command.specs.Asked.{Asked, hello, ping, insert, update, delete, find, aggregate, get_more, kill_cursors, create, drop, create_indexes, drop_indexes, explain, asked_by}
+use Rattle.dv_fields.specs.Refusals.{◌>>=◌}
+use Rattle.dv_command.specs.Replies.{reply_of, drop_reply, first_batch_reply, create_indexes_reply, drop_indexes_reply, document_of, count, errors_field}
+use Rattle.dv_fields.specs.declared.refusal.Refusal.TheVariants.{OnView, TooLarge}
 use Rattle.dv_command.specs.declared.command.Command.{Command}
-use Rattle.dv_command.specs.declared.refusal.Refusal.{Refusal}
+use Rattle.dv_fields.specs.declared.refusal.Refusal.{Refusal}
 use Rattle.dv_core.specs.declared.outcome.Outcome.{Outcome}
 use Rattle.dv_core.specs.declared.outcome.Outcome.TheVariants.{Reply, Wanting, NoReply}
 use Rattle.dv_catalog.specs.Changes.{Effect}
 use Rattle.dv_core.specs.Delete.{delete_write}
 use Rattle.dv_core.specs.Update.{update_write}
-use Rattle.dv_core.specs.Find.{batch_reply}
+use Rattle.dv_core.specs.Find.{are_too_large, first_batch, kept, left_behind, replied, found, gathered}
+use Rattle.dv_core.specs.Indexes.{form_asked, index_count}
+use Rattle.dv_core.specs.More.{next_batch, next_of, number_of, rows_asked}
+use Rattle.dv_cursor.specs.Batch.{batch}
+use Rattle.dv_cursor.specs.Cursors.{Cursors}
 use Rattle.dv_core.specs.Insert.{insert_write}
-use Rattle.dv_catalog.specs.Scan.{scan}
-use Rattle.dv_catalog.specs.State.{State, Namespaces, documents_of, is_view, rows_of}
+use Rattle.dv_catalog.specs.IndexMaking.{indexes_created, indexes_dropped}
+use Rattle.dv_catalog.specs.State.{Namespaces, documents_of, is_view, rows_of}
+use Rattle.dv_catalog.specs.State as stored
+use Rattle.dv_core.specs.State.{State}
 use Rattle.dv_catalog.specs.Views.{aggregated, created, dropped}
 use Rattle.dv_catalog.specs.Changes.{Statement}
 use Rattle.dv_core.specs.Statements.{Write, Written, nothing_written, carry_out, with_all, with_next, with_result, is_due, IsCut}
-use Rattle.dv_core.specs.Step.{Answer, answered, read_answer, write_answer, made_answer, answer_to, step, write_of, makes, WriteCut, Cut, Wants, MemoryStep}
+use Rattle.dv_core.specs.Step.{Answer, answered, read_answer, write_answer, on_catalog, on_cursors, answer_to, step, write_of, makes, moves, WriteCut, Cut, Wants, MemoryStep}
 
 -- what a write did, be it cut
 abbrev pub Did : Write → State → Written → Type 0
-Did write old did = (did ≡ carry_out write old.namespaces) ⊎ IsCut write old.namespaces did
+Did write old did = (did ≡ carry_out write old.catalog.namespaces) ⊎ IsCut write old.catalog.namespaces did
 
 -- the answer of a write
 pub record Writes (old : State) (asked : Result Asked Refusal) (answer : Answer) : Type 0 where
@@ -41,10 +47,16 @@ pub record Writes (old : State) (asked : Result Asked Refusal) (answer : Answer)
 abbrev told : List Field → Option Tree
 told reply = value_under (codes "ok") reply
 
--- what a command makes under a namespace, or leaves of what it takes out
+-- what a command makes under a namespace, or leaves of what it takes out; one on cursors leaves what stands under namespaces
 abbrev pub Made : State → Asked → State → Type 0
-Made old (create c) new = created c.namespace c.view old ≡ Ok new
-Made old (drop d) new = dropped d.namespace old ≡ Ok new
+Made old (create c) new = (created c.namespace c.view old.catalog ≡ Ok new.catalog) × (new.cursors ≡ old.cursors)
+Made old (drop d) new = (dropped d.namespace old.catalog ≡ Ok new.catalog) × (new.cursors ≡ old.cursors)
+Made old (create_indexes c) new = (indexes_created c.namespace (map form_asked c.indexes) old.catalog ≡ Ok new.catalog) × (new.cursors ≡ old.cursors)
+Made old (drop_indexes d) new = (indexes_dropped d.namespace d.index old.catalog ≡ Ok new.catalog) × (new.cursors ≡ old.cursors)
+Made old (find f) new = new.catalog ≡ old.catalog
+Made old (aggregate a) new = new.catalog ≡ old.catalog
+Made old (get_more g) new = new.catalog ≡ old.catalog
+Made old (kill_cursors k) new = new.catalog ≡ old.catalog
 Made old asked new = ⊥
 
 -- the answer of such a command
@@ -61,26 +73,83 @@ read_leaves : (old : State) (result : Result (List Field) Refusal) → (answered
 read_leaves old (Ok reply) = refl
 read_leaves old (Err refusal) = refl
 
-carried_may : (old : State) (what : Asked) (write : Write) → write_of what ≡ Some write → (b : Bool) → MayWrite old (Ok what) (answered old (if b then Err OnView else Ok (write_answer old write (carry_out write old.namespaces))))
+carried_may : (old : State) (what : Asked) (write : Write) → write_of what ≡ Some write → (b : Bool) → MayWrite old (Ok what) (answered old (if b then Err OnView else Ok (write_answer old write (carry_out write old.catalog.namespaces))))
 carried_may old what write is true = inl refl
-carried_may old what write is false = inr (inl (record { what = what; write = write; did = carry_out write old.namespaces; asks = refl; is_write = is; did_so = inl refl; answers = refl }))
+carried_may old what write is false = inr (inl (record { what = what; write = write; did = carry_out write old.catalog.namespaces; asks = refl; is_write = is; did_so = inl refl; answers = refl }))
 
-made_may : (old : State) (what : Asked) (reply : List Field) → told reply ≡ Some (int32 (pos 1)) → (result : Result State Refusal) → ((new : State) → result ≡ Ok new → Made old what new)
-    → MayWrite old (Ok what) (answered old (made_answer reply result))
-made_may old what reply tells (Ok new) made = inr (inr (record { what = what; asks = refl; made = made new refl; tells = tells }))
-made_may old what reply tells (Err refusal) made = inl refl
+-- a reply that tells that the command was carried out
+abbrev IsTold : {S : Type 0} → Result (List Field × S) Refusal → Type 0
+IsTold {S} defined = (done : List Field × S) → defined ≡ Ok done → told done.0 ≡ Some (int32 (pos 1))
+
+catalog_may : (old : State) (what : Asked) (defined : Result (List Field × stored.State) Refusal) → IsTold defined → ((done : List Field × stored.State) → defined ≡ Ok done → Made old what (record old { catalog = done.1 }))
+    → MayWrite old (Ok what) (answered old (on_catalog old defined))
+catalog_may old what (Ok done) tells made = inr (inr (record { what = what; asks = refl; made = made done refl; tells = tells done refl }))
+catalog_may old what (Err refusal) tells made = inl refl
+
+cursors_may : (old : State) (what : Asked) (defined : Result (List Field × Cursors) Refusal) → IsTold defined → ((done : List Field × Cursors) → Made old what (record old { cursors = done.1 }))
+    → MayWrite old (Ok what) (answered old (on_cursors old defined))
+cursors_may old what (Ok done) tells made = inr (inr (record { what = what; asks = refl; made = made done; tells = tells done refl }))
+cursors_may old what (Err refusal) tells made = inl refl
+
+-- what is made, with the reply that tells of it
+module _ {S : Type 0} (reply : S → List Field) where
+  made_of : (made : Result S Refusal) (done : List Field × S) → (made >>= λ left. Ok (reply left, left)) ≡ Ok done → made ≡ Ok done.1
+  made_of (Ok left) done is = let same : (reply left, left) ≡ done = cc in ap (λ (d : List Field × S). Ok d.1) same
+  made_of (Err refusal) done is = absurd cc
+
+  told_of : ((left : S) → told (reply left) ≡ Some (int32 (pos 1))) → (made : Result S Refusal) → IsTold (made >>= λ left. Ok (reply left, left))
+  told_of tells (Ok left) done is = let same : (reply left, left) ≡ done = cc in subst (λ (d : List Field × S). told d.0 ≡ Some (int32 (pos 1))) same (tells left)
+  told_of tells (Err refusal) done is = absurd cc
+
+replied_told : (namespace : List ℕ) (count : ℕ) (rows : List (List Field)) (id : ℕ × Cursors) (b : Bool) → IsTold (if b then Err TooLarge else Ok (first_batch_reply namespace id.0 (map document_of (batch count rows)), id.1))
+replied_told namespace count rows id true done is = absurd cc
+replied_told namespace count rows id false done is =
+    let same : (first_batch_reply namespace id.0 (map document_of (batch count rows)), id.1) ≡ done = cc in
+    subst (λ (d : List Field × Cursors). told d.0 ≡ Some (int32 (pos 1))) same refl
+
+first_told : (namespace : List ℕ) (count : ℕ) (rows : List (List Field)) (keeps : Result (ℕ × Cursors) Refusal) → IsTold (keeps >>= replied namespace count rows)
+first_told namespace count rows (Ok id) = replied_told namespace count rows id (are_too_large rows)
+first_told namespace count rows (Err refusal) = λ done is. absurd cc
+
+gathered_told : (session : ℕ) (namespace : List ℕ) (count : ℕ) (cursors : Cursors) (rows : Result (List (List Field)) Refusal) → IsTold (rows >>= λ found. first_batch session namespace count false found cursors)
+gathered_told session namespace count cursors (Ok rows) = first_told namespace count rows (kept session namespace (left_behind count false rows) cursors)
+gathered_told session namespace count cursors (Err refusal) = λ done is. absurd cc
+
+next_told : (session : ℕ) (namespace : List ℕ) (id count : ℕ) (rows : Option (List (List Field))) (cursors : Cursors) → IsTold (next_of session namespace id count rows cursors)
+next_told session namespace id count None cursors done is = absurd cc
+next_told session namespace id count (Some rows) cursors done is = ap (λ (r : Result (List Field × Cursors) Refusal). told_in r) (sym is)
+  where
+    told_in : Result (List Field × Cursors) Refusal → Option Tree
+    told_in (Ok d) = told d.0
+    told_in (Err refusal) = None
 
 step_may : (old : State) (session : ℕ) (asked : Result Asked Refusal) → MayWrite old asked (answered old (asked >>= answer_to old session))
 step_may old session (Err refusal) = inl refl
 step_may old session (Ok hello) = inl refl
 step_may old session (Ok ping) = inl refl
-step_may old session (Ok (insert i)) = carried_may old (insert i) (insert_write i) refl (is_view i.namespace old.views)
-step_may old session (Ok (update u)) = carried_may old (update u) (update_write u) refl (is_view u.namespace old.views)
-step_may old session (Ok (delete d)) = carried_may old (delete d) (delete_write d) refl (is_view d.namespace old.views)
-step_may old session (Ok (find f)) = inl (read_leaves old (batch_reply f.namespace (scan f.filter f.sort f.skip f.limit (rows_of f.namespace old))))
-step_may old session (Ok (aggregate a)) = inl (read_leaves old (aggregated a.stages a.namespace old >>= batch_reply a.namespace))
-step_may old session (Ok (create c)) = made_may old (create c) (reply_of []) refl (created c.namespace c.view old) (λ new is. is)
-step_may old session (Ok (drop d)) = made_may old (drop d) (drop_reply d.namespace) refl (dropped d.namespace old) (λ new is. is)
+step_may old session (Ok (insert i)) = carried_may old (insert i) (insert_write i) refl (is_view i.namespace old.catalog.views)
+step_may old session (Ok (update u)) = carried_may old (update u) (update_write u) refl (is_view u.namespace old.catalog.views)
+step_may old session (Ok (delete d)) = carried_may old (delete d) (delete_write d) refl (is_view d.namespace old.catalog.views)
+step_may old session (Ok (find f)) = cursors_may old (find f) (found session f old.catalog old.cursors) (first_told f.namespace f.batch_size _ _) (λ done. refl)
+step_may old session (Ok (aggregate a)) = cursors_may old (aggregate a) (gathered session a old.catalog old.cursors) (gathered_told session a.namespace a.batch_size old.cursors (aggregated a.stages a.namespace old.catalog)) (λ done. refl)
+step_may old session (Ok (get_more g)) =
+    cursors_may old (get_more g) (next_batch session g old.cursors) (next_told session g.namespace (number_of g.id) g.batch_size (rows_asked session g.namespace g.id old.cursors) old.cursors) (λ done. refl)
+step_may old session (Ok (kill_cursors k)) = inr (inr (record { what = kill_cursors k; asks = refl; made = refl; tells = refl }))
+step_may old session (Ok (create c)) =
+    let made = created c.namespace c.view old.catalog in
+    catalog_may old (create c) _ (told_of (λ left. reply_of []) (λ left. refl) made) (λ done is. (made_of (λ left. reply_of []) made done is, refl))
+step_may old session (Ok (drop d)) =
+    let made = dropped d.namespace old.catalog in
+    catalog_may old (drop d) _ (told_of (λ left. drop_reply d.namespace) (λ left. refl) made) (λ done is. (made_of (λ left. drop_reply d.namespace) made done is, refl))
+step_may old session (Ok (create_indexes c)) =
+    let made = indexes_created c.namespace (map form_asked c.indexes) old.catalog in
+    let reply : stored.State → List Field = λ left. create_indexes_reply (index_count c.namespace old.catalog) (index_count c.namespace left) in
+    catalog_may old (create_indexes c) _ (told_of reply (λ left. refl) made) (λ done is. (made_of reply made done is, refl))
+step_may old session (Ok (drop_indexes d)) =
+    let made = indexes_dropped d.namespace d.index old.catalog in
+    let reply : stored.State → List Field = λ left. drop_indexes_reply (index_count d.namespace old.catalog) in
+    catalog_may old (drop_indexes d) _ (told_of reply (λ left. refl) made) (λ done is. (made_of reply made done is, refl))
+step_may old session (Ok (explain e)) = inl refl
 
 write_cut_may : (old : State) (what : Asked) (write : Option Write) → write_of what ≡ write → (answer : Answer) → WriteCut old write answer → MayWrite old (Ok what) answer
 write_cut_may old what None is answer cut = absurd cut
@@ -105,22 +174,52 @@ outcome_may old new session command NoReply (inr (answer, wants, stands)) = (ans
 
 -- ---- what may change
 
-made_makes : (old new : State) (what : Asked) → Made old what new → makes what ≡ true
-made_makes old new (create c) made = refl
-made_makes old new (drop d) made = refl
-made_makes old new what made = absurd made
+-- what a command makes that makes nothing under a namespace, and one that moves no cursors
+made_catalog : (old new : State) (what : Asked) → Made old what new → makes what ≡ false → new.catalog ≡ old.catalog
+made_catalog old new (create c) made idle = absurd cc
+made_catalog old new (drop d) made idle = absurd cc
+made_catalog old new (create_indexes c) made idle = absurd cc
+made_catalog old new (drop_indexes d) made idle = absurd cc
+made_catalog old new (find f) made idle = made
+made_catalog old new (aggregate a) made idle = made
+made_catalog old new (get_more g) made idle = made
+made_catalog old new (kill_cursors k) made idle = made
+made_catalog old new what made idle = absurd made
+
+made_cursors : (old new : State) (what : Asked) → Made old what new → moves what ≡ false → new.cursors ≡ old.cursors
+made_cursors old new (create c) made idle = made.1
+made_cursors old new (drop d) made idle = made.1
+made_cursors old new (create_indexes c) made idle = made.1
+made_cursors old new (drop_indexes d) made idle = made.1
+made_cursors old new (find f) made idle = absurd cc
+made_cursors old new (aggregate a) made idle = absurd cc
+made_cursors old new (get_more g) made idle = absurd cc
+made_cursors old new (kill_cursors k) made idle = absurd cc
+made_cursors old new what made idle = absurd made
 
 -- a command that asks for no write, and makes nothing
 pub others_leave : (old new : State) (session : ℕ) (command : Command) (asked : Asked) (outcome : Outcome) → asked_by command ≡ Ok asked → write_of asked ≡ None → makes asked ≡ false
-    → MemoryStep old session command outcome new → new ≡ old
+    → MemoryStep old session command outcome new → new.catalog ≡ old.catalog
 others_leave old new session command asked outcome asks none idle steps =
     let (answer, may, stands) = outcome_may old new session command outcome steps in
-    stands ∙ leave answer may
+    ap (λ (s : State). s.catalog) stands ∙ leave answer may
   where
-    leave : (answer : Answer) → MayWrite old (asked_by command) answer → answer.state ≡ old
-    leave answer (inl same) = same
+    leave : (answer : Answer) → MayWrite old (asked_by command) answer → answer.state.catalog ≡ old.catalog
+    leave answer (inl same) = ap (λ (s : State). s.catalog) same
     leave answer (inr (inl w)) = let same : w.what ≡ asked = cc (w.asks, asks) in let some : write_of asked ≡ Some w.write = rw (← same) w.is_write in absurd cc
-    leave answer (inr (inr m)) = let same : m.what ≡ asked = cc (m.asks, asks) in let some : makes asked ≡ true = rw (← same) (made_makes old answer.state m.what m.made) in absurd cc
+    leave answer (inr (inr m)) = let same : m.what ≡ asked = cc (m.asks, asks) in made_catalog old answer.state m.what m.made (rw same idle)
+
+-- a command that moves no cursors
+pub cursors_stay : (old new : State) (session : ℕ) (command : Command) (asked : Asked) (outcome : Outcome) → asked_by command ≡ Ok asked → moves asked ≡ false
+    → MemoryStep old session command outcome new → new.cursors ≡ old.cursors
+cursors_stay old new session command asked outcome asks idle steps =
+    let (answer, may, stands) = outcome_may old new session command outcome steps in
+    ap (λ (s : State). s.cursors) stands ∙ leave answer may
+  where
+    leave : (answer : Answer) → MayWrite old (asked_by command) answer → answer.state.cursors ≡ old.cursors
+    leave answer (inl same) = ap (λ (s : State). s.cursors) same
+    leave answer (inr (inl w)) = ap (λ (a : Answer). a.state.cursors) w.answers
+    leave answer (inr (inr m)) = let same : m.what ≡ asked = cc (m.asks, asks) in made_cursors old answer.state m.what m.made (rw same idle)
 
 pub refused_leave : (old new : State) (session : ℕ) (command : Command) (refusal : Refusal) (outcome : Outcome) → asked_by command ≡ Err refusal → MemoryStep old session command outcome new → new ≡ old
 refused_leave old new session command refusal outcome asks steps =
@@ -133,15 +232,16 @@ refused_leave old new session command refusal outcome asks steps =
     leave answer (inr (inr m)) = absurd (cc (m.asks, asks))
 
 -- a command that makes nothing leaves the views
-pub views_stay : (old new : State) (session : ℕ) (command : Command) (asked : Asked) (outcome : Outcome) → asked_by command ≡ Ok asked → makes asked ≡ false → MemoryStep old session command outcome new → new.views ≡ old.views
+pub views_stay : (old new : State) (session : ℕ) (command : Command) (asked : Asked) (outcome : Outcome) → asked_by command ≡ Ok asked → makes asked ≡ false → MemoryStep old session command outcome new
+    → new.catalog.views ≡ old.catalog.views
 views_stay old new session command asked outcome asks idle steps =
     let (answer, may, stands) = outcome_may old new session command outcome steps in
-    ap (λ (s : State). s.views) stands ∙ leave answer may
+    ap (λ (s : State). s.catalog.views) stands ∙ leave answer may
   where
-    leave : (answer : Answer) → MayWrite old (asked_by command) answer → answer.state.views ≡ old.views
-    leave answer (inl same) = ap (λ (s : State). s.views) same
-    leave answer (inr (inl w)) = ap (λ (a : Answer). a.state.views) w.answers
-    leave answer (inr (inr m)) = let same : m.what ≡ asked = cc (m.asks, asks) in let some : makes asked ≡ true = rw (← same) (made_makes old answer.state m.what m.made) in absurd cc
+    leave : (answer : Answer) → MayWrite old (asked_by command) answer → answer.state.catalog.views ≡ old.catalog.views
+    leave answer (inl same) = ap (λ (s : State). s.catalog.views) same
+    leave answer (inr (inl w)) = ap (λ (a : Answer). a.state.catalog.views) w.answers
+    leave answer (inr (inr m)) = let same : m.what ≡ asked = cc (m.asks, asks) in ap (λ (s : stored.State). s.views) (made_catalog old answer.state m.what m.made (rw same idle))
 
 -- what a command leaves that isn't a write: the state, or what it made
 pub others_made : (old new : State) (session : ℕ) (command : Command) (asked : Asked) (outcome : Outcome) → asked_by command ≡ Ok asked → write_of asked ≡ None → MemoryStep old session command outcome new

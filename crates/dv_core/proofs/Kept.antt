@@ -4,15 +4,15 @@ use Rattle.std.proofs.lemmas.Slice.Eq.{bytes_eq-Decides}
 use Rattle.std.specs.List.{AllByRecursion}
 use Rattle.std.specs.FinMap as finite
 use Rattle.std.specs.Str.{bytes_eq}
-use Rattle.dv_bson.specs.Tree.{Field, fields_of}
+use Rattle.dv_bson.specs.Tree.{Field}
 use Rattle.dv_coll.specs.Collection.{found, id_key}
 use Rattle.dv_order.specs.Key.{KeyTree}
 use Rattle.dv_command.specs.Asked.{Asked, asked_by}
 use Rattle.dv_command.specs.Entries.{Deletion, deletion_of, Updating, updating_of}
 use Rattle.dv_command.specs.declared.command.Command.{Command}
-use Rattle.dv_command.specs.declared.refusal.Refusal.{Refusal}
-use Rattle.dv_command.specs.declared.refusal.Refusal.TheVariants.{DuplicateKey}
-use Rattle.dv_command.specs.Refusals.{◌>>=◌}
+use Rattle.dv_fields.specs.declared.refusal.Refusal.{Refusal}
+use Rattle.dv_fields.specs.declared.refusal.Refusal.TheVariants.{DuplicateKey}
+use Rattle.dv_fields.specs.Refusals.{◌>>=◌}
 use Rattle.dv_core.specs.declared.outcome.Outcome.{Outcome}
 use Rattle.dv_catalog.specs.Changes.{Change, put, gone, Effect, Statement, apply, with_change, with_changes, changes_of}
 use Rattle.dv_update.specs.Update as form
@@ -21,7 +21,8 @@ use Rattle.dv_core.specs.Delete.{delete_one}
 use Rattle.dv_catalog.specs.Scan.{matching}
 use Rattle.dv_core.specs.Update.{update_one}
 use Rattle.dv_core.specs.Insert.{insert_one}
-use Rattle.dv_catalog.specs.State.{State, Standing, Namespaces, collection_at, documents_of, with_documents, collection}
+use Rattle.dv_catalog.specs.State.{Standing, Namespaces, Collection, collection_at, collection_of, documents_of, with_documents, collection}
+use Rattle.dv_core.specs.State.{State}
 use Rattle.dv_core.specs.Statements.{Write, Written, nothing_written, with_all, with_next, with_result, is_due}
 use Rattle.dv_core.specs.Step.{Answer, write_of, MemoryStep}
 use Rattle.dv_core.specs.Storable.{storable}
@@ -50,14 +51,14 @@ module _ (P : List ℕ → List (List Field) → Type 0) (IsGood : Change → Ty
   first_good (suc made) [] good = tt
   first_good (suc made) (change ∷ changes) good = (good.0, first_good made changes good.1)
 
-  put_holds : (other : List ℕ) (b : Bool) (there : Option Standing) (c : List (List Field)) → P other (collection_at there).documents → (b ≡ true → P other c) → P other (collection_at (cond b (Some (collection (record { documents = c }))) there)).documents
+  put_holds : (other : List ℕ) (b : Bool) (there : Option Standing) (c : Collection) → P other (collection_at there).documents → (b ≡ true → P other c.documents) → P other (collection_at (cond b (Some (collection c)) there)).documents
   put_holds other true there c h i = i refl
   put_holds other false there c h i = h
 
   with_holds : (namespace : List ℕ) (documents : List (List Field)) (namespaces : Namespaces) → Holds namespaces → P namespace documents → Holds (with_documents namespace documents namespaces)
   with_holds namespace documents namespaces h i other =
-      subst (λ (there : Option Standing). P other (collection_at there).documents) (sym (get-insert namespaces namespace (collection (record { documents = documents })) other))
-      (put_holds other (bytes_eq namespace other) (finite.get namespaces other) documents (h other) (λ same. subst (λ (name : List ℕ). P name documents) ((bytes_eq-Decides namespace other).0 same) i))
+      subst (λ (there : Option Standing). P other (collection_at there).documents) (sym (get-insert namespaces namespace (collection (record (collection_of namespace namespaces) { documents = documents })) other))
+      (put_holds other (bytes_eq namespace other) (finite.get namespaces other) (record (collection_of namespace namespaces) { documents = documents }) (h other) (λ same. subst (λ (name : List ℕ). P name documents) ((bytes_eq-Decides namespace other).0 same) i))
 
   apply_holds : (namespace : List ℕ) (changes : List Change) (namespaces : Namespaces) → Holds namespaces → AllByRecursion IsGood changes → Holds (apply namespace changes namespaces)
   apply_holds namespace [] namespaces h good = h
@@ -86,25 +87,25 @@ module _ (P : List ℕ → List (List Field) → Type 0) (IsGood : Change → Ty
   split_keep [] statement behind keep = (tt, keep.0)
   split_keep (s ∷ before) statement behind keep = let rest = split_keep before statement behind keep.1 in ((keep.0, rest.0), rest.1)
 
-  did_holds : (write : Write) (old : State) (did : Written) → AllByRecursion Keeps write.statements → Did write old did → Holds old.namespaces → Holds did.namespaces
-  did_holds write old did keep (inl whole) h = rw whole (all_holds write.namespace write.ordered (nothing_written old.namespaces) write.statements h keep)
+  did_holds : (write : Write) (old : State) (did : Written) → AllByRecursion Keeps write.statements → Did write old did → Holds old.catalog.namespaces → Holds did.namespaces
+  did_holds write old did keep (inl whole) h = rw whole (all_holds write.namespace write.ordered (nothing_written old.catalog.namespaces) write.statements h keep)
   did_holds write old did keep (inr c) h =
       let keeps : AllByRecursion Keeps (c.before ++ c.statement ∷ c.behind) = subst (AllByRecursion Keeps) c.stands keep in
       let parts = split_keep c.before c.statement c.behind keeps in
-      let before : Written = with_all write.namespace write.ordered (nothing_written old.namespaces) c.before in
-      let held : Holds before.namespaces = all_holds write.namespace write.ordered (nothing_written old.namespaces) c.before h parts.0 in
+      let before : Written = with_all write.namespace write.ordered (nothing_written old.catalog.namespaces) c.before in
+      let held : Holds before.namespaces = all_holds write.namespace write.ordered (nothing_written old.catalog.namespaces) c.before h parts.0 in
       let changes : List Change = changes_of (c.statement (documents_of write.namespace before.namespaces)) in
       rw c.left_so (apply_holds write.namespace (take c.made changes) before.namespaces held (first_good c.made changes (parts.1.good write.namespace (documents_of write.namespace before.namespaces) (held write.namespace))))
 
-  made_holds : (old new : State) (what : Asked) → ((namespace : List ℕ) → P namespace []) → Made old what new → Holds old.namespaces → Holds new.namespaces
+  made_holds : (old new : State) (what : Asked) → ((namespace : List ℕ) → P namespace []) → Made old what new → Holds old.catalog.namespaces → Holds new.catalog.namespaces
   made_holds old new what none made h name = either (made_documents old new what made name)
     where
-      either : (documents_of name new.namespaces ≡ documents_of name old.namespaces) ⊎ (documents_of name new.namespaces ≡ []) → P name (documents_of name new.namespaces)
+      either : (documents_of name new.catalog.namespaces ≡ documents_of name old.catalog.namespaces) ⊎ (documents_of name new.catalog.namespaces ≡ []) → P name (documents_of name new.catalog.namespaces)
       either (inl same) = rw same (h name)
       either (inr empty) = rw empty (none name)
 
   may_hold : (old : State) (asked : Result Asked Refusal) (answer : Answer) → ((namespace : List ℕ) → P namespace []) → ((what : Asked) (write : Write) → asked ≡ Ok what → write_of what ≡ Some write → AllByRecursion Keeps write.statements)
-      → MayWrite old asked answer → Holds old.namespaces → Holds answer.state.namespaces
+      → MayWrite old asked answer → Holds old.catalog.namespaces → Holds answer.state.catalog.namespaces
   may_hold old asked answer none keep (inl same) h = rw same h
   may_hold old asked answer none keep (inr (inl w)) h = rw w.answers (did_holds w.write old w.did (keep w.what w.write w.asks w.is_write) w.did_so h)
   may_hold old asked answer none keep (inr (inr m)) h = made_holds old answer.state m.what none m.made h
@@ -112,7 +113,7 @@ module _ (P : List ℕ → List (List Field) → Type 0) (IsGood : Change → Ty
   -- a step whose statements keep it does
   pub step_holds : (old new : State) (session : ℕ) (command : Command) (outcome : Outcome) → ((namespace : List ℕ) → P namespace [])
       → ((what : Asked) (write : Write) → asked_by command ≡ Ok what → write_of what ≡ Some write → AllByRecursion Keeps write.statements)
-      → Holds old.namespaces → MemoryStep old session command outcome new → Holds new.namespaces
+      → Holds old.catalog.namespaces → MemoryStep old session command outcome new → Holds new.catalog.namespaces
   step_holds old new session command outcome none keep h steps =
       let (answer, may, stands) = outcome_may old new session command outcome steps in
       rw stands (may_hold old (asked_by command) answer none keep may h)

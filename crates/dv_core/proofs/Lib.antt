@@ -4,7 +4,9 @@ pub mod Stored
 pub mod Statements
 mod Plain
 mod Steps
+mod Endings
 mod Changed
+mod Cursored
 mod Made
 mod Kept
 mod Texts
@@ -16,3 +18,5 @@ mod Spelled
 mod Worked
 mod WorkedFinds
 mod WorkedViews
+mod Firsts
+mod Mores

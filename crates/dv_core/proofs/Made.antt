@@ -1,32 +1,77 @@
 -- What making something under a namespace, or taking it out, leaves of documents.
-use Rattle.std.proofs.Common.{◌≡◌, ◌⊎◌, inl, inr, ℕ, ◌||◌, Bool, true, false, cond, if◌then◌else◌, List, [], Option, Some, None, Result, Ok, Err, is_some, refl, sym, ap, subst, ◌∙◌}
+use Rattle.std.proofs.Common.{◌≡◌, ◌⊎◌, inl, inr, ℕ, ◌||◌, Bool, true, false, cond, if◌then◌else◌, List, [], Option, Some, None, Result, Ok, Err, is_some, map, refl, sym, ap, subst, ◌∙◌}
 use Rattle.std.proofs.lemmas.Slice.Eq.{bytes_eq-Decides}
 use Rattle.std.specs.FinMap as finite
 use Rattle.std.specs.Str.{bytes_eq}
 use Rattle.dv_bson.specs.Tree.{Field}
-use Rattle.dv_catalog.specs.State.{State, Standing, Namespaces, ViewForm, collection, collection_at, documents_of, with_documents, without_view, is_collection, is_view, is_there}
+use Rattle.dv_catalog.specs.State.{State, Standing, Namespaces, ViewForm, collection, collection_at, collection_of, documents_of, indexes_of, with_documents, with_indexes, without_view, is_collection, is_view, is_there}
+use Rattle.dv_catalog.specs.IndexMaking.{indexes_created, indexes_dropped, with_all, without_named, with_indexes_so}
+use Rattle.dv_index.specs.Index.{IndexForm}
+use Rattle.dv_core.specs.Indexes.{form_asked}
+use Rattle.dv_core.specs.State as core
 use Rattle.dv_catalog.specs.StateLaws.{get-insert, get-remove}
 use Rattle.dv_catalog.specs.Views.{created, dropped, made, with_view, with_views}
-use Rattle.dv_command.specs.Asked.{Asked, Create, Drop, ViewOn, create, drop, asked_by}
+use Rattle.dv_command.specs.Asked.{Asked, Create, Drop, ViewOn, find, aggregate, get_more, kill_cursors, create, drop, create_indexes, drop_indexes, asked_by}
 use Rattle.dv_command.specs.declared.command.Command.{Command}
 use Rattle.dv_core.specs.declared.outcome.Outcome.{Outcome}
-use Rattle.dv_core.specs.Step.{MemoryStep}
-use Rattle.dv_command.specs.declared.refusal.Refusal.{Refusal}
-use Rattle.dv_command.specs.declared.refusal.Refusal.TheVariants.{NamespaceExists, NamespaceNotFound}
+use Rattle.dv_core.specs.Step.{MemoryStep, write_of, indexes}
+use Rattle.dv_fields.specs.declared.refusal.Refusal.{Refusal}
+use Rattle.dv_fields.specs.declared.refusal.Refusal.TheVariants.{NamespaceExists, NamespaceNotFound, OnView}
 use Rattle.dv_core.proofs.Changed.{Made, others_made}
 
 none_there : (there : Option Standing) → is_some there ≡ false → (collection_at there).documents ≡ []
 none_there None e = refl
 none_there (Some s) e = absurd cc
 
+abbrev emptied : List ℕ → Namespaces → Standing
+emptied namespace old = collection (record (collection_of namespace old) { documents = [] })
+
 -- a collection without documents, put where none is
 empty_put : (old : Namespaces) (namespace : List ℕ) → is_collection namespace old ≡ false → (name : List ℕ) → documents_of name (with_documents namespace [] old) ≡ documents_of name old
 empty_put old namespace none name =
-    ap (λ (there : Option Standing). (collection_at there).documents) (get-insert old namespace (collection (record { documents = [] })) name) ∙ by_name (bytes_eq namespace name) refl
+    ap (λ (there : Option Standing). (collection_at there).documents) (get-insert old namespace (emptied namespace old) name) ∙ by_name (bytes_eq namespace name) refl
   where
-    by_name : (b : Bool) → bytes_eq namespace name ≡ b → (collection_at (cond b (Some (collection (record { documents = [] }))) (finite.get old name))).documents ≡ documents_of name old
+    by_name : (b : Bool) → bytes_eq namespace name ≡ b → (collection_at (cond b (Some (emptied namespace old)) (finite.get old name))).documents ≡ documents_of name old
     by_name true same = sym (none_there (finite.get old name) (subst (λ (n : List ℕ). is_collection n old ≡ false) ((bytes_eq-Decides namespace name).0 same) none))
     by_name false other = refl
+
+abbrev with_more : List ℕ → Namespaces → List IndexForm → Standing
+with_more namespace old indexes = collection (record (collection_of namespace old) { indexes = indexes })
+
+-- indexes leave documents
+indexes_put : (old : Namespaces) (namespace : List ℕ) (indexes : List IndexForm) (name : List ℕ) → documents_of name (with_indexes namespace indexes old) ≡ documents_of name old
+indexes_put old namespace indexes name =
+    ap (λ (there : Option Standing). (collection_at there).documents) (get-insert old namespace (with_more namespace old indexes) name) ∙ by_name (bytes_eq namespace name) refl
+  where
+    by_name : (b : Bool) → bytes_eq namespace name ≡ b → (collection_at (cond b (Some (with_more namespace old indexes)) (finite.get old name))).documents ≡ documents_of name old
+    by_name true same = ap (λ (n : List ℕ). documents_of n old) ((bytes_eq-Decides namespace name).0 same)
+    by_name false other = refl
+
+-- and views
+record LeavesDocuments (old new : State) : Type 0 where
+  views : new.views ≡ old.views
+  documents : (name : List ℕ) → documents_of name new.namespaces ≡ documents_of name old.namespaces
+
+indexes_so : (old new : State) (namespace : List ℕ) (made : Result (List IndexForm) Refusal) → with_indexes_so namespace made old ≡ Ok new → LeavesDocuments old new
+indexes_so old new namespace (Ok indexes) is =
+    let same : new ≡ record old { namespaces = with_indexes namespace indexes old.namespaces } = cc in
+    record { views = ap (λ (s : State). s.views) same; documents = λ name. ap (λ (s : State). documents_of name s.namespaces) same ∙ indexes_put old.namespaces namespace indexes name }
+indexes_so old new namespace (Err refusal) is = absurd cc
+
+created_so : (old new : State) (namespace : List ℕ) (entries : List IndexForm) → indexes_created namespace entries old ≡ Ok new → LeavesDocuments old new
+created_so old new namespace entries is = by_view (is_view namespace old.views) is
+  where
+    by_view : (b : Bool) → (if b then Err OnView else with_indexes_so namespace (with_all entries (indexes_of namespace old.namespaces)) old) ≡ Ok new → LeavesDocuments old new
+    by_view true is = absurd cc
+    by_view false is = indexes_so old new namespace (with_all entries (indexes_of namespace old.namespaces)) is
+
+dropped_so : (old new : State) (namespace name : List ℕ) → indexes_dropped namespace name old ≡ Ok new → LeavesDocuments old new
+dropped_so old new namespace name is = by_there (is_view namespace old.views) (is_collection namespace old.namespaces) is
+  where
+    by_there : (b there : Bool) → (if b then Err OnView else if there then with_indexes_so namespace (without_named name (indexes_of namespace old.namespaces)) old else Err NamespaceNotFound) ≡ Ok new → LeavesDocuments old new
+    by_there true there is = absurd cc
+    by_there false true is = indexes_so old new namespace (without_named name (indexes_of namespace old.namespaces)) is
+    by_there false false is = absurd cc
 
 not_there : (a b : Bool) → (a || b) ≡ false → a ≡ false
 not_there true b e = absurd cc
@@ -77,14 +122,21 @@ none_or_same : (b : Bool) (now before : List (List Field)) → now ≡ (if b the
 none_or_same true now before is = inr is
 none_or_same false now before is = inl is
 
-pub made_documents : (old new : State) (what : Asked) → Made old what new → (name : List ℕ) → (documents_of name new.namespaces ≡ documents_of name old.namespaces) ⊎ (documents_of name new.namespaces ≡ [])
-made_documents old new (create c) made name = inl (created_documents old new c.namespace c.view made name)
-made_documents old new (drop d) made name = either (dropped_documents old new d.namespace made name)
+pub made_documents : (old new : core.State) (what : Asked) → Made old what new → (name : List ℕ)
+    → (documents_of name new.catalog.namespaces ≡ documents_of name old.catalog.namespaces) ⊎ (documents_of name new.catalog.namespaces ≡ [])
+made_documents old new (create c) made name = inl (created_documents old.catalog new.catalog c.namespace c.view made.0 name)
+made_documents old new (drop d) made name = either (dropped_documents old.catalog new.catalog d.namespace made.0 name)
   where
-    either : documents_of name new.namespaces ≡ (if bytes_eq d.namespace name then [] else documents_of name old.namespaces) ⊎ (documents_of name new.namespaces ≡ documents_of name old.namespaces)
-        → (documents_of name new.namespaces ≡ documents_of name old.namespaces) ⊎ (documents_of name new.namespaces ≡ [])
-    either (inl is) = none_or_same (bytes_eq d.namespace name) (documents_of name new.namespaces) (documents_of name old.namespaces) is
+    either : documents_of name new.catalog.namespaces ≡ (if bytes_eq d.namespace name then [] else documents_of name old.catalog.namespaces) ⊎ (documents_of name new.catalog.namespaces ≡ documents_of name old.catalog.namespaces)
+        → (documents_of name new.catalog.namespaces ≡ documents_of name old.catalog.namespaces) ⊎ (documents_of name new.catalog.namespaces ≡ [])
+    either (inl is) = none_or_same (bytes_eq d.namespace name) (documents_of name new.catalog.namespaces) (documents_of name old.catalog.namespaces) is
     either (inr is) = inl is
+made_documents old new (create_indexes c) made name = inl ((created_so old.catalog new.catalog c.namespace (map form_asked c.indexes) made.0).documents name)
+made_documents old new (drop_indexes d) made name = inl ((dropped_so old.catalog new.catalog d.namespace d.index made.0).documents name)
+made_documents old new (find f) made name = inl (ap (λ (s : State). documents_of name s.namespaces) made)
+made_documents old new (aggregate a) made name = inl (ap (λ (s : State). documents_of name s.namespaces) made)
+made_documents old new (get_more g) made name = inl (ap (λ (s : State). documents_of name s.namespaces) made)
+made_documents old new (kill_cursors k) made name = inl (ap (λ (s : State). documents_of name s.namespaces) made)
 made_documents old new what made name = absurd made
 
 pub dropped_others : (old new : State) (namespace name : List ℕ) → dropped namespace old ≡ Ok new → bytes_eq namespace name ≡ false → documents_of name new.namespaces ≡ documents_of name old.namespaces
@@ -95,20 +147,38 @@ dropped_others old new namespace name is other = either (dropped_documents old n
     either (inl is) = is ∙ rw other refl
     either (inr is) = is
 
--- ---- a create and a drop, whatever they are answered
+-- ---- a create and a drop, and what makes and drops indexes, whatever they are answered
 
-pub create_leaves : (old new : State) (session : ℕ) (command : Command) (asked : Create) (outcome : Outcome) → asked_by command ≡ Ok (create asked) → MemoryStep old session command outcome new → (namespace : List ℕ)
-    → documents_of namespace new.namespaces ≡ documents_of namespace old.namespaces
+pub create_leaves : (old new : core.State) (session : ℕ) (command : Command) (asked : Create) (outcome : Outcome) → asked_by command ≡ Ok (create asked) → MemoryStep old session command outcome new → (namespace : List ℕ)
+    → documents_of namespace new.catalog.namespaces ≡ documents_of namespace old.catalog.namespaces
 create_leaves old new session command asked outcome asks steps namespace = either (others_made old new session command (create asked) outcome asks refl steps)
   where
-    either : (new ≡ old) ⊎ Made old (create asked) new → documents_of namespace new.namespaces ≡ documents_of namespace old.namespaces
-    either (inl same) = ap (λ (s : State). documents_of namespace s.namespaces) same
-    either (inr made) = created_documents old new asked.namespace asked.view made namespace
+    either : (new ≡ old) ⊎ Made old (create asked) new → documents_of namespace new.catalog.namespaces ≡ documents_of namespace old.catalog.namespaces
+    either (inl same) = ap (λ (s : core.State). documents_of namespace s.catalog.namespaces) same
+    either (inr made) = created_documents old.catalog new.catalog asked.namespace asked.view made.0 namespace
 
-pub drop_leaves : (old new : State) (session : ℕ) (command : Command) (asked : Drop) (outcome : Outcome) → asked_by command ≡ Ok (drop asked) → MemoryStep old session command outcome new → (namespace : List ℕ)
-    → bytes_eq asked.namespace namespace ≡ false → documents_of namespace new.namespaces ≡ documents_of namespace old.namespaces
+pub drop_leaves : (old new : core.State) (session : ℕ) (command : Command) (asked : Drop) (outcome : Outcome) → asked_by command ≡ Ok (drop asked) → MemoryStep old session command outcome new → (namespace : List ℕ)
+    → bytes_eq asked.namespace namespace ≡ false → documents_of namespace new.catalog.namespaces ≡ documents_of namespace old.catalog.namespaces
 drop_leaves old new session command asked outcome asks steps namespace other = either (others_made old new session command (drop asked) outcome asks refl steps)
   where
-    either : (new ≡ old) ⊎ Made old (drop asked) new → documents_of namespace new.namespaces ≡ documents_of namespace old.namespaces
-    either (inl same) = ap (λ (s : State). documents_of namespace s.namespaces) same
-    either (inr made) = dropped_others old new asked.namespace namespace made other
+    either : (new ≡ old) ⊎ Made old (drop asked) new → documents_of namespace new.catalog.namespaces ≡ documents_of namespace old.catalog.namespaces
+    either (inl same) = ap (λ (s : core.State). documents_of namespace s.catalog.namespaces) same
+    either (inr made) = dropped_others old.catalog new.catalog asked.namespace namespace made.0 other
+
+made_indexes : (old new : core.State) (asked : Asked) → indexes asked ≡ true → Made old asked new → LeavesDocuments old.catalog new.catalog
+made_indexes old new (create_indexes c) is made = created_so old.catalog new.catalog c.namespace (map form_asked c.indexes) made.0
+made_indexes old new (drop_indexes d) is made = dropped_so old.catalog new.catalog d.namespace d.index made.0
+made_indexes old new asked is made = absurd cc
+
+no_write : (asked : Asked) → indexes asked ≡ true → write_of asked ≡ None
+no_write (create_indexes c) is = refl
+no_write (drop_indexes d) is = refl
+no_write asked is = absurd cc
+
+pub indexing_leaves : (old new : core.State) (session : ℕ) (command : Command) (asked : Asked) (outcome : Outcome) → asked_by command ≡ Ok asked → indexes asked ≡ true → MemoryStep old session command outcome new
+    → (new.catalog.views ≡ old.catalog.views) × ((namespace : List ℕ) → documents_of namespace new.catalog.namespaces ≡ documents_of namespace old.catalog.namespaces)
+indexing_leaves old new session command asked outcome asks is steps = either (others_made old new session command asked outcome asks (no_write asked is) steps)
+  where
+    either : (new ≡ old) ⊎ Made old asked new → (new.catalog.views ≡ old.catalog.views) × ((namespace : List ℕ) → documents_of namespace new.catalog.namespaces ≡ documents_of namespace old.catalog.namespaces)
+    either (inl same) = (ap (λ (s : core.State). s.catalog.views) same, λ namespace. ap (λ (s : core.State). documents_of namespace s.catalog.namespaces) same)
+    either (inr made) = let leaves = made_indexes old new asked is made in (leaves.views, leaves.documents)

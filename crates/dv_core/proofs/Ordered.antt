@@ -1,5 +1,5 @@
 -- The documents of each namespace stay in the order of their `_id`s, and sound.
-use Rattle.std.proofs.Common.{◌≡◌, ℕ, Bool, true, false, cond, ◌||◌, not, List, [], ◌∷◌, map, Option, Some, None, Result, Ok, Err, is_some, refl, sym, ap, ◌∙◌, subst}
+use Rattle.std.proofs.Common.{◌≡◌, ℕ, Bool, true, false, cond, ◌||◌, not, List, [], ◌∷◌, map, Option, Some, None, Result, Ok, Err, is_some, refl, sym, subst}
 use Rattle.std.specs.Prelude.{codes}
 use Rattle.std.specs.Cmp.Lexicographic.{slice_cmp}
 use Rattle.std.specs.FinMap as finite
@@ -12,12 +12,12 @@ use Rattle.dv_bson.specs.Tree.{Tree, array, Field, fields_of}
 use Rattle.dv_order.specs.Key.{KeyTree, key_order}
 use Rattle.dv_coll.specs.Collection.{HasId, IsAscending, found, has_key, id_key, inserted, removed, replaced}
 use Rattle.dv_command.specs.Asked.{Asked, insert, update, delete, asked_by}
-use Rattle.dv_command.specs.Refusals.{◌>>=◌}
+use Rattle.dv_fields.specs.Refusals.{◌>>=◌}
 use Rattle.dv_command.specs.Entries.{Updating, updating_of}
 use Rattle.dv_command.specs.Sound.{AreValid, IsSoundUpdate}
 use Rattle.dv_command.specs.declared.command.Command.{Command}
-use Rattle.dv_command.specs.declared.refusal.Refusal.{Refusal}
-use Rattle.dv_command.specs.declared.refusal.Refusal.TheVariants.{BadValue, TooLarge}
+use Rattle.dv_fields.specs.declared.refusal.Refusal.{Refusal}
+use Rattle.dv_fields.specs.declared.refusal.Refusal.TheVariants.{BadValue, TooLarge}
 use Rattle.dv_core.specs.declared.outcome.Outcome.{Outcome}
 use Rattle.dv_catalog.specs.Changes.{Change, put, gone, with_change}
 use Rattle.dv_core.specs.Delete.{delete_write}
@@ -28,7 +28,8 @@ use Rattle.dv_catalog.specs.Effects.{after}
 use Rattle.dv_core.specs.Update.{update_write}
 use Rattle.dv_core.specs.Insert.{insert_one, insert_write}
 use Rattle.dv_core.specs.Sound.{IsSoundDocument, AreSound, IsSound, IsSoundCommand}
-use Rattle.dv_catalog.specs.State.{State, empty_state, documents_of, AreOrdered, IsOrdered}
+use Rattle.dv_catalog.specs.State.{documents_of, AreOrdered, IsOrdered}
+use Rattle.dv_core.specs.State.{State, empty_state}
 use Rattle.dv_core.specs.Statements.{Write}
 use Rattle.dv_core.specs.Step.{write_of, MemoryStep}
 use Rattle.dv_core.specs.Storable.{are_fields_dotted, has_dollar, id_in, is_within_limits, storable, with_id_first, without_field}
@@ -39,8 +40,8 @@ use Rattle.dv_core.proofs.Stored.{storable_fits}
 use Rattle.dv_catalog.specs.EffectLaws.{KeepsId, told_after, after_id}
 use Rattle.dv_core.proofs.Valid.{storable_valid}
 
-nothing_there : (namespace : List ℕ) → [] ≡ documents_of namespace empty_state.namespaces
-nothing_there namespace = sym (documents_there empty_state.namespaces namespace None (finite.get-empty (slice_cmp nat_cmp) namespace))
+nothing_there : (namespace : List ℕ) → [] ≡ documents_of namespace empty_state.catalog.namespaces
+nothing_there namespace = sym (documents_there empty_state.catalog.namespaces namespace None (finite.get-empty (slice_cmp nat_cmp) namespace))
 
 none_ordered : AreOrdered []
 unfolding IsStrictlySortedBy
@@ -49,7 +50,7 @@ none_ordered = (tt, tt)
 none_sound : AreSound []
 none_sound = (none_ordered, tt)
 
-pub empty_ordered : IsOrdered empty_state
+pub empty_ordered : IsOrdered empty_state.catalog
 empty_ordered namespace = subst AreOrdered (nothing_there namespace) none_ordered
 
 pub empty_sound : IsSound empty_state
@@ -145,7 +146,7 @@ module _ (laws : CollectionLaws) where
   writes_order (delete d) write is = let same : delete_write d ≡ write = cc in subst KeepsOrder same (deletes_keep (λ namespace ds. AreOrdered ds) BeginsWithId changes_order (λ k. tt) d.entries)
   writes_order what write is = absurd cc
 
-  pub steps_ordered : (old new : State) (session : ℕ) (command : Command) (outcome : Outcome) → IsOrdered old → MemoryStep old session command outcome new → IsOrdered new
+  pub steps_ordered : (old new : State) (session : ℕ) (command : Command) (outcome : Outcome) → IsOrdered old.catalog → MemoryStep old session command outcome new → IsOrdered new.catalog
   steps_ordered old new session command outcome h steps = step_holds (λ namespace ds. AreOrdered ds) BeginsWithId changes_order old new session command outcome (λ namespace. none_ordered) (λ what write asks is. writes_order what write is) h steps
 
   -- ---- and sound, if the documents of commands are

@@ -9,7 +9,8 @@ use Rattle.dv_core.specs.declared.outcome.Outcome.{Outcome}
 use Rattle.dv_catalog.specs.Changes.{Change, put, gone, with_change}
 use Rattle.dv_core.specs.Delete.{delete_write}
 use Rattle.dv_core.specs.Part.{IsPart}
-use Rattle.dv_catalog.specs.State.{State, documents_of}
+use Rattle.dv_catalog.specs.State.{documents_of}
+use Rattle.dv_core.specs.State.{State}
 use Rattle.dv_core.specs.Statements.{Write}
 use Rattle.dv_core.specs.Step.{write_of, MemoryStep}
 use Rattle.dv_core.proofs.Kept.{Keeps, deletes_keep, step_holds}
@@ -37,12 +38,12 @@ filter_both p q (d ∷ ds) = filter_step p (q d) (p d) d (filter q ds) (filter (
 
 module _ (old : State) where
   abbrev LeftOf : List ℕ → List (List Field) → Type 0
-  LeftOf namespace documents = IsPart documents (documents_of namespace old.namespaces)
+  LeftOf namespace documents = IsPart documents (documents_of namespace old.catalog.namespaces)
 
   goes : (namespace : List ℕ) (documents : List (List Field)) (change : Change) → LeftOf namespace documents → IsGone change → LeftOf namespace (with_change documents change)
   goes namespace documents (put d) part good = absurd good
   goes namespace documents (gone k) (stays, is) good =
-      ((λ d. stays d && not (has_key k d)), ap (removed k) is ∙ filter_both (λ d. not (has_key k d)) stays (documents_of namespace old.namespaces))
+      ((λ d. stays d && not (has_key k d)), ap (removed k) is ∙ filter_both (λ d. not (has_key k d)) stays (documents_of namespace old.catalog.namespaces))
 
   deletes_go : (asked : Delete) (what : Asked) (write : Write) → delete asked ≡ what → write_of what ≡ Some write → AllByRecursion (Keeps LeftOf IsGone goes) write.statements
   deletes_go asked what write is writes =
@@ -50,7 +51,7 @@ module _ (old : State) where
       subst (λ (w : Write). AllByRecursion (Keeps LeftOf IsGone goes) w.statements) same (deletes_keep LeftOf IsGone goes (λ k. tt) asked.entries)
 
   pub delete_leaves : (new : State) (session : ℕ) (command : Command) (asked : Delete) (outcome : Outcome) → asked_by command ≡ Ok (delete asked) → MemoryStep old session command outcome new → (namespace : List ℕ)
-      → IsPart (documents_of namespace new.namespaces) (documents_of namespace old.namespaces)
+      → IsPart (documents_of namespace new.catalog.namespaces) (documents_of namespace old.catalog.namespaces)
   delete_leaves new session command asked outcome asks steps =
-      step_holds LeftOf IsGone goes old new session command outcome (λ namespace. ((λ d. false), filter_none (documents_of namespace old.namespaces))) (λ what write is writes. deletes_go asked what write (cc (asks, is)) writes)
-      (λ namespace. ((λ d. true), filter_whole (documents_of namespace old.namespaces))) steps
+      step_holds LeftOf IsGone goes old new session command outcome (λ namespace. ((λ d. false), filter_none (documents_of namespace old.catalog.namespaces))) (λ what write is writes. deletes_go asked what write (cc (asks, is)) writes)
+      (λ namespace. ((λ d. true), filter_whole (documents_of namespace old.catalog.namespaces))) steps

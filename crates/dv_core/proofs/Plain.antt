@@ -2,6 +2,7 @@
 use Rattle.std.proofs.Common.{◌||◌, ◌&&◌, Bool, true, false, cond, ℤ, pos, negsuc, List, [], ◌∷◌, length, map, not, Option, Some, None, Result, Ok, Err, is_some}
 use Rattle.std.specs.List.{AllByRecursion}
 use Rattle.std.specs.Prelude.{codes}
+use Rattle.std.specs.Str.{bytes_eq}
 use Rattle.dv_bson.specs.Names.{value_under}
 use Rattle.dv_bson.specs.Tree.{Tree, int32, int64, string, boolean, document, array, no_fields, Elements, no_elements, element, Field, fields_of}
 use Rattle.dv_coll.specs.Collection.{id_key, found}
@@ -13,12 +14,13 @@ use Rattle.dv_update.specs.declared.fault.UpdateFault.TheVariants as updating
 use Rattle.dv_update.specs.Apply.{applied}
 use Rattle.dv_update.specs.Parsing as updates
 use Rattle.dv_update.specs.Update as form
-use Rattle.dv_command.specs.declared.refusal.Refusal.{Refusal}
-use Rattle.dv_command.specs.declared.refusal.Refusal.TheVariants.{InvalidBson, BadValue, FailedToParse, DuplicateKey, TooLarge}
-use Rattle.dv_command.specs.Refusals.{◌>>=◌, refused_by, filter_refusal, update_refusal}
-use Rattle.dv_command.specs.Kinds.{Kind, Place}
-use Rattle.dv_command.specs.Kinds as kinds
-use Rattle.dv_command.specs.Fields.{Table, update_in, check_false, optional, updating_table, boolean_under, update_under, text_in, boolean_in, document_in, each_document, documents_in, array_in, integer_in, not_negative, natural_in, one_or_all, only_first_in, check_empty, check_none, check_value, check_known, check_field, check_fields, is_ignored, kind_in, required, deletion_table, document_under, only_first_under}
+use Rattle.dv_fields.specs.declared.refusal.Refusal.{Refusal}
+use Rattle.dv_fields.specs.declared.refusal.Refusal.TheVariants.{InvalidBson, BadValue, FailedToParse, DuplicateKey, TooLarge}
+use Rattle.dv_fields.specs.Refusals.{◌>>=◌, each, refused_by, filter_refusal, update_refusal}
+use Rattle.dv_fields.specs.Kinds.{Kind, Place}
+use Rattle.dv_fields.specs.Kinds as kinds
+use Rattle.dv_fields.specs.Fields.{Table, update_in, check_false, optional, boolean_under, update_under, text_in, boolean_in, document_in, each_document, documents_in, array_in, integer_in, not_negative, natural_in, one_or_all, only_first_in, check_batch_size, check_cursor, check_empty, check_none, check_single, integers_in, check_value, check_known, check_field, check_fields, is_ignored, kind_in, required, document_under, only_first_under}
+use Rattle.dv_command.specs.Tables.{updating_table, deletion_table}
 use Rattle.dv_command.specs.Forms.{filter_of, update_of, is_replacement}
 use Rattle.dv_command.specs.Entries.{Updating, deletion_of, updating_of, check_multi}
 use Rattle.dv_catalog.specs.Changes.{put, Effect, Statement}
@@ -107,6 +109,27 @@ none_plainly : (fs : List Field) → IsPlainly (check_none fs)
 none_plainly [] = tt
 none_plainly (f ∷ fs) = tt
 
+each_integer_plainly : (vs : List Tree) → IsPlainly (each integer_in vs)
+each_integer_plainly [] = tt
+each_integer_plainly (v ∷ vs) = then_plainly (integer_in v) _ (integer_plainly v) (λ n. then_plainly (each integer_in vs) _ (each_integer_plainly vs) (λ ns. tt))
+
+integers_plainly : (v : Tree) → IsPlainly (integers_in v)
+integers_plainly v = then_plainly (array_in v) (each integer_in) (array_plainly v) each_integer_plainly
+
+natural_read_plainly : (v : Tree) → IsPlainly (natural_in v)
+natural_read_plainly v = then_plainly (integer_in v) not_negative (integer_plainly v) natural_plainly
+
+single_plainly : (fs : List Field) → IsPlainly (check_single fs)
+single_plainly [] = tt
+single_plainly (f ∷ fs) = none_plainly fs
+
+batch_size_plainly : (f : Field) → IsPlainly (check_batch_size f)
+batch_size_plainly f = test_plainly (bytes_eq f.0 (codes "batchSize")) _ _ (then_plainly (natural_in f.1) _ (natural_read_plainly f.1) (λ x. tt)) tt
+
+cursor_plainly : (fs : List Field) → IsPlainly (check_cursor fs)
+cursor_plainly [] = tt
+cursor_plainly (f ∷ fs) = then_plainly (check_batch_size f) _ (batch_size_plainly f) (λ x. none_plainly fs)
+
 value_plainly : (kind : Kind) (v : Tree) → IsPlainly (check_value kind v)
 value_plainly kinds.anything v = tt
 value_plainly kinds.text v = then_plainly (text_in v) _ (text_plainly v) (λ x. tt)
@@ -119,7 +142,10 @@ value_plainly kinds.how_many v = then_plainly (only_first_in v) _ (only_first_pl
 value_plainly kinds.update v = then_plainly (update_in v) _ (update_plainly v) (λ x. tt)
 value_plainly kinds.only_false v = then_plainly (boolean_in v) check_false (boolean_plainly v) (λ b. test_plainly b (Err FailedToParse) (Ok tt) tt tt)
 value_plainly kinds.empty_document v = empty_plainly v
-value_plainly kinds.cursor v = then_plainly (document_in v) check_none (document_plainly v) none_plainly
+value_plainly kinds.integer v = then_plainly (integer_in v) _ (integer_plainly v) (λ x. tt)
+value_plainly kinds.integers v = then_plainly (integers_in v) _ (integers_plainly v) (λ x. tt)
+value_plainly kinds.single v = then_plainly (document_in v) check_single (document_plainly v) single_plainly
+value_plainly kinds.cursor v = then_plainly (document_in v) check_cursor (document_plainly v) cursor_plainly
 
 known_plainly : (kind : Option Kind) (v : Tree) → IsPlainly (check_known kind v)
 known_plainly None v = tt

@@ -1,5 +1,6 @@
 -- Replies have a spelling.
-use Rattle.std.proofs.Common.{◌≡◌, ℕ, suc, ◌+◌, ◌*◌, ◌≤◌, ◌<◌, ◌^◌, ◌/◌, ◌%◌, ◌-◌, min, decimal, Bool, true, false, ◌||◌, not, Option, Some, None, nat_lt, List, [], ◌∷◌, ◌++◌, length, map, pos, Result, Ok, Err, if◌then◌else◌, length-append, refl, sym, ap, subst, arith}
+use Rattle.std.proofs.lemmas.Bool.{ltb-true}
+use Rattle.std.proofs.Common.{◌≡◌, ◌⊎◌, inl, inr, ℤ, ◌&&◌, ℕ, suc, ◌+◌, ◌*◌, ◌≤◌, ◌<◌, ◌^◌, ◌/◌, ◌%◌, ◌-◌, min, decimal, Bool, true, false, ◌||◌, not, Option, Some, None, nat_lt, List, [], ◌∷◌, ◌++◌, length, map, pos, Result, Ok, Err, if◌then◌else◌, length-append, refl, sym, ap, subst, arith}
 use Rattle.std.proofs.lemmas.Bool.Decides.{nat_tests}
 use Rattle.std.proofs.lemmas.List.{length-map}
 use Rattle.std.proofs.lemmas.Int.{fits_signed_from_abs}
@@ -7,9 +8,9 @@ use Rattle.std.proofs.lemmas.Fmt.{IsAscii-decimal, length-decimal-le}
 use Rattle.std.proofs.lemmas.Str.{IsUtf8-append, IsUtf8-from_ascii}
 use Rattle.std.specs.Fmt.{digit_glyph}
 use Rattle.std.specs.Int.{w32, w64}
-use Rattle.std.specs.List.{AllByRecursion, list_all}
+use Rattle.std.specs.List.{AllByRecursion, list_all, list_any}
 use Rattle.std.specs.Prelude.{codes}
-use Rattle.std.specs.Str.{IsUtf8}
+use Rattle.std.specs.Str.{IsUtf8, bytes_eq}
 use Rattle.dv_bson.specs.Fault.{fault_text, hex_byte}
 use Rattle.dv_bson.specs.declared.fault.BsonFault.{BsonFault}
 use Rattle.dv_bson.specs.declared.fault.BsonFault.TheVariants as bson
@@ -17,29 +18,38 @@ use Rattle.dv_bson.specs.declared.fault.BsonFault.TheVariants.{Truncated, BadLen
 use Rattle.dv_bson.specs.Names.{has_name, has_zero}
 use Rattle.dv_bson.specs.Spelling.{framed, element_spelling, counted, payload, spelling, IsValue, AreFields, AreElements, Spells}
 use Rattle.dv_bson.specs.Tree.{Tree, int32, int64, boolean, string, array, Field, fields_of, list_of_fields, elements_of}
-use Rattle.dv_command.specs.Asked.{Asked, Find, ViewOn, hello, ping, insert, update, delete, find, aggregate, create, drop, asked_by}
-use Rattle.dv_command.specs.Replies.{document_of, count, drop_reply, hello_reply, reply_of, refusal_reply, rows_reply, write_error, update_reply, errors_field}
-use Rattle.dv_command.specs.Refusals.{code, code_name, message_of, ◌>>=◌}
+use Rattle.dv_command.specs.Asked.{Asked, Find, ViewOn, hello, ping, insert, update, delete, find, aggregate, get_more, kill_cursors, create, drop, create_indexes, drop_indexes, explain, asked_by}
+use Rattle.dv_command.specs.Replies.{document_of, count, drop_reply, hello_reply, reply_of, refusal_reply, batch_reply, first_batch_reply, kill_cursors_reply, create_indexes_reply, drop_indexes_reply, write_error, update_reply, errors_field}
+use Rattle.dv_fields.specs.Refusals.{code, code_name, message_of, ◌>>=◌}
 use Rattle.dv_command.specs.declared.command.Command.{Command}
-use Rattle.dv_command.specs.declared.refusal.Refusal.{Refusal}
-use Rattle.dv_command.specs.declared.refusal.Refusal.TheVariants.{BadValue, FailedToParse, TypeMismatch, InvalidBson, PathNotViable, ConflictingUpdateOperators, ImmutableField, CommandNotFound, DuplicateKey, WantOfMemory, TooLarge, LimitReached, NamespaceNotFound, NamespaceExists, OnView, ReadByView}
+use Rattle.dv_fields.specs.declared.refusal.Refusal.{Refusal}
+use Rattle.dv_fields.specs.declared.refusal.Refusal.TheVariants.{BadValue, FailedToParse, TypeMismatch, InvalidBson, PathNotViable, ConflictingUpdateOperators, ImmutableField, CommandNotFound, DuplicateKey, WantOfMemory, TooLarge, LimitReached, NamespaceNotFound, IndexNotFound, CursorNotFound, NamespaceExists, OnView, ReadByView}
 use Rattle.dv_catalog.specs.Changes.{Effect}
 use Rattle.dv_core.specs.Delete.{delete_one, delete_write}
 use Rattle.dv_core.specs.Update.{update_one, update_write}
 use Rattle.dv_core.specs.Insert.{insert_one, insert_write}
 use Rattle.dv_catalog.specs.Scan.{scan}
-use Rattle.dv_catalog.specs.State.{State, Namespaces, ViewForm, documents_of, is_collection, is_there, is_view, rows_of, view_named}
+use Rattle.dv_catalog.specs.IndexMaking.{Explained, Way, over_view, by_index, over_all, explained, indexes_created, indexes_dropped, with_all as with_all_entries, with_entries, with_index, without_named, within_limit}
+use Rattle.dv_catalog.specs.State.{Namespaces, ViewForm, documents_of, indexes_of, is_collection, is_there, is_view, rows_of, view_named}
+use Rattle.dv_core.specs.State.{State}
+use Rattle.dv_cursor.specs.Batch.{batch, behind, total_size}
+use Rattle.dv_cursor.specs.Cursors.{Cursors, added, free_id}
+use Rattle.dv_cursor.specs.Runs.{IsWithin}
+use Rattle.dv_index.specs.Index.{IndexForm, id_form}
+use Rattle.dv_index.specs.Indexed.{is_dropped, without_index}
 use Rattle.dv_catalog.specs.State as states
 use Rattle.dv_catalog.specs.Views.{created, dropped, looks_into_view, made, with_view, with_views}
 use Rattle.dv_catalog.specs.Changes.{Statement}
 use Rattle.dv_core.specs.Statements.{Write, Written, nothing_written, is_due, with_result, with_next, with_all, carry_out}
-use Rattle.dv_core.specs.Step.{answered, read_answer, write_answer, made_answer, answer_to, step}
-use Rattle.dv_command.specs.Sound.{AreValid, IsNamespace, IsSoundlyAsked}
+use Rattle.dv_core.specs.Step.{answered, write_answer, on_catalog, on_cursors, answer_to, step}
+use Rattle.dv_command.specs.Sound.{AreValid, AreIds, IsNamespace, IsSoundlyAsked}
 use Rattle.dv_core.proofs.Asking.{AsksSoundly, soundly_asked}
 use Rattle.dv_core.proofs.Plain.{IsPlain, IsPlainly, IsPlainStatement, inserts_plain, updates_plain, deletes_plain}
 use Rattle.dv_catalog.specs.ScanLaws.{all_scanned}
-use Rattle.dv_core.specs.Find.{total_size, batch_limit, batch_reply}
-use Rattle.dv_core.specs.Sound.{HasSpelling, IsTold, IsSound, IsSoundCommand, IsSoundDocument, ShowsValid}
+use Rattle.dv_core.specs.Find.{are_too_large, found, gathered, kept, kept_under, left_behind, replied}
+use Rattle.dv_core.specs.Indexes.{explained_reply, form_asked, index_count}
+use Rattle.dv_core.specs.More.{gone_ids, id_behind, missing_ids, next_of, number_of, rows_asked, wanted, went_each}
+use Rattle.dv_core.specs.Sound.{AreShown, HasSpelling, IsExplained, IsTold, IsSound, IsSoundCommand, IsSoundDocument, ShowsValid}
 use Rattle.dv_core.specs.Storable.{is_within_limits}
 use Rattle.dv_core.proofs.Spellings.{spelling-field, spelling-nil, spelling-long, length-int32, length-int64, length-string, sizes, array-bound}
 use Rattle.dv_core.proofs.Texts.{are_ascii, IsUtf8-ascii}
@@ -49,8 +59,8 @@ use Rattle.dv_core.proofs.Texts.{are_ascii, IsUtf8-ascii}
 number_valid : (n : ℕ) → n < 2 ^ 31 → IsValue (int32 (pos n))
 number_valid n h = fits_signed_from_abs w32 (pos n) h
 
-no_cursor_valid : IsValue (int64 (pos 0))
-no_cursor_valid = fits_signed_from_abs w64 (pos 0) (omega arith)
+id_valid : (id : ℕ) → id < 2 ^ 63 → IsValue (int64 (pos id))
+id_valid id h = fits_signed_from_abs w64 (pos id) h
 
 more_valid : (name : List ℕ) (v : Tree) (fs : List Field) → are_ascii name ≡ true → has_zero name ≡ false → has_name name (list_of_fields (fields_of fs)) ≡ false → IsValue v → AreFields (fields_of fs) → AreFields (fields_of ((name, v) ∷ fs))
 more_valid name v fs ascii whole fresh value rest = (IsUtf8-ascii name ascii, whole, fresh, value, rest)
@@ -88,35 +98,48 @@ documents_count : (ds : List (List Field)) → 5 * length ds ≤ total_size ds
 documents_count [] = omega arith
 documents_count (d ∷ ds) = omega (arith, spelling-long d, documents_count ds)
 
-module _ (namespace : List ℕ) (text : IsUtf8 namespace) (short : length namespace ≤ 120) (ds : List (List Field)) (valid : AreValid ds) (together : total_size ds ≤ 16777216) where
+-- a name under which a batch stands
+pub record IsBatchName (name : List ℕ) : Type 0 where
+  pub ascii : are_ascii name ≡ true
+  pub whole : has_zero name ≡ false
+  pub fresh : (id : ℕ) (namespace : List ℕ) → has_name name (list_of_fields (fields_of ((codes "id", int64 (pos id)) ∷ (codes "ns", string namespace) ∷ []))) ≡ false
+  pub short : length name ≤ 10
+
+first_name : IsBatchName (codes "firstBatch")
+first_name = record { ascii = refl; whole = refl; fresh = λ id namespace. refl; short = omega arith }
+
+next_name : IsBatchName (codes "nextBatch")
+next_name = record { ascii = refl; whole = refl; fresh = λ id namespace. refl; short = omega arith }
+
+module _ (name : List ℕ) (is_name : IsBatchName name) (namespace : List ℕ) (text : IsUtf8 namespace) (short : length namespace ≤ 120) (id : ℕ) (fits : id < 2 ^ 63) (ds : List (List Field)) (valid : AreValid ds) (together : total_size ds ≤ 16777216) where
   abbrev rows : Tree
   rows = array (elements_of (map document_of ds))
 
-  abbrev behind : List Field
-  behind = (codes "id", int64 (pos 0)) ∷ (codes "ns", string namespace) ∷ []
+  abbrev after : List Field
+  after = (codes "id", int64 (pos id)) ∷ (codes "ns", string namespace) ∷ []
 
   abbrev cursor : List Field
-  cursor = (codes "firstBatch", rows) ∷ behind
+  cursor = (name, rows) ∷ after
 
   cursor_valid : AreFields (fields_of cursor)
   cursor_valid =
-      more_valid (codes "firstBatch") rows behind refl refl refl (documents_valid ds valid)
-      (more_valid (codes "id") (int64 (pos 0)) ((codes "ns", string namespace) ∷ []) refl refl refl no_cursor_valid (more_valid (codes "ns") (string namespace) [] refl refl refl text tt))
+      more_valid name rows after is_name.ascii is_name.whole (is_name.fresh id namespace) (documents_valid ds valid)
+      (more_valid (codes "id") (int64 (pos id)) ((codes "ns", string namespace) ∷ []) refl refl refl (id_valid id fits) (more_valid (codes "ns") (string namespace) [] refl refl refl text tt))
 
   rows_size : length (payload rows) ≤ 16777216 + 9 * 3355444 + 5
   rows_size =
       let count : length (map document_of ds) ≤ 3355444 = omega (arith, documents_length ds, documents_count ds) in
       omega (arith, array-bound (map document_of ds) (omega arith), documents_size ds)
 
-  behind_size : length (spelling behind) ≤ 152
-  behind_size =
-      omega (arith, spelling-field (codes "id", int64 (pos 0)) ((codes "ns", string namespace) ∷ []), length-int64 (pos 0), spelling-field (codes "ns", string namespace) [], length-string namespace, spelling-nil)
+  after_size : length (spelling after) ≤ 152
+  after_size =
+      omega (arith, spelling-field (codes "id", int64 (pos id)) ((codes "ns", string namespace) ∷ []), length-int64 (pos id), spelling-field (codes "ns", string namespace) [], length-string namespace, spelling-nil)
 
-  pub rows_spelled : Spells (rows_reply namespace (map document_of ds)) (spelling (rows_reply namespace (map document_of ds)))
+  pub rows_spelled : HasSpelling (batch_reply name namespace id (map document_of ds))
   rows_spelled =
       spelled ((codes "cursor", document_of cursor) ∷ ok_fields)
       (more_valid (codes "cursor") (document_of cursor) ok_fields refl refl refl cursor_valid ok_valid)
-      (omega (arith, spelling-field (codes "cursor", document_of cursor) ok_fields, ok_size, spelling-field (codes "firstBatch", rows) behind, rows_size, behind_size))
+      (omega (arith, spelling-field (codes "cursor", document_of cursor) ok_fields, ok_size, spelling-field (name, rows) after, rows_size, after_size, is_name.short))
 
 -- ---- the errors of statements
 
@@ -139,6 +162,8 @@ plain_short WantOfMemory plain = record { text = IsUtf8-ascii (codes "WantOfMemo
 plain_short TooLarge plain = record { text = IsUtf8-ascii (codes "TooLarge") refl; few = omega arith; number = omega arith }
 plain_short LimitReached plain = record { text = IsUtf8-ascii (codes "LimitReached") refl; few = omega arith; number = omega arith }
 plain_short NamespaceNotFound plain = record { text = IsUtf8-ascii (codes "NamespaceNotFound") refl; few = omega arith; number = omega arith }
+plain_short IndexNotFound plain = record { text = IsUtf8-ascii (codes "IndexNotFound") refl; few = omega arith; number = omega arith }
+plain_short CursorNotFound plain = record { text = IsUtf8-ascii (codes "CursorNotFound") refl; few = omega arith; number = omega arith }
 plain_short NamespaceExists plain = record { text = IsUtf8-ascii (codes "NamespaceExists") refl; few = omega arith; number = omega arith }
 plain_short OnView plain = record { text = IsUtf8-ascii (codes "OnView") refl; few = omega arith; number = omega arith }
 plain_short ReadByView plain = record { text = IsUtf8-ascii (codes "ReadByView") refl; few = omega arith; number = omega arith }
@@ -208,6 +233,8 @@ name_short WantOfMemory = ascii_short (codes "WantOfMemory") refl (omega arith)
 name_short TooLarge = ascii_short (codes "TooLarge") refl (omega arith)
 name_short LimitReached = ascii_short (codes "LimitReached") refl (omega arith)
 name_short NamespaceNotFound = ascii_short (codes "NamespaceNotFound") refl (omega arith)
+name_short IndexNotFound = ascii_short (codes "IndexNotFound") refl (omega arith)
+name_short CursorNotFound = ascii_short (codes "CursorNotFound") refl (omega arith)
 name_short NamespaceExists = ascii_short (codes "NamespaceExists") refl (omega arith)
 name_short OnView = ascii_short (codes "OnView") refl (omega arith)
 name_short ReadByView = ascii_short (codes "ReadByView") refl (omega arith)
@@ -385,19 +412,136 @@ refusal_spelled refusal told =
       spelling-nil,
     ))
 
--- what reads is answered: rows, if they are valid
-batch_spelled : (old : State) (namespace : List ℕ) (rows : List (List Field)) → IsNamespace namespace → AreValid rows → HasSpelling (answered old (read_answer old (batch_reply namespace rows))).reply
-batch_spelled old namespace rows named valid = by_size (not (list_all is_within_limits rows)) (nat_lt batch_limit (total_size rows)) refl
-  where
-    by_size : (a b : Bool) → nat_lt batch_limit (total_size rows) ≡ b → HasSpelling (answered old (read_answer old (if a || b then Err TooLarge else Ok (rows_reply namespace (map document_of rows))))).reply
-    by_size true b test = refusal_spelled TooLarge tt
-    by_size false true test = refusal_spelled TooLarge tt
-    by_size false false test = rows_spelled namespace named.0 named.1 rows valid (grind (arith, nat_tests))
+-- ---- batches
 
-aggregate_spelled : (old : State) (namespace : List ℕ) (b : Bool) (rows : List (List Field)) → IsNamespace namespace → AreValid rows
-    → HasSpelling (answered old (read_answer old ((if b then Err OnView else Ok rows) >>= batch_reply namespace))).reply
-aggregate_spelled old namespace true found named valid = refusal_spelled OnView tt
-aggregate_spelled old namespace false found named valid = batch_spelled old namespace found named valid
+-- what holds of batches, by the laws of cursors
+pub record BatchLaws : Type 0 where
+  pub front : (count : ℕ) (rows : List (List Field)) → batch count rows ++ behind count rows ≡ rows
+  pub within : (count : ℕ) (rows : List (List Field)) → IsWithin count (batch count rows)
+
+front_valid : (rows others : List (List Field)) → AreValid (rows ++ others) → AreValid rows
+front_valid [] others valid = tt
+front_valid (row ∷ rows) others valid = (valid.0, front_valid rows others valid.1)
+
+limited : (size depth : ℕ) → (not (nat_lt 16777216 size) && not (nat_lt 100 depth)) ≡ true → size ≤ 16777216
+limited size depth is = grind (arith, nat_tests)
+
+both_hold : (a b : Bool) → not (a && b) ≡ false → (a ≡ true) × (b ≡ true)
+both_hold true true is = (refl, refl)
+both_hold true false is = absurd cc
+both_hold false b is = absurd cc
+
+-- one row that isn't too large, or rows within the limit
+within_limit_by : (rows others : List (List Field)) → are_too_large (rows ++ others) ≡ false → (length rows ≤ 1) ⊎ (total_size rows ≤ 16777216) → total_size rows ≤ 16777216
+within_limit_by rows others fit (inr few) = few
+within_limit_by [] others fit (inl one) = omega arith
+within_limit_by (row ∷ []) others fit (inl one) =
+    let first = both_hold (is_within_limits row) (list_all is_within_limits others) fit in
+    omega (arith, limited (length (spelling row)) _ first.0)
+within_limit_by (row ∷ other ∷ rows) others fit (inl one) = absurd (omega arith)
+
+module _ (laws : BatchLaws) (count : ℕ) (rows : List (List Field)) where
+  batch_valid : AreValid rows → AreValid (batch count rows)
+  batch_valid valid = front_valid (batch count rows) (behind count rows) (subst AreValid (sym (laws.front count rows)) valid)
+
+  batch_within : are_too_large rows ≡ false → total_size (batch count rows) ≤ 16777216
+  batch_within fit = within_limit_by (batch count rows) (behind count rows) (subst (λ (rs : List (List Field)). are_too_large rs ≡ false) (sym (laws.front count rows)) fit) (laws.within count rows).1
+
+-- what is told of a part of the state, or why it is refused
+record IsSpelledSo {S : Type 0} (defined : Result (List Field × S) Refusal) : Type 0 where
+  reply : (done : List Field × S) → defined ≡ Ok done → HasSpelling done.0
+  refusal : (why : Refusal) → defined ≡ Err why → IsTold why
+
+cursors_spelled : (old : State) (defined : Result (List Field × Cursors) Refusal) → IsSpelledSo defined → HasSpelling (answered old (on_cursors old defined)).reply
+cursors_spelled old (Ok done) so = so.reply done refl
+cursors_spelled old (Err refusal) so = refusal_spelled refusal (so.refusal refusal refl)
+
+is_refused : {S : Type 0} (why : Refusal) → IsTold why → IsSpelledSo {S = S} (Err why)
+is_refused why told = record { reply = λ done is. absurd cc; refusal = λ other is. let same : why ≡ other = cc in subst IsTold same told }
+
+is_told : {S : Type 0} (done : List Field × S) → HasSpelling done.0 → IsSpelledSo (Ok done)
+is_told {S} done spelt = record { reply = λ other is. let same : done ≡ other = cc in subst (λ (d : List Field × S). HasSpelling d.0) same spelt; refusal = λ why is. absurd cc }
+
+module _ (laws : BatchLaws) (namespace : List ℕ) (named : IsNamespace namespace) (count : ℕ) (rows : List (List Field)) (valid : AreValid rows) where
+  replied_spelled : (id : ℕ × Cursors) → id.0 < 2 ^ 63 → (b : Bool) → are_too_large rows ≡ b
+      → IsSpelledSo (if b then Err TooLarge else Ok (first_batch_reply namespace id.0 (map document_of (batch count rows)), id.1))
+  replied_spelled id fits true is = is_refused TooLarge tt
+  replied_spelled id fits false is = is_told _ (rows_spelled (codes "firstBatch") first_name namespace named.0 named.1 id.0 fits (batch count rows) (batch_valid laws count rows valid) (batch_within laws count rows is))
+
+  under_spelled : (session : ℕ) (left : List (List Field)) (cursors : Cursors) (id : Option ℕ) → ((i : ℕ) → id ≡ Some i → i < 2 ^ 63) → IsSpelledSo (kept_under id session namespace left cursors >>= replied namespace count rows)
+  under_spelled session left cursors None fits = is_refused LimitReached tt
+  under_spelled session left cursors (Some id) fits = replied_spelled (id, added session namespace left cursors) (fits id refl) (are_too_large rows) refl
+
+  free_fits : (b c : Bool) (next id : ℕ) → nat_lt next (2 ^ 63) ≡ c → (if b && c then Some next else None) ≡ Some id → id < 2 ^ 63
+  free_fits true true next id small is = let same : next ≡ id = cc in subst (λ (n : ℕ). n < 2 ^ 63) same (ltb-true next (2 ^ 63) small)
+  free_fits true false next id small is = absurd cc
+  free_fits false c next id small is = absurd cc
+
+  first_spelled : (session : ℕ) (left : List (List Field)) (cursors : Cursors) → IsSpelledSo (kept session namespace left cursors >>= replied namespace count rows)
+  first_spelled session [] cursors = replied_spelled (0, cursors) (omega arith) (are_too_large rows) refl
+  first_spelled session (row ∷ left) cursors = under_spelled session (row ∷ left) cursors (free_id cursors) (λ id is. free_fits _ _ cursors.next id refl is)
+
+  id_fits : (id : ℕ) (left : List (List Field)) → id < 2 ^ 63 → id_behind id left < 2 ^ 63
+  id_fits id [] fits = omega arith
+  id_fits id (row ∷ left) fits = fits
+
+gathered_spelled : BatchLaws → (session : ℕ) (namespace : List ℕ) → IsNamespace namespace → (count : ℕ) (b : Bool) (rows : List (List Field)) (cursors : Cursors) → AreValid rows
+    → IsSpelledSo ((if b then Err OnView else Ok rows) >>= λ found. kept session namespace (left_behind count false found) cursors >>= replied namespace count found)
+gathered_spelled laws session namespace named count true _ cursors valid = is_refused OnView tt
+gathered_spelled laws session namespace named count false rows cursors valid = first_spelled laws namespace named count rows valid session (left_behind count false rows) cursors
+
+next_spelled : BatchLaws → (session : ℕ) (namespace : List ℕ) → IsNamespace namespace → (id count : ℕ) → id < 2 ^ 63 → (rows : Option (List (List Field))) (cursors : Cursors) → AreShown rows → IsSpelledSo (next_of session namespace id count rows cursors)
+next_spelled laws session namespace named id count fits None cursors shown = is_refused CursorNotFound tt
+next_spelled laws session namespace named id count fits (Some rows) cursors shown =
+    let many : ℕ = wanted count rows in
+    is_told _ (rows_spelled (codes "nextBatch") next_name namespace named.0 named.1 (id_behind id (behind many rows)) (id_fits laws namespace named many rows shown.0 id (behind many rows) fits)
+    (batch many rows) (batch_valid laws many rows shown.0) (batch_within laws many rows shown.1))
+
+-- ---- ids of cursors
+
+-- values of 8 bytes
+record AreNumbers (most : ℕ) (vs : List Tree) : Type 0 where
+  valid : AreElements (elements_of vs)
+  few : length vs ≤ most
+  size : sizes vs ≤ 8 * length vs
+
+number_more : (most : ℕ) (id : ℤ) (vs : List Tree) → IsValue (int64 id) → AreNumbers most vs → AreNumbers (suc most) (int64 id ∷ vs)
+number_more most id vs valid all = record { valid = (valid, all.valid); few = omega (arith, all.few); size = omega (arith, length-int64 id, all.size) }
+
+number_less : (most : ℕ) (vs : List Tree) → AreNumbers most vs → AreNumbers (suc most) vs
+number_less most vs all = record { valid = all.valid; few = omega (arith, all.few); size = all.size }
+
+gone_numbers : (ids : List ℤ) (went : List Bool) → AreIds ids → AreNumbers (length ids) (gone_ids ids went)
+gone_numbers [] went valid = record { valid = tt; few = omega arith; size = omega arith }
+gone_numbers (id ∷ ids) [] valid = record { valid = tt; few = omega arith; size = omega arith }
+gone_numbers (id ∷ ids) (true ∷ went) valid = number_more (length ids) id (gone_ids ids went) valid.0 (gone_numbers ids went valid.1)
+gone_numbers (id ∷ ids) (false ∷ went) valid = number_less (length ids) (gone_ids ids went) (gone_numbers ids went valid.1)
+
+missing_numbers : (ids : List ℤ) (went : List Bool) → AreIds ids → AreNumbers (length ids) (missing_ids ids went)
+missing_numbers [] went valid = record { valid = tt; few = omega arith; size = omega arith }
+missing_numbers (id ∷ ids) [] valid = record { valid = tt; few = omega arith; size = omega arith }
+missing_numbers (id ∷ ids) (true ∷ went) valid = number_less (length ids) (missing_ids ids went) (missing_numbers ids went valid.1)
+missing_numbers (id ∷ ids) (false ∷ went) valid = number_more (length ids) id (missing_ids ids went) valid.0 (missing_numbers ids went valid.1)
+
+killed_spelled : (most : ℕ) (gone missing : List Tree) → most ≤ 10000000 → AreNumbers most gone → AreNumbers most missing → HasSpelling (kill_cursors_reply gone missing)
+killed_spelled most gone missing few all others =
+    let more : List Field = (codes "cursorsNotFound", array (elements_of missing)) ∷ ok_fields in
+    spelled ((codes "cursorsKilled", array (elements_of gone)) ∷ more)
+    (more_valid (codes "cursorsKilled") (array (elements_of gone)) more refl refl refl all.valid (more_valid (codes "cursorsNotFound") (array (elements_of missing)) ok_fields refl refl refl others.valid ok_valid))
+    (omega (
+      arith,
+      spelling-field (codes "cursorsKilled", array (elements_of gone)) more,
+      spelling-field (codes "cursorsNotFound", array (elements_of missing)) ok_fields,
+      ok_size,
+      array-bound gone (omega (arith, all.few)),
+      array-bound missing (omega (arith, others.few)),
+      all.size,
+      all.few,
+      others.size,
+      others.few,
+    ))
+
+-- ---- writes
 
 write_or_refusal : (old : State) (b : Bool) (write : Write) (did : Written) → HasSpelling (write.reply did.n did.changed did.errors) → HasSpelling (answered old (if b then Err OnView else Ok (write_answer old write did))).reply
 write_or_refusal old true write did spelt = refusal_spelled OnView tt
@@ -408,9 +552,10 @@ abbrev IsToldOf : {A : Type 0} → Result A Refusal → Type 0
 IsToldOf (Ok x) = Unit {0}
 IsToldOf (Err refusal) = IsTold refusal
 
-made_spelled : (old : State) (reply : List Field) (made : Result State Refusal) → HasSpelling reply → IsToldOf made → HasSpelling (answered old (made_answer reply made)).reply
-made_spelled old reply (Ok new) spelt told = spelt
-made_spelled old reply (Err refusal) spelt told = refusal_spelled refusal told
+catalog_spelled : (old : State) (reply : states.State → List Field) (made : Result states.State Refusal) → ((left : states.State) → HasSpelling (reply left)) → IsToldOf made
+    → HasSpelling (answered old (on_catalog old (made >>= λ left. Ok (reply left, left)))).reply
+catalog_spelled old reply (Ok new) spelt told = spelt new
+catalog_spelled old reply (Err refusal) spelt told = refusal_spelled refusal told
 
 view_told : (a b c : Bool) (views : List ViewForm) → IsToldOf (if a then Err OnView else if b then Err ReadByView else if c then Ok views else Err LimitReached)
 view_told true b c views = tt
@@ -418,19 +563,19 @@ view_told false true c views = tt
 view_told false false true views = tt
 view_told false false false views = tt
 
-with_views_told : (state : State) (result : Result (List ViewForm) Refusal) → IsToldOf result → IsToldOf (with_views state result)
+with_views_told : (state : states.State) (result : Result (List ViewForm) Refusal) → IsToldOf result → IsToldOf (with_views state result)
 with_views_told state (Ok views) told = tt
 with_views_told state (Err refusal) told = told
 
-made_told : (namespace : List ℕ) (view : Option ViewOn) (state : State) → IsToldOf (made namespace view state)
+made_told : (namespace : List ℕ) (view : Option ViewOn) (state : states.State) → IsToldOf (made namespace view state)
 made_told namespace None state = tt
 made_told namespace (Some on) state = with_views_told state (with_view (record { name = namespace; source = on.source; stages = on.stages }) state.views) (view_told _ _ _ _)
 
-created_told : (b : Bool) (namespace : List ℕ) (view : Option ViewOn) (state : State) → IsToldOf (if b then Err NamespaceExists else made namespace view state)
+created_told : (b : Bool) (namespace : List ℕ) (view : Option ViewOn) (state : states.State) → IsToldOf (if b then Err NamespaceExists else made namespace view state)
 created_told true namespace view state = tt
 created_told false namespace view state = made_told namespace view state
 
-dropped_told : (a b : Bool) (one other : State) → IsToldOf (if a then Ok one else if b then Ok other else Err NamespaceNotFound)
+dropped_told : (a b : Bool) (one other : states.State) → IsToldOf (if a then Ok one else if b then Ok other else Err NamespaceNotFound)
 dropped_told true b one other = tt
 dropped_told false true one other = tt
 dropped_told false false one other = tt
@@ -440,28 +585,121 @@ drop_spelled namespace named =
     spelled ((codes "ns", string namespace) ∷ ok_fields) (more_valid (codes "ns") (string namespace) ok_fields refl refl refl named.0 ok_valid)
     (omega (arith, spelling-field (codes "ns", string namespace) ok_fields, length-string namespace, named.1, ok_size))
 
-module _ (asks : AsksSoundly) (counts : CountsAreValid) where
-  asked_spelled : (state : State) (session : ℕ) (asked : Asked) → IsSoundlyAsked asked → ShowsValid state asked → HasSpelling (answered state (answer_to state session asked)).reply
+-- ---- indexes
+
+with_index_told : (a b : Bool) (one other : List IndexForm) → IsToldOf (if a then Ok one else if b then Err ConflictingUpdateOperators else Ok other)
+with_index_told true b one other = tt
+with_index_told false true one other = tt
+with_index_told false false one other = tt
+
+then_told : {A B : Type 0} (result : Result A Refusal) (more : A → Result B Refusal) → IsToldOf result → ((x : A) → IsToldOf (more x)) → IsToldOf (result >>= more)
+then_told (Ok x) more told others = others x
+then_told (Err refusal) more told others = told
+
+with_entries_told : (entries indexes : List IndexForm) → IsToldOf (with_entries entries indexes)
+with_entries_told [] indexes = tt
+with_entries_told (x ∷ xs) indexes = then_told (with_index x indexes) _ (with_index_told _ _ indexes _) (λ more. with_entries_told xs more)
+
+limit_told : (b : Bool) (indexes : List IndexForm) → IsToldOf (if b then Err LimitReached else Ok indexes)
+limit_told true indexes = tt
+limit_told false indexes = tt
+
+view_or : {A : Type 0} (b : Bool) (result : Result A Refusal) → IsToldOf result → IsToldOf (if b then Err OnView else result)
+view_or true result told = tt
+view_or false result told = told
+
+indexed_told : (namespace : List ℕ) (entries : List IndexForm) (state : states.State) → IsToldOf (indexes_created namespace entries state)
+indexed_told namespace entries state =
+    view_or (is_view namespace state.views) _
+    (then_told (with_all_entries entries (indexes_of namespace state.namespaces)) _ (then_told (with_entries entries (indexes_of namespace state.namespaces)) within_limit (with_entries_told entries (indexes_of namespace state.namespaces)) (λ made. limit_told _ made)) (λ made. tt))
+
+without_told : (a b c : Bool) (one other : List IndexForm) → IsToldOf (if a then Ok one else if b then Err BadValue else if c then Ok other else Err IndexNotFound)
+without_told true b c one other = tt
+without_told false true c one other = tt
+without_told false false true one other = tt
+without_told false false false one other = tt
+
+there_or : {A : Type 0} (b : Bool) (result : Result A Refusal) → IsToldOf result → IsToldOf (if b then result else Err NamespaceNotFound)
+there_or true result told = told
+there_or false result told = tt
+
+unindexed_told : (namespace name : List ℕ) (state : states.State) → IsToldOf (indexes_dropped namespace name state)
+unindexed_told namespace name state =
+    view_or (is_view namespace state.views) _
+    (there_or (is_collection namespace state.namespaces) _ (then_told (without_named name (indexes_of namespace state.namespaces)) _ (without_told (bytes_eq name (codes "*")) (bytes_eq name id_form.name) (list_any (is_dropped name) (indexes_of namespace state.namespaces)) (id_form ∷ []) (without_index name (indexes_of namespace state.namespaces))) (λ made. tt)))
+
+made_indexes_spelled : CountsAreValid → (before after : ℕ) → HasSpelling (create_indexes_reply before after)
+made_indexes_spelled counts before after =
+    let more : List Field = (codes "numIndexesAfter", count after) ∷ ok_fields in
+    spelled ((codes "numIndexesBefore", count before) ∷ more)
+    (more_valid (codes "numIndexesBefore") (count before) more refl refl refl (counts before) (more_valid (codes "numIndexesAfter") (count after) ok_fields refl refl refl (counts after) ok_valid))
+    (omega (arith, spelling-field (codes "numIndexesBefore", count before) more, count_size before, spelling-field (codes "numIndexesAfter", count after) ok_fields, count_size after, ok_size))
+
+dropped_indexes_spelled : CountsAreValid → (before : ℕ) → HasSpelling (drop_indexes_reply before)
+dropped_indexes_spelled counts before =
+    spelled ((codes "nIndexesWas", count before) ∷ ok_fields) (more_valid (codes "nIndexesWas") (count before) ok_fields refl refl refl (counts before) ok_valid)
+    (omega (arith, spelling-field (codes "nIndexesWas", count before) ok_fields, count_size before, ok_size))
+
+-- the stage, which is one of three words
+staged : (stage : List ℕ) (rest : List Field) (n : ℕ) → are_ascii stage ≡ true → length stage ≤ 8 → has_name (codes "stage") (list_of_fields (fields_of rest)) ≡ false → AreFields (fields_of rest) → length (spelling rest) ≤ 300 → HasSpelling ((codes "stage", string stage) ∷ rest)
+staged stage rest n ascii short fresh valid size =
+    spelled ((codes "stage", string stage) ∷ rest) (more_valid (codes "stage") (string stage) rest refl refl fresh (IsUtf8-ascii stage ascii) valid)
+    (omega (arith, spelling-field (codes "stage", string stage) rest, length-string stage))
+
+docs_valid : (n : ℕ) → n < 2 ^ 63 → AreFields (fields_of ((codes "docs", int64 (pos n)) ∷ ok_fields))
+docs_valid n fits = more_valid (codes "docs") (int64 (pos n)) ok_fields refl refl refl (id_valid n fits) ok_valid
+
+docs_size : (n : ℕ) → length (spelling ((codes "docs", int64 (pos n)) ∷ ok_fields)) ≤ 40
+docs_size n = omega (arith, spelling-field (codes "docs", int64 (pos n)) ok_fields, length-int64 (pos n), ok_size)
+
+explained_spelled : (way : Way) (n : ℕ) → IsExplained (record { way = way; documents = n }) → HasSpelling (explained_reply (record { way = way; documents = n }))
+explained_spelled over_view n told = staged (codes "VIEW") ((codes "docs", int64 (pos n)) ∷ ok_fields) n refl (omega arith) refl (docs_valid n told.1) (omega (arith, docs_size n))
+explained_spelled over_all n told = staged (codes "COLLSCAN") ((codes "docs", int64 (pos n)) ∷ ok_fields) n refl (omega arith) refl (docs_valid n told.1) (omega (arith, docs_size n))
+explained_spelled (by_index name) n told =
+    let docs : List Field = (codes "docs", int64 (pos n)) ∷ ok_fields in
+    staged (codes "IXSCAN") ((codes "index", string name) ∷ docs) n refl (omega arith) refl (more_valid (codes "index") (string name) docs refl refl refl told.0.0 (docs_valid n told.1))
+    (omega (arith, spelling-field (codes "index", string name) docs, length-string name, told.0.1, docs_size n))
+
+module _ (asks : AsksSoundly) (counts : CountsAreValid) (laws : BatchLaws) where
+  asked_spelled : (state : State) (session : ℕ) (asked : Asked) → IsSoundlyAsked asked → ShowsValid state session asked → HasSpelling (answered state (answer_to state session asked)).reply
   asked_spelled state session hello sound shows = hello_spelled
   asked_spelled state session ping sound shows = ping_spelled
   asked_spelled state session (insert i) sound shows =
-      write_or_refusal state (is_view i.namespace state.views) (insert_write i) (carry_out (insert_write i) state.namespaces)
-      (write_spelled (insert_write i) state.namespaces (omega (arith, length-map i.documents insert_one, sound.2)) (inserts_plain i.documents) (λ n changed es. errors_spelled counts n es))
+      write_or_refusal state (is_view i.namespace state.catalog.views) (insert_write i) (carry_out (insert_write i) state.catalog.namespaces)
+      (write_spelled (insert_write i) state.catalog.namespaces (omega (arith, length-map i.documents insert_one, sound.2)) (inserts_plain i.documents) (λ n changed es. errors_spelled counts n es))
   asked_spelled state session (update u) sound shows =
-      write_or_refusal state (is_view u.namespace state.views) (update_write u) (carry_out (update_write u) state.namespaces)
-      (write_spelled (update_write u) state.namespaces (omega (arith, length-map u.entries update_one, sound.2)) (updates_plain u.entries) (update_spelled counts))
+      write_or_refusal state (is_view u.namespace state.catalog.views) (update_write u) (carry_out (update_write u) state.catalog.namespaces)
+      (write_spelled (update_write u) state.catalog.namespaces (omega (arith, length-map u.entries update_one, sound.2)) (updates_plain u.entries) (update_spelled counts))
   asked_spelled state session (delete d) sound shows =
-      write_or_refusal state (is_view d.namespace state.views) (delete_write d) (carry_out (delete_write d) state.namespaces)
-      (write_spelled (delete_write d) state.namespaces (omega (arith, length-map d.entries delete_one, sound.2)) (deletes_plain d.entries) (λ n changed es. errors_spelled counts n es))
+      write_or_refusal state (is_view d.namespace state.catalog.views) (delete_write d) (carry_out (delete_write d) state.catalog.namespaces)
+      (write_spelled (delete_write d) state.catalog.namespaces (omega (arith, length-map d.entries delete_one, sound.2)) (deletes_plain d.entries) (λ n changed es. errors_spelled counts n es))
   asked_spelled state session (find f) sound shows =
-      let rows : List (List Field) = rows_of f.namespace state in
-      batch_spelled state f.namespace (scan f.filter f.sort f.skip f.limit rows) sound (all_scanned (λ d. AreFields (fields_of d)) f.filter f.sort f.skip f.limit rows shows)
-  asked_spelled state session (aggregate a) sound shows = aggregate_spelled state a.namespace (looks_into_view a.stages a.namespace state.views) _ sound.0 shows
-  asked_spelled state session (create c) sound shows = made_spelled state (reply_of []) (created c.namespace c.view state) ping_spelled (created_told (is_there c.namespace state) c.namespace c.view state)
+      let rows : List (List Field) = rows_of f.namespace state.catalog in
+      let shown : List (List Field) = scan f.filter f.sort f.skip f.limit rows in
+      cursors_spelled state (found session f state.catalog state.cursors)
+      (first_spelled laws f.namespace sound f.batch_size shown (all_scanned (λ d. AreFields (fields_of d)) f.filter f.sort f.skip f.limit rows shows) session (left_behind f.batch_size f.single_batch shown) state.cursors)
+  asked_spelled state session (aggregate a) sound shows =
+      cursors_spelled state (gathered session a state.catalog state.cursors) (gathered_spelled laws session a.namespace sound.0 a.batch_size (looks_into_view a.stages a.namespace state.catalog.views) _ state.cursors shows)
+  asked_spelled state session (get_more g) sound shows =
+      cursors_spelled state (next_of session g.namespace (number_of g.id) g.batch_size (rows_asked session g.namespace g.id state.cursors) state.cursors)
+      (next_spelled laws session g.namespace sound (number_of g.id) g.batch_size shows.0 (rows_asked session g.namespace g.id state.cursors) state.cursors shows.1)
+  asked_spelled state session (kill_cursors k) sound shows =
+      let went : List Bool = went_each session k.namespace k.ids state.cursors in
+      killed_spelled (length k.ids) (gone_ids k.ids went) (missing_ids k.ids went) shows (gone_numbers k.ids went sound.1) (missing_numbers k.ids went sound.1)
+  asked_spelled state session (create c) sound shows =
+      catalog_spelled state (λ left. reply_of []) (created c.namespace c.view state.catalog) (λ left. ping_spelled) (created_told (is_there c.namespace state.catalog) c.namespace c.view state.catalog)
   asked_spelled state session (drop d) sound shows =
-      made_spelled state (drop_reply d.namespace) (dropped d.namespace state) (drop_spelled d.namespace sound) (dropped_told (is_collection d.namespace state.namespaces) (is_view d.namespace state.views) _ _)
+      catalog_spelled state (λ left. drop_reply d.namespace) (dropped d.namespace state.catalog) (λ left. drop_spelled d.namespace sound) (dropped_told (is_collection d.namespace state.catalog.namespaces) (is_view d.namespace state.catalog.views) _ _)
+  asked_spelled state session (create_indexes c) sound shows =
+      catalog_spelled state (λ left. create_indexes_reply (index_count c.namespace state.catalog) (index_count c.namespace left)) (indexes_created c.namespace (map form_asked c.indexes) state.catalog) (λ left. made_indexes_spelled counts _ _)
+      (indexed_told c.namespace (map form_asked c.indexes) state.catalog)
+  asked_spelled state session (drop_indexes d) sound shows =
+      catalog_spelled state (λ left. drop_indexes_reply (index_count d.namespace state.catalog)) (indexes_dropped d.namespace d.index state.catalog) (λ left. dropped_indexes_spelled counts _) (unindexed_told d.namespace d.index state.catalog)
+  asked_spelled state session (explain e) sound shows =
+      let told : Explained = explained e.find.namespace e.find.filter state.catalog in
+      explained_spelled told.way told.documents shows
 
-  pub replies_spelled : (state : State) (session : ℕ) (command : Command) (asked : Asked) → IsSoundCommand command → ShowsValid state asked → asked_by command ≡ Ok asked → HasSpelling (step state session command).reply
+  pub replies_spelled : (state : State) (session : ℕ) (command : Command) (asked : Asked) → IsSoundCommand command → ShowsValid state session asked → asked_by command ≡ Ok asked → HasSpelling (step state session command).reply
   replies_spelled state session command asked valid shows is =
       let carried : (step state session command).reply ≡ (answered state (answer_to state session asked)).reply = ap (λ (r : Result Asked Refusal). (answered state (r >>= answer_to state session)).reply) is in
       subst HasSpelling (sym carried) (asked_spelled state session asked (soundly_asked asks command asked valid is) shows)
@@ -480,6 +718,6 @@ no_view_named namespace (v ∷ vs) none = by_name (no_view_named namespace vs) (
     by_name rest true none = absurd cc
     by_name rest false none = rest none
 
-pub collections_show_valid : (state : State) (asked : Find) → IsSound state → is_view asked.namespace state.views ≡ false → ShowsValid state (find asked)
-collections_show_valid state asked sound none =
-    rw (no_view_named asked.namespace state.views none) (all_valid (documents_of asked.namespace state.namespaces) (sound asked.namespace).1)
+pub collections_show_valid : (state : State) (session : ℕ) (asked : Find) → IsSound state → is_view asked.namespace state.catalog.views ≡ false → ShowsValid state session (find asked)
+collections_show_valid state session asked sound none =
+    rw (no_view_named asked.namespace state.catalog.views none) (all_valid (documents_of asked.namespace state.catalog.namespaces) (sound asked.namespace).1)

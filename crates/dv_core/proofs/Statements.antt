@@ -3,8 +3,8 @@ use Rattle.std.proofs.Common.{◌≡◌, ℕ, suc, ◌+◌, ◌<◌, ◌⊎◌, 
 use Rattle.std.specs.declared.alloc.AllocError.{AllocError}
 use Rattle.std.proofs.lemmas.List.{append-nil}
 use Rattle.dv_bson.specs.Tree.{Tree, Field}
-use Rattle.dv_command.specs.declared.refusal.Refusal.{Refusal}
-use Rattle.dv_command.specs.declared.refusal.Refusal.TheVariants.{WantOfMemory}
+use Rattle.dv_fields.specs.declared.refusal.Refusal.{Refusal}
+use Rattle.dv_fields.specs.declared.refusal.Refusal.TheVariants.{WantOfMemory}
 use Rattle.dv_core.specs.declared.outcome.Outcome.TheVariants.{Reply, Wanting, NoReply}
 use Rattle.dv_core.specs.declared.next.Next.{Next}
 use Rattle.dv_core.specs.declared.next.Next.TheVariants.{Due, Ended}
@@ -12,7 +12,10 @@ use Rattle.dv_catalog.specs.State.{Namespaces, documents_of}
 use Rattle.dv_catalog.specs.Changes.{Change, Effect, apply}
 use Rattle.dv_catalog.specs.Changes.{Statement}
 use Rattle.dv_core.specs.Statements.{Write, Written, nothing_written, carry_out, with_next, with_all, with_result, is_due, next_changes, cut, AreCut, IsCut}
-use Rattle.dv_core.specs.WriteParts.{with_refusal, next_behind, reply_seen, Notes, CutsNext, NextStep, Writes}
+use Rattle.dv_catalog.specs.Parts as Parts
+use Rattle.dv_catalog.specs.declared.stopped.Stopped.{Stopped}
+use Rattle.dv_command.specs.Replies.{document_of, cut_error}
+use Rattle.dv_core.specs.WriteParts.{with_stopped, next_behind, reply_seen, Notes, CutsNext, NextStep, Writes}
 
 is_due-push : (ordered : Bool) (es : List Tree) (e : Tree) → is_due ordered (es ++ e ∷ []) ≡ not ordered
 is_due-push ordered [] e = refl
@@ -33,21 +36,41 @@ module _ (namespace : List ℕ) (ordered : Bool) where
     ended_or_due true ends is due = (is, due ∙ rw ends refl)
     ended_or_due false ends is due = (is, due ∙ rw ends refl)
 
-    -- it was refused
-    pub next_refused : (refusal : Refusal) → is_due ordered so_far.errors ≡ true → (statement (documents_of namespace so_far.namespaces) ≡ Err refusal) ⊎ (refusal ≡ WantOfMemory)
-        → now ≡ with_refusal so_far refusal → NextStep namespace ordered so_far statement (Ok (next_behind ordered refusal)) now
-    next_refused WantOfMemory due refused is = record { made = 0; fewer = inl refl; is_cut = is }
-    next_refused refusal due (inl refused) is = ended_or_due ordered refl (rw (due, refused) is) (rw is (is_due-push ordered so_far.errors _))
-    next_refused refusal due (inr want) is = absurd cc
-
   -- a refusal that is noted, or for which there was no memory
-  module _ (so_far : Written) (statement : Statement) where
-    pub next_noted : (noted : Namespaces → Written) (refusal : Refusal) → is_due ordered so_far.errors ≡ true → (statement (documents_of namespace so_far.namespaces) ≡ Err refusal) ⊎ (refusal ≡ WantOfMemory)
-        → (result : Result Next AllocError) → Notes ordered refusal so_far result (noted so_far.namespaces) → ((ns : Namespaces) → (noted ns).namespaces ≡ ns) → (new : Namespaces) → new ≡ so_far.namespaces
-        → NextStep namespace ordered so_far statement result (noted new)
-    next_noted noted refusal due refused (Ok next) (now_is, next_is) keeps new same = rw (same, next_is) (next_refused so_far (noted so_far.namespaces) statement refusal due refused now_is)
-    next_noted noted refusal due refused (Err e) told keeps new same =
-        (cut namespace ordered 0 so_far statement, record { made = 0; fewer = inl refl; is_cut = refl }, keeps new ∙ same)
+  module _ (so_far : Written) (statement : Statement) (new : Namespaces) where
+    abbrev does : Result Effect Refusal
+    does = statement (documents_of namespace so_far.namespaces)
+
+    abbrev Stops : Stopped → Type 0
+    Stops stopped = Parts.IsRefused does so_far.namespaces stopped new ⊎ Parts.IsCut namespace does so_far.namespaces stopped new
+
+    abbrev noted_so : Refusal → ℕ → Written
+    noted_so refusal done = with_stopped (record so_far { namespaces = new }) (record { refusal = refusal; done = done })
+
+    next_stopped : (now : Written) (refusal : Refusal) (done : ℕ) → is_due ordered so_far.errors ≡ true → Stops (record { refusal = refusal; done = done }) → now ≡ noted_so refusal done
+        → NextStep namespace ordered so_far statement (Ok (next_behind ordered refusal)) now
+    next_stopped now WantOfMemory done due (inl refused) is = record {
+      made = 0;
+      fewer = inl refl;
+      is_cut = is ∙ (λ i. record { statements = suc so_far.statements; n = so_far.n; changed = so_far.changed; errors = so_far.errors ++ document_of (cut_error so_far.statements (refused.none i)) ∷ []; namespaces = refused.kept i });
+    }
+    next_stopped now WantOfMemory done due (inr cuts) is = record {
+      made = done;
+      fewer = cuts.fewer;
+      is_cut = is ∙ (λ i. record { statements = suc so_far.statements; n = so_far.n; changed = so_far.changed; errors = so_far.errors ++ document_of (cut_error so_far.statements done) ∷ []; namespaces = cuts.made i });
+    }
+    next_stopped now refusal done due (inl refused) is =
+        ended_or_due so_far now statement ordered refl (rw (due, refused.so) (is ∙ rw refused.kept refl)) (rw is (is_due-push ordered so_far.errors _))
+    next_stopped now refusal done due (inr cuts) is = absurd (cc cuts.so)
+
+    cut_untold_at : (now : Written) (stopped : Stopped) → Stops stopped → now.namespaces ≡ new → (cuts : Written) × CutsNext namespace ordered so_far statement cuts × (now.namespaces ≡ cuts.namespaces)
+    cut_untold_at now stopped (inl refused) same = (cut namespace ordered 0 so_far statement, record { made = 0; fewer = inl refl; is_cut = refl }, same ∙ refused.kept)
+    cut_untold_at now stopped (inr cuts) same = (cut namespace ordered stopped.done so_far statement, record { made = stopped.done; fewer = cuts.fewer; is_cut = refl }, same ∙ cuts.made)
+
+    pub next_noted : (now : Written) (stopped : Stopped) → is_due ordered so_far.errors ≡ true → Stops stopped → (result : Result Next AllocError) → Notes ordered stopped (record so_far { namespaces = new }) result now → now.namespaces ≡ new
+        → NextStep namespace ordered so_far statement result now
+    next_noted now stopped due stops (Ok next) (now_is, next_is) same = rw next_is (next_stopped now stopped.refusal stopped.done due stops now_is)
+    next_noted now stopped due stops (Err e) told same = cut_untold_at now stopped stops same
 
   counts_result : (so_far : Written) (result : Result Effect Refusal) → (with_result namespace ordered so_far result).statements ≡ suc so_far.statements
   counts_result so_far (Ok effect) = refl

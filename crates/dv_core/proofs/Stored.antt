@@ -15,10 +15,10 @@ use Rattle.dv_core.proofs.Lists.{slice_get_seen, drop_item, drop_seen}
 use Rattle.dv_core.proofs.Spellings.{spelling-field}
 use Rattle.dv_bson.specs.Weight.{field_weighs_less, value_weighs_less}
 use Rattle.dv_bson.specs.Names.{begins_with_dollar}
-use Rattle.dv_command.specs.Namespaces.{has_dot}
-use Rattle.dv_command.specs.declared.refusal.Refusal.{Refusal}
-use Rattle.dv_command.specs.declared.refusal.Refusal.TheVariants.{TooLarge}
-use Rattle.dv_command.specs.Refusals.{◌>>=◌}
+use Rattle.dv_fields.specs.Namespaces.{has_dot}
+use Rattle.dv_fields.specs.declared.refusal.Refusal.{Refusal}
+use Rattle.dv_fields.specs.declared.refusal.Refusal.TheVariants.{TooLarge}
+use Rattle.dv_fields.specs.Refusals.{◌>>=◌}
 use Rattle.dv_core.specs.Storable.{is_dotted, are_fields_dotted, are_elements_dotted, has_dollar, without_field, id_in, is_within_limits, with_id_first, storable}
 
 -- ---- what is left from a place on

@@ -5,9 +5,9 @@ use Rattle.std.specs.Str.{bytes_eq}
 use Rattle.dv_bson.specs.Names.{value_under, has_name, AreNamed}
 use Rattle.dv_bson.specs.Spelling.{IsValue, AreFields}
 use Rattle.dv_bson.specs.Tree.{Tree, array, Fields, no_fields, field, Field, fields_of, list_of_fields}
-use Rattle.dv_command.specs.Refusals.{◌>>=◌}
-use Rattle.dv_command.specs.declared.refusal.Refusal.{Refusal}
-use Rattle.dv_command.specs.declared.refusal.Refusal.TheVariants.{BadValue, TooLarge}
+use Rattle.dv_fields.specs.Refusals.{◌>>=◌}
+use Rattle.dv_fields.specs.declared.refusal.Refusal.{Refusal}
+use Rattle.dv_fields.specs.declared.refusal.Refusal.TheVariants.{BadValue, TooLarge}
 use Rattle.dv_core.specs.Storable.{are_fields_dotted, has_dollar, without_field, id_in, is_within_limits, with_id_first, storable}
 use Rattle.dv_core.proofs.Stored.{has_name-without_field, without_field-gone}
 use Rattle.dv_core.proofs.Texts.{IsUtf8-ascii}

@@ -12,18 +12,19 @@ use Rattle.dv_match.specs.Parsing.{filter_in}
 use Rattle.dv_sort.specs.Sorting.{stable}
 use Rattle.dv_command.specs.Asked.{Insert}
 use Rattle.dv_command.specs.Replies.{document_of, write_error, cut_error, reply_of, refusal_reply}
-use Rattle.dv_command.specs.declared.refusal.Refusal.{Refusal}
-use Rattle.dv_command.specs.declared.refusal.Refusal.TheVariants.{DuplicateKey, WantOfMemory}
+use Rattle.dv_fields.specs.declared.refusal.Refusal.{Refusal}
+use Rattle.dv_fields.specs.declared.refusal.Refusal.TheVariants.{DuplicateKey, WantOfMemory}
 use Rattle.dv_catalog.specs.Changes.{put, Effect, with_put}
 use Rattle.dv_core.specs.Examples.{only, one_field, number, holding, letters, InsertExamples, ReadExamples, RefusalExamples, WantExamples}
-use Rattle.dv_core.specs.Find.{batch_reply}
+use Rattle.dv_core.specs.Find.{first_batch}
+use Rattle.dv_cursor.specs.Batch.{batch}
 use Rattle.dv_core.specs.Insert.{insert_one, insert_write}
 use Rattle.dv_catalog.specs.Scan.{scan}
-use Rattle.dv_catalog.specs.State.{State, Standing, Namespaces, documents_of, empty_state, with_documents}
+use Rattle.dv_catalog.specs.State.{Collection, Standing, Namespaces, collection, collection_at, collection_of, documents_of, with_documents}
+use Rattle.dv_core.specs.State.{State, empty_state}
 use Rattle.dv_catalog.specs.Changes.{Statement}
 use Rattle.dv_core.specs.Statements.{Written, nothing_written, is_due, with_result, with_next, with_all, cut, IsCut}
-use Rattle.dv_core.specs.Step.{Answer, answered, read_answer, write_answer}
-use Rattle.dv_catalog.specs.View.{standing_seen}
+use Rattle.dv_core.specs.Step.{Answer, answered, on_cursors, write_answer}
 use Rattle.dv_catalog.specs.StateLaws.{same_namespaces, documents_there}
 
 -- ---- what stands under t.c
@@ -31,11 +32,15 @@ use Rattle.dv_catalog.specs.StateLaws.{same_namespaces, documents_there}
 abbrev pub t_c : List ℕ
 t_c = codes "t.c"
 
-pub nothing_in : (namespace : List ℕ) → documents_of namespace empty_state.namespaces ≡ []
-nothing_in namespace = documents_there empty_state.namespaces namespace _ (finite.get-empty (slice_cmp nat_cmp) namespace)
+pub nothing_in : (namespace : List ℕ) → documents_of namespace empty_state.catalog.namespaces ≡ []
+nothing_in namespace = documents_there empty_state.catalog.namespaces namespace _ (finite.get-empty (slice_cmp nat_cmp) namespace)
+
+collection_there : (documents : List (List Field)) (namespaces : Namespaces) → collection_of t_c (with_documents t_c documents namespaces) ≡ record (collection_of t_c namespaces) { documents = documents }
+collection_there documents namespaces =
+    ap collection_at (finite.get-insert nat_list_cmp_total namespaces t_c (collection (record (collection_of t_c namespaces) { documents = documents })) t_c)
 
 pub put_there : (documents : List (List Field)) (namespaces : Namespaces) → documents_of t_c (with_documents t_c documents namespaces) ≡ documents
-put_there documents namespaces = documents_there _ t_c _ (finite.get-insert nat_list_cmp_total namespaces t_c (standing_seen documents) t_c)
+put_there documents namespaces = ap (λ (c : Collection). c.documents) (collection_there documents namespaces)
 
 same_put : (b : Bool) (now before : Option Standing) (x : Option Standing) → cond b now (cond b before x) ≡ cond b now x
 same_put true now before x = refl
@@ -44,13 +49,14 @@ same_put false now before x = refl
 -- documents that are put in the place of others
 pub put_twice : (now before : List (List Field)) (namespaces : Namespaces) → with_documents t_c now (with_documents t_c before namespaces) ≡ with_documents t_c now namespaces
 put_twice now before namespaces =
-    same_namespaces _ _ (λ q. simp (finite.get-insert {X = Standing} nat_list_cmp_total) (same_put (eq_by_cmp (slice_cmp nat_cmp) q t_c) _ _ _))
+    ap (λ (c : Collection). finite.insert (with_documents t_c before namespaces) t_c (collection (record c { documents = now }))) (collection_there before namespaces)
+    ∙ same_namespaces _ _ (λ q. simp (finite.get-insert {X = Standing} nat_list_cmp_total) (same_put (eq_by_cmp (slice_cmp nat_cmp) q t_c) _ _ _))
 
 -- under u.c there is nothing
-other_there : documents_of (codes "u.c") (holding (only 5 ∷ [])).namespaces ≡ []
+other_there : documents_of (codes "u.c") (holding (only 5 ∷ [])).catalog.namespaces ≡ []
 other_there =
     documents_there _ (codes "u.c") None
-    (rw (finite.get-insert nat_list_cmp_total empty_state.namespaces t_c (standing_seen (only 5 ∷ [])) (codes "u.c")) (finite.get-empty (slice_cmp nat_cmp) (codes "u.c")))
+    (rw (finite.get-insert nat_list_cmp_total empty_state.catalog.namespaces t_c (collection (record (collection_of t_c empty_state.catalog.namespaces) { documents = only 5 ∷ [] })) (codes "u.c")) (finite.get-empty (slice_cmp nat_cmp) (codes "u.c")))
 
 -- ---- one statement, by the documents that it finds
 
@@ -83,24 +89,24 @@ abbrev after : Bool → List (List Field) → Written → Written
 after ordered documents w = with_all t_c ordered w (map insert_one documents)
 
 abbrev nothing : Written
-nothing = nothing_written empty_state.namespaces
+nothing = nothing_written empty_state.catalog.namespaces
 
 abbrev duplicate : Tree
 duplicate = document_of (write_error 1 DuplicateKey)
 
-put_first : (ordered : Bool) → with_next t_c ordered nothing (insert_one (only 2)) ≡ wrote 1 1 [] (holding (only 2 ∷ [])).namespaces
+put_first : (ordered : Bool) → with_next t_c ordered nothing (insert_one (only 2)) ≡ wrote 1 1 [] (holding (only 2 ∷ [])).catalog.namespaces
 unfolding framed element_spelling payload counted
 put_first ordered = puts t_c ordered nothing [] (nothing_in t_c) refl (only 2) (only 2) (only 2 ∷ []) refl refl
 
-put_again : (ordered : Bool) → with_next t_c ordered (wrote 1 1 [] (holding (only 2 ∷ [])).namespaces) (insert_one (only 2)) ≡ wrote 2 1 (duplicate ∷ []) (holding (only 2 ∷ [])).namespaces
+put_again : (ordered : Bool) → with_next t_c ordered (wrote 1 1 [] (holding (only 2 ∷ [])).catalog.namespaces) (insert_one (only 2)) ≡ wrote 2 1 (duplicate ∷ []) (holding (only 2 ∷ [])).catalog.namespaces
 unfolding framed element_spelling payload counted
-put_again ordered = refuses t_c ordered (wrote 1 1 [] (holding (only 2 ∷ [])).namespaces) (only 2 ∷ []) (put_there (only 2 ∷ []) empty_state.namespaces) refl (only 2) DuplicateKey refl
+put_again ordered = refuses t_c ordered (wrote 1 1 [] (holding (only 2 ∷ [])).catalog.namespaces) (only 2 ∷ []) (put_there (only 2 ∷ []) empty_state.catalog.namespaces) refl (only 2) DuplicateKey refl
 
-put_third : with_next t_c false (wrote 2 1 (duplicate ∷ []) (holding (only 2 ∷ [])).namespaces) (insert_one (only 1)) ≡ wrote 3 2 (duplicate ∷ []) (holding (only 1 ∷ only 2 ∷ [])).namespaces
+put_third : with_next t_c false (wrote 2 1 (duplicate ∷ []) (holding (only 2 ∷ [])).catalog.namespaces) (insert_one (only 1)) ≡ wrote 3 2 (duplicate ∷ []) (holding (only 1 ∷ only 2 ∷ [])).catalog.namespaces
 unfolding framed element_spelling payload counted
 put_third =
-    puts t_c false (wrote 2 1 (duplicate ∷ []) (holding (only 2 ∷ [])).namespaces) (only 2 ∷ []) (put_there (only 2 ∷ []) empty_state.namespaces) refl (only 1) (only 1) (only 1 ∷ only 2 ∷ []) refl refl
-    ∙ ap (wrote 3 2 (duplicate ∷ [])) (put_twice (only 1 ∷ only 2 ∷ []) (only 2 ∷ []) empty_state.namespaces)
+    puts t_c false (wrote 2 1 (duplicate ∷ []) (holding (only 2 ∷ [])).catalog.namespaces) (only 2 ∷ []) (put_there (only 2 ∷ []) empty_state.catalog.namespaces) refl (only 1) (only 1) (only 1 ∷ only 2 ∷ []) refl refl
+    ∙ ap (wrote 3 2 (duplicate ∷ [])) (put_twice (only 1 ∷ only 2 ∷ []) (only 2 ∷ []) empty_state.catalog.namespaces)
 
 -- an insert, whose reply is that of all inserts
 abbrev two : Insert
@@ -120,37 +126,37 @@ inserts = record {
   first = λ session. ap (write_answer empty_state (insert_write two)) (puts t_c true nothing [] (nothing_in t_c) refl (only 5) (only 5) (only 5 ∷ []) refl refl);
   equal = λ session.
       ap (write_answer (holding (only 5 ∷ [])) (insert_write two))
-      (refuses t_c true (nothing_written (holding (only 5 ∷ [])).namespaces) (only 5 ∷ []) (put_there (only 5 ∷ []) empty_state.namespaces) refl ((codes "_id", int64 (pos 5)) ∷ []) DuplicateKey refl);
+      (refuses t_c true (nothing_written (holding (only 5 ∷ [])).catalog.namespaces) (only 5 ∷ []) (put_there (only 5 ∷ []) empty_state.catalog.namespaces) refl ((codes "_id", int64 (pos 5)) ∷ []) DuplicateKey refl);
   ordered = λ session. ap (write_answer empty_state (insert_write two)) (ap (after true (only 2 ∷ only 1 ∷ [])) (put_first true) ∙ ap (after true (only 1 ∷ [])) (put_again true));
   unordered = λ session. ap (write_answer empty_state (insert_write two)) (ap (after false (only 2 ∷ only 1 ∷ [])) (put_first false) ∙ ap (after false (only 1 ∷ [])) (put_again false) ∙ put_third);
   id_behind = λ session. ap (write_answer empty_state (insert_write two)) (puts t_c true nothing [] (nothing_in t_c) refl ((codes "a", number 1) ∷ (codes "_id", number 2) ∷ []) moved (moved ∷ []) refl refl);
   no_id = λ session. refl;
   unfit = λ session. refl;
-  elsewhere = λ session. ap (write_answer (holding (only 5 ∷ [])) (insert_write two)) (puts (codes "u.c") true (nothing_written (holding (only 5 ∷ [])).namespaces) [] other_there refl (only 5) (only 5) (only 5 ∷ []) refl refl);
+  elsewhere = λ session. ap (write_answer (holding (only 5 ∷ [])) (insert_write two)) (puts (codes "u.c") true (nothing_written (holding (only 5 ∷ [])).catalog.namespaces) [] other_there refl (only 5) (only 5) (only 5 ∷ []) refl refl);
   dotted = λ session. refl;
   classes = λ session.
       ap (write_answer empty_state (insert_write two))
       (ap (after true (only 1 ∷ [])) (puts t_c true nothing [] (nothing_in t_c) refl falsely falsely (falsely ∷ []) refl refl)
-      ∙ puts t_c true (wrote 1 1 [] (holding (falsely ∷ [])).namespaces) (falsely ∷ []) (put_there (falsely ∷ []) empty_state.namespaces) refl (only 1) (only 1) (only 1 ∷ falsely ∷ []) refl refl
-      ∙ ap (wrote 2 2 []) (put_twice (only 1 ∷ falsely ∷ []) (falsely ∷ []) empty_state.namespaces));
+      ∙ puts t_c true (wrote 1 1 [] (holding (falsely ∷ [])).catalog.namespaces) (falsely ∷ []) (put_there (falsely ∷ []) empty_state.catalog.namespaces) refl (only 1) (only 1) (only 1 ∷ falsely ∷ []) refl refl
+      ∙ ap (wrote 2 2 []) (put_twice (only 1 ∷ falsely ∷ []) (falsely ∷ []) empty_state.catalog.namespaces));
 }
 
 -- a find of all documents
-finds : (old : State) (namespace : List ℕ) (documents : List (List Field)) → documents_of namespace old.namespaces ≡ documents
-    → answered old (read_answer old (batch_reply namespace (scan no_members [] 0 0 (documents_of namespace old.namespaces)))) ≡ answered old (read_answer old (batch_reply namespace (scan no_members [] 0 0 documents)))
-finds old namespace documents are = ap (λ (ds : List (List Field)). answered old (read_answer old (batch_reply namespace (scan no_members [] 0 0 ds)))) are
+finds : (old : State) (namespace : List ℕ) (documents : List (List Field)) (session : ℕ) → documents_of namespace old.catalog.namespaces ≡ documents
+    → answered old (on_cursors old (first_batch session namespace 101 false (scan no_members [] 0 0 (documents_of namespace old.catalog.namespaces)) old.cursors)) ≡ answered old (on_cursors old (first_batch session namespace 101 false (scan no_members [] 0 0 documents) old.cursors))
+finds old namespace documents session are = ap (λ (ds : List (List Field)). answered old (on_cursors old (first_batch session namespace 101 false (scan no_members [] 0 0 ds) old.cursors))) are
 
 pub reads : ReadExamples
-unfolding framed element_spelling payload counted filter_in matches stable
+unfolding framed element_spelling payload counted filter_in matches stable batch
 reads = record {
   greeted = λ state session. refl;
   pinged = λ state session. refl;
-  found = λ session. finds (holding (only 5 ∷ only 6 ∷ [])) t_c (only 5 ∷ only 6 ∷ []) (put_there (only 5 ∷ only 6 ∷ []) empty_state.namespaces);
-  not_found = λ session. finds empty_state t_c [] (nothing_in t_c);
+  found = λ session. finds (holding (only 5 ∷ only 6 ∷ [])) t_c (only 5 ∷ only 6 ∷ []) session (put_there (only 5 ∷ only 6 ∷ []) empty_state.catalog.namespaces);
+  not_found = λ session. finds empty_state t_c [] session (nothing_in t_c);
 }
 
 pub refusals : RefusalExamples
-unfolding filter_in matches stable
+unfolding filter_in matches stable batch
 refusals = record {
   no_database = λ state session. refl;
   dotted_database = λ state session. refl;
@@ -166,20 +172,20 @@ refusals = record {
   unreadable = λ state session. refl;
   listed = λ state session list. refl;
   zero_in_name = λ state session. refl;
-  longest_namespace = λ session. finds empty_state (codes "t." ++ letters 118) [] (nothing_in (codes "t." ++ letters 118));
+  longest_namespace = λ session. finds empty_state (codes "t." ++ letters 118) [] session (nothing_in (codes "t." ++ letters 118));
   namespace_too_long = λ state session. refl;
 }
 
 -- ---- want of memory
 
-put_five : with_next t_c true nothing (insert_one (only 5)) ≡ wrote 1 1 [] (holding (only 5 ∷ [])).namespaces
+put_five : with_next t_c true nothing (insert_one (only 5)) ≡ wrote 1 1 [] (holding (only 5 ∷ [])).catalog.namespaces
 unfolding framed element_spelling payload counted
 put_five = puts t_c true nothing [] (nothing_in t_c) refl (only 5) (only 5) (only 5 ∷ []) refl refl
 
 abbrev left : Written
-left = wrote 2 1 (document_of (cut_error 1 0) ∷ []) (holding (only 5 ∷ [])).namespaces
+left = wrote 2 1 (document_of (cut_error 1 0) ∷ []) (holding (only 5 ∷ [])).catalog.namespaces
 
-cut_second : IsCut (insert_write two) empty_state.namespaces left
+cut_second : IsCut (insert_write two) empty_state.catalog.namespaces left
 cut_second = record {
   before = insert_one (only 5) ∷ [];
   statement = insert_one (only 6);

@@ -5,7 +5,7 @@ use Rattle.dv_catalog.specs.Changes.{Statement}
 use Rattle.dv_catalog.specs.Effects.{delete_chosen}
 use Rattle.dv_command.specs.Asked.{Delete}
 use Rattle.dv_command.specs.Entries.{deletion_of}
-use Rattle.dv_command.specs.Refusals.{◌>>=◌}
+use Rattle.dv_fields.specs.Refusals.{◌>>=◌}
 use Rattle.dv_command.specs.Replies.{write_reply}
 use Rattle.dv_core.specs.Statements.{Write}
 

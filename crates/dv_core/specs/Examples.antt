@@ -6,7 +6,8 @@ use Rattle.dv_command.specs.declared.command.Command.{Command}
 use Rattle.dv_command.specs.declared.command.Command.TheVariants.{Sections, Invalid}
 use Rattle.dv_command.specs.Replies.{document_of, hello_reply}
 use Rattle.dv_core.specs.declared.outcome.Outcome.TheVariants.{Reply, Wanting, NoReply}
-use Rattle.dv_catalog.specs.State.{State, ViewForm, empty_state, with_documents}
+use Rattle.dv_catalog.specs.State.{with_documents}
+use Rattle.dv_core.specs.State.{State, empty_state}
 use Rattle.dv_core.specs.Step.{step, MemoryStep}
 
 -- ---- words for them
@@ -28,7 +29,7 @@ IsRefused body code name = (state : State) → Does state body (refusal code nam
 
 -- with these documents in the collection of a namespace
 abbrev pub with_collection : List ℕ → List (List Field) → State → State
-with_collection namespace documents state = record state { namespaces = with_documents namespace documents state.namespaces }
+with_collection namespace documents state = record state { catalog = record state.catalog { namespaces = with_documents namespace documents state.catalog.namespaces } }
 
 -- the state with these documents alone
 abbrev pub holding : List (List Field) → State
@@ -223,7 +224,7 @@ two = only 1 ∷ only 2 ∷ []
 
 -- with a view v over c, which has no stages
 abbrev pub viewing : State → State
-viewing state = record state { views = record { name = codes "t.v"; source = codes "t.c"; stages = [] } ∷ [] }
+viewing state = record state { catalog = record state.catalog { views = record { name = codes "t.v"; source = codes "t.c"; stages = [] } ∷ [] } }
 
 abbrev pub create : List ℕ → List Field
 create name = on (codes "t") ((codes "create", string name) ∷ [])

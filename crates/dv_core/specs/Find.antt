@@ -1,40 +1,51 @@
--- What a find and a pipeline reply (MongoDB manual, "find", "aggregate": their output). That all rows come at once, and how large they
--- may be, each and together, is this server's own.
-use Rattle.std.specs.Prelude.{ℕ, ◌+◌, ◌||◌, not, Bool, List, [], ◌∷◌, map, Result, Ok, Err, nat_lt, length, if◌then◌else◌}
+-- What a find and a pipeline reply (MongoDB manual, "find", "aggregate": their output, batchSize, singleBatch). Which rows a reply refuses
+-- is this server's own.
+use Rattle.std.specs.Prelude.{ℕ, not, Bool, false, List, [], ◌∷◌, map, Option, Some, None, Result, Ok, Err, if◌then◌else◌}
 use Rattle.std.specs.List.{list_all}
 use Rattle.dv_bson.specs.Tree.{Field}
-use Rattle.dv_bson.specs.Spelling.{spelling}
-use Rattle.dv_command.specs.declared.refusal.Refusal.{Refusal}
-use Rattle.dv_command.specs.declared.refusal.Refusal.TheVariants.{TooLarge}
-use Rattle.dv_command.specs.Replies.{document_of, rows_reply}
+use Rattle.dv_cursor.specs.Batch.{batch, behind}
+use Rattle.dv_cursor.specs.Cursors.{Cursors, added, free_id}
+use Rattle.dv_fields.specs.declared.refusal.Refusal.{Refusal}
+use Rattle.dv_fields.specs.declared.refusal.Refusal.TheVariants.{LimitReached, TooLarge}
+use Rattle.dv_fields.specs.Refusals.{◌>>=◌}
 use Rattle.dv_command.specs.Asked.{Aggregate, Find}
-use Rattle.dv_command.specs.Refusals.{◌>>=◌}
+use Rattle.dv_command.specs.Replies.{document_of, first_batch_reply}
 use Rattle.dv_catalog.specs.Scan.{scan}
 use Rattle.dv_catalog.specs.State.{State, rows_of}
 use Rattle.dv_catalog.specs.Views.{aggregated}
-use Rattle.dv_core.specs.Storable.{document_limit, is_within_limits}
+use Rattle.dv_core.specs.Storable.{is_within_limits}
 
--- how many bytes the documents are together
-abbrev pub total_size : List (List Field) → ℕ
-total_size [] = 0
-total_size (d ∷ ds) = length (spelling d) + total_size ds
-
--- how many bytes the rows of a reply may be together: as many as one document
-abbrev pub batch_limit : ℕ
-batch_limit = document_limit
-
--- whether one of the rows is over the limits for documents, or all are too long together
+-- whether one of the rows is over the limits for documents
 abbrev pub are_too_large : List (List Field) → Bool
-are_too_large rows = not (list_all is_within_limits rows) || nat_lt batch_limit (total_size rows)
+are_too_large rows = not (list_all is_within_limits rows)
 
--- the reply with these rows of a namespace
-abbrev pub batch_reply : List ℕ → List (List Field) → Result (List Field) Refusal
-batch_reply namespace rows = if are_too_large rows then Err TooLarge else Ok (rows_reply namespace (map document_of rows))
+-- the rows that a cursor keeps behind a first batch: none, where that is the only one
+abbrev pub left_behind : ℕ → Bool → List (List Field) → List (List Field)
+left_behind count single rows = if single then [] else behind count rows
+
+abbrev pub kept_under : Option ℕ → ℕ → List ℕ → List (List Field) → Cursors → Result (ℕ × Cursors) Refusal
+kept_under None session namespace rows cursors = Err LimitReached
+kept_under (Some id) session namespace rows cursors = Ok (id, added session namespace rows cursors)
+
+-- a cursor over these rows, under the next id; none, and the id 0, where no row is left
+abbrev pub kept : ℕ → List ℕ → List (List Field) → Cursors → Result (ℕ × Cursors) Refusal
+kept session namespace [] cursors = Ok (0, cursors)
+kept session namespace (row ∷ rows) cursors = kept_under (free_id cursors) session namespace (row ∷ rows) cursors
+
+abbrev pub replied : List ℕ → ℕ → List (List Field) → ℕ × Cursors → Result (List Field × Cursors) Refusal
+replied namespace count rows told =
+    if are_too_large rows then Err TooLarge else Ok (first_batch_reply namespace told.0 (map document_of (batch count rows)), told.1)
+
+-- the reply with the first batch of these rows of a namespace, and the cursors with one that keeps the others
+abbrev pub first_batch : ℕ → List ℕ → ℕ → Bool → List (List Field) → Cursors → Result (List Field × Cursors) Refusal
+first_batch session namespace count single rows cursors = kept session namespace (left_behind count single rows) cursors >>= replied namespace count rows
 
 -- what a find replies: the rows under its namespace that it is for
-abbrev pub find_reply : Find → State → Result (List Field) Refusal
-find_reply asked state = batch_reply asked.namespace (scan asked.filter asked.sort asked.skip asked.limit (rows_of asked.namespace state))
+abbrev pub found : ℕ → Find → State → Cursors → Result (List Field × Cursors) Refusal
+found session asked state cursors =
+    first_batch session asked.namespace asked.batch_size asked.single_batch (scan asked.filter asked.sort asked.skip asked.limit (rows_of asked.namespace state)) cursors
 
 -- what an aggregate replies: the rows of its pipeline
-abbrev pub aggregate_reply : Aggregate → State → Result (List Field) Refusal
-aggregate_reply asked state = aggregated asked.stages asked.namespace state >>= batch_reply asked.namespace
+abbrev pub gathered : ℕ → Aggregate → State → Cursors → Result (List Field × Cursors) Refusal
+gathered session asked state cursors =
+    aggregated asked.stages asked.namespace state >>= λ rows. first_batch session asked.namespace asked.batch_size false rows cursors

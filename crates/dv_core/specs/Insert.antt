@@ -4,7 +4,7 @@ use Rattle.dv_bson.specs.Tree.{Field}
 use Rattle.dv_catalog.specs.Changes.{Statement}
 use Rattle.dv_catalog.specs.Effects.{put_new}
 use Rattle.dv_command.specs.Asked.{Insert}
-use Rattle.dv_command.specs.Refusals.{◌>>=◌}
+use Rattle.dv_fields.specs.Refusals.{◌>>=◌}
 use Rattle.dv_command.specs.Replies.{write_reply}
 use Rattle.dv_core.specs.Storable.{storable}
 use Rattle.dv_core.specs.Statements.{Write}

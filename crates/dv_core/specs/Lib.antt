@@ -5,7 +5,10 @@ pub mod Insert
 pub mod Delete
 pub mod Update
 pub mod Find
+pub mod More
+pub mod Indexes
 pub mod Step
+pub mod Runs
 pub mod Part
 pub mod Sound
 pub mod Examples

@@ -1,16 +1,21 @@
 -- What holds of every state that is reached.
-use Rattle.std.specs.Prelude.{ℕ, ◌<◌, ◌^◌, List, ⊤}
+use Rattle.std.specs.Prelude.{◌≡◌, ℕ, ◌<◌, ◌≤◌, ◌^◌, false, List, Option, Some, None, length, ⊤}
 use Rattle.std.specs.List.{AllByRecursion}
 use Rattle.dv_bson.specs.Tree.{Field, fields_of}
 use Rattle.dv_bson.specs.Spelling.{AreFields, Fits, Spells, spelling}
 use Rattle.dv_command.specs.declared.command.Command.{Command}
 use Rattle.dv_command.specs.declared.command.Command.TheVariants.{Sections, Invalid}
 use Rattle.dv_bson.specs.declared.fault.BsonFault.TheVariants.{RefusedType}
-use Rattle.dv_command.specs.declared.refusal.Refusal.{Refusal}
-use Rattle.dv_command.specs.declared.refusal.Refusal.TheVariants.{InvalidBson}
-use Rattle.dv_catalog.specs.State.{State, documents_of, rows_of, AreOrdered}
-use Rattle.dv_command.specs.Asked.{Asked, find, aggregate}
-use Rattle.dv_command.specs.Sound.{AreValid}
+use Rattle.dv_fields.specs.declared.refusal.Refusal.{Refusal}
+use Rattle.dv_fields.specs.declared.refusal.Refusal.TheVariants.{InvalidBson}
+use Rattle.dv_catalog.specs.State.{documents_of, rows_of, AreOrdered}
+use Rattle.dv_core.specs.State.{State}
+use Rattle.dv_catalog.specs.IndexMaking.{Explained, explained}
+use Rattle.dv_command.specs.Asked.{Asked, find, aggregate, get_more, kill_cursors, explain}
+use Rattle.dv_core.specs.Find.{are_too_large}
+use Rattle.dv_core.specs.Indexes.{index_name}
+use Rattle.dv_core.specs.More.{number_of, rows_asked}
+use Rattle.dv_command.specs.Sound.{AreValid, IsNamespace}
 use Rattle.dv_pipe.specs.Stages.{evaluated}
 
 -- a document that is valid at each of its levels, and within the limits for what is read and stored
@@ -23,7 +28,7 @@ abbrev pub AreSound : List (List Field) → Type 0
 AreSound documents = AreOrdered documents × AllByRecursion IsSoundDocument documents
 
 abbrev pub IsSound : State → Type 0
-IsSound state = (namespace : List ℕ) → AreSound (documents_of namespace state.namespaces)
+IsSound state = (namespace : List ℕ) → AreSound (documents_of namespace state.catalog.namespaces)
 
 -- the documents that a command brings are sound, as those that were read are
 abbrev pub IsSoundCommand : Command → Type 0
@@ -39,8 +44,24 @@ IsTold refusal = ⊤
 abbrev pub HasSpelling : List Field → Type 0
 HasSpelling d = Spells d (spelling d)
 
--- the rows that a command shows are valid at each of their levels
-abbrev pub ShowsValid : State → Asked → Type 0
-ShowsValid state (find asked) = AreValid (rows_of asked.namespace state)
-ShowsValid state (aggregate asked) = AreValid (evaluated asked.stages asked.namespace (λ name. rows_of name state))
-ShowsValid state asked = ⊤
+-- rows that can be shown: they are valid at each of their levels, and none is over the limits for documents
+abbrev pub AreShown : Option (List (List Field)) → Type 0
+AreShown None = ⊤
+AreShown (Some rows) = AreValid rows × (are_too_large rows ≡ false)
+
+abbrev pub IsNamed : Option (List ℕ) → Type 0
+IsNamed None = ⊤
+IsNamed (Some name) = IsNamespace name
+
+-- how a find is answered can be told: by the name of an index, and by a number that an int64 holds
+abbrev pub IsExplained : Explained → Type 0
+IsExplained told = IsNamed (index_name told.way) × (told.documents < 2 ^ 63)
+
+-- the rows that a command shows can be shown, the ids that it tells are no more than a document holds, and so is what it explains
+abbrev pub ShowsValid : State → ℕ → Asked → Type 0
+ShowsValid state session (find asked) = AreValid (rows_of asked.namespace state.catalog)
+ShowsValid state session (aggregate asked) = AreValid (evaluated asked.stages asked.namespace (λ name. rows_of name state.catalog))
+ShowsValid state session (get_more asked) = (number_of asked.id < 2 ^ 63) × AreShown (rows_asked session asked.namespace asked.id state.cursors)
+ShowsValid state session (kill_cursors asked) = length asked.ids ≤ 10000000
+ShowsValid state session (explain asked) = IsExplained (explained asked.find.namespace asked.find.filter state.catalog)
+ShowsValid state session asked = ⊤

@@ -2,20 +2,25 @@
 use Rattle.std.specs.Prelude.{◌≡◌, ℕ, ◌⊎◌, Bool, true, false, List, [], Option, Some, None, Result, Ok, Err, if◌then◌else◌}
 use Rattle.dv_bson.specs.Tree.{Field}
 use Rattle.dv_command.specs.declared.command.Command.{Command}
-use Rattle.dv_command.specs.declared.refusal.Refusal.{Refusal}
-use Rattle.dv_command.specs.declared.refusal.Refusal.TheVariants.{OnView, WantOfMemory}
-use Rattle.dv_command.specs.Asked.{Asked, hello, ping, insert, update, delete, find, aggregate, create, drop, asked_by}
-use Rattle.dv_command.specs.Refusals.{◌>>=◌}
+use Rattle.dv_fields.specs.declared.refusal.Refusal.{Refusal}
+use Rattle.dv_fields.specs.declared.refusal.Refusal.TheVariants.{OnView, WantOfMemory}
+use Rattle.dv_command.specs.Asked.{Asked, hello, ping, insert, update, delete, find, aggregate, get_more, kill_cursors, create, drop, create_indexes, drop_indexes, explain, asked_by}
+use Rattle.dv_fields.specs.Refusals.{◌>>=◌}
 use Rattle.dv_command.specs.Replies.{reply_of, hello_reply, drop_reply, refusal_reply}
 use Rattle.dv_core.specs.declared.outcome.Outcome.{Outcome}
 use Rattle.dv_core.specs.declared.outcome.Outcome.TheVariants.{Reply, Wanting, NoReply}
-use Rattle.dv_catalog.specs.State.{State, is_view}
+use Rattle.dv_catalog.specs.State.{is_view}
+use Rattle.dv_catalog.specs.State as stored
 use Rattle.dv_catalog.specs.Views.{created, dropped}
 use Rattle.dv_core.specs.Statements.{Write, Written, carry_out, IsCut}
 use Rattle.dv_core.specs.Insert.{insert_write}
 use Rattle.dv_core.specs.Update.{update_write}
 use Rattle.dv_core.specs.Delete.{delete_write}
-use Rattle.dv_core.specs.Find.{aggregate_reply, find_reply}
+use Rattle.dv_core.specs.Find.{found, gathered}
+use Rattle.dv_core.specs.Indexes.{find_explained, indexed, unindexed}
+use Rattle.dv_core.specs.More.{killed, next_batch}
+use Rattle.dv_core.specs.State.{State}
+use Rattle.dv_cursor.specs.Cursors.{Cursors, without_session}
 
 -- the reply to a command, and the state after it
 pub record Answer : Type 0 where
@@ -30,15 +35,24 @@ read_answer state result = result >>= λ reply. Ok (record { reply = reply; stat
 
 -- a write whose statements did this
 abbrev pub write_answer : State → Write → Written → Answer
-write_answer old write did = record { reply = write.reply did.n did.changed did.errors; state = record old { namespaces = did.namespaces } }
+write_answer old write did =
+    record { reply = write.reply did.n did.changed did.errors; state = record old { catalog = record old.catalog { namespaces = did.namespaces } } }
 
 -- what a write answers and leaves; there is none on a view
 abbrev pub carried_out : State → Write → Result Answer Refusal
-carried_out state write = if is_view write.namespace state.views then Err OnView else Ok (write_answer state write (carry_out write state.namespaces))
+carried_out state write =
+    if is_view write.namespace state.catalog.views then Err OnView else Ok (write_answer state write (carry_out write state.catalog.namespaces))
 
--- a command that makes something under a namespace, or takes it out
-abbrev pub made_answer : List Field → Result State Refusal → Result Answer Refusal
-made_answer reply result = result >>= λ state. Ok (record { reply = reply; state = state })
+-- a command that changes what stands under namespaces, and replies this
+abbrev pub on_catalog : State → Result (List Field × stored.State) Refusal → Result Answer Refusal
+on_catalog state result = result >>= λ told. Ok (record { reply = told.0; state = record state { catalog = told.1 } })
+
+-- one that changes cursors
+abbrev pub on_cursors : State → Result (List Field × Cursors) Refusal → Result Answer Refusal
+on_cursors state result = result >>= λ told. Ok (record { reply = told.0; state = record state { cursors = told.1 } })
+
+abbrev pub replying : {S : Type 0} → List Field → Result S Refusal → Result (List Field × S) Refusal
+replying reply made = made >>= λ left. Ok (reply, left)
 
 -- what a command of a session answers, by what it asks
 abbrev pub answer_to : State → ℕ → Asked → Result Answer Refusal
@@ -47,10 +61,15 @@ answer_to state session ping = read_answer state (Ok (reply_of []))
 answer_to state session (insert asked) = carried_out state (insert_write asked)
 answer_to state session (update asked) = carried_out state (update_write asked)
 answer_to state session (delete asked) = carried_out state (delete_write asked)
-answer_to state session (find asked) = read_answer state (find_reply asked state)
-answer_to state session (aggregate asked) = read_answer state (aggregate_reply asked state)
-answer_to state session (create asked) = made_answer (reply_of []) (created asked.namespace asked.view state)
-answer_to state session (drop asked) = made_answer (drop_reply asked.namespace) (dropped asked.namespace state)
+answer_to state session (find asked) = on_cursors state (found session asked state.catalog state.cursors)
+answer_to state session (aggregate asked) = on_cursors state (gathered session asked state.catalog state.cursors)
+answer_to state session (get_more asked) = on_cursors state (next_batch session asked state.cursors)
+answer_to state session (kill_cursors asked) = on_cursors state (Ok (killed session asked state.cursors))
+answer_to state session (create asked) = on_catalog state (replying (reply_of []) (created asked.namespace asked.view state.catalog))
+answer_to state session (drop asked) = on_catalog state (replying (drop_reply asked.namespace) (dropped asked.namespace state.catalog))
+answer_to state session (create_indexes asked) = on_catalog state (indexed asked state.catalog)
+answer_to state session (drop_indexes asked) = on_catalog state (unindexed asked state.catalog)
+answer_to state session (explain asked) = read_answer state (Ok (find_explained asked state.catalog))
 
 -- a refusal leaves the state
 abbrev pub answered : State → Result Answer Refusal → Answer
@@ -65,26 +84,37 @@ step state session command = answered state (asked_by command >>= answer_to stat
 
 -- the write that a command is, if it is one
 abbrev pub write_of : Asked → Option Write
-write_of hello = None
-write_of ping = None
 write_of (insert asked) = Some (insert_write asked)
 write_of (update asked) = Some (update_write asked)
 write_of (delete asked) = Some (delete_write asked)
-write_of (find asked) = None
-write_of (aggregate asked) = None
-write_of (create asked) = None
-write_of (drop asked) = None
+write_of asked = None
 
 -- whether a command makes something under a namespace, or takes it out
 abbrev pub makes : Asked → Bool
 makes (create asked) = true
 makes (drop asked) = true
+makes (create_indexes asked) = true
+makes (drop_indexes asked) = true
 makes asked = false
+
+-- whether these are indexes
+abbrev pub indexes : Asked → Bool
+indexes (create_indexes asked) = true
+indexes (drop_indexes asked) = true
+indexes asked = false
+
+-- whether a command makes, moves or ends cursors
+abbrev pub moves : Asked → Bool
+moves (find asked) = true
+moves (aggregate asked) = true
+moves (get_more asked) = true
+moves (kill_cursors asked) = true
+moves asked = false
 
 -- the answers of a write that is cut at one of its statements; one on a view isn't carried out
 abbrev pub WriteCut : State → Option Write → Answer → Type 0
 WriteCut old None answer = ⊥
-WriteCut old (Some write) answer = (is_view write.namespace old.views ≡ false) × ((left : Written) × IsCut write old.namespaces left × (answer ≡ write_answer old write left))
+WriteCut old (Some write) answer = (is_view write.namespace old.catalog.views ≡ false) × ((left : Written) × IsCut write old.catalog.namespaces left × (answer ≡ write_answer old write left))
 
 -- a command that is refused isn't cut
 abbrev pub Cut : State → Result Asked Refusal → Answer → Type 0
@@ -107,3 +137,9 @@ abbrev pub TellsOfWant : Outcome → Type 0
 TellsOfWant (Reply reply) = ⊥
 TellsOfWant (Wanting reply) = Unit {0}
 TellsOfWant NoReply = Unit {0}
+
+-- ---- the end of a session
+
+-- what the end of a session leaves: all but its cursors
+abbrev pub end_session : ℕ → State → State
+end_session session state = record state { cursors = without_session session state.cursors }

@@ -1,10 +1,9 @@
 -- What the parts of a step give.
 use Rattle.std.specs.Prelude.{◌≡◌, ◌≢◌, ◌⊎◌, List, Result, Ok, Err, ⊤}
 use Rattle.dv_bson.specs.Tree.{Field}
-use Rattle.dv_command.specs.declared.refusal.Refusal.{Refusal}
-use Rattle.dv_command.specs.declared.refusal.Refusal.TheVariants.{WantOfMemory}
+use Rattle.dv_fields.specs.declared.refusal.Refusal.{Refusal}
+use Rattle.dv_fields.specs.declared.refusal.Refusal.TheVariants.{WantOfMemory}
 use Rattle.dv_command.specs.Replies.{refusal_reply}
-use Rattle.dv_catalog.specs.State.{State}
 use Rattle.dv_core.specs.declared.outcome.Outcome.{Outcome}
 use Rattle.dv_core.specs.declared.outcome.Outcome.TheVariants.{Reply, Wanting, NoReply}
 
@@ -19,7 +18,19 @@ abbrev pub Tells : Result (List Field) Refusal → Outcome → Type 0
 Tells (Ok reply) outcome = outcome ≡ Reply reply
 Tells (Err refusal) outcome = Refuses refusal outcome
 
--- a command that makes or takes out what stands under a namespace: its reply, which is given, and what is left; or why it is refused
-abbrev pub Makes : List Field → Result State Refusal → State → Result (List Field) Refusal → State → Type 0
-Makes reply made old (Ok told) new = (told ≡ reply) × (made ≡ Ok new)
-Makes reply made old (Err refusal) new = ((made ≡ Err refusal) ⊎ (refusal ≡ WantOfMemory)) × (new ≡ old)
+-- a command that changes a part of the state: its reply, and what it leaves, which is as defined; or why it is refused, and nothing is
+-- changed
+abbrev pub Gives : {S : Type 0} → Result (List Field × S) Refusal → S → Result (List Field) Refusal → S → Type 0
+Gives defined old (Ok reply) new = defined ≡ Ok (reply, new)
+Gives defined old (Err refusal) new = ((defined ≡ Err refusal) ⊎ (refusal ≡ WantOfMemory)) × (new ≡ old)
+
+-- a command whose reply may find no memory behind what it changes: it is carried out, be its reply given or not; or it is refused
+abbrev pub TellsOrNot : List Field → Outcome → Type 0
+TellsOrNot reply (Reply told) = told ≡ reply
+TellsOrNot reply (Wanting told) = ⊥
+TellsOrNot reply NoReply = ⊤
+
+abbrev pub Ends : {S : Type 0} → Result (List Field × S) Refusal → S → Outcome → S → Type 0
+Ends {S} defined old outcome new =
+    ((done : List Field × S) × (defined ≡ Ok done) × (new ≡ done.1) × TellsOrNot done.0 outcome)
+    ⊎ ((refusal : Refusal) × ((defined ≡ Err refusal) ⊎ (refusal ≡ WantOfMemory)) × Refuses refusal outcome × (new ≡ old))

@@ -5,11 +5,11 @@ use Rattle.std.specs.Str.{bytes_eq}
 use Rattle.dv_bson.specs.Tree.{Tree, document, array, Fields, no_fields, field, Elements, no_elements, element, Field, fields_of}
 use Rattle.dv_bson.specs.Names.{value_under}
 use Rattle.dv_bson.specs.Spelling.{spelling, levels}
-use Rattle.dv_command.specs.declared.refusal.Refusal.{Refusal}
-use Rattle.dv_command.specs.declared.refusal.Refusal.TheVariants.{BadValue, TooLarge}
+use Rattle.dv_fields.specs.declared.refusal.Refusal.{Refusal}
+use Rattle.dv_fields.specs.declared.refusal.Refusal.TheVariants.{BadValue, TooLarge}
 use Rattle.dv_bson.specs.Names.{begins_with_dollar}
-use Rattle.dv_command.specs.Namespaces.{has_dot}
-use Rattle.dv_command.specs.Refusals.{◌>>=◌}
+use Rattle.dv_fields.specs.Namespaces.{has_dot}
+use Rattle.dv_fields.specs.Refusals.{◌>>=◌}
 
 -- whether a dot stands in a name, at any level
 abbrev mutual

@@ -5,7 +5,7 @@ use Rattle.dv_catalog.specs.Changes.{Statement}
 use Rattle.dv_catalog.specs.Effects.{update_chosen}
 use Rattle.dv_command.specs.Asked.{Update}
 use Rattle.dv_command.specs.Entries.{updating_of}
-use Rattle.dv_command.specs.Refusals.{◌>>=◌}
+use Rattle.dv_fields.specs.Refusals.{◌>>=◌}
 use Rattle.dv_command.specs.Replies.{update_reply}
 use Rattle.dv_core.specs.Statements.{Write}
 

@@ -3,8 +3,8 @@ use Rattle.std.specs.Prelude.{◌≡◌, ℕ, suc, ◌+◌, ◌<◌, ◌⊎◌, 
 use Rattle.std.specs.declared.alloc.AllocError.{AllocError}
 use Rattle.dv_bson.specs.Tree.{Field}
 use Rattle.dv_bson.specs.View.{tree}
-use Rattle.dv_command.specs.declared.refusal.Refusal.{Refusal}
-use Rattle.dv_command.specs.declared.refusal.Refusal.TheVariants.{OnView, WantOfMemory}
+use Rattle.dv_fields.specs.declared.refusal.Refusal.{Refusal}
+use Rattle.dv_fields.specs.declared.refusal.Refusal.TheVariants.{OnView, WantOfMemory}
 use Rattle.dv_command.specs.Replies.{document_of, write_error, cut_error}
 use Rattle.dv_core.specs.declared.outcome.Outcome.{Outcome}
 use Rattle.dv_core.specs.declared.outcome.Outcome.TheVariants.{Reply, Wanting, NoReply}
@@ -12,7 +12,9 @@ use Rattle.dv_catalog.specs.declared.counted.Counted.{Counted}
 use Rattle.dv_core.specs.declared.written.Written as declared
 use Rattle.dv_core.specs.declared.next.Next.{Next}
 use Rattle.dv_core.specs.declared.next.Next.TheVariants.{Due, Ended, Cut}
-use Rattle.dv_catalog.specs.State.{Namespaces, State, is_view}
+use Rattle.dv_catalog.specs.declared.stopped.Stopped.{Stopped}
+use Rattle.dv_catalog.specs.State.{Namespaces, is_view}
+use Rattle.dv_core.specs.State.{State}
 use Rattle.dv_catalog.specs.Changes.{Statement}
 use Rattle.dv_core.specs.StepParts.{Refuses}
 use Rattle.dv_core.specs.Statements.{Write, Written, carry_out, with_next, is_due, next_changes, cut, IsCut}
@@ -29,15 +31,18 @@ abbrev pub with_counted : Written → Counted → Written
 with_counted so_far counted =
     record so_far { statements = suc so_far.statements; n = so_far.n + counted.matched; changed = so_far.changed + counted.changed }
 
--- the error of a statement that was refused; one that found no memory made none of its changes
-abbrev pub error_of : ℕ → Refusal → List Field
-error_of place WantOfMemory = cut_error place 0
-error_of place refusal = write_error place refusal
+-- the error of a statement that was refused; where memory was wanting, behind so many of its changes
+abbrev pub error_by : ℕ → Refusal → ℕ → List Field
+error_by place WantOfMemory done = cut_error place done
+error_by place refusal done = write_error place refusal
+
+abbrev pub error_of : ℕ → Stopped → List Field
+error_of place stopped = error_by place stopped.refusal stopped.done
 
 -- one statement more, which was refused
-abbrev pub with_refusal : Written → Refusal → Written
-with_refusal so_far refusal =
-    record { statements = suc so_far.statements; n = so_far.n; changed = so_far.changed; errors = so_far.errors ++ document_of (error_of so_far.statements refusal) ∷ []; namespaces = so_far.namespaces }
+abbrev pub with_stopped : Written → Stopped → Written
+with_stopped so_far stopped =
+    record { statements = suc so_far.statements; n = so_far.n; changed = so_far.changed; errors = so_far.errors ++ document_of (error_of so_far.statements stopped) ∷ []; namespaces = so_far.namespaces }
 
 -- what comes behind a statement that was refused
 abbrev pub next_behind : Bool → Refusal → Next
@@ -45,9 +50,9 @@ next_behind ordered WantOfMemory = Cut
 next_behind ordered refusal = if ordered then Ended else Due
 
 -- a statement that was refused is noted, unless memory is wanting
-abbrev pub Notes : Bool → Refusal → Written → Result Next AllocError → Written → Type 0
-Notes ordered refusal so_far (Ok next) now = (now ≡ with_refusal so_far refusal) × (next ≡ next_behind ordered refusal)
-Notes ordered refusal so_far (Err e) now = ⊤
+abbrev pub Notes : Bool → Stopped → Written → Result Next AllocError → Written → Type 0
+Notes ordered stopped so_far (Ok next) now = (now ≡ with_stopped so_far stopped) × (next ≡ next_behind ordered stopped.refusal)
+Notes ordered stopped so_far (Err e) now = ⊤
 
 -- the outcome, or none for which there was memory
 abbrev pub outcome_of : Result Outcome AllocError → Outcome
@@ -76,9 +81,10 @@ Writes write old (Wanting reply) new = (left : Written) × IsCut write old left 
 Writes write old NoReply new = (new ≡ (carry_out write old).namespaces) ⊎ ((left : Written) × IsCut write old left × (new ≡ left.namespaces))
 
 abbrev pub WritesWhere : Bool → Write → State → Outcome → State → Type 0
-WritesWhere false write old outcome new = Writes write old.namespaces outcome new.namespaces × (new.views ≡ old.views)
+WritesWhere false write old outcome new =
+    Writes write old.catalog.namespaces outcome new.catalog.namespaces × (new.catalog.views ≡ old.catalog.views) × (new.cursors ≡ old.cursors)
 WritesWhere true write old outcome new = Refuses OnView outcome × (new ≡ old)
 
 -- a write on a collection; one on a view is refused
 abbrev pub WritesOn : Write → State → Outcome → State → Type 0
-WritesOn write old outcome new = WritesWhere (is_view write.namespace old.views) write old outcome new
+WritesOn write old outcome new = WritesWhere (is_view write.namespace old.catalog.views) write old outcome new

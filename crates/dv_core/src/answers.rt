@@ -1,13 +1,14 @@
 //! The outcomes of commands that change nothing.
 
-ghost use Rattle.std.specs.Prelude.{◌≡◌, [], Ok};
-ghost use Rattle.dv_command.specs.declared.refusal.Refusal.TheVariants.{WantOfMemory};
-ghost use Rattle.dv_command.specs.Refusals.{UnlessWanting};
+ghost use Rattle.std.specs.Prelude.{◌≡◌, [], Ok, IfOk, OnErr};
+ghost use Rattle.dv_fields.specs.declared.refusal.Refusal.TheVariants.{WantOfMemory};
+ghost use Rattle.dv_fields.specs.Refusals.{UnlessWanting};
 ghost use Rattle.dv_command.specs.Replies as replies;
+ghost use Rattle.dv_core.specs.declared.outcome.Outcome.TheVariants.{Reply, NoReply};
 ghost use Rattle.dv_core.specs.StepParts.{Refuses, Tells};
 
 use crate::outcome::Outcome;
-use dv_bson::Document;
+use dv_bson::{Document, NoMemory};
 use dv_command::Refusal;
 use dv_command::replies::{hello_reply, refusal_reply, reply_of};
 use std::alloc::Global;
@@ -19,6 +20,17 @@ pub(crate) fn outcome_of(alloc: Global, reply: Result<Document, Refusal>) -> Out
     match reply {
         Ok(reply) => Outcome::Reply(reply),
         Err(refusal) => refuse(alloc, refusal),
+    }
+}
+
+/// The outcome of a command that was carried out, and whose reply may have found no memory.
+pub(crate) fn told(reply: Result<Document, NoMemory>) -> Outcome
+    ensures ok { IfOk reply (λ told. result ≡ Reply told) }
+    ensures err { OnErr reply (result ≡ NoReply) }
+{
+    match reply {
+        Ok(reply) => Outcome::Reply(reply),
+        Err(_) => Outcome::NoReply,
     }
 }
 

@@ -1,51 +1,95 @@
-//! The reply with rows.
+//! First batches of rows, and the cursors that keep what is left behind them.
 
-ghost use Rattle.std.specs.Prelude.{◌≡◌, IfOk, map};
+ghost use Rattle.std.specs.Prelude.{◌≡◌, ◌<◌, ◌^◌, IfOk, map};
 ghost use Rattle.std.specs.String.{string_bytes};
 ghost use Rattle.dv_core.specs.Find as finding;
-ghost use Rattle.dv_command.specs.Refusals.{UnlessWanting};
+ghost use Rattle.dv_core.specs.StepParts.{Gives};
+ghost use Rattle.dv_command.specs.Replies as replies;
 ghost use Rattle.dv_command.specs.Replies.{document_of};
 
-use dv_bson::{Document, List, NoMemory, Value, fits, size};
+use dv_bson::{Document, List, NoMemory, Value, fits};
 use dv_command::Refusal;
-use dv_command::replies::rows_reply;
+use dv_command::replies::first_batch_reply;
+use dv_cursor::{Cursors, Rows};
 use std::alloc::Global;
 
-/// How many bytes the rows of a reply may be together.
-const BATCH_LIMIT: u32 = 16_777_216;
-
-/// The reply with these rows of a namespace. Refused with `TooLarge` where one of them is over 16,777,216 bytes or 100
-/// levels, or they are over 16,777,216 bytes together, and with `WantOfMemory`.
-pub(crate) fn batch_reply(
-    alloc: Global,
-    namespace: String,
-    rows: Vec<Document>,
-) -> Result<Document, Refusal>
-    ensures { UnlessWanting (λ reply. reply) (finding.batch_reply (string_bytes namespace) rows.items) result }
-{
-    if are_too_large(&rows) {
-        return Err(Refusal::TooLarge);
-    }
-    Ok(rows_reply(alloc, namespace, values_of(alloc, rows)?)?)
+/// A first batch but for its rows.
+pub(crate) struct First {
+    pub(crate) session: u32,
+    pub(crate) namespace: String,
+    /// How many rows there are in it at most.
+    pub(crate) count: u64,
+    /// Whether it is the only one.
+    pub(crate) single: bool,
 }
 
-/// Whether one of the rows is over the limits for documents, or they are over 16,777,216 bytes together. Takes no
-/// memory.
+/// The reply with the first batch of these rows; where rows are left behind it, and it isn't the only one, a cursor keeps
+/// them. Refused with `LimitReached` where there is no room for one more cursor; then with `TooLarge` where one of the rows
+/// is over 16,777,216 bytes or 100 levels; and with `WantOfMemory`. Then nothing is changed.
+pub(crate) fn first_batch(
+    alloc: Global,
+    cursors: &mut Cursors,
+    first: First,
+    rows: Vec<Document>,
+) -> Result<Document, Refusal>
+    ensures { Gives (finding.first_batch first.session (string_bytes first.namespace) first.count first.single rows.items cursors.old) cursors.old result cursors.new }
+{
+    let First {
+        session,
+        namespace,
+        count,
+        single,
+    } = first;
+    let too_large = are_too_large(&rows);
+    let mut rows = Rows::of(rows);
+    let batch = rows.batch(count)?;
+    rows.skip(batch.len());
+    if single || rows.is_empty() {
+        if too_large {
+            return Err(Refusal::TooLarge);
+        }
+        return Ok(reply_with(alloc, namespace, 0, batch)?);
+    }
+    let Some(id) = cursors.free_id() else {
+        return Err(Refusal::LimitReached);
+    };
+    if too_large {
+        return Err(Refusal::TooLarge);
+    }
+    // Behind the change nothing may want memory.
+    let told = String::from_str(alloc, &namespace)?;
+    let reply = reply_with(alloc, told, id, batch)?;
+    cursors.add(session, namespace, rows)?;
+    Ok(reply)
+}
+
+/// The reply with a first batch. Fails where memory is wanting.
+fn reply_with(
+    alloc: Global,
+    namespace: String,
+    id: u64,
+    batch: Vec<Document>,
+) -> Result<Document, NoMemory>
+    requires { id < 2 ^ 63 }
+    ensures { IfOk result (λ reply. reply ≡ replies.first_batch_reply (string_bytes namespace) id (map document_of batch.items)) }
+{
+    first_batch_reply(alloc, namespace, id, values_of(alloc, batch)?)
+}
+
+/// Whether one of the rows is over the limits for documents. Takes no memory.
 fn are_too_large(rows: &[Document]) -> bool
     ensures { result ≡ finding.are_too_large rows.now }
 {
-    let mut room = BATCH_LIMIT;
     'rows: for row in rows {
-        match size(row) {
-            Some(size) if size <= room && fits(row) => room -= size,
-            _ => return true,
+        if !fits(row) {
+            return true;
         }
     }
     false
 }
 
 /// The documents as values, in order. Fails where memory is wanting.
-fn values_of(alloc: Global, documents: Vec<Document>) -> Result<List, NoMemory>
+pub(crate) fn values_of(alloc: Global, documents: Vec<Document>) -> Result<List, NoMemory>
     ensures { IfOk result (λ values. values ≡ map document_of documents.items) }
 {
     let mut values = Vec::with_capacity(alloc, documents.len())?;

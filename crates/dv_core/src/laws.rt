@@ -1,22 +1,28 @@
 //! What holds of every step of the machine.
 
-ghost use Rattle.std.specs.Prelude.{◌≡◌, ◌≤◌, ◌↔◌, ℕ, List, Some, None, Ok, Err, true, false, codes, pos, length};
+ghost use Rattle.std.specs.Prelude.{◌≡◌, ◌≤◌, ◌↔◌, ◌⊎◌, ℕ, List, Some, None, Ok, Err, true, false, codes, pos, length, map, if◌then◌else◌};
 ghost use Rattle.dv_bson.specs.Names.{value_under};
 ghost use Rattle.dv_bson.specs.Spelling.{Fits};
 ghost use Rattle.dv_bson.specs.Tree.{Field, int32};
-ghost use Rattle.dv_command.specs.Asked.{Asked, Create, Delete, Drop, Find, create, delete, drop, find, asked_by};
-ghost use Rattle.dv_command.specs.Replies.{refusal_reply};
+ghost use Rattle.dv_command.specs.Asked.{Aggregate, Asked, Create, Delete, Drop, Find, GetMore, aggregate, create, delete, drop, find, get_more, asked_by};
+ghost use Rattle.dv_command.specs.Replies.{document_of, next_batch_reply, refusal_reply};
 ghost use Rattle.dv_command.specs.declared.command.Command.{Command};
-ghost use Rattle.dv_command.specs.declared.refusal.Refusal.{Refusal};
+ghost use Rattle.dv_fields.specs.declared.refusal.Refusal.{Refusal};
 ghost use Rattle.dv_core.specs.declared.outcome.Outcome.{Outcome};
 ghost use Rattle.dv_core.specs.declared.outcome.Outcome.TheVariants.{Reply, Wanting};
 ghost use Rattle.dv_core.specs.Examples as examples;
 ghost use Rattle.dv_core.specs.Part.{IsPart};
 ghost use Rattle.dv_core.specs.Sound.{HasSpelling, IsSound, IsSoundCommand, IsTold, ShowsValid};
-ghost use Rattle.dv_catalog.specs.State.{State, Namespaces, IsOrdered, documents_of, empty_state, is_view};
+ghost use Rattle.dv_catalog.specs.State.{Namespaces, IsOrdered, documents_of, is_view, rows_of};
+ghost use Rattle.dv_core.specs.State.{State, empty_state};
 ghost use Rattle.std.specs.Str.{bytes_eq};
+ghost use Rattle.dv_core.specs.Runs.{Move, Shows, carries, wants, rows_told, state_behind, state_behind_all, tells_last};
+ghost use Rattle.dv_cursor.specs.Cursors.{rows_to_come};
+ghost use Rattle.dv_catalog.specs.Scan.{scan};
+ghost use Rattle.dv_catalog.specs.State as stored;
+ghost use Rattle.dv_catalog.specs.Views.{aggregated};
 ghost use Rattle.dv_core.specs.Statements.{Write, Written, carry_out, IsCut};
-ghost use Rattle.dv_core.specs.Step.{MemoryStep, step, write_of, makes};
+ghost use Rattle.dv_core.specs.Step.{MemoryStep, step, write_of, makes, moves, indexes, end_session};
 ghost use Rattle.dv_core.specs.Storable.{storable, is_within_limits};
 
 /// A command that is told as refused, with `ok: 0`, changed nothing, be it for want of memory.
@@ -27,34 +33,39 @@ pub fn a_refused_command_changes_nothing()
         → value_under (codes "ok") reply ≡ Some (int32 (pos 0)) → new ≡ old }
 {}
 
-/// Only a write, a create and a drop change anything: not another command, whatever it is answered, and not one that asks
-/// nothing, as it is refused. Of these a write leaves the views, a create the documents of each namespace, and a drop those
-/// of each other namespace.
+/// Only a write, a create, a drop, and what makes and drops indexes change what stands under namespaces: not another
+/// command, whatever it is answered; and only a find, a pipeline, and what asks more of cursors or ends them change cursors.
+/// One that asks nothing changes nothing, as it is refused. Of the first a write and what makes and drops indexes leave the
+/// views, a create and indexes the documents of each namespace, and a drop those of each other namespace.
 pub fn only_writes_change_documents()
     ensures others { (old new : State) (session : ℕ) (command : Command) (asked : Asked) (outcome : Outcome) → asked_by command ≡ Ok asked → write_of asked ≡ None → makes asked ≡ false
-        → MemoryStep old session command outcome new → new ≡ old }
+        → MemoryStep old session command outcome new → new.catalog ≡ old.catalog }
+    ensures cursors { (old new : State) (session : ℕ) (command : Command) (asked : Asked) (outcome : Outcome) → asked_by command ≡ Ok asked → moves asked ≡ false
+        → MemoryStep old session command outcome new → new.cursors ≡ old.cursors }
     ensures refused { (old new : State) (session : ℕ) (command : Command) (refusal : Refusal) (outcome : Outcome) → asked_by command ≡ Err refusal
         → MemoryStep old session command outcome new → new ≡ old }
     ensures views { (old new : State) (session : ℕ) (command : Command) (asked : Asked) (outcome : Outcome) → asked_by command ≡ Ok asked → makes asked ≡ false
-        → MemoryStep old session command outcome new → new.views ≡ old.views }
+        → MemoryStep old session command outcome new → new.catalog.views ≡ old.catalog.views }
     ensures created { (old new : State) (session : ℕ) (command : Command) (asked : Create) (outcome : Outcome) → asked_by command ≡ Ok (create asked)
-        → MemoryStep old session command outcome new → (namespace : List ℕ) → documents_of namespace new.namespaces ≡ documents_of namespace old.namespaces }
+        → MemoryStep old session command outcome new → (namespace : List ℕ) → documents_of namespace new.catalog.namespaces ≡ documents_of namespace old.catalog.namespaces }
     ensures dropped { (old new : State) (session : ℕ) (command : Command) (asked : Drop) (outcome : Outcome) → asked_by command ≡ Ok (drop asked)
-        → MemoryStep old session command outcome new → (namespace : List ℕ) → bytes_eq asked.namespace namespace ≡ false → documents_of namespace new.namespaces ≡ documents_of namespace old.namespaces }
+        → MemoryStep old session command outcome new → (namespace : List ℕ) → bytes_eq asked.namespace namespace ≡ false → documents_of namespace new.catalog.namespaces ≡ documents_of namespace old.catalog.namespaces }
+    ensures indexed { (old new : State) (session : ℕ) (command : Command) (asked : Asked) (outcome : Outcome) → asked_by command ≡ Ok asked → indexes asked ≡ true
+        → MemoryStep old session command outcome new → (new.catalog.views ≡ old.catalog.views) × ((namespace : List ℕ) → documents_of namespace new.catalog.namespaces ≡ documents_of namespace old.catalog.namespaces) }
 {}
 
 /// A delete leaves some of the documents of each namespace, in their order, whatever it is answered.
 pub fn a_delete_leaves_a_part()
     ensures { (old new : State) (session : ℕ) (command : Command) (asked : Delete) (outcome : Outcome) → asked_by command ≡ Ok (delete asked)
-        → MemoryStep old session command outcome new → (namespace : List ℕ) → IsPart (documents_of namespace new.namespaces) (documents_of namespace old.namespaces) }
+        → MemoryStep old session command outcome new → (namespace : List ℕ) → IsPart (documents_of namespace new.catalog.namespaces) (documents_of namespace old.catalog.namespaces) }
 {}
 
 /// The documents of each namespace stay in the order of their `_id`s, no two of which are equal, whatever the width of
 /// their integers: so it is before the first command, and so after each.
 pub fn documents_stay_in_order()
-    ensures before { IsOrdered empty_state }
-    ensures after { (old new : State) (session : ℕ) (command : Command) (outcome : Outcome) → IsOrdered old
-        → MemoryStep old session command outcome new → IsOrdered new }
+    ensures before { IsOrdered empty_state.catalog }
+    ensures after { (old new : State) (session : ℕ) (command : Command) (outcome : Outcome) → IsOrdered old.catalog
+        → MemoryStep old session command outcome new → IsOrdered new.catalog }
 {
     dv_coll::laws::inserted_documents_ascend();
     dv_coll::laws::inserted_documents_begin_with_ids();
@@ -88,19 +99,50 @@ pub fn states_stay_sound()
 /// Replies can be written: that to a command that asks something, if the command's documents are sound and the rows that
 /// it shows are valid, as a collection's are in a sound state; and that to one that is refused.
 pub fn replies_have_a_spelling()
-    ensures answered { (state : State) (session : ℕ) (command : Command) (asked : Asked) → IsSoundCommand command → ShowsValid state asked → asked_by command ≡ Ok asked
+    ensures answered { (state : State) (session : ℕ) (command : Command) (asked : Asked) → IsSoundCommand command → ShowsValid state session asked → asked_by command ≡ Ok asked
         → HasSpelling (step state session command).reply }
-    ensures shown { (state : State) (asked : Find) → IsSound state → is_view asked.namespace state.views ≡ false → ShowsValid state (find asked) }
+    ensures shown { (state : State) (session : ℕ) (asked : Find) → IsSound state → is_view asked.namespace state.catalog.views ≡ false → ShowsValid state session (find asked) }
     ensures refused { (refusal : Refusal) → IsTold refusal → HasSpelling (refusal_reply refusal) }
 {
     dv_command::laws::what_is_asked_is_sound();
     dv_command::laws::a_count_has_a_spelling();
+    dv_cursor::laws::a_batch_is_a_front();
+    dv_cursor::laws::a_batch_is_full();
 }
 
 /// An ordered write tells of one error at most; and where it is cut, of that alone.
 pub fn an_ordered_write_ends_at_its_first_error()
     ensures whole { (write : Write) (old : Namespaces) → write.ordered ≡ true → length (carry_out write old).errors ≤ 1 }
     ensures cut { (write : Write) (old : Namespaces) (left : Written) → write.ordered ≡ true → IsCut write old left → length left.errors ≡ 1 }
+{}
+
+/// What the replies of a run tell of a cursor's rows, be they left out or not: the first batch and the batches of later
+/// getMores, joined, are a front of the rows at the moment of the find or the pipeline, whatever others do in between; and
+/// all of them once one told that none is left, by the id 0, unless the first batch was to be the only one. What a getMore
+/// tells of a cursor are the rows and the id of its reply; and what a command comes to, be it for want of memory, is one of
+/// the moves of a run.
+pub fn a_cursors_batches_are_a_front()
+    ensures find { (before : List Move) (session : ℕ) (command : Command) (asked : Find) → asked_by command ≡ Ok (find asked)
+        → let state = state_behind_all before empty_state in
+        Shows session asked.namespace asked.batch_size asked.single_batch (scan asked.filter asked.sort asked.skip asked.limit (rows_of asked.namespace state.catalog)) state (step state session command) }
+    ensures pipeline { (before : List Move) (session : ℕ) (command : Command) (asked : Aggregate) (rows : List (List Field)) → asked_by command ≡ Ok (aggregate asked)
+        → let state = state_behind_all before empty_state in
+        aggregated asked.stages asked.namespace state.catalog ≡ Ok rows
+        → Shows session asked.namespace asked.batch_size false rows state (step state session command) }
+    ensures replies { (state : State) (session id : ℕ) (command : Command) (asked : GetMore) (rows : List (List Field)) → asked_by command ≡ Ok (get_more asked) → asked.id ≡ pos id
+        → rows_to_come session asked.namespace id state.cursors ≡ Some rows
+        → (step state session command).reply ≡ next_batch_reply asked.namespace (if tells_last session id (carries session command) state then 0 else id) (map document_of (rows_told session id (carries session command) state)) }
+    ensures moves { (old new : State) (session : ℕ) (command : Command) (outcome : Outcome) → MemoryStep old session command outcome new
+        → (new ≡ state_behind (carries session command) old) ⊎ ((catalog : stored.State) × (new ≡ state_behind (wants catalog) old)) }
+{
+    dv_cursor::laws::a_batch_is_a_front();
+    dv_cursor::laws::a_change_leaves_other_cursors();
+}
+
+/// The end of a session leaves all but its cursors.
+pub fn the_end_of_a_session_leaves_documents()
+    ensures catalog { (session : ℕ) (state : State) → (end_session session state).catalog ≡ state.catalog }
+    ensures sound { (session : ℕ) (state : State) → IsSound state → IsSound (end_session session state) }
 {}
 
 /// What is stored is within the limits: 16,777,216 bytes and 100 levels.

@@ -3,8 +3,10 @@
 
 mod answers;
 mod find;
+mod indexing;
 mod kind;
 pub mod laws;
+mod more;
 mod next;
 mod outcome;
 mod storable;

@@ -4,6 +4,7 @@ ghost use Rattle.std.specs.Prelude.{◌≡◌, ◌<◌, ◌^◌, IfOk};
 ghost use Rattle.dv_core.specs.WriteParts as parts;
 
 use dv_bson::{Document, NoMemory};
+use dv_catalog::Stopped;
 use dv_command::Refusal;
 use dv_command::replies::{cut_error, write_error};
 use std::alloc::Global;
@@ -18,15 +19,15 @@ pub(crate) enum Next {
     Cut,
 }
 
-/// The error of a statement that was refused; of one that found no memory, that it made none of its changes. Fails
-/// where memory is wanting.
-pub(crate) fn error_of(alloc: Global, place: usize, refusal: &Refusal) -> Result<Document, NoMemory>
+/// The error of a statement that was refused; of one that found no memory, behind how many of its changes. Fails where
+/// memory is wanting.
+pub(crate) fn error_of(alloc: Global, place: usize, stopped: &Stopped) -> Result<Document, NoMemory>
     requires { place < 2 ^ 31 }
-    ensures { IfOk result (λ error. error ≡ parts.error_of place refusal.now) }
+    ensures { IfOk result (λ error. error ≡ parts.error_of place stopped.now) }
 {
-    match refusal {
-        Refusal::WantOfMemory => cut_error(alloc, place, 0),
-        _ => write_error(alloc, place, refusal),
+    match stopped.refusal {
+        Refusal::WantOfMemory => cut_error(alloc, place, stopped.done),
+        _ => write_error(alloc, place, &stopped.refusal),
     }
 }
 

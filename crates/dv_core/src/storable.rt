@@ -6,7 +6,7 @@ ghost use Rattle.dv_bson.specs.Tree.{fields_of, elements_of};
 ghost use Rattle.dv_bson.specs.View.{tree};
 ghost use Rattle.dv_coll.specs.Collection.{HasId};
 ghost use Rattle.dv_core.specs.Storable as stored;
-ghost use Rattle.dv_command.specs.Refusals.{UnlessWanting};
+ghost use Rattle.dv_fields.specs.Refusals.{UnlessWanting};
 
 use dv_bson::{Document, List, NoMemory, Value, begins_with_dollar, fits};
 use dv_command::Refusal;

@@ -1,26 +1,31 @@
 //! The commands, and what they are carried out on.
 
-use crate::answers::{hello, outcome_of, ping, refuse};
-use crate::find::batch_reply;
+use crate::answers::{hello, outcome_of, ping, refuse, told};
+use crate::find::{First, first_batch};
+use crate::indexing::{explained, new_indexes};
 use crate::kind::Kind;
+use crate::more::{kill_all, next_batch};
 use crate::outcome::Outcome;
 use crate::writes::{Terms, write_all};
 use dv_bson::Document;
 use dv_catalog::Catalog;
-use dv_command::replies::{drop_reply, reply_of};
+use dv_command::replies::{create_indexes_reply, drop_indexes_reply, drop_reply, reply_of};
 use dv_command::{
-    Aggregate, Asked, Command, Create, Delete, Documents, DropNamespace, Find, Insert, Refusal,
-    Update, parse,
+    Aggregate, Asked, Command, Create, CreateIndexes, Delete, Documents, DropIndexes,
+    DropNamespace, Explain, Find, GetMore, Insert, KillCursors, Refusal, Update, parse,
 };
+use dv_cursor::Cursors;
 use std::alloc::Global;
 use std::marker::Model;
 
 /// All that commands read and change: collections, and views, each of which keeps at every moment the rows of its pipeline
-/// over the collections' documents, or, where memory was wanting for them, none.
+/// over the collections' documents, or, where memory was wanting for them, none. And the cursors of all sessions, with the
+/// rows that they have still to tell.
 #[derive(Debug, Drop)]
 pub struct Store {
     alloc: Global,
     catalog: Catalog,
+    cursors: Cursors,
 }
 
 impl Model for Store {
@@ -31,24 +36,26 @@ impl Model for Store {
 
     ghost coded = { coded_state };
 
-    ghost view = { λ s. s.catalog };
+    ghost view = { λ s. record { catalog = s.catalog; cursors = s.cursors } };
 }
 
 impl Store {
-    ghost use Rattle.std.specs.Prelude.{◌≡◌, ◌≤◌, [], length};
+    ghost use Rattle.std.specs.Prelude.{◌≡◌, ◌≤◌, [], length, Ok};
     ghost use Rattle.dv_bson.specs.declared.fault.BsonFault.TheVariants.{NoMemory};
     ghost use Rattle.dv_catalog.specs.Views as views;
     ghost use Rattle.dv_command.specs.Asked.{statement_limit};
     ghost use Rattle.dv_command.specs.declared.command.Command.TheVariants.{Invalid};
-    ghost use Rattle.dv_command.specs.Refusals.{UnlessWanting};
+    ghost use Rattle.dv_fields.specs.Refusals.{UnlessWanting};
     ghost use Rattle.dv_command.specs.Replies as replies;
-    ghost use Rattle.dv_command.specs.View.{aggregate_seen, create_seen, delete_seen, drop_seen, find_seen, insert_seen, update_seen};
+    ghost use Rattle.dv_command.specs.View.{aggregate_seen, create_indexes_seen, create_seen, delete_seen, drop_indexes_seen, drop_seen, explain_seen, find_seen, get_more_seen, insert_seen, kill_cursors_seen, update_seen};
     ghost use Rattle.dv_core.specs.Delete.{delete_write};
     ghost use Rattle.dv_core.specs.Find as finding;
+    ghost use Rattle.dv_core.specs.Indexes as indexing;
+    ghost use Rattle.dv_core.specs.More as more;
     ghost use Rattle.dv_core.specs.Insert.{insert_write};
     ghost use Rattle.dv_core.specs.State.{empty_state};
-    ghost use Rattle.dv_core.specs.Step.{MemoryStep, TellsOfWant};
-    ghost use Rattle.dv_core.specs.StepParts.{Makes};
+    ghost use Rattle.dv_core.specs.Step.{MemoryStep, TellsOfWant, end_session, replying};
+    ghost use Rattle.dv_core.specs.StepParts.{Ends, Gives};
     ghost use Rattle.dv_core.specs.Update.{update_write};
     ghost use Rattle.dv_core.specs.WriteParts.{WritesOn};
     ghost use Rattle.dv_core.specs.WritesView.{write_seen};
@@ -60,6 +67,7 @@ impl Store {
         Store {
             alloc,
             catalog: Catalog::new(alloc),
+            cursors: Cursors::new(alloc),
         }
     }
 
@@ -77,10 +85,17 @@ impl Store {
             Ok(Asked::Insert(insert)) => self.insert(insert),
             Ok(Asked::Update(update)) => self.update(update),
             Ok(Asked::Delete(delete)) => self.delete(delete),
-            Ok(Asked::Find(find)) => outcome_of(self.alloc, self.find(find)),
-            Ok(Asked::Aggregate(aggregate)) => outcome_of(self.alloc, self.aggregate(aggregate)),
+            Ok(Asked::Find(find)) => outcome_of(self.alloc, self.find(session, find)),
+            Ok(Asked::Aggregate(aggregate)) => {
+                outcome_of(self.alloc, self.aggregate(session, aggregate))
+            }
+            Ok(Asked::GetMore(asked)) => outcome_of(self.alloc, self.get_more(session, asked)),
+            Ok(Asked::KillCursors(asked)) => self.kill_cursors(session, asked),
             Ok(Asked::Create(create)) => outcome_of(self.alloc, self.create(create)),
             Ok(Asked::Drop(drop)) => outcome_of(self.alloc, self.drop_namespace(drop)),
+            Ok(Asked::CreateIndexes(asked)) => self.create_indexes(asked),
+            Ok(Asked::DropIndexes(asked)) => self.drop_indexes(asked),
+            Ok(Asked::Explain(asked)) => outcome_of(self.alloc, self.explain(asked)),
             Err(refusal) => refuse(self.alloc, refusal),
         }
     }
@@ -146,26 +161,62 @@ impl Store {
         outcome
     }
 
-    fn find(&mut self, find: Find) -> Result<Document, Refusal>
-        ensures same { self.new ≡ self.old }
-        ensures reply { UnlessWanting (λ reply. reply) (finding.find_reply (find_seen find) self.old) result }
+    fn find(&mut self, session: u32, find: Find) -> Result<Document, Refusal>
+        ensures catalog { self.new.catalog ≡ self.old.catalog }
+        ensures reply { Gives (finding.found session (find_seen find) self.old.catalog self.old.cursors) self.old.cursors result self.new.cursors }
     {
         let rows = self.catalog.find(&find)?;
-        let Find { namespace, .. } = find;
-        batch_reply(self.alloc, namespace, rows)
+        let Find {
+            namespace,
+            batch_size,
+            single_batch,
+            ..
+        } = find;
+        let first = First {
+            session,
+            namespace,
+            count: batch_size,
+            single: single_batch,
+        };
+        first_batch(self.alloc, &mut self.cursors, first, rows)
     }
 
-    fn aggregate(&mut self, aggregate: Aggregate) -> Result<Document, Refusal>
-        ensures same { self.new ≡ self.old }
-        ensures reply { UnlessWanting (λ reply. reply) (finding.aggregate_reply (aggregate_seen aggregate) self.old) result }
+    fn aggregate(&mut self, session: u32, aggregate: Aggregate) -> Result<Document, Refusal>
+        ensures catalog { self.new.catalog ≡ self.old.catalog }
+        ensures reply { Gives (finding.gathered session (aggregate_seen aggregate) self.old.catalog self.old.cursors) self.old.cursors result self.new.cursors }
     {
         let rows = self.catalog.aggregate(&aggregate)?;
-        let Aggregate { namespace, .. } = aggregate;
-        batch_reply(self.alloc, namespace, rows)
+        let Aggregate {
+            namespace,
+            batch_size,
+            ..
+        } = aggregate;
+        let first = First {
+            session,
+            namespace,
+            count: batch_size,
+            single: false,
+        };
+        first_batch(self.alloc, &mut self.cursors, first, rows)
+    }
+
+    fn get_more(&mut self, session: u32, asked: GetMore) -> Result<Document, Refusal>
+        ensures catalog { self.new.catalog ≡ self.old.catalog }
+        ensures reply { Gives (more.next_batch session (get_more_seen asked) self.old.cursors) self.old.cursors result self.new.cursors }
+    {
+        next_batch(self.alloc, &mut self.cursors, session, asked)
+    }
+
+    fn kill_cursors(&mut self, session: u32, asked: KillCursors) -> Outcome
+        ensures catalog { self.new.catalog ≡ self.old.catalog }
+        ensures reply { Ends (Ok (more.killed session (kill_cursors_seen asked) self.old.cursors)) self.old.cursors result self.new.cursors }
+    {
+        kill_all(self.alloc, &mut self.cursors, session, asked)
     }
 
     fn create(&mut self, create: Create) -> Result<Document, Refusal>
-        ensures { let asked = create_seen create in Makes (replies.reply_of []) (views.created asked.namespace asked.view self.old) self.old result self.new }
+        ensures cursors { self.new.cursors ≡ self.old.cursors }
+        ensures reply { let asked = create_seen create in Gives (replying (replies.reply_of []) (views.created asked.namespace asked.view self.old.catalog)) self.old.catalog result self.new.catalog }
     {
         // Behind the change nothing may want memory.
         let reply = reply_of(Document::new(self.alloc))?;
@@ -174,7 +225,8 @@ impl Store {
     }
 
     fn drop_namespace(&mut self, drop: DropNamespace) -> Result<Document, Refusal>
-        ensures { let asked = drop_seen drop in Makes (replies.drop_reply asked.namespace) (views.dropped asked.namespace self.old) self.old result self.new }
+        ensures cursors { self.new.cursors ≡ self.old.cursors }
+        ensures reply { let asked = drop_seen drop in Gives (replying (replies.drop_reply asked.namespace) (views.dropped asked.namespace self.old.catalog)) self.old.catalog result self.new.catalog }
     {
         let DropNamespace { namespace } = drop;
         // Behind the change nothing may want memory.
@@ -183,5 +235,46 @@ impl Store {
         self.catalog.remove(&namespace)?;
         self.catalog.refresh();
         Ok(reply)
+    }
+
+    fn create_indexes(&mut self, asked: CreateIndexes) -> Outcome
+        ensures cursors { self.new.cursors ≡ self.old.cursors }
+        ensures reply { Ends (indexing.indexed (create_indexes_seen asked) self.old.catalog) self.old.catalog result self.new.catalog }
+    {
+        let CreateIndexes { namespace, indexes } = asked;
+        let Ok(entries) = new_indexes(self.alloc, indexes) else {
+            return refuse(self.alloc, Refusal::WantOfMemory);
+        };
+        match self.catalog.create_indexes(&namespace, entries) {
+            Ok(counts) => told(create_indexes_reply(self.alloc, counts.before, counts.after)),
+            Err(refusal) => refuse(self.alloc, refusal),
+        }
+    }
+
+    fn drop_indexes(&mut self, asked: DropIndexes) -> Outcome
+        ensures cursors { self.new.cursors ≡ self.old.cursors }
+        ensures reply { Ends (indexing.unindexed (drop_indexes_seen asked) self.old.catalog) self.old.catalog result self.new.catalog }
+    {
+        let DropIndexes { namespace, index } = asked;
+        match self.catalog.drop_indexes(&namespace, &index) {
+            Ok(count) => told(drop_indexes_reply(self.alloc, count)),
+            Err(refusal) => refuse(self.alloc, refusal),
+        }
+    }
+
+    fn explain(&mut self, asked: Explain) -> Result<Document, Refusal>
+        ensures same { self.new ≡ self.old }
+        ensures reply { UnlessWanting (λ reply. reply) (Ok (indexing.find_explained (explain_seen asked) self.old.catalog)) result }
+    {
+        let Explain { find } = asked;
+        let told = self.catalog.explain(&find.namespace, &find.filter)?;
+        explained(self.alloc, told)
+    }
+
+    /// Ends the cursors of a session. Takes no memory, and costs the cursors that it has.
+    pub fn end_session(&mut self, session: u32)
+        ensures { self.new ≡ end_session session self.old }
+    {
+        self.cursors.end_session(session);
     }
 }

@@ -16,8 +16,8 @@ use crate::outcome::Outcome;
 use crate::storable::storable;
 use crate::written::Written;
 use dv_bson::{Document, NoMemory};
-use dv_catalog::{Catalog, Counted};
-use dv_command::{Documents, Refusal, deletion_of, updating_of};
+use dv_catalog::{Catalog, Counted, Stopped};
+use dv_command::{Documents, deletion_of, updating_of};
 use std::alloc::Global;
 
 /// A write but for its entries.
@@ -91,17 +91,18 @@ fn write_next(
             written.count(counted);
             Ok(Next::Due)
         }
-        Err(refusal) => written.note(alloc, terms.ordered, &refusal),
+        Err(stopped) => written.note(alloc, terms.ordered, &stopped),
     }
 }
 
-/// Carries out one statement, and answers what it is counted for. Where it is refused, nothing is changed.
+/// Carries out one statement, and answers what it is counted for. Where it is refused, nothing is changed; where memory is
+/// wanting, it ends behind some of its changes.
 fn write_one(
     alloc: Global,
     catalog: &mut Catalog,
     terms: &Terms,
     entry: &Document,
-) -> Result<Counted, Refusal>
+) -> Result<Counted, Stopped>
     requires { is_view (string_bytes terms.now.namespace) catalog.old.views ≡ false }
     ensures makes { Makes (λ counted. counted) (string_bytes terms.now.namespace) (statement_of terms.now.kind entry.now) catalog.old.namespaces result catalog.new.namespaces }
     ensures views { catalog.new.views ≡ catalog.old.views }

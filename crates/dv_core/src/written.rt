@@ -5,8 +5,7 @@ ghost use Rattle.std.specs.Prelude.{◌*◌, ◌≤◌, ◌^◌};
 use crate::kind::Kind;
 use crate::next::{Next, error_of, next_behind};
 use dv_bson::{Document, NoMemory, Value};
-use dv_catalog::Counted;
-use dv_command::Refusal;
+use dv_catalog::{Counted, Stopped};
 use dv_command::replies::{update_reply, write_reply};
 use std::alloc::Global;
 
@@ -54,21 +53,21 @@ impl Written {
         self.changed += counted.changed as u128;
     }
 
-    /// Notes a statement that was refused, and answers what comes behind it; one that found no memory made none of its
-    /// changes. Fewer than 100,000 statements came before. Fails where memory is wanting.
+    /// Notes a statement that was refused, and answers what comes behind it. Fewer than 100,000 statements came before.
+    /// Fails where memory is wanting.
     pub(crate) fn note(
         &mut self,
         alloc: Global,
         ordered: bool,
-        refusal: &Refusal,
+        stopped: &Stopped,
     ) -> Result<Next, NoMemory>
         requires { self.old.statements < statement_limit }
-        ensures { (namespaces : Namespaces) → Notes ordered refusal.now (written_seen self.old namespaces) result (written_seen self.new namespaces) }
+        ensures { (namespaces : Namespaces) → Notes ordered stopped.now (written_seen self.old namespaces) result (written_seen self.new namespaces) }
     {
-        let error = error_of(alloc, self.statements, refusal)?;
+        let error = error_of(alloc, self.statements, stopped)?;
         self.errors.push(Value::Doc(error))?;
         self.statements += 1;
-        Ok(next_behind(ordered, refusal))
+        Ok(next_behind(ordered, &stopped.refusal))
     }
 
     /// The reply of a write. Fails where memory is wanting.

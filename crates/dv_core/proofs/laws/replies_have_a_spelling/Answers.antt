@@ -2,7 +2,7 @@ use Rattle.dv_core.proofs.Spelled.{collections_show_valid, refusal_spelled, repl
 use Rattle.dv_core.proofs.laws.replies_have_a_spelling.Goals as goal
 
 pub returns-clause-answered : goal.returns-clause-answered
-returns-clause-answered c = replies_spelled c.what_is_asked_is_sound.ensures c.a_count_has_a_spelling.ensures
+returns-clause-answered c = replies_spelled c.what_is_asked_is_sound.ensures c.a_count_has_a_spelling.ensures (record { front = c.a_batch_is_a_front.ensures; within = c.a_batch_is_full.ensures.within })
 
 pub returns-clause-shown : goal.returns-clause-shown
 returns-clause-shown c = collections_show_valid

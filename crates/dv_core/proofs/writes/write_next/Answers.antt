@@ -20,8 +20,8 @@ returns-in-Ok-clause-step c =
 pub returns-in-Err-clause-step : goal.returns-in-Err-clause-step
 returns-in-Err-clause-step c =
     let terms = c.args.terms.now in
-    next_noted (string_bytes terms.namespace) terms.ordered (written_seen c.args.written.now c.args.catalog.now.namespaces) (statement_of terms.kind c.args.entry.now)
-    (written_seen c.note.new.self) c.in-Err.refusal c.requires.due c.in-Err.ensures.makes.0 c.note.result (c.note.ensures c.args.catalog.now.namespaces) (λ ns. refl) c.write_one.new.catalog.namespaces c.in-Err.ensures.makes.1
+    next_noted (string_bytes terms.namespace) terms.ordered (written_seen c.args.written.now c.args.catalog.now.namespaces) (statement_of terms.kind c.args.entry.now) c.write_one.new.catalog.namespaces
+    (written_seen c.note.new.self c.write_one.new.catalog.namespaces) c.in-Err.stopped c.requires.due c.in-Err.ensures.makes c.note.result (c.note.ensures c.write_one.new.catalog.namespaces) refl
 
 pub note-requires : goal.note-requires
 note-requires c = c.requires.room

@@ -1,0 +1,68 @@
+-- What is asked of cursors that are there (MongoDB manual, "getMore", "killCursors").
+use Rattle.std.specs.Prelude.{ℕ, ℤ, pos, negsuc, ◌==◌, Bool, List, [], ◌∷◌, length, map, is_some, Option, Some, None, Result, Ok, Err, if◌then◌else◌}
+use Rattle.dv_bson.specs.Tree.{Tree, int64, Field}
+use Rattle.dv_cursor.specs.Batch.{batch, behind}
+use Rattle.dv_cursor.specs.Cursors.{Cursors, rows_to_come, advanced, closed}
+use Rattle.dv_fields.specs.declared.refusal.Refusal.{Refusal}
+use Rattle.dv_fields.specs.declared.refusal.Refusal.TheVariants.{CursorNotFound}
+use Rattle.dv_command.specs.Asked.{GetMore, KillCursors}
+use Rattle.dv_command.specs.Replies.{document_of, next_batch_reply, kill_cursors_reply}
+
+-- the rows that are still to come of the cursor of a session and a namespace under an id, where there is one; none has a negative id
+abbrev pub rows_asked : ℕ → List ℕ → ℤ → Cursors → Option (List (List Field))
+rows_asked session namespace (pos id) cursors = rows_to_come session namespace id cursors
+rows_asked session namespace (negsuc n) cursors = None
+
+abbrev pub number_of : ℤ → ℕ
+number_of (pos id) = id
+number_of (negsuc n) = 0
+
+-- ---- more rows
+
+-- how many rows may come: for 0 as many as the limit of bytes lets
+abbrev pub wanted : ℕ → List (List Field) → ℕ
+wanted count rows = if count == 0 then length rows else count
+
+-- the id that is told with a batch: 0 where no row is left behind it
+abbrev pub id_behind : ℕ → List (List Field) → ℕ
+id_behind id [] = 0
+id_behind id (row ∷ rows) = id
+
+abbrev pub next_of : ℕ → List ℕ → ℕ → ℕ → Option (List (List Field)) → Cursors → Result (List Field × Cursors) Refusal
+next_of session namespace id count None cursors = Err CursorNotFound
+next_of session namespace id count (Some rows) cursors =
+    Ok (next_batch_reply namespace (id_behind id (behind (wanted count rows) rows)) (map document_of (batch (wanted count rows) rows)), advanced session id (length (batch (wanted count rows) rows)) cursors)
+
+-- the reply with the next batch of a cursor, and the cursors without its rows
+abbrev pub next_batch : ℕ → GetMore → Cursors → Result (List Field × Cursors) Refusal
+next_batch session asked cursors = next_of session asked.namespace (number_of asked.id) asked.batch_size (rows_asked session asked.namespace asked.id cursors) cursors
+
+-- ---- no more rows
+
+-- the cursors without the one of an id, where there is one
+abbrev pub without : ℕ → List ℕ → ℤ → Cursors → Cursors
+without session namespace id cursors = if is_some (rows_asked session namespace id cursors) then closed session (number_of id) cursors else cursors
+
+-- whether there is a cursor of each of the ids, one after the other
+abbrev pub went_each : ℕ → List ℕ → List ℤ → Cursors → List Bool
+went_each session namespace [] cursors = []
+went_each session namespace (id ∷ ids) cursors = is_some (rows_asked session namespace id cursors) ∷ went_each session namespace ids (without session namespace id cursors)
+
+abbrev pub without_each : ℕ → List ℕ → List ℤ → Cursors → Cursors
+without_each session namespace [] cursors = cursors
+without_each session namespace (id ∷ ids) cursors = without_each session namespace ids (without session namespace id cursors)
+
+-- the ids of cursors that went, in order; and those of which there was none
+abbrev pub gone_ids : List ℤ → List Bool → List Tree
+gone_ids (id ∷ ids) (went ∷ others) = if went then int64 id ∷ gone_ids ids others else gone_ids ids others
+gone_ids ids others = []
+
+abbrev pub missing_ids : List ℤ → List Bool → List Tree
+missing_ids (id ∷ ids) (went ∷ others) = if went then missing_ids ids others else int64 id ∷ missing_ids ids others
+missing_ids ids others = []
+
+-- the reply that tells which went, and the cursors that are left
+abbrev pub killed : ℕ → KillCursors → Cursors → List Field × Cursors
+killed session asked cursors =
+    let went = went_each session asked.namespace asked.ids cursors in
+    (kill_cursors_reply (gone_ids asked.ids went) (missing_ids asked.ids went), without_each session asked.namespace asked.ids cursors)

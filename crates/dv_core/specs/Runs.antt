@@ -1,0 +1,103 @@
+-- What the replies of a run tell of a cursor's rows.
+use Rattle.std.specs.Prelude.{◌≡◌, ◌≢◌, ◌⊎◌, ℕ, ℤ, pos, negsuc, ◌==◌, ◌&&◌, ◌||◌, not, Bool, true, false, List, [], ◌∷◌, ◌++◌, map, Option, Some, None, Result, Ok, Err, if◌then◌else◌}
+use Rattle.dv_bson.specs.Tree.{Field}
+use Rattle.dv_command.specs.Asked.{Asked, GetMore, get_more, asked_by}
+use Rattle.dv_command.specs.Replies.{document_of, first_batch_reply}
+use Rattle.dv_command.specs.declared.command.Command.{Command}
+use Rattle.dv_fields.specs.declared.refusal.Refusal.{Refusal}
+use Rattle.dv_catalog.specs.State as stored
+use Rattle.dv_cursor.specs.Batch.{batch, behind}
+use Rattle.dv_core.specs.More.{rows_asked, wanted}
+use Rattle.dv_core.specs.State.{State}
+use Rattle.dv_core.specs.Step.{Answer, answered, step, end_session}
+
+-- what comes: a command of a session that is carried out as it is defined, or the session's end; or one for which memory is wanting, and
+-- what then stands under namespaces
+pub data Move : Type 0 where
+  carries : ℕ → Command → Move
+  ends : ℕ → Move
+  wants : stored.State → Move
+
+abbrev pub state_behind : Move → State → State
+state_behind (carries session command) state = (step state session command).state
+state_behind (ends session) state = end_session session state
+state_behind (wants catalog) state = record state { catalog = catalog }
+
+-- ---- one move
+
+abbrev pub is_number : ℕ → ℤ → Bool
+is_number id (pos n) = n == id
+is_number id (negsuc n) = false
+
+-- whether a getMore of a session asks for the cursor of this session under this id
+abbrev pub asks_for : ℕ → ℕ → ℕ → GetMore → Bool
+asks_for session id other asked = (other == session) && is_number id asked.id
+
+-- the batch of rows that are still to come, where there are any
+abbrev pub batch_told : ℕ → Option (List (List Field)) → List (List Field)
+batch_told count None = []
+batch_told count (Some rows) = batch (wanted count rows) rows
+
+abbrev pub is_nil : List (List Field) → Bool
+is_nil [] = true
+is_nil (row ∷ rows) = false
+
+-- whether it is the last one, which is told with the id 0
+abbrev pub is_last_batch : ℕ → Option (List (List Field)) → Bool
+is_last_batch count None = false
+is_last_batch count (Some rows) = is_nil (behind (wanted count rows) rows)
+
+abbrev pub asked_rows : ℕ → ℕ → ℕ → Result Asked Refusal → State → List (List Field)
+asked_rows session id other (Ok (get_more asked)) state =
+    if asks_for session id other asked then batch_told asked.batch_size (rows_asked other asked.namespace asked.id state.cursors) else []
+asked_rows session id other asked state = []
+
+abbrev pub asked_last : ℕ → ℕ → ℕ → Result Asked Refusal → State → Bool
+asked_last session id other (Ok (get_more asked)) state =
+    asks_for session id other asked && is_last_batch asked.batch_size (rows_asked other asked.namespace asked.id state.cursors)
+asked_last session id other asked state = false
+
+-- the rows that the reply to a move tells of the cursor of a session under an id, be the reply left out or not
+abbrev pub rows_told : ℕ → ℕ → Move → State → List (List Field)
+rows_told session id (carries other command) state = asked_rows session id other (asked_by command) state
+rows_told session id (ends other) state = []
+rows_told session id (wants catalog) state = []
+
+-- whether it tells that no others are left, by the id 0
+abbrev pub tells_last : ℕ → ℕ → Move → State → Bool
+tells_last session id (carries other command) state = asked_last session id other (asked_by command) state
+tells_last session id (ends other) state = false
+tells_last session id (wants catalog) state = false
+
+-- ---- a run
+
+abbrev pub state_behind_all : List Move → State → State
+state_behind_all [] state = state
+state_behind_all (move ∷ moves) state = state_behind_all moves (state_behind move state)
+
+abbrev pub all_told : ℕ → ℕ → List Move → State → List (List Field)
+all_told session id [] state = []
+all_told session id (move ∷ moves) state = rows_told session id move state ++ all_told session id moves (state_behind move state)
+
+abbrev pub is_told_out : ℕ → ℕ → List Move → State → Bool
+is_told_out session id [] state = false
+is_told_out session id (move ∷ moves) state = tells_last session id move state || is_told_out session id moves (state_behind move state)
+
+-- the first batch of these rows and those that were told behind it are a front of them, and all of them once it was told that none is left
+pub record BatchesAreFront (count : ℕ) (rows told : List (List Field)) (out : Bool) : Type 0 where
+  pub rest : List (List Field)
+  pub front : (batch count rows ++ told) ++ rest ≡ rows
+  pub whole : out ≡ true → rest ≡ []
+
+-- what a find or a pipeline over these rows, and the moves behind the state that it leaves, tell of them: its reply has the first batch
+-- and an id. By the id 0 it tells that none is left, or that the batch was to be the only one; of the cursor of another id the moves tell
+pub record IsToldOf (session : ℕ) (namespace : List ℕ) (count : ℕ) (single : Bool) (rows : List (List Field)) (reply : List Field) (state : State) : Type 0 where
+  pub id : ℕ
+  pub first : reply ≡ first_batch_reply namespace id (map document_of (batch count rows))
+  pub none : id ≡ 0 → BatchesAreFront count rows [] (not single)
+  pub later : id ≢ 0 → (moves : List Move) → BatchesAreFront count rows (all_told session id moves state) (is_told_out session id moves state)
+
+-- the answer of a find or of a pipeline over these rows: it is refused, or tells of them
+abbrev pub Shows : ℕ → List ℕ → ℕ → Bool → List (List Field) → State → Answer → Type 0
+Shows session namespace count single rows state answer =
+    ((refusal : Refusal) × (answer ≡ answered state (Err refusal))) ⊎ IsToldOf session namespace count single rows answer.reply answer.state

@@ -1,0 +1,48 @@
+//! What is asked of indexes.
+
+ghost use Rattle.std.specs.Prelude.{◌≡◌, IfOk, map};
+ghost use Rattle.dv_catalog.specs.IndexParts.{explained_seen};
+ghost use Rattle.dv_command.specs.View.{index_seen};
+ghost use Rattle.dv_core.specs.Indexes.{explained_reply, form_asked};
+ghost use Rattle.dv_index.specs.View.{form_of_new};
+ghost use Rattle.dv_fields.specs.Refusals.{UnlessWanting};
+ghost use Rattle.std.specs.Prelude.{Ok};
+
+use dv_bson::{Document, NoMemory};
+use dv_catalog::{Explained, Way};
+use dv_command::replies::explain_reply;
+use dv_command::{IndexAsked, Refusal};
+use dv_index::NewIndex;
+use std::alloc::Global;
+
+/// The reply that tells how a find is answered. Refused where memory is wanting.
+pub(crate) fn explained(alloc: Global, told: Explained) -> Result<Document, Refusal>
+    ensures { UnlessWanting (λ reply. reply) (Ok (explained_reply (explained_seen told))) result }
+{
+    let Explained { way, documents } = told;
+    // No collection and no view has as many.
+    if documents >= 1 << 63 {
+        return Err(Refusal::WantOfMemory);
+    }
+    let reply = match way {
+        Way::View => explain_reply(alloc, "VIEW", None, documents)?,
+        Way::Index(name) => explain_reply(alloc, "IXSCAN", Some(&name), documents)?,
+        Way::All => explain_reply(alloc, "COLLSCAN", None, documents)?,
+    };
+    Ok(reply)
+}
+
+/// The indexes that are asked for, in order. Fails where memory is wanting.
+pub(crate) fn new_indexes(
+    alloc: Global,
+    indexes: Vec<IndexAsked>,
+) -> Result<Vec<NewIndex>, NoMemory>
+    ensures { IfOk result (λ made. map form_of_new made.items ≡ map form_asked (map index_seen indexes.items)) }
+{
+    let mut made = Vec::with_capacity(alloc, indexes.len())?;
+    'indexes: for asked in indexes {
+        let IndexAsked { name, path } = asked;
+        made.push(NewIndex { name, path })?;
+    }
+    Ok(made)
+}

@@ -1,0 +1,4 @@
+pub mod Batch
+pub mod Cursors
+pub mod CursorsCode
+pub mod Runs

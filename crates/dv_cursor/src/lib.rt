@@ -1,0 +1,10 @@
+//! Cursors over rows, which are had batch by batch.
+#![tactic(auto)]
+
+mod cursor;
+mod cursors;
+pub mod laws;
+mod rows;
+
+pub use cursors::Cursors;
+pub use rows::Rows;
