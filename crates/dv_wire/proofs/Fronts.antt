@@ -2,7 +2,8 @@
 use Rattle.std.proofs.Common.{◌≡◌, ℕ, ◌≤◌, Bool, true, false, ◌||◌, not, cond, ltb, eqb, List, length, take, drop, Option, Some, None, refl, sym, ap, ◌∙◌}
 use Rattle.std.proofs.lemmas.Bool.{ltb-false, eqb-true, or_parts, not-false}
 use Rattle.dv_wire.specs.declared.fault.CloseFault.TheVariants.{BadLength, BadOpCode, BadFlag, Checksum}
-use Rattle.dv_wire.specs.Message.{Section, sections_in, Message, message_of, Front, unfinished, closing, whole, number_behind, front_by, front, has_checksum, has_unknown_flag}
+use Rattle.dv_wire.specs.Sections.{Section, number_behind, sections_in}
+use Rattle.dv_wire.specs.Message.{Message, message_of, Front, unfinished, closing, whole, front_by, front, has_checksum, has_unknown_flag}
 
 -- the tests of a front, from the first to the last
 abbrev pub chain : (b1 b2 b3 b4 b5 b6 b7 b8 : Bool) → Front → Front

@@ -1,11 +1,12 @@
 -- What the front of a stream shows stays where more bytes come.
-use Rattle.std.proofs.Common.{◌≡◌, ℕ, zero, suc, ◌+◌, ◌≤◌, ◌<◌, ◌⊎◌, Bool, true, false, ◌||◌, not, cond, ltb, eqb, List, ◌++◌, length, take, drop, Option, Some, None, refl, sym, ap, subst, ◌∙◌, arith, inl, inr}
-use Rattle.std.specs.Int.{w32, from_le_bytes}
+use Rattle.std.proofs.Common.{◌≡◌, ℕ, zero, suc, ◌≤◌, ◌<◌, ◌⊎◌, Bool, true, false, ◌||◌, not, cond, ltb, eqb, List, ◌++◌, length, take, drop, Option, Some, None, refl, sym, ap, subst, ◌∙◌, arith, inl, inr}
 use Rattle.std.proofs.lemmas.Bool.{cases_Bool, ltb-false, le-ltb}
-use Rattle.std.proofs.lemmas.List.{length-append, length-drop, drop-append-le, take-append-le}
+use Rattle.std.proofs.lemmas.List.{length-append, drop-append-le, take-append-le}
 use Rattle.dv_wire.specs.declared.fault.CloseFault.{CloseFault}
 use Rattle.dv_wire.specs.declared.fault.CloseFault.TheVariants.{BadLength, BadOpCode, BadFlag, Checksum}
-use Rattle.dv_wire.specs.Message.{Section, sections_in, Message, Front, unfinished, closing, whole, number_behind, front_by, front, has_checksum, has_unknown_flag, Conversation, reading, closed, Split, split_behind, split, continuation}
+use Rattle.dv_wire.specs.Sections.{Section, number_behind, sections_in}
+use Rattle.dv_wire.specs.Message.{Message, Front, unfinished, closing, whole, front_by, front, has_checksum, has_unknown_flag, Conversation, reading, closed, Split, split_behind, split, continuation}
+use Rattle.dv_wire.proofs.Bytes.{number_same}
 use Rattle.dv_wire.proofs.Streams.{following_shorter, split_unfinished, split_closing, split_whole}
 
 abbrev longer : Front → List ℕ → Front
@@ -34,10 +35,6 @@ sections_stay : (id id' flags flags' : ℕ) (read read' : Option (List Section))
     → Stays (front_by id flags read r) (front_by id' flags' read' r') more
 sections_stay id id' flags flags' None read' r r' more same_id same_flags same_read same_rest = inr (rw same_read refl)
 sections_stay id id' flags flags' (Some sections) read' r r' more same_id same_flags same_read same_rest = inr (rw (same_id, same_flags, same_read, same_rest) refl)
-
-pub number_same : (n : ℕ) (a b : List ℕ) → n + 4 ≤ length a → number_behind n (a ++ b) ≡ number_behind n a
-number_same n a b le =
-    ap (from_le_bytes w32) (ap (take 4) (drop-append-le n a b (omega arith)) ∙ take-append-le 4 (drop n a) b (omega (arith, length-drop n a)))
 
 -- what is shown behind the flags
 abbrev shown_by : ℕ → List ℕ → Front

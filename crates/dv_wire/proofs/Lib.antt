@@ -1,5 +1,11 @@
 mod Sessions
-mod Sections
+mod Bytes
+mod Rows
+mod Frames
+mod Together
+mod Names
+mod Reading
+mod Brought
 mod Fronts
 mod Runs
 mod Replies

@@ -1,16 +1,15 @@
 -- A schedule where memory is never wanting is the machine's run in the schedule's order.
-use Rattle.std.proofs.Common.{◌≡◌, ℕ, suc, ◌≤◌, Bool, true, false, ◌&&◌, cond, eqb, ltb, List, [], ◌∷◌, ◌++◌, length, map, Option, Some, None, refl, sym, ap, subst, ◌∙◌, append_assoc, arith, inl, inr}
+use Rattle.std.proofs.Common.{◌≡◌, ℕ, suc, Bool, true, false, ◌&&◌, cond, eqb, ltb, List, [], ◌∷◌, ◌++◌, length, map, Option, Some, None, refl, sym, ap, ◌∙◌, append_assoc, inl, inr}
 use Rattle.std.proofs.lemmas.Bool.{cases_Bool, and_parts, ltb-true, ltb-false}
 use Rattle.dv_core.specs.State.{State}
-use Rattle.dv_core.specs.Step.{step}
+use Rattle.dv_core.specs.Step.{step, end_session}
 use Rattle.dv_wire.specs.declared.events.Event.{Event}
 use Rattle.dv_wire.specs.declared.events.Event.TheVariants as events
-use Rattle.dv_wire.specs.declared.events.Said.TheVariants as said
-use Rattle.dv_wire.specs.declared.fault.CloseFault.{CloseFault}
 use Rattle.dv_wire.specs.Message.{Message, Conversation, reading, closed, Split, split}
-use Rattle.dv_wire.specs.Schedule.{World, Run, silence, command_of, conversation_of, number_limit, plain_messages, plain_run, reply_bytes, session_limit, takes_all, with_conversation, world_behind, Feeds}
+use Rattle.dv_wire.specs.Commands.{command_of}
+use Rattle.dv_wire.specs.Schedule.{World, silence, conversation_of, number_limit, plain_messages, plain_run, reply_bytes, session_limit, takes_all, with_conversation, world_behind}
 use Rattle.dv_wire.specs.Playing.{Happens, Plays}
-use Rattle.dv_wire.specs.Order.{Moment, opens, comes, ends, is_room, heard, moments_heard, order, state_behind, replies_behind, plain_fed, plain_event, played_behind, plain_play, answers}
+use Rattle.dv_wire.specs.Order.{Moment, opens, comes, ends, is_room, heard, moments_heard, order, state_behind, replies_behind, plain_fed, plain_event, plain_play, answers}
 use Rattle.dv_wire.proofs.Replies.{plain_carries}
 
 -- ---- one message after the other
@@ -49,7 +48,7 @@ state_append : (state : State) (first later : List Moment) → state_behind stat
 state_append state [] later = refl
 state_append state (opens ∷ first) later = state_append state first later
 state_append state (comes session message ∷ first) later = state_append (step state session (command_of message)).state first later
-state_append state (ends session ∷ first) later = state_append state first later
+state_append state (ends session ∷ first) later = state_append (end_session session state) first later
 
 replies_append : (listener : ℕ) (state : State) (first later : List Moment)
     → replies_behind listener state (first ++ later) ≡ replies_behind listener state first ++ replies_behind listener (state_behind state first) later
@@ -60,7 +59,7 @@ replies_append listener state (comes session message ∷ first) later =
     let reply = cond (eqb session listener) (reply_bytes message answer.reply) [] in
     ap (λ (bytes : List ℕ). reply ++ bytes) (replies_append listener answer.state first later)
     ∙ sym (append_assoc reply (replies_behind listener answer.state first) (replies_behind listener (state_behind answer.state first) later))
-replies_append listener state (ends session ∷ first) later = replies_append listener state first later
+replies_append listener state (ends session ∷ first) later = replies_append listener (end_session session state) first later
 
 -- ---- one event after the other
 

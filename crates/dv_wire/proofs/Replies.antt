@@ -3,20 +3,18 @@ use Rattle.std.proofs.Common.{true, ◌≡◌, ℕ, ◌+◌, ◌-◌, ◌⊎◌,
 use Rattle.std.specs.Prelude.{OnOk, OnErr}
 use Rattle.std.specs.Int.{w32, to_le_bytes}
 use Rattle.std.proofs.lemmas.List.{append-nil, take_at, drop_at, drop-drop, length-append}
-use Rattle.dv_bson.specs.declared.fault.BsonFault.{BsonFault}
 use Rattle.dv_bson.specs.declared.fault.BsonFault.TheVariants as bson
-use Rattle.dv_bson.specs.Tree.{Field}
-use Rattle.dv_bson.specs.Reading.{document_at, first_fault, fault_of}
 use Rattle.dv_command.specs.declared.command.Command.{Command}
 use Rattle.dv_command.specs.declared.command.Command.TheVariants.{Invalid}
-use Rattle.dv_command.specs.declared.refusal.Refusal.TheVariants.{WantOfMemory}
+use Rattle.dv_fields.specs.declared.refusal.Refusal.TheVariants.{WantOfMemory}
 use Rattle.dv_core.specs.declared.outcome.Outcome.{Outcome}
 use Rattle.dv_core.specs.declared.outcome.Outcome.TheVariants.{Reply, Wanting, NoReply}
 use Rattle.dv_core.specs.State.{State}
 use Rattle.dv_wire.specs.declared.fault.CloseFault.TheVariants.{NoMemory}
 use Rattle.dv_wire.specs.Message.{Message, message_spelling, Conversation, reading, closed}
 use Rattle.dv_core.specs.Step.{Answer, step, answered, MemoryStep, TellsOfWant}
-use Rattle.dv_wire.specs.Schedule.{Appends, Run, in_front, silence, bytes_to, CarriesOut, plain_messages, command_from, command_of}
+use Rattle.dv_wire.specs.Schedule.{Appends, Run, in_front, silence, bytes_to, CarriesOut, plain_messages}
+use Rattle.dv_wire.specs.Commands.{command_of}
 use Rattle.dv_wire.specs.View.{GoesOn, Carries, unmeasured}
 use Rattle.dv_wire.proofs.Runs.{follows_shut, follows_on, follows_cases, in_front-silence}
 
@@ -48,17 +46,7 @@ put_in old body all put response_to start len is_all is_start is_len is_put same
     let whole : put ≡ old ++ message_spelling 0 response_to 0 (0 ∷ body) = is_put ∙ rw (is_start, is_all) (measure old body response_to) in
     take_at put (drop (length put) all) len (same ∙ sym is_len) ∙ whole
 
--- ---- the command that a body brings
-
-read_is : (read : Result (List Field × ℕ) BsonFault) (fault : BsonFault) → fault_of read ≡ Some fault → command_from read ≡ Invalid fault
-read_is (Ok found) fault e = absurd cc
-read_is (Err f) fault e = cc
-
-pub invalid : (bytes : List ℕ) (fault : BsonFault) → (fault ≡ bson.NoMemory) ⊎ (first_fault bytes ≡ Some fault)
-    → (command_from (document_at bytes) ≡ Invalid fault) ⊎ (Invalid fault ≡ Invalid bson.NoMemory)
-unfolding first_fault
-invalid bytes fault (inl e) = inr (ap Invalid e)
-invalid bytes fault (inr e) = inl (read_is (document_at bytes) fault e)
+-- ---- the command that a message brings
 
 -- where memory was wanting to read a command, that is told of it which may be told of any command
 steps_unread : (session : ℕ) (old new : State) (command : Command) (outcome : Outcome) → MemoryStep old session (Invalid bson.NoMemory) outcome new → TellsOfWant outcome → MemoryStep old session command outcome new

@@ -1,12 +1,12 @@
 -- Worlds stay sound, by the law of each step.
-use Rattle.std.proofs.Common.{◌≡◌, ℕ, zero, suc, ◌+◌, ◌<◌, ◌≤◌, true, eqb, List, [], ◌∷◌, ◌++◌, length, get_or, take, drop, Option, Some, None, Result, Ok, Err, refl, sym, subst, arith, inl, inr}
+use Rattle.std.proofs.Common.{◌≡◌, ℕ, zero, suc, ◌+◌, ◌<◌, ◌≤◌, eqb, List, [], ◌∷◌, ◌++◌, length, take, drop, Option, Some, None, Result, Ok, Err, refl, sym, subst, arith, lit≤, inl, inr}
+use Rattle.std.specs.Int.{w32, to_le_bytes}
 use Rattle.std.specs.List.{AllByRecursion}
 use Rattle.std.proofs.lemmas.Bool.{cases_Bool}
-use Rattle.std.proofs.lemmas.List.{append-nil, get_or-drop}
 use Rattle.dv_bson.specs.declared.fault.BsonFault.{BsonFault}
 use Rattle.dv_bson.specs.Tree.{Field}
-use Rattle.dv_bson.specs.Spelling.{Spells, Fits, IsBytes}
-use Rattle.dv_bson.specs.Reading.{document_at}
+use Rattle.dv_bson.specs.Spelling.{Spells, Fits, IsBytes, payload, fields_spelling, framed}
+use Rattle.dv_bson.specs.Reading.{◌>>=◌, document_at}
 use Rattle.dv_command.specs.declared.command.Command.{Command}
 use Rattle.dv_core.specs.declared.outcome.Outcome.{Outcome}
 use Rattle.dv_core.specs.State.{State}
@@ -15,12 +15,15 @@ use Rattle.dv_core.specs.Sound.{IsSoundDocument, IsSound, IsSoundCommand}
 use Rattle.dv_wire.specs.declared.fault.CloseFault.TheVariants.{NoMemory}
 use Rattle.dv_wire.specs.declared.hub.Fed.{Fed}
 use Rattle.dv_wire.specs.declared.hub.SessionId.{SessionId}
-use Rattle.dv_wire.specs.Message.{Section, body, body_among, sections_spelling, are_sections, Message, Front, unfinished, closing, whole, number_behind, front, Conversation, reading, closed, Split, split}
-use Rattle.dv_wire.specs.Schedule.{Run, World, world_of, conversation_of, with_conversation, sessions_but, command_from, command_of, bytes_to, CarriesOut, Takes, takes_all, takes_some, Hears, Opens, Feeds, end}
+use Rattle.dv_wire.specs.Sections.{Section, body, named, sized, row_spelling, section_spelling, sections_spelling, number_behind}
+use Rattle.dv_wire.specs.Commands.{fields_in, each_read, Brought, brought_body, brought_list, brought_by, body_among, lists_among, read_in, command_from, command_of}
+use Rattle.dv_wire.specs.Message.{Message, Front, unfinished, closing, whole, front, Conversation, reading, closed, Split, split}
+use Rattle.dv_wire.specs.Schedule.{Run, World, world_of, conversation_of, with_conversation, sessions_but, bytes_to, CarriesOut, Takes, takes_all, takes_some, Hears, Opens, Feeds, end}
 use Rattle.dv_wire.specs.Sound.{KeepsBytes, IsSoundWorld}
 use Rattle.dv_wire.proofs.Fronts.{front_shows}
-use Rattle.dv_wire.proofs.Sections.{sections_spelled, two_counted}
-use Rattle.dv_wire.proofs.Spelled.{IsBytes-take}
+use Rattle.dv_wire.proofs.Bytes.{IsBytes-take, IsBytes-drop, IsBytes-front, IsBytes-behind, IsBytes-append}
+use Rattle.dv_wire.proofs.Together.{sections_spelled}
+use Rattle.dv_wire.proofs.Reading.{reads_more}
 use Rattle.dv_wire.proofs.Streams.{following_shorter, split_unfinished, split_closing, split_whole}
 use Rattle.dv_wire.proofs.Runs.{follows_cases}
 
@@ -37,37 +40,43 @@ ReadsSound = (bytes : List ℕ) (document : List Field) (count : ℕ) → IsByte
 pub spelled_sound : ReadsSpelled → ReadsSound
 spelled_sound reads bytes document count h e = let read = reads bytes document count h e in record { valid = read.1.valid; fits = read.2 }
 
--- ---- bytes
-
-IsBytes-drop : (n : ℕ) (bytes : List ℕ) → IsBytes bytes → IsBytes (drop n bytes)
-IsBytes-drop n bytes h i = rw get_or-drop (h (n + i))
-
-IsBytes-cons : (b : ℕ) (bytes : List ℕ) → b < 256 → IsBytes bytes → (i : ℕ) → get_or (b ∷ bytes) i 0 < 256
-IsBytes-cons b bytes lt h zero = lt
-IsBytes-cons b bytes lt h (suc i) = h i
-
-IsBytes-append : (a b : List ℕ) → IsBytes a → IsBytes b → IsBytes (a ++ b)
-IsBytes-append [] b h k = k
-IsBytes-append (x ∷ a) b h k = IsBytes-cons x (a ++ b) (h 0) (IsBytes-append a b (λ i. h (suc i)) k)
-
 -- ---- what messages bring
 
-body_bytes : (sections : List Section) → are_sections sections ≡ true → IsBytes (sections_spelling sections) → IsBytes (body_among sections)
-body_bytes [] are h = absurd cc
-body_bytes (body d ∷ []) are h = λ i. rw append-nil at (h (suc i))
-body_bytes (body d ∷ body x ∷ sections) are h = absurd (two_counted (body d ∷ body x ∷ sections) _ refl are)
+abbrev BringsBytes : Section → Type 0
+BringsBytes (body document) = IsBytes document
+BringsBytes (named name documents) = AllByRecursion IsBytes documents
 
-message_bytes : (bytes : List ℕ) (message : Message) (following : List ℕ) → IsBytes bytes → front bytes ≡ whole message following → IsBytes (body_among message.sections) × IsBytes following
+documents_bytes : (documents : List (List ℕ)) → IsBytes (row_spelling documents) → AllByRecursion IsBytes documents
+documents_bytes [] h = tt
+documents_bytes (d ∷ ds) h = (IsBytes-front d (row_spelling ds) h, documents_bytes ds (IsBytes-behind d (row_spelling ds) h))
+
+behind_size : (bytes : List ℕ) → IsBytes (sized bytes) → IsBytes bytes
+unfolding sized
+behind_size bytes h = IsBytes-behind (to_le_bytes w32 (length bytes + 4)) bytes h
+
+section_bytes : (section : Section) → IsBytes (section_spelling section) → BringsBytes section
+section_bytes (body document) h = λ i. h (suc i)
+section_bytes (named name documents) h =
+    let content : IsBytes (0 ∷ row_spelling documents) = IsBytes-behind name (0 ∷ row_spelling documents) (behind_size (name ++ 0 ∷ row_spelling documents) (λ i. h (suc i))) in
+    documents_bytes documents (λ i. content (suc i))
+
+sections_bytes : (sections : List Section) → IsBytes (sections_spelling sections) → AllByRecursion BringsBytes sections
+sections_bytes [] h = tt
+sections_bytes (section ∷ sections) h =
+    (section_bytes section (IsBytes-front (section_spelling section) (sections_spelling sections) h), sections_bytes sections (IsBytes-behind (section_spelling section) (sections_spelling sections) h))
+
+message_bytes : (bytes : List ℕ) (message : Message) (following : List ℕ) → IsBytes bytes → front bytes ≡ whole message following → AllByRecursion BringsBytes message.sections × IsBytes following
 message_bytes bytes message following h e =
     let f = front_shows bytes message following e in
     let n = number_behind 0 bytes in
-    let spelled = sections_spelled (drop 20 (take n bytes)) message.sections f.sections_are in (
-      body_bytes message.sections spelled.1 (subst IsBytes spelled.0 (IsBytes-drop 20 (take n bytes) (IsBytes-take n bytes h))),
+    let fits = IsBytes-drop 20 (take n bytes) (IsBytes-take n bytes h) in
+    let spelled = sections_spelled (drop 20 (take n bytes)) message.sections fits f.sections_are in (
+      sections_bytes message.sections (subst IsBytes spelled.0 fits),
       subst IsBytes f.following_is (IsBytes-drop n bytes h),
     )
 
 abbrev BringBytes : List Message → Type 0
-BringBytes messages = AllByRecursion (λ m. IsBytes (body_among m.sections)) messages
+BringBytes messages = AllByRecursion (λ m. AllByRecursion BringsBytes m.sections) messages
 
 record IsByteSplit (s : Split) : Type 0 where
   bring : BringBytes s.messages
@@ -100,16 +109,66 @@ record IsSoundRun (run : Run) : Type 0 where
   documents : IsSound run.state
   keeps : KeepsBytes run.conversation
 
+abbrev IsSoundlyBrought : Brought → Type 0
+IsSoundlyBrought (brought_body fields) = IsSoundDocument fields
+IsSoundlyBrought (brought_list name documents) = AllByRecursion IsSoundDocument documents
+
+nothing_sound : IsSoundDocument []
+unfolding payload fields_spelling framed
+nothing_sound = record { valid = tt; fits = record { size = lit≤ tt; depth = lit≤ tt } }
+
+body_sound : (before : List Field) (brought : List Brought) → IsSoundDocument before → AllByRecursion IsSoundlyBrought brought → IsSoundDocument (body_among before brought)
+body_sound before [] sound all = sound
+body_sound before (brought_body fields ∷ others) sound all = body_sound fields others all.0 all.1
+body_sound before (brought_list name documents ∷ others) sound all = body_sound before others sound all.1
+
+lists_sound : (brought : List Brought) → AllByRecursion IsSoundlyBrought brought → AllByRecursion (λ list. AllByRecursion IsSoundDocument list.1) (lists_among brought)
+lists_sound [] all = tt
+lists_sound (brought_body fields ∷ others) all = lists_sound others all.1
+lists_sound (brought_list name documents ∷ others) all = (all.0, lists_sound others all.1)
+
+-- what holds of each that is read
+each_sound : {A B : Type 0} (P : A → Type 0) (Q : B → Type 0) (f : A → Result B BsonFault) → ((x : A) (y : B) → P x → f x ≡ Ok y → Q y) → (xs : List A) (ys : List B) → AllByRecursion P xs → each_read f xs ≡ Ok ys → AllByRecursion Q ys
+each_sound P Q f sound [] ys all e = let none : [] ≡ ys = cc in subst (AllByRecursion Q) none tt
+each_sound P Q f sound (x ∷ xs) ys all e =
+    let r = reads_more f x xs ys e in
+    subst (AllByRecursion Q) r.both (sound x r.first all.0 r.first_is, each_sound P Q f sound xs r.others all.1 r.others_are)
+
 module _ (reads : ReadsSound) (stays : StaysSound) where
-  command_sound : (bytes : List ℕ) (read : Result (List Field × ℕ) BsonFault) → IsBytes bytes → document_at bytes ≡ read → IsSoundCommand (command_from read)
-  command_sound bytes (Ok found) h e = (reads bytes found.0 found.1 h e, tt)
-  command_sound bytes (Err fault) h e = tt
+  fields_by : (bytes : List ℕ) (read : Result (List Field × ℕ) BsonFault) (fields : List Field) → IsBytes bytes → document_at bytes ≡ read → (read >>= λ found. Ok found.0) ≡ Ok fields → IsSoundDocument fields
+  fields_by bytes (Ok (found, count)) fields h is e = let same : found ≡ fields = cc in subst IsSoundDocument same (reads bytes found count h is)
+  fields_by bytes (Err fault) fields h is e = absurd cc
+
+  fields_sound : (bytes : List ℕ) (fields : List Field) → IsBytes bytes → fields_in bytes ≡ Ok fields → IsSoundDocument fields
+  fields_sound bytes fields h e = fields_by bytes (document_at bytes) fields h refl e
+
+  body_by : (read : Result (List Field) BsonFault) (brought : Brought) → ((fields : List Field) → read ≡ Ok fields → IsSoundDocument fields) → (read >>= λ fields. Ok (brought_body fields)) ≡ Ok brought → IsSoundlyBrought brought
+  body_by (Ok fields) brought sound e = let same : brought_body fields ≡ brought = cc in subst IsSoundlyBrought same (sound fields refl)
+  body_by (Err fault) brought sound e = absurd cc
+
+  list_by : (name : List ℕ) (read : Result (List (List Field)) BsonFault) (brought : Brought) → ((all : List (List Field)) → read ≡ Ok all → AllByRecursion IsSoundDocument all)
+      → (read >>= λ all. Ok (brought_list name all)) ≡ Ok brought → IsSoundlyBrought brought
+  list_by name (Ok all) brought sound e = let same : brought_list name all ≡ brought = cc in subst IsSoundlyBrought same (sound all refl)
+  list_by name (Err fault) brought sound e = absurd cc
+
+  brought_sound : (section : Section) (brought : Brought) → BringsBytes section → brought_by section ≡ Ok brought → IsSoundlyBrought brought
+  brought_sound (body document) brought h e = body_by (fields_in document) brought (λ fields is. fields_sound document fields h is) e
+  brought_sound (named name documents) brought h e =
+      list_by name (each_read fields_in documents) brought (λ all are. each_sound IsBytes IsSoundDocument fields_in fields_sound documents all h are) e
+
+  command_by : (read : Result (List Brought) BsonFault) → ((brought : List Brought) → read ≡ Ok brought → AllByRecursion IsSoundlyBrought brought)
+      → IsSoundCommand (command_from (read >>= λ brought. Ok (body_among [] brought, lists_among brought)))
+  command_by (Ok brought) sound = (body_sound [] brought nothing_sound (sound brought refl), lists_sound brought (sound brought refl))
+  command_by (Err fault) sound = tt
+
+  command_sound : (sections : List Section) → AllByRecursion BringsBytes sections → IsSoundCommand (command_from (read_in sections))
+  command_sound sections h = command_by (each_read brought_by sections) (λ brought are. each_sound BringsBytes IsSoundlyBrought brought_by brought_sound sections brought h are)
 
   carries_sound : (session : ℕ) (old : State) (messages : List Message) (conversation : Conversation) (run : Run) → IsSound old → BringBytes messages → KeepsBytes conversation
       → CarriesOut session old messages conversation run → IsSoundRun run
   carries_sound session old [] conversation run sound bring keeps h = subst IsSoundRun (sym h) (record { documents = sound; keeps = keeps })
   carries_sound session old (message ∷ messages) conversation run sound bring keeps (outcome, mid, steps, follows) =
-      let behind = stays old mid session (command_of message) outcome (command_sound (body_among message.sections) (document_at (body_among message.sections)) bring.0 refl) sound steps in
+      let behind = stays old mid session (command_of message) outcome (command_sound message.sections bring.0) sound steps in
       elim (follows_cases (bytes_to message outcome) mid (CarriesOut session mid messages conversation) run follows) [
         | inl shut ↦ subst IsSoundRun (sym shut) (record { documents = behind; keeps = tt })
         | inr a ↦

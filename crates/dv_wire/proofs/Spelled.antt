@@ -1,31 +1,15 @@
 -- A whole message at the front of a stream is spelled there.
-use Rattle.std.proofs.Common.{◌≡◌, ℕ, ◌+◌, ◌≤◌, ◌<◌, ◌^◌, Bool, false, ◌||◌, not, ltb, eqb, List, ◌++◌, length, take, drop, Option, Some, refl, sym, ap, ◌∙◌, arith, inl, inr}
+use Rattle.std.proofs.Common.{◌≡◌, ℕ, ◌+◌, ◌≤◌, ◌<◌, ◌^◌, Bool, false, ◌||◌, not, ltb, eqb, List, ◌++◌, length, take, drop, Option, Some, refl, sym, ap, ◌∙◌, arith}
 use Rattle.std.specs.Int.{w32, to_le_bytes}
-use Rattle.std.proofs.lemmas.Bool.{cases_lt, le-ltb, or_from, eq-eqb, not_from_true}
-use Rattle.std.proofs.lemmas.List.{length-append, length-take, length-take-le, length-drop, take-append-drop, take_at, drop_at, drop-drop, get_or-drop, get_or-take, get_or_past}
-use Rattle.std.proofs.lemmas.Nat.{le_bytes_4, from_le_bytes-to_le_bytes_4}
+use Rattle.std.proofs.lemmas.Bool.{le-ltb, or_from, eq-eqb, not_from_true}
+use Rattle.std.proofs.lemmas.List.{length-append, length-take-le, length-drop, take-append-drop, take_at, drop_at, drop-drop}
+use Rattle.std.proofs.lemmas.Nat.{from_le_bytes-to_le_bytes_4}
 use Rattle.dv_bson.specs.Spelling.{IsBytes}
-use Rattle.dv_wire.specs.Message.{Section, Message, message_of, IsMessage, whole, message_spelling, sections_spelling, sections_in, number_behind, front_by, front, has_checksum, has_unknown_flag}
+use Rattle.dv_wire.specs.Sections.{Section, number_behind, sections_spelling, sections_in}
+use Rattle.dv_wire.specs.Message.{Message, message_of, IsMessage, whole, message_spelling, front_by, front, has_checksum, has_unknown_flag}
 use Rattle.dv_wire.proofs.Fronts.{front_shows, chain-fails}
-use Rattle.dv_wire.proofs.Growth.{number_same}
-use Rattle.dv_wire.proofs.Sections.{sections_spelled, sections_found, sections_long}
-
-pub IsBytes-take : (n : ℕ) (bytes : List ℕ) → IsBytes bytes → IsBytes (take n bytes)
-IsBytes-take n bytes h i =
-    elim (cases_lt i n) [
-      | inl lt ↦ rw (get_or-take n bytes i 0 lt) (h i)
-      | inr le ↦ rw (get_or_past (take n bytes) i 0 (omega (arith, length-take n bytes))) (omega arith)
-    ]
-
--- four bytes are those of their number
-four : (n : ℕ) (s : List ℕ) → IsBytes s → n + 4 ≤ length s → take 4 (drop n s) ≡ to_le_bytes w32 (number_behind n s)
-four n s h le =
-    sym (le_bytes_4 (take 4 (drop n s)) _ (length-take-le 4 (drop n s) (omega (arith, length-drop n s))) (IsBytes-take 4 (drop n s) (λ i. rw get_or-drop (h (n + i)))) refl)
-
-number_below : (n : ℕ) (s : List ℕ) → IsBytes s → number_behind n s < 2 ^ 32
-number_below n s h =
-    let h' : IsBytes (take 4 (drop n s)) = IsBytes-take 4 (drop n s) (λ i. rw get_or-drop (h (n + i))) in
-    omega (arith, h' 0, h' 1, h' 2, h' 3)
+use Rattle.dv_wire.proofs.Bytes.{IsBytes-take, IsBytes-drop, four, number_below, number_same}
+use Rattle.dv_wire.proofs.Together.{sections_spelled, sections_found, sections_long}
 
 abbrev glue : (a b c d e f : List ℕ) → List ℕ
 glue a b c d e f = a ++ (b ++ (c ++ (d ++ (e ++ f))))
@@ -60,7 +44,7 @@ front_spelled bytes following message h e =
     let fits : IsBytes s = IsBytes-take n bytes h in
     let id_same : number_behind 4 s ≡ message.request_id = same 4 (omega (arith, f.least)) ∙ ap (λ (m : Message). m.request_id) f.message_is in
     let flags_same = same 16 (omega (arith, f.least)) in
-    let spelled = sections_spelled (drop 20 s) message.sections f.sections_are in (
+    let spelled = sections_spelled (drop 20 s) message.sections (IsBytes-drop 20 s fits) f.sections_are in (
       s,
       record {
         response_to = number_behind 8 s;
@@ -150,5 +134,5 @@ is_shown bytes following spelled message is parts =
     let most : length tail + 20 ≤ 48000000 = omega (arith, ap length is.whole, is.limits, spelling-length message.request_id is.response_to is.flags tail) in
     ap front (parts ∙ ap (λ (s : List ℕ). s ++ following) is.whole)
     ∙ spelled_front message.request_id is.response_to is.flags tail following message.sections is.numbers.0 is.numbers.2 (sections_long message.sections is.sections) most
-    (sections_found message.sections is.sections) is.no_checksum is.known_flags
+    (sections_found message.sections is.sections (omega arith)) is.no_checksum is.known_flags
     ∙ ap (λ (b : Bool). whole (record { request_id = message.request_id; more_to_come = b; sections = message.sections }) following) (sym is.more)

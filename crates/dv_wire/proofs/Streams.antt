@@ -1,14 +1,24 @@
 -- Streams, message by message.
-use Rattle.std.proofs.Common.{◌≡◌, ℕ, zero, suc, ◌-◌, ◌<◌, Result, Err, List, [], ◌∷◌, ◌++◌, length, take, drop, refl, sym, ap, subst, ◌∙◌, append_assoc, arith, inl, inr}
-use Rattle.std.proofs.lemmas.List.{append-nil, length-append, length-drop, take-append-drop, drop_at}
+use Rattle.std.proofs.Common.{◌≡◌, ℕ, zero, suc, ◌-◌, ◌<◌, ◌⊎◌, Result, Err, List, [], ◌∷◌, ◌++◌, length, take, drop, refl, sym, ap, subst, ◌∙◌, append_assoc, arith, inl, inr}
+use Rattle.std.proofs.lemmas.List.{append-nil, length-append, length-drop, take-append-drop, take_at, drop_at}
 use Rattle.dv_wire.specs.declared.fault.CloseFault.{CloseFault}
 use Rattle.dv_wire.specs.declared.fault.CloseFault.TheVariants.{NoMemory}
 use Rattle.dv_core.specs.State.{State}
-use Rattle.dv_wire.specs.Message.{Message, Front, unfinished, closing, whole, number_behind, front, Conversation, reading, closed, Split, split_behind, split_from, split_within, split}
-use Rattle.dv_wire.specs.Schedule.{Run, in_front, CarriesOut, Appends, Takes, takes_all}
-use Rattle.dv_wire.specs.View.{GoesOn, Carries}
+use Rattle.dv_wire.specs.Sections.{number_behind}
+use Rattle.dv_wire.specs.Message.{Message, Front, unfinished, closing, whole, front, Conversation, reading, closed, Split, split_behind, split_from, split_within, split}
+use Rattle.dv_wire.specs.Schedule.{Run, in_front, CarriesOut, Appends, Takes, takes_all, takes_some}
+use Rattle.dv_wire.specs.declared.front.Front as code
+use Rattle.dv_wire.specs.declared.front.Front.TheVariants.{Closing}
+use Rattle.dv_wire.specs.View.{front_seen, GoesOn, Carries}
 use Rattle.dv_wire.proofs.Fronts.{front_shows}
 use Rattle.dv_wire.proofs.Runs.{carries_then, carries_to, carries_cases}
+
+-- ---- what the code sees at a front
+
+-- the front, unless memory was wanting to look at its sections
+pub seen_is : (seen : code.Front) (shown : Front) → (front_seen seen ≡ shown) ⊎ (seen ≡ Closing NoMemory) → (seen ≡ Closing NoMemory → ⊥) → shown ≡ front_seen seen
+seen_is seen shown (inl e) other = sym e
+seen_is seen shown (inr want) other = absurd (other want)
 
 -- ---- splitting
 
@@ -105,6 +115,25 @@ module _ (session : ℕ) (old mid : State) (stream here out_before out_now : Lis
   pub at_closing : (fault : CloseFault) → front here ≡ closing fault
       → Appends out_before out_now (λ bytes. Takes session old (split stream) (record { bytes = bytes; state = mid; conversation = closed fault }))
   at_closing fault shown = (progress.bytes, progress.answered, whole_run (closed fault) (split_closing here fault shown))
+
+  -- memory is wanting to look at the next message
+  pub at_want : Appends out_before out_now (λ bytes. Takes session old (split stream) (record { bytes = bytes; state = mid; conversation = closed NoMemory }))
+  at_want =
+      let run : Run = record { bytes = progress.bytes; state = mid; conversation = closed NoMemory } in
+      let first : take (length progress.messages) (split stream).messages ≡ progress.messages =
+      ap (λ (s : Split). take (length progress.messages) s.messages) progress.splits ∙ take_at progress.messages (split here).messages (length progress.messages) refl in (
+        progress.bytes,
+        progress.answered,
+        takes_some (length progress.messages)
+            (subst (λ (ms : List Message). CarriesOut session old ms (closed NoMemory) run) (sym first) (carries_to session old mid progress.messages progress.bytes (closed NoMemory) progress.carried)),
+      )
+
+  pub at_fault : (fault : CloseFault) → (closing fault ≡ front here) ⊎ (Closing fault ≡ Closing NoMemory)
+      → Appends out_before out_now (λ bytes. Takes session old (split stream) (record { bytes = bytes; state = mid; conversation = closed fault }))
+  at_fault fault (inl shown) = at_closing fault (sym shown)
+  at_fault fault (inr want) =
+      let same : fault ≡ NoMemory = cc in
+      subst (λ (f : CloseFault). Appends out_before out_now (λ bytes. Takes session old (split stream) (record { bytes = bytes; state = mid; conversation = closed f }))) (sym same) at_want
 
   -- the next message closes the session
   ends : (new : State) (message : Message) (others : Split) (bytes : List ℕ) → split stream ≡ split_before progress.messages (split_behind message others)

@@ -10,16 +10,20 @@ use Rattle.dv_bson.specs.declared.fault.BsonFault.{BsonFault}
 use Rattle.dv_bson.specs.Tree.{int32, Field}
 use Rattle.dv_bson.specs.Spelling.{framed, element_spelling, payload}
 use Rattle.dv_bson.specs.Reading.{document_at, count_at, body_at, Inside, ◌>>=◌, fields_at, kind_at, kind_of_byte, name_at, cut_at_zero, value_at, text_at}
-use Rattle.dv_command.specs.declared.refusal.Refusal.TheVariants.{WantOfMemory}
+use Rattle.dv_command.specs.declared.command.Command.{Command}
+use Rattle.dv_fields.specs.declared.refusal.Refusal.TheVariants.{WantOfMemory}
 use Rattle.dv_core.specs.declared.outcome.Outcome.TheVariants.{NoReply}
 use Rattle.dv_core.specs.State.{State}
 use Rattle.dv_core.specs.Step.{Answer, step, answered}
-use Rattle.dv_wire.specs.Message.{Message, Conversation, reading, front, sections_in, sections_within, split_within, split, message_spelling}
-use Rattle.dv_wire.specs.Schedule.{command_from, command_of, reply_bytes, in_front, silence, plain_behind, plain_messages, plain_run}
-use Rattle.dv_wire.specs.Examples.{asks, ping_document, ping_fields, ok, ping, pong, HeaderExamples, SectionExamples, SessionExamples, WantExamples}
+use Rattle.dv_wire.specs.Sections.{body, named, sized, is_section, are_sections, row_within, row_in, frame_at, section_at, sections_in}
+use Rattle.dv_wire.specs.Message.{Message, Conversation, reading, front, split_within, split, message_spelling}
+use Rattle.dv_wire.specs.Commands.{brought_body, body_among, lists_among, command_from, command_of}
+use Rattle.dv_wire.specs.Schedule.{reply_bytes, in_front, silence, plain_behind, plain_messages, plain_run}
+use Rattle.dv_wire.proofs.Together.{sections_found, sections_refused}
+use Rattle.dv_wire.specs.Examples.{Are, AreNone, empty_document, nothing_under, asks, ping_document, ping_fields, ok, ping, pong, HeaderExamples, SectionExamples, SessionExamples, WantExamples}
 
 pub headers : HeaderExamples
-unfolding split split_within front sections_in sections_within
+unfolding split split_within front sections_in row_in row_within section_at frame_at
 headers = record {
   shown_later = refl;
   too_short = refl;
@@ -41,14 +45,54 @@ headers = record {
   checksum_first = refl;
 }
 
+is_ascii_text : (bytes : List ℕ) → list_all (λ b. ltb b 128) bytes ≡ true → IsAscii bytes
+is_ascii_text [] all = IsAscii-nil
+is_ascii_text (b ∷ bytes) all = let parts = and_parts (ltb b 128) (list_all (λ c. ltb c 128) bytes) all in IsAscii-cons b bytes (ltb-true b 128 parts.0) (is_ascii_text bytes parts.1)
+
+-- text below 128 is UTF-8
+is_text : (bytes : List ℕ) → list_all (λ b. ltb b 128) bytes ≡ true → is_utf8 bytes ≡ true
+is_text bytes all = is_utf8-from_IsUtf8 bytes (IsUtf8-from_ascii bytes (is_ascii_text bytes all))
+
+d_text : is_utf8 (100 ∷ []) ≡ true
+d_text = is_text (100 ∷ []) refl
+
+e_text : is_utf8 (101 ∷ []) ≡ true
+e_text = is_text (101 ∷ []) refl
+
+two_documents_found : Are (0 ∷ (empty_document ++ 1 ∷ 16 ∷ 0 ∷ 0 ∷ 0 ∷ 100 ∷ 0 ∷ (empty_document ++ empty_document))) (body empty_document ∷ named (100 ∷ []) (empty_document ∷ empty_document ∷ []) ∷ [])
+unfolding sized
+two_documents_found =
+    let are : are_sections (body empty_document ∷ named (100 ∷ []) (empty_document ∷ empty_document ∷ []) ∷ []) ≡ true = rw d_text refl in
+    sections_found (body empty_document ∷ named (100 ∷ []) (empty_document ∷ empty_document ∷ []) ∷ []) are (lit< tt)
+
+two_names_found : Are (nothing_under 100 ++ nothing_under 101 ++ 0 ∷ empty_document) (named (100 ∷ []) [] ∷ named (101 ∷ []) [] ∷ body empty_document ∷ [])
+unfolding sized
+two_names_found =
+    let are : are_sections (named (100 ∷ []) [] ∷ named (101 ∷ []) [] ∷ body empty_document ∷ []) ≡ true = rw (d_text, e_text) refl in
+    sections_found (named (100 ∷ []) [] ∷ named (101 ∷ []) [] ∷ body empty_document ∷ []) are (lit< tt)
+
+one_name_refused : AreNone (nothing_under 100 ++ nothing_under 100 ++ 0 ∷ empty_document)
+unfolding sized
+one_name_refused =
+    let all : list_all is_section (named (100 ∷ []) [] ∷ named (100 ∷ []) [] ∷ body empty_document ∷ []) ≡ true = rw d_text refl in
+    sections_refused (named (100 ∷ []) [] ∷ named (100 ∷ []) [] ∷ body empty_document ∷ []) all refl (lit< tt)
+
 pub sections : SectionExamples
-unfolding split split_within front sections_in sections_within
+unfolding split split_within front sections_in row_in row_within section_at frame_at cut_at_zero
 sections = record {
   shown_later = refl;
   kind_2 = refl;
   kind_0 = refl;
-  kind_1 = refl;
-  kind_1_behind = refl;
+  in_front = rw d_text refl;
+  behind = rw d_text refl;
+  two_documents = two_documents_found;
+  two_names = two_names_found;
+  one_name_twice = one_name_refused;
+  no_body = rw d_text refl;
+  size_too_small = refl;
+  size_too_large = refl;
+  name_without_end = refl;
+  document_too_long = refl;
   two_bodies = refl;
   too_short = refl;
   too_long = refl;
@@ -58,14 +102,6 @@ sections = record {
   two = refl;
   fault_behind = refl;
 }
-
-is_ascii_text : (bytes : List ℕ) → list_all (λ b. ltb b 128) bytes ≡ true → IsAscii bytes
-is_ascii_text [] all = IsAscii-nil
-is_ascii_text (b ∷ bytes) all = let parts = and_parts (ltb b 128) (list_all (λ c. ltb c 128) bytes) all in IsAscii-cons b bytes (ltb-true b 128 parts.0) (is_ascii_text bytes parts.1)
-
--- text below 128 is UTF-8
-is_text : (bytes : List ℕ) → list_all (λ b. ltb b 128) bytes ≡ true → is_utf8 bytes ≡ true
-is_text bytes all = is_utf8-from_IsUtf8 bytes (IsUtf8-from_ascii bytes (is_ascii_text bytes all))
 
 -- ---- a ping, from its bytes
 
@@ -94,11 +130,19 @@ read_ping : document_at ping_document ≡ Ok (ping_fields, 26)
 unfolding document_at count_at body_at
 read_ping = ap (λ (fields : Result (List Field) BsonFault). fields >>= λ fs. Ok (fs, 26)) (read_first (body_at 99) ∙ read_last (body_at 99))
 
+-- the command of a body alone, as it is read
+abbrev command_by : Result (List Field × ℕ) BsonFault → Command
+command_by read =
+    command_from ((((read >>= (λ found. Ok found.0)) >>= (λ fields. Ok (brought_body fields))) >>= (λ first. Ok (first ∷ []))) >>= (λ brought. Ok (body_among [] brought, lists_among brought)))
+
+command_is : (more_to_come : Bool) (document : List ℕ) → command_of (asks more_to_come document) ≡ command_by (document_at document)
+command_is more_to_come document = refl
+
 answer_ping : (state : State) (session : ℕ) (more_to_come : Bool) → step state session (command_of (asks more_to_come ping_document)) ≡ record { reply = ok; state = state }
-answer_ping state session more_to_come = ap (λ (read : Result (List Field × ℕ) BsonFault). step state session (command_from read)) read_ping ∙ refl
+answer_ping state session more_to_come = ap (step state session) (command_is more_to_come ping_document ∙ ap command_by read_ping) ∙ refl
 
 split_pings : split (ping 0 ++ ping 2 ++ ping 0 ++ 47 ∷ []) ≡ record { messages = asks false ping_document ∷ asks true ping_document ∷ asks false ping_document ∷ []; conversation = reading (47 ∷ []) }
-unfolding split split_within front sections_in sections_within
+unfolding split split_within front sections_in row_in row_within section_at frame_at
 split_pings = refl
 
 plain_next : (session : ℕ) (state : State) (message : Message) (messages : List Message) (conversation : Conversation) (reply : List Field) → step state session (command_of message) ≡ record { reply = reply; state = state }

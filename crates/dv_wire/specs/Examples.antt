@@ -7,7 +7,9 @@ use Rattle.dv_wire.specs.declared.fault.HubFault.TheVariants.{TooManySessions}
 use Rattle.dv_wire.specs.declared.hub.SessionId.{SessionId}
 use Rattle.dv_core.specs.declared.outcome.Outcome.TheVariants.{Reply, Wanting, NoReply}
 use Rattle.dv_core.specs.State.{State}
-use Rattle.dv_wire.specs.Message.{body, sections_in, Message, Conversation, reading, closed, split}
+use Rattle.dv_core.specs.Step.{end_session}
+use Rattle.dv_wire.specs.Sections.{Section, body, named, sections_in}
+use Rattle.dv_wire.specs.Message.{Message, Conversation, reading, closed, split}
 use Rattle.dv_wire.specs.Schedule.{World, Opens, reply_bytes, bytes_to, CarriesOut, plain_run, silence, unfinished_in, end}
 
 -- ---- words for them
@@ -47,6 +49,17 @@ empty_document = 5 ∷ 0 ∷ 0 ∷ 0 ∷ 0 ∷ []
 abbrev pub asks : Bool → List ℕ → Message
 asks more_to_come document = record { request_id = 7; more_to_come = more_to_come; sections = body document ∷ [] }
 
+-- the bytes are these sections, or none
+abbrev pub Are : List ℕ → List Section → Type 0
+Are bytes sections = sections_in bytes ≡ Some sections
+
+abbrev pub AreNone : List ℕ → Type 0
+AreNone bytes = sections_in bytes ≡ None
+
+-- a section of no document, under a name of one byte
+abbrev pub nothing_under : ℕ → List ℕ
+nothing_under name = 1 ∷ 6 ∷ 0 ∷ 0 ∷ 0 ∷ name ∷ 0 ∷ []
+
 -- ---- messages
 
 pub record HeaderExamples : Type 0 where
@@ -78,15 +91,25 @@ pub record SectionExamples : Type 0 where
   pub shown_later : IsKept (sectioned 26 (2 ∷ 5 ∷ 0 ∷ 0 ∷ 0 ∷ []))
   pub kind_2 : Closes (sectioned 26 (2 ∷ 5 ∷ 0 ∷ 0 ∷ 0 ∷ 0 ∷ [])) BadSection
   pub kind_0 : Brings (sectioned 26 (0 ∷ empty_document)) (asks false empty_document ∷ []) (reading [])
-  -- a list under the identifier d, before a body and behind it
-  pub kind_1 : Closes (sectioned 33 (1 ∷ 6 ∷ 0 ∷ 0 ∷ 0 ∷ 100 ∷ 0 ∷ 0 ∷ empty_document)) BadSection
-  pub kind_1_behind : Closes (sectioned 33 (0 ∷ 5 ∷ 0 ∷ 0 ∷ 0 ∷ 0 ∷ 1 ∷ 6 ∷ 0 ∷ 0 ∷ 0 ∷ 100 ∷ 0 ∷ [])) BadSection
+  -- documents under a name, in front of the body and behind it
+  pub in_front : Are (nothing_under 100 ++ 0 ∷ empty_document) (named (100 ∷ []) [] ∷ body empty_document ∷ [])
+  pub behind : Are (0 ∷ (empty_document ++ nothing_under 100)) (body empty_document ∷ named (100 ∷ []) [] ∷ [])
+  pub two_documents : Are (0 ∷ (empty_document ++ 1 ∷ 16 ∷ 0 ∷ 0 ∷ 0 ∷ 100 ∷ 0 ∷ (empty_document ++ empty_document)))
+      (body empty_document ∷ named (100 ∷ []) (empty_document ∷ empty_document ∷ []) ∷ [])
+  pub two_names : Are (nothing_under 100 ++ nothing_under 101 ++ 0 ∷ empty_document) (named (100 ∷ []) [] ∷ named (101 ∷ []) [] ∷ body empty_document ∷ [])
+  pub one_name_twice : AreNone (nothing_under 100 ++ nothing_under 100 ++ 0 ∷ empty_document)
+  pub no_body : AreNone (nothing_under 100)
+  -- a size counts itself, and leads to the message's end at most; a name ends within it, and so does each document
+  pub size_too_small : AreNone (0 ∷ (empty_document ++ 1 ∷ 4 ∷ 0 ∷ 0 ∷ 0 ∷ 100 ∷ 0 ∷ []))
+  pub size_too_large : AreNone (0 ∷ (empty_document ++ 1 ∷ 7 ∷ 0 ∷ 0 ∷ 0 ∷ 100 ∷ 0 ∷ []))
+  pub name_without_end : AreNone (0 ∷ (empty_document ++ 1 ∷ 6 ∷ 0 ∷ 0 ∷ 0 ∷ 100 ∷ 100 ∷ []))
+  pub document_too_long : AreNone (0 ∷ (empty_document ++ 1 ∷ 11 ∷ 0 ∷ 0 ∷ 0 ∷ 100 ∷ 0 ∷ 6 ∷ 0 ∷ 0 ∷ 0 ∷ 0 ∷ []))
   pub two_bodies : Closes (sectioned 32 (0 ∷ 5 ∷ 0 ∷ 0 ∷ 0 ∷ 0 ∷ 0 ∷ empty_document)) BadSection
   -- a document's length is that of the body, and 5 at least
   pub too_short : Closes (sectioned 26 (0 ∷ 4 ∷ 0 ∷ 0 ∷ 0 ∷ 0 ∷ [])) BadSection
   pub too_long : Closes (sectioned 26 (0 ∷ 6 ∷ 0 ∷ 0 ∷ 0 ∷ 0 ∷ [])) BadSection
-  pub least_document : sections_in (0 ∷ empty_document) ≡ Some (body empty_document ∷ [])
-  pub no_document : sections_in (0 ∷ 4 ∷ 0 ∷ 0 ∷ 0 ∷ []) ≡ None
+  pub least_document : Are (0 ∷ empty_document) (body empty_document ∷ [])
+  pub no_document : AreNone (0 ∷ 4 ∷ 0 ∷ 0 ∷ 0 ∷ [])
   -- what is in it is for the command to say
   pub unreadable : Brings (sectioned 26 (0 ∷ 5 ∷ 0 ∷ 0 ∷ 0 ∷ 9 ∷ [])) (asks false (5 ∷ 0 ∷ 0 ∷ 0 ∷ 9 ∷ []) ∷ []) (reading [])
   -- behind a message comes the next, or a fault that closes the session behind it
@@ -128,7 +151,7 @@ pub record SessionExamples : Type 0 where
       → Opens (world state next sessions) (Ok session) new → ⊥
   pub not_too_many : (state : State) (new : World) → Opens (world state 0 []) (Err TooManySessions) new → ⊥
   pub after_an_end : (state : State) (others : List (ℕ × Conversation)) → length others ≡ 999
-      → Opens (end 0 (world state 1000 ((0, closed BadLength) ∷ others))) (Ok (id 1000)) (world state 1001 (others ++ (1000, reading []) ∷ []))
+      → Opens (end 0 (world state 1000 ((0, closed BadLength) ∷ others))) (Ok (id 1000)) (world (end_session 0 state) 1001 (others ++ (1000, reading []) ∷ []))
   -- there are 4,294,967,296 numbers
   pub last_number : (state : State) → Opens (world state 4294967295 []) (Ok (id 4294967295)) (world state 4294967296 ((4294967295, reading []) ∷ []))
   pub no_number : (state : State) (session : SessionId) (new : World) → Opens (world state 4294967296 []) (Ok session) new → ⊥

@@ -1,5 +1,7 @@
 -- messages and sessions
+pub mod Sections
 pub mod Message
+pub mod Commands
 pub mod Schedule
 pub mod Playing
 pub mod Order
@@ -7,5 +9,7 @@ pub mod Sound
 pub mod Fault
 pub mod Examples
 -- words that only bodies need
+pub mod SectionsView
+pub mod CommandsView
 pub mod View
 pub mod WorldCode

@@ -1,9 +1,9 @@
 -- Messages on the wire: OP_MSG with the standard message header (MongoDB manual, "MongoDB Wire Protocol").
-use Rattle.std.specs.Prelude.{◌≡◌, ℕ, zero, suc, ◌+◌, ◌/◌, ◌%◌, ◌^◌, ◌≤◌, ◌<◌, Bool, true, false, ◌||◌, ◌&&◌, not, List, [], ◌∷◌, ◌++◌, length, take, drop, Option, Some, None, nat_lt, nat_le, ◌==◌, if◌then◌else◌}
-use Rattle.std.specs.Int.{w32, from_le_bytes, to_le_bytes}
-use Rattle.std.specs.List.{list_all}
+use Rattle.std.specs.Prelude.{◌≡◌, ℕ, zero, suc, ◌+◌, ◌/◌, ◌%◌, ◌^◌, ◌≤◌, ◌<◌, Bool, true, false, ◌||◌, not, List, [], ◌∷◌, ◌++◌, length, take, drop, Option, Some, None, nat_lt, ◌==◌, if◌then◌else◌}
+use Rattle.std.specs.Int.{w32, to_le_bytes}
 use Rattle.dv_wire.specs.declared.fault.CloseFault.{CloseFault}
 use Rattle.dv_wire.specs.declared.fault.CloseFault.TheVariants.{BadLength, BadOpCode, BadFlag, Checksum, BadSection}
+use Rattle.dv_wire.specs.Sections.{Section, number_behind, sections_spelling, are_sections, sections_in}
 
 -- the operation code of OP_MSG
 abbrev pub op_msg : ℕ
@@ -16,79 +16,6 @@ shortest_message = 26
 -- and at most
 abbrev pub longest_message : ℕ
 longest_message = 48000000
-
--- the number in the four bytes behind the first n
-abbrev pub number_behind : ℕ → List ℕ → ℕ
-number_behind n bytes = from_le_bytes w32 (take 4 (drop n bytes))
-
--- ---- sections
-
--- a section, by its kind: 0, the bytes of the document that is the message's body
-pub data Section : Type 0 where
-  body : List ℕ → Section
-
--- its kind, and what stands behind it
-abbrev pub section_spelling : Section → List ℕ
-section_spelling (body document) = 0 ∷ document
-
-abbrev pub sections_spelling : List Section → List ℕ
-sections_spelling [] = []
-sections_spelling (section ∷ sections) = section_spelling section ++ sections_spelling sections
-
--- a document is framed where its length, at least 5, is that of the bytes
-abbrev pub is_framed : List ℕ → Bool
-is_framed bytes = nat_lt 4 (length bytes) && number_behind 0 bytes == length bytes
-
-abbrev pub is_section : Section → Bool
-is_section (body document) = is_framed document
-
-abbrev pub body_count : List Section → ℕ
-body_count [] = 0
-body_count (body document ∷ sections) = suc (body_count sections)
-
--- the sections of a message: exactly one is a body
-abbrev pub are_sections : List Section → Bool
-are_sections sections = list_all is_section sections && body_count sections == 1
-
--- the document in the body
-abbrev pub body_among : List Section → List ℕ
-body_among [] = []
-body_among (body document ∷ sections) = document
-
--- ---- the sections that bytes are
-
--- a body, as its document's length frames it, and what follows it
-abbrev pub body_at : List ℕ → Option (Section × List ℕ)
-body_at bytes =
-    if nat_lt 4 (number_behind 0 bytes) && nat_le (number_behind 0 bytes) (length bytes)
-    then Some (body (take (number_behind 0 bytes) bytes), drop (number_behind 0 bytes) bytes)
-    else None
-
--- the section behind the byte of its kind, and what follows it
-abbrev pub section_at : ℕ → List ℕ → Option (Section × List ℕ)
-section_at kind bytes = if kind == 0 then body_at bytes else None
-
-abbrev pub onto_sections : Section → Option (List Section) → Option (List Section)
-onto_sections section None = None
-onto_sections section (Some sections) = Some (section ∷ sections)
-
-abbrev pub sections_from : Option (Section × List ℕ) → (List ℕ → Option (List Section)) → Option (List Section)
-sections_from None others = None
-sections_from (Some found) others = onto_sections found.0 (others found.1)
-
--- A section takes up a byte at least, so as many steps as there are bytes are enough.
-unfoldable pub sections_within : ℕ → List ℕ → Option (List Section)
-sections_within steps [] = Some []
-sections_within zero (kind ∷ bytes) = None
-sections_within (suc steps) (kind ∷ bytes) = sections_from (section_at kind bytes) (sections_within steps)
-
-abbrev pub with_one_body : Option (List Section) → Option (List Section)
-with_one_body None = None
-with_one_body (Some sections) = if body_count sections == 1 then Some sections else None
-
--- the sections, one behind the other, that the bytes are, where exactly one is a body
-unfoldable pub sections_in : List ℕ → Option (List Section)
-sections_in bytes = with_one_body (sections_within (length bytes) bytes)
 
 -- ---- messages
 

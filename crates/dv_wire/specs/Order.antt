@@ -1,7 +1,7 @@
 -- The order in which a schedule's messages take effect, and a schedule where memory is never wanting.
 use Rattle.std.specs.Prelude.{ℕ, suc, Bool, ◌&&◌, List, [], ◌∷◌, ◌++◌, length, map, Option, Some, None, Ok, Err, nat_lt, ◌==◌, if◌then◌else◌}
 use Rattle.dv_core.specs.State.{State}
-use Rattle.dv_core.specs.Step.{step}
+use Rattle.dv_core.specs.Step.{step, end_session}
 use Rattle.dv_wire.specs.declared.events.Event.{Event}
 use Rattle.dv_wire.specs.declared.events.Event.TheVariants as events
 use Rattle.dv_wire.specs.declared.events.Said.{Said}
@@ -9,7 +9,8 @@ use Rattle.dv_wire.specs.declared.events.Said.TheVariants as said
 use Rattle.dv_wire.specs.declared.fault.HubFault.TheVariants.{TooManySessions}
 use Rattle.dv_wire.specs.declared.hub.Fed.TheVariants as fed
 use Rattle.dv_wire.specs.Message.{Message, Conversation, reading, closed, Split, split}
-use Rattle.dv_wire.specs.Schedule.{World, command_of, conversation_of, end, fed_of, number_limit, plain_run, reply_bytes, session_limit, sessions_but, unfinished_in, with_conversation, world_behind}
+use Rattle.dv_wire.specs.Commands.{command_of}
+use Rattle.dv_wire.specs.Schedule.{World, conversation_of, end, fed_of, number_limit, plain_run, reply_bytes, session_limit, sessions_but, unfinished_in, with_conversation, world_behind}
 
 -- ---- what takes effect, and when
 
@@ -53,7 +54,7 @@ abbrev pub state_behind : State → List Moment → State
 state_behind state [] = state
 state_behind state (opens ∷ later) = state_behind state later
 state_behind state (comes session message ∷ later) = state_behind (step state session (command_of message)).state later
-state_behind state (ends session ∷ later) = state_behind state later
+state_behind state (ends session ∷ later) = state_behind (end_session session state) later
 
 -- the bytes of its replies to a session
 abbrev pub replies_behind : ℕ → State → List Moment → List ℕ
@@ -61,7 +62,7 @@ replies_behind session state [] = []
 replies_behind session state (opens ∷ later) = replies_behind session state later
 replies_behind session state (comes other message ∷ later) =
     (if other == session then reply_bytes message (step state other (command_of message)).reply else []) ++ replies_behind session (step state other (command_of message)).state later
-replies_behind session state (ends other ∷ later) = replies_behind session state later
+replies_behind session state (ends other ∷ later) = replies_behind session (end_session other state) later
 
 -- ---- a schedule where memory is never wanting
 

@@ -1,32 +1,22 @@
 -- Sessions, and what happens to them: one is opened, a piece of its bytes comes, it ends.
 use Rattle.std.specs.Prelude.{◌≡◌, ℕ, suc, ◌≤◌, ◌<◌, ◌^◌, ◌⊎◌, List, [], ◌∷◌, ◌++◌, length, take, Option, Some, None, Result, Ok, Err, MatchOption, ◌==◌, if◌then◌else◌}
-use Rattle.dv_bson.specs.declared.fault.BsonFault.{BsonFault}
 use Rattle.dv_bson.specs.Tree.{Field}
 use Rattle.dv_bson.specs.Spelling.{spelling}
-use Rattle.dv_bson.specs.Reading.{document_at}
 use Rattle.dv_wire.specs.declared.fault.CloseFault.TheVariants.{NoMemory}
 use Rattle.dv_wire.specs.declared.fault.HubFault.{HubFault}
 use Rattle.dv_wire.specs.declared.fault.HubFault.TheVariants as hub_faults
-use Rattle.dv_command.specs.declared.command.Command.{Command}
-use Rattle.dv_command.specs.declared.command.Command.TheVariants.{Sections, Invalid}
 use Rattle.dv_core.specs.declared.outcome.Outcome.{Outcome}
 use Rattle.dv_core.specs.declared.outcome.Outcome.TheVariants.{Reply, Wanting, NoReply}
 use Rattle.dv_wire.specs.declared.hub.SessionId.{SessionId}
 use Rattle.dv_wire.specs.declared.hub.Fed.{Fed}
 use Rattle.dv_wire.specs.declared.hub.Fed.TheVariants as fed
-use Rattle.dv_wire.specs.Message.{body, section_spelling, body_among, Message, message_spelling, Conversation, reading, closed, Split, split}
+use Rattle.dv_wire.specs.Sections.{body, section_spelling}
+use Rattle.dv_wire.specs.Message.{Message, message_spelling, Conversation, reading, closed, Split, split}
+use Rattle.dv_wire.specs.Commands.{command_of}
 use Rattle.dv_core.specs.State.{State}
-use Rattle.dv_core.specs.Step.{Answer, step, MemoryStep}
+use Rattle.dv_core.specs.Step.{Answer, step, MemoryStep, end_session}
 
 -- ---- the messages of a session, one after the other
-
--- the command that a body's bytes bring: no list stands beside it
-abbrev pub command_from : Result (List Field × ℕ) BsonFault → Command
-command_from (Ok found) = Sections found.0 []
-command_from (Err fault) = Invalid fault
-
-abbrev pub command_of : Message → Command
-command_of message = command_from (document_at (body_among message.sections))
 
 -- a reply on the wire; none is sent to a message with moreToCome
 abbrev pub reply_bytes : Message → List Field → List ℕ
@@ -170,6 +160,6 @@ unfinished_in None = 0
 unfinished_in (Some (closed fault)) = 0
 unfinished_in (Some (reading kept)) = length kept
 
--- a session ends: its unfinished bytes are dropped, and no document changes
+-- a session ends: its unfinished bytes are dropped, and its cursors end with it
 abbrev pub end : ℕ → World → World
-end session old = record { state = old.state; next = old.next; sessions = sessions_but session old.sessions }
+end session old = record { state = end_session session old.state; next = old.next; sessions = sessions_but session old.sessions }

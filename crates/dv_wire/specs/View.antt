@@ -1,5 +1,5 @@
 -- What messages and sessions in memory stand for.
-use Rattle.std.specs.Prelude.{ℕ, List, [], ◌∷◌, ◌++◌, drop, Option, Some, None, Result, Ok, Err}
+use Rattle.std.specs.Prelude.{ℕ, List, [], ◌∷◌, ◌++◌, drop, map, Option, Some, None, Result, Ok, Err}
 use Rattle.dv_bson.specs.Tree.{Field}
 use Rattle.dv_bson.specs.Spelling.{spelling}
 use Rattle.std.specs.Int.{w32, to_le_bytes}
@@ -11,12 +11,14 @@ use Rattle.dv_wire.specs.declared.session.Session.{Session}
 use Rattle.dv_wire.specs.declared.front.Message as declared
 use Rattle.dv_wire.specs.declared.front.Front.{Front as FrontSeen}
 use Rattle.dv_wire.specs.declared.front.Front.TheVariants.{Unfinished, Closing, Whole}
-use Rattle.dv_wire.specs.Message.{body, section_spelling, Message, message_spelling, op_msg, Front, unfinished, closing, whole, Conversation, reading, closed}
+use Rattle.dv_wire.specs.Sections.{body, section_spelling}
+use Rattle.dv_wire.specs.SectionsView.{section_seen}
+use Rattle.dv_wire.specs.Message.{Message, message_spelling, op_msg, Front, unfinished, closing, whole, Conversation, reading, closed}
 use Rattle.dv_core.specs.State.{State}
 use Rattle.dv_wire.specs.Schedule.{CarriesOut}
 
 abbrev pub message_seen : declared.Message → Message
-message_seen m = record { request_id = m.request_id; more_to_come = m.more_to_come; sections = body m.body.now ∷ [] }
+message_seen m = record { request_id = m.request_id; more_to_come = m.more_to_come; sections = map section_seen m.sections.items }
 
 abbrev pub front_seen : FrontSeen → Front
 front_seen Unfinished = unfinished

@@ -72,6 +72,14 @@ impl From<AllocError> for CloseFault {
     }
 }
 
+impl<T: Drop> From<AllocFailed<T>> for CloseFault {
+    ghost from_gives = { λ _ fault. fault ≡ NoMemory };
+
+    fn from(_e: AllocFailed<T>) -> CloseFault {
+        CloseFault::NoMemory
+    }
+}
+
 impl<T: Drop> From<AllocFailed<T>> for HubFault {
     ghost from_gives = { λ _ fault. fault ≡ hub_faults.NoMemory };
 

@@ -1,10 +1,12 @@
 //! The front of a stream: an OP_MSG message with the standard message header (MongoDB manual, "MongoDB Wire Protocol").
 
-ghost use Rattle.std.specs.Prelude.{◌≡◌, ◌+◌, ◌≤◌, ◌∷◌, [], length, MatchOption};
+ghost use Rattle.std.specs.Prelude.{◌≡◌, ◌⊎◌};
 ghost use Rattle.dv_wire.specs.Message as wire;
 ghost use Rattle.dv_wire.specs.View.{front_seen};
 
 use crate::fault::CloseFault;
+use crate::sections::{Section, number_behind, sections_in};
+use std::alloc::Global;
 
 /// The operation code of OP_MSG.
 pub(crate) const OP_MSG: u32 = 2013;
@@ -15,21 +17,21 @@ const SHORTEST_MESSAGE: usize = 26;
 const LONGEST_MESSAGE: usize = 48_000_000;
 
 /// What a message asks.
-#[derive(Clone, Copy)]
+#[derive(Drop)]
 pub(crate) struct Message<'a> {
     pub(crate) request_id: u32,
     /// Whether no reply is to be sent.
     pub(crate) more_to_come: bool,
-    /// The bytes of its document.
-    pub(crate) body: &'a [u8],
+    /// In the order of their bytes.
+    pub(crate) sections: Vec<Section<'a>>,
 }
 
 /// What stands at the front of a stream.
-#[derive(Clone, Copy)]
+#[derive(Drop)]
 pub(crate) enum Front<'a> {
     /// Less than a message.
     Unfinished,
-    /// A fault that the bytes show already.
+    /// A fault that the bytes show already, or want of memory to look at the sections.
     Closing(CloseFault),
     /// A message, and the bytes that follow it.
     Whole {
@@ -39,10 +41,10 @@ pub(crate) enum Front<'a> {
 }
 
 /// Looks at the front of a stream. A message's length is shown by its fourth byte, its code by the sixteenth, its
-/// flags by the twentieth, its sections by its last.
+/// flags by the twentieth, its sections by its last. Where memory is wanting to look at the sections, that closes.
 #[tactic(auto, unfolding(crate::specs::Message::front))]
-pub(crate) fn front_of(bytes: &[u8]) -> Front<'_>
-    ensures { front_seen result ≡ wire.front bytes.now }
+pub(crate) fn front_of(alloc: Global, bytes: &[u8]) -> Front<'_>
+    ensures { (front_seen result ≡ wire.front bytes.now) ⊎ (result ≡ Front.Closing CloseFault.NoMemory) }
 {
     if bytes.len() < 4 {
         return Front::Unfinished;
@@ -72,48 +74,17 @@ pub(crate) fn front_of(bytes: &[u8]) -> Front<'_>
     }
     let (whole, rest) = bytes.split_at(length);
     let (_, sections) = whole.split_at(20);
-    match body_in(sections) {
-        Some(body) => Front::Whole {
+    match sections_in(alloc, sections) {
+        Ok(sections) => Front::Whole {
             message: Message {
                 request_id: number_behind(4, bytes),
                 more_to_come: has_more_to_come(flags),
-                body,
+                sections,
             },
             rest,
         },
-        None => Front::Closing(CloseFault::BadSection),
+        Err(fault) => Front::Closing(fault),
     }
-}
-
-/// The document in the body, where the bytes are the sections of a message: one section of kind 0.
-fn body_in(sections: &[u8]) -> Option<&[u8]>
-    ensures { MatchOption result (wire.sections_in sections.now ≡ None) (λ document. wire.sections_in sections.now ≡ Some (wire.body document.now ∷ [])) }
-{
-    let [kind, document @ ..] = sections else {
-        return None;
-    };
-    if *kind == 0 && is_framed(document) {
-        Some(document)
-    } else {
-        None
-    }
-}
-
-/// The little-endian number in the four bytes behind the first `place`.
-fn number_behind(place: usize, bytes: &[u8]) -> u32
-    requires { place + 4 ≤ length bytes.now }
-    ensures { result ≡ wire.number_behind place bytes.now }
-{
-    let (_, behind) = bytes.split_at(place);
-    let (number, _) = behind.split_at(4);
-    u32::from_le_bytes([number[0], number[1], number[2], number[3]])
-}
-
-/// Whether a document's length, at least 5, is that of the bytes.
-fn is_framed(bytes: &[u8]) -> bool
-    ensures { result ≡ wire.is_framed bytes.now }
-{
-    bytes.len() > 4 && number_behind(0, bytes) as usize == bytes.len()
 }
 
 /// Bit 0, checksumPresent.

@@ -67,6 +67,7 @@ impl Model for Hub {
 
 impl Hub {
     ghost use Rattle.std.specs.Prelude.{◌++◌, List, OnErr, OnOk};
+    ghost use Rattle.dv_core.specs.Step.{end_session};
     ghost use Rattle.dv_wire.specs.Schedule.{world_of, conversation_of, Opens, Feeds, Appends, unfinished_in, end as end_of};
     ghost use Rattle.dv_wire.specs.Playing.{Happens, Plays};
     ghost use Rattle.dv_wire.specs.declared.events.Said as heard;
@@ -117,14 +118,15 @@ impl Hub {
         session.hear(self.alloc, &mut self.store, piece, out)
     }
 
-    /// Ends a session, and answers how many bytes of an unfinished message are dropped with it. A session that was
-    /// never opened, or has ended, has none. Takes no memory.
+    /// Ends a session and its cursors, and answers how many bytes of an unfinished message are dropped with it. A
+    /// session that was never opened, or has ended, has none of these. Takes no memory.
     pub fn end(&mut self, session: SessionId) -> usize
         ensures unfinished { result ≡ unfinished_in (conversation_of session.number self.old.sessions) }
         ensures ended { self.new ≡ end_of session.number self.old }
-        ensures state { self.new.state ≡ self.old.state }
+        ensures state { self.new.state ≡ end_session session.number self.old.state }
         ensures numbers { self.new.next ≡ self.old.next }
     {
+        self.store.end_session(session.number);
         let Some(place) = place_of(&self.sessions, session.number) else {
             return 0;
         };

@@ -19,7 +19,8 @@ ghost use Rattle.dv_wire.specs.declared.events.Said.TheVariants as said;
 ghost use Rattle.dv_wire.specs.Message as wire;
 ghost use Rattle.dv_wire.specs.Order.{answers, order, plain_play, replies_behind, state_behind};
 ghost use Rattle.dv_wire.specs.Playing.{ComesInTwo, Plays};
-ghost use Rattle.dv_wire.specs.Schedule.{Run, CarriesOut, command_of, silence, World, world_of, conversation_of, Opens, Feeds, FeedsAll, end, fed_of, plain_run, stream_of, world_behind};
+ghost use Rattle.dv_wire.specs.Commands.{command_of};
+ghost use Rattle.dv_wire.specs.Schedule.{Run, CarriesOut, silence, World, world_of, conversation_of, Opens, Feeds, FeedsAll, end, fed_of, plain_run, stream_of, world_behind};
 
 /// A stream of which more comes splits as before, and then as its rest with what comes; behind a fault nothing does.
 pub fn splitting_goes_on()
@@ -49,9 +50,10 @@ pub fn a_piece_may_come_in_two()
 {}
 
 /// Where memory is never wanting, only the order counts in which sessions are opened and end and their messages become
-/// whole: the state that a schedule leaves, and what it answers to each session, are those of a machine that takes one
-/// message after the other in that order. So two schedules of one order answer the same to each session and leave the same
-/// state, however their bytes are cut and interleaved. Such a run is one of those that are allowed.
+/// whole: the state that a schedule leaves, and what it answers to each session, are those of a machine that in that order
+/// takes one message after the other, and ends the cursors of each session that ends. So two schedules of one order answer
+/// the same to each session and leave the same state, however their bytes are cut and interleaved. Such a run is one of
+/// those that are allowed.
 pub fn only_the_order_counts()
     ensures state { (world : World) (all : List Event) → (plain_play world all).world.state ≡ state_behind world.state (order world.next world.sessions all) }
     ensures answers { (session : ℕ) (world : World) (all : List Event) → answers session all (plain_play world all).said ≡ replies_behind session world.state (order world.next world.sessions all) }
@@ -102,11 +104,11 @@ pub fn sessions_keep_to_themselves()
     ensures ended { (old : World) (session other : ℕ) → session ≢ other → conversation_of other (end session old).sessions ≡ conversation_of other old.sessions }
 {}
 
-/// Documents change only where a session that is open takes its bytes: not where one is opened or ends, nor where bytes
-/// come for one that is closed, which stays closed by the same fault, or that isn't there.
+/// Documents change only where a session that is open takes its bytes: not where one is opened or ends, which leaves all
+/// but its cursors, nor where bytes come for one that is closed, which stays closed by the same fault, or that isn't there.
 pub fn only_open_sessions_change_documents()
     ensures opened { (old new : World) (result : Result SessionId HubFault) → Opens old result new → new.state ≡ old.state }
-    ensures ended { (old : World) (session : ℕ) → (end session old).state ≡ old.state }
+    ensures ended { (old : World) (session : ℕ) → (end session old).state.catalog ≡ old.state.catalog }
     ensures closed { (old new : World) (session : ℕ) (piece bytes : List ℕ) (answer : Fed) (fault : CloseFault) → conversation_of session old.sessions ≡ Some (wire.closed fault)
         → Feeds old session piece bytes answer new
         → (bytes ≡ []) × (answer ≡ fed.Closed fault) × (new.state ≡ old.state) × (conversation_of session new.sessions ≡ Some (wire.closed fault)) }

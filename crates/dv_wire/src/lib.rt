@@ -1,12 +1,14 @@
 //! OP_MSG messages in and out, and the sessions that they come from.
 #![tactic(auto)]
 
+mod commands;
 mod events;
 mod fault;
 mod front;
 mod hub;
 pub mod laws;
 mod reply;
+mod sections;
 mod session;
 
 pub use dv_core::Store;

@@ -1,18 +1,18 @@
 //! One session: its bytes, and its messages one after the other.
 
-ghost use Rattle.std.specs.Prelude.{◌≡◌, ◌≤◌, ◌++◌, ◌⊎◌, IfOk, length, drop, vec_len};
-ghost use Rattle.dv_bson.specs.Reading.{document_at};
-ghost use Rattle.dv_wire.specs.Schedule.{Appends, Takes, bytes_to, command_from};
+ghost use Rattle.std.specs.Prelude.{◌≡◌, ◌≤◌, ◌++◌, IfOk, length, drop, vec_len};
+ghost use Rattle.dv_wire.specs.Commands.{command_of};
+ghost use Rattle.dv_wire.specs.Schedule.{Appends, Takes, bytes_to};
 ghost use Rattle.dv_core.specs.Step.{MemoryStep};
 ghost use Rattle.dv_wire.specs.Message.{split};
 ghost use Rattle.dv_wire.specs.View.{kept_or_closed, left_or_closed, message_seen, bytes_seen, Carries};
 
+use crate::commands::command_in;
 use crate::fault::CloseFault;
 use crate::front::{Front, Message, front_of};
 use crate::hub::Fed;
 use crate::reply::append_reply;
-use dv_bson::{BsonFault, Document, NoMemory, read_document};
-use dv_command::{Command, DocumentLists};
+use dv_bson::{Document, NoMemory};
 use dv_core::{Outcome, Store};
 use std::alloc::{AllocError, Global};
 
@@ -124,7 +124,7 @@ fn carry_out_all(
 {
     let mut rest = stream;
     'messages: loop {
-        match front_of(rest) {
+        match front_of(alloc, rest) {
             Front::Unfinished => return Ok(stream.len() - rest.len()),
             Front::Closing(fault) => return Err(fault),
             Front::Whole {
@@ -149,7 +149,7 @@ fn carry_out(
 ) -> Result<(), NoMemory>
     ensures { Appends out.old.items out.new.items (λ bytes. Carries session store.old (message_seen message.now) bytes store.new result) }
 {
-    let outcome = step(alloc, store, session, message.body);
+    let outcome = step(alloc, store, session, message);
     match reply_to(message, outcome)? {
         Some(reply) => append_reply(message.request_id, &reply, out),
         None => Ok(()),
@@ -170,23 +170,10 @@ fn reply_to(message: &Message<'_>, outcome: Outcome) -> Result<Option<Document>,
     }
 }
 
-/// Carries out the command that a body's bytes bring.
-fn step(alloc: Global, store: &mut Store, session: u32, body: &[u8]) -> Outcome
-    ensures { MemoryStep store.old session (command_from (document_at body.now)) result store.new }
+/// Carries out the command that a message's sections bring.
+fn step(alloc: Global, store: &mut Store, session: u32, message: &Message<'_>) -> Outcome
+    ensures { MemoryStep store.old session (command_of (message_seen message.now)) result store.new }
 {
-    let command = command_in(alloc, body);
+    let command = command_in(alloc, &message.sections);
     store.execute(session, &command)
-}
-
-/// The command that a body's bytes bring, or that memory is wanting to read them.
-fn command_in(alloc: Global, body: &[u8]) -> Command
-    ensures { (command_from (document_at body.now) ≡ result) ⊎ (result ≡ Command.Invalid BsonFault.NoMemory) }
-{
-    match read_document(alloc, body) {
-        Ok((body, _)) => Command::Sections {
-            body,
-            lists: DocumentLists::new(alloc),
-        },
-        Err(fault) => Command::Invalid(fault),
-    }
 }

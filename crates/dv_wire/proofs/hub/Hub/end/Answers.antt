@@ -10,7 +10,7 @@ returns-in_default-clause-unfinished c =
 pub returns-in_default-clause-ended : goal.returns-in_default-clause-ended
 returns-in_default-clause-ended c =
     let none = nowhere c.args.session.number c.deref.result.now (sym c.place_of.ensures ∙ c.in_default.is) in
-    rw (← c.self.view_is, ← c.deref.ensures.value) (rw none.1 refl)
+    rw (← c.self.view_is, ← c.deref.ensures.value, c.end_session.ensures) (rw none.1 refl)
 
 pub remove-session-requires : goal.remove-session-requires
 remove-session-requires c =
@@ -24,9 +24,9 @@ returns-clause-unfinished c =
 pub returns-clause-ended : goal.returns-clause-ended
 returns-clause-ended c =
     let less = sessions_but-remove c.args.session.number c.in-Some.place c.deref.result.now (sym c.place_of.ensures ∙ c.in-Some.is) in
-    rw (← c.self.view_is, c.remove-session.ensures.items, ← c.deref.ensures.value) (rw less refl)
+    rw (← c.self.view_is, c.remove-session.ensures.items, ← c.deref.ensures.value, c.end_session.ensures) (rw less refl)
 
-pub invariant_of-self : goal.invariant_of-self
-invariant_of-self c =
+pub invariant_of-self-2 : goal.invariant_of-self-2
+invariant_of-self-2 c =
     let place = rw c.deref.ensures.value at (sym c.place_of.ensures ∙ c.in-Some.is) in
     rw c.remove-session.ensures.items (numbered_but c.args.session.number c.in-Some.place c.self.inside.sessions.items c.self.inside.next place c.self.invariant)
