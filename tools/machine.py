@@ -42,7 +42,7 @@ LINE = re.compile(rb"(?s:#.*)?|(0|[1-9][0-9]{0,2}) (?:(end)|([0-9A-Fa-f]{2}(?: *
 # What docd may have beside `ping`, `insert` and a find of all documents; `find` stands for all fields of it.
 CHOICES = ["hello", "find", "delete", "update", "aggregate", "create", "drop", "group", "lookup", "indexes", "cursors",
            "sessions", "sections"]
-AT_HAND = ["hello", "find", "update", "delete", "aggregate", "create", "drop", "sessions"]
+AT_HAND = CHOICES
 commands = set(AT_HAND)
 
 # Fields that every command takes and that change nothing.

@@ -133,6 +133,16 @@ def viewed(*commands):
     return [Message(0, insert("c", there)), *(Message(0, one) for one in made), *commands, End(0), *finds, End(1)]
 
 
+def indexed(*commands):
+    """Commands on a collection with two indexes, and what a scan and finds by each of them show afterwards."""
+    there = [{"_id": place, "n": 7 - place, "tags": ["t%d" % place, "all"]} for place in range(1, 4)]
+    entries = [{"key": {name: 1}, "name": name + "_1"} for name in ("n", "tags")]
+    made = {"createIndexes": "c", "indexes": entries, "$db": "t"}
+    finds = [{"find": "c", "$db": "t"}, *({"find": "c", "filter": one, "$db": "t"} for one in ({"n": {"$gte": 0}}, {"tags": "all"})),
+             {"explain": {"find": "c", "filter": {"tags": "all"}}, "$db": "t"}]
+    return [Message(0, insert("c", there)), Message(0, made), *commands, End(0), *(Message(1, one) for one in finds), End(1)]
+
+
 def delete(*entries):
     return Message(0, {"delete": "c", "deletes": list(entries), "$db": "t"})
 
@@ -186,6 +196,15 @@ FURTHER = {
                "a collection and a view that is refused": viewed(Message(0, {"create": "d", "$db": "t"}),
                                                                  Message(0, {"create": "v", "$db": "t"}))},
     "drop": {"two views and a drop": viewed(Message(0, {"drop": "c", "$db": "t"}), Message(0, {"drop": "w", "$db": "t"}))},
+    "indexes": {"an insert under indexes": indexed(Message(0, insert("c", [{"_id": 9, "n": 5, "tags": ["new", "all"]}]))),
+                "an update under indexes": indexed(update({"q": {"n": {"$gt": 4}}, "u": {"$set": {"tags": [1, "all"]}}, "multi": True})),
+                "a delete under indexes": indexed(delete({"q": {"tags": "all"}, "limit": 0})),
+                "indexes that are dropped": indexed(Message(0, {"dropIndexes": "c", "index": "*", "$db": "t"}))},
+    "cursors": {"batches": three(Message(0, {"find": "c", "batchSize": 1, "$db": "t"}),
+                                 Message(0, {"getMore": 1, "collection": "c", "batchSize": 2, "$db": "t"}),
+                                 Message(0, {"getMore": 1, "collection": "c", "$db": "t"})),
+                "a cursor that is killed": three(Message(0, {"find": "c", "batchSize": 0, "$db": "t"}),
+                                                 Message(0, {"killCursors": "c", "cursors": [1, 9], "$db": "t"}))},
     "group": {"groups": three(Message(0, {"aggregate": "c", "pipeline": [{"$unwind": "$tags"}, {"$group": {
         "_id": "$tags", "n": {"$sum": "$n"}, "least": {"$min": "$in"}, "all": {"$push": "$n"}}}], "cursor": {}, "$db": "t"}))},
     "lookup": {"a lookup": three(Message(0, {"aggregate": "c", "pipeline": [{"$lookup": {

@@ -160,9 +160,6 @@ fn told(alloc: Global, store: &mut Store, body: Document) -> Result<Vec<u8>, Fai
     Ok(bytes)
 }
 
-const TOO_LARGE: &[u8] =
-    b"C\0\0\0\x10ok\0\0\0\0\0\x02errmsg\0\x09\0\0\0TooLarge\0\x10code\0\x85\x03\0\0\x02codeName\0\x09\0\0\0TooLarge\0\0";
-
 const LIMIT_REACHED: &[u8] =
     b"K\0\0\0\x10ok\0\0\0\0\0\x02errmsg\0\x0d\0\0\0LimitReached\0\x10code\0\x87\x03\0\0\x02codeName\0\x0d\0\0\0LimitReached\0\0";
 
@@ -214,7 +211,11 @@ fn many_documents_are_inserted_and_found(rt: HostRuntime) -> Result<(), Fail> {
     let body = insert(alloc, "c", documents, false)?;
     assert_eq!(rt; told(alloc, &mut store, body)?.as_slice(), errors);
 
+    // The first 101, and all of them at once.
     let body = command(alloc, "find", text(alloc, "c")?)?;
+    assert_eq!(rt; told(alloc, &mut store, body)?.len(), 1_876);
+    let mut body = command(alloc, "find", text(alloc, "c")?)?;
+    body.push("batchSize", Value::Int32(1_001))?;
     assert_eq!(rt; told(alloc, &mut store, body)?.len(), 18_977);
     Ok(())
 }
@@ -253,7 +254,7 @@ fn a_document_has_at_most_16_mebibytes(rt: HostRuntime) -> Result<(), Fail> {
 }
 
 #[test]
-fn a_reply_has_at_most_16_mebibytes_of_documents(rt: HostRuntime) -> Result<(), Fail> {
+fn a_batch_has_at_most_16_mebibytes_of_documents(rt: HostRuntime) -> Result<(), Fail> {
     let alloc = rt.alloc();
     let mut store = Store::new(alloc);
     for (id, length, found) in [(1, 16_777_150, 16_777_242), (2, 22, 16_777_289)] {
@@ -266,8 +267,12 @@ fn a_reply_has_at_most_16_mebibytes_of_documents(rt: HostRuntime) -> Result<(), 
     let mut documents = Vec::new(alloc);
     documents.push(document(alloc, 3, 0)?)?;
     reply_to(alloc, &mut store, insert(alloc, "c", documents, true)?)?;
+    // The third comes with the next batch.
     let body = command(alloc, "find", text(alloc, "c")?)?;
-    assert_eq!(rt; told(alloc, &mut store, body)?.as_slice(), TOO_LARGE);
+    assert_eq!(rt; told(alloc, &mut store, body)?.len(), 16_777_289);
+    let mut body = command(alloc, "getMore", Value::Int64(1))?;
+    body.push("collection", text(alloc, "c")?)?;
+    assert_eq!(rt; told(alloc, &mut store, body)?.len(), 91);
     Ok(())
 }
 

@@ -2,7 +2,9 @@
 //! replies were spelled apart from the program.
 
 use super::assert_script;
-use super::inserts::{FIND, INSERT, INSERTED, document, documents, found, insert, message};
+use super::inserts::{
+    FIND, FIND_ALL, INSERT, INSERTED, document, documents, found, insert, message,
+};
 use std::alloc::{AllocError, Global};
 use std::test::Fail;
 
@@ -39,7 +41,7 @@ fn serves_session_after_session(rt: HostRuntime) -> Result<(), Fail> {
             "{number} {PINGED}\n{number} {INSERTED}\n{number} {FOUND_OTHER}\n{number} end 0"
         )?;
     }
-    writeln!(input, "7 {FIND}")?;
+    writeln!(input, "7 {FIND_ALL}")?;
     let all = documents(alloc, identities.as_slice())?;
     writeln!(output, "7 {}", found(alloc, all.as_slice())?)?;
     assert_script(&rt, &mut input.as_bytes(), Ok(()), output.as_str())
@@ -63,7 +65,7 @@ fn stores_a_thousand_documents_and_one(rt: HostRuntime) -> Result<(), Fail> {
         0,
     )?;
     let found = found(alloc, all.as_slice())?;
-    let input = format!(in alloc; "0 {inserted}\n0 {FIND}\n")?;
+    let input = format!(in alloc; "0 {inserted}\n0 {FIND_ALL}\n")?;
     let output = format!(in alloc; "0 {TWO_ERRORS}\n0 {found}\n")?;
     assert_script(&rt, &mut input.as_bytes(), Ok(()), output.as_str())
 }

@@ -19,6 +19,10 @@ const INSERT_UNANSWERED: &str =
 pub(super) const FIND: &str =
     "310000000200000000000000dd07000000000000001c0000000266696e6400020000006300022464620002000000740000";
 
+// {find: "c", batchSize: 2000, $db: "t"} as request 2.
+pub(super) const FIND_ALL: &str =
+    "400000000200000000000000dd07000000000000002b0000000266696e640002000000630010626174636853697a6500d0070000022464620002000000740000";
+
 const FOUND: &str =
     "690000000000000002000000dd07000000000000005400000003637572736f72003f000000046669727374426174636800160000000330000e000000105f696400010000000000126964000000000000000000026e730004000000742e630000106f6b000100000000";
 
@@ -207,7 +211,7 @@ fn finds_a_thousand_inserts_in_order(rt: HostRuntime) -> Result<(), Fail> {
         take(&mut stored, some, ordered)?;
     }
     stored.sort()?;
-    let input = format!(in alloc; "{input}0 {FIND}\n")?;
+    let input = format!(in alloc; "{input}0 {FIND_ALL}\n")?;
     let digits = found(alloc, documents(alloc, stored.as_slice())?.as_slice())?;
     let output = format!(in alloc; "0 {digits}\n")?;
     assert_script(&rt, &mut input.as_bytes(), Ok(()), output.as_str())
