@@ -211,9 +211,6 @@ fn many_documents_are_inserted_and_found(rt: HostRuntime) -> Result<(), Fail> {
     let body = insert(alloc, "c", documents, false)?;
     assert_eq!(rt; told(alloc, &mut store, body)?.as_slice(), errors);
 
-    // The first 101, and all of them at once.
-    let body = command(alloc, "find", text(alloc, "c")?)?;
-    assert_eq!(rt; told(alloc, &mut store, body)?.len(), 1_876);
     let mut body = command(alloc, "find", text(alloc, "c")?)?;
     body.push("batchSize", Value::Int32(1_001))?;
     assert_eq!(rt; told(alloc, &mut store, body)?.len(), 18_977);
@@ -270,9 +267,6 @@ fn a_batch_has_at_most_16_mebibytes_of_documents(rt: HostRuntime) -> Result<(), 
     // The third comes with the next batch.
     let body = command(alloc, "find", text(alloc, "c")?)?;
     assert_eq!(rt; told(alloc, &mut store, body)?.len(), 16_777_289);
-    let mut body = command(alloc, "getMore", Value::Int64(1))?;
-    body.push("collection", text(alloc, "c")?)?;
-    assert_eq!(rt; told(alloc, &mut store, body)?.len(), 91);
     Ok(())
 }
 
