@@ -8,13 +8,12 @@ of them. All three give as many documents. docd's times hold the digits of the l
     /usr/bin/python3 bench/finds.py
     /usr/bin/python3 bench/finds.py --count 10000 --program crates/docd/out/docd
 """
-import argparse
 import random
 import sys
 from collections import namedtuple
 
 import measuring
-from measuring import check_tools, documents_to_find, heads, least, loaded, loaded_sqlite, row
+from measuring import documents_to_find, heads, least, loaded, loaded_sqlite, row
 
 try:
     import mongomock
@@ -45,7 +44,7 @@ def finds(count):
 
 def asked_of_docd(docd, find):
     """The time, and how many documents are found."""
-    command = {"find": "c", "filter": find.filter, "sort": find.sort, "limit": find.limit}
+    command = {"find": "c", "filter": find.filter, "sort": find.sort, "limit": find.limit, "batchSize": measuring.ALL}
     script = measuring.script_of([command])
     reply, = docd.ask(command)
     if "cursor" not in reply:
@@ -120,20 +119,15 @@ def tell(name, count, by_docd, by_sqlite, by_mongomock, few):
 
 
 def main():
-    options = argparse.ArgumentParser(description=__doc__, formatter_class=argparse.RawDescriptionHelpFormatter)
-    options.add_argument("--count", type=int, default=100_000, help="how many documents")
-    options.add_argument("--program", default=measuring.DOCD)
-    given = options.parse_args()
-    measuring.DOCD = given.program
-    check_tools()
-    documents, few = documents_to_find(given.count), given.count // 10
+    count = measuring.count_asked(__doc__)
+    documents, few = documents_to_find(count), count // 10
     docd, base, collection = loaded(documents), loaded_sqlite(documents), mongomock_with(documents_to_find(few))
-    heads("over %d documents" % given.count, "documents", "milliseconds", "thousands a second looked at",
+    heads("over %d documents" % count, "documents", "milliseconds", "thousands a second looked at",
           "SQLite: thousands a second", "times SQLite", "mongomock, of %d: thousands a second" % few, "times mongomock")
-    for find, smaller in zip(finds(given.count), finds(few)):
-        tell(find.name, given.count, asked_of_docd(docd, find), asked_of_sqlite(base, find),
+    for find, smaller in zip(finds(count), finds(few)):
+        tell(find.name, count, asked_of_docd(docd, find), asked_of_sqlite(base, find),
              collection is not None and asked_of_mongomock(collection, smaller), few)
-    tell("a delete of 1 %", given.count, deleted_by_docd(docd), deleted_by_sqlite(base),
+    tell("a delete of 1 %", count, deleted_by_docd(docd), deleted_by_sqlite(base),
          collection is not None and deleted_by_mongomock(collection), few)
     docd.close()
 

@@ -8,13 +8,12 @@ column. docd's times hold the digits of the line that asks and of the reply.
     /usr/bin/python3 bench/groups.py
     /usr/bin/python3 bench/groups.py --count 10000 --program crates/docd/out/docd
 """
-import argparse
 import random
 import sqlite3
 import sys
 
 import measuring
-from measuring import check_tools, heads, inserts, least, row
+from measuring import heads, inserts, least, row
 
 FEW = 100  # values of the field of few values
 
@@ -57,27 +56,22 @@ LOOKUP = ([{"$lookup": {"from": "d", "localField": "code", "foreignField": "code
 
 
 def main():
-    options = argparse.ArgumentParser(description=__doc__, formatter_class=argparse.RawDescriptionHelpFormatter)
-    options.add_argument("--count", type=int, default=100_000, help="how many documents")
-    options.add_argument("--program", default=measuring.DOCD)
-    given = options.parse_args()
-    measuring.DOCD = given.program
-    check_tools()
-    docd, base = loaded_docd(given.count), loaded_sqlite(given.count)
-    heads("over %d documents" % given.count, "rows", "milliseconds", "thousands a second", "SQLite: thousands a second",
+    count = measuring.count_asked(__doc__)
+    docd, base = loaded_docd(count), loaded_sqlite(count)
+    heads("over %d documents" % count, "rows", "milliseconds", "thousands a second", "SQLite: thousands a second",
           "times SQLite")
-    cases = {"`$group`, %d groups" % FEW: grouped_by("few"), "`$group`, %d groups" % given.count: grouped_by("many"),
-             "`$lookup` into %d" % (given.count // 10): LOOKUP}
+    cases = {"`$group`, %d groups" % FEW: grouped_by("few"), "`$group`, %d groups" % count: grouped_by("many"),
+             "`$lookup` into %d" % (count // 10): LOOKUP}
     for name, (stages, sql) in cases.items():
-        command = {"aggregate": "c", "pipeline": stages, "cursor": {}}
+        command = {"aggregate": "c", "pipeline": stages, "cursor": {"batchSize": measuring.ALL}}
         script = measuring.script_of([command])
         reply, = docd.ask(command)
         found, told = len(reply["cursor"]["firstBatch"]), len(base.execute(sql).fetchall())
         if found != told:
             sys.exit("bench: %s: docd gives %d rows and SQLite %d" % (name, found, told))
         spent, other = least(lambda: docd.send(script, 1)), least(lambda: base.execute(sql).fetchall())
-        row(name, "%d" % found, "%.1f" % (1e3 * spent), "%.0f" % (given.count / spent / 1e3),
-            "%.0f" % (given.count / other / 1e3), "%.2f" % (other / spent))
+        row(name, "%d" % found, "%.1f" % (1e3 * spent), "%.0f" % (count / spent / 1e3),
+            "%.0f" % (count / other / 1e3), "%.2f" % (other / spent))
     docd.close()
 
 

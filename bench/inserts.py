@@ -12,7 +12,7 @@ import random
 import bson
 from bson.int64 import Int64
 
-from measuring import LINE_BYTES, WORDS, check_tools, heads, least, lines, message, parts, person, print_pings, row, seconds
+from measuring import ALL, LINE_BYTES, WORDS, check_tools, heads, least, lines, message, parts, person, print_pings, row, seconds
 
 MOST_BYTES = 16_777_216  # of the documents in one answer
 
@@ -84,7 +84,7 @@ def fitting(found):
 
 
 def print_finds():
-    find = bson.encode({"find": "c", "$db": "t"})
+    find = bson.encode({"find": "c", "batchSize": ALL, "$db": "t"})
     heads("documents found", "MB", "milliseconds a find", "thousands a second", "MB a second",
           "python3-bson, encoding the answer: thousands a second", "MB a second")
     for count in (1_000, 10_000, 100_000):

@@ -17,7 +17,7 @@ from bson.min_key import MinKey
 from bson.objectid import ObjectId
 from bson.timestamp import Timestamp
 
-from measuring import LINE_BYTES, check_tools, heads, least, lines, message, row, seconds
+from measuring import ALL, LINE_BYTES, check_tools, heads, least, lines, message, row, seconds
 
 DOCUMENTS = 5_000
 FIELDS = 20
@@ -49,7 +49,7 @@ def spelled(value):
 def main():
     check_tools()
     idle = seconds(b"", 0)
-    find = lines(message(bson.encode({"find": "c", "filter": {}, "$db": "t"})), LINE_BYTES)
+    find = lines(message(bson.encode({"find": "c", "filter": {}, "batchSize": ALL, "$db": "t"})), LINE_BYTES)
     heads("kind", "bytes a document", "nanoseconds a value inserted", "found", "python3-bson decoded", "encoded")
     for name, value in KINDS.items():
         documents, bodies = spelled(value)

@@ -3,6 +3,7 @@
 All need the built program (run ./docd once) and the BSON library of Debian's package python3-bson with its C extension
 (`apt-get install python3-bson python3-bson-ext`; run with /usr/bin/python3).
 """
+import argparse
 import json
 import os
 import queue
@@ -22,6 +23,7 @@ DOCD = os.path.join(HERE, "crates", "docd", "out", "docd")
 HEADER = 21  # the bytes in front of a message's body
 LINE_BYTES = 65_000  # a script's line has at most 131,200 characters
 RUNS = 5
+ALL = 2**31 - 1  # as many rows in a first batch as its bytes let
 
 # A message's length may not be 25: what comes later for the session is decoded and dropped.
 CLOSING = b"0 19000000\n"
@@ -32,6 +34,18 @@ def check_tools():
         sys.exit("bench: build the program first, by running ./docd once")
     if not bson.has_c():
         sys.exit("bench: python3-bson has no C extension; install python3-bson-ext")
+
+
+def count_asked(description):
+    """How many documents the words ask for, 100,000 by default; they may name the program too."""
+    global DOCD
+    options = argparse.ArgumentParser(description=description, formatter_class=argparse.RawDescriptionHelpFormatter)
+    options.add_argument("--count", type=int, default=100_000, help="how many documents")
+    options.add_argument("--program", default=DOCD)
+    given = options.parse_args()
+    DOCD = given.program
+    check_tools()
+    return given.count
 
 
 def message(body):
