@@ -23,3 +23,5 @@ pub mod Rest
 pub mod Written
 pub mod Moved
 pub mod Changed
+pub mod Shallow
+pub mod Last

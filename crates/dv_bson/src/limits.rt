@@ -26,6 +26,9 @@ pub(crate) const MAX_DOCUMENT_LEN: u32 = 16_777_216;
 /// How many documents and arrays stand in one another at most in what is read and stored.
 pub(crate) const MAX_LEVELS: u32 = 100;
 
+/// A document of no more bytes isn't deeper than that: each level has five of its own.
+const NEVER_TOO_DEEP: u32 = 5 * MAX_LEVELS;
+
 /// The length of the document's spelling in bytes; `None` above 2,147,483,647. Takes no memory.
 pub fn size(document: &Document) -> Option<u32>
     ensures { SomeIff result (length (spelling document.now) ≤ 2147483647) (length (spelling document.now)) }
@@ -39,11 +42,9 @@ pub fn size(document: &Document) -> Option<u32>
 pub fn fits(document: &Document) -> bool
     ensures { IsTrue result ↔ Fits document.now }
 {
-    if !document_within(document, MAX_LEVELS) {
-        return false;
-    }
     match size(document) {
-        Some(size) => size <= MAX_DOCUMENT_LEN,
+        Some(size) if size <= NEVER_TOO_DEEP => true,
+        Some(size) => size <= MAX_DOCUMENT_LEN && document_within(document, MAX_LEVELS),
         None => false,
     }
 }

@@ -9,6 +9,7 @@ use crate::NoMemory;
 use crate::name::Name;
 use crate::name_index::NameIndex;
 use std::alloc::Global;
+use std::cell::Cell;
 use std::marker::Model;
 
 /// So many names, or more, are indexed as the next one comes.
@@ -20,6 +21,9 @@ pub(crate) struct Names {
     names: Vec<Name>,
     /// The places of the names, once they are too many to be searched one by one.
     index: Option<Box<NameIndex>>,
+    /// Where the last name stood that was looked up and found: most often the next one is the same, since documents of
+    /// one shape share their names.
+    last_found: Cell<usize>,
 }
 
 impl Model for Names {
@@ -42,6 +46,7 @@ impl Names {
         Ok(Names {
             names: Vec::with_capacity(alloc, names)?,
             index: None,
+            last_found: Cell::new(0),
         })
     }
 
@@ -57,16 +62,22 @@ impl Names {
     pub(crate) fn get(&self, place: usize) -> Option<&str>
         ensures { option_map (λ name. name.now) result ≡ slice_get self.now place }
     {
-        let name = self.names.get(place)?;
+        let name = self.name_at(place)?;
         Some(name.as_str())
+    }
+
+    fn name_at(&self, place: usize) -> Option<&Name>
+        ensures { option_map (λ name. name.now) result ≡ slice_get self.now place }
+    {
+        self.names.get(place)
     }
 
     /// Whether this name stands at `place`.
     pub(crate) fn is_at(&self, place: usize, name: &str) -> bool
         ensures { IsTrue result ↔ (slice_get self.now place ≡ Some name.now) }
     {
-        match self.get(place) {
-            Some(there) => there == name,
+        match self.name_at(place) {
+            Some(there) => there.is(name),
             None => false,
         }
     }
@@ -88,8 +99,23 @@ impl Names {
         true
     }
 
-    /// The place of the name, where there is one. Found in time logarithmic in the number of names.
+    /// The place of the name, where there is one. Found in time logarithmic in the number of names, and at once where it
+    /// is the name that was found last.
     pub(crate) fn place_of(&self, name: &str) -> Option<usize>
+        ensures place { result ≡ place_under name.now (map bare self.now) }
+        ensures named { AreNamed (map bare self.now) }
+    {
+        let last = self.last_found.get();
+        if self.is_at(last, name) {
+            return Some(last);
+        }
+        let place = self.place_by_search(name)?;
+        self.last_found.set(place);
+        Some(place)
+    }
+
+    /// The same, wherever the last name stood.
+    fn place_by_search(&self, name: &str) -> Option<usize>
         ensures place { result ≡ place_under name.now (map bare self.now) }
         ensures named { AreNamed (map bare self.now) }
     {
@@ -131,7 +157,11 @@ impl Names {
         let mut names = Vec::with_capacity(alloc, count)?;
         put_copies(&mut names, &self.names[..count])?;
         let index = index_of(alloc, &names)?;
-        Ok(Names { names, index })
+        Ok(Names {
+            names,
+            index,
+            last_found: Cell::new(0),
+        })
     }
 
     /// A copy of the first `count` names but the one at `place`. Fails where memory is wanting.
@@ -145,7 +175,11 @@ impl Names {
         put_copies(&mut names, &self.names[..place])?;
         put_copies(&mut names, &self.names[place + 1..count])?;
         let index = index_of(alloc, &names)?;
-        Ok(Names { names, index })
+        Ok(Names {
+            names,
+            index,
+            last_found: Cell::new(0),
+        })
     }
 }
 

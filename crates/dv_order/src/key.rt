@@ -1,11 +1,12 @@
 //! Keys, by which a sorted index finds values.
 
-ghost use Rattle.std.specs.Prelude.{◌≡◌, IfOk, is_some, refl};
+ghost use Rattle.std.specs.Prelude.{◌≡◌, Some, IfOk, IfSome, is_some, refl};
 ghost use Rattle.std.specs.BTreeMap.{get_by, is_at};
 ghost use Rattle.std.specs.Map.{set_value};
 ghost use Rattle.std.specs.Cmp.{eq_by_cmp_equiv, partial_equiv_from_equiv, partial_order_from_total};
 ghost use Rattle.std.specs.Option.{option_map};
 ghost use Rattle.std.specs.Ordering.{as_partial_cmp, eq_by_cmp};
+ghost use Rattle.dv_bson.specs.Tree.{int64};
 ghost use Rattle.dv_bson.specs.View.{tree};
 ghost use Rattle.dv_order.specs.Order.{canon};
 ghost use Rattle.dv_order.specs.Key.{first_value, key_at, key_class, key_order, no_element, value as key_of_tree};
@@ -21,6 +22,7 @@ use std::marker::Model;
 #[derive(Debug, Drop)]
 enum Source {
     NoElement,
+    /// A value, integers with 64 bits.
     Element(Value),
     /// The document whose first field has the value.
     First(Document),
@@ -50,8 +52,29 @@ pub fn key_of(value: &Value) -> Result<Key, NoMemory>
     ensures { IfOk result (λ key. key ≡ key_of_tree (canon (tree value.now))) }
 {
     Ok(Key {
-        source: Source::Element(value.try_clone()?),
+        source: Source::Element(widened(value)?),
     })
+}
+
+/// A copy of the value, with 64 bits if it is an integer: no key tells the widths apart. Fails where memory is wanting.
+fn widened(value: &Value) -> Result<Value, NoMemory>
+    ensures { IfOk result (λ copy. canon (tree copy) ≡ canon (tree value.now)) }
+{
+    match value {
+        Value::Int32(number) => Ok(Value::Int64(i64::from(*number))),
+        _ => value.try_clone(),
+    }
+}
+
+/// The key of the document's first value, if that is an integer. Takes no memory.
+fn key_of_first_integer(document: &Document) -> Option<Key>
+    ensures { IfSome result (λ key. key ≡ key_at (first_value document.now)) }
+{
+    match document.entry(0)? {
+        (_, Value::Int32(number)) => Some(Key::of_integer(i64::from(*number))),
+        (_, Value::Int64(number)) => Some(Key::of_integer(*number)),
+        _ => None,
+    }
 }
 
 impl Key {
@@ -61,6 +84,14 @@ impl Key {
     {
         Key {
             source: Source::NoElement,
+        }
+    }
+
+    fn of_integer(number: i64) -> Self
+        ensures { result ≡ key_at (Some (int64 number)) }
+    {
+        Key {
+            source: Source::Element(Value::Int64(number)),
         }
     }
 
@@ -108,6 +139,9 @@ pub fn replace_under_first(map: &mut BTreeMap<Key, Document>, document: Document
     ensures documents { map.new.entries ≡ set_value (is_at (key_order (key_at (first_value document)))) map.old.entries document }
     ensures found { result ≡ is_some (get_by (key_order (key_at (first_value document))) map.old) }
 {
+    if let Some(key) = key_of_first_integer(&document) {
+        return replace_under(map, &key, document);
+    }
     let key = Key {
         source: Source::First(document),
     };
@@ -119,6 +153,21 @@ pub fn replace_under_first(map: &mut BTreeMap<Key, Document>, document: Document
     match place {
         Some(place) => {
             *place = document;
+            true
+        }
+        None => false,
+    }
+}
+
+/// Puts the document in place of the one that stands in the map under the key, and answers whether there is one.
+#[tactic(auto, using(crate::proofs::Absent::set_value_absent))]
+fn replace_under(map: &mut BTreeMap<Key, Document>, key: &Key, document: Document) -> bool
+    ensures documents { map.new.entries ≡ set_value (is_at (key_order key.now)) map.old.entries document }
+    ensures found { result ≡ is_some (get_by (key_order key.now) map.old) }
+{
+    match map.get_mut(key) {
+        Some(there) => {
+            *there = document;
             true
         }
         None => false,
@@ -160,6 +209,13 @@ impl Ord for Key {
 
     #[tactic(auto, using(crate::proofs::SameOrder::order_of_canon))]
     fn cmp(&self, other: &Key) -> Ordering {
+        // Most keys are those of integers, and these are known at once.
+        if let (Source::Element(Value::Int64(a)), Source::Element(Value::Int64(b))) = (
+            &self.source,
+            &other.source,
+        ) {
+            return a.cmp(b);
+        }
         match (self.element(), other.element()) {
             (Some(a), Some(b)) => compare(a, b),
             _ => self.class().cmp(&other.class()),

@@ -1,3 +1,4 @@
 pub mod Sorting
 pub mod Front
 pub mod Keys
+pub mod Bar

@@ -1,12 +1,16 @@
 //! Sorting documents as they come.
 
-ghost use Rattle.std.specs.Prelude.{◌≡◌, IfOk, OnErr, OnOk};
+ghost use Rattle.std.specs.Prelude.{◌≡◌, ◌≤◌, length, take, slice_get, IfOk, IfSome, OnErr, OnOk};
+ghost use Rattle.std.specs.Option.{option_map};
+ghost use Rattle.dv_sort.specs.Bar.{IsBar, is_behind};
 ghost use Rattle.dv_sort.specs.Front.{no_rows, with_row};
 ghost use Rattle.dv_sort.specs.Keys.{AreKeyed, documents};
 ghost use Rattle.dv_sort.specs.Sorting.{front, stable};
 
+use crate::order::order_of;
 use crate::row::{Row, documents_of, row_keys, sort_rows};
 use dv_bson::{Document, NoMemory};
+use dv_order::Key;
 use dv_path::SortSpec;
 use std::alloc::Global;
 use std::marker::Model;
@@ -15,12 +19,16 @@ use std::marker::Model;
 /// order.
 ///
 /// Each document's keys are made once, and documents aren't copied. Where `most` are wanted, at most twice as many are
-/// kept, and a document costs a number of comparisons logarithmic in `most`; else all are kept, and sorted at the end.
+/// kept, a document costs a number of comparisons logarithmic in `most`, and one that comes behind `most` others of an
+/// earlier time costs one and is dropped; else all are kept, and sorted at the end.
 #[derive(Debug, Drop)]
 pub struct Sorter<'a> {
     spec: &'a SortSpec,
     most: Option<usize>,
     rows: Vec<Row>,
+    /// The keys of a row that fell behind the first `most`, once there was one: none of the rows that are wanted stands
+    /// behind it.
+    bar: Option<Vec<Key>>,
 }
 
 impl<'a> Model for Sorter<'a> {
@@ -30,11 +38,13 @@ impl<'a> Model for Sorter<'a> {
 
     ghost coded = { coded_front };
 
+    ghost use Rattle.std.specs.Prelude.{IfSome};
+    ghost use Rattle.dv_sort.specs.Bar.{IsBar};
     ghost use Rattle.dv_sort.specs.Keys.{AreKeyed, documents};
 
     ghost view = { λ s. front_of s.spec.now s.most (documents s.rows.items) };
 
-    ghost invariant = { λ s. AreKeyed s.spec.now s.rows.items };
+    ghost invariant = { λ s. AreKeyed s.spec.now s.rows.items × IfSome s.bar (λ keys. IsBar s.spec.now s.most (documents s.rows.items) keys.items) };
 }
 
 impl<'a> Sorter<'a> {
@@ -47,6 +57,7 @@ impl<'a> Sorter<'a> {
             spec,
             most,
             rows: Vec::new(alloc),
+            bar: None,
         }
     }
 
@@ -57,7 +68,10 @@ impl<'a> Sorter<'a> {
         ensures err { OnErr result (self.new ≡ self.old) }
     {
         let keys = row_keys(*self.rows.allocator(), self.spec, &document)?;
-        keep_front(&mut self.rows, self.spec, self.most)?;
+        keep_front(&mut self.rows, &mut self.bar, self.spec, self.most)?;
+        if stands_behind(self.spec, &keys, &self.bar) {
+            return Ok(());
+        }
         self.rows.push(Row { keys, document })?;
         Ok(())
     }
@@ -70,6 +84,7 @@ impl<'a> Sorter<'a> {
             spec,
             most,
             mut rows,
+            ..
         } = self;
         sort_rows(&mut rows, spec)?;
         if let Some(most) = most {
@@ -79,11 +94,18 @@ impl<'a> Sorter<'a> {
     }
 }
 
-/// Keeps the first `most` rows in order, where there are twice as many. Fails where memory is wanting, and then leaves the
-/// rows as they are.
-fn keep_front(rows: &mut Vec<Row>, spec: &SortSpec, most: Option<usize>) -> Result<(), NoMemory>
-    requires { AreKeyed spec.now rows.old.items }
+/// Keeps the first `most` rows in order, where there are twice as many, and the keys of the next one as the bar. Fails
+/// where memory is wanting, and then leaves the rows and the bar as they are.
+fn keep_front(
+    rows: &mut Vec<Row>,
+    bar: &mut Option<Vec<Key>>,
+    spec: &SortSpec,
+    most: Option<usize>,
+) -> Result<(), NoMemory>
+    requires rows { AreKeyed spec.now rows.old.items }
+    requires bar { IfSome bar.old (λ keys. IsBar spec.now most (documents rows.old.items) keys.items) }
     ensures keyed { AreKeyed spec.now rows.new.items }
+    ensures bar { IfSome bar.new (λ keys. IsBar spec.now most (documents rows.new.items) keys.items) }
     ensures same { front most (stable spec.now (documents rows.new.items)) ≡ front most (stable spec.now (documents rows.old.items)) }
     ensures err { OnErr result (rows.new.items ≡ rows.old.items) }
 {
@@ -94,6 +116,30 @@ fn keep_front(rows: &mut Vec<Row>, spec: &SortSpec, most: Option<usize>) -> Resu
         return Ok(());
     }
     sort_rows(rows, spec)?;
-    rows.truncate(most);
+    *bar = cut(rows, most);
     Ok(())
+}
+
+/// Cuts off all but the first `most` rows, and gives the keys of the next one, where there is one.
+fn cut(rows: &mut Vec<Row>, most: usize) -> Option<Vec<Key>>
+    requires { most ≤ length rows.old.items }
+    ensures rows { rows.new.items ≡ take most rows.old.items }
+    ensures keys { option_map (λ keys. keys.items) result ≡ option_map (λ row. row.keys.items) (slice_get rows.old.items most) }
+{
+    if rows.len() == most {
+        return None;
+    }
+    rows.truncate(most + 1);
+    let Row { keys, .. } = rows.pop()?;
+    Some(keys)
+}
+
+/// Whether a row with these keys stands beside the bar or behind it, where there is one.
+fn stands_behind(spec: &SortSpec, keys: &[Key], bar: &Option<Vec<Key>>) -> bool
+    ensures { result ≡ is_behind spec.now keys.now (option_map (λ keys. keys.items) bar.now) }
+{
+    match bar {
+        Some(bar) => order_of(spec.parts(), keys, bar.as_slice()).is_ge(),
+        None => false,
+    }
 }

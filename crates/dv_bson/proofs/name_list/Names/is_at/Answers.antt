@@ -9,7 +9,7 @@ there_is o there name e =
     (λ same. sym e ∙ ap (λ n. Some n) (decides.0 same), λ e'. decides.1 (let same : Some there ≡ Some name = e ∙ e' in cc))
 
 pub returns-in-Some : goal.returns-in-Some
-returns-in-Some c = rw c.eq.ensures (there_is _ _ c.args.name.now c.in-Some.ensures)
+returns-in-Some c = rw c.is.ensures (there_is _ _ c.args.name.now c.in-Some.ensures)
 
 pub returns-in-None : goal.returns-in-None
 returns-in-None c = rw (← c.in-None.ensures) (λ no. absurd cc, λ e. absurd cc)
