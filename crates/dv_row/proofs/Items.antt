@@ -1,5 +1,5 @@
 -- Lists that a loop goes through.
-use Rattle.std.proofs.Common.{◌≡◌, ◌∙◌, ap, sym, refl, List, [], ◌∷◌, ◌++◌, ℕ, zero, suc, ◌+◌, ◌<◌, ◌≤◌, add-one, take, drop, map, length, Some, None, Option, slice_get, get_or, arith, Bool, true, false, ◌&&◌, ◌||◌, ◌==◌}
+use Rattle.std.proofs.Common.{◌≡◌, ◌∙◌, ap, sym, refl, List, [], ◌∷◌, ◌++◌, ℕ, zero, suc, ◌+◌, ◌<◌, ◌≤◌, add-one, take, map, length, Some, None, Option, slice_get, get_or, arith, Bool, true, false, ◌&&◌, ◌||◌, ◌==◌}
 use Rattle.std.specs.Prelude.{IsTrue, ◌↔◌}
 use Rattle.std.specs.List.{list_all, list_any}
 use Rattle.std.specs.Option.{option_map}
@@ -64,10 +64,6 @@ any-here {X = X} p f xs i x within is h = at xs i (slice_get_read xs (length xs)
         let same : x ≡ z = cc in
         ap (λ b. b || list_any p (map f ys)) (ap (λ w. p (f w)) (sym same) ∙ h)
     at (z ∷ ys) (suc j) e = ap (λ b. p (f z) || b) (at ys j e) ∙ or-true (p (f z))
-
-pub none-long : {X : Type 0} (xs : List X) → length xs ≡ 0 → xs ≡ []
-none-long [] e = refl
-none-long (x ∷ xs) e = absurd (omega arith)
 
 pub some-fields : {X : Type 0} (xs : List X) (answer : Bool) → (IsTrue answer ↔ (xs ≡ [])) → answer ≡ false → xs ≡ [] → ⊥
 some-fields xs answer says no-one none =

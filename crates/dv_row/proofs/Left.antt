@@ -1,5 +1,5 @@
 -- What is left of fields and elements, one after the other.
-use Rattle.std.proofs.Common.{◌≡◌, ◌∙◌, ap, sym, refl, Bool, true, false, ◌||◌, List, [], ◌∷◌, ◌++◌, ℕ, zero, suc, ◌+◌, add-one, take, map, Some, None, slice_get, arith, append_assoc, append-nil, Bor, drop, ◌<◌, length, get_or, ◌==◌}
+use Rattle.std.proofs.Common.{◌≡◌, ◌∙◌, ap, sym, refl, Bool, true, false, ◌||◌, List, [], ◌∷◌, ◌++◌, ℕ, zero, suc, ◌+◌, add-one, take, Some, None, slice_get, append_assoc, append-nil}
 use Rattle.std.specs.Str.{bytes_eq}
 use Rattle.std.proofs.lemmas.Slice.Eq.{bytes_eq-Decides}
 use Rattle.std.proofs.lemmas.Bool.Decides.{same_from_decides}
@@ -7,8 +7,8 @@ use Rattle.dv_bson.specs.Tree.{Tree, Field, Fields, fields_of, list_of_fields, n
 use Rattle.dv_bson.specs.Names.{has_name, has_zero, AreNamed}
 use Rattle.dv_path.specs.Candidates.{Candidate}
 use Rattle.dv_row.specs.Expressions.{with_field}
-use Rattle.dv_row.specs.Projecting.{behind, ends, with_left, with_element, left, left_inside, fields_left, elements_left, row_left}
-use Rattle.dv_row.proofs.Items.{take-here, drop-read}
+use Rattle.dv_row.specs.Projecting.{behind, with_left, with_element, left, left_inside, fields_left, elements_left, row_left}
+use Rattle.dv_row.proofs.Items.{take-here}
 
 -- a field alone, where there is a value
 abbrev alone : List ℕ → Candidate → List Field
@@ -48,7 +48,7 @@ module _ (keeps : Bool) (paths : List (List (List ℕ))) where
       among n None fs e g = g
       among n (Some v) fs e g = ap (λ b. b || has_name name fs) e ∙ g
 
-bytes-eq_symmetric : (a b : List ℕ) → bytes_eq a b ≡ bytes_eq b a
+pub bytes-eq_symmetric : (a b : List ℕ) → bytes_eq a b ≡ bytes_eq b a
 bytes-eq_symmetric a b = same_from_decides _ _ (bytes_eq-Decides a b) ((λ e. sym ((bytes_eq-Decides b a).0 e)), λ e. (bytes_eq-Decides b a).1 (sym e))
 
 not-at : (n m : List ℕ) (v : Tree) (fs : List Field) (i : ℕ) → has_name n fs ≡ false → Some (m, v) ≡ slice_get fs i → bytes_eq n m ≡ false
@@ -110,28 +110,3 @@ fields-of_list (field name v fs) = ap (field name v) (fields-of_list fs)
 pub elements-of_list : (vs : Elements) → elements_of (list_of_elements vs) ≡ vs
 elements-of_list no_elements = refl
 elements-of_list (element v vs) = ap (element v) (elements-of_list vs)
-
--- ---- ways
-
-abbrev Way : Type 0
-Way = List (List ℕ)
-
-pub ends-empty : (way : Way) → true ≡ (length way == 0) → ends way ≡ true
-ends-empty [] e = refl
-ends-empty (n ∷ ns) e = let some : (length (n ∷ ns) == 0) ≡ false = grind arith in cc
-
-pub behind-taken : (name n : List ℕ) (ns way : Way) → way ≡ n ∷ ns → bytes_eq name n ≡ true → (ways : List Way) → behind name (way ∷ ways) ≡ (ns ∷ []) ++ behind name ways
-behind-taken name n ns way is e ways = rw (is, e) refl
-
-pub behind-passed : (name n : List ℕ) (ns way : Way) → way ≡ n ∷ ns → bytes_eq name n ≡ false → (ways : List Way) → behind name (way ∷ ways) ≡ [] ++ behind name ways
-behind-passed name n ns way is e ways = rw (is, e) refl
-
-pub behind-ended : (name : List ℕ) (way : Way) → way ≡ [] → (ways : List Way) → behind name (way ∷ ways) ≡ [] ++ behind name ways
-behind-ended name way is ways = rw is refl
-
-pub behind-more : (name : List ℕ) (ways : List (Bor Way)) (i : ℕ) (way : Bor Way) (inner new added all : List Way) → i < length ways → way ≡ get_or ways i way
-    → inner ++ behind name (map (λ w. w.now) (drop i ways)) ≡ all → new ≡ inner ++ added → ((rest : List Way) → behind name (way.now ∷ rest) ≡ added ++ behind name rest)
-    → new ++ behind name (map (λ w. w.now) (drop (i + 1) ways)) ≡ all
-behind-more name ways i way inner new added all within is so-far pushed first =
-    let rest = map (λ w. w.now) (drop (i + 1) ways) in
-    ap (λ l. l ++ behind name rest) pushed ∙ append_assoc inner added (behind name rest) ∙ ap (λ l. inner ++ l) (sym (first rest)) ∙ ap (λ l. inner ++ behind name (map (λ w. w.now) l)) (sym (drop-read ways i way within is)) ∙ so-far

@@ -1,6 +1,11 @@
+pub mod Compared
+pub mod Conflicting
 pub mod Dollars
 pub mod Items
 pub mod Left
 pub mod Members
+pub mod Ordered
+pub mod Same
 pub mod Sound
+pub mod Taken
 pub mod Unwound

@@ -1,5 +1,5 @@
 -- The members of a $project, and documents of expressions, one after the other.
-use Rattle.std.proofs.Common.{◌≡◌, ◌∙◌, ap, sym, refl, Bool, true, false, ◌&&◌, List, [], ◌∷◌, ℕ, ◌+◌, drop, length, Some, None, slice_get, Result, Ok, Err, codes, ap₂, ◌++◌, ◌⊎◌, inl, inr, if◌then◌else◌}
+use Rattle.std.proofs.Common.{◌≡◌, ◌∙◌, ap, sym, refl, Bool, true, false, ◌&&◌, List, [], ◌∷◌, ℕ, length, Some, None, Result, Ok, Err, codes, ap₂, ◌++◌, ◌⊎◌, inl, inr, if◌then◌else◌}
 use Rattle.std.specs.Str.{bytes_eq}
 use Rattle.dv_bson.specs.Tree.{Field, document, fields_of}
 use Rattle.dv_bson.specs.Names.{value_under}
@@ -14,8 +14,7 @@ use Rattle.dv_row.proofs.Unwound.{list-of-fields_of}
 use Rattle.dv_row.specs.Expressions.{Expression, Computed, computed, computed_of}
 use Rattle.dv_row.specs.Parsing.{◌>>=◌, each}
 use Rattle.dv_row.specs.ExpressionParsing.{literal_in, under_name, expression_in, computed_in}
-use Rattle.dv_row.specs.ProjectParsing.{one_begins, Asked, nothing_asked, with_member, members_in, conflicts, includes, with_id, project_form, project_in}
-use Rattle.dv_row.proofs.Items.{drop-found}
+use Rattle.dv_row.specs.ProjectParsing.{one_begins, Asked, nothing_asked, members_in, conflicts, includes, with_id, project_form, project_in}
 
 and-true : (a : Bool) → a && true ≡ a
 and-true true = refl
@@ -54,16 +53,6 @@ computed-fault plain fs e told = computed-each plain fs ∙ ap (λ r. r >>= λ e
 
 pub computed-all : (plain : Bool) (fs : List Field) (es : List (List ℕ × Expression)) → each (computed_field plain) fs ≡ Ok es → computed_in plain (fields_of fs) ≡ Ok (computed_of es)
 computed-all plain fs es parsed = computed-each plain fs ∙ ap (λ r. r >>= λ es. Ok (computed_of es)) parsed
-
-module _ (asked : Asked) (d : List Field) (i : ℕ) (f : Field) (here : Some f ≡ slice_get d i) where
-  next : members_in asked (drop i d) ≡ (with_member f asked >>= λ more. members_in more (drop (i + 1) d))
-  next = ap (members_in asked) (drop-found d i f here)
-
-  pub member-refused : (e : PipelineFault) → with_member f asked ≡ Err e → members_in asked (drop i d) ≡ Err e
-  member-refused e told = next ∙ ap (λ r. r >>= λ more. members_in more (drop (i + 1) d)) told
-
-  pub member-taken : (more : Asked) → with_member f asked ≡ Ok more → members_in asked (drop i d) ≡ members_in more (drop (i + 1) d)
-  member-taken more taken = next ∙ ap (λ r. r >>= λ more. members_in more (drop (i + 1) d)) taken
 
 -- ---- the form
 

@@ -1,4 +1,5 @@
 pub mod AskedView
+pub mod Conflicts
 pub mod EachLaws
 pub mod Expressions
 pub mod ExpressionCode
@@ -13,3 +14,4 @@ pub mod Row
 pub mod Unwinding
 pub mod Valid
 pub mod ValidRows
+pub mod Ways

@@ -1,21 +1,19 @@
 -- What $project and $unwind make of valid rows is valid.
-use Rattle.std.proofs.Common.{◌≡◌, ◌∙◌, ap, sym, refl, subst, ℕ, ◌||◌, ◌&&◌, not, Bool, true, false, List, [], ◌∷◌, ◌++◌, map, Some, None, Option, Result, Ok, Err, codes, if◌then◌else◌}
-use Rattle.std.specs.Bool.{⊤}
+use Rattle.std.proofs.Common.{◌≡◌, refl, ℕ, ◌||◌, ◌&&◌, not, Bool, true, false, List, [], ◌∷◌, ◌++◌, map, Some, None, Option, Ok}
 use Rattle.std.specs.List.{AllByRecursion, list_any}
 use Rattle.std.specs.Option.{IfSome}
 use Rattle.std.specs.Result.{IfOk}
 use Rattle.std.specs.Str.{IsUtf8, bytes_eq}
 use Rattle.dv_bson.specs.Names.{has_name, value_under}
 use Rattle.dv_bson.specs.Spelling.{IsValue, AreFields, AreElements}
-use Rattle.dv_bson.specs.Tree.{Tree, document, array, null, Fields, no_fields, field, Field, fields_of, list_of_fields, Elements, no_elements, element, elements_of, list_of_elements}
+use Rattle.dv_bson.specs.Tree.{Tree, document, array, null, Fields, no_fields, field, Field, fields_of, list_of_fields, Elements, no_elements, element, list_of_elements}
 use Rattle.dv_path.specs.Candidates.{Candidate}
 use Rattle.dv_path.specs.Path.{path_of}
-use Rattle.dv_row.specs.declared.fault.PipelineFault.{PipelineFault}
 use Rattle.dv_row.specs.declared.fault.PipelineFault.TheVariants.{BadSpec, Conflict}
 use Rattle.dv_row.specs.declared.project.Project.{Project}
 use Rattle.dv_row.specs.declared.project.Project.TheVariants.{Include, Exclude}
 use Rattle.dv_row.specs.declared.unwind.Unwind.{Unwind}
-use Rattle.dv_row.specs.Expressions.{Expression, computed_of, with_computed}
+use Rattle.dv_row.specs.Expressions.{Expression, computed_of}
 use Rattle.dv_row.specs.ExpressionParsing.{switch_in, has_dot, expression_in}
 use Rattle.dv_row.specs.Parsing.{◌>>=◌}
 use Rattle.dv_row.specs.ProjectParsing.{Asked, is_id, is_below_id, conflicts, unless_conflict, with_included, with_excluded, with_computation, excludes, includes, with_path, with_expression, with_switch, with_named, with_member, members_in, nothing_asked, project_form, project_in}

@@ -1,19 +1,23 @@
 //! The members of a `$project`.
 
-ghost use Rattle.std.specs.Prelude.{◌≡◌, ◌∷◌, [], true, false, map, None, Ok};
+ghost use Rattle.std.specs.Prelude.{◌≡◌, ◌∷◌, [], true, false, map, Some, None, Ok, OnOk, OnErr, if◌then◌else◌};
 ghost use Rattle.std.specs.List.{list_any};
 ghost use Rattle.dv_bson.specs.View.{tree};
+ghost use Rattle.dv_path.specs.Path.{path_of};
 ghost use Rattle.dv_row.specs.AskedView.{asked as seen};
-ghost use Rattle.dv_row.specs.ExpressionView.{named};
+ghost use Rattle.dv_row.specs.Conflicts.{Takes, has_conflict as list_conflicts};
+ghost use Rattle.dv_row.specs.ExpressionView.{expression, named};
 ghost use Rattle.dv_row.specs.Parsing.{Gives};
 ghost use Rattle.dv_row.specs.ProjectParsing as defined;
+ghost use Rattle.dv_row.specs.declared.fault.PipelineFault.TheVariants.{Conflict};
 
+use crate::conflict::{has_conflict, one_begins};
 use crate::expr::{Computed, ComputedField, Expr};
 use crate::fault::PipelineFault;
 use crate::paths::Paths;
 use crate::project::Project;
 use crate::switch::{has_dot, switch_of};
-use dv_bson::{Document, Str, Value};
+use dv_bson::{Document, NoMemory, Str, Value};
 use dv_path::{Component, Path};
 use std::alloc::Global;
 
@@ -44,18 +48,37 @@ impl Project {
     }
 }
 
-/// What the members ask, or the first fault.
+/// What the members ask, or the first fault. Whether paths conflict is asked of all at once, of those in front of a fault
+/// too, whose conflict comes first.
 fn members_of(alloc: Global, document: &Document) -> Result<Asked, PipelineFault>
     ensures { Gives seen result (defined.members_in defined.nothing_asked document.now) }
 {
     let mut asked = Asked::new(alloc);
+    let mut paths = Vec::new(alloc);
     'members: for place in 0..document.len() {
         let Some((name, value)) = document.entry(place) else {
             break;
         };
-        asked = asked.with_member(alloc, name, value)?;
+        match asked.take(alloc, name, value) {
+            Ok(path) => paths.push(path)?,
+            Err(fault) => return Err(first_fault(paths, fault)),
+        }
+    }
+    if has_conflict(paths) {
+        return Err(PipelineFault::Conflict);
     }
     Ok(asked)
+}
+
+/// The first fault of members with these paths and of one behind them that has the fault.
+fn first_fault(paths: Vec<Path>, fault: PipelineFault) -> PipelineFault
+    ensures { result ≡ (if list_conflicts paths.items then Conflict else fault) }
+{
+    if has_conflict(paths) {
+        PipelineFault::Conflict
+    } else {
+        fault
+    }
 }
 
 impl Asked {
@@ -69,69 +92,67 @@ impl Asked {
         }
     }
 
-    /// What is asked with a member more.
-    fn with_member(self, alloc: Global, name: &str, value: &Value) -> Result<Asked, PipelineFault>
-        ensures { Gives seen result (defined.with_member (name.now, tree value.now) (seen self)) }
+    /// Takes a member, and gives its path: whether that conflicts with one before is still to be asked.
+    fn take(&mut self, alloc: Global, name: &str, value: &Value) -> Result<Path, PipelineFault>
+        ensures { Takes result (defined.with_member (name.now, tree value.now) (seen self.old)) (seen self.old) (seen self.new) }
     {
         let path = Path::parse(alloc, name)?;
         match switch_of(value) {
-            Some(true) => self.with_included(path),
-            Some(false) => self.with_excluded(path),
-            None => self.with_computed(alloc, path, name, value),
+            Some(true) => self.include(path),
+            Some(false) => self.exclude(path),
+            None => self.compute(alloc, path, name, value),
         }
     }
 
-    fn with_included(self, path: Path) -> Result<Asked, PipelineFault>
-        ensures { Gives seen result (defined.with_path true path (seen self)) }
+    fn include(&mut self, path: Path) -> Result<Path, PipelineFault>
+        ensures { Takes result (defined.with_path true path (seen self.old)) (seen self.old) (seen self.new) }
     {
-        let mut asked = self;
-        if is_below_id(path.components()) || asked.excludes() {
+        if is_below_id(path.components()) || self.excludes() {
             return Err(PipelineFault::BadSpec);
         }
-        if asked.conflicts(path.components()) {
-            return Err(PipelineFault::Conflict);
-        }
-        asked.included.push(path)?;
-        Ok(asked)
+        self.included.push(path.try_clone()?)?;
+        Ok(path)
     }
 
-    fn with_excluded(self, path: Path) -> Result<Asked, PipelineFault>
-        ensures { Gives seen result (defined.with_path false path (seen self)) }
+    fn exclude(&mut self, path: Path) -> Result<Path, PipelineFault>
+        ensures { Takes result (defined.with_path false path (seen self.old)) (seen self.old) (seen self.new) }
     {
-        let mut asked = self;
-        if is_below_id(path.components()) || !is_id(path.components()) && asked.includes() {
+        if is_below_id(path.components()) || !is_id(path.components()) && self.includes() {
             return Err(PipelineFault::BadSpec);
         }
-        if asked.conflicts(path.components()) {
-            return Err(PipelineFault::Conflict);
-        }
-        asked.excluded.push(path)?;
-        Ok(asked)
+        self.excluded.push(path.try_clone()?)?;
+        Ok(path)
     }
 
-    fn with_computed(
-        self,
+    fn compute(
+        &mut self,
         alloc: Global,
         path: Path,
         name: &str,
         value: &Value,
-    ) -> Result<Asked, PipelineFault>
-        ensures { Gives seen result (defined.with_switch None name.now path (tree value.now) (seen self)) }
+    ) -> Result<Path, PipelineFault>
+        requires { path_of name.now ≡ Some path }
+        ensures { Takes result (defined.with_switch None name.now path (tree value.now) (seen self.old)) (seen self.old) (seen self.new) }
     {
-        let mut asked = self;
         if has_dot(name) {
             return Err(PipelineFault::BadSpec);
         }
         let expr = Expr::parse_where(alloc, false, value)?;
-        if asked.excludes() {
+        if self.excludes() {
             return Err(PipelineFault::BadSpec);
         }
-        if asked.conflicts(path.components()) {
-            return Err(PipelineFault::Conflict);
-        }
+        self.add_computed(alloc, name, expr)?;
+        Ok(path)
+    }
+
+    /// Adds a computed field. Where memory is wanting nothing is changed.
+    fn add_computed(&mut self, alloc: Global, name: &str, expr: Expr) -> Result<(), NoMemory>
+        ensures ok { OnOk result (seen self.new ≡ defined.with_computation name.now (expression expr) (seen self.old)) }
+        ensures err { OnErr result (seen self.new ≡ seen self.old) }
+    {
         let name = Str::of(String::from_str(alloc, name)?);
-        asked.computed.push(ComputedField { name, expr })?;
-        Ok(asked)
+        self.computed.push(ComputedField { name, expr })?;
+        Ok(())
     }
 
     /// Whether something is excluded but `_id`.
@@ -168,7 +189,8 @@ impl Asked {
     {
         if !self.includes() {
             let Asked { excluded, .. } = self;
-            return Ok(Project::Exclude(Paths::of(excluded)));
+            let hidden = Paths::of(excluded)?;
+            return Ok(Project::Exclude(hidden));
         }
         let id = Path::parse(alloc, "_id")?;
         let has_id = self.conflicts(id.components());
@@ -180,7 +202,8 @@ impl Asked {
         if !has_id {
             included.push(id)?;
         }
-        Ok(Project::Include(Paths::of(included), Computed::of(computed)))
+        let shown = Paths::of(included)?;
+        Ok(Project::Include(shown, Computed::of(computed)))
     }
 }
 
@@ -216,15 +239,6 @@ fn begins_with(path: &[Component], name: &str) -> bool
         Some((first, _)) => first.as_str() == name,
         None => true,
     }
-}
-
-/// Whether one path begins the other: as far as both go they are the same.
-fn one_begins(path: &[Component], other: &[Component]) -> bool
-    ensures { result ≡ defined.one_begins path.now other.now }
-{
-    path.iter()
-        .zip(other)
-        .all(|(a, b)| a.as_str() == b.as_str())
 }
 
 /// Whether the path is `_id`.

@@ -2,6 +2,7 @@
 #![tactic(auto)]
 
 mod asked;
+mod conflict;
 mod expr;
 mod expr_parsing;
 mod fault;
@@ -11,6 +12,7 @@ mod paths;
 mod project;
 mod switch;
 mod unwind;
+mod ways;
 
 pub use expr::{Computed, ComputedField, Expr, push_field};
 pub use fault::PipelineFault;

@@ -1,31 +1,40 @@
 //! Lists of paths.
 
 ghost use Rattle.std.specs.Prelude.{◌≡◌, IfOk};
+ghost use Rattle.dv_row.specs.Ways.{AreSame};
 
+use crate::ways::{Ways, sort};
 use dv_bson::NoMemory;
 use dv_path::Path;
 use std::marker::Model;
 
-/// Paths in written order.
+/// Paths in written order. Beside them stands a copy in the order of their components, among which those that lead through
+/// a name are looked up.
 #[derive(Debug, Drop)]
 pub struct Paths {
     paths: Vec<Path>,
+    ascending: Vec<Path>,
 }
 
 impl Model for Paths {
     ghost use Rattle.std.specs.Prelude.{List, ℕ};
+    ghost use Rattle.dv_row.specs.Ways.{IsInOrder};
 
     ghost Value = { List (List (List ℕ)) };
 
     ghost view = { λ p. p.paths.items };
+
+    ghost invariant = { λ p. IsInOrder p.paths.items p.ascending.items };
 }
 
 impl Paths {
-    /// The list of these paths. Takes no memory.
-    pub fn of(paths: Vec<Path>) -> Self
-        ensures { result ≡ paths.items }
+    /// The list of these paths. Costs comparisons of n log n for n paths. Fails where memory is wanting.
+    pub fn of(paths: Vec<Path>) -> Result<Self, NoMemory>
+        ensures { IfOk result (λ list. list ≡ paths.items) }
     {
-        Paths { paths }
+        let mut ascending = copied(&paths)?;
+        sort(&mut ascending);
+        Ok(Paths { paths, ascending })
     }
 
     /// The paths in written order.
@@ -35,14 +44,31 @@ impl Paths {
         self.paths.as_slice()
     }
 
+    /// The ways that the paths lead from a row's top.
+    pub(crate) fn ways(&self) -> Ways<'_>
+        ensures { AreSame result self.now }
+    {
+        Ways::of(self.ascending.as_slice())
+    }
+
     /// A copy of its own. Fails where memory is wanting.
     pub fn try_clone(&self) -> Result<Self, NoMemory>
         ensures { IfOk result (λ copy. copy ≡ self.now) }
     {
-        let mut paths = Vec::with_capacity(*self.paths.allocator(), self.paths.len())?;
-        for path in &self.paths {
-            paths.push(path.try_clone()?)?;
-        }
-        Ok(Paths { paths })
+        Ok(Paths {
+            paths: copied(&self.paths)?,
+            ascending: copied(&self.ascending)?,
+        })
     }
+}
+
+/// A copy of the paths.
+fn copied(paths: &Vec<Path>) -> Result<Vec<Path>, NoMemory>
+    ensures { IfOk result (λ copies. copies.items ≡ paths.now.items) }
+{
+    let mut copies = Vec::with_capacity(*paths.allocator(), paths.len())?;
+    for path in paths {
+        copies.push(path.try_clone()?)?;
+    }
+    Ok(copies)
 }

@@ -1,7 +1,6 @@
 //! `$project`.
 
-ghost use Rattle.std.specs.Prelude.{◌≡◌, map, not, IfOk};
-ghost use Rattle.std.specs.List.{list_any};
+ghost use Rattle.std.specs.Prelude.{◌≡◌, not, IfOk};
 ghost use Rattle.std.specs.Option.{option_map};
 ghost use Rattle.dv_bson.specs.Tree.{fields_of, elements_of, list_of_elements};
 ghost use Rattle.dv_bson.specs.View.{tree};
@@ -9,8 +8,8 @@ ghost use Rattle.dv_row.specs.Projecting as defined;
 
 use crate::expr::{Computed, push_field};
 use crate::paths::Paths;
+use crate::ways::Ways;
 use dv_bson::{Document, List, NoMemory, Value};
-use dv_path::Component;
 use std::alloc::Global;
 
 /// What is shown of a row.
@@ -56,11 +55,7 @@ impl Project {
 fn row_left(alloc: Global, keeps: bool, paths: &Paths, row: &Document) -> Result<Document, NoMemory>
     ensures { IfOk result (λ left. left ≡ defined.row_left keeps paths.now row.now) }
 {
-    let mut ways: Vec<&[Component]> = Vec::with_capacity(alloc, paths.as_slice().len())?;
-    'paths: for path in paths.as_slice() {
-        ways.push(path.components())?;
-    }
-    document_left(alloc, keeps, ways.as_slice(), row)
+    document_left(alloc, keeps, &paths.ways(), row)
 }
 
 /// What is left of a document.
@@ -68,18 +63,17 @@ fn row_left(alloc: Global, keeps: bool, paths: &Paths, row: &Document) -> Result
 fn document_left(
     alloc: Global,
     keeps: bool,
-    ways: &[&[Component]],
+    ways: &Ways<'_>,
     document: &Document,
 ) -> Result<Document, NoMemory>
-    ensures { IfOk result (λ left. left ≡ defined.row_left keeps (map (λ way. way.now) ways.now) document.now) }
+    ensures { IfOk result (λ left. left ≡ defined.row_left keeps ways.now document.now) }
 {
     let mut left = Document::new(alloc);
     'fields: for place in 0..document.len() {
         let Some((name, value)) = document.entry(place) else {
             break;
         };
-        let inner = behind(alloc, ways, name)?;
-        let kept = value_left(alloc, keeps, inner.as_slice(), value)?;
+        let kept = value_left(alloc, keeps, &ways.behind(name), value)?;
         push_field(&mut left, name, kept)?;
     }
     Ok(left)
@@ -90,15 +84,15 @@ fn document_left(
 fn value_left(
     alloc: Global,
     keeps: bool,
-    ways: &[&[Component]],
+    ways: &Ways<'_>,
     value: &Value,
 ) -> Result<Option<Value>, NoMemory>
-    ensures { IfOk result (λ kept. option_map tree kept ≡ defined.left keeps (map (λ way. way.now) ways.now) (tree value.now)) }
+    ensures { IfOk result (λ kept. option_map tree kept ≡ defined.left keeps ways.now (tree value.now)) }
 {
     if ways.is_empty() {
         return if_it(!keeps, value);
     }
-    if any_ends(ways) {
+    if ways.any_ends() {
         return if_it(keeps, value);
     }
     left_inside(alloc, keeps, ways, value)
@@ -110,10 +104,10 @@ fn value_left(
 fn left_inside(
     alloc: Global,
     keeps: bool,
-    ways: &[&[Component]],
+    ways: &Ways<'_>,
     value: &Value,
 ) -> Result<Option<Value>, NoMemory>
-    ensures { IfOk result (λ kept. option_map tree kept ≡ defined.left_inside keeps (map (λ way. way.now) ways.now) (tree value.now)) }
+    ensures { IfOk result (λ kept. option_map tree kept ≡ defined.left_inside keeps ways.now (tree value.now)) }
 {
     match value {
         Value::Doc(document) => {
@@ -130,13 +124,8 @@ fn left_inside(
 
 /// What is left of an array's elements.
 #[cycle(left)]
-fn list_left(
-    alloc: Global,
-    keeps: bool,
-    ways: &[&[Component]],
-    list: &List,
-) -> Result<List, NoMemory>
-    ensures { IfOk result (λ left. left ≡ list_of_elements (defined.elements_left keeps (map (λ way. way.now) ways.now) (elements_of list.now))) }
+fn list_left(alloc: Global, keeps: bool, ways: &Ways<'_>, list: &List) -> Result<List, NoMemory>
+    ensures { IfOk result (λ left. left ≡ list_of_elements (defined.elements_left keeps ways.now (elements_of list.now))) }
 {
     let mut left = Vec::new(alloc);
     'elements: for element in list.as_slice() {
@@ -156,35 +145,4 @@ fn if_it(stays: bool, value: &Value) -> Result<Option<Value>, NoMemory>
     } else {
         Ok(None)
     }
-}
-
-/// Whether a way ends.
-fn any_ends(ways: &[&[Component]]) -> bool
-    ensures { result ≡ list_any defined.ends (map (λ way. way.now) ways.now) }
-{
-    'ways: for way in ways {
-        if way.is_empty() {
-            return true;
-        }
-    }
-    false
-}
-
-/// What is left of the ways that lead through a field of the name.
-fn behind<'a>(
-    alloc: Global,
-    ways: &[&'a [Component]],
-    name: &str,
-) -> Result<Vec<&'a [Component]>, NoMemory>
-    ensures { IfOk result (λ inner. map (λ way. way.now) inner.items ≡ defined.behind name.now (map (λ way. way.now) ways.now)) }
-{
-    let mut inner = Vec::new(alloc);
-    'ways: for way in ways {
-        if let Some((component, rest)) = way.split_first() {
-            if name == component.as_str() {
-                inner.push(rest)?;
-            }
-        }
-    }
-    Ok(inner)
 }

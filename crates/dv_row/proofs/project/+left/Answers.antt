@@ -21,11 +21,10 @@ document_left-value_left-requires t c = (omega (arith, field_weighs_less c.args.
 pub document_left-fields-preserved : goal.document_left-fields-preserved
 document_left-fields-preserved t c =
     let keeps = c.args.keeps in
-    let ways = map (λ way. way.now) c.args.ways.now in
+    let ways = c.args.ways.now in
     let name = c.in-Some.name.now in
     let v = tree c.in-Some.value.now in
-    let inner = ap (λ l. map (λ way. way.now) l) c.as_slice.ensures.value ∙ c.in_ok-inner.ensures in
-    c.in_ok-push_field.ensures.ok ∙ ap (λ k. with_field name k c.fields.left) (c.in_ok-kept.ensures ∙ ap (λ ws. left keeps ws v) inner) ∙ ap (with_field name (left keeps (behind name ways) v)) c.fields.invariant ∙ row-left_more keeps ways c.args.document.now c.fields.place name v c.len-place-end.ensures.named c.in-Some.ensures
+    c.in_ok-push_field.ensures.ok ∙ ap (λ k. with_field name k c.fields.left) (c.in_ok-kept.ensures ∙ ap (λ ws. left keeps ws v) c.behind.ensures) ∙ ap (with_field name (left keeps (behind name ways) v)) c.fields.invariant ∙ row-left_more keeps ways c.args.document.now c.fields.place name v c.len-place-end.ensures.named c.in-Some.ensures
 
 pub document_left-returns : goal.document_left-returns
 document_left-returns t c =
@@ -34,18 +33,18 @@ document_left-returns t c =
       | document_left-else-fields-test w ↦ omega (arith, c.len-place-end.ensures.len)
       | document_left-then-fields-test+in_default w ↦ none-there c.args.document.now c.fields.place (sym w.in_default.ensures)
     ] in
-    c.fields.invariant ∙ ap (row_left c.args.keeps (map (λ way. way.now) c.args.ways.now)) (take-past c.args.document.now c.fields.place past)
+    c.fields.invariant ∙ ap (row_left c.args.keeps (c.args.ways.now)) (take-past c.args.document.now c.fields.place past)
 
 pub left_inside-returns-in_ok-left-in-Doc : goal.left_inside-returns-in_ok-left-in-Doc
 unfolding left_inside
 left_inside-returns-in_ok-left-in-Doc t c =
-    let ways = map (λ way. way.now) c.args.ways.now in
+    let ways = c.args.ways.now in
     ap (λ fs. Some (document (fields_of fs))) c.in_ok-left-in-Doc.ensures ∙ ap (λ fs. Some (document fs)) (fields-of_list (fields_left c.args.keeps ways (fields_of c.in-Doc.document))) ∙ sym (ap (λ v. left_inside c.args.keeps ways (tree v)) c.in-Doc.is)
 
 pub left_inside-returns-in_ok-left-in-Array : goal.left_inside-returns-in_ok-left-in-Array
 unfolding left_inside
 left_inside-returns-in_ok-left-in-Array t c =
-    let ways = map (λ way. way.now) c.args.ways.now in
+    let ways = c.args.ways.now in
     ap (λ vs. Some (array (elements_of vs))) c.in_ok-left-in-Array.ensures ∙ ap (λ vs. Some (array vs)) (elements-of_list (elements_left c.args.keeps ways (elements_of c.in-Array.list))) ∙ sym (ap (λ v. left_inside c.args.keeps ways (tree v)) c.in-Array.is)
 
 pub list_left-elements-init : goal.list_left-elements-init
@@ -59,7 +58,7 @@ list_left-left_inside-requires t c =
 pub list_left-elements-preserved : goal.list_left-elements-preserved
 list_left-elements-preserved t c =
     let keeps = c.args.keeps in
-    let ways = map (λ way. way.now) c.args.ways.now in
+    let ways = c.args.ways.now in
     let items = c.as_slice-element-items.result.now in
     let i = c.elements.element-index in
     let x = c.element-item.result in

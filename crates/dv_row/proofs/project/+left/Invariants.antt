@@ -17,7 +17,7 @@ abbrev pub decreases-list_left : goal.decreases-list_left
 decreases-list_left l = 4 * elements_weight (elements_of l.list.now) + 3
 
 abbrev pub invariant-document_left-fields : goal.invariant-document_left-fields
-invariant-document_left-fields l = l.left ≡ row_left l.keeps (map (λ way. way.now) l.ways) (take l.place l.document)
+invariant-document_left-fields l = l.left ≡ row_left l.keeps l.ways (take l.place l.document)
 
 abbrev pub invariant-list_left-elements : goal.invariant-list_left-elements
-invariant-list_left-elements l = map tree l.left.items ≡ list_of_elements (elements_left l.keeps (map (λ way. way.now) l.ways) (elements_of (map tree (take l.element-index l.element-items))))
+invariant-list_left-elements l = map tree l.left.items ≡ list_of_elements (elements_left l.keeps l.ways (elements_of (map tree (take l.element-index l.element-items))))

@@ -9,7 +9,7 @@ use Rattle.dv_row.proofs.asked.Asked.into_project.Goals.{then-not-has_id+in_ok-p
 pub returns-in_err-id : goal.returns-in_err-id
 returns-in_err-id c =
     let e = c.in_err-id.field-0.0 in
-    let told : c.from_residual.result ≡ Err (of_path e) = search (rules, c.from_residual.ensures) in
+    let told : c.from_residual-in_err-id.result ≡ Err (of_path e) = search (rules, c.from_residual-in_err-id.ensures) in
     rw told (inl (id-fault e c.in_err-id.ensures))
 
 pub returns : goal.returns
@@ -24,4 +24,4 @@ returns c =
       | then-not-has_id+in_ok-push w ↦ ap (λ v. v.items) w.included-is ∙ w.in_ok-push.ensures.items ∙ ap (λ p. self.included ++ p ∷ []) id ∙ ap choice (sym w.if-not-has_id.true)
       | else-not-has_id w ↦ ap (λ v. v.items) w.included-is ∙ ap choice (sym w.if-not-has_id.false)
     ] in
-    ap Ok (form-is self has c.of-2.result c.of-3.result (sym c.includes.ensures ∙ c.if-not-includes.false) con (c.of-2.ensures ∙ included) c.of-3.ensures)
+    ap Ok (form-is self has c.in_ok-shown.shown c.of-3.result (sym c.includes.ensures ∙ c.if-not-includes.false) con (c.in_ok-shown.ensures ∙ included) c.of-3.ensures)
