@@ -1,6 +1,6 @@
 -- What stands under namespaces, in a map under texts.
-use Rattle.std.proofs.Common.{◌≡◌, ◌⊎◌, inl, inr, ℕ, Bool, true, false, List, [], ◌∷◌, Option, Some, None, Result, Ok, Err, IsSome, IsErrOf, map, cond, refl, ap, sym, subst, ◌∙◌, arith}
-use Rattle.std.proofs.lemmas.Map.Text.{is_eq-slice_cmp, btree_map_updates_text}
+use Rattle.std.proofs.Common.{◌≡◌, ◌⊎◌, inl, inr, ℕ, Bool, true, false, List, [], ◌∷◌, Option, Some, None, Result, Ok, Err, IsSome, IsErrOf, map, cond, refl, ap, sym, ◌∙◌, arith}
+use Rattle.std.proofs.lemmas.Map.Text.{btree_map_updates_text}
 use Rattle.std.proofs.lemmas.Slice.Eq.{bytes_eq-Decides}
 use Rattle.std.specs.BTreeMap.{BTreeMap, is_at, get_by_text, UpdatesBy, WritesThrough}
 use Rattle.std.specs.Cmp.Lexicographic.{slice_cmp, nat_list_cmp_total}
@@ -19,12 +19,11 @@ use Rattle.dv_coll.specs.declared.fault.InsertFault.TheVariants.{Duplicate, NoMe
 use Rattle.dv_fields.specs.declared.refusal.Refusal.{Refusal}
 use Rattle.dv_fields.specs.declared.refusal.Refusal.TheVariants.{DuplicateKey, WantOfMemory}
 use Rattle.dv_fields.specs.Refusals.{insert_refusal}
-use Rattle.dv_catalog.specs.Changes.{Change, Effect, put, gone, with_put, apply, with_changes}
+use Rattle.dv_catalog.specs.Changes.{Change, Effect, put, with_put, apply, with_changes}
 use Rattle.dv_catalog.specs.Effects.{put_new}
 use Rattle.dv_catalog.specs.State.{Collection, Standing, Namespaces, collection_at, collection_of, documents_of, with_documents}
 use Rattle.dv_index.specs.Indexed.{empty_indexed}
 use Rattle.dv_catalog.specs.View.{standing_seen, standing_by_namespace}
-use Rattle.dv_catalog.specs.EffectView.{IsPlaced, ArePlaced}
 use Rattle.dv_catalog.specs.Parts.{Makes, one}
 use Rattle.dv_catalog.specs.declared.stopped.Stopped.{Stopped}
 use Rattle.dv_catalog.proofs.Stopping.{stops_before}
@@ -134,12 +133,3 @@ module _ (old : Namespaces) (namespace : List ℕ) (c : Collection) (are : colle
   pub applied : (changes : List Change) (new : Namespaces) → new ≡ with_collection namespace (record c { documents = with_changes c.documents changes }) old → new ≡ apply namespace changes old
   applied [] new is = is ∙ same
   applied (change ∷ changes) new is = is ∙ made-there old namespace c (λ there. record there { documents = with_changes there.documents (change ∷ changes) }) are
-
-none_here : (change : Change) → IsPlaced [] change → ⊥
-none_here (put d) placed = let none : false ≡ true = placed.1 in cc
-none_here (gone k) placed = let none : false ≡ true = placed in cc
-
--- where no collection is, there is nothing to change
-pub none_to_change : (changes : List Change) → ArePlaced [] changes → changes ≡ []
-none_to_change [] placed = refl
-none_to_change (change ∷ changes) placed = absurd (none_here change placed.0)

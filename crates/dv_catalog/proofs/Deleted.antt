@@ -1,16 +1,12 @@
 -- Documents that are deleted.
-use Rattle.std.proofs.Common.{◌≡◌, ℕ, Bool, true, false, cond, not, List, [], ◌∷◌, drop, length, map, Option, Some, None, is_some, Ok, refl, sym, ap, subst, ◌∙◌, arith}
-use Rattle.std.proofs.lemmas.List.{length-map}
+use Rattle.std.proofs.Common.{◌≡◌, ℕ, Bool, true, false, cond, not, List, [], ◌∷◌, length, map, Option, None, is_some, Ok, refl, sym, ap, subst, ◌∙◌}
 use Rattle.std.specs.List.{AllByRecursion}
-use Rattle.std.specs.List.Sorted.{IsStrictlySortedBy}
 use Rattle.std.specs.Ordering.{is_eq}
 use Rattle.std.specs.declared.cmp.Ordering.{Ordering}
 use Rattle.std.specs.declared.cmp.Ordering.TheVariants.{Less}
 use Rattle.dv_bson.specs.Tree.{Field}
-use Rattle.dv_coll.specs.Collection.{HasId, IsAscending, id_key, found, has_key, removed}
+use Rattle.dv_coll.specs.Collection.{HasId, id_key, found, has_key, removed}
 use Rattle.dv_command.specs.Entries.{Deletion}
-use Rattle.dv_match.specs.Filter.{Members}
-use Rattle.dv_match.specs.Match.{matches}
 use Rattle.dv_order.specs.Key.{KeyTree, key_order}
 use Rattle.dv_catalog.specs.Changes.{Change, gone, with_changes}
 use Rattle.dv_catalog.specs.Effects.{all_or_first, without, delete_chosen}
@@ -22,10 +18,6 @@ use Rattle.dv_catalog.proofs.Keys.{all_there, own_key, AreThere, AreBefore, befo
 none_chosen : (first : Bool) → all_or_first first [] ≡ []
 none_chosen false = refl
 none_chosen true = refl
-
--- no document is deleted where there is none
-pub delete_none : (deletion : Deletion) → delete_chosen deletion [] ≡ Ok (record { matched = 0; changes = [] })
-delete_none deletion = ap (λ (ds : List (List Field)). Ok (without ds)) (none_chosen deletion.only_first)
 
 all_gone : (ds : List (List Field)) → map gone (map id_key ds) ≡ map (λ d. gone (id_key d)) ds
 all_gone [] = refl

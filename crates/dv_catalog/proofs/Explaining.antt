@@ -1,13 +1,12 @@
 -- How finds are answered.
 use Rattle.std.proofs.Common.{◌≡◌, ◌||◌, ℕ, Bool, true, false, if◌then◌else◌, List, [], ◌∷◌, map, length, Option, Some, None, refl, sym, ap, ◌∙◌}
 use Rattle.std.specs.FinMap as finite
-use Rattle.std.specs.List.{list_any}
 use Rattle.dv_bson.specs.Tree.{Field}
 use Rattle.dv_match.specs.Filter.{Members}
 use Rattle.dv_views.specs.Views.{Mark, View, Views, has_name, has_view, kept_rows, live, rows_shown, stale, view_named}
 use Rattle.dv_catalog.specs.CatalogParts.{form_of, is_stale, is_stale_mark, is_stale_view, rows_kept, rows_or, state_of}
-use Rattle.dv_catalog.specs.IndexMaking.{Explained, explained, explained_at, over_view}
-use Rattle.dv_catalog.specs.State.{Namespaces, State, ViewForm, documents_of, is_view, rows_of}
+use Rattle.dv_catalog.specs.IndexMaking.{explained, explained_at, over_view}
+use Rattle.dv_catalog.specs.State.{Namespaces, documents_of, is_view, rows_of}
 use Rattle.dv_catalog.proofs.Keeping.{view_forms}
 
 named_is_there : (name : List ℕ) (vs : Views) (v : View) → view_named name vs ≡ Some v → has_view name vs ≡ true

@@ -1,9 +1,9 @@
 -- Views stay right over collections that change.
-use Rattle.std.proofs.Common.{◌≡◌, ◌⊎◌, inl, inr, ◌||◌, ℕ, Bool, true, false, cond, if◌then◌else◌, List, [], ◌∷◌, ◌++◌, map, Option, Some, None, is_some, Result, Ok, Err, take, refl, sym, ap, subst, ◌∙◌, arith}
+use Rattle.std.proofs.Common.{◌≡◌, ◌⊎◌, inl, inr, ◌||◌, ℕ, Bool, true, false, cond, if◌then◌else◌, List, [], ◌∷◌, map, Option, Some, is_some, Result, Ok, Err, take, refl, sym, ap, subst, ◌∙◌, arith}
 use Rattle.std.proofs.lemmas.List.{take-map, take_all}
 use Rattle.std.proofs.lemmas.Slice.Eq.{bytes_eq-Decides}
 use Rattle.std.specs.FinMap as finite
-use Rattle.std.specs.List.{AllByRecursion, AllZip, list_any}
+use Rattle.std.specs.List.{AllByRecursion}
 use Rattle.std.specs.Str.{bytes_eq}
 use Rattle.dv_bson.specs.Tree.{Field}
 use Rattle.dv_flow.specs.declared.change.Change as flow
@@ -18,8 +18,8 @@ use Rattle.dv_catalog.specs.Effects.{put_new}
 use Rattle.dv_coll.specs.Collection.{found, id_key}
 use Rattle.dv_fields.specs.declared.refusal.Refusal.{Refusal}
 use Rattle.dv_fields.specs.declared.refusal.Refusal.TheVariants.{DuplicateKey}
-use Rattle.dv_catalog.specs.State.{AreOrdered, Collection, Namespaces, Standing, State, ViewForm, collection, collection_at, collection_of, documents_of, has_name, is_collection, is_view, lists_of}
-use Rattle.dv_catalog.specs.StateLaws.{get-insert, get-remove}
+use Rattle.dv_catalog.specs.State.{AreOrdered, Collection, Namespaces, Standing, ViewForm, collection, collection_at, collection_of, documents_of, is_collection, is_view, lists_of}
+use Rattle.dv_catalog.specs.StateLaws.{get-insert}
 use Rattle.dv_catalog.specs.Told.{told}
 use Rattle.dv_catalog.specs.Views.{reads_name}
 

@@ -1,6 +1,5 @@
 -- Views and collections stay right where one is made or taken out.
 use Rattle.std.proofs.Common.{◌≡◌, ◌⊎◌, inl, inr, ◌||◌, not, if◌then◌else◌, ℕ, Bool, true, false, cond, List, [], ◌∷◌, ◌++◌, map, Option, Some, None, is_some, Ok, Err, refl, sym, ap, subst, ◌∙◌}
-use Rattle.std.proofs.lemmas.Slice.Eq.{bytes_eq-Decides}
 use Rattle.std.specs.FinMap as finite
 use Rattle.std.specs.Str.{bytes_eq}
 use Rattle.dv_bson.specs.Tree.{Field}
@@ -17,7 +16,7 @@ use Rattle.dv_views.specs.declared.fault.ViewFault.{ViewFault}
 use Rattle.dv_catalog.specs.CatalogParts.{IsKept, form_of, is_stale, rows_kept, state_of, view_refusal}
 use Rattle.dv_catalog.specs.Changes.{Change, gone, with_changes}
 use Rattle.dv_catalog.specs.SourceParts.{AreFor}
-use Rattle.dv_catalog.specs.State.{AreOrdered, Namespaces, Standing, State, ViewForm, collection_at, collection_of, documents_of, is_collection, is_there, is_view, lists_of, rows_of, with_documents}
+use Rattle.dv_catalog.specs.State.{AreOrdered, Namespaces, Standing, State, collection_at, collection_of, documents_of, is_collection, is_there, is_view, lists_of, rows_of, with_documents}
 use Rattle.dv_catalog.specs.StateLaws.{get-remove}
 use Rattle.dv_catalog.specs.Views as creating
 use Rattle.dv_catalog.specs.Views.{aggregated, created, dropped, looks_into_view, with_view, with_views}

@@ -2,6 +2,7 @@ mod Keys
 mod ByNamespace
 mod Stopping
 mod ByEntry
+mod Found
 mod Explaining
 pub mod Scanned
 mod Deleted

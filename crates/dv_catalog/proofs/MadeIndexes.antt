@@ -1,12 +1,12 @@
 -- Indexes that are made of a collection, of the collection of a namespace, and of a state.
-use Rattle.std.proofs.Common.{◌≡◌, ◌⊎◌, inl, inr, ℕ, Bool, true, false, if◌then◌else◌, List, length, map, Option, Some, None, Result, Ok, Err, IfOk, refl, sym, ap, subst, ◌∙◌}
+use Rattle.std.proofs.Common.{◌≡◌, ◌⊎◌, inl, inr, ℕ, Bool, true, false, if◌then◌else◌, List, length, map, Option, Some, Result, Ok, Err, refl, sym, ap, subst, ◌∙◌}
 use Rattle.std.proofs.lemmas.Slice.Eq.{bytes_eq-Decides}
 use Rattle.std.specs.FinMap as finite
 use Rattle.std.specs.Str.{bytes_eq}
 use Rattle.dv_fields.specs.declared.refusal.Refusal.{Refusal}
 use Rattle.dv_fields.specs.declared.refusal.Refusal.TheVariants.{NamespaceNotFound, OnView, WantOfMemory}
 use Rattle.dv_index.specs.Index.{IndexForm}
-use Rattle.dv_views.specs.Views.{Views, has_view}
+use Rattle.dv_views.specs.Views.{Views}
 use Rattle.dv_catalog.specs.declared.indexing.IndexCounts.{IndexCounts}
 use Rattle.dv_catalog.specs.CatalogParts.{IsKept, form_of, state_of}
 use Rattle.dv_catalog.specs.IndexMaking.{indexes_created, indexes_dropped, with_all, with_indexes_so, without_named}
@@ -15,7 +15,7 @@ use Rattle.dv_catalog.specs.Parts.{Leaves}
 use Rattle.dv_catalog.specs.State.{Collection, Namespaces, Standing, State, collection, collection_at, collection_of, indexes_of, is_collection, is_view, with_indexes}
 use Rattle.dv_catalog.specs.StateLaws.{get-insert}
 use Rattle.dv_catalog.proofs.ByNamespace.{made-there, with_collection}
-use Rattle.dv_catalog.proofs.Keeping.{UnreadIsNoMatter, kept_same_documents, view_forms}
+use Rattle.dv_catalog.proofs.Keeping.{UnreadIsNoMatter, kept_same_documents}
 
 -- ---- of a collection, and of the collection of a namespace
 

@@ -1,33 +1,25 @@
 -- Views and collections that are made, and taken out.
-use Rattle.std.proofs.Common.{◌≡◌, ◌⊎◌, inl, inr, ◌||◌, not, ℕ, Bool, true, false, cond, if◌then◌else◌, List, [], ◌∷◌, ◌++◌, map, length, nat_lt, Option, Some, None, is_some, Result, Ok, Err, IfErr, refl, sym, ap, subst, ◌∙◌}
+use Rattle.std.proofs.Common.{◌≡◌, ◌⊎◌, inl, inr, ◌||◌, not, ℕ, Bool, true, false, if◌then◌else◌, List, [], ◌∷◌, ◌++◌, map, length, nat_lt, Option, Some, None, Result, Ok, Err, refl, sym, ap, subst, ◌∙◌}
 use Rattle.std.proofs.lemmas.List.{length-map}
 use Rattle.std.proofs.lemmas.Slice.Eq.{bytes_eq-Decides}
-use Rattle.std.specs.FinMap as finite
-use Rattle.std.specs.List.{list_any, filter}
-use Rattle.std.specs.Option.{option_map}
+use Rattle.std.specs.List.{list_any}
 use Rattle.std.specs.Str.{bytes_eq}
 use Rattle.dv_bson.specs.Tree.{Field}
-use Rattle.dv_command.specs.Asked.{ViewOn}
 use Rattle.dv_fields.specs.declared.refusal.Refusal.{Refusal}
 use Rattle.dv_fields.specs.declared.refusal.Refusal.TheVariants.{OnView, ReadByView, LimitReached, WantOfMemory}
-use Rattle.dv_pipe.specs.Sources as pipes
-use Rattle.dv_pipe.specs.Stages.{Lists, beside, evaluated, from_of, is_named, is_read, looked_into}
+use Rattle.dv_pipe.specs.Stages.{Lists, evaluated, is_named, is_read, looked_into}
 use Rattle.dv_pipe.specs.declared.stage.Stage.{Stage}
 use Rattle.dv_views.specs.Views.{AreRight, IsRefusedFor, View, Views, fault_of_new, new_view, without}
 use Rattle.dv_views.specs.Views as views
 use Rattle.dv_views.specs.declared.fault.ViewFault.{ViewFault}
 use Rattle.dv_views.specs.declared.fault.ViewFault.TheVariants as faults
 use Rattle.dv_catalog.specs.CatalogParts.{IsKept, form_of, state_of, view_refusal}
-use Rattle.dv_catalog.specs.SourceParts.{AreFor, with_rows}
-use Rattle.dv_catalog.specs.State.{Namespaces, Standing, State, ViewForm, documents_of, has_name, is_collection, is_view, lists_of, rows_of, rows_at, view_named, with_documents, without_view}
-use Rattle.dv_catalog.specs.StateLaws.{get-insert, get-remove}
-use Rattle.dv_catalog.specs.Views.{is_view_at, looks_into_view, made, reads, reads_name, reads_view, with_view, with_views}
-use Rattle.dv_catalog.proofs.Keeping.{UnreadIsNoMatter, reads_forms, view_forms}
+use Rattle.dv_catalog.specs.SourceParts.{with_rows}
+use Rattle.dv_catalog.specs.State.{Namespaces, State, ViewForm, documents_of, has_name, is_collection, is_view, lists_of, rows_of, rows_at, view_named, without_view}
+use Rattle.dv_catalog.specs.Views.{is_view_at, looks_into_view, reads, reads_name, reads_view, with_view}
+use Rattle.dv_catalog.proofs.Keeping.{reads_forms, view_forms}
 
 -- ---- kept, where only the marks or the collections without documents change
-
-pub kept_marks : (namespaces : Namespaces) (before after : Views) → IsKept namespaces before → AreRight (lists_of namespaces) after → map form_of after ≡ map form_of before → IsKept namespaces after
-kept_marks namespaces before after kept right forms = record { right = right; apart = λ name view. kept.apart name (subst (λ (fs : List ViewForm). is_view name fs ≡ true) forms view) }
 
 pub same_state : (namespaces : Namespaces) (before after : Views) → map form_of after ≡ map form_of before → state_of namespaces after ≡ state_of namespaces before
 same_state namespaces before after forms = λ i. record { namespaces = namespaces; views = forms i }
@@ -99,12 +91,6 @@ no_fault (Some f) told = absurd cc
 pub which_fault : (fault : Option ViewFault) (e : ViewFault) → IsRefusedFor {T = Unit {0}} fault (Err e) → (fault ≡ Some e) ⊎ (view_refusal e ≡ WantOfMemory)
 which_fault None e told = inr (ap view_refusal told)
 which_fault (Some f) e told = inl cc
-
-pub made_view : (on : ViewOn) (name : List ℕ) (state : State) (views : List ViewForm) → with_view (record { name = name; source = on.source; stages = on.stages }) state.views ≡ Ok views → made name (Some on) state ≡ Ok (record state { views = views })
-made_view on name state views is = ap (with_views state) is
-
-pub unmade_view : (on : ViewOn) (name : List ℕ) (state : State) (refusal : Refusal) → with_view (record { name = name; source = on.source; stages = on.stages }) state.views ≡ Err refusal → made name (Some on) state ≡ Err refusal
-unmade_view on name state refusal is = ap (with_views state) is
 
 -- ---- a view less
 

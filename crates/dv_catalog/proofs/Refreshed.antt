@@ -1,17 +1,16 @@
 -- Views that are made anew, and what they show.
 use Rattle.std.proofs.Common.{◌≡◌, ℕ, Bool, true, false, if◌then◌else◌, List, [], ◌∷◌, map, Option, Some, None, Result, Ok, Err, OnOk, OnErr, refl, sym, ap, subst, ◌∙◌}
 use Rattle.std.proofs.lemmas.Slice.Eq.{bytes_eq-Decides}
-use Rattle.std.specs.List.{AllByRecursion, IsDistinct, find}
+use Rattle.std.specs.List.{AllByRecursion, IsDistinct}
 use Rattle.std.specs.Option.{option_map}
 use Rattle.std.specs.Str.{bytes_eq}
-use Rattle.dv_bson.specs.Tree.{Field}
 use Rattle.dv_pipe.specs.Sources as pipes
 use Rattle.dv_pipe.specs.Stages.{Lists, evaluated, is_read}
 use Rattle.dv_pipe.specs.declared.stage.Stage.{Stage}
 use Rattle.dv_views.specs.Views.{AreNamedApart, AreRight, IsRight, Mark, View, Views, has_name, live, made_anew, mark_anew, refreshed, rows_of_view, stale, view_named}
 use Rattle.dv_views.specs.Views as views
-use Rattle.dv_catalog.specs.CatalogParts.{IsKept, form_of, is_stale, is_stale_mark, is_stale_view, rows_kept, state_of}
-use Rattle.dv_catalog.specs.SourceParts.{AreFor, with_rows}
+use Rattle.dv_catalog.specs.CatalogParts.{form_of, is_stale, is_stale_mark, is_stale_view, rows_kept, state_of}
+use Rattle.dv_catalog.specs.SourceParts.{AreFor}
 use Rattle.dv_catalog.specs.State as states
 use Rattle.dv_catalog.specs.State.{Namespaces, ViewForm, documents_of, lists_of, rows_at, rows_of}
 

@@ -8,9 +8,8 @@ use Rattle.dv_bson.specs.Tree.{Field}
 use Rattle.dv_pipe.specs.Sources.{Source, rows_under}
 use Rattle.dv_pipe.specs.Stages.{beside, from_of, is_named, is_read, looked_into}
 use Rattle.dv_pipe.specs.declared.stage.Stage.{Stage}
-use Rattle.dv_catalog.specs.SourceParts.{AreFor, with_rows}
+use Rattle.dv_catalog.specs.SourceParts.{with_rows}
 use Rattle.dv_catalog.specs.State.{Namespaces, ViewForm, documents_of, is_view}
-use Rattle.dv_catalog.specs.StateLaws.{bytes_eq-symmetric}
 use Rattle.dv_catalog.specs.Views.{is_view_at, looks_into_view}
 
 abbrev pub is_among : List ℕ → List Source → Bool
@@ -77,28 +76,6 @@ module _ (stages : List Stage) (source : List ℕ) (rows : List (List Field)) (n
 
   itself : bytes_eq source source ≡ true
   itself = (bytes_eq-Decides source source).1 refl
-
-  first_right : (name : List ℕ) (b : Bool) → bytes_eq name source ≡ b → (if b then true else false) ≡ true → (if b then rows else []) ≡ with_rows source rows namespaces name
-  first_right name true e is = rw (bytes_eq-symmetric source name, e) refl
-  first_right name false e is = absurd cc
-
-  first_all : (name : List ℕ) (b c : Bool) → bytes_eq source name ≡ b → b || c ≡ true → ((if bytes_eq name source then true else false) ≡ true) ⊎ (c ≡ true)
-  first_all name true c e is = inl (rw (bytes_eq-symmetric name source, e) refl)
-  first_all name false c e is = inr is
-
-  pub listed_first : AreListed ((source, rows) ∷ []) stages
-  listed_first = record {
-    first = rw itself refl;
-    right = λ name e. first_right name (bytes_eq name source) refl e;
-    all = λ name e. first_all name (bytes_eq source name) (look_into stages source name) refl e;
-  }
-
-  pub listed_end : (sources : List Source) → AreListed sources [] → AreFor stages source rows namespaces sources
-  listed_end sources listed name read = either (listed.all name read)
-    where
-      either : (is_among name sources ≡ true) ⊎ (false ≡ true) → rows_under name sources ≡ with_rows source rows namespaces name
-      either (inl e) = listed.right name e
-      either (inr e) = absurd cc
 
   -- a stage that looks into nothing
   pub listed_same : (sources : List Source) (s : Stage) (rest : List Stage) → AreListed sources (s ∷ rest) → None ≡ from_of s → AreListed sources rest

@@ -1,18 +1,17 @@
 -- Changes that are made one after the other, all of them or some.
-use Rattle.std.proofs.Common.{◌≡◌, ◌≤◌, ◌<◌, ◌+◌, ◌++◌, ◌⊎◌, inl, inr, ℕ, Bool, true, is_some, if◌then◌else◌, zero, suc, List, [], ◌∷◌, length, map, take, drop, drop-cons, add-one, get_or, Result, Ok, Err, refl, sym, ap, subst, ◌∙◌, append_assoc, length-append, arith}
-use Rattle.std.proofs.lemmas.List.{append-nil, take_all, take-map, map_push}
-use Rattle.std.proofs.Math.Seq.{take-append_seam}
+use Rattle.std.proofs.Common.{◌≡◌, ◌<◌, ◌+◌, ◌++◌, ◌⊎◌, inl, inr, ℕ, Bool, true, is_some, if◌then◌else◌, zero, suc, List, [], ◌∷◌, length, map, take, drop, drop-cons, add-one, get_or, Result, Err, refl, sym, ap, subst, ◌∙◌, append_assoc, length-append}
+use Rattle.std.proofs.lemmas.List.{map_push}
 use Rattle.dv_bson.specs.Tree.{Field}
 use Rattle.dv_fields.specs.declared.refusal.Refusal.{Refusal}
 use Rattle.dv_fields.specs.declared.refusal.Refusal.TheVariants.{WantOfMemory}
 use Rattle.dv_index.specs.Indexed.{IndexedTree, with_documents}
 use Rattle.dv_catalog.specs.declared.counted.Counted.{Counted}
 use Rattle.dv_catalog.specs.declared.stopped.Stopped.{Stopped}
-use Rattle.dv_catalog.specs.Changes.{Change, Effect, Statement, apply, changes_of, with_change, with_changes, with_put}
+use Rattle.dv_catalog.specs.Changes.{Change, Effect, apply, changes_of, with_change, with_changes, with_put}
 use Rattle.dv_coll.specs.Collection.{found, id_key, inserted, replaced}
-use Rattle.dv_catalog.specs.EffectView.{ArePlaced, IsPlaced}
-use Rattle.dv_catalog.specs.Parts.{IsCut, IsRefused, Makes, MakesSo}
-use Rattle.dv_catalog.specs.State.{Namespaces, documents_of}
+use Rattle.dv_catalog.specs.EffectView.{ArePlaced}
+use Rattle.dv_catalog.specs.Parts.{IsCut, IsRefused, MakesSo}
+use Rattle.dv_catalog.specs.State.{Namespaces}
 
 pub take_none : {X : Type 0} (xs : List X) → take 0 xs ≡ []
 take_none [] = refl
@@ -34,10 +33,6 @@ module _ (namespace : List ℕ) (does : Result Effect Refusal) (old new : Namesp
 
   pub stops_before : {B : Type 0} (counted : B → Counted) (refusal : Refusal) (stopped : Stopped) → stopped ≡ record { refusal = refusal; done = 0 } → (does ≡ Err refusal) ⊎ (refusal ≡ WantOfMemory) → MakesSo counted namespace does old (Err stopped) new
   stops_before counted refusal stopped is why = subst (λ (s : Stopped). IsRefused does old s new ⊎ IsCut namespace does old s new) (sym is) (unchanged refusal why)
-
--- what a statement does is what is done
-pub done_so : (namespace : List ℕ) (does others : Result Effect Refusal) (old : Namespaces) (result : Result Counted Stopped) (new : Namespaces) → does ≡ others → MakesSo (λ counted. counted) namespace others old result new → MakesSo (λ counted. counted) namespace does old result new
-done_so namespace does others old result new same makes = subst (λ (d : Result Effect Refusal). MakesSo (λ (counted : Counted). counted) namespace d old result new) (sym same) makes
 
 -- ---- the first so many changes
 
@@ -62,9 +57,6 @@ pub record AreMadeSoFar {X : Type 0} (change : X → Change) (old : IndexedTree)
   pub stands : now ≡ with_documents (with_changes old.documents (map change came)) old
 
 module _ {X : Type 0} (change : X → Change) (old : IndexedTree) (all : List X) where
-  pub made_none : AreMadeSoFar change old all 0 all old
-  made_none = record { came = []; whole = refl; count = refl; stands = refl }
-
   pub made_more : (made : ℕ) (x : X) (left : List X) (now next : IndexedTree) → AreMadeSoFar change old all made (x ∷ left) now → next ≡ with_documents (with_change now.documents (change x)) now → AreMadeSoFar change old all (made + 1) left next
   made_more made x left now next so_far is =
       let after : with_change (with_changes old.documents (map change so_far.came)) (change x) ≡ with_changes old.documents (map change (so_far.came ++ x ∷ [])) =
@@ -75,15 +67,6 @@ module _ {X : Type 0} (change : X → Change) (old : IndexedTree) (all : List X)
         count = length-append so_far.came (x ∷ []) ∙ ap (λ (n : ℕ). n + 1) so_far.count;
         stands = is ∙ ap (λ (c : IndexedTree). with_documents (with_change c.documents (change x)) c) so_far.stands ∙ ap (λ (ds : List (List Field)). with_documents ds old) after;
       }
-
-  pub fewer_made : (made : ℕ) (left : List X) (now : IndexedTree) → AreMadeSoFar change old all made left now → made + length left ≡ length all
-  fewer_made made left now so_far = omega (arith, so_far.count, length-append so_far.came left, ap length so_far.whole)
-
-  pub made_first : (made : ℕ) (left : List X) (now : IndexedTree) → AreMadeSoFar change old all made left now → now ≡ with_documents (with_changes old.documents (take made (map change all))) old
-  made_first made left now so_far =
-      let first : take made all ≡ so_far.came = ap (take made) (sym so_far.whole) ∙ ap (λ (n : ℕ). take n (so_far.came ++ left)) (sym so_far.count) ∙ take-append_seam so_far.came left in
-      let changes : map change so_far.came ≡ take made (map change all) = ap (map change) (sym first) ∙ sym (take-map change made all) in
-      so_far.stands ∙ ap (λ (cs : List Change). with_documents (with_changes old.documents cs) old) changes
 
   -- the next one by its place
   pub made_next : (place : ℕ) (x : X) (now next : IndexedTree) → place < length all → x ≡ get_or all place x → AreMadeSoFar change old all place (drop place all) now → next ≡ with_documents (with_change now.documents (change x)) now

@@ -1,32 +1,20 @@
 -- Documents that are updated.
-use Rattle.std.proofs.Common.{◌≡◌, ◌++◌, ◌⊎◌, ◌+◌, ℕ, Bool, true, false, cond, not, List, [], ◌∷◌, drop, length, map, Option, Some, None, is_some, if◌then◌else◌, Result, Ok, Err, refl, sym, ap, subst, ◌∙◌, inl, inr}
-use Rattle.std.proofs.lemmas.List.{length-map}
-use Rattle.std.specs.Prelude.{codes}
-use Rattle.std.specs.Ordering.{ordering_reverse, is_eq}
-use Rattle.std.specs.declared.cmp.Ordering.{Ordering}
-use Rattle.std.specs.declared.cmp.Ordering.TheVariants.{Less, Equal, Greater}
-use Rattle.dv_bson.specs.Tree.{Tree, Field, fields_of}
+use Rattle.std.proofs.Common.{◌≡◌, ℕ, Bool, true, false, cond, not, List, [], ◌∷◌, length, map, Option, Some, None, is_some, if◌then◌else◌, Result, Ok, refl, sym, ap, subst, ◌∙◌}
+use Rattle.dv_bson.specs.Tree.{Field}
 use Rattle.std.specs.List.{AllByRecursion}
 use Rattle.std.specs.Option.{option_map}
-use Rattle.dv_order.specs.Key.{KeyTree, key_order}
-use Rattle.dv_order.specs.KeyLaws.{key_order_total}
+use Rattle.dv_order.specs.Key.{KeyTree}
 use Rattle.dv_coll.specs.Collection.{HasId, found, has_key, id_key, inserted, replaced}
-use Rattle.dv_match.specs.Filter.{Members}
-use Rattle.dv_match.specs.Match.{matches}
-use Rattle.dv_update.specs.Apply.{applied}
-use Rattle.dv_update.specs.Same.{same_fields}
-use Rattle.dv_update.specs.declared.fault.UpdateFault.{UpdateFault}
 use Rattle.dv_catalog.specs.EffectView.{ArePlaced}
 use Rattle.dv_catalog.proofs.Keys.{AreThere, all_there}
 use Rattle.dv_update.specs.Update as form
 use Rattle.dv_command.specs.Entries.{Updating}
-use Rattle.dv_fields.specs.Refusals.{◌>>=◌, refused_by, update_refusal}
+use Rattle.dv_fields.specs.Refusals.{◌>>=◌}
 use Rattle.dv_fields.specs.declared.refusal.Refusal.{Refusal}
-use Rattle.dv_fields.specs.declared.refusal.Refusal.TheVariants.{WantOfMemory}
-use Rattle.dv_catalog.specs.Changes.{Change, put, Effect, with_changes}
+use Rattle.dv_catalog.specs.Changes.{Change, put, Effect}
 use Rattle.dv_catalog.specs.Effects.{all_or_first}
 use Rattle.dv_catalog.specs.Scan.{matching}
-use Rattle.dv_catalog.specs.Effects.{after, changed_by, update_chosen}
+use Rattle.dv_catalog.specs.Effects.{changed_by, update_chosen}
 use Rattle.dv_catalog.specs.EffectLaws.{KeepsId, IsGoodAfter, chosen_good, matching_good, all_changed_good, after_id}
 
 none_chosen : (first : Bool) → all_or_first first [] ≡ []
@@ -36,22 +24,11 @@ none_chosen true = refl
 updates_of : form.Update → List (List Field) → Result Effect Refusal
 updates_of update ds = changed_by update ds >>= λ changed. Ok (record { matched = length ds; changes = map put changed })
 
--- no document is updated where there is none
-pub update_none : (updating : Updating) → update_chosen updating [] ≡ Ok (record { matched = 0; changes = [] })
-unfolding updates_of
-update_none updating = ap (updates_of updating.update) (none_chosen (not updating.multi))
-
 module _ (updating : Updating) (old ds : List (List Field)) (finds : ds ≡ all_or_first (not updating.multi) (matching updating.filter old)) where
   pub updates : (changed : List (List Field)) (count : ℕ) → changed_by updating.update ds ≡ Ok changed → count ≡ length ds → update_chosen updating old ≡ Ok (record { matched = count; changes = map put changed })
   unfolding updates_of
   updates changed count does many =
       ap (updates_of updating.update) (sym finds) ∙ ap (λ (r : Result (List (List Field)) Refusal). r >>= λ es. Ok (record { matched = length ds; changes = map put es })) does ∙ (λ i. Ok (record { matched = sym many i; changes = map put changed }))
-
-  pub update_refused : (refusal : Refusal) → (changed_by updating.update ds ≡ Err refusal) ⊎ (refusal ≡ WantOfMemory) → (update_chosen updating old ≡ Err refusal) ⊎ (refusal ≡ WantOfMemory)
-  unfolding updates_of
-  update_refused refusal (inl refused) =
-      inl (ap (updates_of updating.update) (sym finds) ∙ ap (λ (r : Result (List (List Field)) Refusal). r >>= λ es. Ok (record { matched = length ds; changes = map put es })) refused)
-  update_refused refusal (inr want) = inr want
 
 -- ---- what is put is there
 

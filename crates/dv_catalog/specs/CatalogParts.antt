@@ -1,6 +1,5 @@
 -- What holds of collections and views together.
 use Rattle.std.specs.Prelude.{◌≡◌, true, false, Bool, ℕ, List, map, Option, Some, None}
-use Rattle.std.specs.Option.{option_map}
 use Rattle.dv_bson.specs.Tree.{Field}
 use Rattle.dv_fields.specs.declared.refusal.Refusal.{Refusal}
 use Rattle.dv_fields.specs.declared.refusal.Refusal.TheVariants.{NamespaceExists, OnView, ReadByView, LimitReached, WantOfMemory}

@@ -10,6 +10,7 @@ pub mod View
 pub mod ScanParts
 pub mod Parts
 pub mod IndexParts
+pub mod ComingParts
 pub mod EffectView
 pub mod RowsView
 pub mod SearchedView

@@ -7,9 +7,11 @@ ghost use Rattle.dv_index.specs.Choice.{same_path as is_same_path};
 ghost use Rattle.dv_index.specs.Index.{form_of, id_form};
 ghost use Rattle.dv_index.specs.View.{form_of_new};
 ghost use Rattle.dv_catalog.specs.IndexMaking as making;
+ghost use Rattle.dv_catalog.specs.ComingParts.{joined};
 ghost use Rattle.dv_catalog.specs.IndexParts.{collection_so};
 ghost use Rattle.dv_catalog.specs.Parts.{Leaves};
 
+use crate::coming::{Coming, text_of};
 use dv_command::Refusal;
 use dv_index::{Index, IndexedCollection, NewIndex, same_path};
 use dv_path::Path;
@@ -50,7 +52,8 @@ pub(crate) fn create_each(
 }
 
 /// The entries whose indexes aren't there, where an index of an earlier entry counts as there. Refused with
-/// `ConflictingUpdateOperators` at the first whose name or path is there alone, and with `WantOfMemory`.
+/// `ConflictingUpdateOperators` at the first whose name or path is there alone, and with `WantOfMemory`. Takes time as the
+/// entries want to be put in order.
 fn fresh_among(
     alloc: Global,
     there: &[Index],
@@ -58,22 +61,23 @@ fn fresh_among(
 ) -> Result<Vec<NewIndex>, Refusal>
     ensures { UnlessWanting (λ fresh. map form_of there.now ++ map form_of_new fresh.items) (making.with_entries (map form_of_new entries.items) (map form_of there.now)) result }
 {
-    let mut fresh = Vec::new(alloc);
+    let mut coming = Coming::new(alloc);
     'entries: for entry in entries {
-        if is_made(&entry, there, &fresh) {
+        if is_made(&entry, there, &coming) {
             continue;
         }
-        if is_half_made(&entry, there, &fresh) {
+        let path = text_of(alloc, &entry.path)?;
+        if is_half_made(&entry, &path, there, &coming) {
             return Err(Refusal::ConflictingUpdateOperators);
         }
-        fresh.push(entry)?;
+        coming.add(entry, path)?;
     }
-    Ok(fresh)
+    Ok(coming.into_inner())
 }
 
 /// Whether nothing is to be made for an entry: it is on `_id`, or its index is there, or comes.
-fn is_made(entry: &NewIndex, there: &[Index], fresh: &[NewIndex]) -> bool
-    ensures { result ≡ making.is_made (form_of_new entry.now) (map form_of there.now ++ map form_of_new fresh.now) }
+fn is_made(entry: &NewIndex, there: &[Index], coming: &Coming) -> bool
+    ensures { result ≡ making.is_made (form_of_new entry.now) (map form_of there.now ++ coming.now) }
 {
     if is_id(&entry.path) {
         return true;
@@ -81,7 +85,7 @@ fn is_made(entry: &NewIndex, there: &[Index], fresh: &[NewIndex]) -> bool
     if is_there(entry, there) {
         return true;
     }
-    comes(entry, fresh)
+    coming.has(entry)
 }
 
 /// Whether the index of an entry is there.
@@ -93,23 +97,15 @@ fn is_there(entry: &NewIndex, there: &[Index]) -> bool
         .any(|index| is_same(entry, index.name(), index.path()))
 }
 
-/// Whether the index of an entry comes.
-fn comes(entry: &NewIndex, fresh: &[NewIndex]) -> bool
-    ensures { result ≡ list_any (λ x. making.is_same (form_of_new entry.now) (form_of_new x)) fresh.now }
-{
-    fresh
-        .iter()
-        .any(|index| is_same(entry, index.name.as_str(), &index.path))
-}
-
 /// Whether the name or the path of an entry is there, or comes.
-fn is_half_made(entry: &NewIndex, there: &[Index], fresh: &[NewIndex]) -> bool
-    ensures { result ≡ list_any (making.is_alike (form_of_new entry.now)) (map form_of there.now ++ map form_of_new fresh.now) }
+fn is_half_made(entry: &NewIndex, path: &str, there: &[Index], coming: &Coming) -> bool
+    requires { path.now ≡ joined (form_of_new entry.now).path }
+    ensures { result ≡ list_any (making.is_alike (form_of_new entry.now)) (map form_of there.now ++ coming.now) }
 {
     if is_half_there(entry, there) {
         return true;
     }
-    half_comes(entry, fresh)
+    coming.has_half(entry, path)
 }
 
 /// Whether the name or the path of an entry is there.
@@ -121,24 +117,15 @@ fn is_half_there(entry: &NewIndex, there: &[Index]) -> bool
         .any(|index| is_alike(entry, index.name(), index.path()))
 }
 
-/// Whether the name or the path of an entry comes.
-fn half_comes(entry: &NewIndex, fresh: &[NewIndex]) -> bool
-    ensures { result ≡ list_any (λ x. making.is_alike (form_of_new entry.now) (form_of_new x)) fresh.now }
-{
-    fresh
-        .iter()
-        .any(|index| is_alike(entry, index.name.as_str(), &index.path))
-}
-
 /// Whether an entry has this name and this path.
-fn is_same(entry: &NewIndex, name: &str, path: &Path) -> bool
+pub(crate) fn is_same(entry: &NewIndex, name: &str, path: &Path) -> bool
     ensures { result ≡ making.is_same (form_of_new entry.now) (record { name = name.now; path = path.now }) }
 {
     entry.name.as_str() == name && same_path(entry.path.components(), path.components())
 }
 
 /// Whether an entry has this name or this path.
-fn is_alike(entry: &NewIndex, name: &str, path: &Path) -> bool
+pub(crate) fn is_alike(entry: &NewIndex, name: &str, path: &Path) -> bool
     ensures { result ≡ making.is_alike (form_of_new entry.now) (record { name = name.now; path = path.now }) }
 {
     entry.name.as_str() == name || same_path(entry.path.components(), path.components())

@@ -4,6 +4,7 @@
 mod catalog;
 mod chosen;
 mod collections;
+mod coming;
 mod counted;
 mod delete;
 mod effect;

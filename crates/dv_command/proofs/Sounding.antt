@@ -126,6 +126,10 @@ integer_valid (int32 m) n valid is = let same : m ≡ n = cc in subst (λ (k : �
 integer_valid (int64 m) n valid is = let same : m ≡ n = cc in subst (λ (k : ℤ). IsValue (int64 k)) same valid
 integer_valid v n valid is = absurd cc
 
+id_valid : (under : Option Tree) (n : ℤ) → ((v : Tree) → under ≡ Some v → IsValue v) → required integer_in under ≡ Ok n → IsValue (int64 n)
+id_valid None n valid is = absurd cc
+id_valid (Some v) n valid is = integer_valid v n (valid v refl) is
+
 integers_valid : (vs : List Tree) (ns : List ℤ) → AreElements (elements_of vs) → each integer_in vs ≡ Ok ns → AreIds ns
 integers_valid [] ns valid is = subst AreIds (ends [] ns is) tt
 integers_valid (v ∷ vs) ns valid is =
@@ -344,8 +348,10 @@ module _ (body : List Field) (lists : Lists) (valid : AreFields (fields_of body)
       let batch_size = succeeds (natural_under (codes "batchSize") 0 body) _ a collection.rest_is in
       let from = succeeds (namespace db.given collection.given) _ a batch_size.rest_is in
       let asked : Asked = get_more (record { id = id.given; namespace = from.given; batch_size = batch_size.given }) in
-      subst IsSoundlyAsked {x = asked} (ends asked a from.rest_is)
-      (name_valid (codes "collection") db.given collection.given from.given (checked_valid get_more_table db.given db.first_is) collection.first_is from.first_is)
+      subst IsSoundlyAsked {x = asked} (ends asked a from.rest_is) (
+        name_valid (codes "collection") db.given collection.given from.given (checked_valid get_more_table db.given db.first_is) collection.first_is from.first_is,
+        id_valid (value_under (codes "getMore") body) id.given (valid_under (codes "getMore")) id.first_is,
+      )
 
   kill_cursors_sound : (a : Asked) → kill_cursors_of body lists ≡ Ok a → IsSoundlyAsked a
   kill_cursors_sound a is =

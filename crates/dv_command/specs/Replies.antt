@@ -10,9 +10,13 @@ use Rattle.dv_fields.specs.Refusals.{code, code_name, message_of}
 abbrev pub document_of : List Field → Tree
 document_of d = document (fields_of d)
 
--- a number as int32 where it fits, else as int64; one beyond the greatest int64 is told as that
+-- a number as int64; one beyond the greatest is told as that
+abbrev pub long_count : ℕ → Tree
+long_count n = int64 (pos (min n (2 ^ 63 - 1)))
+
+-- a number as int32 where it fits, else as int64
 abbrev pub count : ℕ → Tree
-count n = if nat_lt n (2 ^ 31) then int32 (pos n) else int64 (pos (min n (2 ^ 63 - 1)))
+count n = if nat_lt n (2 ^ 31) then int32 (pos n) else long_count n
 
 -- the reply to a command that was carried out: these fields, and that it was
 abbrev pub reply_of : List Field → List Field
@@ -87,4 +91,4 @@ index_field (Some name) = (codes "index", string name) ∷ []
 
 -- the reply to an explain: by which way the documents are found, by which index, and how many it covers
 abbrev pub explain_reply : List ℕ → Option (List ℕ) → ℕ → List Field
-explain_reply stage index documents = reply_of (((codes "stage", string stage) ∷ index_field index) ++ (codes "docs", int64 (pos documents)) ∷ [])
+explain_reply stage index documents = reply_of (((codes "stage", string stage) ∷ index_field index) ++ (codes "docs", long_count documents) ∷ [])

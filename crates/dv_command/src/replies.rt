@@ -220,7 +220,6 @@ pub fn explain_reply(
     index: Option<&str>,
     documents: usize,
 ) -> Result<Document, NoMemory>
-    requires { documents < 2 ^ 63 }
     ensures { IfOk result (λ reply. reply ≡ replies.explain_reply stage.now (option_map (λ name. name.now) index.entry) documents) }
 {
     let mut fields = Document::new(alloc);
@@ -228,7 +227,7 @@ pub fn explain_reply(
     if let Some(name) = index {
         add(&mut fields, "index", text_value(alloc, name)?)?;
     }
-    add(&mut fields, "docs", Value::Int64(documents as i64))?;
+    add(&mut fields, "docs", long_count(documents as u128))?;
     reply_of(fields)
 }
 
@@ -239,14 +238,21 @@ fn text_value(alloc: Global, text: &str) -> Result<Value, NoMemory>
     Ok(Value::Text(Str::of(String::from_str(alloc, text)?)))
 }
 
-/// A number as int32 where it fits, else as int64; one beyond the greatest int64 is told as that.
+/// A number as int32 where it fits, else as int64.
 fn count(number: u128) -> Value
     ensures { tree result ≡ replies.count number }
 {
     match i32::try_from(number) {
         Ok(number) => Value::Int32(number),
-        Err(_) => Value::Int64(number.min(i64::MAX as u128) as i64),
+        Err(_) => long_count(number),
     }
+}
+
+/// A number as int64; one beyond the greatest int64 is told as that.
+fn long_count(number: u128) -> Value
+    ensures { tree result ≡ replies.long_count number }
+{
+    Value::Int64(number.min(i64::MAX as u128) as i64)
 }
 
 /// Adds a field whose name is known to be new and without a zero byte. Fails where memory is wanting.

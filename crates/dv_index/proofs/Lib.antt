@@ -11,3 +11,4 @@ pub mod Built
 pub mod Places
 pub mod Sound
 pub mod Changed
+pub mod Copied

@@ -1,6 +1,6 @@
 //! The documents that stand under one key.
 
-ghost use Rattle.std.specs.Prelude.{◌≡◌, ◌||◌, ◌&&◌, ◌↔◌, not, [], ◌∷◌, IsTrue, OnErr, OnOk};
+ghost use Rattle.std.specs.Prelude.{◌≡◌, ◌||◌, ◌&&◌, ◌↔◌, not, [], ◌∷◌, IsTrue, IfOk, OnErr, OnOk};
 ghost use Rattle.std.specs.BTreeSet.{contains};
 ghost use Rattle.std.specs.Ordering.{is_eq};
 ghost use Rattle.dv_order.specs.Key.{KeyTree, key_order};
@@ -75,6 +75,16 @@ impl Ids {
         let _ = self.others.remove(id);
     }
 
+    /// A copy of its own. Fails where memory is wanting.
+    pub(crate) fn try_clone(&self, alloc: Global) -> Result<Self, NoMemory>
+        ensures { IfOk result (λ copy. copy ≡ self.now) }
+    {
+        Ok(Ids {
+            first: copy_of_first(&self.first)?,
+            others: copy_of_set(alloc, &self.others)?,
+        })
+    }
+
     /// Adds all of them to a set. Where memory is wanting, some of them are added.
     pub(crate) fn add_to(&self, found: &mut BTreeSet<Key>) -> Result<(), NoMemory>
         ensures { OnOk result ((i : KeyTree) → contains key_order found.new i ≡ (contains key_order found.old i || has_key i self.now)) }
@@ -91,6 +101,27 @@ fn is_first(first: &Option<Key>, id: &Key) -> bool
         Some(first) => id == first,
         None => false,
     }
+}
+
+/// A copy of the first one, where it is there. Fails where memory is wanting.
+fn copy_of_first(first: &Option<Key>) -> Result<Option<Key>, NoMemory>
+    ensures { IfOk result (λ copy. copy ≡ first.now) }
+{
+    match first {
+        Some(first) => Ok(Some(first.try_clone()?)),
+        None => Ok(None),
+    }
+}
+
+/// A copy of the set. Fails where memory is wanting.
+fn copy_of_set(alloc: Global, ids: &BTreeSet<Key>) -> Result<BTreeSet<Key>, NoMemory>
+    ensures { IfOk result (λ copy. copy.keys ≡ ids.now.keys) }
+{
+    let mut copy = BTreeSet::new(alloc);
+    'ids: for id in ids {
+        let _ = copy.insert(id.try_clone()?)?;
+    }
+    Ok(copy)
 }
 
 /// Takes the first one away where it is equal to this one.

@@ -1,6 +1,8 @@
 //! Indexes, by which the documents are found that have a key.
 
 ghost use Rattle.std.specs.Prelude.{◌≡◌, ◌||◌, ◌&&◌, true, false, not, [], map, filter, OnErr, OnOk, IfOk};
+ghost use Rattle.std.specs.List.Sorted.{IsStrictlySortedBy};
+ghost use Rattle.std.specs.Map.{keys_of};
 ghost use Rattle.std.specs.Ordering.{is_eq};
 ghost use Rattle.std.specs.BTreeMap.Range.{IsLeBy, IsLtBy, range_contains};
 ghost use Rattle.std.specs.BTreeSet.{contains};
@@ -85,6 +87,16 @@ impl MultiIndex {
         for key in keys.as_set().iter() {
             self.take_out_pair(key, id);
         }
+    }
+
+    /// A copy of its own. Fails where memory is wanting.
+    pub fn try_clone(&self) -> Result<Self, NoMemory>
+        ensures { IfOk result (λ copy. copy ≡ self.now) }
+    {
+        Ok(MultiIndex {
+            alloc: self.alloc,
+            entries: copy_of(self.alloc, &self.entries)?,
+        })
     }
 
     /// Adds to a set the `_id`s' keys that stand under a key. Where memory is wanting, some of them are added.
@@ -185,4 +197,16 @@ impl MultiIndex {
             drop(self.entries.remove(key));
         }
     }
+}
+
+/// A copy of the entries. Fails where memory is wanting.
+fn copy_of(alloc: Global, entries: &BTreeMap<Key, Ids>) -> Result<BTreeMap<Key, Ids>, NoMemory>
+    ensures same { IfOk result (λ copy. copy.entries ≡ entries.now.entries) }
+    ensures sorted { IfOk result (λ copy. IsStrictlySortedBy key_order (keys_of copy.entries)) }
+{
+    let mut copy = BTreeMap::new(alloc);
+    'entries: for (key, ids) in entries {
+        drop(copy.insert(key.try_clone()?, ids.try_clone(alloc)?)?);
+    }
+    Ok(copy)
 }

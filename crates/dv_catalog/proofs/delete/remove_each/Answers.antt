@@ -1,4 +1,3 @@
-use Rattle.std.proofs.Common.{arith}
 use Rattle.dv_catalog.specs.Changes.{gone}
 use Rattle.dv_catalog.proofs.Stopping.{made_next}
 use Rattle.dv_catalog.proofs.delete.remove_each.Goals as goal

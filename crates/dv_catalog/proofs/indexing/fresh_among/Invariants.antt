@@ -8,4 +8,4 @@ use Rattle.dv_catalog.proofs.indexing.fresh_among.Given as goal
 -- what the entries that are left make of those that are there and those that come
 abbrev pub invariant-entries : goal.invariant-entries
 invariant-entries l =
-    with_entries (map form_of_new (into_iter_items l.entry-iterator)) (map form_of l.there ++ map form_of_new l.fresh.items) ≡ with_entries (map form_of_new l.fn.entries.items) (map form_of l.there)
+    with_entries (map form_of_new (into_iter_items l.entry-iterator)) (map form_of l.there ++ l.coming) ≡ with_entries (map form_of_new l.fn.entries.items) (map form_of l.there)

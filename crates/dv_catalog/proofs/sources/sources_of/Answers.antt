@@ -1,6 +1,6 @@
-use Rattle.std.proofs.Common.{◌≡◌, List, ◌∷◌, drop, ◌+◌, sym, subst, ◌∙◌}
+use Rattle.std.proofs.Common.{◌≡◌, List, ◌∷◌, drop, ◌+◌, subst, ◌∙◌}
 use Rattle.std.specs.String.{string_bytes}
-use Rattle.dv_pipe.specs.Sources.{Source, referred}
+use Rattle.dv_pipe.specs.Sources.{referred}
 use Rattle.dv_pipe.specs.declared.stage.Stage.{Stage}
 use Rattle.dv_catalog.specs.State.{documents_of}
 use Rattle.dv_catalog.proofs.Sourced.{AreListed, listed_more, listed_same}

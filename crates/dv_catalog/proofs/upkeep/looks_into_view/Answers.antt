@@ -1,7 +1,6 @@
-use Rattle.std.proofs.Common.{◌≡◌, Bool, true, false, List, ◌∷◌, drop, map, ◌+◌, sym, ap, subst, ◌∙◌}
+use Rattle.std.proofs.Common.{◌≡◌, Bool, List, ◌∷◌, drop, map, ◌+◌, sym, subst, ◌∙◌}
 use Rattle.dv_pipe.specs.declared.stage.Stage.{Stage}
 use Rattle.dv_catalog.specs.CatalogParts.{form_of}
-use Rattle.dv_catalog.specs.State.{is_view}
 use Rattle.dv_catalog.specs.Views.{looks_into_view}
 use Rattle.dv_catalog.proofs.Keeping.{view_forms}
 use Rattle.dv_catalog.proofs.Sourced.{looks_here, looks_on, looks_past}

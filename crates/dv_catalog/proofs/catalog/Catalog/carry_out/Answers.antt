@@ -1,8 +1,7 @@
-use Rattle.std.proofs.Common.{◌≡◌, ◌≤◌, inl, inr, List, Ok, length, take, refl, sym, ap, ◌∙◌, arith}
+use Rattle.std.proofs.Common.{◌≡◌, inr, List, take, refl, sym, ap, ◌∙◌, arith}
 use Rattle.std.proofs.lemmas.List.{take_all}
 use Rattle.dv_catalog.specs.Changes.{Change, apply}
-use Rattle.dv_catalog.specs.EffectView.{changes_seen, effect_seen}
-use Rattle.dv_catalog.proofs.Stopping.{stops_before}
+use Rattle.dv_catalog.specs.EffectView.{changes_seen}
 use Rattle.dv_catalog.proofs.catalog.Catalog.carry_out.Goals as goal
 
 pub returns-then-done-changed-clause-made : goal.returns-then-done-changed-clause-made

@@ -1,4 +1,4 @@
-use Rattle.std.proofs.Common.{◌≡◌, sym, ◌∙◌}
+use Rattle.std.proofs.Common.{◌∙◌}
 use Rattle.std.specs.String.{string_bytes}
 use Rattle.dv_catalog.proofs.Kept.{rows_fresh}
 use Rattle.dv_catalog.proofs.catalog.Catalog.find.Goals as goal

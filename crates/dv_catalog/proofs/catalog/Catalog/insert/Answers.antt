@@ -1,4 +1,4 @@
-use Rattle.std.proofs.Common.{◌≡◌, List, [], ◌∷◌, map, inl, inr, sym, ap, ◌∙◌}
+use Rattle.std.proofs.Common.{◌≡◌, List, [], ◌∷◌, inl, inr, sym, ap, ◌∙◌}
 use Rattle.dv_catalog.specs.Changes.{Change, put, apply}
 use Rattle.dv_catalog.specs.State.{Namespaces, documents_of}
 use Rattle.dv_catalog.proofs.Keeping.{AreTold, collections_after, documents_after, kept_after, new_put, same_forms}

@@ -1,10 +1,8 @@
-use Rattle.std.proofs.Common.{◌≡◌, Bool, true, false, Err, is_some, inl, length, if◌then◌else◌, refl, sym, ap, ◌∙◌}
+use Rattle.std.proofs.Common.{◌≡◌, Bool, true, false, is_some, inl, length, refl, sym, ap, ◌∙◌}
 use Rattle.std.proofs.lemmas.Result.{IfOk-weaker}
 use Rattle.std.specs.Option.{option_map}
-use Rattle.dv_fields.specs.declared.refusal.Refusal.TheVariants.{NamespaceNotFound}
 use Rattle.dv_catalog.specs.IndexMaking.{without_named}
-use Rattle.dv_catalog.specs.IndexParts.{namespaces_so}
-use Rattle.dv_catalog.specs.State.{Collection, indexes_of, is_collection}
+use Rattle.dv_catalog.specs.State.{Collection, is_collection}
 use Rattle.dv_catalog.specs.View.{standing_by_namespace, standing_seen}
 use Rattle.dv_catalog.proofs.ByNamespace.{collection-there, get-standing, none-there, same-written, standing-written}
 use Rattle.dv_catalog.proofs.MadeIndexes.{drops_by, dropped_there, leaves_there}

@@ -1,4 +1,4 @@
-use Rattle.std.proofs.Common.{sym, ap, ◌∙◌}
+use Rattle.std.proofs.Common.{◌∙◌}
 use Rattle.std.proofs.lemmas.Result.{err_from_is_err_and}
 use Rattle.dv_catalog.specs.View.{standing_by_namespace}
 use Rattle.dv_catalog.proofs.ByNamespace.{collection-there, none-there, standing-written, same-written, makes_new, not_made}

@@ -1,6 +1,5 @@
-use Rattle.std.proofs.Common.{ap, sym, ◌∙◌}
+use Rattle.std.proofs.Common.{◌∙◌}
 use Rattle.std.specs.String.{string_bytes}
-use Rattle.dv_catalog.specs.State.{Standing, collection_at}
 use Rattle.dv_catalog.proofs.ByNamespace.{standing-insert, with_empty}
 use Rattle.dv_catalog.proofs.collections.Collections.make_empty.Goals as goal
 

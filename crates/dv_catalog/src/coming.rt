@@ -1,0 +1,138 @@
+//! Indexes that are still to be made.
+
+ghost use Rattle.std.specs.Prelude.{◌≡◌, ◌∷◌, ◌++◌, [], true, map, IfOk, OnOk};
+ghost use Rattle.std.specs.List.{list_any};
+ghost use Rattle.std.specs.String.{string_bytes};
+ghost use Rattle.dv_index.specs.View.{form_of_new};
+ghost use Rattle.dv_catalog.specs.ComingParts.{joined};
+ghost use Rattle.dv_catalog.specs.IndexMaking as making;
+
+use crate::indexing::{is_alike, is_same};
+use dv_bson::NoMemory;
+use dv_index::NewIndex;
+use dv_path::Path;
+use std::alloc::Global;
+use std::collections::{BTreeMap, BTreeSet};
+use std::marker::Model;
+
+/// Indexes in the order in which they are to be made. One is found by its name, and by the text of its path, in time
+/// logarithmic in their number; only where one has the name or the path of another are all of them looked at.
+#[derive(Debug, Drop)]
+pub(crate) struct Coming {
+    alloc: Global,
+    indexes: Vec<NewIndex>,
+    names: BTreeMap<String, usize>,
+    paths: BTreeSet<String>,
+}
+
+impl Model for Coming {
+    ghost use Rattle.std.specs.Prelude.{List, map};
+    ghost use Rattle.std.specs.Coded.{coded_list};
+    ghost use Rattle.dv_index.specs.Index.{IndexForm, coded_form};
+    ghost use Rattle.dv_index.specs.View.{form_of_new};
+    ghost use Rattle.dv_catalog.specs.ComingParts.{AreFound};
+
+    ghost Value = { List IndexForm };
+
+    ghost coded = { coded_list coded_form };
+
+    ghost view = { λ c. map form_of_new c.indexes.items };
+
+    ghost invariant = { λ c. AreFound c.names c.paths (map form_of_new c.indexes.items) };
+}
+
+impl Coming {
+    /// None.
+    pub(crate) fn new(alloc: Global) -> Self
+        ensures { result ≡ [] }
+    {
+        Coming {
+            alloc,
+            indexes: Vec::new(alloc),
+            names: BTreeMap::new(alloc),
+            paths: BTreeSet::new(alloc),
+        }
+    }
+
+    /// Whether an index comes that has the name and the path of this one.
+    pub(crate) fn has(&self, index: &NewIndex) -> bool
+        ensures { result ≡ list_any (making.is_same (form_of_new index.now)) self.now }
+    {
+        match self.names.get(index.name.as_str()) {
+            None => false,
+            // Where the one of its name has another path, this one is refused, and no other one is looked up.
+            Some(place) => is_at(index, &self.indexes, *place) || is_among(index, &self.indexes),
+        }
+    }
+
+    /// Whether an index comes that has the name or the path of this one.
+    pub(crate) fn has_half(&self, index: &NewIndex, path: &str) -> bool
+        requires { path.now ≡ joined (form_of_new index.now).path }
+        ensures { result ≡ list_any (making.is_alike (form_of_new index.now)) self.now }
+    {
+        if !self.names.contains_key(index.name.as_str()) && !self.paths.contains(path) {
+            return false;
+        }
+        is_half_among(index, &self.indexes)
+    }
+
+    /// One more. Fails where memory is wanting.
+    pub(crate) fn add(&mut self, index: NewIndex, path: String) -> Result<(), NoMemory>
+        requires { string_bytes path ≡ joined (form_of_new index).path }
+        ensures { OnOk result (self.new ≡ self.old ++ form_of_new index ∷ []) }
+    {
+        let name = String::from_str(self.alloc, index.name.as_str())?;
+        let _ = self.names.insert(name, self.indexes.len())?;
+        let _ = self.paths.insert(path)?;
+        self.indexes.push(index)?;
+        Ok(())
+    }
+
+    /// The indexes in order. Takes no memory.
+    pub(crate) fn into_inner(self) -> Vec<NewIndex>
+        ensures { map form_of_new result.items ≡ self }
+    {
+        let Coming { indexes, .. } = self;
+        indexes
+    }
+}
+
+/// Whether the index at a place is there, and has the name and the path of this one.
+fn is_at(index: &NewIndex, others: &[NewIndex], place: usize) -> bool
+    ensures { result ≡ true → list_any (λ x. making.is_same (form_of_new index.now) (form_of_new x)) others.now ≡ true }
+{
+    match others.get(place) {
+        Some(there) => is_same(index, there.name.as_str(), &there.path),
+        None => false,
+    }
+}
+
+/// Whether one of the indexes has the name and the path of this one.
+fn is_among(index: &NewIndex, others: &[NewIndex]) -> bool
+    ensures { result ≡ list_any (λ x. making.is_same (form_of_new index.now) (form_of_new x)) others.now }
+{
+    others
+        .iter()
+        .any(|there| is_same(index, there.name.as_str(), &there.path))
+}
+
+/// Whether one of the indexes has the name or the path of this one.
+fn is_half_among(index: &NewIndex, others: &[NewIndex]) -> bool
+    ensures { result ≡ list_any (λ x. making.is_alike (form_of_new index.now) (form_of_new x)) others.now }
+{
+    others
+        .iter()
+        .any(|there| is_alike(index, there.name.as_str(), &there.path))
+}
+
+/// The components of a path, each behind a dot. Fails where memory is wanting.
+pub(crate) fn text_of(alloc: Global, path: &Path) -> Result<String, NoMemory>
+    ensures { IfOk result (λ text. string_bytes text ≡ joined path.now) }
+{
+    let mut text = String::new(alloc);
+    'components: for component in path.components() {
+        text.push('.')?;
+        text.push_str(component.as_str())?;
+    }
+    Ok(text)
+}
