@@ -14,7 +14,7 @@ use Rattle.dv_core.specs.Sound.{IsSoundCommand, IsSoundDocument}
 abbrev pub AsksSoundly : Type 0
 AsksSoundly = (body : List Field) (lists : Lists) (asked : Asked) → AreFields (fields_of body) → AreValidLists lists → asked_under (command_name body) body lists ≡ Ok asked → IsSoundlyAsked asked
 
-documents_valid : (ds : List (List Field)) → AllByRecursion IsSoundDocument ds → AreValid ds
+pub documents_valid : (ds : List (List Field)) → AllByRecursion IsSoundDocument ds → AreValid ds
 documents_valid [] sound = tt
 documents_valid (d ∷ ds) sound = (sound.0.valid, documents_valid ds sound.1)
 

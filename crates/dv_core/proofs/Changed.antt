@@ -27,7 +27,7 @@ use Rattle.dv_core.specs.State.{State}
 use Rattle.dv_catalog.specs.Views.{aggregated, created, dropped}
 use Rattle.dv_catalog.specs.Changes.{Statement}
 use Rattle.dv_core.specs.Statements.{Write, Written, nothing_written, carry_out, with_all, with_next, with_result, is_due, IsCut}
-use Rattle.dv_core.specs.Step.{Answer, answered, read_answer, write_answer, on_catalog, on_cursors, answer_to, step, write_of, makes, moves, WriteCut, Cut, Wants, MemoryStep}
+use Rattle.dv_core.specs.Step.{Answer, answered, write_answer, on_catalog, on_cursors, answer_to, step, write_of, makes, moves, WriteCut, Cut, Wants, MemoryStep}
 
 -- what a write did, be it cut
 abbrev pub Did : Write → State → Written → Type 0
@@ -68,10 +68,6 @@ pub record Makes (old : State) (asked : Result Asked Refusal) (answer : Answer) 
 
 abbrev pub MayWrite : State → Result Asked Refusal → Answer → Type 0
 MayWrite old asked answer = (answer.state ≡ old) ⊎ (Writes old asked answer ⊎ Makes old asked answer)
-
-read_leaves : (old : State) (result : Result (List Field) Refusal) → (answered old (read_answer old result)).state ≡ old
-read_leaves old (Ok reply) = refl
-read_leaves old (Err refusal) = refl
 
 carried_may : (old : State) (what : Asked) (write : Write) → write_of what ≡ Some write → (b : Bool) → MayWrite old (Ok what) (answered old (if b then Err OnView else Ok (write_answer old write (carry_out write old.catalog.namespaces))))
 carried_may old what write is true = inl refl

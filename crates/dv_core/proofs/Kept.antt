@@ -60,7 +60,7 @@ module _ (P : List ℕ → List (List Field) → Type 0) (IsGood : Change → Ty
       subst (λ (there : Option Standing). P other (collection_at there).documents) (sym (get-insert namespaces namespace (collection (record (collection_of namespace namespaces) { documents = documents })) other))
       (put_holds other (bytes_eq namespace other) (finite.get namespaces other) (record (collection_of namespace namespaces) { documents = documents }) (h other) (λ same. subst (λ (name : List ℕ). P name documents) ((bytes_eq-Decides namespace other).0 same) i))
 
-  apply_holds : (namespace : List ℕ) (changes : List Change) (namespaces : Namespaces) → Holds namespaces → AllByRecursion IsGood changes → Holds (apply namespace changes namespaces)
+  pub apply_holds : (namespace : List ℕ) (changes : List Change) (namespaces : Namespaces) → Holds namespaces → AllByRecursion IsGood changes → Holds (apply namespace changes namespaces)
   apply_holds namespace [] namespaces h good = h
   apply_holds namespace (change ∷ changes) namespaces h good =
       with_holds namespace (with_changes (documents_of namespace namespaces) (change ∷ changes)) namespaces h (changes_hold namespace (documents_of namespace namespaces) (change ∷ changes) (h namespace) good)

@@ -14,9 +14,12 @@ mod Valid
 mod Asking
 mod Ordered
 mod Parts
+mod Viewed
 mod Spelled
 mod Worked
 mod WorkedFinds
 mod WorkedViews
-mod Firsts
 mod Mores
+mod Parted
+mod Alone
+mod WorkedLoads

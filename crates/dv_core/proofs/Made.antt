@@ -48,9 +48,9 @@ indexes_put old namespace indexes name =
     by_name false other = refl
 
 -- and views
-record LeavesDocuments (old new : State) : Type 0 where
-  views : new.views ≡ old.views
-  documents : (name : List ℕ) → documents_of name new.namespaces ≡ documents_of name old.namespaces
+pub record LeavesDocuments (old new : State) : Type 0 where
+  pub views : new.views ≡ old.views
+  pub documents : (name : List ℕ) → documents_of name new.namespaces ≡ documents_of name old.namespaces
 
 indexes_so : (old new : State) (namespace : List ℕ) (made : Result (List IndexForm) Refusal) → with_indexes_so namespace made old ≡ Ok new → LeavesDocuments old new
 indexes_so old new namespace (Ok indexes) is =
@@ -58,14 +58,14 @@ indexes_so old new namespace (Ok indexes) is =
     record { views = ap (λ (s : State). s.views) same; documents = λ name. ap (λ (s : State). documents_of name s.namespaces) same ∙ indexes_put old.namespaces namespace indexes name }
 indexes_so old new namespace (Err refusal) is = absurd cc
 
-created_so : (old new : State) (namespace : List ℕ) (entries : List IndexForm) → indexes_created namespace entries old ≡ Ok new → LeavesDocuments old new
+pub created_so : (old new : State) (namespace : List ℕ) (entries : List IndexForm) → indexes_created namespace entries old ≡ Ok new → LeavesDocuments old new
 created_so old new namespace entries is = by_view (is_view namespace old.views) is
   where
     by_view : (b : Bool) → (if b then Err OnView else with_indexes_so namespace (with_all entries (indexes_of namespace old.namespaces)) old) ≡ Ok new → LeavesDocuments old new
     by_view true is = absurd cc
     by_view false is = indexes_so old new namespace (with_all entries (indexes_of namespace old.namespaces)) is
 
-dropped_so : (old new : State) (namespace name : List ℕ) → indexes_dropped namespace name old ≡ Ok new → LeavesDocuments old new
+pub dropped_so : (old new : State) (namespace name : List ℕ) → indexes_dropped namespace name old ≡ Ok new → LeavesDocuments old new
 dropped_so old new namespace name is = by_there (is_view namespace old.views) (is_collection namespace old.namespaces) is
   where
     by_there : (b there : Bool) → (if b then Err OnView else if there then with_indexes_so namespace (without_named name (indexes_of namespace old.namespaces)) old else Err NamespaceNotFound) ≡ Ok new → LeavesDocuments old new

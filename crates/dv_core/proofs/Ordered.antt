@@ -1,5 +1,5 @@
 -- The documents of each namespace stay in the order of their `_id`s, and sound.
-use Rattle.std.proofs.Common.{◌≡◌, ℕ, Bool, true, false, cond, ◌||◌, not, List, [], ◌∷◌, map, Option, Some, None, Result, Ok, Err, is_some, refl, sym, subst}
+use Rattle.std.proofs.Common.{◌≡◌, ℕ, Bool, true, false, cond, ◌||◌, not, List, [], ◌∷◌, map, Option, Some, None, Result, Ok, Err, if◌then◌else◌, is_some, refl, sym, subst}
 use Rattle.std.specs.Prelude.{codes}
 use Rattle.std.specs.Cmp.Lexicographic.{slice_cmp}
 use Rattle.std.specs.FinMap as finite
@@ -17,9 +17,9 @@ use Rattle.dv_command.specs.Entries.{Updating, updating_of}
 use Rattle.dv_command.specs.Sound.{AreValid, IsSoundUpdate}
 use Rattle.dv_command.specs.declared.command.Command.{Command}
 use Rattle.dv_fields.specs.declared.refusal.Refusal.{Refusal}
-use Rattle.dv_fields.specs.declared.refusal.Refusal.TheVariants.{BadValue, TooLarge}
+use Rattle.dv_fields.specs.declared.refusal.Refusal.TheVariants.{BadValue, OnView, TooLarge}
 use Rattle.dv_core.specs.declared.outcome.Outcome.{Outcome}
-use Rattle.dv_catalog.specs.Changes.{Change, put, gone, with_change}
+use Rattle.dv_catalog.specs.Changes.{Change, Effect, put, gone, with_change, changes_of}
 use Rattle.dv_core.specs.Delete.{delete_write}
 use Rattle.dv_update.specs.Apply.{applied}
 use Rattle.dv_update.specs.Parsing.{update_of}
@@ -28,14 +28,15 @@ use Rattle.dv_catalog.specs.Effects.{after}
 use Rattle.dv_core.specs.Update.{update_write}
 use Rattle.dv_core.specs.Insert.{insert_one, insert_write}
 use Rattle.dv_core.specs.Sound.{IsSoundDocument, AreSound, IsSound, IsSoundCommand}
-use Rattle.dv_catalog.specs.State.{documents_of, AreOrdered, IsOrdered}
+use Rattle.dv_core.specs.Load.{insert_alone, left_by, loaded, namespace_in}
+use Rattle.dv_catalog.specs.State.{documents_of, is_view, AreOrdered, IsOrdered}
 use Rattle.dv_core.specs.State.{State, empty_state}
 use Rattle.dv_core.specs.Statements.{Write}
 use Rattle.dv_core.specs.Step.{write_of, MemoryStep}
 use Rattle.dv_core.specs.Storable.{are_fields_dotted, has_dollar, id_in, is_within_limits, storable, with_id_first, without_field}
 use Rattle.dv_core.proofs.Asking.{AsksSoundly, soundly_asked}
 use Rattle.dv_catalog.specs.StateLaws.{documents_there}
-use Rattle.dv_core.proofs.Kept.{Keeps, insert_keeps, updates_keep, deletes_keep, step_holds}
+use Rattle.dv_core.proofs.Kept.{Keeps, apply_holds, insert_keeps, updates_keep, deletes_keep, step_holds}
 use Rattle.dv_core.proofs.Stored.{storable_fits}
 use Rattle.dv_catalog.specs.EffectLaws.{KeepsId, told_after, after_id}
 use Rattle.dv_core.proofs.Valid.{storable_valid}
@@ -224,3 +225,25 @@ module _ (laws : CollectionLaws) where
 
     pub steps_sound : (old new : State) (session : ℕ) (command : Command) (outcome : Outcome) → IsSoundCommand command → IsSound old → MemoryStep old session command outcome new → IsSound new
     steps_sound old new session command outcome sound h steps = step_holds (λ namespace ds. AreSound ds) IsSoundChange changes_sound old new session command outcome (λ namespace. none_sound) (writes_sound command sound) h steps
+
+  -- ---- and so after a load of a sound document
+
+  alone_sound : (old new : State) (namespace : List ℕ) (d : List Field) (does : Result Effect Refusal) → AllByRecursion IsSoundChange (changes_of does) → IsSound old → (does >>= λ effect. Ok (left_by namespace old effect)) ≡ Ok new → IsSound new
+  alone_sound old new namespace d (Ok effect) good h is =
+      let leaves : left_by namespace old effect ≡ new = cc in
+      subst IsSound leaves (apply_holds (λ namespace ds. AreSound ds) IsSoundChange changes_sound namespace effect.changes old.catalog.namespaces h good)
+  alone_sound old new namespace d (Err refusal) good h is = absurd cc
+
+  loaded_in : (old new : State) (named : Result (List ℕ) Refusal) (d : List Field) → IsSoundDocument d → IsSound old → (named >>= λ namespace. insert_alone namespace d old) ≡ Ok new → IsSound new
+  loaded_in old new (Err refusal) d sound h is = absurd cc
+  loaded_in old new (Ok namespace) d sound h is = by_view (is_view namespace old.catalog.views) is
+    where
+      keeps : Keeps (λ namespace ds. AreSound ds) IsSoundChange changes_sound (insert_one d)
+      keeps = (inserts_sound (d ∷ []) (sound.valid, tt)).0
+
+      by_view : (b : Bool) → (if b then Err OnView else (insert_one d (documents_of namespace old.catalog.namespaces) >>= λ effect. Ok (left_by namespace old effect))) ≡ Ok new → IsSound new
+      by_view true is = absurd cc
+      by_view false is = alone_sound old new namespace d _ (keeps.good namespace (documents_of namespace old.catalog.namespaces) (h namespace)) h is
+
+  pub loaded_sound : (old new : State) (text : List ℕ) (d : List Field) → IsSoundDocument d → IsSound old → loaded text d old ≡ Ok new → IsSound new
+  loaded_sound old new text d sound h is = loaded_in old new (namespace_in text) d sound h is

@@ -1,6 +1,6 @@
 -- Replies have a spelling.
 use Rattle.std.proofs.lemmas.Bool.{ltb-true}
-use Rattle.std.proofs.Common.{◌≡◌, ◌⊎◌, inl, inr, ℤ, ◌&&◌, ℕ, suc, ◌+◌, ◌*◌, ◌≤◌, ◌<◌, ◌^◌, ◌/◌, ◌%◌, ◌-◌, min, decimal, Bool, true, false, ◌||◌, not, Option, Some, None, nat_lt, List, [], ◌∷◌, ◌++◌, length, map, pos, Result, Ok, Err, if◌then◌else◌, length-append, refl, sym, ap, subst, arith}
+use Rattle.std.proofs.Common.{◌≡◌, ◌⊎◌, inl, inr, ℤ, ◌&&◌, ℕ, suc, ◌+◌, ◌*◌, ◌≤◌, ◌<◌, ◌^◌, ◌/◌, ◌%◌, ◌-◌, min, decimal, Bool, true, false, not, Option, Some, None, nat_lt, List, [], ◌∷◌, ◌++◌, length, map, pos, negsuc, Result, Ok, Err, if◌then◌else◌, length-append, refl, sym, ap, subst, arith}
 use Rattle.std.proofs.lemmas.Bool.Decides.{nat_tests}
 use Rattle.std.proofs.lemmas.List.{length-map}
 use Rattle.std.proofs.lemmas.Int.{fits_signed_from_abs}
@@ -18,8 +18,8 @@ use Rattle.dv_bson.specs.declared.fault.BsonFault.TheVariants.{Truncated, BadLen
 use Rattle.dv_bson.specs.Names.{has_name, has_zero}
 use Rattle.dv_bson.specs.Spelling.{framed, element_spelling, counted, payload, spelling, IsValue, AreFields, AreElements, Spells}
 use Rattle.dv_bson.specs.Tree.{Tree, int32, int64, boolean, string, array, Field, fields_of, list_of_fields, elements_of}
-use Rattle.dv_command.specs.Asked.{Asked, Find, ViewOn, hello, ping, insert, update, delete, find, aggregate, get_more, kill_cursors, create, drop, create_indexes, drop_indexes, explain, asked_by}
-use Rattle.dv_command.specs.Replies.{document_of, count, drop_reply, hello_reply, reply_of, refusal_reply, batch_reply, first_batch_reply, kill_cursors_reply, create_indexes_reply, drop_indexes_reply, write_error, update_reply, errors_field}
+use Rattle.dv_command.specs.Asked.{Asked, ViewOn, hello, ping, insert, update, delete, find, aggregate, get_more, kill_cursors, create, drop, create_indexes, drop_indexes, explain, asked_by}
+use Rattle.dv_command.specs.Replies.{document_of, count, long_count, drop_reply, hello_reply, reply_of, refusal_reply, batch_reply, first_batch_reply, kill_cursors_reply, create_indexes_reply, drop_indexes_reply, write_error, update_reply, errors_field}
 use Rattle.dv_fields.specs.Refusals.{code, code_name, message_of, ◌>>=◌}
 use Rattle.dv_command.specs.declared.command.Command.{Command}
 use Rattle.dv_fields.specs.declared.refusal.Refusal.{Refusal}
@@ -43,13 +43,14 @@ use Rattle.dv_catalog.specs.Changes.{Statement}
 use Rattle.dv_core.specs.Statements.{Write, Written, nothing_written, is_due, with_result, with_next, with_all, carry_out}
 use Rattle.dv_core.specs.Step.{answered, write_answer, on_catalog, on_cursors, answer_to, step}
 use Rattle.dv_command.specs.Sound.{AreValid, AreIds, IsNamespace, IsSoundlyAsked}
+use Rattle.dv_core.proofs.Viewed.{PipesStayValid, gathered_valid, rows_valid}
 use Rattle.dv_core.proofs.Asking.{AsksSoundly, soundly_asked}
 use Rattle.dv_core.proofs.Plain.{IsPlain, IsPlainly, IsPlainStatement, inserts_plain, updates_plain, deletes_plain}
 use Rattle.dv_catalog.specs.ScanLaws.{all_scanned}
 use Rattle.dv_core.specs.Find.{are_too_large, found, gathered, kept, kept_under, left_behind, replied}
-use Rattle.dv_core.specs.Indexes.{explained_reply, form_asked, index_count}
+use Rattle.dv_core.specs.Indexes.{explained_reply, form_asked, index_count, index_name}
 use Rattle.dv_core.specs.More.{gone_ids, id_behind, missing_ids, next_of, number_of, rows_asked, wanted, went_each}
-use Rattle.dv_core.specs.Sound.{AreShown, HasSpelling, IsExplained, IsTold, IsSound, IsSoundCommand, IsSoundDocument, ShowsValid}
+use Rattle.dv_core.specs.Sound.{AreShown, AreSoundViews, HasSpelling, IsNamed, IsTold, IsSound, IsSoundCommand, ShowsValid}
 use Rattle.dv_core.specs.Storable.{is_within_limits}
 use Rattle.dv_core.proofs.Spellings.{spelling-field, spelling-nil, spelling-long, length-int32, length-int64, length-string, sizes, array-bound}
 use Rattle.dv_core.proofs.Texts.{are_ascii, IsUtf8-ascii}
@@ -490,6 +491,11 @@ gathered_spelled : BatchLaws → (session : ℕ) (namespace : List ℕ) → IsNa
 gathered_spelled laws session namespace named count true _ cursors valid = is_refused OnView tt
 gathered_spelled laws session namespace named count false rows cursors valid = first_spelled laws namespace named count rows valid session (left_behind count false rows) cursors
 
+-- an id that an int64 holds
+number_small : (id : ℤ) → IsValue (int64 id) → number_of id < 2 ^ 63
+number_small (pos n) fits = omega arith
+number_small (negsuc n) fits = omega arith
+
 next_spelled : BatchLaws → (session : ℕ) (namespace : List ℕ) → IsNamespace namespace → (id count : ℕ) → id < 2 ^ 63 → (rows : Option (List (List Field))) (cursors : Cursors) → AreShown rows → IsSpelledSo (next_of session namespace id count rows cursors)
 next_spelled laws session namespace named id count fits None cursors shown = is_refused CursorNotFound tt
 next_spelled laws session namespace named id count fits (Some rows) cursors shown =
@@ -646,78 +652,60 @@ staged stage rest n ascii short fresh valid size =
     spelled ((codes "stage", string stage) ∷ rest) (more_valid (codes "stage") (string stage) rest refl refl fresh (IsUtf8-ascii stage ascii) valid)
     (omega (arith, spelling-field (codes "stage", string stage) rest, length-string stage))
 
-docs_valid : (n : ℕ) → n < 2 ^ 63 → AreFields (fields_of ((codes "docs", int64 (pos n)) ∷ ok_fields))
-docs_valid n fits = more_valid (codes "docs") (int64 (pos n)) ok_fields refl refl refl (id_valid n fits) ok_valid
+docs_valid : (n : ℕ) → AreFields (fields_of ((codes "docs", long_count n) ∷ ok_fields))
+docs_valid n = more_valid (codes "docs") (long_count n) ok_fields refl refl refl (id_valid (min n (2 ^ 63 - 1)) (omega arith)) ok_valid
 
-docs_size : (n : ℕ) → length (spelling ((codes "docs", int64 (pos n)) ∷ ok_fields)) ≤ 40
-docs_size n = omega (arith, spelling-field (codes "docs", int64 (pos n)) ok_fields, length-int64 (pos n), ok_size)
+docs_size : (n : ℕ) → length (spelling ((codes "docs", long_count n) ∷ ok_fields)) ≤ 40
+docs_size n = omega (arith, spelling-field (codes "docs", long_count n) ok_fields, length-int64 (pos (min n (2 ^ 63 - 1))), ok_size)
 
-explained_spelled : (way : Way) (n : ℕ) → IsExplained (record { way = way; documents = n }) → HasSpelling (explained_reply (record { way = way; documents = n }))
-explained_spelled over_view n told = staged (codes "VIEW") ((codes "docs", int64 (pos n)) ∷ ok_fields) n refl (omega arith) refl (docs_valid n told.1) (omega (arith, docs_size n))
-explained_spelled over_all n told = staged (codes "COLLSCAN") ((codes "docs", int64 (pos n)) ∷ ok_fields) n refl (omega arith) refl (docs_valid n told.1) (omega (arith, docs_size n))
-explained_spelled (by_index name) n told =
-    let docs : List Field = (codes "docs", int64 (pos n)) ∷ ok_fields in
-    staged (codes "IXSCAN") ((codes "index", string name) ∷ docs) n refl (omega arith) refl (more_valid (codes "index") (string name) docs refl refl refl told.0.0 (docs_valid n told.1))
-    (omega (arith, spelling-field (codes "index", string name) docs, length-string name, told.0.1, docs_size n))
+explained_spelled : (way : Way) (n : ℕ) → IsNamed (index_name way) → HasSpelling (explained_reply (record { way = way; documents = n }))
+explained_spelled over_view n named = staged (codes "VIEW") ((codes "docs", long_count n) ∷ ok_fields) n refl (omega arith) refl (docs_valid n) (omega (arith, docs_size n))
+explained_spelled over_all n named = staged (codes "COLLSCAN") ((codes "docs", long_count n) ∷ ok_fields) n refl (omega arith) refl (docs_valid n) (omega (arith, docs_size n))
+explained_spelled (by_index name) n named =
+    let docs : List Field = (codes "docs", long_count n) ∷ ok_fields in
+    staged (codes "IXSCAN") ((codes "index", string name) ∷ docs) n refl (omega arith) refl (more_valid (codes "index") (string name) docs refl refl refl named.0 (docs_valid n))
+    (omega (arith, spelling-field (codes "index", string name) docs, length-string name, named.1, docs_size n))
 
-module _ (asks : AsksSoundly) (counts : CountsAreValid) (laws : BatchLaws) where
-  asked_spelled : (state : State) (session : ℕ) (asked : Asked) → IsSoundlyAsked asked → ShowsValid state session asked → HasSpelling (answered state (answer_to state session asked)).reply
-  asked_spelled state session hello sound shows = hello_spelled
-  asked_spelled state session ping sound shows = ping_spelled
-  asked_spelled state session (insert i) sound shows =
+module _ (asks : AsksSoundly) (counts : CountsAreValid) (laws : BatchLaws) (pipes : PipesStayValid) where
+  asked_spelled : (state : State) (session : ℕ) (asked : Asked) → IsSoundlyAsked asked → IsSound state → AreSoundViews state → ShowsValid state session asked → HasSpelling (answered state (answer_to state session asked)).reply
+  asked_spelled state session hello sound documents views shows = hello_spelled
+  asked_spelled state session ping sound documents views shows = ping_spelled
+  asked_spelled state session (insert i) sound documents views shows =
       write_or_refusal state (is_view i.namespace state.catalog.views) (insert_write i) (carry_out (insert_write i) state.catalog.namespaces)
       (write_spelled (insert_write i) state.catalog.namespaces (omega (arith, length-map i.documents insert_one, sound.2)) (inserts_plain i.documents) (λ n changed es. errors_spelled counts n es))
-  asked_spelled state session (update u) sound shows =
+  asked_spelled state session (update u) sound documents views shows =
       write_or_refusal state (is_view u.namespace state.catalog.views) (update_write u) (carry_out (update_write u) state.catalog.namespaces)
       (write_spelled (update_write u) state.catalog.namespaces (omega (arith, length-map u.entries update_one, sound.2)) (updates_plain u.entries) (update_spelled counts))
-  asked_spelled state session (delete d) sound shows =
+  asked_spelled state session (delete d) sound documents views shows =
       write_or_refusal state (is_view d.namespace state.catalog.views) (delete_write d) (carry_out (delete_write d) state.catalog.namespaces)
       (write_spelled (delete_write d) state.catalog.namespaces (omega (arith, length-map d.entries delete_one, sound.2)) (deletes_plain d.entries) (λ n changed es. errors_spelled counts n es))
-  asked_spelled state session (find f) sound shows =
+  asked_spelled state session (find f) sound documents views shows =
       let rows : List (List Field) = rows_of f.namespace state.catalog in
       let shown : List (List Field) = scan f.filter f.sort f.skip f.limit rows in
       cursors_spelled state (found session f state.catalog state.cursors)
-      (first_spelled laws f.namespace sound f.batch_size shown (all_scanned (λ d. AreFields (fields_of d)) f.filter f.sort f.skip f.limit rows shows) session (left_behind f.batch_size f.single_batch shown) state.cursors)
-  asked_spelled state session (aggregate a) sound shows =
-      cursors_spelled state (gathered session a state.catalog state.cursors) (gathered_spelled laws session a.namespace sound.0 a.batch_size (looks_into_view a.stages a.namespace state.catalog.views) _ state.cursors shows)
-  asked_spelled state session (get_more g) sound shows =
+      (first_spelled laws f.namespace sound f.batch_size shown (all_scanned (λ d. AreFields (fields_of d)) f.filter f.sort f.skip f.limit rows (rows_valid pipes state documents views f.namespace)) session (left_behind f.batch_size f.single_batch shown) state.cursors)
+  asked_spelled state session (aggregate a) sound documents views shows =
+      cursors_spelled state (gathered session a state.catalog state.cursors) (gathered_spelled laws session a.namespace sound.0 a.batch_size (looks_into_view a.stages a.namespace state.catalog.views) _ state.cursors (gathered_valid pipes state documents views a.stages a.namespace sound.1))
+  asked_spelled state session (get_more g) sound documents views shows =
       cursors_spelled state (next_of session g.namespace (number_of g.id) g.batch_size (rows_asked session g.namespace g.id state.cursors) state.cursors)
-      (next_spelled laws session g.namespace sound (number_of g.id) g.batch_size shows.0 (rows_asked session g.namespace g.id state.cursors) state.cursors shows.1)
-  asked_spelled state session (kill_cursors k) sound shows =
+      (next_spelled laws session g.namespace sound.0 (number_of g.id) g.batch_size (number_small g.id sound.1) (rows_asked session g.namespace g.id state.cursors) state.cursors shows)
+  asked_spelled state session (kill_cursors k) sound documents views shows =
       let went : List Bool = went_each session k.namespace k.ids state.cursors in
       killed_spelled (length k.ids) (gone_ids k.ids went) (missing_ids k.ids went) shows (gone_numbers k.ids went sound.1) (missing_numbers k.ids went sound.1)
-  asked_spelled state session (create c) sound shows =
+  asked_spelled state session (create c) sound documents views shows =
       catalog_spelled state (λ left. reply_of []) (created c.namespace c.view state.catalog) (λ left. ping_spelled) (created_told (is_there c.namespace state.catalog) c.namespace c.view state.catalog)
-  asked_spelled state session (drop d) sound shows =
+  asked_spelled state session (drop d) sound documents views shows =
       catalog_spelled state (λ left. drop_reply d.namespace) (dropped d.namespace state.catalog) (λ left. drop_spelled d.namespace sound) (dropped_told (is_collection d.namespace state.catalog.namespaces) (is_view d.namespace state.catalog.views) _ _)
-  asked_spelled state session (create_indexes c) sound shows =
+  asked_spelled state session (create_indexes c) sound documents views shows =
       catalog_spelled state (λ left. create_indexes_reply (index_count c.namespace state.catalog) (index_count c.namespace left)) (indexes_created c.namespace (map form_asked c.indexes) state.catalog) (λ left. made_indexes_spelled counts _ _)
       (indexed_told c.namespace (map form_asked c.indexes) state.catalog)
-  asked_spelled state session (drop_indexes d) sound shows =
+  asked_spelled state session (drop_indexes d) sound documents views shows =
       catalog_spelled state (λ left. drop_indexes_reply (index_count d.namespace state.catalog)) (indexes_dropped d.namespace d.index state.catalog) (λ left. dropped_indexes_spelled counts _) (unindexed_told d.namespace d.index state.catalog)
-  asked_spelled state session (explain e) sound shows =
+  asked_spelled state session (explain e) sound documents views shows =
       let told : Explained = explained e.find.namespace e.find.filter state.catalog in
       explained_spelled told.way told.documents shows
 
-  pub replies_spelled : (state : State) (session : ℕ) (command : Command) (asked : Asked) → IsSoundCommand command → ShowsValid state session asked → asked_by command ≡ Ok asked → HasSpelling (step state session command).reply
-  replies_spelled state session command asked valid shows is =
+  pub replies_spelled : (state : State) (session : ℕ) (command : Command) (asked : Asked) → IsSoundCommand command → IsSound state → AreSoundViews state → ShowsValid state session asked → asked_by command ≡ Ok asked → HasSpelling (step state session command).reply
+  replies_spelled state session command asked valid documents views shows is =
       let carried : (step state session command).reply ≡ (answered state (answer_to state session asked)).reply = ap (λ (r : Result Asked Refusal). (answered state (r >>= answer_to state session)).reply) is in
-      subst HasSpelling (sym carried) (asked_spelled state session asked (soundly_asked asks command asked valid is) shows)
-
--- ---- what a collection shows
-
-all_valid : (ds : List (List Field)) → AllByRecursion IsSoundDocument ds → AreValid ds
-all_valid [] sound = tt
-all_valid (d ∷ ds) sound = (sound.0.valid, all_valid ds sound.1)
-
-no_view_named : (namespace : List ℕ) (views : List ViewForm) → is_view namespace views ≡ false → view_named namespace views ≡ None
-no_view_named namespace [] none = refl
-no_view_named namespace (v ∷ vs) none = by_name (no_view_named namespace vs) (states.has_name namespace v) none
-  where
-    by_name : (is_view namespace vs ≡ false → view_named namespace vs ≡ None) → (b : Bool) → (b || is_view namespace vs) ≡ false → (if b then Some v else view_named namespace vs) ≡ None
-    by_name rest true none = absurd cc
-    by_name rest false none = rest none
-
-pub collections_show_valid : (state : State) (session : ℕ) (asked : Find) → IsSound state → is_view asked.namespace state.catalog.views ≡ false → ShowsValid state session (find asked)
-collections_show_valid state session asked sound none =
-    rw (no_view_named asked.namespace state.catalog.views none) (all_valid (documents_of asked.namespace state.catalog.namespaces) (sound asked.namespace).1)
+      subst HasSpelling (sym carried) (asked_spelled state session asked (soundly_asked asks command asked valid is) documents views shows)

@@ -88,9 +88,6 @@ module _ (namespace : List ℕ) (ordered : Bool) where
   with_all-stopped w (x ∷ xs) stopped = rw stopped (with_all-stopped w xs stopped)
 
   module _ (statements : List Statement) (old : Namespaces) where
-    all_done : Written
-    all_done = with_all namespace ordered (nothing_written old) statements
-
     -- the statements before the rest were carried out, and the rest is to be looked at
     pub record Reached (so_far : Written) (rest : List Statement) : Type 0 where
       pub before : List Statement

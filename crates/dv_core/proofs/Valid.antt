@@ -4,7 +4,7 @@ use Rattle.std.specs.Prelude.{codes}
 use Rattle.std.specs.Str.{bytes_eq}
 use Rattle.dv_bson.specs.Names.{value_under, has_name, AreNamed}
 use Rattle.dv_bson.specs.Spelling.{IsValue, AreFields}
-use Rattle.dv_bson.specs.Tree.{Tree, array, Fields, no_fields, field, Field, fields_of, list_of_fields}
+use Rattle.dv_bson.specs.Tree.{Tree, array, Field, fields_of, list_of_fields}
 use Rattle.dv_fields.specs.Refusals.{◌>>=◌}
 use Rattle.dv_fields.specs.declared.refusal.Refusal.{Refusal}
 use Rattle.dv_fields.specs.declared.refusal.Refusal.TheVariants.{BadValue, TooLarge}
@@ -28,10 +28,6 @@ kept_valid name f fs false valid rest =
 without_valid : (name : List ℕ) (fs : List Field) → AreFields (fields_of fs) → AreFields (fields_of (without_field name fs))
 without_valid name [] valid = tt
 without_valid name (f ∷ fs) valid = kept_valid name f fs (bytes_eq name f.0) valid (without_valid name fs valid.4)
-
-pub fields_of-list_of_fields : (fs : Fields) → fields_of (list_of_fields fs) ≡ fs
-fields_of-list_of_fields no_fields = refl
-fields_of-list_of_fields (field name value fs) = ap (field name value) (fields_of-list_of_fields fs)
 
 one_valid : (f : Field) (b : Bool) (others : Option Tree) (v : Tree) → IsValue f.1 → (others ≡ Some v → IsValue v) → (if b then Some f.1 else others) ≡ Some v → IsValue v
 one_valid f true others v valid rest is = let same : f.1 ≡ v = cc in subst IsValue same valid

@@ -1,5 +1,5 @@
 -- Worked examples of commands on the collection c of the database t. Integers are int32 where nothing else is said.
-use Rattle.std.specs.Prelude.{◌≡◌, ℕ, zero, suc, false, List, [], ◌∷◌, ◌++◌, map, pos, negsuc, codes}
+use Rattle.std.specs.Prelude.{◌≡◌, ℕ, zero, suc, false, List, [], ◌∷◌, ◌++◌, map, pos, negsuc, Ok, Err, codes}
 use Rattle.dv_bson.specs.Tree.{Tree, null, string, int32, int64, document, no_fields, array, boolean, Field, elements_of}
 use Rattle.dv_bson.specs.declared.fault.BsonFault.TheVariants.{TooDeep}
 use Rattle.dv_command.specs.declared.command.Command.{Command}
@@ -7,6 +7,8 @@ use Rattle.dv_command.specs.declared.command.Command.TheVariants.{Sections, Inva
 use Rattle.dv_command.specs.Replies.{document_of, hello_reply}
 use Rattle.dv_core.specs.declared.outcome.Outcome.TheVariants.{Reply, Wanting, NoReply}
 use Rattle.dv_catalog.specs.State.{with_documents}
+use Rattle.dv_fields.specs.declared.refusal.Refusal.TheVariants.{BadValue, DuplicateKey, OnView}
+use Rattle.dv_core.specs.Load.{loaded, namespace_in}
 use Rattle.dv_core.specs.State.{State, empty_state}
 use Rattle.dv_core.specs.Step.{step, MemoryStep}
 
@@ -239,6 +241,29 @@ drop name = on (codes "t") ((codes "drop", string name) ∷ [])
 -- all rows, through no stages
 abbrev pub aggregate : List ℕ → List Field
 aggregate name = on (codes "t") ((codes "aggregate", string name) ∷ (codes "pipeline", array (elements_of [])) ∷ (codes "cursor", document no_fields) ∷ [])
+
+-- what loading documents leaves, or why it is refused
+pub record LoadExamples : Type 0 where
+  -- {_id: 5} into nothing
+  pub first : loaded (codes "t.c") (only 5) empty_state ≡ Ok (holding (only 5 ∷ []))
+  -- then {_id: 5} as an int64, whose _id is equal
+  pub equal : loaded (codes "t.c") ((codes "_id", int64 (pos 5)) ∷ []) (holding (only 5 ∷ [])) ≡ Err DuplicateKey
+  -- {a: 1, _id: 2} is stored with its _id in front
+  pub id_behind : loaded (codes "t.c") ((codes "a", number 1) ∷ (codes "_id", number 2) ∷ []) empty_state ≡ Ok (holding (with_a 2 (number 1) ∷ []))
+  -- {a: 1} has no _id
+  pub no_id : loaded (codes "t.c") ((codes "a", number 1) ∷ []) empty_state ≡ Err BadValue
+  -- a view takes no documents; it is looked at before the document
+  pub written : loaded (codes "t.v") ((codes "a", number 1) ∷ []) (viewing empty_state) ≡ Err OnView
+  -- the first dot ends the name of the database
+  pub dotted_collection : namespace_in (codes "t.c.d") ≡ Ok (codes "t.c.d")
+  pub no_dot : namespace_in (codes "t") ≡ Err BadValue
+  pub no_database : namespace_in (codes ".c") ≡ Err BadValue
+  pub no_collection : namespace_in (codes "t.") ≡ Err BadValue
+  pub dollar : namespace_in (codes "t.$c") ≡ Err BadValue
+  pub zero_in_database : namespace_in (0 ∷ codes ".c") ≡ Err BadValue
+  -- a namespace of 120 bytes, and one of 121
+  pub longest : namespace_in (codes "t." ++ letters 118) ≡ Ok (codes "t." ++ letters 118)
+  pub too_long : namespace_in (codes "t." ++ letters 119) ≡ Err BadValue
 
 abbrev pub done : List Field
 done = (codes "ok", number 1) ∷ []

@@ -8,6 +8,7 @@ pub mod Find
 pub mod More
 pub mod Indexes
 pub mod Step
+pub mod Load
 pub mod Runs
 pub mod Part
 pub mod Sound

@@ -8,15 +8,14 @@ use Rattle.dv_command.specs.declared.command.Command.TheVariants.{Sections, Inva
 use Rattle.dv_bson.specs.declared.fault.BsonFault.TheVariants.{RefusedType}
 use Rattle.dv_fields.specs.declared.refusal.Refusal.{Refusal}
 use Rattle.dv_fields.specs.declared.refusal.Refusal.TheVariants.{InvalidBson}
-use Rattle.dv_catalog.specs.State.{documents_of, rows_of, AreOrdered}
+use Rattle.dv_catalog.specs.State.{documents_of, AreOrdered}
 use Rattle.dv_core.specs.State.{State}
-use Rattle.dv_catalog.specs.IndexMaking.{Explained, explained}
-use Rattle.dv_command.specs.Asked.{Asked, find, aggregate, get_more, kill_cursors, explain}
+use Rattle.dv_catalog.specs.IndexMaking.{explained}
+use Rattle.dv_command.specs.Asked.{Asked, get_more, kill_cursors, explain}
 use Rattle.dv_core.specs.Find.{are_too_large}
 use Rattle.dv_core.specs.Indexes.{index_name}
-use Rattle.dv_core.specs.More.{number_of, rows_asked}
-use Rattle.dv_command.specs.Sound.{AreValid, IsNamespace}
-use Rattle.dv_pipe.specs.Stages.{evaluated}
+use Rattle.dv_core.specs.More.{rows_asked}
+use Rattle.dv_command.specs.Sound.{AreValid, IsNamespace, IsSoundPipeline}
 
 -- a document that is valid at each of its levels, and within the limits for what is read and stored
 pub record IsSoundDocument (d : List Field) : Type 0 where
@@ -29,6 +28,10 @@ AreSound documents = AreOrdered documents × AllByRecursion IsSoundDocument docu
 
 abbrev pub IsSound : State → Type 0
 IsSound state = (namespace : List ℕ) → AreSound (documents_of namespace state.catalog.namespaces)
+
+-- the stages of each view were read from valid values
+abbrev pub AreSoundViews : State → Type 0
+AreSoundViews state = AllByRecursion (λ v. IsSoundPipeline v.stages) state.catalog.views
 
 -- the documents that a command brings are sound, as those that were read are
 abbrev pub IsSoundCommand : Command → Type 0
@@ -49,19 +52,14 @@ abbrev pub AreShown : Option (List (List Field)) → Type 0
 AreShown None = ⊤
 AreShown (Some rows) = AreValid rows × (are_too_large rows ≡ false)
 
+-- a name, where there is one, that can be told
 abbrev pub IsNamed : Option (List ℕ) → Type 0
 IsNamed None = ⊤
 IsNamed (Some name) = IsNamespace name
 
--- how a find is answered can be told: by the name of an index, and by a number that an int64 holds
-abbrev pub IsExplained : Explained → Type 0
-IsExplained told = IsNamed (index_name told.way) × (told.documents < 2 ^ 63)
-
--- the rows that a command shows can be shown, the ids that it tells are no more than a document holds, and so is what it explains
+-- the rows of a cursor that are asked for can be shown, the ids that are told are no more than a document holds, and the index that is told of has a name that can be
 abbrev pub ShowsValid : State → ℕ → Asked → Type 0
-ShowsValid state session (find asked) = AreValid (rows_of asked.namespace state.catalog)
-ShowsValid state session (aggregate asked) = AreValid (evaluated asked.stages asked.namespace (λ name. rows_of name state.catalog))
-ShowsValid state session (get_more asked) = (number_of asked.id < 2 ^ 63) × AreShown (rows_asked session asked.namespace asked.id state.cursors)
+ShowsValid state session (get_more asked) = AreShown (rows_asked session asked.namespace asked.id state.cursors)
 ShowsValid state session (kill_cursors asked) = length asked.ids ≤ 10000000
-ShowsValid state session (explain asked) = IsExplained (explained asked.find.namespace asked.find.filter state.catalog)
+ShowsValid state session (explain asked) = IsNamed (index_name (explained asked.find.namespace asked.find.filter state.catalog).way)
 ShowsValid state session asked = ⊤

@@ -20,10 +20,6 @@ pub(crate) fn explained(alloc: Global, told: Explained) -> Result<Document, Refu
     ensures { UnlessWanting (λ reply. reply) (Ok (explained_reply (explained_seen told))) result }
 {
     let Explained { way, documents } = told;
-    // No collection and no view has as many.
-    if documents >= 1 << 63 {
-        return Err(Refusal::WantOfMemory);
-    }
     let reply = match way {
         Way::View => explain_reply(alloc, "VIEW", None, documents)?,
         Way::Index(name) => explain_reply(alloc, "IXSCAN", Some(&name), documents)?,

@@ -1,18 +1,21 @@
 //! What holds of every step of the machine.
 
-ghost use Rattle.std.specs.Prelude.{◌≡◌, ◌≤◌, ◌↔◌, ◌⊎◌, ℕ, List, Some, None, Ok, Err, true, false, codes, pos, length, map, if◌then◌else◌};
+ghost use Rattle.std.specs.Prelude.{◌≡◌, ◌≤◌, ◌↔◌, ◌⊎◌, ℕ, List, [], ◌∷◌, Some, None, Ok, Err, true, false, codes, pos, length, map, if◌then◌else◌};
 ghost use Rattle.dv_bson.specs.Names.{value_under};
 ghost use Rattle.dv_bson.specs.Spelling.{Fits};
 ghost use Rattle.dv_bson.specs.Tree.{Field, int32};
-ghost use Rattle.dv_command.specs.Asked.{Aggregate, Asked, Create, Delete, Drop, Find, GetMore, aggregate, create, delete, drop, find, get_more, asked_by};
-ghost use Rattle.dv_command.specs.Replies.{document_of, next_batch_reply, refusal_reply};
+ghost use Rattle.dv_command.specs.Asked.{Aggregate, Asked, Create, Delete, Drop, Find, GetMore, Insert, aggregate, create, delete, drop, find, get_more, insert, asked_by};
+ghost use Rattle.dv_command.specs.Replies.{document_of, next_batch_reply, refusal_reply, write_error, write_reply};
+ghost use Rattle.dv_command.specs.Sound.{AreValid};
 ghost use Rattle.dv_command.specs.declared.command.Command.{Command};
 ghost use Rattle.dv_fields.specs.declared.refusal.Refusal.{Refusal};
+ghost use Rattle.dv_fields.specs.declared.refusal.Refusal.TheVariants.{OnView};
 ghost use Rattle.dv_core.specs.declared.outcome.Outcome.{Outcome};
 ghost use Rattle.dv_core.specs.declared.outcome.Outcome.TheVariants.{Reply, Wanting};
 ghost use Rattle.dv_core.specs.Examples as examples;
+ghost use Rattle.dv_core.specs.Load.{insert_alone, loaded, namespace_in};
 ghost use Rattle.dv_core.specs.Part.{IsPart};
-ghost use Rattle.dv_core.specs.Sound.{HasSpelling, IsSound, IsSoundCommand, IsTold, ShowsValid};
+ghost use Rattle.dv_core.specs.Sound.{AreSoundViews, HasSpelling, IsSound, IsSoundCommand, IsSoundDocument, IsTold, ShowsValid};
 ghost use Rattle.dv_catalog.specs.State.{Namespaces, IsOrdered, documents_of, is_view, rows_of};
 ghost use Rattle.dv_core.specs.State.{State, empty_state};
 ghost use Rattle.std.specs.Str.{bytes_eq};
@@ -76,12 +79,13 @@ pub fn documents_stay_in_order()
     dv_update::laws::the_id_stays();
 }
 
-/// Every state that is reached is sound, if the documents that commands bring are: so it is before the first command,
-/// and so after each.
+/// Every state that is reached is sound, if the documents that commands bring, and those that are loaded, are: so it is
+/// before the first command, and so after each command and each load.
 pub fn states_stay_sound()
     ensures before { IsSound empty_state }
     ensures after { (old new : State) (session : ℕ) (command : Command) (outcome : Outcome) → IsSoundCommand command → IsSound old
         → MemoryStep old session command outcome new → IsSound new }
+    ensures loaded { (old new : State) (namespace : List ℕ) (d : List Field) → IsSoundDocument d → IsSound old → loaded namespace d old ≡ Ok new → IsSound new }
 {
     dv_coll::laws::inserted_documents_ascend();
     dv_coll::laws::inserted_documents_begin_with_ids();
@@ -96,18 +100,31 @@ pub fn states_stay_sound()
     dv_command::laws::the_update_of_an_entry_is_sound();
 }
 
-/// Replies can be written: that to a command that asks something, if the command's documents are sound and the rows that
-/// it shows are valid, as a collection's are in a sound state; and that to one that is refused.
+/// The views of every state that is reached were asked by valid values, if the documents that commands bring are sound: so
+/// it is before the first command, and so after each command and each load.
+pub fn views_stay_sound()
+    ensures before { AreSoundViews empty_state }
+    ensures after { (old new : State) (session : ℕ) (command : Command) (outcome : Outcome) → IsSoundCommand command → AreSoundViews old
+        → MemoryStep old session command outcome new → AreSoundViews new }
+    ensures loaded { (old new : State) (namespace : List ℕ) (d : List Field) → loaded namespace d old ≡ Ok new → AreSoundViews old → AreSoundViews new }
+{
+    dv_command::laws::what_is_asked_is_sound();
+}
+
+/// Replies can be written: that to a command that asks something, if the command's documents, the state and its views are
+/// sound, as the rows that stand under a namespace are valid then; and that to one that is refused. What is left to ask is
+/// that the rows of cursors are valid, that not too many cursors are ended at once, and that indexes have names.
 pub fn replies_have_a_spelling()
-    ensures answered { (state : State) (session : ℕ) (command : Command) (asked : Asked) → IsSoundCommand command → ShowsValid state session asked → asked_by command ≡ Ok asked
-        → HasSpelling (step state session command).reply }
-    ensures shown { (state : State) (session : ℕ) (asked : Find) → IsSound state → is_view asked.namespace state.catalog.views ≡ false → ShowsValid state session (find asked) }
+    ensures answered { (state : State) (session : ℕ) (command : Command) (asked : Asked) → IsSoundCommand command → IsSound state → AreSoundViews state → ShowsValid state session asked
+        → asked_by command ≡ Ok asked → HasSpelling (step state session command).reply }
+    ensures rows { (state : State) → IsSound state → AreSoundViews state → (namespace : List ℕ) → AreValid (rows_of namespace state.catalog) }
     ensures refused { (refusal : Refusal) → IsTold refusal → HasSpelling (refusal_reply refusal) }
 {
     dv_command::laws::what_is_asked_is_sound();
     dv_command::laws::a_count_has_a_spelling();
     dv_cursor::laws::a_batch_is_a_front();
     dv_cursor::laws::a_batch_is_full();
+    dv_pipe::laws::what_comes_out_is_valid();
 }
 
 /// An ordered write tells of one error at most; and where it is cut, of that alone.
@@ -145,6 +162,20 @@ pub fn the_end_of_a_session_leaves_documents()
     ensures sound { (session : ℕ) (state : State) → IsSound state → IsSound (end_session session state) }
 {}
 
+/// Loading a document is what an insert of that document alone does, in whichever session: it leaves the same state; where
+/// it is refused, an insert on a view is refused for that, and any other one tells of that error of its statement. The text
+/// that names a namespace is the namespace.
+pub fn a_load_is_an_insert_of_one_document()
+    ensures stored { (state new : State) (session : ℕ) (command : Command) (asked : Insert) (d : List Field) → asked_by command ≡ Ok (insert asked) → asked.documents ≡ d ∷ []
+        → insert_alone asked.namespace d state ≡ Ok new → step state session command ≡ record { reply = write_reply 1 []; state = new } }
+    ensures refused { (state : State) (session : ℕ) (command : Command) (asked : Insert) (d : List Field) (refusal : Refusal) → asked_by command ≡ Ok (insert asked) → asked.documents ≡ d ∷ []
+        → is_view asked.namespace state.catalog.views ≡ false → insert_alone asked.namespace d state ≡ Err refusal
+        → step state session command ≡ record { reply = write_reply 0 (document_of (write_error 0 refusal) ∷ []); state = state } }
+    ensures on_view { (state : State) (session : ℕ) (command : Command) (asked : Insert) (d : List Field) → asked_by command ≡ Ok (insert asked)
+        → is_view asked.namespace state.catalog.views ≡ true → (insert_alone asked.namespace d state ≡ Err OnView) × (step state session command ≡ record { reply = refusal_reply OnView; state = state }) }
+    ensures named { (text namespace : List ℕ) → namespace_in text ≡ Ok namespace → namespace ≡ text }
+{}
+
 /// What is stored is within the limits: 16,777,216 bytes and 100 levels.
 pub fn stored_documents_fit()
     ensures { (d stored : List Field) → storable d ≡ Ok stored → Fits stored }
@@ -158,6 +189,11 @@ pub fn limits_are_those_of_reading()
 /// What inserts answer and leave, by worked examples.
 pub fn inserts_by_example()
     ensures { examples.InsertExamples }
+{}
+
+/// What loads leave, and why they are refused, by worked examples.
+pub fn loads_by_example()
+    ensures { examples.LoadExamples }
 {}
 
 /// What deletes answer and leave, by worked examples.

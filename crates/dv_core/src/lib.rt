@@ -6,6 +6,7 @@ mod find;
 mod indexing;
 mod kind;
 pub mod laws;
+mod loading;
 mod more;
 mod next;
 mod outcome;

@@ -4,8 +4,10 @@ use crate::answers::{hello, outcome_of, ping, refuse, told};
 use crate::find::{First, first_batch};
 use crate::indexing::{explained, new_indexes};
 use crate::kind::Kind;
+use crate::loading::namespace_in;
 use crate::more::{kill_all, next_batch};
 use crate::outcome::Outcome;
+use crate::storable::storable;
 use crate::writes::{Terms, write_all};
 use dv_bson::Document;
 use dv_catalog::Catalog;
@@ -40,8 +42,9 @@ impl Model for Store {
 }
 
 impl Store {
-    ghost use Rattle.std.specs.Prelude.{◌≡◌, ◌≤◌, [], length, Ok};
+    ghost use Rattle.std.specs.Prelude.{◌≡◌, ◌≤◌, [], length, Ok, IfErr, OnErr, OnOk};
     ghost use Rattle.dv_bson.specs.declared.fault.BsonFault.TheVariants.{NoMemory};
+    ghost use Rattle.dv_catalog.specs.Parts.{Leaves};
     ghost use Rattle.dv_catalog.specs.Views as views;
     ghost use Rattle.dv_command.specs.Asked.{statement_limit};
     ghost use Rattle.dv_command.specs.declared.command.Command.TheVariants.{Invalid};
@@ -53,6 +56,7 @@ impl Store {
     ghost use Rattle.dv_core.specs.Indexes as indexing;
     ghost use Rattle.dv_core.specs.More as more;
     ghost use Rattle.dv_core.specs.Insert.{insert_write};
+    ghost use Rattle.dv_core.specs.Load as loading;
     ghost use Rattle.dv_core.specs.State.{empty_state};
     ghost use Rattle.dv_core.specs.Step.{MemoryStep, TellsOfWant, end_session, replying};
     ghost use Rattle.dv_core.specs.StepParts.{Ends, Gives};
@@ -269,6 +273,40 @@ impl Store {
         let Explain { find } = asked;
         let told = self.catalog.explain(&find.namespace, &find.filter)?;
         explained(self.alloc, told)
+    }
+
+    /// Loads a document into the collection of a namespace, which is made where it isn't there: what an insert of that
+    /// document alone does, beside any session. Refused with a code, the first of these that holds: 2 where the text is no
+    /// namespace, which is the name of a database, a dot and the name of a collection, at most 120 bytes in all; 902 where a
+    /// view stands there; 2 where the document can't be stored for its names or its `_id`; 901 where it is over 16,777,216
+    /// bytes or 100 levels; 11000 where a document has an equal `_id`; and 900 where memory is wanting. Then nothing is
+    /// changed.
+    pub fn load(&mut self, namespace: &str, document: Document) -> Result<(), i32>
+        ensures loaded { OnOk result (loading.loaded namespace.now document self.old ≡ Ok self.new) }
+        ensures code { IfErr result (λ code. loading.IsCodeOf (loading.loaded namespace.now document self.old) code) }
+        ensures kept { OnErr result (self.new ≡ self.old) }
+    {
+        match self.insert_alone(namespace, &document) {
+            Ok(()) => Ok(()),
+            Err(refusal) => Err(refusal.code()),
+        }
+    }
+
+    /// Inserts a document into the collection of the namespace that a text is, and rebuilds the views that it left stale.
+    /// Refused as `load` is; then nothing is changed.
+    fn insert_alone(&mut self, text: &str, document: &Document) -> Result<(), Refusal>
+        ensures { Leaves (loading.loaded text.now document.now self.old) self.old result self.new }
+    {
+        let namespace = namespace_in(self.alloc, text)?;
+        if self.catalog.is_view(&namespace) {
+            return Err(Refusal::OnView);
+        }
+        let stored = storable(self.alloc, document)?;
+        if let Err(stopped) = self.catalog.insert(&namespace, stored) {
+            return Err(stopped.refusal);
+        }
+        self.catalog.refresh();
+        Ok(())
     }
 
     /// Ends the cursors of a session. Takes no memory, and costs the cursors that it has.

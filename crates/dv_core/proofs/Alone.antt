@@ -1,0 +1,119 @@
+-- A document that is loaded, and one that is inserted alone.
+use Rattle.std.proofs.Common.{◌≡◌, ◌<◌, ◌==◌, ◌&&◌, ◌+◌, ℕ, Bool, true, false, not, List, [], ◌∷◌, ◌++◌, length, get_or, Result, Ok, Err, if◌then◌else◌, nat_lt, is_some, refl, sym, ap, ◌∙◌, arith}
+use Rattle.std.proofs.lemmas.List.Sums.{passes_at_first, split_at_first}
+use Rattle.std.specs.List.{after_first, before_first, position_or_len}
+use Rattle.dv_bson.specs.Tree.{Field}
+use Rattle.dv_catalog.specs.Changes.{Effect, put}
+use Rattle.dv_catalog.specs.Effects.{put_new}
+use Rattle.dv_catalog.specs.State.{documents_of, is_view}
+use Rattle.dv_coll.specs.Collection.{found, id_key}
+use Rattle.dv_command.specs.Asked.{Asked, Insert, insert, asked_by}
+use Rattle.dv_command.specs.Replies.{document_of, refusal_reply, write_error, write_reply}
+use Rattle.dv_command.specs.declared.command.Command.{Command}
+use Rattle.dv_fields.specs.Namespaces.{has_dot, is_collection_name, is_database_name, longest_namespace, namespace}
+use Rattle.dv_fields.specs.Namespaces as names
+use Rattle.dv_fields.specs.Refusals.{◌>>=◌}
+use Rattle.dv_fields.specs.declared.refusal.Refusal.{Refusal}
+use Rattle.dv_fields.specs.declared.refusal.Refusal.TheVariants.{BadValue, DuplicateKey, OnView}
+use Rattle.dv_core.specs.Insert.{insert_one, insert_write}
+use Rattle.dv_core.specs.Load.{insert_alone, left_by, namespace_in}
+use Rattle.dv_core.specs.State.{State}
+use Rattle.dv_core.specs.Statements.{Write, nothing_written, with_result}
+use Rattle.dv_core.specs.Step.{Answer, answer_to, answered, carried_out, step, write_answer}
+use Rattle.dv_core.specs.Storable.{storable}
+
+-- ---- one statement
+
+put_matched : (b : Bool) (d : List Field) (effect : Effect) → (if b then Err DuplicateKey else Ok (record { matched = 1; changes = put d ∷ [] })) ≡ Ok effect → effect.matched ≡ 1
+put_matched true d effect is = absurd cc
+put_matched false d effect is = cc
+
+one_matched : (stored : Result (List Field) Refusal) (documents : List (List Field)) (effect : Effect) → (stored >>= λ d. put_new d documents) ≡ Ok effect → effect.matched ≡ 1
+one_matched (Ok d) documents effect is = put_matched (is_some (found (id_key d) documents)) d effect is
+one_matched (Err refusal) documents effect is = absurd cc
+
+module _ (old : State) (namespace : List ℕ) (ordered : Bool) where
+  -- an insert alone, by whether it is on a view, and by what its statement does
+  abbrev alone_by : Bool → Result Effect Refusal → Result State Refusal
+  alone_by b does = if b then Err OnView else (does >>= λ effect. Ok (left_by namespace old effect))
+
+  abbrev write : Write
+  write = insert_write (record { namespace = namespace; documents = []; ordered = ordered })
+
+  abbrev answer_by : Bool → Result Effect Refusal → Answer
+  answer_by b does = answered old (if b then Err OnView else Ok (write_answer old write (with_result namespace ordered (nothing_written old.catalog.namespaces) does)))
+
+  pub stored_by : (b : Bool) (does : Result Effect Refusal) (new : State) → alone_by b does ≡ Ok new → ((effect : Effect) → does ≡ Ok effect → effect.matched ≡ 1) → answer_by b does ≡ record { reply = write_reply 1 []; state = new }
+  stored_by true does new is one = absurd cc
+  stored_by false (Ok effect) new is one =
+      let leaves : left_by namespace old effect ≡ new = cc in
+      let matched : 0 + effect.matched ≡ 1 = omega (arith, one effect refl) in
+      λ i. record { reply = write_reply (matched i) []; state = leaves i }
+  stored_by false (Err refusal) new is one = absurd cc
+
+  pub refused_by : (does : Result Effect Refusal) (refusal : Refusal) → alone_by false does ≡ Err refusal → answer_by false does ≡ record { reply = write_reply 0 (document_of (write_error 0 refusal) ∷ []); state = old }
+  refused_by (Ok effect) refusal is = absurd cc
+  refused_by (Err other) refusal is =
+      let same : other ≡ refusal = cc in
+      λ i. record { reply = write_reply 0 (document_of (write_error 0 (same i)) ∷ []); state = old }
+
+module _ (old : State) (session : ℕ) (command : Command) (asked : Insert) (d : List Field) (asks : asked_by command ≡ Ok (insert asked)) where
+  does : Result Effect Refusal
+  does = insert_one d (documents_of asked.namespace old.catalog.namespaces)
+
+  carried : step old session command ≡ answered old (carried_out old (insert_write asked))
+  carried = ap (λ (r : Result Asked Refusal). answered old (r >>= answer_to old session)) asks
+
+  module _ (alone : asked.documents ≡ d ∷ []) where
+    answers : step old session command ≡ answer_by old asked.namespace asked.ordered (is_view asked.namespace old.catalog.views) (insert_one d (documents_of asked.namespace old.catalog.namespaces))
+    answers = carried ∙ ap (λ (ds : List (List Field)). answered old (carried_out old (insert_write (record asked { documents = ds })))) alone
+
+    pub load_stored : (new : State) → insert_alone asked.namespace d old ≡ Ok new → step old session command ≡ record { reply = write_reply 1 []; state = new }
+    load_stored new is =
+        answers ∙ stored_by old asked.namespace asked.ordered (is_view asked.namespace old.catalog.views) _ new is (λ effect made. one_matched (storable d) (documents_of asked.namespace old.catalog.namespaces) effect made)
+
+    pub load_refused : (refusal : Refusal) → is_view asked.namespace old.catalog.views ≡ false → insert_alone asked.namespace d old ≡ Err refusal
+        → step old session command ≡ record { reply = write_reply 0 (document_of (write_error 0 refusal) ∷ []); state = old }
+    load_refused refusal on is =
+        answers
+        ∙ ap (λ (b : Bool). answer_by old asked.namespace asked.ordered b (insert_one d (documents_of asked.namespace old.catalog.namespaces))) on
+        ∙ refused_by old asked.namespace asked.ordered _ refusal (rw on at is)
+
+  pub load_on_view : is_view asked.namespace old.catalog.views ≡ true → (insert_alone asked.namespace d old ≡ Err OnView) × (step old session command ≡ record { reply = refusal_reply OnView; state = old })
+  load_on_view on = (rw on refl, carried ∙ rw on refl)
+
+-- ---- the text of a namespace
+
+dot_within : (bs : List ℕ) → has_dot bs ≡ true → position_or_len (λ b. b == 46) bs < length bs
+dot_within [] h = absurd cc
+dot_within (b ∷ bs) h = grind (arith, dot_within bs)
+
+dot_is : (b : ℕ) → (b == 46) ≡ true → b ≡ 46
+dot_is b h = grind arith
+
+joined : (database collection text : List ℕ) (b c : Bool) → is_collection_name collection ≡ b → nat_lt longest_namespace (length (names.dotted database collection)) ≡ c → (if b && not c then Ok (names.dotted database collection) else Err BadValue) ≡ Ok text
+    → names.dotted database collection ≡ text
+joined database collection text true false named short is = cc
+joined database collection text true true named short is = absurd cc
+joined database collection text false c named short is = absurd cc
+
+module _ (text : List ℕ) where
+  abbrev front : List ℕ
+  front = before_first (λ b. b == 46) text
+
+  abbrev rest : List ℕ
+  rest = after_first (λ b. b == 46) text
+
+  whole : has_dot text ≡ true → text ≡ names.dotted front rest
+  whole dotted =
+      let within = dot_within text dotted in
+      let dot = dot_is (get_or text (position_or_len (λ b. b == 46) text) 0) (passes_at_first (λ b. b == 46) text 0 within) in
+      split_at_first (λ b. b == 46) text 0 within ∙ ap (λ (b : ℕ). front ++ b ∷ rest) dot
+
+  by_parts : (dotted named : Bool) (made : List ℕ) → has_dot text ≡ dotted → (if dotted && named then namespace front rest else Err BadValue) ≡ Ok made → made ≡ text
+  by_parts true true made dot is = sym (joined front rest made _ _ refl refl is) ∙ sym (whole dot)
+  by_parts true false made dot is = absurd cc
+  by_parts false named made dot is = absurd cc
+
+  pub named_so : (made : List ℕ) → namespace_in text ≡ Ok made → made ≡ text
+  named_so made is = by_parts (has_dot text) (is_database_name front) made refl is

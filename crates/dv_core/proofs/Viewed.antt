@@ -1,0 +1,153 @@
+-- The stages of views stay sound, and so the rows that stand under each namespace are valid.
+use Rattle.std.proofs.Common.{◌≡◌, inl, inr, ◌||◌, not, ℕ, Bool, true, false, cond, if◌then◌else◌, List, [], ◌∷◌, ◌++◌, map, Option, Some, None, Result, Ok, Err, nat_lt, length, refl, sym, ap, subst}
+use Rattle.std.specs.List.{AllByRecursion}
+use Rattle.dv_bson.specs.Spelling.{AreElements, AreFields}
+use Rattle.dv_bson.specs.Tree.{Tree, Field, elements_of, fields_of}
+use Rattle.dv_catalog.specs.State.{Namespaces, ViewForm, documents_of, has_name, is_collection, is_there, is_view, lists_of, rows_at, rows_of, view_named, with_documents, without_view}
+use Rattle.dv_catalog.specs.Changes.{Effect}
+use Rattle.dv_catalog.specs.State as stored
+use Rattle.dv_catalog.specs.Views.{made, reads, reads_name, reads_view, view_limit, with_view, with_views}
+use Rattle.dv_command.specs.Asked.{Asked, ViewOn, find, aggregate, get_more, kill_cursors, create, drop, create_indexes, drop_indexes, asked_by}
+use Rattle.dv_command.specs.Sound.{AreValid, IsSoundPipeline, IsSoundView, IsSoundlyAsked}
+use Rattle.dv_command.specs.declared.command.Command.{Command}
+use Rattle.dv_core.specs.Indexes.{form_asked}
+use Rattle.dv_core.specs.Insert.{insert_one}
+use Rattle.dv_core.specs.Load.{insert_alone, left_by, loaded, namespace_in}
+use Rattle.dv_core.specs.Sound.{AreSoundViews, IsSound, IsSoundCommand}
+use Rattle.dv_core.specs.State.{State}
+use Rattle.dv_core.specs.Step.{Answer, MemoryStep}
+use Rattle.dv_core.specs.declared.outcome.Outcome.{Outcome}
+use Rattle.dv_core.proofs.Asking.{AsksSoundly, documents_valid, soundly_asked}
+use Rattle.dv_core.proofs.Changed.{Made, MayWrite, outcome_may}
+use Rattle.dv_core.proofs.Made.{created_so, dropped_so}
+use Rattle.dv_fields.specs.Refusals.{◌>>=◌}
+use Rattle.dv_fields.specs.declared.refusal.Refusal.{Refusal}
+use Rattle.dv_fields.specs.declared.refusal.Refusal.TheVariants.{LimitReached, NamespaceExists, NamespaceNotFound, OnView, ReadByView}
+use Rattle.dv_pipe.specs.StageParsing.{pipeline_of}
+use Rattle.dv_pipe.specs.Stages.{Lists, evaluated}
+use Rattle.dv_pipe.specs.declared.stage.Stage.{Stage}
+
+abbrev Sound : List ViewForm → Type 0
+Sound views = AllByRecursion (λ v. IsSoundPipeline v.stages) views
+
+-- ---- views that come and go
+
+one_more : (views : List ViewForm) (v : ViewForm) → Sound views → IsSoundPipeline v.stages → Sound (views ++ v ∷ [])
+one_more [] v all sound = (sound, tt)
+one_more (w ∷ views) v all sound = (all.0, one_more views v all.1 sound)
+
+kept_or_not : (b : Bool) (v : ViewForm) (rest : List ViewForm) → IsSoundPipeline v.stages → Sound rest → Sound (cond b (v ∷ rest) rest)
+kept_or_not true v rest sound all = (sound, all)
+kept_or_not false v rest sound all = all
+
+one_less : (namespace : List ℕ) (views : List ViewForm) → Sound views → Sound (without_view namespace views)
+one_less namespace [] all = tt
+one_less namespace (v ∷ views) all = kept_or_not (not (has_name namespace v)) v (without_view namespace views) all.0 (one_less namespace views all.1)
+
+with_view_sound : (v : ViewForm) (views more : List ViewForm) → with_view v views ≡ Ok more → Sound views → IsSoundPipeline v.stages → Sound more
+with_view_sound v views more is all sound = by_tests (reads_view views v) (reads_name views v.name || reads v v.name) (nat_lt (length views) view_limit) is
+  where
+    by_tests : (a b c : Bool) → (if a then Err OnView else if b then Err ReadByView else if c then Ok (views ++ v ∷ []) else Err LimitReached) ≡ Ok more → Sound more
+    by_tests true b c e = absurd cc
+    by_tests false true c e = absurd cc
+    by_tests false false true e = let same : views ++ v ∷ [] ≡ more = cc in subst Sound same (one_more views v all sound)
+    by_tests false false false e = absurd cc
+
+module _ (old new : stored.State) (all : Sound old.views) where
+  as_before : (state : stored.State) → state ≡ new → Sound state.views → Sound new.views
+  as_before state same sound = subst (λ (s : stored.State). Sound s.views) same sound
+
+  with_views_sound : (v : ViewForm) (result : Result (List ViewForm) Refusal) → with_view v old.views ≡ result → IsSoundPipeline v.stages → with_views old result ≡ Ok new → Sound new.views
+  with_views_sound v (Ok views) so sound is = let same : record old { views = views } ≡ new = cc in as_before (record old { views = views }) same (with_view_sound v old.views views so all sound)
+  with_views_sound v (Err refusal) so sound is = absurd cc
+
+  made_sound : (namespace : List ℕ) (view : Option ViewOn) → IsSoundView view → made namespace view old ≡ Ok new → Sound new.views
+  made_sound namespace None sound is =
+      let same : record old { namespaces = with_documents namespace [] old.namespaces } ≡ new = cc in
+      as_before (record old { namespaces = with_documents namespace [] old.namespaces }) same all
+  made_sound namespace (Some on) sound is = with_views_sound (record { name = namespace; source = on.source; stages = on.stages }) _ refl sound.1 is
+
+  created_sound : (namespace : List ℕ) (view : Option ViewOn) (b : Bool) → IsSoundView view → (if b then Err NamespaceExists else made namespace view old) ≡ Ok new → Sound new.views
+  created_sound namespace view true sound is = absurd cc
+  created_sound namespace view false sound is = made_sound namespace view sound is
+
+  dropped_sound : (namespace : List ℕ) (collection : Namespaces) (a b : Bool)
+      → (if a then Ok (record old { namespaces = collection }) else if b then Ok (record old { views = without_view namespace old.views }) else Err NamespaceNotFound) ≡ Ok new → Sound new.views
+  dropped_sound namespace collection true b is = let same : record old { namespaces = collection } ≡ new = cc in as_before (record old { namespaces = collection }) same all
+  dropped_sound namespace collection false true is =
+      let same : record old { views = without_view namespace old.views } ≡ new = cc in
+      as_before (record old { views = without_view namespace old.views }) same (one_less namespace old.views all)
+  dropped_sound namespace collection false false is = absurd cc
+
+-- ---- each step
+
+same_views : (old new : State) → new.catalog ≡ old.catalog → Sound old.catalog.views → Sound new.catalog.views
+same_views old new same all = subst (λ (s : stored.State). Sound s.views) (sym same) all
+
+made_views : (old new : State) (what : Asked) → IsSoundlyAsked what → Made old what new → Sound old.catalog.views → Sound new.catalog.views
+made_views old new (create c) asked made all = created_sound old.catalog new.catalog all c.namespace c.view (is_there c.namespace old.catalog) asked.1 made.0
+made_views old new (drop d) asked made all = dropped_sound old.catalog new.catalog all d.namespace _ (is_collection d.namespace old.catalog.namespaces) (is_view d.namespace old.catalog.views) made.0
+made_views old new (create_indexes c) asked made all = subst Sound (sym (created_so old.catalog new.catalog c.namespace (map form_asked c.indexes) made.0).views) all
+made_views old new (drop_indexes d) asked made all = subst Sound (sym (dropped_so old.catalog new.catalog d.namespace d.index made.0).views) all
+made_views old new (find f) asked made all = same_views old new made all
+made_views old new (aggregate a) asked made all = same_views old new made all
+made_views old new (get_more g) asked made all = same_views old new made all
+made_views old new (kill_cursors k) asked made all = same_views old new made all
+made_views old new what asked made all = absurd made
+
+pub steps_views : AsksSoundly → (old new : State) (session : ℕ) (command : Command) (outcome : Outcome) → IsSoundCommand command → AreSoundViews old → MemoryStep old session command outcome new → AreSoundViews new
+steps_views asks old new session command outcome sound all steps =
+    let (answer, may, stands) = outcome_may old new session command outcome steps in
+    subst AreSoundViews (sym stands) (stay answer may)
+  where
+    stay : (answer : Answer) → MayWrite old (asked_by command) answer → AreSoundViews answer.state
+    stay answer (inl same) = subst AreSoundViews (sym same) all
+    stay answer (inr (inl w)) = subst (λ (a : Answer). AreSoundViews a.state) (sym w.answers) all
+    stay answer (inr (inr m)) = made_views old answer.state m.what (soundly_asked asks command m.what sound m.asks) m.made all
+
+-- ---- rows
+
+abbrev pub PipesStayValid : Type 0
+PipesStayValid =
+    (list : List Tree) (stages : List Stage) (source : List ℕ) (lists : Lists) → AreElements (elements_of list) → pipeline_of list ≡ Ok stages → ((name : List ℕ) → AllByRecursion (λ d. AreFields (fields_of d)) (lists name))
+    → AllByRecursion (λ d. AreFields (fields_of d)) (evaluated stages source lists)
+
+abbrev SoundIf : Option ViewForm → Type 0
+SoundIf None = Unit {0}
+SoundIf (Some v) = IsSoundPipeline v.stages
+
+first_sound : (b : Bool) (v : ViewForm) (others : Option ViewForm) → IsSoundPipeline v.stages → SoundIf others → SoundIf (cond b (Some v) others)
+first_sound true v others sound rest = sound
+first_sound false v others sound rest = rest
+
+named_sound : (namespace : List ℕ) (views : List ViewForm) → Sound views → SoundIf (view_named namespace views)
+named_sound namespace [] all = tt
+named_sound namespace (v ∷ views) all = first_sound (has_name namespace v) v (view_named namespace views) all.0 (named_sound namespace views all.1)
+
+module _ (pipes : PipesStayValid) (state : State) (sound : IsSound state) (views : AreSoundViews state) where
+  pub rows_valid : (namespace : List ℕ) → AreValid (rows_of namespace state.catalog)
+  rows_valid namespace = of_view (view_named namespace state.catalog.views) (named_sound namespace state.catalog.views views)
+    where
+      of_view : (o : Option ViewForm) → SoundIf o → AreValid (rows_at o namespace state.catalog.namespaces)
+      of_view None h = documents_valid (documents_of namespace state.catalog.namespaces) (sound namespace).1
+      of_view (Some v) h = pipes h.list v.stages v.source (lists_of state.catalog.namespaces) h.valid h.is (λ name. documents_valid (documents_of name state.catalog.namespaces) (sound name).1)
+
+  pub gathered_valid : (stages : List Stage) (source : List ℕ) → IsSoundPipeline stages → AreValid (evaluated stages source (λ name. rows_of name state.catalog))
+  gathered_valid stages source h = pipes h.list stages source (λ name. rows_of name state.catalog) h.valid h.is rows_valid
+
+-- ---- a load
+
+alone_views : (old new : State) (namespace : List ℕ) (does : Result Effect Refusal) → (does >>= λ effect. Ok (left_by namespace old effect)) ≡ Ok new → new.catalog.views ≡ old.catalog.views
+alone_views old new namespace (Ok effect) is = let same : new ≡ left_by namespace old effect = cc in ap (λ (s : State). s.catalog.views) same
+alone_views old new namespace (Err refusal) is = absurd cc
+
+pub loaded_views : (old new : State) (text : List ℕ) (d : List Field) → loaded text d old ≡ Ok new → AreSoundViews old → AreSoundViews new
+loaded_views old new text d is all = subst Sound (sym (by_name (namespace_in text) is)) all
+  where
+    by_view : (namespace : List ℕ) (b : Bool) → (if b then Err OnView else (insert_one d (documents_of namespace old.catalog.namespaces) >>= λ effect. Ok (left_by namespace old effect))) ≡ Ok new → new.catalog.views ≡ old.catalog.views
+    by_view namespace true e = absurd cc
+    by_view namespace false e = alone_views old new namespace (insert_one d (documents_of namespace old.catalog.namespaces)) e
+
+    by_name : (named : Result (List ℕ) Refusal) → (named >>= λ namespace. insert_alone namespace d old) ≡ Ok new → new.catalog.views ≡ old.catalog.views
+    by_name (Ok namespace) e = by_view namespace (is_view namespace old.catalog.views) e
+    by_name (Err refusal) e = absurd cc

@@ -1,0 +1,36 @@
+-- Loading documents into a collection beside any session: each as an insert of it alone.
+use Rattle.std.specs.Prelude.{◌≡◌, ◌⊎◌, ◌==◌, ◌&&◌, ℕ, ℤ, pos, List, Result, Ok, Err, if◌then◌else◌}
+use Rattle.std.specs.List.{after_first, before_first}
+use Rattle.dv_bson.specs.Tree.{Field}
+use Rattle.dv_catalog.specs.Changes.{Effect, apply}
+use Rattle.dv_catalog.specs.State.{documents_of, is_view}
+use Rattle.dv_core.specs.Insert.{insert_one}
+use Rattle.dv_core.specs.State.{State}
+use Rattle.dv_fields.specs.Namespaces.{has_dot, is_database_name, namespace}
+use Rattle.dv_fields.specs.Refusals.{◌>>=◌, code}
+use Rattle.dv_fields.specs.declared.refusal.Refusal.{Refusal}
+use Rattle.dv_fields.specs.declared.refusal.Refusal.TheVariants.{BadValue, OnView, WantOfMemory}
+
+-- the namespace that a text is: its first dot parts the name of a database and that of a collection
+abbrev pub namespace_in : List ℕ → Result (List ℕ) Refusal
+namespace_in text =
+    let database = before_first (λ b. b == 46) text in
+    if has_dot text && is_database_name database then namespace database (after_first (λ b. b == 46) text) else Err BadValue
+
+-- what an effect on the documents of a namespace leaves
+abbrev pub left_by : List ℕ → State → Effect → State
+left_by namespace state effect = record state { catalog = record state.catalog { namespaces = apply namespace effect.changes state.catalog.namespaces } }
+
+-- what an insert of one document into a namespace leaves, or why it is refused; none is made on a view
+abbrev pub insert_alone : List ℕ → List Field → State → Result State Refusal
+insert_alone namespace d state =
+    if is_view namespace state.catalog.views then Err OnView
+    else insert_one d (documents_of namespace state.catalog.namespaces) >>= λ effect. Ok (left_by namespace state effect)
+
+-- the same of the namespace that a text is
+abbrev pub loaded : List ℕ → List Field → State → Result State Refusal
+loaded text d state = namespace_in text >>= λ namespace. insert_alone namespace d state
+
+-- a number tells why something is refused, or that memory is wanting
+abbrev pub IsCodeOf : {S : Type 0} → Result S Refusal → ℤ → Type 0
+IsCodeOf defined number = (refusal : Refusal) × ((defined ≡ Err refusal) ⊎ (refusal ≡ WantOfMemory)) × (number ≡ pos (code refusal))
