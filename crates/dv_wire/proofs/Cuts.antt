@@ -2,13 +2,15 @@
 use Rattle.std.proofs.Common.{◌≡◌, ℕ, suc, ◌+◌, ◌-◌, ◌≤◌, min, List, [], ◌∷◌, ◌++◌, length, take, Option, Some, None, refl, sym, ap, subst, ◌∙◌, append_assoc, zero-add, arith, inl, inr}
 use Rattle.std.proofs.lemmas.Bool.{cases_lt, eq-eqb}
 use Rattle.std.proofs.lemmas.List.{append-nil, take-append-le, take_min}
+use Rattle.std.specs.List.{concat}
+use Rattle.std.proofs.lemmas.List.Folds.{concat-append}
 use Rattle.dv_wire.specs.declared.fault.CloseFault.{CloseFault}
 use Rattle.dv_wire.specs.declared.fault.CloseFault.TheVariants.{NoMemory}
 use Rattle.dv_wire.specs.declared.hub.Fed.{Fed}
 use Rattle.dv_wire.specs.declared.hub.Fed.TheVariants.{Unknown}
 use Rattle.dv_core.specs.State.{State}
 use Rattle.dv_wire.specs.Message.{Message, Conversation, reading, closed, Split, split, continuation}
-use Rattle.dv_wire.specs.Schedule.{Run, in_front, silence, CarriesOut, Takes, takes_all, takes_some, Hears, fed_of, World, conversation_of, with_conversation, world_behind, plain_run, Feeds, FeedsAll, stream_of}
+use Rattle.dv_wire.specs.Schedule.{Run, in_front, silence, CarriesOut, Takes, takes_all, takes_some, Hears, fed_of, World, conversation_of, with_conversation, world_behind, plain_run, bytes_of, Feeds, FeedsAll, stream_of}
 use Rattle.dv_wire.specs.View.{GoesOn}
 use Rattle.dv_wire.proofs.Runs.{in_front-silence, carries_then, carries_to, carries_cases, carries_all, carries_shut, stops_so, Divides}
 use Rattle.dv_wire.proofs.Growth.{split_continues}
@@ -27,7 +29,7 @@ record TakesTwo (session : ℕ) (old : State) (s : Split) (more : List ℕ) (run
   two : Run
   before : Takes session old s one
   behind : Hears session one.state one.conversation more two
-  both : run ≡ in_front one.bytes two
+  both : run ≡ in_front one.answers two
 
 -- a session that is closed takes no more
 hears_nothing : (session : ℕ) (run : Run) (fault : CloseFault) (more : List ℕ) → run.conversation ≡ closed fault → Hears session run.state run.conversation more (silence run.state run.conversation)
@@ -41,7 +43,7 @@ module _ (session : ℕ) (old : State) (more : List ℕ) (run : Run) where
   goes_behind : (messages others : List Message) (conversation : Conversation) (kept : List ℕ) (d : Divides session old messages others conversation run) → Takes session d.mid (split (kept ++ more)) d.two
       → TakesTwo session old (record { messages = messages; conversation = reading kept }) more run
   goes_behind messages others conversation kept d behind =
-      record { one = record { bytes = d.bytes; state = d.mid; conversation = reading kept }; two = d.two; before = takes_all (carries_to session old d.mid messages d.bytes (reading kept) d.before); behind = behind; both = d.both }
+      record { one = record { answers = d.answers; state = d.mid; conversation = reading kept }; two = d.two; before = takes_all (carries_to session old d.mid messages d.answers (reading kept) d.before); behind = behind; both = d.both }
 
   two_of : (messages : List Message) (conversation : Conversation) → Takes session old (continuation (record { messages = messages; conversation = conversation }) more) run
       → TakesTwo session old (record { messages = messages; conversation = conversation }) more run
@@ -79,28 +81,28 @@ messages_more s more (closed fault) e = ([], rw e (sym (append-nil s.messages)))
 module _ (session : ℕ) (old : State) (more : List ℕ) where
   -- a session that was closed answers nothing more
   shut_in_front : (s : Split) (one two : Run) (fault : CloseFault) → one.conversation ≡ closed fault → Hears session one.state one.conversation more two → Takes session old s one
-      → Takes session old s (in_front one.bytes two)
+      → Takes session old s (in_front one.answers two)
   shut_in_front s one two fault shut hears takes =
       let nothing : two ≡ silence one.state one.conversation = rw shut (rw shut at hears) in
-      subst (λ (r : Run). Takes session old s r) (sym (ap (in_front one.bytes) nothing ∙ in_front-silence one)) takes
+      subst (λ (r : Run). Takes session old s r) (sym (ap (in_front one.answers) nothing ∙ in_front-silence one)) takes
 
-  behind_reading : (messages : List Message) (kept bytes : List ℕ) (mid : State) (two : Run) → GoesOn session old messages bytes mid → Takes session mid (split (kept ++ more)) two
-      → Takes session old (continuation (record { messages = messages; conversation = reading kept }) more) (in_front bytes two)
-  behind_reading messages kept bytes mid two before (takes_all behind) =
-      takes_all (carries_then session old mid messages (split (kept ++ more)).messages bytes (split (kept ++ more)).conversation two before behind)
-  behind_reading messages kept bytes mid two before (takes_some count behind) =
+  behind_reading : (messages : List Message) (kept : List ℕ) (answers : List (List ℕ)) (mid : State) (two : Run) → GoesOn session old messages answers mid → Takes session mid (split (kept ++ more)) two
+      → Takes session old (continuation (record { messages = messages; conversation = reading kept }) more) (in_front answers two)
+  behind_reading messages kept answers mid two before (takes_all behind) =
+      takes_all (carries_then session old mid messages (split (kept ++ more)).messages answers (split (kept ++ more)).conversation two before behind)
+  behind_reading messages kept answers mid two before (takes_some count behind) =
       takes_some (length messages + count)
-      (subst (λ (ms : List Message). CarriesOut session old ms (closed NoMemory) (in_front bytes two)) (sym (take_past count messages (split (kept ++ more)).messages))
-      (carries_then session old mid messages (take count (split (kept ++ more)).messages) bytes (closed NoMemory) two before behind))
+      (subst (λ (ms : List Message). CarriesOut session old ms (closed NoMemory) (in_front answers two)) (sym (take_past count messages (split (kept ++ more)).messages))
+      (carries_then session old mid messages (take count (split (kept ++ more)).messages) answers (closed NoMemory) two before behind))
 
-  behind_all : (messages : List Message) (conversation : Conversation) (bytes : List ℕ) (mid : State) (two : Run) → GoesOn session old messages bytes mid → Hears session mid conversation more two
-      → Takes session old (continuation (record { messages = messages; conversation = conversation }) more) (in_front bytes two)
-  behind_all messages (reading kept) bytes mid two before hears = behind_reading messages kept bytes mid two before hears
-  behind_all messages (closed fault) bytes mid two before hears =
-      let one : Run = record { bytes = bytes; state = mid; conversation = closed fault } in
-      shut_in_front (record { messages = messages; conversation = closed fault }) one two fault refl hears (takes_all (carries_to session old mid messages bytes (closed fault) before))
+  behind_all : (messages : List Message) (conversation : Conversation) (answers : List (List ℕ)) (mid : State) (two : Run) → GoesOn session old messages answers mid → Hears session mid conversation more two
+      → Takes session old (continuation (record { messages = messages; conversation = conversation }) more) (in_front answers two)
+  behind_all messages (reading kept) answers mid two before hears = behind_reading messages kept answers mid two before hears
+  behind_all messages (closed fault) answers mid two before hears =
+      let one : Run = record { answers = answers; state = mid; conversation = closed fault } in
+      shut_in_front (record { messages = messages; conversation = closed fault }) one two fault refl hears (takes_all (carries_to session old mid messages answers (closed fault) before))
 
-  one_of : (s : Split) (one two : Run) → Takes session old s one → Hears session one.state one.conversation more two → Takes session old (continuation s more) (in_front one.bytes two)
+  one_of : (s : Split) (one two : Run) → Takes session old s one → Hears session one.state one.conversation more two → Takes session old (continuation s more) (in_front one.answers two)
   one_of s one two (takes_all carried) hears =
       elim (carries_all session old s.messages s.conversation one carried) [
         | inl stops ↦
@@ -109,10 +111,10 @@ module _ (session : ℕ) (old : State) (more : List ℕ) where
             subst (λ (ms : List Message). CarriesOut session old ms (continuation s more).conversation one) (sym others.1) (stops.before others.0 (continuation s more).conversation) in
             shut_in_front (continuation s more) one two NoMemory stops.shut hears (takes_all so)
         | inr d ↦
-            let is : one ≡ record { bytes = d.bytes ++ []; state = d.mid; conversation = s.conversation } = d.both ∙ ap (in_front d.bytes) d.behind in
-            let bytes : one.bytes ≡ d.bytes = ap (λ (r : Run). r.bytes) is ∙ append-nil d.bytes in
-            subst (λ (b : List ℕ). Takes session old (continuation s more) (in_front b two)) (sym bytes)
-            (behind_all s.messages s.conversation d.bytes d.mid two d.before (subst (λ (r : Run). Hears session r.state r.conversation more two) is hears))
+            let is : one ≡ record { answers = d.answers ++ []; state = d.mid; conversation = s.conversation } = d.both ∙ ap (in_front d.answers) d.behind in
+            let answers : one.answers ≡ d.answers = ap (λ (r : Run). r.answers) is ∙ append-nil d.answers in
+            subst (λ (all : List (List ℕ)). Takes session old (continuation s more) (in_front all two)) (sym answers)
+            (behind_all s.messages s.conversation d.answers d.mid two d.before (subst (λ (r : Run). Hears session r.state r.conversation more two) is hears))
       ]
   one_of s one two (takes_some count carried) hears =
       let shut = carries_shut session old (take count s.messages) NoMemory one carried in
@@ -129,7 +131,7 @@ record HearsTwo (session : ℕ) (old : State) (before : Conversation) (piece mor
   two : Run
   first : Hears session old before piece one
   second : Hears session one.state one.conversation more two
-  both : run ≡ in_front one.bytes two
+  both : run ≡ in_front one.answers two
 
 cut_at : (kept piece more : List ℕ) → split (kept ++ (piece ++ more)) ≡ continuation (split (kept ++ piece)) more
 cut_at kept piece more = ap split (sym (append_assoc kept piece more)) ∙ split_continues (kept ++ piece) more
@@ -145,10 +147,15 @@ hears_two session old (reading kept) piece more run hears =
 hears_one : (session : ℕ) (old : State) (before : Conversation) (piece more : List ℕ) (run : Run) → HearsTwo session old before piece more run → Hears session old before (piece ++ more) run
 hears_one session old (closed fault) piece more run two =
     let nothing = subst (λ (r : Run). Hears session r.state r.conversation more two.two) two.first two.second in
-    two.both ∙ ap (λ (r : Run). in_front r.bytes two.two) two.first ∙ nothing
+    two.both ∙ ap (λ (r : Run). in_front r.answers two.two) two.first ∙ nothing
 hears_one session old (reading kept) piece more run two =
     let taken = one_of session old more (split (kept ++ piece)) two.one two.two two.first two.second in
     subst (λ (t : Split). Takes session old t run) (sym (cut_at kept piece more)) (subst (λ (r : Run). Takes session old (continuation (split (kept ++ piece)) more) r) (sym two.both) taken)
+
+pub hears_joined : (session : ℕ) (old : State) (before : Conversation) (piece more : List ℕ) (one two : Run) → Hears session old before piece one → Hears session one.state one.conversation more two
+    → Hears session old before (piece ++ more) (in_front one.answers two)
+hears_joined session old before piece more one two first second =
+    hears_one session old before piece more (in_front one.answers two) (record { one = one; two = two; first = first; second = second; both = refl })
 
 -- ---- the world
 
@@ -157,50 +164,50 @@ is_last session [] first now = refl
 is_last session (s ∷ ss) first now = grind (arith, is_last session ss first now, eq-eqb session session refl)
 
 -- a session that stood in another way between stands as it did last
-world_twice : (old : World) (session : ℕ) (one two : Run) → world_behind session two (world_behind session one old) ≡ world_behind session two old
+pub world_twice : (old : World) (session : ℕ) (one two : Run) → world_behind session two (world_behind session one old) ≡ world_behind session two old
 world_twice old session one two =
     ap (λ (ss : List (ℕ × Conversation)). record { state = two.state; next = old.next; sessions = ss }) (is_last session old.sessions one.conversation two.conversation)
 
 feeds_two : (old new : World) (session : ℕ) (piece more bytes : List ℕ) (answer : Fed) (here : Option Conversation) → conversation_of session old.sessions ≡ here
     → Feeds old session (piece ++ more) bytes answer new → FeedsAll old session piece (more ∷ []) bytes answer new
 feeds_two old new session piece more bytes answer None e feeds =
-    let nothing = rw e at feeds in
-    ([], [], old, Unknown, nothing.0, rw e (refl, refl, refl), rw e (refl, nothing.1, nothing.2))
+    let (answers, is, nothing) = rw e at feeds in
+    ([], [], old, Unknown, is ∙ ap concat nothing.0, ([], refl, rw e (refl, refl, refl)), ([], refl, rw e (refl, nothing.1, nothing.2)))
 feeds_two old new session piece more bytes answer (Some before) e feeds =
-    let (run, hears, are, told, world) = rw e at feeds in
+    let (answers, is, (run, hears, are, told, world)) = rw e at feeds in
     let two = hears_two session old.state before piece more run hears in
     let between : conversation_of session (world_behind session two.one old).sessions ≡ Some two.one.conversation = conversation_of-with session old.sessions before two.one.conversation e in
     let same = ap (λ (r : Run). r.conversation) two.both in (
-      two.one.bytes,
-      two.two.bytes,
+      bytes_of two.one,
+      bytes_of two.two,
       world_behind session two.one old,
       fed_of two.one.conversation,
-      are ∙ ap (λ (r : Run). r.bytes) two.both,
-      rw e (two.one, two.first, refl, refl, refl),
-      rw between (two.two, two.second, refl, told ∙ ap fed_of same, world ∙ ap (λ (r : Run). world_behind session r old) two.both ∙ sym (world_twice old session two.one two.two)),
+      is ∙ ap concat are ∙ ap bytes_of two.both ∙ concat-append two.one.answers two.two.answers,
+      (two.one.answers, refl, rw e (two.one, two.first, refl, refl, refl)),
+      (two.two.answers, refl, rw between (two.two, two.second, refl, told ∙ ap fed_of same, world ∙ ap (λ (r : Run). world_behind session r old) two.both ∙ sym (world_twice old session two.one two.two))),
     )
 
 parts_same : (bytes first others one two : List ℕ) → bytes ≡ first ++ others → first ≡ one → others ≡ two → bytes ≡ one ++ two
 parts_same bytes first others one two both same_one same_two = cc
 
 feeds_so : (old new : World) (session : ℕ) (before : Conversation) (piece more bytes : List ℕ) (answer : Fed) (one two : Run) → conversation_of session old.sessions ≡ Some before
-    → Hears session old.state before piece one → Hears session one.state one.conversation more two → bytes ≡ one.bytes ++ two.bytes → answer ≡ fed_of two.conversation
+    → Hears session old.state before piece one → Hears session one.state one.conversation more two → bytes ≡ bytes_of one ++ bytes_of two → answer ≡ fed_of two.conversation
     → new ≡ world_behind session two (world_behind session one old) → Feeds old session (piece ++ more) bytes answer new
 feeds_so old new session before piece more bytes answer one two e first second are told world =
-    let joint : HearsTwo session old.state before piece more (in_front one.bytes two) = record { one = one; two = two; first = first; second = second; both = refl } in
-    rw e (in_front one.bytes two, hears_one session old.state before piece more (in_front one.bytes two) joint, are, told, world ∙ world_twice old session one two)
+    let both = in_front one.answers two in
+    (both.answers, are ∙ sym (concat-append one.answers two.answers), rw e (both, hears_joined session old.state before piece more one two first second, refl, told, world ∙ world_twice old session one two))
 
 feeds_one : (old new : World) (session : ℕ) (piece more bytes : List ℕ) (answer : Fed) (here : Option Conversation) → conversation_of session old.sessions ≡ here
     → FeedsAll old session piece (more ∷ []) bytes answer new → Feeds old session (piece ++ more) bytes answer new
 feeds_one old new session piece more bytes answer None e (first, others, mid, told, both, before, behind) =
-    let one = rw e at before in
-    let two = rw (one.2, e) at behind in
-    rw e (both ∙ rw (one.0, two.0) refl, two.1, two.2)
+    let (answers, is, one) = rw e at before in
+    let (more_answers, are, two) = rw (one.2, e) at behind in
+    ([], parts_same bytes first others [] [] both (is ∙ ap concat one.0) (are ∙ ap concat two.0), rw e (refl, two.1, two.2))
 feeds_one old new session piece more bytes answer (Some before) e (first, others, mid, told, both, feeds, behind) =
-    let (one, hears, are, told_one, world) = rw e at feeds in
+    let (answers, is, (one, hears, are, told_one, world)) = rw e at feeds in
     let between : conversation_of session (world_behind session one old).sessions ≡ Some one.conversation = conversation_of-with session old.sessions before one.conversation e in
-    let (two, hears_more, are_more, told_two, world_two) = rw between at (subst (λ (w : World). Feeds w session more others answer new) world behind) in
-    feeds_so old new session before piece more bytes answer one two e hears hears_more (parts_same bytes first others one.bytes two.bytes both are are_more) told_two world_two
+    let (more_answers, is_more, (two, hears_more, are_more, told_two, world_two)) = rw between at (subst (λ (w : World). Feeds w session more others answer new) world behind) in
+    feeds_so old new session before piece more bytes answer one two e hears hears_more (parts_same bytes first others (bytes_of one) (bytes_of two) both (is ∙ ap concat are) (is_more ∙ ap concat are_more)) told_two world_two
 
 -- ---- any number of pieces
 
@@ -221,9 +228,9 @@ feeds_all old new session piece (next ∷ pieces) bytes answer feeds =
 -- the plain run, however its bytes are cut
 pub plain_feeds : (world : World) (session : ℕ) (kept piece : List ℕ) (pieces : List (List ℕ)) → conversation_of session world.sessions ≡ Some (reading kept) →
     let run = plain_run session world.state (split (kept ++ stream_of piece pieces)) in
-    FeedsAll world session piece pieces run.bytes (fed_of run.conversation) (world_behind session run world)
+    FeedsAll world session piece pieces (bytes_of run) (fed_of run.conversation) (world_behind session run world)
 plain_feeds world session kept piece pieces there =
     let stream = split (kept ++ stream_of piece pieces) in
     let run = plain_run session world.state stream in
-    feeds_all world (world_behind session run world) session piece pieces run.bytes (fed_of run.conversation)
-    (rw there (run, takes_all (plain_carries session world.state stream.messages stream.conversation), refl, refl, refl))
+    feeds_all world (world_behind session run world) session piece pieces (bytes_of run) (fed_of run.conversation)
+    (run.answers, refl, rw there (run, takes_all (plain_carries session world.state stream.messages stream.conversation), refl, refl, refl))

@@ -9,6 +9,7 @@ mod Brought
 mod Fronts
 mod Runs
 mod Replies
+mod Counting
 mod Streams
 mod Growth
 mod Spelled
@@ -16,5 +17,8 @@ mod Worlds
 mod Soundness
 mod Cuts
 mod Worked
+mod Talks
+mod Ran
+mod Written
 pub mod Plays
 pub mod Orders

@@ -7,7 +7,7 @@ use Rattle.dv_wire.specs.declared.events.Event.{Event}
 use Rattle.dv_wire.specs.declared.events.Event.TheVariants as events
 use Rattle.dv_wire.specs.Message.{Message, Conversation, reading, closed, Split, split}
 use Rattle.dv_wire.specs.Commands.{command_of}
-use Rattle.dv_wire.specs.Schedule.{World, silence, conversation_of, number_limit, plain_messages, plain_run, reply_bytes, session_limit, takes_all, with_conversation, world_behind}
+use Rattle.dv_wire.specs.Schedule.{World, silence, conversation_of, number_limit, plain_messages, plain_run, reply_bytes, bytes_of, session_limit, takes_all, with_conversation, world_behind}
 use Rattle.dv_wire.specs.Playing.{Happens, Plays}
 use Rattle.dv_wire.specs.Order.{Moment, opens, comes, ends, is_room, heard, moments_heard, order, state_behind, replies_behind, plain_fed, plain_event, plain_play, answers}
 use Rattle.dv_wire.proofs.Replies.{plain_carries}
@@ -34,13 +34,13 @@ same_anyway true bytes = refl
 same_anyway false bytes = refl
 
 plain_bytes : (listener session : ℕ) (state : State) (messages : List Message) (conversation : Conversation)
-    → replies_behind listener state (map (comes session) messages) ≡ cond (eqb session listener) (plain_messages session state messages conversation).bytes []
+    → replies_behind listener state (map (comes session) messages) ≡ cond (eqb session listener) (bytes_of (plain_messages session state messages conversation)) []
 unfolding plain_messages
 plain_bytes listener session state [] conversation = same_anyway (eqb session listener) []
 plain_bytes listener session state (message ∷ messages) conversation =
     let answer = step state session (command_of message) in
     ap (λ (bytes : List ℕ). cond (eqb session listener) (reply_bytes message answer.reply) [] ++ bytes) (plain_bytes listener session answer.state messages conversation)
-    ∙ both_or_none (eqb session listener) (reply_bytes message answer.reply) (plain_messages session answer.state messages conversation).bytes
+    ∙ both_or_none (eqb session listener) (reply_bytes message answer.reply) (bytes_of (plain_messages session answer.state messages conversation))
 
 -- ---- some moments, and then others
 
@@ -90,7 +90,7 @@ module _ (session : ℕ) (world : World) (later : List Event) where
   fed_answers listener piece others None = ap (λ (bytes : List ℕ). bytes ++ answers listener later (plain_play world later).said) (sym (same_anyway (eqb session listener) [])) ∙ others world
   fed_answers listener piece others (Some s) =
       let run = plain_run session world.state s in
-      let said_now = cond (eqb session listener) run.bytes [] in
+      let said_now = cond (eqb session listener) (bytes_of run) [] in
       ap (λ (bytes : List ℕ). said_now ++ bytes)
       (others (world_behind session run world)
       ∙ ap (λ (c : Conversation). replies_behind listener run.state (behind c)) (plain_conversation session world.state s.messages s.conversation)
@@ -136,11 +136,12 @@ same_order world one two same = (
 plain_feeds : (world : World) (session : ℕ) (piece : List ℕ) (here : Option Conversation) → conversation_of session world.sessions ≡ here
     → Happens world (events.Piece (record { number = session }) piece) (plain_fed session world (heard piece here)).said (plain_fed session world (heard piece here)).world
 unfolding plain_messages
-plain_feeds world session piece None e = rw e (refl, refl, refl)
+plain_feeds world session piece None e = ([], refl, rw e (refl, refl, refl))
 plain_feeds world session piece (Some (reading kept)) e =
     let s = split (kept ++ piece) in
-    rw e (plain_run session world.state s, takes_all (plain_carries session world.state s.messages s.conversation), refl, refl, refl)
-plain_feeds world session piece (Some (closed fault)) e = rw e (silence world.state (closed fault), refl, refl, refl, refl)
+    let run = plain_run session world.state s in
+    (run.answers, refl, rw e (run, takes_all (plain_carries session world.state s.messages s.conversation), refl, refl, refl))
+plain_feeds world session piece (Some (closed fault)) e = ([], refl, rw e (silence world.state (closed fault), refl, refl, refl, refl))
 
 full_by : (a b : Bool) → a && b ≡ false → (P : Type 0) → (a ≡ false → P) → (b ≡ false → P) → P
 full_by true b e P left right = right e

@@ -1,12 +1,16 @@
 -- Schedules: one event more, and a piece of a session's bytes as two.
-use Rattle.std.proofs.Common.{◌≡◌, ℕ, zero, suc, ◌+◌, ◌<◌, List, [], ◌∷◌, ◌++◌, length, get_or, take, refl, sym, ap, subst, arith}
+use Rattle.std.proofs.Common.{◌≡◌, ℕ, zero, suc, ◌+◌, ◌<◌, Some, Ok, List, [], ◌∷◌, ◌++◌, length, get_or, take, refl, sym, ap, subst, arith}
 use Rattle.dv_wire.specs.declared.events.Event.{Event}
 use Rattle.dv_wire.specs.declared.events.Event.TheVariants as events
 use Rattle.dv_wire.specs.declared.events.Said.{Said}
 use Rattle.dv_wire.specs.declared.events.Said.TheVariants as said
 use Rattle.dv_wire.specs.declared.hub.Fed.{Fed}
 use Rattle.dv_wire.specs.declared.hub.SessionId.{SessionId}
-use Rattle.dv_wire.specs.Schedule.{World, FeedsAll}
+use Rattle.dv_wire.specs.Message.{reading}
+use Rattle.dv_wire.specs.Schedule.{Run, World, FeedsAll, bytes_of, conversation_of, fed_of, unfinished_in, world_behind}
+use Rattle.dv_wire.specs.Service.{IsSession}
+use Rattle.dv_wire.specs.Sound.{IsNumbered}
+use Rattle.dv_wire.proofs.Worlds.{conversation_of-with, opened_there}
 use Rattle.dv_wire.specs.Playing.{Happens, Plays, ComesInTwo}
 use Rattle.dv_wire.proofs.Cuts.{feeds_joined, feeds_all}
 
@@ -75,3 +79,28 @@ module _ (session : SessionId) (piece more : List ℕ) (after : List Event) (tol
       let plays = as_one mid new before answers bytes (omega arith)
       (one, two, told_first, both, subst (λ (ss : List Said). Plays mid (before ++ events.Piece session piece ∷ events.Piece session more ∷ after) ss new) tail rest) in
       (answer, _, mid, refl, subst (λ (s : Said). Happens old event s mid) (sym head) here, plays)
+
+-- ---- a whole session
+
+pub session_plays : (old new : World) (bytes : List ℕ) (run : Run) → IsNumbered old → (whole : IsSession old bytes run new)
+    → Plays old (events.Open ∷ events.Piece whole.session bytes ∷ events.End whole.session ∷ [])
+    (said.Opened (Ok whole.session) ∷ said.Fed (fed_of run.conversation) (bytes_of run) ∷ said.Ended (unfinished_in (Some run.conversation)) ∷ []) new
+session_plays old new bytes run numbered whole =
+    let n = whole.session.number in
+    let there = (opened_there old whole.begun whole.session numbered whole.opened).1 in
+    let mid = world_behind n run whole.begun in
+    let stands : conversation_of n mid.sessions ≡ Some run.conversation = conversation_of-with n whole.begun.sessions (reading []) run.conversation there in (
+      said.Opened (Ok whole.session),
+      said.Fed (fed_of run.conversation) (bytes_of run) ∷ said.Ended (unfinished_in (Some run.conversation)) ∷ [],
+      whole.begun,
+      refl,
+      whole.opened,
+      (
+        said.Fed (fed_of run.conversation) (bytes_of run),
+        said.Ended (unfinished_in (Some run.conversation)) ∷ [],
+        mid,
+        refl,
+        (run.answers, refl, rw there (run, whole.heard, refl, refl, refl)),
+        (said.Ended (unfinished_in (Some run.conversation)), [], new, refl, (sym (ap unfinished_in stands), whole.ended), (refl, refl)),
+      ),
+    )

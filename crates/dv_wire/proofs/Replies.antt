@@ -1,5 +1,5 @@
 -- The bytes of a reply, and what carrying out one message answers.
-use Rattle.std.proofs.Common.{true, ◌≡◌, ℕ, ◌+◌, ◌-◌, ◌⊎◌, List, [], ◌∷◌, ◌++◌, length, take, drop, Some, Result, Ok, Err, refl, sym, ap, ◌∙◌, append_assoc, arith, inl, inr}
+use Rattle.std.proofs.Common.{true, ◌≡◌, ℕ, ◌+◌, ◌-◌, ◌<◌, ◌⊎◌, List, [], ◌∷◌, ◌++◌, length, take, drop, Some, Result, Ok, Err, refl, sym, ap, ◌∙◌, append_assoc, arith, inl, inr}
 use Rattle.std.specs.Prelude.{OnOk, OnErr}
 use Rattle.std.specs.Int.{w32, to_le_bytes}
 use Rattle.std.proofs.lemmas.List.{append-nil, take_at, drop_at, drop-drop, length-append}
@@ -13,10 +13,11 @@ use Rattle.dv_core.specs.State.{State}
 use Rattle.dv_wire.specs.declared.fault.CloseFault.TheVariants.{NoMemory}
 use Rattle.dv_wire.specs.Message.{Message, message_spelling, Conversation, reading, closed}
 use Rattle.dv_core.specs.Step.{Answer, step, answered, MemoryStep, TellsOfWant}
-use Rattle.dv_wire.specs.Schedule.{Appends, Run, in_front, silence, bytes_to, CarriesOut, plain_messages}
+use Rattle.dv_wire.specs.Schedule.{Run, in_front, silence, unanswered, bytes_to, CarriesOut, plain_messages}
 use Rattle.dv_wire.specs.Commands.{command_of}
-use Rattle.dv_wire.specs.View.{GoesOn, Carries, unmeasured}
-use Rattle.dv_wire.proofs.Runs.{follows_shut, follows_on, follows_cases, in_front-silence}
+use Rattle.dv_wire.specs.declared.session.Counts.{Counts}
+use Rattle.dv_wire.specs.View.{Answered, Counted, GoesOn, unmeasured}
+use Rattle.dv_wire.proofs.Runs.{follows_shut, follows_on, follows_cases}
 
 -- ---- bytes
 
@@ -46,6 +47,11 @@ put_in old body all put response_to start len is_all is_start is_len is_put same
     let whole : put ≡ old ++ message_spelling 0 response_to 0 (0 ∷ body) = is_put ∙ rw (is_start, is_all) (measure old body response_to) in
     take_at put (drop (length put) all) len (same ∙ sym is_len) ∙ whole
 
+-- a message has bytes
+pub message_spelling-some : (request_id response_to flags : ℕ) (sections : List ℕ) → 0 < length (message_spelling request_id response_to flags sections)
+unfolding message_spelling
+message_spelling-some request_id response_to flags sections = omega arith
+
 -- ---- the command that a message brings
 
 -- where memory was wanting to read a command, that is told of it which may be told of any command
@@ -66,23 +72,26 @@ steps_as session old new meant read outcome (inr e) steps told = steps_unread se
 
 module _ (session : ℕ) (old new : State) (message : Message) (outcome : Outcome) (steps : MemoryStep old session (command_of message) outcome new) where
   -- its answer, and the session goes on
-  pub carries_on : (bytes : List ℕ) → bytes_to message outcome ≡ Some bytes → GoesOn session old (message ∷ []) bytes new
+  carries_on : (bytes : List ℕ) → bytes_to message outcome ≡ Some bytes → GoesOn session old (message ∷ []) (bytes ∷ []) new
   carries_on bytes is = (
     outcome,
     new,
     steps,
-    follows_on (bytes_to message outcome) new (CarriesOut session new [] (reading [])) bytes (silence new (reading [])) (record { bytes = bytes; state = new; conversation = reading [] }) is refl
-        (sym (in_front-silence (record { bytes = bytes; state = new; conversation = reading [] }))),
+    follows_on (bytes_to message outcome) new (CarriesOut session new [] (reading [])) bytes (silence new (reading [])) (record { answers = bytes ∷ []; state = new; conversation = reading [] }) is refl refl,
   )
 
   -- in place of its answer the session is closed
-  pub closes : CarriesOut session old (message ∷ []) (reading []) (silence new (closed NoMemory))
-  closes = (outcome, new, steps, follows_shut (bytes_to message outcome) new (CarriesOut session new [] (reading [])) (silence new (closed NoMemory)) refl)
+  closes : CarriesOut session old (message ∷ []) (reading []) (unanswered new (closed NoMemory))
+  closes = (outcome, new, steps, follows_shut (bytes_to message outcome) new (CarriesOut session new [] (reading [])) (unanswered new (closed NoMemory)) refl)
 
-  pub answers : {A E : Type 0} (sent : Result A E) (bytes before after : List ℕ) → bytes_to message outcome ≡ Some bytes → OnOk sent (after ≡ before ++ bytes) → OnErr sent (after ≡ before)
-      → Appends before after (λ bytes. Carries session old message bytes new sent)
-  answers (Ok x) bytes before after is ok err = (bytes, ok, carries_on bytes is)
-  answers (Err e) bytes before after is ok err = ([], err ∙ sym (append-nil before), closes)
+  module _ (before after : List ℕ) (c d : Counts) where
+    pub is_answered : (bytes : List ℕ) → bytes_to message outcome ≡ Some bytes → after ≡ before ++ bytes → Counted c (bytes ∷ []) d
+        → Answered before after c d (λ all. GoesOn session old (message ∷ []) all new)
+    is_answered bytes is appended counted = (bytes ∷ [], appended ∙ ap (λ (b : List ℕ). before ++ b) (sym (append-nil bytes)), counted, carries_on bytes is)
+
+    pub is_closed : after ≡ before → Counted c ([] ∷ []) d
+        → Answered before after c d (λ all. CarriesOut session old (message ∷ []) (reading []) (record { answers = all; state = new; conversation = closed NoMemory }))
+    is_closed same counted = ([] ∷ [], same ∙ sym (append-nil before), counted, closes)
 
 -- ---- the plain run
 
@@ -97,20 +106,20 @@ plain_carries session old (message ∷ messages) conversation =
 -- ---- a message with moreToCome
 
 goes_on_done : (session : ℕ) (old mid : State) (message : Message) (outcome : Outcome) (conversation : Conversation) (run : Run) (bytes : List ℕ) → message.more_to_come ≡ true
-    → MemoryStep old session (command_of message) outcome mid → bytes_to message outcome ≡ Some bytes → run ≡ in_front bytes (silence mid conversation)
-    → run ≡ silence (step old session (command_of message)).state conversation
+    → MemoryStep old session (command_of message) outcome mid → bytes_to message outcome ≡ Some bytes → run ≡ in_front (bytes ∷ []) (silence mid conversation)
+    → run ≡ unanswered (step old session (command_of message)).state conversation
 goes_on_done session old mid message (Reply reply) conversation run bytes more steps is e =
     let nothing : [] ≡ bytes = (let sent : Some [] ≡ Some bytes = rw more at is in cc) in
     let same : (step old session (command_of message)).state ≡ mid = ap (λ (a : Answer). a.state) steps in
-    e ∙ ap (λ (b : List ℕ). in_front b (silence mid conversation)) (sym nothing) ∙ ap (λ (s : State). silence s conversation) (sym same)
+    e ∙ ap (λ (b : List ℕ). in_front (b ∷ []) (silence mid conversation)) (sym nothing) ∙ ap (λ (s : State). unanswered s conversation) (sym same)
 goes_on_done session old mid message (Wanting reply) conversation run bytes more steps is e = let sent = rw more at is in absurd cc
 goes_on_done session old mid message NoReply conversation run bytes more steps is e = absurd cc
 
 -- where the session goes on, its step was carried out
 pub silent_done : (session : ℕ) (old : State) (message : Message) (kept : List ℕ) (run : Run) → message.more_to_come ≡ true → CarriesOut session old (message ∷ []) (reading kept) run
-    → run.conversation ≡ reading kept → run ≡ silence (step old session (command_of message)).state (reading kept)
+    → run.conversation ≡ reading kept → run ≡ unanswered (step old session (command_of message)).state (reading kept)
 silent_done session old message kept run more (outcome, mid, steps, follows) on =
     elim (follows_cases (bytes_to message outcome) mid (CarriesOut session mid [] (reading kept)) run follows) [
       | inl shut ↦ let e = sym on ∙ ap (λ (r : Run). r.conversation) shut in absurd cc
-      | inr a ↦ goes_on_done session old mid message outcome (reading kept) run a.bytes more steps a.is (a.both ∙ ap (in_front a.bytes) a.behind)
+      | inr a ↦ goes_on_done session old mid message outcome (reading kept) run a.bytes more steps a.is (a.both ∙ ap (in_front (a.bytes ∷ [])) a.behind)
     ]

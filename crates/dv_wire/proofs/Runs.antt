@@ -5,23 +5,23 @@ use Rattle.dv_wire.specs.declared.fault.CloseFault.{CloseFault}
 use Rattle.dv_wire.specs.declared.fault.CloseFault.TheVariants.{NoMemory}
 use Rattle.dv_core.specs.State.{State}
 use Rattle.dv_wire.specs.Message.{Message, Conversation, reading, closed}
-use Rattle.dv_wire.specs.Schedule.{Run, in_front, silence, bytes_to, Follows, CarriesOut}
+use Rattle.dv_wire.specs.Schedule.{Run, in_front, silence, unanswered, bytes_to, Follows, CarriesOut}
 use Rattle.dv_wire.specs.View.{GoesOn}
 
-pub in_front_twice : (one two : List ℕ) (run : Run) → in_front (one ++ two) run ≡ in_front one (in_front two run)
-in_front_twice one two run = ap (λ (bytes : List ℕ). record { bytes = bytes; state = run.state; conversation = run.conversation }) (append_assoc one two run.bytes)
+pub in_front_twice : (one two : List (List ℕ)) (run : Run) → in_front (one ++ two) run ≡ in_front one (in_front two run)
+in_front_twice one two run = ap (λ (all : List (List ℕ)). record { answers = all; state = run.state; conversation = run.conversation }) (append_assoc one two run.answers)
 
 -- a run behind which nothing is answered any more
-pub in_front-silence : (run : Run) → in_front run.bytes (silence run.state run.conversation) ≡ run
-in_front-silence run = ap (λ (bytes : List ℕ). record { bytes = bytes; state = run.state; conversation = run.conversation }) (append-nil run.bytes)
+pub in_front-silence : (run : Run) → in_front run.answers (silence run.state run.conversation) ≡ run
+in_front-silence run = ap (λ (all : List (List ℕ)). record { answers = all; state = run.state; conversation = run.conversation }) (append-nil run.answers)
 
 -- ---- behind one step
 
-pub follows_shut : (answer : Option (List ℕ)) (state : State) (Others : Run → Type 0) (run : Run) → run ≡ silence state (closed NoMemory) → Follows answer state Others run
+pub follows_shut : (answer : Option (List ℕ)) (state : State) (Others : Run → Type 0) (run : Run) → run ≡ unanswered state (closed NoMemory) → Follows answer state Others run
 follows_shut None state Others run shut = shut
 follows_shut (Some bytes) state Others run shut = inr shut
 
-pub follows_on : (answer : Option (List ℕ)) (state : State) (Others : Run → Type 0) (bytes : List ℕ) (others run : Run) → answer ≡ Some bytes → Others others → run ≡ in_front bytes others
+pub follows_on : (answer : Option (List ℕ)) (state : State) (Others : Run → Type 0) (bytes : List ℕ) (others run : Run) → answer ≡ Some bytes → Others others → run ≡ in_front (bytes ∷ []) others
     → Follows answer state Others run
 follows_on answer state Others bytes others run is behind e = subst (λ (a : Option (List ℕ)). Follows a state Others run) (sym is) (inl (others, behind, e))
 
@@ -31,9 +31,9 @@ pub record Answers (answer : Option (List ℕ)) (Others : Run → Type 0) (run :
   pub others : Run
   pub is : answer ≡ Some bytes
   pub behind : Others others
-  pub both : run ≡ in_front bytes others
+  pub both : run ≡ in_front (bytes ∷ []) others
 
-pub follows_cases : (answer : Option (List ℕ)) (state : State) (Others : Run → Type 0) (run : Run) → Follows answer state Others run → (run ≡ silence state (closed NoMemory)) ⊎ Answers answer Others run
+pub follows_cases : (answer : Option (List ℕ)) (state : State) (Others : Run → Type 0) (run : Run) → Follows answer state Others run → (run ≡ unanswered state (closed NoMemory)) ⊎ Answers answer Others run
 follows_cases None state Others run follows = inl follows
 follows_cases (Some bytes) state Others run (inl (others, behind, both)) = inr (record { bytes = bytes; others = others; is = refl; behind = behind; both = both })
 follows_cases (Some bytes) state Others run (inr shut) = inl shut
@@ -51,16 +51,16 @@ stops_so session old messages run conversation stops =
 
 -- or the first of its messages are carried out, and then the second
 pub record Divides (session : ℕ) (old : State) (first second : List Message) (conversation : Conversation) (run : Run) : Type 0 where
-  pub bytes : List ℕ
+  pub answers : List (List ℕ)
   pub mid : State
   pub two : Run
-  pub before : GoesOn session old first bytes mid
+  pub before : GoesOn session old first answers mid
   pub behind : CarriesOut session mid second conversation two
-  pub both : run ≡ in_front bytes two
+  pub both : run ≡ in_front answers two
 
 pub carries_cases : (session : ℕ) (old : State) (first second : List Message) (conversation : Conversation) (run : Run) → CarriesOut session old (first ++ second) conversation run
     → Stops session old first run ⊎ Divides session old first second conversation run
-carries_cases session old [] second conversation run h = inr (record { bytes = []; mid = old; two = run; before = refl; behind = h; both = refl })
+carries_cases session old [] second conversation run h = inr (record { answers = []; mid = old; two = run; before = refl; behind = h; both = refl })
 carries_cases session old (message ∷ messages) second conversation run (outcome, mid, steps, follows) =
     elim (follows_cases (bytes_to message outcome) mid (CarriesOut session mid (messages ++ second) conversation) run follows) [
       | inl shut ↦ inl (record {
@@ -73,18 +73,18 @@ carries_cases session old (message ∷ messages) second conversation run (outcom
           before = λ more after. (outcome, mid, steps, follows_on (bytes_to message outcome) mid (CarriesOut session mid (messages ++ more) after) a.bytes a.others run a.is (stops.before more after) a.both);
         })
         | inr d ↦ inr (record {
-          bytes = a.bytes ++ d.bytes;
+          answers = a.bytes ∷ d.answers;
           mid = d.mid;
           two = d.two;
           before = (
             outcome,
             mid,
             steps,
-            follows_on (bytes_to message outcome) mid (CarriesOut session mid messages (reading [])) a.bytes (record { bytes = d.bytes; state = d.mid; conversation = reading [] })
-                (record { bytes = a.bytes ++ d.bytes; state = d.mid; conversation = reading [] }) a.is d.before refl,
+            follows_on (bytes_to message outcome) mid (CarriesOut session mid messages (reading [])) a.bytes (record { answers = d.answers; state = d.mid; conversation = reading [] })
+                (record { answers = a.bytes ∷ d.answers; state = d.mid; conversation = reading [] }) a.is d.before refl,
           );
           behind = d.behind;
-          both = a.both ∙ ap (in_front a.bytes) d.both ∙ sym (in_front_twice a.bytes d.bytes d.two);
+          both = a.both ∙ ap (in_front (a.bytes ∷ [])) d.both ∙ sym (in_front_twice (a.bytes ∷ []) d.answers d.two);
         })
       ]
     ]
@@ -107,10 +107,10 @@ carries_shut session old messages fault run h =
 -- ---- one list, and then another
 
 carries_behind : (session : ℕ) (old mid : State) (first second : List Message) (conversation : Conversation) (one two : Run) → CarriesOut session old first (reading []) one
-    → one.conversation ≡ reading [] → one.state ≡ mid → CarriesOut session mid second conversation two → CarriesOut session old (first ++ second) conversation (in_front one.bytes two)
+    → one.conversation ≡ reading [] → one.state ≡ mid → CarriesOut session mid second conversation two → CarriesOut session old (first ++ second) conversation (in_front one.answers two)
 carries_behind session old mid [] second conversation one two before on is behind =
     let same : old ≡ mid = sym (ap (λ (r : Run). r.state) before) ∙ is in
-    let nothing : in_front one.bytes two ≡ two = ap (λ (r : Run). in_front r.bytes two) before in
+    let nothing : in_front one.answers two ≡ two = ap (λ (r : Run). in_front r.answers two) before in
     subst (λ (r : Run). CarriesOut session old second conversation r) (sym nothing) (subst (λ (s : State). CarriesOut session s second conversation two) (sym same) behind)
 carries_behind session old mid (message ∷ messages) second conversation one two (outcome, from, steps, follows) on is behind =
     elim (follows_cases (bytes_to message outcome) from (CarriesOut session from messages (reading [])) one follows) [
@@ -121,20 +121,20 @@ carries_behind session old mid (message ∷ messages) second conversation one tw
             outcome,
             from,
             steps,
-            follows_on (bytes_to message outcome) from (CarriesOut session from (messages ++ second) conversation) a.bytes (in_front a.others.bytes two) (in_front one.bytes two) a.is others
-                (ap (λ (r : Run). in_front r.bytes two) a.both ∙ in_front_twice a.bytes a.others.bytes two),
+            follows_on (bytes_to message outcome) from (CarriesOut session from (messages ++ second) conversation) a.bytes (in_front a.others.answers two) (in_front one.answers two) a.is others
+                (ap (λ (r : Run). in_front r.answers two) a.both ∙ in_front_twice (a.bytes ∷ []) a.others.answers two),
           )
     ]
 
-pub carries_then : (session : ℕ) (old mid : State) (first second : List Message) (bytes : List ℕ) (conversation : Conversation) (two : Run)
-    → GoesOn session old first bytes mid → CarriesOut session mid second conversation two → CarriesOut session old (first ++ second) conversation (in_front bytes two)
-carries_then session old mid first second bytes conversation two before behind =
-    carries_behind session old mid first second conversation (record { bytes = bytes; state = mid; conversation = reading [] }) two before refl refl behind
+pub carries_then : (session : ℕ) (old mid : State) (first second : List Message) (answers : List (List ℕ)) (conversation : Conversation) (two : Run)
+    → GoesOn session old first answers mid → CarriesOut session mid second conversation two → CarriesOut session old (first ++ second) conversation (in_front answers two)
+carries_then session old mid first second answers conversation two before behind =
+    carries_behind session old mid first second conversation (record { answers = answers; state = mid; conversation = reading [] }) two before refl refl behind
 
 -- a session whose messages are carried out stands as given behind them
-pub carries_to : (session : ℕ) (old mid : State) (messages : List Message) (bytes : List ℕ) (conversation : Conversation) → GoesOn session old messages bytes mid
-    → CarriesOut session old messages conversation (record { bytes = bytes; state = mid; conversation = conversation })
-carries_to session old mid messages bytes conversation before =
-    subst (λ (ms : List Message). CarriesOut session old ms conversation (record { bytes = bytes; state = mid; conversation = conversation })) (append-nil messages)
-    (subst (λ (r : Run). CarriesOut session old (messages ++ []) conversation r) (in_front-silence (record { bytes = bytes; state = mid; conversation = conversation }))
-    (carries_then session old mid messages [] bytes conversation (silence mid conversation) before refl))
+pub carries_to : (session : ℕ) (old mid : State) (messages : List Message) (answers : List (List ℕ)) (conversation : Conversation) → GoesOn session old messages answers mid
+    → CarriesOut session old messages conversation (record { answers = answers; state = mid; conversation = conversation })
+carries_to session old mid messages answers conversation before =
+    subst (λ (ms : List Message). CarriesOut session old ms conversation (record { answers = answers; state = mid; conversation = conversation })) (append-nil messages)
+    (subst (λ (r : Run). CarriesOut session old (messages ++ []) conversation r) (in_front-silence (record { answers = answers; state = mid; conversation = conversation }))
+    (carries_then session old mid messages [] answers conversation (silence mid conversation) before refl))

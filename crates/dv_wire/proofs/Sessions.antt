@@ -13,11 +13,11 @@ use Rattle.dv_wire.specs.declared.session.Session.{Session}
 use Rattle.dv_wire.specs.declared.hub.Fed.{Fed}
 use Rattle.dv_wire.specs.declared.hub.Fed.TheVariants.{Unknown}
 use Rattle.dv_core.specs.State.{State}
-use Rattle.dv_wire.specs.Message.{Conversation}
-use Rattle.dv_wire.specs.Schedule.{Run, World, conversation_of, with_conversation, sessions_but, fed_of, Hears, Feeds}
+use Rattle.dv_wire.specs.Message.{Conversation, reading}
+use Rattle.dv_wire.specs.Schedule.{Run, World, conversation_of, with_conversation, sessions_but, fed_of, Hears, Comes}
 use Rattle.dv_wire.specs.Sound.{AreNumbered}
 use Rattle.dv_wire.specs.View.{conversation_seen, session_seen}
-use Rattle.dv_wire.proofs.Worlds.{AreNumbered-append, AreNumbered-with, AreNumbered-but}
+use Rattle.dv_wire.proofs.Worlds.{AreNumbered-append, AreNumbered-with, AreNumbered-but, at_next, conversation_of-append}
 
 -- ---- found by halves
 
@@ -135,22 +135,22 @@ module _ (n : ℕ) where
   world state next ss = record { state = state; next = next; sessions = map session_seen ss }
 
   -- a session that isn't there takes nothing
-  pub feeds_nobody : (state : State) (next : ℕ) (ss : List Session) (piece : List ℕ) → position_from (λ s. eqb s.number n) 0 ss ≡ None
-      → Feeds (world state next ss) n piece [] Unknown (world state next ss)
-  feeds_nobody state next ss piece place = rw (nowhere ss place).0 (refl, refl, refl)
+  pub comes_to_nobody : (state : State) (next : ℕ) (ss : List Session) (piece : List ℕ) → position_from (λ s. eqb s.number n) 0 ss ≡ None
+      → Comes (world state next ss) n piece [] Unknown (world state next ss)
+  comes_to_nobody state next ss piece place = rw (nowhere ss place).0 (refl, refl, refl)
 
   -- what one session takes is what the world takes
-  pub feeds_one : (old state : State) (next k : ℕ) (ss : List Session) (before after : Session) (piece bytes : List ℕ) (answer : Fed)
+  pub comes_to_one : (old state : State) (next k : ℕ) (ss : List Session) (before after : Session) (piece : List ℕ) (answers : List (List ℕ)) (answer : Fed)
       → position_from (λ s. eqb s.number n) 0 ss ≡ Some k → before ≡ get_or ss k before
-      → Hears before.number old (conversation_seen before.conversation) piece (record { bytes = bytes; state = state; conversation = conversation_seen after.conversation })
+      → Hears before.number old (conversation_seen before.conversation) piece (record { answers = answers; state = state; conversation = conversation_seen after.conversation })
       → answer ≡ fed_of (conversation_seen after.conversation) → after.number ≡ before.number
-      → Feeds (world old next ss) n piece bytes answer (world state next (set ss k after))
-  feeds_one old state next k ss before after piece bytes answer place here hears tells same =
+      → Comes (world old next ss) n piece answers answer (world state next (set ss k after))
+  comes_to_one old state next k ss before after piece answers answer place here hears tells same =
       let seen = there k ss before place in
       let number : before.number ≡ n = ap (λ s. s.number) here ∙ seen.1 in
       let set_to : record { number = n; conversation = after.conversation } ≡ after = ap (λ m. record { number = m; conversation = after.conversation }) (sym (same ∙ number)) in
       let now_there : conversation_of n (map session_seen ss) ≡ Some (conversation_seen before.conversation) = seen.0 ∙ ap (λ s. Some (conversation_seen s.conversation)) (sym here) in
-      let run : Run = record { bytes = bytes; state = state; conversation = conversation_seen after.conversation } in
+      let run : Run = record { answers = answers; state = state; conversation = conversation_seen after.conversation } in
       rw now_there (run, rw (← number) hears, refl, tells, rw (with_conversation-set k ss after.conversation place, set_to) refl)
 
 -- and where one is opened
@@ -162,3 +162,11 @@ numbered_more ss new next s numbered is same =
     (subst (λ (seen : List (ℕ × Conversation)). AreNumbered 0 seen (suc next)) seen
     (subst (λ (m : ℕ). AreNumbered 0 (map session_seen ss ++ (m, conversation_seen s.conversation) ∷ []) (suc next)) (sym same)
     (AreNumbered-append 0 (map session_seen ss) next (conversation_seen s.conversation) numbered)))
+
+pub opened_seen : (ss new : List Session) (next : ℕ) (s : Session) → AreNumbered 0 (map session_seen ss) next → new ≡ ss ++ s ∷ [] → s.number ≡ next → conversation_seen s.conversation ≡ reading []
+    → conversation_of next (map session_seen new) ≡ Some (reading [])
+opened_seen ss new next s numbered is same empty =
+    ap (λ (all : List Session). conversation_of next (map session_seen all)) is
+    ∙ ap (conversation_of next) (map-append session_seen ss (s ∷ []))
+    ∙ conversation_of-append next s.number (map session_seen ss) (conversation_seen s.conversation) (at_next 0 (map session_seen ss) next numbered) same
+    ∙ ap Some empty

@@ -224,9 +224,9 @@ ended_sound old session sound = record { documents = sound.documents; keeping = 
 
 module _ (stays : StaysSound) (reads : ReadsSound) (old new : World) (session : ℕ) (piece bytes : List ℕ) (answer : Fed) where
   fed_sound_by : (here : Option Conversation) → conversation_of session old.sessions ≡ here → IsSoundWorld old → IsBytes piece → Feeds old session piece bytes answer new → IsSoundWorld new
-  fed_sound_by None e sound h feeds = subst IsSoundWorld (sym (rw e at feeds).2) sound
+  fed_sound_by None e sound h feeds = let (answers, is, nothing) = rw e at feeds in subst IsSoundWorld (sym nothing.2) sound
   fed_sound_by (Some before) e sound h feeds =
-      let (run, hears, are, told, world) = rw e at feeds in
+      let (answers, is, (run, hears, are, told, world)) = rw e at feeds in
       let behind = hears_sound reads stays session old.state before piece run sound.documents (conversation_keeps session old.sessions before sound.keeping e) h hears in
       subst IsSoundWorld (sym world) (record { documents = behind.documents; keeping = KeepBytes-with session run.conversation old.sessions sound.keeping behind.keeps })
 

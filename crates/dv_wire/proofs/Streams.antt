@@ -6,11 +6,14 @@ use Rattle.dv_wire.specs.declared.fault.CloseFault.TheVariants.{NoMemory}
 use Rattle.dv_core.specs.State.{State}
 use Rattle.dv_wire.specs.Sections.{number_behind}
 use Rattle.dv_wire.specs.Message.{Message, Front, unfinished, closing, whole, front, Conversation, reading, closed, Split, split_behind, split_from, split_within, split}
-use Rattle.dv_wire.specs.Schedule.{Run, in_front, CarriesOut, Appends, Takes, takes_all, takes_some}
+use Rattle.std.specs.List.{concat}
+use Rattle.dv_wire.specs.Schedule.{Run, in_front, CarriesOut, Takes, takes_all, takes_some}
+use Rattle.dv_wire.specs.declared.session.Counts.{Counts}
 use Rattle.dv_wire.specs.declared.front.Front as code
 use Rattle.dv_wire.specs.declared.front.Front.TheVariants.{Closing}
-use Rattle.dv_wire.specs.View.{front_seen, GoesOn, Carries}
+use Rattle.dv_wire.specs.View.{front_seen, Answered, Counted, GoesOn, Carries}
 use Rattle.dv_wire.proofs.Fronts.{front_shows}
+use Rattle.dv_wire.proofs.Counting.{answered_more, Counted-append, Counted-none}
 use Rattle.dv_wire.proofs.Runs.{carries_then, carries_to, carries_cases}
 
 -- ---- what the code sees at a front
@@ -63,32 +66,35 @@ split_whole bytes message following e = split_step bytes ∙ rw e refl
 -- ---- as far as a loop has come
 
 -- the messages carried out so far and what they answered; the stream is they and the rest
-pub record Progress (session : ℕ) (old new : State) (stream following out_before out_after : List ℕ) : Type 0 where
+pub record Progress (session : ℕ) (old new : State) (stream following out_before out_after : List ℕ) (before after : Counts) : Type 0 where
   pub messages : List Message
-  pub bytes : List ℕ
+  pub answers : List (List ℕ)
   pub taken : List ℕ
-  pub answered : out_after ≡ out_before ++ bytes
-  pub carried : GoesOn session old messages bytes new
+  pub answered : out_after ≡ out_before ++ concat answers
+  pub counted : Counted before answers after
+  pub carried : GoesOn session old messages answers new
   pub splits : split stream ≡ split_before messages (split following)
   pub parts : stream ≡ taken ++ following
 
-pub begins : (session : ℕ) (old : State) (stream out : List ℕ) → Progress session old old stream stream out out
-begins session old stream out = record { messages = []; bytes = []; taken = []; answered = sym (append-nil out); carried = refl; splits = refl; parts = refl }
+pub begins : (session : ℕ) (old : State) (stream out : List ℕ) (counts : Counts) → Progress session old old stream stream out out counts counts
+begins session old stream out counts =
+    record { messages = []; answers = []; taken = []; answered = sym (append-nil out); counted = Counted-none counts; carried = refl; splits = refl; parts = refl }
 
-module _ (session : ℕ) (old mid : State) (stream here out_before out_now : List ℕ) (progress : Progress session old mid stream here out_before out_now) where
-  pub goes_on : (new : State) (message : Message) (following out_after : List ℕ) → front here ≡ whole message following
-      → Appends out_now out_after (λ bytes. GoesOn session mid (message ∷ []) bytes new) → Progress session old new stream following out_before out_after
-  goes_on new message following out_after shown one =
+module _ (session : ℕ) (old mid : State) (stream here out_before out_now : List ℕ) (before now : Counts) (progress : Progress session old mid stream here out_before out_now before now) where
+  pub goes_on : (new : State) (message : Message) (following out_after : List ℕ) (after : Counts) → front here ≡ whole message following
+      → Answered out_now out_after now after (λ answers. GoesOn session mid (message ∷ []) answers new) → Progress session old new stream following out_before out_after before after
+  goes_on new message following out_after after shown one =
       let f = front_shows here message following shown in
       let step : split stream ≡ split_before (progress.messages ++ message ∷ []) (split following) =
       progress.splits ∙ ap (split_before progress.messages) (split_whole here message following shown)
       ∙ ap (λ (ms : List Message). record { messages = ms; conversation = (split following).conversation }) (sym (append_assoc progress.messages (message ∷ []) (split following).messages)) in
       record {
         messages = progress.messages ++ message ∷ [];
-        bytes = progress.bytes ++ one.0;
+        answers = progress.answers ++ one.0;
         taken = progress.taken ++ take (number_behind 0 here) here;
-        answered = one.1 ∙ ap (λ (x : List ℕ). x ++ one.0) progress.answered ∙ append_assoc out_before progress.bytes one.0;
-        carried = carries_then session old mid progress.messages (message ∷ []) progress.bytes (reading []) (record { bytes = one.0; state = new; conversation = reading [] }) progress.carried one.2;
+        answered = answered_more out_before out_now out_after progress.answers one.0 progress.answered one.1;
+        counted = Counted-append progress.answers one.0 before now after progress.counted one.2;
+        carried = carries_then session old mid progress.messages (message ∷ []) progress.answers (reading []) (record { answers = one.0; state = new; conversation = reading [] }) progress.carried one.3;
         splits = step;
         parts = progress.parts ∙ ap (λ (x : List ℕ). progress.taken ++ x) (sym (take-append-drop (number_behind 0 here) here) ∙ ap (λ (x : List ℕ). take (number_behind 0 here) here ++ x) f.following_is)
             ∙ sym (append_assoc progress.taken (take (number_behind 0 here) here) following);
@@ -101,59 +107,61 @@ module _ (session : ℕ) (old mid : State) (stream here out_before out_now : Lis
 
   -- all messages are carried out
   whole_run : (conversation : Conversation) → split here ≡ record { messages = []; conversation = conversation }
-      → Takes session old (split stream) (record { bytes = progress.bytes; state = mid; conversation = conversation })
+      → Takes session old (split stream) (record { answers = progress.answers; state = mid; conversation = conversation })
   whole_run conversation e =
       let all : split stream ≡ record { messages = progress.messages; conversation = conversation } =
       progress.splits ∙ ap (split_before progress.messages) e ∙ ap (λ (ms : List Message). record { messages = ms; conversation = conversation }) (append-nil progress.messages) in
-      subst (λ (s : Split). Takes session old s (record { bytes = progress.bytes; state = mid; conversation = conversation })) (sym all)
-      (takes_all (carries_to session old mid progress.messages progress.bytes conversation progress.carried))
+      subst (λ (s : Split). Takes session old s (record { answers = progress.answers; state = mid; conversation = conversation })) (sym all)
+      (takes_all (carries_to session old mid progress.messages progress.answers conversation progress.carried))
 
   pub at_unfinished : front here ≡ unfinished
-      → Appends out_before out_now (λ bytes. Takes session old (split stream) (record { bytes = bytes; state = mid; conversation = reading (drop (length stream - length here) stream) }))
-  at_unfinished shown = (progress.bytes, progress.answered, rw left_is (whole_run (reading here) (split_unfinished here shown)))
+      → Answered out_before out_now before now (λ answers. Takes session old (split stream) (record { answers = answers; state = mid; conversation = reading (drop (length stream - length here) stream) }))
+  at_unfinished shown = (progress.answers, progress.answered, progress.counted, rw left_is (whole_run (reading here) (split_unfinished here shown)))
 
   pub at_closing : (fault : CloseFault) → front here ≡ closing fault
-      → Appends out_before out_now (λ bytes. Takes session old (split stream) (record { bytes = bytes; state = mid; conversation = closed fault }))
-  at_closing fault shown = (progress.bytes, progress.answered, whole_run (closed fault) (split_closing here fault shown))
+      → Answered out_before out_now before now (λ answers. Takes session old (split stream) (record { answers = answers; state = mid; conversation = closed fault }))
+  at_closing fault shown = (progress.answers, progress.answered, progress.counted, whole_run (closed fault) (split_closing here fault shown))
 
   -- memory is wanting to look at the next message
-  pub at_want : Appends out_before out_now (λ bytes. Takes session old (split stream) (record { bytes = bytes; state = mid; conversation = closed NoMemory }))
+  pub at_want : Answered out_before out_now before now (λ answers. Takes session old (split stream) (record { answers = answers; state = mid; conversation = closed NoMemory }))
   at_want =
-      let run : Run = record { bytes = progress.bytes; state = mid; conversation = closed NoMemory } in
+      let run : Run = record { answers = progress.answers; state = mid; conversation = closed NoMemory } in
       let first : take (length progress.messages) (split stream).messages ≡ progress.messages =
       ap (λ (s : Split). take (length progress.messages) s.messages) progress.splits ∙ take_at progress.messages (split here).messages (length progress.messages) refl in (
-        progress.bytes,
+        progress.answers,
         progress.answered,
+        progress.counted,
         takes_some (length progress.messages)
-            (subst (λ (ms : List Message). CarriesOut session old ms (closed NoMemory) run) (sym first) (carries_to session old mid progress.messages progress.bytes (closed NoMemory) progress.carried)),
+            (subst (λ (ms : List Message). CarriesOut session old ms (closed NoMemory) run) (sym first) (carries_to session old mid progress.messages progress.answers (closed NoMemory) progress.carried)),
       )
 
   pub at_fault : (fault : CloseFault) → (closing fault ≡ front here) ⊎ (Closing fault ≡ Closing NoMemory)
-      → Appends out_before out_now (λ bytes. Takes session old (split stream) (record { bytes = bytes; state = mid; conversation = closed fault }))
+      → Answered out_before out_now before now (λ answers. Takes session old (split stream) (record { answers = answers; state = mid; conversation = closed fault }))
   at_fault fault (inl shown) = at_closing fault (sym shown)
   at_fault fault (inr want) =
       let same : fault ≡ NoMemory = cc in
-      subst (λ (f : CloseFault). Appends out_before out_now (λ bytes. Takes session old (split stream) (record { bytes = bytes; state = mid; conversation = closed f }))) (sym same) at_want
+      subst (λ (f : CloseFault). Answered out_before out_now before now (λ answers. Takes session old (split stream) (record { answers = answers; state = mid; conversation = closed f }))) (sym same) at_want
 
   -- the next message closes the session
-  ends : (new : State) (message : Message) (others : Split) (bytes : List ℕ) → split stream ≡ split_before progress.messages (split_behind message others)
-      → CarriesOut session mid (message ∷ []) (reading []) (record { bytes = bytes; state = new; conversation = closed NoMemory })
-      → Takes session old (split stream) (record { bytes = progress.bytes ++ bytes; state = new; conversation = closed NoMemory })
-  ends new message others bytes splits carried =
-      let run : Run = record { bytes = bytes; state = new; conversation = closed NoMemory } in
-      subst (λ (s : Split). Takes session old s (in_front progress.bytes run)) (sym splits)
-      (takes_all (carries_then session old mid progress.messages (message ∷ others.messages) progress.bytes others.conversation run progress.carried
+  ends : (new : State) (message : Message) (others : Split) (answers : List (List ℕ)) → split stream ≡ split_before progress.messages (split_behind message others)
+      → CarriesOut session mid (message ∷ []) (reading []) (record { answers = answers; state = new; conversation = closed NoMemory })
+      → Takes session old (split stream) (record { answers = progress.answers ++ answers; state = new; conversation = closed NoMemory })
+  ends new message others answers splits carried =
+      let run : Run = record { answers = answers; state = new; conversation = closed NoMemory } in
+      subst (λ (s : Split). Takes session old s (in_front progress.answers run)) (sym splits)
+      (takes_all (carries_then session old mid progress.messages (message ∷ others.messages) progress.answers others.conversation run progress.carried
       (elim (carries_cases session mid (message ∷ []) [] (reading []) run carried) [
         | inl stops ↦ stops.before others.messages others.conversation
         | inr d ↦ let e = ap (λ (r : Run). r.conversation) d.both ∙ ap (λ (r : Run). r.conversation) d.behind in absurd cc
       ])))
 
-  pub at_failure : {A E : Type 0} (new : State) (message : Message) (following out_after : List ℕ) (failed : Result A E) (error : E) → front here ≡ whole message following → failed ≡ Err error
-      → Appends out_now out_after (λ bytes. Carries session mid message bytes new failed)
-      → Appends out_before out_after (λ bytes. Takes session old (split stream) (record { bytes = bytes; state = new; conversation = closed NoMemory }))
-  at_failure {A = A} new message following out_after failed error shown is_error one =
+  pub at_failure : {A E : Type 0} (new : State) (message : Message) (following out_after : List ℕ) (after : Counts) (failed : Result A E) (error : E) → front here ≡ whole message following → failed ≡ Err error
+      → Answered out_now out_after now after (λ answers. Carries session mid message answers new failed)
+      → Answered out_before out_after before after (λ answers. Takes session old (split stream) (record { answers = answers; state = new; conversation = closed NoMemory }))
+  at_failure {A = A} new message following out_after after failed error shown is_error one =
       let splits : split stream ≡ split_before progress.messages (split_behind message (split following)) = progress.splits ∙ ap (split_before progress.messages) (split_whole here message following shown) in (
-        progress.bytes ++ one.0,
-        one.1 ∙ ap (λ (x : List ℕ). x ++ one.0) progress.answered ∙ append_assoc out_before progress.bytes one.0,
-        ends new message (split following) one.0 splits (subst (λ (r : Result A _). Carries session mid message one.0 new r) is_error one.2),
+        progress.answers ++ one.0,
+        answered_more out_before out_now out_after progress.answers one.0 progress.answered one.1,
+        Counted-append progress.answers one.0 before now after progress.counted one.2,
+        ends new message (split following) one.0 splits (subst (λ (r : Result A _). Carries session mid message one.0 new r) is_error one.3),
       )

@@ -146,7 +146,7 @@ unfolding split split_within front sections_in row_in row_within section_at fram
 split_pings = refl
 
 plain_next : (session : ℕ) (state : State) (message : Message) (messages : List Message) (conversation : Conversation) (reply : List Field) → step state session (command_of message) ≡ record { reply = reply; state = state }
-    → plain_messages session state (message ∷ messages) conversation ≡ in_front (reply_bytes message reply) (plain_messages session state messages conversation)
+    → plain_messages session state (message ∷ messages) conversation ≡ in_front (reply_bytes message reply ∷ []) (plain_messages session state messages conversation)
 unfolding plain_messages
 plain_next session state message messages conversation reply e = ap (λ (a : Answer). plain_behind message a (λ behind. plain_messages session behind messages conversation)) e
 
@@ -158,15 +158,16 @@ plain_none : (session : ℕ) (state : State) (conversation : Conversation) → p
 unfolding plain_messages
 plain_none session state conversation = refl
 
-pub ping_run : (state : State) (session : ℕ) → plain_run session state (split (ping 0 ++ ping 2 ++ ping 0 ++ 47 ∷ [])) ≡ record { bytes = pong ++ pong; state = state; conversation = reading (47 ∷ []) }
+pub ping_run : (state : State) (session : ℕ) → plain_run session state (split (ping 0 ++ ping 2 ++ ping 0 ++ 47 ∷ [])) ≡ record { answers = pong ∷ [] ∷ pong ∷ []; state = state; conversation = reading (47 ∷ []) }
 ping_run state session =
     ap (plain_run session state) split_pings
     ∙ plain_next session state (asks false ping_document) (asks true ping_document ∷ asks false ping_document ∷ []) (reading (47 ∷ [])) ok (answer_ping state session false)
-    ∙ ap (in_front (reply_bytes (asks false ping_document) ok))
+    ∙ ap (in_front (reply_bytes (asks false ping_document) ok ∷ []))
     (plain_next session state (asks true ping_document) (asks false ping_document ∷ []) (reading (47 ∷ [])) ok (answer_ping state session true)
-    ∙ plain_next session state (asks false ping_document) [] (reading (47 ∷ [])) ok (answer_ping state session false)
-    ∙ ap (in_front (reply_bytes (asks false ping_document) ok)) (plain_none session state (reading (47 ∷ []))))
-    ∙ ap (λ (b : List ℕ). in_front b (in_front b (silence state (reading (47 ∷ []))))) pong_bytes
+    ∙ ap (in_front ([] ∷ []))
+    (plain_next session state (asks false ping_document) [] (reading (47 ∷ [])) ok (answer_ping state session false)
+    ∙ ap (in_front (reply_bytes (asks false ping_document) ok ∷ [])) (plain_none session state (reading (47 ∷ [])))))
+    ∙ ap (λ (b : List ℕ). in_front (b ∷ []) (in_front ([] ∷ []) (in_front (b ∷ []) (silence state (reading (47 ∷ [])))))) pong_bytes
 
 pub sessions : SessionExamples
 sessions = record {

@@ -1,6 +1,7 @@
 -- What stands in each world: sessions ascend by their numbers, and what happens to one leaves the others.
 use Rattle.std.proofs.Common.{◌≡◌, ℕ, suc, ◌≤◌, ◌<◌, eqb, List, [], ◌∷◌, ◌++◌, Option, Some, None, Result, Ok, Err, refl, sym, ap, subst, ◌∙◌, arith, inl, inr}
 use Rattle.std.proofs.lemmas.Bool.{cases_Bool, eq-eqb, ne_eqb, eqb-true}
+use Rattle.std.specs.List.{concat}
 use Rattle.dv_wire.specs.declared.fault.CloseFault.{CloseFault}
 use Rattle.dv_wire.specs.declared.fault.HubFault.{HubFault}
 use Rattle.dv_wire.specs.declared.fault.HubFault.TheVariants.{TooManySessions, NoMemory}
@@ -29,7 +30,7 @@ before_first session first (s ∷ ss) next lt numbered =
     let other : s.0 ≡ session → ⊥ = (λ e. omega (arith, numbered.0)) in
     rw (ne_eqb s.0 session other) (before_first session (suc s.0) ss next (omega (arith, numbered.0)) numbered.1)
 
-at_next : (first : ℕ) (ss : List (ℕ × Conversation)) (next : ℕ) → AreNumbered first ss next → conversation_of next ss ≡ None
+pub at_next : (first : ℕ) (ss : List (ℕ × Conversation)) (next : ℕ) → AreNumbered first ss next → conversation_of next ss ≡ None
 at_next first [] next numbered = refl
 at_next first (s ∷ ss) next numbered =
     let behind = below_next (suc s.0) ss next numbered.1 in
@@ -74,6 +75,18 @@ other-append other next (s ∷ ss) now differs =
 pub conversation_of-with : (session : ℕ) (ss : List (ℕ × Conversation)) (before now : Conversation) → conversation_of session ss ≡ Some before → conversation_of session (with_conversation session now ss) ≡ Some now
 conversation_of-with session [] before now e = absurd cc
 conversation_of-with session (s ∷ ss) before now e = grind (arith, conversation_of-with session ss before now, eq-eqb session session refl)
+
+-- one that stands so already
+pub with-same : (session : ℕ) (ss : List (ℕ × Conversation)) (now : Conversation) → conversation_of session ss ≡ Some now → with_conversation session now ss ≡ ss
+with-same session [] now e = refl
+with-same session (s ∷ ss) now e =
+    elim (cases_Bool (eqb s.0 session)) [
+      | inl here ↦
+          let same : Some s.1 ≡ Some now = rw here at e in
+          let is_now : s.1 ≡ now = cc in
+          rw here (rw (← eqb-true s.0 session here, ← is_now) refl)
+      | inr past ↦ rw past (ap (λ (others : List (ℕ × Conversation)). s ∷ others) (with-same session ss now (rw past at e)))
+    ]
 
 pub other-with : (other session : ℕ) (ss : List (ℕ × Conversation)) (now : Conversation) → (session ≡ other → ⊥) → conversation_of other (with_conversation session now ss) ≡ conversation_of other ss
 other-with other session [] now differs = refl
@@ -128,8 +141,8 @@ module _ (old new : World) where
     -- whatever stands in a world of other numbers, and so in any that a session behind a run stands in
     fed_by : (P : World → Type 0) (here : Option Conversation) → conversation_of session old.sessions ≡ here → Feeds old session piece bytes answer new → P old
         → ((state : State) (now : Conversation) → P (record { state = state; next = old.next; sessions = with_conversation session now old.sessions })) → P new
-    fed_by P None e feeds before behind = subst P (sym (rw e at feeds).2) before
-    fed_by P (Some c) e feeds before behind = let (run, hears, are, told, world) = rw e at feeds in subst P (sym world) (behind run.state run.conversation)
+    fed_by P None e feeds before behind = let (answers, is, nothing) = rw e at feeds in subst P (sym nothing.2) before
+    fed_by P (Some c) e feeds before behind = let (answers, is, (run, hears, are, told, world)) = rw e at feeds in subst P (sym world) (behind run.state run.conversation)
 
     pub fed_numbered : IsNumbered old → Feeds old session piece bytes answer new → IsNumbered new × (new.next ≡ old.next)
     fed_numbered numbered feeds =
@@ -142,14 +155,14 @@ module _ (old new : World) where
         (λ state now. other-with other session old.sessions now differs)
 
     pub fed_nobody : conversation_of session old.sessions ≡ None → Feeds old session piece bytes answer new → (bytes ≡ []) × (answer ≡ fed.Unknown) × (new ≡ old)
-    fed_nobody none feeds = rw none at feeds
+    fed_nobody none feeds = let (answers, is, nothing) = rw none at feeds in (is ∙ ap concat nothing.0, nothing.1, nothing.2)
 
     pub fed_closed : (fault : CloseFault) → conversation_of session old.sessions ≡ Some (closed fault) → Feeds old session piece bytes answer new
         → (bytes ≡ []) × (answer ≡ fed.Closed fault) × (new.state ≡ old.state) × (conversation_of session new.sessions ≡ Some (closed fault))
     fed_closed fault there feeds =
-        let (run, hears, are, told, world) = rw there at feeds in
+        let (answers, is, (run, hears, are, told, world)) = rw there at feeds in
         let is_now = ap (λ (w : World). conversation_of session w.sessions) world ∙ conversation_of-with session old.sessions (closed fault) run.conversation there in
-        (are ∙ rw hears refl, told ∙ rw hears refl, ap (λ (w : World). w.state) world ∙ rw hears refl, is_now ∙ rw hears refl)
+        (is ∙ ap concat are ∙ rw hears refl, told ∙ rw hears refl, ap (λ (w : World). w.state) world ∙ rw hears refl, is_now ∙ rw hears refl)
 
 pub ended_numbered : (old : World) (session : ℕ) → IsNumbered old → IsNumbered (end session old)
 ended_numbered old session numbered = AreNumbered-but session 0 old.sessions old.next numbered

@@ -10,7 +10,7 @@ use Rattle.dv_core.specs.State.{State}
 use Rattle.dv_core.specs.Step.{end_session}
 use Rattle.dv_wire.specs.Sections.{Section, body, named, sections_in}
 use Rattle.dv_wire.specs.Message.{Message, Conversation, reading, closed, split}
-use Rattle.dv_wire.specs.Schedule.{World, Opens, reply_bytes, bytes_to, CarriesOut, plain_run, silence, unfinished_in, end}
+use Rattle.dv_wire.specs.Schedule.{World, Opens, reply_bytes, bytes_to, CarriesOut, plain_run, unanswered, unfinished_in, end}
 
 -- ---- words for them
 
@@ -159,7 +159,7 @@ pub record SessionExamples : Type 0 where
   pub none_unfinished : unfinished_in (Some (closed BadLength)) ≡ 0
   -- a ping is answered, and not where moreToCome leaves its reply out; the last one is not whole
   pub pings : (state : State) (session : ℕ)
-      → plain_run session state (split (ping 0 ++ ping 2 ++ ping 0 ++ 47 ∷ [])) ≡ record { bytes = pong ++ pong; state = state; conversation = reading (47 ∷ []) }
+      → plain_run session state (split (ping 0 ++ ping 2 ++ ping 0 ++ 47 ∷ [])) ≡ record { answers = pong ∷ [] ∷ pong ∷ []; state = state; conversation = reading (47 ∷ []) }
 
 pub record WantExamples : Type 0 where
   -- moreToCome leaves a reply out, but not one that tells of want of memory: its session can't go on
@@ -168,4 +168,4 @@ pub record WantExamples : Type 0 where
   pub told : (reply : List Field) → bytes_to (asks false empty_document) (Wanting reply) ≡ Some (reply_bytes (asks false empty_document) reply)
   pub no_reply : (more_to_come : Bool) → bytes_to (asks more_to_come empty_document) NoReply ≡ None
   -- a command that finds no memory, and waits for no reply
-  pub refused : (state : State) (session : ℕ) → CarriesOut session state (asks true empty_document ∷ []) (reading []) (silence state (closed NoMemory))
+  pub refused : (state : State) (session : ℕ) → CarriesOut session state (asks true empty_document ∷ []) (reading []) (unanswered state (closed NoMemory))

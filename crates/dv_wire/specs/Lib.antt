@@ -5,6 +5,8 @@ pub mod Commands
 pub mod Schedule
 pub mod Playing
 pub mod Order
+pub mod Stream
+pub mod Service
 pub mod Sound
 pub mod Fault
 pub mod Examples

@@ -10,7 +10,7 @@ use Rattle.dv_wire.specs.declared.fault.HubFault.TheVariants.{TooManySessions}
 use Rattle.dv_wire.specs.declared.hub.Fed.TheVariants as fed
 use Rattle.dv_wire.specs.Message.{Message, Conversation, reading, closed, Split, split}
 use Rattle.dv_wire.specs.Commands.{command_of}
-use Rattle.dv_wire.specs.Schedule.{World, conversation_of, end, fed_of, number_limit, plain_run, reply_bytes, session_limit, sessions_but, unfinished_in, with_conversation, world_behind}
+use Rattle.dv_wire.specs.Schedule.{World, conversation_of, end, fed_of, number_limit, plain_run, reply_bytes, session_limit, sessions_but, unfinished_in, with_conversation, world_behind, bytes_of}
 
 -- ---- what takes effect, and when
 
@@ -74,7 +74,7 @@ pub record Happening : Type 0 where
 abbrev pub plain_fed : ℕ → World → Option Split → Happening
 plain_fed session world None = record { said = said.Fed fed.Unknown []; world = world }
 plain_fed session world (Some s) = record {
-  said = said.Fed (fed_of (plain_run session world.state s).conversation) (plain_run session world.state s).bytes;
+  said = said.Fed (fed_of (plain_run session world.state s).conversation) (bytes_of (plain_run session world.state s));
   world = world_behind session (plain_run session world.state s) world;
 }
 

@@ -1,5 +1,6 @@
 -- Sessions, and what happens to them: one is opened, a piece of its bytes comes, it ends.
 use Rattle.std.specs.Prelude.{◌≡◌, ℕ, suc, ◌≤◌, ◌<◌, ◌^◌, ◌⊎◌, List, [], ◌∷◌, ◌++◌, length, take, Option, Some, None, Result, Ok, Err, MatchOption, ◌==◌, if◌then◌else◌}
+use Rattle.std.specs.List.{concat}
 use Rattle.dv_bson.specs.Tree.{Field}
 use Rattle.dv_bson.specs.Spelling.{spelling}
 use Rattle.dv_wire.specs.declared.fault.CloseFault.TheVariants.{NoMemory}
@@ -29,25 +30,34 @@ bytes_to message (Reply reply) = Some (reply_bytes message reply)
 bytes_to message (Wanting reply) = if message.more_to_come then None else Some (reply_bytes message reply)
 bytes_to message NoReply = None
 
--- what messages come to: the bytes that are answered, the state that is left, and how the session then stands
+-- what messages come to: the bytes that are answered to each that is carried out, none where it has no reply; the state that is left,
+-- and how the session then stands
 pub record Run : Type 0 where
-  pub bytes : List ℕ
+  pub answers : List (List ℕ)
   pub state : State
   pub conversation : Conversation
 
--- these bytes are answered before the others
-abbrev pub in_front : List ℕ → Run → Run
-in_front bytes others = record { bytes = bytes ++ others.bytes; state = others.state; conversation = others.conversation }
+-- all the bytes that are answered
+abbrev pub bytes_of : Run → List ℕ
+bytes_of run = concat run.answers
 
--- nothing is answered, and the session stands so
+-- this is answered before the others
+abbrev pub in_front : List (List ℕ) → Run → Run
+in_front answers others = record { answers = answers ++ others.answers; state = others.state; conversation = others.conversation }
+
+-- no message is carried out, and the session stands so
 abbrev pub silence : State → Conversation → Run
-silence state conversation = record { bytes = []; state = state; conversation = conversation }
+silence state conversation = record { answers = []; state = state; conversation = conversation }
+
+-- one message is carried out, nothing is answered, and the session stands so
+abbrev pub unanswered : State → Conversation → Run
+unanswered state conversation = record { answers = [] ∷ []; state = state; conversation = conversation }
 
 -- behind a step its bytes are sent, where there are such, and then comes what the others come to; or, where these bytes find
 -- no memory, the session is closed in their place
 abbrev pub Follows : Option (List ℕ) → State → (Run → Type 0) → Run → Type 0
-Follows None state Others run = run ≡ silence state (closed NoMemory)
-Follows (Some bytes) state Others run = ((others : Run) × Others others × (run ≡ in_front bytes others)) ⊎ (run ≡ silence state (closed NoMemory))
+Follows None state Others run = run ≡ unanswered state (closed NoMemory)
+Follows (Some bytes) state Others run = ((others : Run) × Others others × (run ≡ in_front (bytes ∷ []) others)) ⊎ (run ≡ unanswered state (closed NoMemory))
 
 -- the messages of a session are carried out in order, and it stands as given behind them; or it was closed among them
 abbrev pub CarriesOut : ℕ → State → List Message → Conversation → Run → Type 0
@@ -58,7 +68,7 @@ CarriesOut session old (message ∷ messages) conversation run =
 
 -- the same where memory is never wanting: each message is carried out by its step
 abbrev pub plain_behind : Message → Answer → (State → Run) → Run
-plain_behind message answer others = in_front (reply_bytes message answer.reply) (others answer.state)
+plain_behind message answer others = in_front (reply_bytes message answer.reply ∷ []) (others answer.state)
 
 unfoldable pub plain_messages : ℕ → State → List Message → Conversation → Run
 plain_messages session state [] conversation = silence state conversation
@@ -132,12 +142,16 @@ fed_of (closed fault) = fed.Closed fault
 abbrev pub world_behind : ℕ → Run → World → World
 world_behind session run old = record { state = run.state; next = old.next; sessions = with_conversation session run.conversation old.sessions }
 
--- a piece of a session's bytes comes: what is answered, and whether the session goes on; to one that isn't there nothing is
-abbrev pub Feeds : World → ℕ → List ℕ → List ℕ → Fed → World → Type 0
-Feeds old session piece bytes answer new =
+-- a piece of a session's bytes comes: what is answered to its messages, and whether the session goes on; to one that isn't there nothing is
+abbrev pub Comes : World → ℕ → List ℕ → List (List ℕ) → Fed → World → Type 0
+Comes old session piece answers told new =
     MatchOption (conversation_of session old.sessions)
-    ((bytes ≡ []) × (answer ≡ fed.Unknown) × (new ≡ old))
-    (λ before. (run : Run) × Hears session old.state before piece run × (bytes ≡ run.bytes) × (answer ≡ fed_of run.conversation) × (new ≡ world_behind session run old))
+    ((answers ≡ []) × (told ≡ fed.Unknown) × (new ≡ old))
+    (λ before. (run : Run) × Hears session old.state before piece run × (answers ≡ run.answers) × (told ≡ fed_of run.conversation) × (new ≡ world_behind session run old))
+
+-- the same by the bytes of all that is answered
+abbrev pub Feeds : World → ℕ → List ℕ → List ℕ → Fed → World → Type 0
+Feeds old session piece bytes told new = (answers : List (List ℕ)) × (bytes ≡ concat answers) × Comes old session piece answers told new
 
 -- pieces of a session's bytes come, one right after the other: what is answered to all, and whether the session then goes on
 abbrev pub FeedsAll : World → ℕ → List ℕ → List (List ℕ) → List ℕ → Fed → World → Type 0

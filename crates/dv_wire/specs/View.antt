@@ -1,5 +1,8 @@
 -- What messages and sessions in memory stand for.
-use Rattle.std.specs.Prelude.{ℕ, List, [], ◌∷◌, ◌++◌, drop, map, Option, Some, None, Result, Ok, Err}
+use Rattle.std.specs.Prelude.{◌≡◌, ◌<◌, ◌≤◌, ◌+◌, ◌^◌, ℕ, List, [], ◌∷◌, ◌++◌, length, drop, map, Option, Some, None, Result, Ok, Err}
+use Rattle.std.specs.List.{concat}
+use Rattle.std.specs.Io.KnownBytes.{Consumes, IsAtEnd}
+use Rattle.std.specs.Io.KnownBytes.{Appends as KnownAppends}
 use Rattle.dv_bson.specs.Tree.{Field}
 use Rattle.dv_bson.specs.Spelling.{spelling}
 use Rattle.std.specs.Int.{w32, to_le_bytes}
@@ -8,6 +11,7 @@ use Rattle.dv_wire.specs.declared.fault.CloseFault.TheVariants.{NoMemory}
 use Rattle.dv_wire.specs.declared.session.Conversation.{Conversation as ConversationSeen}
 use Rattle.dv_wire.specs.declared.session.Conversation.TheVariants.{Reading, Closed}
 use Rattle.dv_wire.specs.declared.session.Session.{Session}
+use Rattle.dv_wire.specs.declared.session.Counts.{Counts}
 use Rattle.dv_wire.specs.declared.front.Message as declared
 use Rattle.dv_wire.specs.declared.front.Front.{Front as FrontSeen}
 use Rattle.dv_wire.specs.declared.front.Front.TheVariants.{Unfinished, Closing, Whole}
@@ -15,7 +19,12 @@ use Rattle.dv_wire.specs.Sections.{body, section_spelling}
 use Rattle.dv_wire.specs.SectionsView.{section_seen}
 use Rattle.dv_wire.specs.Message.{Message, message_spelling, op_msg, Front, unfinished, closing, whole, Conversation, reading, closed}
 use Rattle.dv_core.specs.State.{State}
-use Rattle.dv_wire.specs.Schedule.{CarriesOut}
+use Rattle.dv_wire.specs.Schedule.{CarriesOut, Hears, Run, World, bytes_of, world_behind}
+use Rattle.dv_wire.specs.Service.{closing_of, most_reads, reply_count}
+use Rattle.dv_wire.specs.declared.fault.RunFault.{RunFault}
+use Rattle.dv_wire.specs.declared.fault.RunFault.TheVariants.{Read, Write, TooManyReads, Hub}
+use Rattle.dv_wire.specs.declared.hub.Fed.{Fed}
+use Rattle.dv_wire.specs.declared.hub.Fed.TheVariants as fed
 
 abbrev pub message_seen : declared.Message → Message
 message_seen m = record { request_id = m.request_id; more_to_come = m.more_to_come; sections = map section_seen m.sections.items }
@@ -43,8 +52,8 @@ left_or_closed (Ok taken) stream = reading (drop taken stream)
 left_or_closed (Err fault) stream = closed fault
 
 -- all these messages are carried out and answered, and the session goes on
-abbrev pub GoesOn : ℕ → State → List Message → List ℕ → State → Type 0
-GoesOn session old messages bytes new = CarriesOut session old messages (reading []) (record { bytes = bytes; state = new; conversation = reading [] })
+abbrev pub GoesOn : ℕ → State → List Message → List (List ℕ) → State → Type 0
+GoesOn session old messages answers new = CarriesOut session old messages (reading []) (record { answers = answers; state = new; conversation = reading [] })
 
 -- the bytes that are sent to a message: this reply, or nothing; or there are none
 abbrev pub bytes_seen : {E : Type 0} → Message → Result (Option (List Field)) E → Option (List ℕ)
@@ -53,10 +62,48 @@ bytes_seen message (Ok None) = Some []
 bytes_seen message (Err e) = None
 
 -- one message is carried out; or the session is closed in place of its answer
-abbrev pub Carries : {A E : Type 0} → ℕ → State → Message → List ℕ → State → Result A E → Type 0
-Carries session old message bytes new (Ok x) = GoesOn session old (message ∷ []) bytes new
-Carries session old message bytes new (Err e) = CarriesOut session old (message ∷ []) (reading []) (record { bytes = bytes; state = new; conversation = closed NoMemory })
+abbrev pub Carries : {A E : Type 0} → ℕ → State → Message → List (List ℕ) → State → Result A E → Type 0
+Carries session old message answers new (Ok x) = GoesOn session old (message ∷ []) answers new
+Carries session old message answers new (Err e) = CarriesOut session old (message ∷ []) (reading []) (record { answers = answers; state = new; conversation = closed NoMemory })
+
+-- one message for each of the answers is counted, and the replies among them, as far as that fits
+abbrev pub Counted : Counts → List (List ℕ) → Counts → Type 0
+Counted before answers after =
+    (before.messages + length answers < 2 ^ 64 → after.messages ≡ before.messages + length answers)
+    × (before.replies + reply_count answers < 2 ^ 64 → after.replies ≡ before.replies + reply_count answers)
+
+-- what was there stays in front, these answers follow it, and they are counted
+abbrev pub Answered : List ℕ → List ℕ → Counts → Counts → (List (List ℕ) → Type 0) → Type 0
+Answered old new before after AreAnswered = (answers : List (List ℕ)) × (new ≡ old ++ concat answers) × Counted before answers after × AreAnswered answers
 
 -- a reply to a request, with a length of 0 in its header
 abbrev pub unmeasured : ℕ → List ℕ → List ℕ
 unmeasured response_to sections = to_le_bytes w32 0 ++ (to_le_bytes w32 0 ++ (to_le_bytes w32 response_to ++ (to_le_bytes w32 op_msg ++ (to_le_bytes w32 0 ++ sections))))
+
+-- ---- a whole session, while it is open
+
+-- the session takes what is read, and its answers are written, all but the last of them that are left unwritten
+pub record Talks (session : ℕ) (old : World) (from to before after : Option (List ℕ)) (run : Run) (unwritten : List ℕ) (new : World) : Type 0 where
+  pub read : List ℕ
+  pub heard : Hears session old.state (reading []) read run
+  pub behind : new ≡ world_behind session run old
+  pub consumed : Consumes from to read
+  pub written : List ℕ
+  pub answers : bytes_of run ≡ written ++ unwritten
+  pub appended : KnownAppends before after written
+
+-- what closes a session that was told of so
+abbrev pub closing_fed : Fed → Option CloseFault
+closing_fed fed.Open = None
+closing_fed (fed.Closed fault) = Some fault
+closing_fed fed.Unknown = None
+
+-- what reading to the end comes to, by what is told of it
+abbrev pub TalksTo : Result (Counts × Option CloseFault) RunFault → ℕ → World → World → Option (List ℕ) → Option (List ℕ) → Option (List ℕ) → Option (List ℕ) → Type 0
+TalksTo (Ok told) session old new from to before after =
+    (run : Run) × Talks session old from to before after run [] new × (told.0.messages ≡ length run.answers) × (told.0.replies ≡ reply_count run.answers)
+    × (told.1 ≡ closing_of run.conversation) × (told.1 ≡ None → IsAtEnd to)
+TalksTo (Err Read) session old new from to before after = (run : Run) × Talks session old from to before after run [] new
+TalksTo (Err Write) session old new from to before after = (run : Run) × (unwritten : List ℕ) × Talks session old from to before after run unwritten new
+TalksTo (Err TooManyReads) session old new from to before after = (run : Run) × (talks : Talks session old from to before after run [] new) × (most_reads ≤ length talks.read)
+TalksTo (Err (Hub fault)) session old new from to before after = ⊥

@@ -3,6 +3,7 @@
 ghost use Rattle.std.specs.Prelude.{◌≡◌};
 ghost use Rattle.dv_wire.specs.declared.fault.CloseFault.TheVariants.{NoMemory};
 ghost use Rattle.dv_wire.specs.declared.fault.HubFault.TheVariants as hub_faults;
+ghost use Rattle.dv_wire.specs.declared.fault.RunFault.TheVariants as run_faults;
 
 use std::alloc::{AllocError, AllocFailed};
 
@@ -64,6 +65,35 @@ impl HubFault {
     }
 }
 
+/// Why a whole session over a reader and a writer ends before the end of input, but for a closing fault.
+#[derive(Clone, Copy, Debug, PartialEq, Eq)]
+pub enum RunFault {
+    /// The reader failed.
+    Read,
+    /// The writer failed, or took no byte.
+    Write,
+    /// As many reads as may be were made.
+    TooManyReads,
+    /// No session is opened, or memory is wanting for what is read.
+    Hub(HubFault),
+}
+
+impl RunFault {
+    ghost use Rattle.dv_wire.specs.Fault.{run_number};
+
+    /// The fault's number: 1 Read, 2 Write, 3 TooManyReads, 4 Hub.
+    pub fn number(&self) -> u8
+        ensures { result ≡ run_number self.now }
+    {
+        match self {
+            RunFault::Read => 1,
+            RunFault::Write => 2,
+            RunFault::TooManyReads => 3,
+            RunFault::Hub(_) => 4,
+        }
+    }
+}
+
 impl From<AllocError> for CloseFault {
     ghost from_gives = { λ _ fault. fault ≡ NoMemory };
 
@@ -85,5 +115,21 @@ impl<T: Drop> From<AllocFailed<T>> for HubFault {
 
     fn from(_e: AllocFailed<T>) -> HubFault {
         HubFault::NoMemory
+    }
+}
+
+impl From<HubFault> for RunFault {
+    ghost from_gives = { λ fault e. e ≡ run_faults.Hub fault };
+
+    fn from(fault: HubFault) -> RunFault {
+        RunFault::Hub(fault)
+    }
+}
+
+impl From<AllocError> for RunFault {
+    ghost from_gives = { λ _ e. e ≡ run_faults.Hub hub_faults.NoMemory };
+
+    fn from(_e: AllocError) -> RunFault {
+        RunFault::Hub(HubFault::NoMemory)
     }
 }

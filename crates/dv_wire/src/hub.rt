@@ -7,7 +7,7 @@ ghost use Rattle.dv_wire.specs.View.{session_seen};
 
 use crate::events::{Event, Said};
 use crate::fault::{CloseFault, HubFault};
-use crate::session::{Conversation, Session};
+use crate::session::{Conversation, Counts, Session};
 use dv_bson::{Bytes, NoMemory};
 use dv_core::Store;
 use std::alloc::Global;
@@ -66,9 +66,11 @@ impl Model for Hub {
 }
 
 impl Hub {
-    ghost use Rattle.std.specs.Prelude.{◌++◌, List, OnErr, OnOk};
+    ghost use Rattle.std.specs.Prelude.{◌++◌, [], List, OnErr, OnOk, Some};
     ghost use Rattle.dv_core.specs.Step.{end_session};
-    ghost use Rattle.dv_wire.specs.Schedule.{world_of, conversation_of, Opens, Feeds, Appends, unfinished_in, end as end_of};
+    ghost use Rattle.dv_wire.specs.Schedule.{world_of, conversation_of, Opens, Comes, Feeds, Appends, unfinished_in, end as end_of};
+    ghost use Rattle.dv_wire.specs.Message.{reading};
+    ghost use Rattle.dv_wire.specs.View.{Answered};
     ghost use Rattle.dv_wire.specs.Playing.{Happens, Plays};
     ghost use Rattle.dv_wire.specs.declared.events.Said as heard;
 
@@ -90,6 +92,7 @@ impl Hub {
         ensures opened { Opens self.old result self.new }
         ensures state { self.new.state ≡ self.old.state }
         ensures numbers { IfOk result (λ session. (session.number ≡ self.old.next) × (self.new.next ≡ suc self.old.next)) }
+        ensures there { IfOk result (λ session. conversation_of session.number self.new.sessions ≡ Some (reading [])) }
     {
         if self.sessions.len() >= SESSION_LIMIT || self.next >= NUMBER_LIMIT {
             return Err(HubFault::TooManySessions);
@@ -111,11 +114,24 @@ impl Hub {
     pub fn feed(&mut self, session: SessionId, piece: &[u8], out: &mut Vec<u8>) -> Fed
         ensures { Appends out.old.items out.new.items (λ bytes. Feeds self.old session.number piece.now bytes result self.new) }
     {
+        self.feed_counted(session, piece, out, &mut Counts::none())
+    }
+
+    /// The same, and counts the messages that are carried out and the replies.
+    pub(crate) fn feed_counted(
+        &mut self,
+        session: SessionId,
+        piece: &[u8],
+        out: &mut Vec<u8>,
+        counts: &mut Counts,
+    ) -> Fed
+        ensures { Answered out.old.items out.new.items counts.old counts.new (λ answers. Comes self.old session.number piece.now answers result self.new) }
+    {
         let Some(place) = place_of(&self.sessions, session.number) else {
             return Fed::Unknown;
         };
         let session = &mut self.sessions[place];
-        session.hear(self.alloc, &mut self.store, piece, out)
+        session.hear(self.alloc, &mut self.store, piece, out, counts)
     }
 
     /// Ends a session and its cursors, and answers how many bytes of an unfinished message are dropped with it. A

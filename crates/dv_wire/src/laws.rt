@@ -20,7 +20,8 @@ ghost use Rattle.dv_wire.specs.Message as wire;
 ghost use Rattle.dv_wire.specs.Order.{answers, order, plain_play, replies_behind, state_behind};
 ghost use Rattle.dv_wire.specs.Playing.{ComesInTwo, Plays};
 ghost use Rattle.dv_wire.specs.Commands.{command_of};
-ghost use Rattle.dv_wire.specs.Schedule.{Run, CarriesOut, silence, World, world_of, conversation_of, Opens, Feeds, FeedsAll, end, fed_of, plain_run, stream_of, world_behind};
+ghost use Rattle.dv_wire.specs.Schedule.{Run, CarriesOut, bytes_of, unanswered, World, world_of, conversation_of, Opens, Feeds, FeedsAll, end, fed_of, plain_run, stream_of, unfinished_in, world_behind};
+ghost use Rattle.dv_wire.specs.Service.{IsSession};
 
 /// A stream of which more comes splits as before, and then as its rest with what comes; behind a fault nothing does.
 pub fn splitting_goes_on()
@@ -49,6 +50,14 @@ pub fn a_piece_may_come_in_two()
         ↔ ComesInTwo old before session piece more after answers told bytes behind new }
 {}
 
+/// A whole session is a schedule: it is opened, its bytes come, and it ends. What is said of its bytes and of its end is
+/// what its messages come to.
+pub fn a_whole_session_is_a_schedule()
+    ensures { (old new : World) (bytes : List ℕ) (run : Run) → IsNumbered old → (whole : IsSession old bytes run new)
+        → Plays old (events.Open ∷ events.Piece whole.session bytes ∷ events.End whole.session ∷ [])
+        (said.Opened (Ok whole.session) ∷ said.Fed (fed_of run.conversation) (bytes_of run) ∷ said.Ended (unfinished_in (Some run.conversation)) ∷ []) new }
+{}
+
 /// Where memory is never wanting, only the order counts in which sessions are opened and end and their messages become
 /// whole: the state that a schedule leaves, and what it answers to each session, are those of a machine that in that order
 /// takes one message after the other, and ends the cursors of each session that ends. So two schedules of one order answer
@@ -68,14 +77,14 @@ pub fn only_the_order_counts()
 pub fn the_plain_run_is_allowed()
     ensures { (world : World) (session : ℕ) (kept piece : List ℕ) (pieces : List (List ℕ)) → conversation_of session world.sessions ≡ Some (wire.reading kept)
         → let run = plain_run session world.state (wire.split (kept ++ stream_of piece pieces)) in
-        FeedsAll world session piece pieces run.bytes (fed_of run.conversation) (world_behind session run world) }
+        FeedsAll world session piece pieces (bytes_of run) (fed_of run.conversation) (world_behind session run world) }
 {}
 
 /// What moreToCome leaves untold was done: where a session goes on behind such a message, the message was carried out by
 /// its step, and nothing is answered.
 pub fn what_is_untold_is_done()
     ensures { (session : ℕ) (old : State) (message : wire.Message) (kept : List ℕ) (run : Run) → message.more_to_come ≡ true → CarriesOut session old (message ∷ []) (wire.reading kept) run
-        → run.conversation ≡ wire.reading kept → run ≡ silence (step old session (command_of message)).state (wire.reading kept) }
+        → run.conversation ≡ wire.reading kept → run ≡ unanswered (step old session (command_of message)).state (wire.reading kept) }
 {}
 
 /// No number is used again: sessions ascend by their numbers, which are below the next one. So it is before the first

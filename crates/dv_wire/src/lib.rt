@@ -9,9 +9,13 @@ mod hub;
 pub mod laws;
 mod reply;
 mod sections;
+mod service;
 mod session;
+mod stream;
 
 pub use dv_core::Store;
 pub use events::{Event, Said};
-pub use fault::{CloseFault, HubFault};
+pub use fault::{CloseFault, HubFault, RunFault};
 pub use hub::{Fed, Hub, SessionId};
+pub use service::{Done, run};
+pub use stream::{ByteIn, ByteOut, Failed};

@@ -2,10 +2,10 @@
 
 ghost use Rattle.std.specs.Prelude.{◌≡◌, ◌≤◌, ◌++◌, IfOk, length, drop, vec_len};
 ghost use Rattle.dv_wire.specs.Commands.{command_of};
-ghost use Rattle.dv_wire.specs.Schedule.{Appends, Takes, bytes_to};
+ghost use Rattle.dv_wire.specs.Schedule.{Takes, bytes_to};
 ghost use Rattle.dv_core.specs.Step.{MemoryStep};
 ghost use Rattle.dv_wire.specs.Message.{split};
-ghost use Rattle.dv_wire.specs.View.{kept_or_closed, left_or_closed, message_seen, bytes_seen, Carries};
+ghost use Rattle.dv_wire.specs.View.{kept_or_closed, left_or_closed, message_seen, bytes_seen, Answered, Carries};
 
 use crate::commands::command_in;
 use crate::fault::CloseFault;
@@ -15,6 +15,28 @@ use crate::reply::append_reply;
 use dv_bson::{Document, NoMemory};
 use dv_core::{Outcome, Store};
 use std::alloc::{AllocError, Global};
+
+/// The most room that is kept for bytes to come, once a session's messages are done and its replies written.
+pub(crate) const ROOM_KEPT: usize = 262_144;
+
+/// How many messages were carried out and how many replies were sent, each at most `u64::MAX`.
+#[derive(Clone, Copy)]
+pub(crate) struct Counts {
+    pub(crate) messages: u64,
+    pub(crate) replies: u64,
+}
+
+impl Counts {
+    pub(crate) fn none() -> Self
+        ensures messages { result.messages ≡ 0 }
+        ensures replies { result.replies ≡ 0 }
+    {
+        Counts {
+            messages: 0,
+            replies: 0,
+        }
+    }
+}
 
 /// How a session stands.
 #[derive(Debug, Drop)]
@@ -58,8 +80,8 @@ pub(crate) struct Session {
 }
 
 impl Session {
-    ghost use Rattle.dv_wire.specs.Schedule.{Appends, Hears, fed_of};
-    ghost use Rattle.dv_wire.specs.View.{conversation_seen};
+    ghost use Rattle.dv_wire.specs.Schedule.{Hears, fed_of};
+    ghost use Rattle.dv_wire.specs.View.{conversation_seen, Answered};
 
     /// Takes the next piece of the session's bytes. A closed session takes none.
     pub(crate) fn hear(
@@ -68,13 +90,14 @@ impl Session {
         store: &mut Store,
         piece: &[u8],
         out: &mut Vec<u8>,
+        counts: &mut Counts,
     ) -> Fed
-        ensures heard { Appends out.old.items out.new.items (λ bytes. Hears self.old.number store.old (conversation_seen self.old.conversation) piece.now (record { bytes = bytes; state = store.new; conversation = conversation_seen self.new.conversation })) }
+        ensures heard { Answered out.old.items out.new.items counts.old counts.new (λ answers. Hears self.old.number store.old (conversation_seen self.old.conversation) piece.now (record { answers = answers; state = store.new; conversation = conversation_seen self.new.conversation })) }
         ensures answer { result ≡ fed_of (conversation_seen self.new.conversation) }
         ensures number { self.new.number ≡ self.old.number }
     {
         if let Conversation::Reading(kept) = &mut self.conversation {
-            if let Err(fault) = take_in(alloc, store, self.number, kept, piece, out) {
+            if let Err(fault) = take_in(alloc, store, self.number, kept, piece, out, counts) {
                 self.conversation = Conversation::Closed(fault);
             }
         }
@@ -91,22 +114,25 @@ fn take_in(
     kept: &mut Vec<u8>,
     piece: &[u8],
     out: &mut Vec<u8>,
+    counts: &mut Counts,
 ) -> Result<(), CloseFault>
-    ensures { Appends out.old.items out.new.items (λ bytes. Takes session store.old (split (kept.old.items ++ piece.now)) (record { bytes = bytes; state = store.new; conversation = kept_or_closed result kept.new.items })) }
+    ensures { Answered out.old.items out.new.items counts.old counts.new (λ answers. Takes session store.old (split (kept.old.items ++ piece.now)) (record { answers = answers; state = store.new; conversation = kept_or_closed result kept.new.items })) }
 {
     kept.extend_from_slice(piece)?;
-    let taken = carry_out_all(alloc, store, session, kept, out)?;
+    let taken = carry_out_all(alloc, store, session, kept, out, counts)?;
     drop_front(kept, taken);
     Ok(())
 }
 
-/// Drops the first bytes, and moves the others only where some are dropped.
+/// Drops the first bytes, and moves the others only where some are dropped. The room that a great message took is
+/// given back.
 fn drop_front(bytes: &mut Vec<u8>, count: usize)
     requires { count ≤ vec_len bytes.old }
     ensures { bytes.new.items ≡ drop count bytes.old.items }
 {
     if count > 0 {
         bytes.drain(..count);
+        bytes.shrink_to(ROOM_KEPT);
     }
 }
 
@@ -118,9 +144,10 @@ fn carry_out_all(
     session: u32,
     stream: &[u8],
     out: &mut Vec<u8>,
+    counts: &mut Counts,
 ) -> Result<usize, CloseFault>
     ensures taken { IfOk result (λ taken. taken ≤ length stream.now) }
-    ensures carried { Appends out.old.items out.new.items (λ bytes. Takes session store.old (split stream.now) (record { bytes = bytes; state = store.new; conversation = left_or_closed result stream.now })) }
+    ensures carried { Answered out.old.items out.new.items counts.old counts.new (λ answers. Takes session store.old (split stream.now) (record { answers = answers; state = store.new; conversation = left_or_closed result stream.now })) }
 {
     let mut rest = stream;
     'messages: loop {
@@ -131,29 +158,32 @@ fn carry_out_all(
                 message,
                 rest: behind,
             } => {
-                carry_out(alloc, store, session, &message, out)?;
+                carry_out(alloc, store, session, &message, out, counts)?;
                 rest = behind;
             }
         }
     }
 }
 
-/// Carries out a message, and appends its reply. An error says that memory is wanting for the reply, or that a reply
-/// which tells of want of memory isn't to be sent.
+/// Carries out a message, appends its reply, and counts them. An error says that memory is wanting for the reply, or
+/// that a reply which tells of want of memory isn't to be sent.
 fn carry_out(
     alloc: Global,
     store: &mut Store,
     session: u32,
     message: &Message<'_>,
     out: &mut Vec<u8>,
+    counts: &mut Counts,
 ) -> Result<(), NoMemory>
-    ensures { Appends out.old.items out.new.items (λ bytes. Carries session store.old (message_seen message.now) bytes store.new result) }
+    ensures { Answered out.old.items out.new.items counts.old counts.new (λ answers. Carries session store.old (message_seen message.now) answers store.new result) }
 {
     let outcome = step(alloc, store, session, message);
-    match reply_to(message, outcome)? {
-        Some(reply) => append_reply(message.request_id, &reply, out),
-        None => Ok(()),
+    counts.messages = counts.messages.saturating_add(1);
+    if let Some(reply) = reply_to(message, outcome)? {
+        append_reply(message.request_id, &reply, out)?;
+        counts.replies = counts.replies.saturating_add(1);
     }
+    Ok(())
 }
 
 /// The reply that is to be sent to a message, or none where moreToCome leaves it out. An error says that the session

@@ -1,20 +1,32 @@
-use Rattle.std.proofs.Common.{[], sym}
+use Rattle.std.proofs.Common.{[], sym, refl}
 use Rattle.std.proofs.lemmas.List.{append-nil}
 use Rattle.std.proofs.lemmas.Result.{err_from_is_err_and}
 use Rattle.dv_wire.specs.View.{message_seen}
-use Rattle.dv_wire.proofs.Replies.{carries_on, closes, answers}
+use Rattle.dv_wire.proofs.Counting.{Counted-answered, Counted-unanswered}
+use Rattle.dv_wire.proofs.Replies.{is_answered, is_closed, message_spelling-some}
 use Rattle.dv_wire.proofs.session.carry_out.Goals as goal
 
 pub returns-in_err-reply : goal.returns-in_err-reply
 returns-in_err-reply c =
     let p = err_from_is_err_and c.from_residual.result c.from_residual.ensures.1 in
-    rw p.1 ([], sym (append-nil _), closes c.args.session c.args.store.now c.step-outcome.new.store (message_seen c.args.message.now) c.step-outcome.result c.step-outcome.ensures)
+    rw p.1
+    (is_closed c.args.session c.args.store.now c.step-outcome.new.store (message_seen c.args.message.now) c.step-outcome.result c.step-outcome.ensures _ _ _ _ refl
+    (Counted-unanswered _ _ c.saturating_add-counts.ensures refl))
 
-pub returns-in-Some : goal.returns-in-Some
-returns-in-Some c =
-    answers c.args.session c.args.store.now c.step-outcome.new.store (message_seen c.args.message.now) c.step-outcome.result c.step-outcome.ensures
-    c.append_reply.result _ c.args.out.now.items c.append_reply.new.out.items (sym (rw c.in-Some.is at c.in_ok-reply.ensures)) c.append_reply.ensures.ok c.append_reply.ensures.err
+pub returns-in_err-append_reply : goal.returns-in_err-append_reply
+returns-in_err-append_reply c =
+    let p = err_from_is_err_and c.from_residual-in_err-append_reply.result c.from_residual-in_err-append_reply.ensures.1 in
+    rw p.1
+    (is_closed c.args.session c.args.store.now c.step-outcome.new.store (message_seen c.args.message.now) c.step-outcome.result c.step-outcome.ensures _ _ _ _
+    c.in_err-append_reply.ensures.err (Counted-unanswered _ _ c.saturating_add-counts.ensures refl))
 
-pub returns-in-None : goal.returns-in-None
-returns-in-None c =
-    ([], sym (append-nil _), carries_on c.args.session c.args.store.now c.step-outcome.new.store (message_seen c.args.message.now) c.step-outcome.result c.step-outcome.ensures [] (sym (rw c.in-None.is at c.in_ok-reply.ensures)))
+pub returns-in_ok-append_reply : goal.returns-in_ok-append_reply
+returns-in_ok-append_reply c =
+    is_answered c.args.session c.args.store.now c.step-outcome.new.store (message_seen c.args.message.now) c.step-outcome.result c.step-outcome.ensures _ _ _ _ _
+    (sym (rw c.in-Some.is at c.in_ok-reply.ensures)) c.in_ok-append_reply.ensures.ok
+    (Counted-answered _ _ _ c.saturating_add-counts.ensures c.saturating_add-counts-in-Some.ensures (message_spelling-some 0 _ 0 _))
+
+pub returns-in_default : goal.returns-in_default
+returns-in_default c =
+    is_answered c.args.session c.args.store.now c.step-outcome.new.store (message_seen c.args.message.now) c.step-outcome.result c.step-outcome.ensures _ _ _ _ []
+    (sym (rw c.in_default.is at c.in_ok-reply.ensures)) (sym (append-nil _)) (Counted-unanswered _ _ c.saturating_add-counts.ensures refl)

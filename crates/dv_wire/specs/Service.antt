@@ -1,0 +1,79 @@
+-- A whole session over a reader and a writer.
+use Rattle.std.specs.Prelude.{◌≡◌, ◌≤◌, ◌^◌, ℕ, suc, List, [], ◌∷◌, ◌++◌, length, Option, Some, None, Result, Ok, Err}
+use Rattle.std.specs.Io.KnownBytes.{Appends, Consumes, IsAtEnd, Keeps}
+use Rattle.dv_wire.specs.declared.fault.CloseFault.{CloseFault}
+use Rattle.dv_wire.specs.declared.fault.RunFault.{RunFault}
+use Rattle.dv_wire.specs.declared.fault.RunFault.TheVariants.{Read, Write, TooManyReads, Hub}
+use Rattle.dv_wire.specs.declared.hub.SessionId.{SessionId}
+use Rattle.dv_wire.specs.declared.service.Done.{Done}
+use Rattle.dv_wire.specs.Message.{Conversation, reading, closed}
+use Rattle.dv_wire.specs.Schedule.{Run, World, Opens, Hears, bytes_of, end, unfinished_in, world_behind}
+use Rattle.dv_wire.specs.Stream.{once_more}
+
+-- A session is opened, these bytes come from it, this is what its messages come to, and it ends. However its bytes are cut, the
+-- same may happen, so they stand here as one piece.
+pub record IsSession (old : World) (bytes : List ℕ) (run : Run) (new : World) : Type 0 where
+  pub session : SessionId
+  pub begun : World
+  pub opened : Opens old (Ok session) begun
+  pub heard : Hears session.number begun.state (reading []) bytes run
+  pub ended : new ≡ end session.number (world_behind session.number run begun)
+
+-- what closed a session, if it was closed
+abbrev pub closing_of : Conversation → Option CloseFault
+closing_of (reading kept) = None
+closing_of (closed fault) = Some fault
+
+-- how many of the answers are replies: those of any bytes
+abbrev pub reply_count : List (List ℕ) → ℕ
+reply_count [] = 0
+reply_count ([] ∷ answers) = reply_count answers
+reply_count ((b ∷ bytes) ∷ answers) = suc (reply_count answers)
+
+-- what is told of a session that ended
+abbrev pub done_of : Run → Done
+done_of run = record {
+  messages = length run.answers;
+  replies = reply_count run.answers;
+  closing = closing_of run.conversation;
+  unfinished = unfinished_in (Some run.conversation);
+}
+
+-- how many reads are made at most
+abbrev pub most_reads : ℕ
+most_reads = 2 ^ 32
+
+-- Bytes are read, and a session is had with them. Its answers are written, all but the last of them that are left unwritten.
+pub record Serves (old : World) (from to before after : Option (List ℕ)) (run : Run) (unwritten : List ℕ) (new : World) : Type 0 where
+  pub read : List ℕ
+  pub session : IsSession old read run new
+  pub consumed : Consumes from to read
+  pub written : List ℕ
+  pub answers : bytes_of run ≡ written ++ unwritten
+  pub appended : Appends before after written
+
+-- What a run comes to, by what it tells. At the end of input and at a closing fault all is answered that was read; so it
+-- is where the reader failed, and where too many reads were made, each of a byte at least. Where the writer failed the last of the
+-- answers weren't taken. Where no session was opened nothing happened.
+abbrev pub ComesTo : Result Done RunFault → World → World → Option (List ℕ) → Option (List ℕ) → Option (List ℕ) → Option (List ℕ) → Type 0
+ComesTo (Ok done) old new from to before after = (run : Run) × Serves old from to before after run [] new × (done ≡ done_of run) × (done.closing ≡ None → IsAtEnd to)
+ComesTo (Err Read) old new from to before after = (run : Run) × Serves old from to before after run [] new
+ComesTo (Err Write) old new from to before after = (run : Run) × (unwritten : List ℕ) × Serves old from to before after run unwritten new
+ComesTo (Err TooManyReads) old new from to before after = (run : Run) × (served : Serves old from to before after run [] new) × (most_reads ≤ length served.read)
+ComesTo (Err (Hub fault)) old new from to before after = Opens old (Err fault) new × Keeps from to × Keeps before after
+
+-- how often a reader has failed, behind a run: once more where that is told, and else as before
+abbrev pub failures_read_in : {A : Type 0} → Result A RunFault → ℕ → ℕ
+failures_read_in (Ok done) failures = failures
+failures_read_in (Err Read) failures = once_more failures
+failures_read_in (Err Write) failures = failures
+failures_read_in (Err TooManyReads) failures = failures
+failures_read_in (Err (Hub fault)) failures = failures
+
+-- and a writer
+abbrev pub failures_written_in : {A : Type 0} → Result A RunFault → ℕ → ℕ
+failures_written_in (Ok done) failures = failures
+failures_written_in (Err Read) failures = failures
+failures_written_in (Err Write) failures = once_more failures
+failures_written_in (Err TooManyReads) failures = failures
+failures_written_in (Err (Hub fault)) failures = failures

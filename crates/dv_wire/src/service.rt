@@ -1,0 +1,119 @@
+//! A whole session over a reader and a writer.
+
+ghost use Rattle.std.specs.Prelude.{◌≡◌, [], length, IfOk, Some};
+ghost use Rattle.dv_wire.specs.Message.{reading};
+ghost use Rattle.dv_wire.specs.Schedule.{conversation_of};
+ghost use Rattle.dv_wire.specs.Service.{ComesTo, failures_read_in, failures_written_in};
+ghost use Rattle.dv_wire.specs.View.{TalksTo, closing_fed};
+
+use crate::fault::{CloseFault, RunFault};
+use crate::hub::{Fed, Hub, SessionId};
+use crate::session::{Counts, ROOM_KEPT};
+use crate::stream::{ByteIn, ByteOut, give_all};
+use std::alloc::{AllocError, Global};
+
+/// The most reads that a session takes.
+const MOST_READS: u64 = 4_294_967_296;
+
+/// The most bytes that one read takes.
+const PIECE: usize = 65_536;
+
+/// What is told of a session that ended.
+#[derive(Clone, Copy, Debug, PartialEq, Eq)]
+pub struct Done {
+    /// How many messages were carried out.
+    pub messages: u64,
+    /// How many replies were written.
+    pub replies: u64,
+    /// What closed the session, if it was closed before the end of input.
+    pub closing: Option<CloseFault>,
+    /// How many bytes of an unfinished message were dropped.
+    pub unfinished: usize,
+}
+
+/// Has a whole session: opens it, reads to the end of input in pieces of at most 65,536 bytes, feeds each to it, writes
+/// its replies, and ends it. What many messages ask in one read is answered by one write, if the writer takes that
+/// much; else the rest is given to it. At a closing fault it stops reading. Answers only there and at the end of input.
+///
+/// Fails with `Read` or `Write` where the reader or the writer does (one that takes 0 bytes has failed), with
+/// `TooManyReads` after 4,294,967,296 reads, and with `Hub` where no session is opened or memory is wanting for a
+/// piece; in the last case nothing is changed or read. The session has ended then too; what its messages changed
+/// stands.
+pub fn run<R: ByteIn, W: ByteOut>(
+    alloc: Global,
+    hub: &mut Hub,
+    reader: &mut R,
+    writer: &mut W,
+) -> Result<Done, RunFault>
+    ensures ran { ComesTo result hub.old hub.new (R.remaining reader.old) (R.remaining reader.new) (W.contents writer.old) (W.contents writer.new) }
+    ensures reader { R.failures reader.new ≡ failures_read_in result (R.failures reader.old) }
+    ensures writer { W.failures writer.new ≡ failures_written_in result (W.failures writer.old) }
+{
+    let mut piece = room(alloc, PIECE)?;
+    let session = hub.open()?;
+    let served = serve(alloc, hub, session, &mut piece, reader, writer);
+    let unfinished = hub.end(session);
+    let (counts, closing) = served?;
+    Ok(Done {
+        messages: counts.messages,
+        replies: counts.replies,
+        closing,
+        unfinished,
+    })
+}
+
+/// Reads to the end of input or to a closing fault, feeds each piece to the session, and writes the replies. Answers
+/// how many messages and replies there were, and the closing fault.
+fn serve<R: ByteIn, W: ByteOut>(
+    alloc: Global,
+    hub: &mut Hub,
+    session: SessionId,
+    piece: &mut [u8],
+    reader: &mut R,
+    writer: &mut W,
+) -> Result<(Counts, Option<CloseFault>), RunFault>
+    requires room { length piece.old ≡ 65536 }
+    requires there { conversation_of session.number hub.old.sessions ≡ Some (reading []) }
+    ensures talked { TalksTo result session.number hub.old hub.new (R.remaining reader.old) (R.remaining reader.new) (W.contents writer.old) (W.contents writer.new) }
+    ensures reader { R.failures reader.new ≡ failures_read_in result (R.failures reader.old) }
+    ensures writer { W.failures writer.new ≡ failures_written_in result (W.failures writer.old) }
+{
+    let mut replies = Vec::new(alloc);
+    let mut counts = Counts::none();
+    'reads: for _ in 0..MOST_READS {
+        let Ok(count) = reader.take(piece) else {
+            return Err(RunFault::Read);
+        };
+        if count == 0 {
+            return Ok((counts, None));
+        }
+        let fed = hub.feed_counted(session, &piece[..count], &mut replies, &mut counts);
+        if give_all(writer, &replies).is_err() {
+            return Err(RunFault::Write);
+        }
+        replies.clear();
+        replies.shrink_to(ROOM_KEPT);
+        let closing = closing_in(fed);
+        if closing.is_some() {
+            return Ok((counts, closing));
+        }
+    }
+    Err(RunFault::TooManyReads)
+}
+
+/// What closed the session of which this is told.
+fn closing_in(fed: Fed) -> Option<CloseFault>
+    ensures { result ≡ closing_fed fed }
+{
+    match fed {
+        Fed::Closed(fault) => Some(fault),
+        Fed::Open | Fed::Unknown => None,
+    }
+}
+
+/// Room for so many bytes. Apart, and of any size, so that no proof spells all of them out.
+fn room(alloc: Global, size: usize) -> Result<Vec<u8>, AllocError>
+    ensures { IfOk result (λ piece. length piece.items ≡ size) }
+{
+    vec![in alloc; 0u8; size]
+}
