@@ -14,8 +14,8 @@ import sys
 
 import machine
 from compare import DOCD, HERE, message_of, shown
-from machine_rows import values
-from model.values import DOCUMENT, TEXT
+from model.values import DOCUMENT
+from notation import fields_of
 from random_scripts import lines_of_session
 
 MANUAL = os.path.join(HERE, "docs", "MANUAL.md")
@@ -32,12 +32,6 @@ def sections(text):
                 session, asked = COMMAND.fullmatch(command).groups()
                 examples.append((int(session or 0), asked, reply))
         yield section.splitlines()[0], examples
-
-
-def fields_of(text):
-    (kind, fields), = values(text)
-    assert kind == DOCUMENT
-    return fields
 
 
 def replies(output):

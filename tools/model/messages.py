@@ -1,9 +1,10 @@
-"""OP_MSG: whole messages taken off a stream, and replies."""
+"""OP_MSG: whole messages taken off a stream, what asks, and what answers."""
 import struct
 
-from model.values import BsonFault, int32, spelling, utf8
+from model.values import BsonFault, int32, read_document, spelling, utf8
 
 BODY, LIST = 0, 1  # kinds of sections
+HEADER = 21  # the bytes in front of the body of a message that has nothing else
 
 
 class Closing(Exception):
@@ -73,7 +74,12 @@ def framed(data, at, end, most=None):
     return documents, at
 
 
-def message(request, body):
-    """The bytes of a reply to the message with this requestID."""
+def message(answered, body, number=0):
+    """The bytes of a message with a requestID, which answers the one with another requestID, 0 where it asks."""
     data = spelling(body)
-    return struct.pack("<iiiiIB", 21 + len(data), 0, request, 2013, 0, 0) + data
+    return struct.pack("<iiiiIB", HEADER + len(data), number, answered, 2013, 0, BODY) + data
+
+
+def answer(data):
+    """The body of a reply."""
+    return read_document(data[HEADER:])

@@ -1,4 +1,9 @@
+pub mod Check
+pub mod File
 pub mod Line
+pub mod Load
 pub mod Output
 pub mod Reading
 pub mod Script
+pub mod Serve
+pub mod Words

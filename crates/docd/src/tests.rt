@@ -1,12 +1,14 @@
 //! Lines and scripts, with readers and writers in memory.
 
 mod ample;
+mod files;
 mod inserts;
+mod sessions;
+mod words;
 
 use crate::line::{LONGEST_LINE, line};
 use crate::said::Line;
 use crate::script::{ScriptFault, script};
-use crate::words::{status, words};
 use dv_wire::{Hub, Store};
 use std::alloc::{AllocError, Global};
 use std::io;
@@ -257,40 +259,6 @@ fn prints_faults(rt: HostRuntime) -> Result<(), Fail> {
     for (fault, want) in texts {
         let text = fault.to_string(rt.alloc())?;
         assert_eq!(rt; text.as_str(), want);
-    }
-    Ok(())
-}
-
-// The exit status that the words, without the program's name, come to.
-fn asked(alloc: Global, line: &str) -> Result<u8, AllocError> {
-    let mut all = Vec::new(alloc);
-    all.push(String::from_str(alloc, "docd")?)?;
-    for word in line.split(' ') {
-        all.push(String::from_str(alloc, word)?)?;
-    }
-    match words(alloc, all.as_slice()) {
-        Ok(_) => Ok(0),
-        Err(fault) => Ok(status(&fault)),
-    }
-}
-
-#[test]
-fn takes_no_words_but_its_form(rt: HostRuntime) -> Result<(), Fail> {
-    let lines = [
-        ("run --hex", 0),
-        ("run", 2),
-        ("", 2),
-        ("--hex", 2),
-        ("run --hex --hex", 2),
-        ("run --hex x", 2),
-        ("run --help", 2),
-        ("--help", 2),
-        ("help", 2),
-        ("serve", 2),
-    ];
-    for (line, want) in lines {
-        let status = asked(rt.alloc(), line)?;
-        assert_eq!(rt; status, want, "{line:?}");
     }
     Ok(())
 }

@@ -54,24 +54,6 @@ fn number_under(document: &Document, name: &str) -> Option<i32> {
 }
 
 #[test]
-fn finds_each_name(rt: HostRuntime) -> Result<(), Fail> {
-    let alloc = rt.alloc();
-    let document = numbered(alloc, 100)?;
-    let mut copy = document.try_clone()?;
-    for number in 0..100 {
-        let name = format!(in alloc; "name {number}")?;
-        assert_eq!(rt; number_under(&document, name.as_str()), Some(number));
-        assert_eq!(rt; number_under(&copy, name.as_str()), Some(number));
-        assert_eq!(rt;
-            copy.push(name.as_str(), Value::Int32(0)),
-            Err(BsonFault::RepeatedName)
-        );
-    }
-    assert_eq!(rt; number_under(&document, "name 100"), None);
-    Ok(())
-}
-
-#[test]
 fn a_changed_copy_leaves_its_source(rt: HostRuntime) -> Result<(), Fail> {
     let mut source = numbered(rt.alloc(), 2)?;
     let mut copy = source.try_clone()?;

@@ -1,13 +1,14 @@
-//! Tests of the crates below, of what no contract of theirs says: that there is an answer where memory is ample, that
-//! other libraries and worked examples agree, and texts. They stand in one crate since a crate with tests is proved twice.
+//! Tests of the crates below, of what neither a contract of theirs nor a script says: that calls which no script reaches
+//! have an answer where memory is ample, that other libraries agree, what is too large for a script, and texts. They stand
+//! in one crate since a crate with tests is proved twice. Worked examples are `docd`'s data.
 #![tactic(auto)]
 
 #[cfg(test)]
 mod bson;
 #[cfg(test)]
-mod coll;
+mod flows;
 #[cfg(test)]
-mod filters;
+mod hubs;
 #[cfg(test)]
 mod long_paths;
 #[cfg(test)]
@@ -17,14 +18,10 @@ mod paths;
 #[cfg(test)]
 mod pipelines;
 #[cfg(test)]
+mod reading;
+#[cfg(test)]
 mod sample;
 #[cfg(test)]
-mod sorts;
-#[cfg(test)]
-mod store;
+mod stores;
 #[cfg(test)]
 mod updates;
-#[cfg(test)]
-mod views;
-#[cfg(test)]
-mod wire;

@@ -1,9 +1,8 @@
-//! Paths that are long, and paths on whose way no array stands.
+//! Updates of long paths.
 
-use crate::sample::Sample::{Array, Doc, Int32, Text};
+use crate::sample::Sample::{Doc, Int32, Text};
 use crate::sample::{Sample, document_in};
 use dv_bson::{Document, Value};
-use dv_path::{Candidate, Path, any_with_elements, sole_candidate};
 use dv_update::{Update, UpdateFault};
 use std::alloc::Global;
 use std::test::Fail;
@@ -62,42 +61,5 @@ fn size_is_told_before_depth(rt: HostRuntime) -> Result<(), Fail> {
     let long = "a".repeat(alloc, 16_777_216)?;
     let told = fault_of(alloc, 100, &[], &[Text(long.as_str())])?;
     assert_eq!(rt; told, Some(UpdateFault::TooLarge));
-    Ok(())
-}
-
-/// What the one candidate is, where there is one: whether it is there, and whether it or an element of it is 2.
-fn sole(alloc: Global, path: &str, value: Sample) -> Result<Option<(bool, bool)>, Fail> {
-    let document = document_in(alloc, &Doc(&["a"], &[value]))?;
-    let path = Path::parse(alloc, path).ok().ok_or("it is a path")?;
-    let Some(candidate) = sole_candidate(&document, &path) else {
-        return Ok(None);
-    };
-    let is_there = matches!(candidate, Candidate::Found(_));
-    let has_two = any_with_elements(
-        candidate,
-        &|part: Candidate<'_>| match part {
-            Candidate::Found(Value::Int32(n)) => *n == 2,
-            _ => false,
-        },
-    );
-    Ok(Some((is_there, has_two)))
-}
-
-#[test]
-fn ways_without_an_array(rt: HostRuntime) -> Result<(), Fail> {
-    let alloc = rt.alloc();
-    assert_eq!(rt; sole(alloc, "a", Int32(2))?, Some((true, true)));
-    assert_eq!(rt; sole(alloc, "b", Int32(2))?, Some((false, false)));
-    assert_eq!(rt; sole(alloc, "a.b", Int32(2))?, Some((false, false)));
-    assert_eq!(rt;
-        sole(alloc, "a.b", Doc(&["b"], &[Int32(2)]))?,
-        Some((true, true))
-    );
-    assert_eq!(rt;
-        sole(alloc, "a", Array(&[Int32(1), Int32(2)]))?,
-        Some((true, true))
-    );
-    assert_eq!(rt; sole(alloc, "a.1", Array(&[Int32(1), Int32(2)]))?, None);
-    assert_eq!(rt; sole(alloc, "a.b.c", Doc(&["b"], &[Array(&[])]))?, None);
     Ok(())
 }

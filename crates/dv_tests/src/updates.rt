@@ -1,119 +1,74 @@
-//! Updates in use.
+//! Copies of updates, and updates of long paths.
 
 use crate::sample::Sample::{Array, Doc, Int32, Int64, Null};
 use crate::sample::{Sample, document_in};
 use dv_bson::{Document, Value};
-use dv_update::{Update, UpdateFault, is_same, same_documents};
+use dv_update::{Update, UpdateFault, same_documents};
 use std::alloc::Global;
 use std::test::*;
 
-/// An update, and what it makes of the document, or why it is none or is refused.
-struct Row(Sample<'static>, Result<Sample<'static>, UpdateFault>);
-
 const START: Sample<'static> = Doc(
-    &["_id", "a"],
-    &[Int32(1), Array(&[Int32(1), Int32(2), Int64(2), Int32(3)])],
+    &["_id", "a", "d", "v", "w"],
+    &[
+        Int32(1),
+        Array(&[Int32(1), Int32(2), Int64(2), Int32(3)]),
+        Null,
+        Int32(1),
+        Array(&[Int32(1)]),
+    ],
 );
 
-const ROWS: [Row; 14] = [
-    Row(
-        Doc(&["$pull"], &[Doc(&["a"], &[Int32(2)])]),
-        Ok(Doc(&["_id", "a"], &[Int32(1), Array(&[Int32(1), Int32(3)])])),
-    ),
-    Row(
-        Doc(&["$pull"], &[Doc(&["a"], &[Doc(&["$gte"], &[Int32(2)])])]),
-        Ok(Doc(&["_id", "a"], &[Int32(1), Array(&[Int32(1)])])),
-    ),
-    Row(
-        Doc(
-            &["$push"],
-            &[Doc(&["a"], &[Doc(&["$each"], &[Array(&[Int32(4), Int32(5)])])])],
-        ),
-        Ok(Doc(
-            &["_id", "a"],
-            &[
-                Int32(1),
-                Array(&[Int32(1), Int32(2), Int64(2), Int32(3), Int32(4), Int32(5)]),
-            ],
-        )),
-    ),
-    Row(
-        Doc(&["$unset"], &[Doc(&["a.1"], &[Int32(0)])]),
-        Ok(Doc(
-            &["_id", "a"],
-            &[Int32(1), Array(&[Int32(1), Null, Int64(2), Int32(3)])],
-        )),
-    ),
-    Row(
+/// Each operator, with a condition for what is pulled and values to be pushed one after the other.
+const ALL: Sample<'static> = Doc(
+    &["$set", "$unset", "$inc", "$push", "$pull"],
+    &[
+        Doc(&["b"], &[Int32(5)]),
+        Doc(&["d"], &[Int32(0)]),
+        Doc(&["v"], &[Int32(2)]),
+        Doc(&["w"], &[Doc(&["$each"], &[Array(&[Int32(4), Int32(5)])])]),
+        Doc(&["a"], &[Doc(&["$gte"], &[Int32(2)])]),
+    ],
+);
+
+const ALL_MADE: Sample<'static> = Doc(
+    &["_id", "a", "v", "w", "b"],
+    &[
+        Int32(1),
+        Array(&[Int32(1)]),
+        Int32(3),
+        Array(&[Int32(1), Int32(4), Int32(5)]),
+        Int32(5),
+    ],
+);
+
+/// A value that is pushed, and one that is pulled.
+const VALUES: Sample<'static> = Doc(
+    &["$push", "$pull"],
+    &[Doc(&["w"], &[Int64(4)]), Doc(&["a"], &[Int32(2)])],
+);
+
+const VALUES_MADE: Sample<'static> = Doc(
+    &["_id", "a", "d", "v", "w"],
+    &[
+        Int32(1),
+        Array(&[Int32(1), Int32(3)]),
+        Null,
+        Int32(1),
+        Array(&[Int32(1), Int64(4)]),
+    ],
+);
+
+/// Updates, and what they make of the document.
+const UPDATES: &[(Sample<'static>, Sample<'static>)] = &[
+    (ALL, ALL_MADE),
+    (VALUES, VALUES_MADE),
+    (
         Doc(&["b"], &[Int32(1)]),
-        Ok(Doc(&["_id", "b"], &[Int32(1), Int32(1)])),
-    ),
-    Row(
-        Doc(&["$set"], &[Doc(&["_id"], &[Int32(1)])]),
-        Ok(Doc(
-            &["_id", "a"],
-            &[Int32(1), Array(&[Int32(1), Int32(2), Int64(2), Int32(3)])],
-        )),
-    ),
-    Row(
-        Doc(&["$set"], &[Doc(&["a", "a.b"], &[Int32(1), Int32(2)])]),
-        Err(UpdateFault::Conflict),
-    ),
-    Row(
-        Doc(&["$set"], &[Doc(&["a.x"], &[Int32(1)])]),
-        Err(UpdateFault::NotViable),
-    ),
-    Row(
-        Doc(&["$set"], &[Doc(&["_id"], &[Int64(1)])]),
-        Err(UpdateFault::IdChanged),
-    ),
-    Row(
-        Doc(&["_id", "b"], &[Int64(1), Int32(1)]),
-        Err(UpdateFault::IdChanged),
-    ),
-    Row(
-        Doc(&["$push"], &[Doc(&["_id"], &[Int32(1)])]),
-        Err(UpdateFault::NotArray),
-    ),
-    Row(
-        Doc(
-            &["$inc"],
-            &[Doc(&["a.0", "a.2"], &[Int32(2147483647), Int64(-2)])],
-        ),
-        Ok(Doc(
-            &["_id", "a"],
-            &[
-                Int32(1),
-                Array(&[Int64(2147483648), Int32(2), Int64(0), Int32(3)]),
-            ],
-        )),
-    ),
-    Row(
-        Doc(&["$inc"], &[Doc(&["a.1"], &[Int64(9223372036854775807)])]),
-        Err(UpdateFault::Overflow),
-    ),
-    Row(
-        Doc(
-            &["$set"],
-            &[Doc(&["x.10", "x.2", "b"], &[Int32(1), Int32(2), Int32(3)])],
-        ),
-        Ok(Doc(
-            &["_id", "a", "b", "x"],
-            &[
-                Int32(1),
-                Array(&[Int32(1), Int32(2), Int64(2), Int32(3)]),
-                Int32(3),
-                Doc(&["2", "10"], &[Int32(2), Int32(1)]),
-            ],
-        )),
+        Doc(&["_id", "b"], &[Int32(1), Int32(1)]),
     ),
 ];
 
-const WITHOUT_A: Sample<'static> = Doc(&["$unset"], &[Doc(&["a"], &[Null])]);
-
-const ID_ALONE: Sample<'static> = Doc(&["_id"], &[Int32(1)]);
-
-/// What an update makes of the document, or the fault of either. The update is copied first.
+/// What a copy of an update makes of the document, or the fault of either.
 fn outcome(
     alloc: Global,
     update: &Document,
@@ -125,82 +80,41 @@ fn outcome(
     })
 }
 
+/// Whether a copy of the update makes the expected document of the one above.
+fn makes(alloc: Global, update: &Sample, expected: &Sample) -> Result<bool, Fail> {
+    let start = document_in(alloc, &START)?;
+    let update = document_in(alloc, update)?;
+    let made = outcome(alloc, &update, &start)?;
+    let expected = document_in(alloc, expected)?;
+    Ok(matches!(made, Ok(made) if same_documents(&made, &expected)))
+}
+
 #[test]
-fn updates_of_an_array(rt: HostRuntime) -> Result<(), Fail> {
-    let alloc = rt.alloc();
-    for row in &ROWS {
-        let document = document_in(alloc, &START)?;
-        let update = document_in(alloc, &row.0)?;
-        match (outcome(alloc, &update, &document)?, &row.1) {
-            (Ok(made), Ok(expected)) => {
-                let expected = document_in(alloc, expected)?;
-                assert!(rt; same_documents(&made, &expected), "{made:?}");
-            }
-            (Err(told), Err(expected)) => assert_eq!(rt; told, *expected),
-            (made, _) => assert!(rt; false, "{made:?}"),
-        }
+fn a_copy_does_the_same(rt: HostRuntime) -> Result<(), Fail> {
+    for (update, expected) in UPDATES {
+        assert!(rt; makes(rt.alloc(), update, expected)?);
     }
     Ok(())
 }
 
-#[test]
-fn what_an_update_was_made_of_stays(rt: HostRuntime) -> Result<(), Fail> {
-    let alloc = rt.alloc();
-    let document = document_in(alloc, &START)?;
-    let update = document_in(alloc, &WITHOUT_A)?;
-    let made = outcome(alloc, &update, &document)?
-        .ok()
-        .ok_or("it can be updated")?;
-    assert_eq!(rt; made.len(), 1);
-    assert!(rt; same_documents(&document, &document_in(alloc, &START)?));
-    Ok(())
-}
-
-#[test]
-fn levels_that_are_too_many_are_told(rt: HostRuntime) -> Result<(), Fail> {
-    let alloc = rt.alloc();
-    let document = document_in(alloc, &ID_ALONE)?;
-    let mut deep = Value::Null;
-    for _ in 0..100u8 {
-        let mut inner = Document::new(alloc);
-        inner.push("a", deep).ok().ok_or("it has one name")?;
-        deep = Value::Doc(inner);
-    }
+/// Why an update is refused that has this operator on a path of 100,000 names.
+fn fault_of(alloc: Global, operator: &str) -> Result<Option<UpdateFault>, Fail> {
+    let mut path = "a.".repeat(alloc, 99_999)?;
+    path.push_str("a")?;
     let mut paths = Document::new(alloc);
-    paths.push("b", deep).ok().ok_or("it has one name")?;
+    paths.push(path.as_str(), Value::Int32(1))?;
     let mut update = Document::new(alloc);
-    update
-        .push("$set", Value::Doc(paths))
-        .ok()
-        .ok_or("it has one name")?;
-    let told = outcome(alloc, &update, &document)?.err();
-    assert_eq!(rt; told, Some(UpdateFault::TooDeep));
-    assert_eq!(rt; UpdateFault::TooDeep.number(), 9);
-    Ok(())
-}
-
-#[test]
-fn values_that_are_the_same(rt: HostRuntime) {
-    assert!(rt; is_same(&Value::Int64(5), &Value::Int64(5)));
-    assert!(rt; !is_same(&Value::Int64(5), &Value::Int32(5)));
+    update.push(operator, Value::Doc(paths))?;
+    let mut document = Document::new(alloc);
+    document.push("_id", Value::Int32(1))?;
+    Ok(outcome(alloc, &update, &document)?.err())
 }
 
 #[test]
 fn a_path_of_100000_names_makes_nothing(rt: HostRuntime) -> Result<(), Fail> {
     let alloc = rt.alloc();
-    let document = document_in(alloc, &Doc(&["_id"], &[Int32(1)]))?;
-    let mut path = "a.".repeat(alloc, 99_999)?;
-    path.push_str("a")?;
-    for (operator, expected) in [
-        ("$set", Some(UpdateFault::TooDeep)),
-        ("$push", Some(UpdateFault::TooDeep)),
-        ("$unset", None),
-    ] {
-        let paths = document_in(alloc, &Doc(&[path.as_str()], &[Int32(1)]))?;
-        let mut update = Document::new(alloc);
-        update.push(operator, Value::Doc(paths))?;
-        let told = outcome(alloc, &update, &document)?.err();
-        assert_eq!(rt; told, expected);
-    }
+    assert_eq!(rt; fault_of(alloc, "$set")?, Some(UpdateFault::TooDeep));
+    assert_eq!(rt; fault_of(alloc, "$push")?, Some(UpdateFault::TooDeep));
+    assert_eq!(rt; fault_of(alloc, "$unset")?, None);
     Ok(())
 }

@@ -1,0 +1,11 @@
+-- The faults of a check.
+use Rattle.docd.specs.declared.check.CheckFault.{CheckFault}
+use Rattle.docd.specs.declared.check.CheckFault.TheVariants as faults
+use Rattle.docd.specs.declared.file.FileFault.{FileFault}
+use Rattle.docd.specs.declared.file.FileFault.TheVariants.{Read, TooLarge, NoMemory}
+
+-- a file that is not read is not checked
+abbrev pub read_fault : FileFault → CheckFault
+read_fault Read = faults.Read
+read_fault TooLarge = faults.TooLarge
+read_fault NoMemory = faults.NoMemory

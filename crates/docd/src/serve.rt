@@ -1,0 +1,149 @@
+//! Serving connections, one after the other.
+
+ghost use Rattle.std.specs.Prelude.{◌≡◌, ◌<◌, ◌≤◌, ℕ, List, Option, Err, IfErr, IfOk, OnErr, OnOk};
+ghost use Rattle.std.specs.Io.KnownBytes.{Appends};
+ghost use Rattle.docd.specs.Serve.{Accepts, HasSession, Served, connection_line};
+
+use crate::streams::{CountedReader, CountedWriter};
+use dv_wire::{ByteIn, ByteOut, Done, Failed, Hub, RunFault, run};
+use std::alloc::Global;
+use std::io;
+use std::io::Write;
+use std::net::{TcpListener, TcpStream};
+
+/// Why serving ends before the last connection.
+#[derive(Clone, Copy, Debug, PartialEq, Eq)]
+pub enum ServeFault {
+    /// No connection is had.
+    Accept,
+    /// The writer failed.
+    Write,
+}
+
+/// What connections come from.
+pub trait Listener {
+    ghost use Rattle.std.specs.Prelude.{◌≡◌, ℕ, List, Option, IfOk, OnErr};
+    ghost use Rattle.docd.specs.Serve.{Accepts};
+
+    /// Where a connection's bytes come from.
+    type Input: ByteIn + Drop;
+
+    /// Where the replies to it go.
+    type Output: ByteOut + Drop;
+
+    // The bytes of each connection that is still to come, where they are known.
+    ghost coming: { Self → Option (List (List ℕ)) };
+
+    /// Waits for the next connection.
+    fn accept(&mut self) -> Result<(Self::Input, Self::Output), Failed>
+        ensures next { IfOk result (λ connection. Accepts (coming self.old) (Self.Input.remaining connection.0) (coming self.new)) }
+        ensures kept { OnErr result (coming self.new ≡ coming self.old) };
+}
+
+/// A port of this machine. Which bytes come from it isn't known.
+#[derive(Drop)]
+pub struct Port {
+    listener: TcpListener,
+}
+
+impl Port {
+    pub fn of(listener: TcpListener) -> Self {
+        Port { listener }
+    }
+}
+
+impl Listener for Port {
+    ghost use Rattle.std.specs.Prelude.{None};
+
+    type Input = CountedReader<TcpStream>;
+
+    type Output = CountedWriter<TcpStream>;
+
+    ghost coming = { λ _. None };
+
+    fn accept(&mut self) -> Result<(Self::Input, Self::Output), Failed> {
+        let (stream, _) = self.listener.accept().map_err(|_| Failed)?;
+        // A small reply goes out at once. A stream that can't do so is as good otherwise.
+        let _ = stream.set_nodelay(true);
+        let writer = stream.try_clone().map_err(|_| Failed)?;
+        Ok((CountedReader::of(stream), CountedWriter::of(writer)))
+    }
+}
+
+/// Serves so many connections, one after the other, each by a session of the hub from its first byte to its last. Behind
+/// each its number, from 1, and how it ended is written as a line, and flushed: `connection K ended`; `connection K
+/// closed F` where a closing fault of this number ended it; `connection K failed` where its reader or its writer failed,
+/// or no session was had. Then it is closed, and the next one is served.
+///
+/// Fails with `Accept` where no connection is had and with `Write` where the writer fails. What was served stands.
+#[tactic(auto, using(crate::proofs::Served::none_served, crate::proofs::Served::more_served, crate::proofs::Served::all_served, crate::proofs::Served::none_accepted, crate::proofs::Served::not_written))]
+pub fn serve_on<L: Listener, W: Write>(
+    alloc: Global,
+    hub: &mut Hub,
+    listener: &mut L,
+    connections: u32,
+    writer: &mut W,
+) -> Result<(), ServeFault>
+    ensures all { OnOk result ((text : List ℕ) × Served connections (L.coming listener.old) (L.coming listener.new) hub.old text hub.new
+        × Appends (W.contents writer.old) (W.contents writer.new) text) }
+    ensures accept { result ≡ Err ServeFault.Accept → (count : ℕ) × (text : List ℕ) × (count < connections)
+        × Served count (L.coming listener.old) (L.coming listener.new) hub.old text hub.new × Appends (W.contents writer.old) (W.contents writer.new) text }
+    ensures write { result ≡ Err ServeFault.Write → (count : ℕ) × (text : List ℕ) × (count ≤ connections)
+        × Served count (L.coming listener.old) (L.coming listener.new) hub.old text hub.new }
+{
+    let mut number = 0;
+    'connections: while number < connections {
+        let told = serve_next(alloc, hub, listener)?;
+        number += 1;
+        tell(writer, number, told)?;
+    }
+    Ok(())
+}
+
+// Has the session of the next connection, and closes it.
+#[tactic(auto, using(crate::proofs::Served::session_had))]
+fn serve_next<L: Listener>(
+    alloc: Global,
+    hub: &mut Hub,
+    listener: &mut L,
+) -> Result<Result<Done, RunFault>, ServeFault>
+    ensures served { IfOk result (λ told. (known : Option (List ℕ)) × Accepts (L.coming listener.old) known (L.coming listener.new)
+        × HasSession known hub.old told hub.new) }
+    ensures none { OnErr result ((hub.new ≡ hub.old) × (L.coming listener.new ≡ L.coming listener.old)) }
+    ensures fault { IfErr result (λ fault. fault ≡ ServeFault.Accept) }
+{
+    let (mut input, mut output) = listener.accept().map_err(|_| ServeFault::Accept)?;
+    Ok(run(alloc, hub, &mut input, &mut output))
+}
+
+// Writes how a connection ended, and flushes it.
+fn tell<W: Write>(
+    writer: &mut W,
+    number: u32,
+    told: Result<Done, RunFault>,
+) -> Result<(), ServeFault>
+    ensures ok { OnOk result (Appends (W.contents writer.old) (W.contents writer.new) (connection_line number told)) }
+    ensures fault { IfErr result (λ fault. fault ≡ ServeFault.Write) }
+{
+    write_ending(writer, number, told).map_err(|_| ServeFault::Write)?;
+    writer.flush().map_err(|_| ServeFault::Write)
+}
+
+fn write_ending<W: Write>(
+    writer: &mut W,
+    number: u32,
+    told: Result<Done, RunFault>,
+) -> io::Result<()>
+    ensures { OnOk result (Appends (W.contents writer.old) (W.contents writer.new) (connection_line number told)) }
+{
+    match told {
+        Ok(done) => match done.closing {
+            None => write!(writer, "connection {number} ended\n"),
+            Some(fault) => {
+                let fault = fault.number();
+                write!(writer, "connection {number} closed {fault}\n")
+            }
+        },
+        Err(_) => write!(writer, "connection {number} failed\n"),
+    }
+}
