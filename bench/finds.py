@@ -3,17 +3,19 @@
 
 Needs what bench/measuring.py says. The documents have ten fields; SQLite holds them as JSON, in memory and without an
 index (`json_extract`), mongomock (`apt-get install python3-mongomock`; it is left out where that is missing) holds a tenth
-of them. All three give as many documents. docd's times hold the digits of the line that asks and of the reply.
+of them. All three give as many documents. All times are processor time, the least of
+some runs in turn; docd's hold the digits of the line that asks and of the reply.
 
     /usr/bin/python3 bench/finds.py
     /usr/bin/python3 bench/finds.py --count 10000 --program crates/docd/out/docd
 """
 import random
 import sys
+import time
 from collections import namedtuple
 
 import measuring
-from measuring import documents_to_find, heads, least, loaded, loaded_sqlite, row
+from measuring import documents_to_find, heads, in_turn, load, loaded, loaded_sqlite, row
 
 try:
     import mongomock
@@ -42,57 +44,61 @@ def finds(count):
     ]
 
 
+# What is asked of a system: the action, the clock of the process that carries it out, and how many documents the last one
+# was about.
+Asked = namedtuple("Asked", "action clock told")
+
+
 def asked_of_docd(docd, find):
-    """The time, and how many documents are found."""
     command = {"find": "c", "filter": find.filter, "sort": find.sort, "limit": find.limit, "batchSize": measuring.ALL}
     script = measuring.script_of([command])
     reply, = docd.ask(command)
     if "cursor" not in reply:
         sys.exit("bench: the find is refused: %r" % reply)
-    return least(lambda: docd.send(script, 1)), len(reply["cursor"]["firstBatch"])
+    return Asked(lambda: docd.send(script, 1), docd.clock, lambda: len(reply["cursor"]["firstBatch"]))
 
 
 def asked_of_sqlite(base, find):
+    found = []
+
     def ask():
-        return base.execute("SELECT body FROM c " + find.sql).fetchall()
-    return least(ask), len(ask())
+        found[:] = base.execute("SELECT body FROM c " + find.sql).fetchall()
+    return Asked(ask, time.thread_time, lambda: len(found))
 
 
 def asked_of_mongomock(collection, find):
     def ask():
         cursor = collection.find(find.filter)
-        return list(cursor.sort(list(find.sort.items())).limit(find.limit) if find.sort else cursor)
-    return least(ask), len(ask())
+        list(cursor.sort(list(find.sort.items())).limit(find.limit) if find.sort else cursor)
+    return Asked(ask, time.thread_time, None)
+
+
+def deletes(clock, delete):
+    """A delete of a hundredth, each time of another one."""
+    places, gone = iter(range(measuring.RUNS)), []
+    return Asked(lambda: gone.append(delete(*bounds_of(next(places)))), clock, lambda: gone[-1])
 
 
 def deleted_by_docd(docd):
-    """The time of a delete of a hundredth, each time of another one, and how many documents went the last time."""
-    places, gone = iter(range(measuring.RUNS)), []
-
-    def delete():
-        bounds = bounds_of(next(places))
-        reply, = docd.ask({"delete": "c", "deletes": [{"q": {"bucket": {"$gte": bounds[0], "$lt": bounds[1]}}, "limit": 0}]})
-        gone.append(reply["n"])
-    return least(delete), gone[-1]
+    def delete(least, end):
+        reply, = docd.ask({"delete": "c", "deletes": [{"q": {"bucket": {"$gte": least, "$lt": end}}, "limit": 0}]})
+        return reply["n"]
+    return deletes(docd.clock, delete)
 
 
 def deleted_by_sqlite(base):
-    places, gone = iter(range(measuring.RUNS)), []
-
-    def delete():
+    def delete(*bounds):
         sql = "DELETE FROM c WHERE %s >= ? AND %s < ?" % (FIELD % "bucket", FIELD % "bucket")
-        gone.append(base.execute(sql, bounds_of(next(places))).rowcount)
+        gone = base.execute(sql, bounds).rowcount
         base.commit()
-    return least(delete), gone[-1]
+        return gone
+    return deletes(time.thread_time, delete)
 
 
 def deleted_by_mongomock(collection):
-    places, gone = iter(range(measuring.RUNS)), []
-
-    def delete():
-        bounds = bounds_of(next(places))
-        gone.append(collection.delete_many({"bucket": {"$gte": bounds[0], "$lt": bounds[1]}}).deleted_count)
-    return least(delete), gone[-1]
+    def delete(least, end):
+        return collection.delete_many({"bucket": {"$gte": least, "$lt": end}}).deleted_count
+    return deletes(time.thread_time, delete)
 
 
 def bounds_of(place):
@@ -107,28 +113,29 @@ def mongomock_with(documents):
     return collection
 
 
-def tell(name, count, by_docd, by_sqlite, by_mongomock, few):
+def tell(name, count, few, by_docd, by_sqlite, by_mongomock):
     """A line of the table: milliseconds, and thousands of documents a second that are looked at."""
-    if by_docd[1] != by_sqlite[1]:
-        sys.exit("bench: %s: docd tells of %d documents and SQLite of %d" % (name, by_docd[1], by_sqlite[1]))
-    rate, other = count / by_docd[0], count / by_sqlite[0]
-    cells = [name, "%d" % by_docd[1], "%.1f" % (1e3 * by_docd[0])]
-    cells += ["%.0f" % (rate / 1e3), "%.0f" % (other / 1e3), "%.1f" % (rate / other)]
-    mocked = few / by_mongomock[0] if by_mongomock else None
-    row(*cells, *(["%.1f" % (mocked / 1e3), "%.0f" % (rate / mocked)] if mocked else ["-", "-"]))
+    asked = [by_docd, by_sqlite] + [by_mongomock] * (by_mongomock is not None)
+    spent, other, *mocked = in_turn(*((one.action, one.clock) for one in asked))
+    if by_docd.told() != by_sqlite.told():
+        sys.exit("bench: %s: docd tells of %d documents and SQLite of %d" % (name, by_docd.told(), by_sqlite.told()))
+    cells = [name, "%d" % by_docd.told(), "%.1f" % (1e3 * spent), "%.0f" % (count / spent / 1e3)]
+    cells += ["%.0f" % (count / other / 1e3), "%.1f" % (other / spent)]
+    row(*cells, *(["%.1f" % (few / mocked[0] / 1e3), "%.0f" % (count / spent / few * mocked[0])] if mocked else ["-", "-"]))
 
 
 def main():
     count = measuring.count_asked(__doc__)
     documents, few = documents_to_find(count), count // 10
     docd, base, collection = loaded(documents), loaded_sqlite(documents), mongomock_with(documents_to_find(few))
+    print(load())
     heads("over %d documents" % count, "documents", "milliseconds", "thousands a second looked at",
           "SQLite: thousands a second", "times SQLite", "mongomock, of %d: thousands a second" % few, "times mongomock")
     for find, smaller in zip(finds(count), finds(few)):
-        tell(find.name, count, asked_of_docd(docd, find), asked_of_sqlite(base, find),
-             collection is not None and asked_of_mongomock(collection, smaller), few)
-    tell("a delete of 1 %", count, deleted_by_docd(docd), deleted_by_sqlite(base),
-         collection is not None and deleted_by_mongomock(collection), few)
+        mocked = None if collection is None else asked_of_mongomock(collection, smaller)
+        tell(find.name, count, few, asked_of_docd(docd, find), asked_of_sqlite(base, find), mocked)
+    mocked = None if collection is None else deleted_by_mongomock(collection)
+    tell("a delete of 1 %", count, few, deleted_by_docd(docd), deleted_by_sqlite(base), mocked)
     docd.close()
 
 

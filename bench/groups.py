@@ -3,7 +3,8 @@
 
 Needs what bench/measuring.py says. A group counts the documents and adds up a number by a field of few or of many values;
 a lookup finds for each document the one of another collection that has the same number, in SQLite by a join on an indexed
-column. docd's times hold the digits of the line that asks and of the reply.
+column. docd's times hold the digits of the line that asks and of the reply. All
+times are processor time, the least of some runs in turn.
 
     /usr/bin/python3 bench/groups.py
     /usr/bin/python3 bench/groups.py --count 10000 --program crates/docd/out/docd
@@ -11,9 +12,10 @@ column. docd's times hold the digits of the line that asks and of the reply.
 import random
 import sqlite3
 import sys
+import time
 
 import measuring
-from measuring import heads, inserts, least, row
+from measuring import heads, in_turn, inserts, load, row
 
 FEW = 100  # values of the field of few values
 
@@ -51,13 +53,15 @@ def grouped_by(field):
     return stages, "SELECT %s, count(*), sum(amount) FROM c GROUP BY %s" % (field, field)
 
 
-LOOKUP = ([{"$lookup": {"from": "d", "localField": "code", "foreignField": "code", "as": "o"}}, {"$project": {"name": "$o.name"}}],
+LOOKUP = ([{"$lookup": {"from": "d", "localField": "code", "foreignField": "code", "as": "o"}},
+           {"$project": {"name": "$o.name"}}],
           "SELECT c.id, d.name FROM c JOIN d ON d.code = c.code")
 
 
 def main():
     count = measuring.count_asked(__doc__)
     docd, base = loaded_docd(count), loaded_sqlite(count)
+    print(load())
     heads("over %d documents" % count, "rows", "milliseconds", "thousands a second", "SQLite: thousands a second",
           "times SQLite")
     cases = {"`$group`, %d groups" % FEW: grouped_by("few"), "`$group`, %d groups" % count: grouped_by("many"),
@@ -69,7 +73,8 @@ def main():
         found, told = len(reply["cursor"]["firstBatch"]), len(base.execute(sql).fetchall())
         if found != told:
             sys.exit("bench: %s: docd gives %d rows and SQLite %d" % (name, found, told))
-        spent, other = least(lambda: docd.send(script, 1)), least(lambda: base.execute(sql).fetchall())
+        spent, other = in_turn((lambda: docd.send(script, 1), docd.clock),
+                               (lambda: base.execute(sql).fetchall(), time.thread_time))
         row(name, "%d" % found, "%.1f" % (1e3 * spent), "%.0f" % (count / spent / 1e3),
             "%.0f" % (count / other / 1e3), "%.2f" % (other / spent))
     docd.close()

@@ -6,13 +6,15 @@ whole and without the reading of lines and their hexadecimal digits, which is me
 that is closed. A find's time holds the writing of its reply's digits, which can't be left out.
 
     /usr/bin/python3 bench/inserts.py
+    /usr/bin/python3 bench/inserts.py --count 10000 --program crates/docd/out/docd
 """
 import random
 
 import bson
 from bson.int64 import Int64
 
-from measuring import ALL, LINE_BYTES, WORDS, check_tools, heads, least, lines, message, parts, person, print_pings, row, seconds
+from measuring import (ALL, LINE_BYTES, WORDS, count_asked, heads, least, lines, load, message, parts, person, print_pings, row,
+                       seconds)
 
 MOST_BYTES = 16_777_216  # of the documents in one answer
 
@@ -56,13 +58,13 @@ def rates(count, size, spent):
     return "%.0f" % (count / spent / 1e3), "%.1f" % (size / spent / 1e6)
 
 
-def print_inserts():
+def print_inserts(sizes):
     heads("documents", "in a message", "order of `_id`", "MB", "seconds", "of it reading lines",
           "thousands a second", "MB a second", "without reading lines: thousands a second", "MB a second",
           "python3-bson and a dict: thousands a second", "MB a second")
     for batch in (100, 1):
         for is_shuffled in (False, True):
-            for count in (1_000, 10_000, 100_000):
+            for count in sizes:
                 found = documents(count, is_shuffled)
                 size = sum(len(bson.encode(one)) for one in found)
                 spelled = bodies(found, batch)
@@ -83,16 +85,16 @@ def fitting(found):
     return found
 
 
-def print_finds():
+def print_finds(sizes):
     find = bson.encode({"find": "c", "batchSize": ALL, "$db": "t"})
     heads("documents found", "MB", "milliseconds a find", "thousands a second", "MB a second",
           "python3-bson, encoding the answer: thousands a second", "MB a second")
-    for count in (1_000, 10_000, 100_000):
+    for count in sizes:
         found = fitting(documents(count, True))
         found_in_order = sorted(found, key=lambda one: one["_id"])
         size = sum(len(bson.encode(one)) for one in found)
         spelled = bodies(found, 100)
-        times = max(2, 100_000 // count)
+        times = max(2, sizes[-1] // count)
         before = seconds(script(spelled), len(spelled))
         spent = (seconds(script(spelled + [find] * times), len(spelled) + times) - before) / times
         answer = {"cursor": {"firstBatch": found_in_order, "id": Int64(0), "ns": "t.c"}, "ok": 1}
@@ -104,12 +106,14 @@ def print_finds():
 
 
 def main():
-    check_tools()
-    print_inserts()
+    most = count_asked(__doc__)
+    sizes = [most // 100, most // 10, most]
+    print(load())
+    print_inserts(sizes)
     print()
-    print_finds()
+    print_finds(sizes)
     print()
-    print_pings((1_000, LINE_BYTES), (10_000, LINE_BYTES), (100_000, LINE_BYTES), (1_000, 1), (10_000, 1))
+    print_pings(*((count, LINE_BYTES) for count in sizes), (sizes[0], 1), (sizes[1], 1))
 
 
 if __name__ == "__main__":

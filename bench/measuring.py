@@ -1,13 +1,15 @@
 """What the measurements share: scripts, their times, a running program, what stands beside it, and tables.
 
 All need the built program (run ./docd once) and the BSON library of Debian's package python3-bson with its C extension
-(`apt-get install python3-bson python3-bson-ext`; run with /usr/bin/python3).
+(`apt-get install python3-bson python3-bson-ext`; run with /usr/bin/python3). All times are processor time, which other
+programs on the machine change least, and the least of some runs.
 """
 import argparse
 import json
 import os
 import queue
 import random
+import resource
 import sqlite3
 import struct
 import subprocess
@@ -56,15 +58,37 @@ def lines(stream, size):
     return "".join("0 %s\n" % stream[i:i + size].hex() for i in range(0, len(stream), size)).encode()
 
 
-def least(action):
-    """The least time of some runs, which is the one that was disturbed least."""
-    best = None
+def in_turn(*timed):
+    """The least processor time of each action, of some runs in which they come in turn. An action stands beside the clock
+    of the process that carries it out: what else the machine does moves that clock less than the time on the wall."""
+    best = [float("inf")] * len(timed)
     for _ in range(RUNS):
-        start = time.perf_counter()
-        action()
-        spent = time.perf_counter() - start
-        best = spent if best is None else min(best, spent)
+        for place, (action, clock) in enumerate(timed):
+            start = clock()
+            action()
+            best[place] = min(best[place], clock() - start)
     return best
+
+
+def least(action, clock=time.thread_time):
+    """The least processor time of some runs, which is the one that was disturbed least."""
+    return in_turn((action, clock))[0]
+
+
+def ended_time():
+    """The seconds of processor time that the processes have taken which this one began and which have ended."""
+    usage = resource.getrusage(resource.RUSAGE_CHILDREN)
+    return usage.ru_utime + usage.ru_stime
+
+
+def processor_time(process):
+    """The seconds that a running process has taken, by the clock that clock_getcpuclockid names."""
+    return time.clock_gettime(~process.pid << 3 | 2)
+
+
+def load():
+    """How many processes run or wait, for the line above a table."""
+    return "%.1f processes run or wait on %d processors" % (os.getloadavg()[0], os.cpu_count())
 
 
 def seconds(script, replies):
@@ -74,7 +98,7 @@ def seconds(script, replies):
         if done.stdout.count(b"\n") != replies:
             sys.exit("bench: %d replies, not %d" % (done.stdout.count(b"\n"), replies))
 
-    return least(run)
+    return least(run, ended_time)
 
 
 def parts(script, replies):
@@ -109,6 +133,11 @@ class Docd:
         """Sends commands of the database `t`, and gives the replies."""
         said = self.send(script_of(commands), len(commands))
         return [bson.decode(bytes.fromhex(line.split()[1].decode())[HEADER:]) for line in said]
+
+    def clock(self):
+        """The processor time that it has taken when all that it was sent is done."""
+        self.ask({"ping": 1})
+        return processor_time(self.process)
 
     def close(self):
         self.process.stdin.close()

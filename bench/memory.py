@@ -6,7 +6,8 @@ as a reader cuts them. Then, while its input is still open, the program's own Vm
 starts with what its parent held. From it goes what the program took before the first insert. Redis
 (`apt-get install redis-server`) holds the same BSON bytes as strings under the documents' numbers.
 
-    /usr/bin/python3 bench/memory.py [PROGRAM]
+    /usr/bin/python3 bench/memory.py
+    /usr/bin/python3 bench/memory.py --count 10000 --program crates/docd/out/docd
 """
 import os
 import random
@@ -22,7 +23,7 @@ from bson.int64 import Int64
 
 import measuring
 from inserts import document
-from measuring import Docd, LINE_BYTES, check_tools, heads, lines, message, row
+from measuring import Docd, LINE_BYTES, heads, lines, message, row
 
 
 def numbers(rng, identity):
@@ -41,7 +42,7 @@ def nested(rng, identity):
     return {"_id": identity, "items": [{"item": rng.randrange(1000), "count": rng.randrange(10)} for _ in range(50)]}
 
 
-# the shape, how a document of it is made, how many are inserted
+# the shape, how a document of it is made, how many are inserted where 100,000 are asked for
 SHAPES = [
     ("10 fields", document, 100_000),
     ("3 numbers", numbers, 200_000),
@@ -93,14 +94,12 @@ def stored_by_redis(documents):
 
 
 def main():
-    if len(sys.argv) > 1:
-        measuring.DOCD = sys.argv[1]
-    check_tools()
+    asked = measuring.count_asked(__doc__)
     has_redis = shutil.which("redis-server") is not None
     heads("shape", "BSON bytes", "alone", "times", "a hundred in a message", "times", "Redis", "times")
     for name, made, count in SHAPES:
         rng = random.Random(count)
-        documents = [made(rng, identity) for identity in range(count)]
+        documents = [made(rng, identity) for identity in range(count * asked // 100_000)]
         spelled = sum(len(bson.encode(one)) for one in documents[:1000]) / 1000
         alone, many = stored_by_docd(documents, 1), stored_by_docd(documents, 100)
         redis = stored_by_redis(documents) if has_redis else None

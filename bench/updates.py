@@ -2,18 +2,18 @@
 """What updates of one field cost, one statement for all documents and one for each, beside SQLite in process.
 
 Needs what bench/measuring.py says. The documents have ten fields; SQLite holds them as JSON in memory (`json_set`), and
-finds the one of a statement by its primary key. docd has no index yet, so a statement for one document looks at those in
-front of it; there are fewer of these. docd's times hold the digits of the lines and of the replies.
+finds the one of a statement by its primary key. All times are processor time, the least of some runs in turn; docd's hold
+the digits of the lines and of the replies.
 
     /usr/bin/python3 bench/updates.py
-    /usr/bin/python3 bench/updates.py --count 10000 --each 500 --program crates/docd/out/docd
+    /usr/bin/python3 bench/updates.py --count 10000 --program crates/docd/out/docd
 """
-import argparse
 import sys
+import time
 from collections import namedtuple
 
 import measuring
-from measuring import check_tools, documents_to_find, heads, least, loaded, loaded_sqlite, row
+from measuring import documents_to_find, heads, in_turn, load, loaded, loaded_sqlite, row
 
 # An update by a number, another one in each run, and the same in SQL, with how often the number stands there.
 Update = namedtuple("Update", "name made sql numbers")
@@ -37,7 +37,7 @@ def updated_by_docd(docd, update, count, is_each):
         replies = docd.ask(*commands)
         if sum(reply.get("nModified", 0) for reply in replies) != count:
             sys.exit("bench: %s: docd changes others than %d: %r" % (update.name, count, replies[0]))
-    return least(run)
+    return run, docd.clock
 
 
 def updated_by_sqlite(base, update, count, is_each):
@@ -50,7 +50,7 @@ def updated_by_sqlite(base, update, count, is_each):
         else:
             base.execute("UPDATE c SET body = %s" % update.sql, values)
         base.commit()
-    return least(run)
+    return run, time.thread_time
 
 
 def print_updates(documents, is_each):
@@ -58,23 +58,18 @@ def print_updates(documents, is_each):
     heads("one statement for each" if is_each else "one statement for all", "documents", "milliseconds", "thousands a second",
           "SQLite: thousands a second", "times SQLite")
     for update in UPDATES:
-        spent, other = updated_by_docd(docd, update, count, is_each), updated_by_sqlite(base, update, count, is_each)
+        spent, other = in_turn(updated_by_docd(docd, update, count, is_each), updated_by_sqlite(base, update, count, is_each))
         row(update.name, "%d" % count, "%.1f" % (1e3 * spent), "%.0f" % (count / spent / 1e3), "%.0f" % (count / other / 1e3),
             "%.2f" % (other / spent))
     docd.close()
 
 
 def main():
-    options = argparse.ArgumentParser(description=__doc__, formatter_class=argparse.RawDescriptionHelpFormatter)
-    options.add_argument("--count", type=int, default=100_000, help="how many documents one statement changes")
-    options.add_argument("--each", type=int, default=1_000, help="how many documents are changed by a statement of their own")
-    options.add_argument("--program", default=measuring.DOCD)
-    given = options.parse_args()
-    measuring.DOCD = given.program
-    check_tools()
-    print_updates(documents_to_find(given.count), False)
+    documents = documents_to_find(measuring.count_asked(__doc__))
+    print(load())
+    print_updates(documents, False)
     print()
-    print_updates(documents_to_find(given.each), True)
+    print_updates(documents[:len(documents) // 10], True)
 
 
 if __name__ == "__main__":

@@ -1,0 +1,198 @@
+#!/usr/bin/python3
+"""What finds by indexes cost, and what indexes cost the writes, beside SQLite in process with the same indexes.
+
+Needs what bench/measuring.py says. The documents have ten fields; SQLite holds them as JSON in memory, with indexes on
+`json_extract` of the same fields, and its answers stand in the order of its indexes, docd's in that of `_id`. A hundred
+documents have one `bucket`; `serial` is another number in each. All times are processor time, the least of some runs in
+turn; docd's hold the digits of the lines that ask and of the replies, SQLite's the making of the statement and of Python's
+rows.
+
+    /usr/bin/python3 bench/indexes.py
+    /usr/bin/python3 bench/indexes.py --count 10000 --program crates/docd/out/docd
+"""
+import json
+import random
+import sys
+import time
+from collections import namedtuple
+
+import measuring
+from measuring import documents_to_find, heads, in_turn, inserts, load, loaded, loaded_sqlite, row
+
+FIELDS = ["bucket", "serial", "age", "balance"]  # those that have indexes, in the order in which they get them
+AT_END = 20  # documents in a range
+MEMBERS = 20  # of an `$in`
+STATEMENTS = 1_000  # in a message
+
+# Finds by a number, another one each time, and the same as the end of an SQL statement with its values.
+Finds = namedtuple("Finds", "name times filter sql values")
+
+
+def extracted(field):
+    return "json_extract(body, '$.%s')" % field
+
+
+def finds(count):
+    rng = random.Random(count)
+    buckets, many = range(buckets_of(count)), ", ".join("?" * MEMBERS)
+    picked = [rng.sample(range(count), MEMBERS) for _ in range(1_000)]
+    picked_buckets = [rng.sample(buckets, min(MEMBERS, len(buckets))) for _ in range(100)]
+    several = ", ".join("?" * len(picked_buckets[0]))
+    return [
+        Finds("by `_id`", 1_000, lambda at: {"_id": picked[at][0]}, "id = ?", lambda at: picked[at][:1]),
+        Finds("an equality", 100, lambda at: {"bucket": at % len(buckets)}, extracted("bucket") + " = ?",
+              lambda at: [at % len(buckets)]),
+        Finds("a range at the end", 1_000, lambda at: {"serial": {"$gte": count - AT_END}}, extracted("serial") + " >= ?",
+              lambda at: [count - AT_END]),
+        Finds("`$in` of %d members, a document each" % MEMBERS, 1_000, lambda at: {"serial": {"$in": picked[at]}},
+              "%s IN (%s)" % (extracted("serial"), many), lambda at: picked[at]),
+        Finds("`$in` of %d members, %d documents each" % (len(picked_buckets[0]), count // len(buckets)), 100,
+              lambda at: {"bucket": {"$in": picked_buckets[at]}}, "%s IN (%s)" % (extracted("bucket"), several),
+              lambda at: picked_buckets[at]),
+    ]
+
+
+def buckets_of(count):
+    return max(1, count // 100)
+
+
+def documents(count):
+    """A hundred documents have one `bucket`."""
+    buckets = buckets_of(count)
+    return [{**one, "bucket": (one["_id"] * 7_919) % buckets} for one in documents_to_find(count)]
+
+
+def index_of(field):
+    return {"key": {field: 1}, "name": field + "_1"}
+
+
+def indexed_docd(found, fields):
+    """A running program with indexes on the fields, and then with the documents."""
+    docd = measuring.Docd()
+    reply, = docd.ask({"createIndexes": "c", "indexes": [index_of(field) for field in fields]})
+    if reply["ok"] != 1:
+        sys.exit("bench: the indexes are refused: %r" % reply)
+    return docd
+
+
+def indexed_sqlite(base, fields):
+    for field in fields:
+        base.execute("CREATE INDEX by_%s ON c (%s)" % (field, extracted(field)))
+    base.commit()
+    return base
+
+
+def print_finds(found):
+    docd, base = loaded(found), indexed_sqlite(loaded_sqlite(found), FIELDS[:2])
+    print_making(docd, found)
+    heads("a find by an index", "documents found", "microseconds", "SQLite: microseconds", "times SQLite")
+    for asked in finds(len(found)):
+        tell_find(docd, base, asked)
+    docd.close()
+
+
+def print_making(docd, found):
+    """What it takes to make the indexes over documents that are there."""
+    start = docd.clock()
+    docd.ask({"createIndexes": "c", "indexes": [index_of(field) for field in FIELDS[:2]]})
+    spent = docd.clock() - start
+    base = loaded_sqlite(found)
+    start = time.thread_time()
+    indexed_sqlite(base, FIELDS[:2])
+    other = time.thread_time() - start
+    print("Two indexes over %d documents: %.0f milliseconds, SQLite %.0f." % (len(found), 1e3 * spent, 1e3 * other))
+    print()
+
+
+def tell_find(docd, base, asked):
+    commands = [{"find": "c", "filter": asked.filter(at), "batchSize": measuring.ALL} for at in range(asked.times)]
+    script = measuring.script_of(commands)
+    sql = "SELECT body FROM c WHERE %s" % asked.sql
+    statements = [asked.values(at) for at in range(asked.times)]
+
+    def ask_sqlite():
+        for values in statements:
+            base.execute(sql, values).fetchall()
+    replies = docd.ask(*commands)
+    given = sum(len(reply["cursor"]["firstBatch"]) for reply in replies)
+    told = sum(len(base.execute(sql, values).fetchall()) for values in statements)
+    if given != told:
+        sys.exit("bench: %s: docd gives %d documents and SQLite %d" % (asked.name, given, told))
+    explained, = docd.ask({"explain": {"find": "c", "filter": asked.filter(0)}})
+    if explained["stage"] != "IXSCAN":
+        sys.exit("bench: %s: docd makes no use of an index: %r" % (asked.name, explained))
+    spent, other = in_turn((lambda: docd.send(script, asked.times), docd.clock), (ask_sqlite, time.thread_time))
+    row(asked.name, "%.0f" % (given / asked.times), "%.1f" % (1e6 * spent / asked.times), "%.1f" % (1e6 * other / asked.times),
+        "%.2f" % (other / spent))
+
+
+def print_writes(found):
+    heads("a write, with so many indexes", "indexes", "microseconds", "SQLite: microseconds", "times SQLite")
+    for many in (0, 1, 4):
+        fields = FIELDS[:many]
+        inserted, updated = least_of_writes(found, fields)
+        for name, (spent, other) in [("an insert", inserted), ("an update of four fields", updated)]:
+            row(name, "%d" % many, "%.1f" % (1e6 * spent), "%.1f" % (1e6 * other), "%.2f" % (other / spent))
+
+
+def least_of_writes(found, fields):
+    """Seconds that docd and SQLite take for an insert, and for an update."""
+    least = [[float("inf")] * 2 for _ in range(2)]
+    script, updates = measuring.script_of(inserts(found)), updates_of(len(found))
+    for _ in range(measuring.RUNS):
+        for system, times in enumerate((docd_writes(found, script, updates, fields), sqlite_writes(found, updates, fields))):
+            for write, spent in enumerate(times):
+                least[write][system] = min(least[write][system], spent)
+    return least
+
+
+def updates_of(count):
+    """For a tenth of the documents, in no order, another number for each field that may have an index."""
+    rng = random.Random(count)
+    return [(place, [rng.randrange(buckets_of(count)), count + place, rng.randrange(100, 200), rng.randrange(10**9)])
+            for place in rng.sample(range(count), count // 10)]
+
+
+def docd_writes(found, script, updates, fields):
+    docd = indexed_docd(found, fields)
+    start = docd.clock()
+    docd.send(script, len(inserts(found)))
+    inserted = docd.clock() - start
+    entries = [{"q": {"_id": place}, "u": {"$set": dict(zip(FIELDS, values))}} for place, values in updates]
+    commands = [{"update": "c", "updates": entries[i:i + STATEMENTS]} for i in range(0, len(entries), STATEMENTS)]
+    start = docd.clock()
+    replies = docd.ask(*commands)
+    updated = docd.clock() - start
+    docd.close()
+    if sum(reply.get("nModified", 0) for reply in replies) != len(updates):
+        sys.exit("bench: docd changes others than %d: %r" % (len(updates), replies[0]))
+    return inserted / len(found), updated / len(updates)
+
+
+def sqlite_writes(found, updates, fields):
+    base = indexed_sqlite(loaded_sqlite([]), fields)
+    rows = [(one["_id"], json.dumps(one)) for one in found]
+    start = time.thread_time()
+    base.executemany("INSERT INTO c VALUES (?, ?)", rows)
+    base.commit()
+    inserted = time.thread_time() - start
+    sql = "UPDATE c SET body = json_set(body, %s) WHERE id = ?" % ", ".join("'$.%s', ?" % field for field in FIELDS)
+    values = [(*values, place) for place, values in updates]
+    start = time.thread_time()
+    base.executemany(sql, values)
+    base.commit()
+    updated = time.thread_time() - start
+    base.close()
+    return inserted / len(found), updated / len(updates)
+
+
+def main():
+    found = documents(measuring.count_asked(__doc__))
+    print("%d documents; %s" % (len(found), load()))
+    print_finds(found)
+    print()
+    print_writes(found)
+
+
+if __name__ == "__main__":
+    main()

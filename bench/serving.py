@@ -1,0 +1,251 @@
+#!/usr/bin/python3
+"""What a served docd answers over the loopback, beside Redis, and what `docd check` takes, beside libbson's visit.
+
+Needs what bench/measuring.py says. One client sends inserts, finds by `_id`, updates of one field and ranges of an index to
+documents of ten fields: one request at a time, and many on their way at once, written by one thread and read by another.
+Redis (`apt-get install redis-server`; it is left out where that is missing) gets and sets the same documents' BSON bytes.
+Beside the time on the wall, in which this client has its part, stands the server's processor time. The file for `docd check`
+has about 200 MB; libbson's visit is bench/visit.c (`apt-get install libbson-dev`; left out where it doesn't compile).
+
+    /usr/bin/python3 bench/serving.py
+    /usr/bin/python3 bench/serving.py --count 10000 --program crates/docd/out/docd
+"""
+import contextlib
+import os
+import random
+import shlex
+import shutil
+import socket
+import struct
+import subprocess
+import sys
+import tempfile
+import threading
+import time
+from collections import namedtuple
+
+import bson
+
+import measuring
+from measuring import documents_to_find, ended_time, heads, in_turn, load, message, processor_time, row
+
+ALONE = 5_000  # requests that are sent one at a time
+ROUNDS = 3
+IN_RANGE = 20  # documents
+FILE_BYTES = 200_000_000
+
+# What is sent to docd, a message each, and to Redis, None where it has nothing of the kind.
+Work = namedtuple("Work", "name messages commands")
+
+
+def docd_message(command):
+    return message(bson.encode({**command, "$db": "t"}))
+
+
+def redis_command(*words):
+    return b"*%d\r\n" % len(words) + b"".join(b"$%d\r\n%s\r\n" % (len(word), word) for word in words)
+
+
+def works(documents):
+    """Inserts of all documents, and then as many requests of each other kind as a tenth of them."""
+    count, rng = len(documents), random.Random(len(documents))
+    some = [rng.randrange(count) for _ in range(count // 10)]
+    sets = [redis_command(b"SET", b"%d" % one["_id"], bson.encode(one)) for one in documents]
+    return [
+        Work("inserts", [docd_message({"insert": "c", "documents": [one]}) for one in documents], sets),
+        Work("finds by `_id`", [docd_message({"find": "c", "filter": {"_id": at}}) for at in some],
+             [redis_command(b"GET", b"%d" % at) for at in some]),
+        Work("updates of a field", [docd_message({"update": "c", "updates": [{"q": {"_id": at}, "u": {"$set": {"age": at}}}]})
+                                    for at in some], [sets[at] for at in some]),
+        Work("ranges of %d documents" % IN_RANGE,
+             [docd_message({"find": "c", "filter": {"serial": {"$gte": count - IN_RANGE}}})] * len(some), None),
+    ]
+
+
+class Server:
+    """A server that was started, and a connection to it. `size` tells the bytes of the first reply in a stream, or None where
+    they aren't known yet; `ping` and `pong` are a request and its reply, which no other reply ends with."""
+
+    def __init__(self, words, port, size, ping, pong):
+        self.size, self.ping, self.pong = size, ping, pong
+        self.process = subprocess.Popen(words, stdout=subprocess.DEVNULL)
+        self.connection = connected(port)
+        self.connection.setsockopt(socket.IPPROTO_TCP, socket.TCP_NODELAY, 1)
+
+    def ask_alone(self, requests):
+        """Sends each request when the reply to the one before is there, and gives the replies."""
+        return b"".join([self.reply_to(one) for one in requests])
+
+    def reply_to(self, request):
+        self.connection.sendall(request)
+        taken = self.piece()
+        while (size := self.size(taken)) is None or len(taken) < size:
+            taken += self.piece()
+        return taken
+
+    def piece(self):
+        taken = self.connection.recv(1 << 20)
+        if not taken:
+            sys.exit("bench: a server has closed its connection")
+        return taken
+
+    def ask_many(self, requests):
+        """Sends all requests while their replies are read, and gives these."""
+        sender = threading.Thread(target=self.connection.sendall, args=[b"".join(requests) + self.ping])
+        sender.start()
+        taken, last = [], b""
+        while not last.endswith(self.pong):
+            taken.append(self.piece())
+            last = last[-len(self.pong):] + taken[-1]
+        sender.join()
+        return b"".join(taken)[:-len(self.pong)]
+
+    def close(self):
+        self.connection.close()
+        self.process.terminate()
+        self.process.wait()
+
+
+def connected(port):
+    """A connection to a server that may not have begun to listen."""
+    for _ in range(200):
+        with contextlib.suppress(ConnectionRefusedError):
+            return socket.create_connection(("127.0.0.1", port))
+        time.sleep(0.05)
+    sys.exit("bench: no server listens")
+
+
+def docd_size(taken):
+    return int.from_bytes(taken[:4], "little") if len(taken) >= 4 else None
+
+
+def redis_size(taken):
+    end = taken.find(b"\r\n")
+    if end < 0:
+        return None
+    return end + 2 if taken[:1] != b"$" else end + 4 + int(taken[1:end])
+
+
+def free_port():
+    with socket.socket() as any_port:
+        any_port.bind(("127.0.0.1", 0))
+        return any_port.getsockname()[1]
+
+
+def served_docd():
+    port = free_port()
+    ping, pong = docd_message({"ping": 1}), bson.encode({"ok": 1})
+    return Server([*shlex.split(measuring.DOCD), "serve", "--port", str(port), "--connections", "1"], port, docd_size, ping,
+                  struct.pack("<iiiiIB", measuring.HEADER + len(pong), 0, 1, 2013, 0, 0) + pong)
+
+
+def served_redis(folder):
+    port = free_port()
+    words = ["redis-server", "--bind", "127.0.0.1", "--port", str(port), "--save", "", "--appendonly", "no", "--dir", folder]
+    return Server(words, port, redis_size, redis_command(b"PING"), b"+PONG\r\n")
+
+
+def spent_on(server, asked, requests):
+    """The seconds that a request takes on the wall and of the server's processor, and the replies."""
+    start, taken = time.perf_counter(), processor_time(server.process)
+    replies = asked(requests)
+    return (time.perf_counter() - start) / len(requests), (processor_time(server.process) - taken) / len(requests), replies
+
+
+def measured(server, requests, check):
+    """The four times of a work: one request at a time, and many on their way, each on the wall and of the processor."""
+    alone, many = requests[:min(ALONE, len(requests) // 2)], requests[len(requests) // 2:]
+    server.ask_many(requests[len(alone):len(requests) // 2])
+    times = []
+    for asked, part in ((server.ask_alone, alone), (server.ask_many, many)):
+        *spent, replies = spent_on(server, asked, part)
+        check(replies, len(part))
+        times += spent
+    return times
+
+
+def check_docd(replies, count):
+    """Stops where there are others than so many replies, or one that is a refusal or tells of nothing."""
+    at = told = 0
+    while at < len(replies):
+        size = docd_size(replies[at:at + 4])
+        body = bson.decode(replies[at + measuring.HEADER:at + size])
+        is_done = body["ok"] == 1 and "writeErrors" not in body and body.get("n", 1) == 1
+        if not is_done or "cursor" in body and not body["cursor"]["firstBatch"]:
+            sys.exit("bench: docd answers %r" % body)
+        at, told = at + size, told + 1
+    if told != count:
+        sys.exit("bench: docd answers %d of %d requests" % (told, count))
+
+
+def check_redis(replies, count):
+    if replies[:1] == b"-":
+        sys.exit("bench: Redis answers %r" % replies[:80])
+
+
+def least_of(rounds):
+    return [min(times) for times in zip(*rounds)]
+
+
+def print_served(documents):
+    has_redis = shutil.which("redis-server") is not None
+    asked = works(documents)
+    by_docd, by_redis = {one.name: [] for one in asked}, {one.name: [] for one in asked}
+    for _ in range(ROUNDS):
+        docd = served_docd()
+        docd.reply_to(docd_message({"createIndexes": "c", "indexes": [{"key": {"serial": 1}, "name": "by_serial"}]}))
+        for one in asked:
+            by_docd[one.name].append(measured(docd, one.messages, check_docd))
+        docd.close()
+        if has_redis:
+            with tempfile.TemporaryDirectory() as folder:
+                redis = served_redis(folder)
+                for one in asked:
+                    if one.commands:
+                        by_redis[one.name].append(measured(redis, one.commands, check_redis))
+                redis.close()
+    heads("microseconds of a request", "one at a time", "of the processor", "many on their way", "of the processor",
+          "Redis: one at a time", "of the processor", "many on their way", "of the processor")
+    for one in asked:
+        times = least_of(by_docd[one.name]) + least_of(by_redis[one.name])
+        row(one.name, *("%.1f" % (1e6 * spent) for spent in times), *["-"] * (8 - len(times)))
+
+
+def visiting_program(folder):
+    """The program of bench/visit.c, or None where libbson isn't installed."""
+    program, source = os.path.join(folder, "visit"), os.path.join(measuring.HERE, "bench", "visit.c")
+    found = subprocess.run(["pkg-config", "--cflags", "--libs", "libbson-1.0"], capture_output=True, text=True)
+    made = ["cc", "-O2", "-o", program, source, *found.stdout.split()]
+    return program if subprocess.run(made, stderr=subprocess.DEVNULL).returncode == 0 else None
+
+
+def print_check(documents):
+    spelled = b"".join(map(bson.encode, documents))
+    times = max(1, FILE_BYTES * len(documents) // 100_000 // len(spelled))
+    said = b"ok %d\n" % (times * len(documents))
+    with tempfile.TemporaryDirectory() as folder:
+        path = os.path.join(folder, "documents")
+        with open(path, "wb") as file:
+            file.write(spelled * times)
+        programs = {"docd check": [*shlex.split(measuring.DOCD), "check"], "libbson's visit": [visiting_program(folder)]}
+        programs = {name: words for name, words in programs.items() if None not in words}
+
+        def run(words):
+            if subprocess.run([*words, path], stdout=subprocess.PIPE).stdout != said:
+                sys.exit("bench: %s doesn't say %r" % (words, said))
+        spent = in_turn(*((lambda words=words: run(words), ended_time) for words in programs.values()))
+        heads("over %.0f MB" % (times * len(spelled) / 1e6), "seconds", "MB a second")
+        for name, one in zip(programs, spent):
+            row(name, "%.2f" % one, "%.0f" % (times * len(spelled) / 1e6 / one))
+
+
+def main():
+    documents = documents_to_find(measuring.count_asked(__doc__))
+    print("%d documents; %s" % (len(documents), load()))
+    print_served(documents)
+    print()
+    print_check(documents)
+
+
+if __name__ == "__main__":
+    main()
