@@ -80,7 +80,8 @@ fn tells_failures_of_sessions(rt: HostRuntime) -> Result<(), Fail> {
     for failing in 1..=34usize {
         let (done, written) = session(rt.alloc(), PING, 0, failing)?;
         assert_eq!(rt; done, Err(RunFault::Write), "{failing}");
-        assert_eq!(rt; written.as_str(), &PONG[..2 * (failing - 1)], "{failing}");
+        assert_eq!(rt; written.len(), 2 * (failing - 1), "{failing}");
+        assert!(rt; PONG.starts_with(written.as_str()), "{failing}");
     }
     Ok(())
 }
@@ -89,7 +90,8 @@ fn tells_failures_of_sessions(rt: HostRuntime) -> Result<(), Fail> {
 #[derive(Drop)]
 struct Clients<'a> {
     alloc: Global,
-    bytes: &'a [(&'a [u8], usize)],
+    all: &'a [(&'a [u8], usize)],
+    next: usize,
 }
 
 impl<'a> Listener for Clients<'a> {
@@ -102,10 +104,10 @@ impl<'a> Listener for Clients<'a> {
     ghost coming = { λ _. None };
 
     fn accept(&mut self) -> Result<(Self::Input, Self::Output), Failed> {
-        let Some((&(bytes, failing), others)) = self.bytes.split_first() else {
+        let Some(&(bytes, failing)) = self.all.get(self.next) else {
             return Err(Failed);
         };
-        self.bytes = others;
+        self.next = self.next.saturating_add(1);
         let reader = Dropping {
             bytes,
             calls: 0,
@@ -136,7 +138,8 @@ fn serves_behind_a_connection_that_was_closed_or_failed(rt: HostRuntime) -> Resu
         let mut written = Vec::new(alloc);
         let mut listener = Clients {
             alloc,
-            bytes: &clients,
+            all: &clients,
+            next: 0,
         };
         let done = serve_on(alloc, &mut hub, &mut listener, connections, &mut written);
         assert_eq!(rt; done, want);
