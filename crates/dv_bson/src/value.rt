@@ -220,6 +220,18 @@ impl Document {
         }
     }
 
+    /// A document without fields, with room for as many as `like` has; fields of the same names, added in the same order,
+    /// share its names. Fails where memory is wanting.
+    pub fn expecting(alloc: Global, like: &Document) -> Result<Self, NoMemory>
+        ensures { IfOk result (λ document. document ≡ []) }
+    {
+        if like.is_empty() {
+            return Ok(Document::new(alloc));
+        }
+        let fields = Some(Rc::new(alloc, Fields::beside(alloc, like)?)?);
+        Ok(Document { alloc, fields })
+    }
+
     /// The document with these fields, which give back what room they have left.
     pub(crate) fn of(alloc: Global, mut fields: Fields) -> Result<Self, NoMemory>
         ensures { IfOk result (λ document. document ≡ fields) }
