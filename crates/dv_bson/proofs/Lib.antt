@@ -7,6 +7,7 @@ pub mod Binaries
 pub mod Frames
 pub mod Fields
 pub mod Taken
+pub mod Measured
 pub mod Again
 pub mod Both
 pub mod ByText

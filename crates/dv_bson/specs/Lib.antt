@@ -11,3 +11,4 @@ pub mod Fault
 pub mod Parts
 pub mod Weight
 pub mod Put
+pub mod Measure

@@ -9,7 +9,7 @@ use Rattle.dv_bson.specs.declared.value.Document.TheDeep.{deep-Value}
 use Rattle.dv_bson.specs.Tree.{weight, fields_of, fields_weight, elements_of, elements_weight}
 use Rattle.dv_bson.specs.View.{tree}
 
-value_falls : (v : Value) → deep-Value v ≤ 2 * weight (tree v)
+value_falls : (v : Value) → deep-Value v ≤ 3 * weight (tree v)
 value_falls (Int32 n) = omega arith
 value_falls (Int64 n) = omega arith
 value_falls (Text s) = omega arith
@@ -24,11 +24,11 @@ value_falls (Timestamp n) = omega arith
 value_falls MinKey = omega arith
 value_falls MaxKey = omega arith
 
-pub values_fall : (vs : List Value) → most deep-Value vs ≤ 2 * elements_weight (elements_of (map tree vs))
+pub values_fall : (vs : List Value) → most deep-Value vs ≤ 3 * elements_weight (elements_of (map tree vs))
 values_fall [] = omega arith
 values_fall (v ∷ vs) = omega (arith, value_falls v, values_fall vs)
 
-pub fields_fall : (ns : List (List ℕ)) (vs : List Value) → length vs ≤ length ns → most deep-Value vs ≤ 2 * fields_weight (fields_of (zip ns (map tree vs)))
+pub fields_fall : (ns : List (List ℕ)) (vs : List Value) → length vs ≤ length ns → most deep-Value vs ≤ 3 * fields_weight (fields_of (zip ns (map tree vs)))
 fields_fall [] [] le = omega arith
 fields_fall [] (v ∷ vs) le = absurd (omega arith)
 fields_fall (n ∷ ns) [] le = omega arith

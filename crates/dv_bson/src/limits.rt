@@ -15,7 +15,7 @@ const LONGEST: usize = 2_147_483_647;
 
 /// What stands around the elements of a document or an array, or around a text: the four bytes of a
 /// length, and the closing zero.
-const FRAME: usize = 5;
+pub(crate) const FRAME: usize = 5;
 
 /// The four bytes of a count.
 const COUNT: usize = 4;
@@ -116,9 +116,21 @@ fn with_element(total: usize, name: usize, value: &Value) -> Option<usize>
     sum(total, sum(sum(size, name)?, 2)?)
 }
 
-/// As `size`, and that the document is valid at each of its levels.
+/// As `size`, and that the document is valid at each of its levels. One look where the size is kept.
 #[cycle(size)]
 pub(crate) fn document_size(document: &Document) -> Option<usize>
+    ensures size { SomeIff result (length (spelling document.now) ≤ 2147483647) (length (spelling document.now)) }
+    ensures valid { IfSome result (λ _. IsValue (trees.document (fields_of document.now))) }
+{
+    match document.kept_size() {
+        Some(size) => Some(size as usize),
+        None => counted_size(document),
+    }
+}
+
+/// The same, worked out from the fields.
+#[cycle(size)]
+fn counted_size(document: &Document) -> Option<usize>
     ensures size { SomeIff result (length (spelling document.now) ≤ 2147483647) (length (spelling document.now)) }
     ensures valid { IfSome result (λ _. IsValue (trees.document (fields_of document.now))) }
 {

@@ -1,6 +1,6 @@
 //! Documents from bytes.
 
-ghost use Rattle.std.specs.Prelude.{◌≡◌, ℕ, ◌+◌, ◌^◌, ◌<◌, ◌≤◌, ◌++◌, ◌⊎◌, true, false, List as Entries, take, length, map, decimal, IfOk, IfErr, MatchResult};
+ghost use Rattle.std.specs.Prelude.{◌≡◌, ℕ, ◌+◌, ◌<◌, ◌≤◌, ◌++◌, ◌⊎◌, true, false, List as Entries, take, length, map, decimal, IfOk, IfErr, MatchResult};
 ghost use Rattle.dv_bson.specs.Tree.{Field};
 ghost use Rattle.dv_bson.specs.View.{tree};
 ghost use Rattle.dv_bson.specs.Spelling.{Spells, Fits};
@@ -9,7 +9,7 @@ ghost use Rattle.dv_bson.specs.Parts.{field_at, numbered};
 
 use crate::fault::{BsonFault, ReadError};
 use crate::kind::Kind;
-use crate::limits::{MAX_DOCUMENT_LEN, MAX_LEVELS};
+use crate::limits::{FRAME, MAX_DOCUMENT_LEN, MAX_LEVELS};
 use crate::reading::{
     MIN_DOCUMENT_LEN, behind_index, binary_of, boolean_of, count_of, date_of, field_name_of,
     frame_of, framed, front_kind_of, int32_of, int64_of, kind_of, object_id_of, text_of,
@@ -31,7 +31,7 @@ fn value_of<'a>(
     at: usize,
     bytes: &'a [u8],
 ) -> Result<(Value, &'a [u8]), ReadError>
-    requires { at + length bytes.now < 2 ^ 64 }
+    requires { at + length bytes.now < 16777216 }
     ensures { Gives (λ x. (tree x.0, x.1.now)) result (value_at (body_at levels) kind at bytes.now) }
 {
     match kind {
@@ -87,7 +87,7 @@ fn field_of<'a>(
     before: &Fields,
     bytes: &'a [u8],
 ) -> Result<(&'a str, Value, &'a [u8]), ReadError>
-    requires { at + length bytes.now < 2 ^ 64 }
+    requires { at + length bytes.now < 16777216 }
     ensures { Gives (λ x. ((x.0.now, tree x.1), x.2.now)) result (field_at (body_at levels) false at before.now bytes.now) }
 {
     let (kind, behind) = front_kind_of(bytes, at)?;
@@ -109,7 +109,7 @@ fn element_of<'a>(
     before: &[Value],
     bytes: &'a [u8],
 ) -> Result<(Value, &'a [u8]), ReadError>
-    requires { at + length bytes.now < 2 ^ 64 }
+    requires { at + length bytes.now < 16777216 }
     ensures { Gives (λ x. ((decimal (length before.now), tree x.0), x.1.now)) result (field_at (body_at levels) true at (numbered 0 (map tree before.now)) bytes.now) }
 {
     let (kind, behind) = front_kind_of(bytes, at)?;
@@ -172,7 +172,7 @@ fn document_of(
     elements: &[u8],
     last: u8,
 ) -> Result<Document, ReadError>
-    requires { at + length elements.now < 2 ^ 64 }
+    requires { at + length elements.now < 16777216 }
     ensures { Gives (λ document. document) result (body_at levels false at elements.now last) }
 {
     if levels == 0 {
@@ -187,7 +187,7 @@ fn document_of(
         rest = after;
     }
     closed(last, at)?;
-    Ok(Document::of(alloc, fields)?)
+    Ok(Document::of(alloc, fields, (elements.len() + FRAME) as u32)?)
 }
 
 /// The array whose elements these are, the first of them at `at` in the outermost document, with so many
@@ -201,7 +201,7 @@ fn list_of(
     elements: &[u8],
     last: u8,
 ) -> Result<List, ReadError>
-    requires { at + length elements.now < 2 ^ 64 }
+    requires { at + length elements.now < 16777216 }
     ensures { Gives (λ list. numbered 0 list) result (body_at levels true at elements.now last) }
 {
     if levels == 0 {

@@ -1,7 +1,8 @@
 //! Values, documents and lists of values.
 
-ghost use Rattle.std.specs.Prelude.{◌≡◌, ◌+◌, ◌<◌, ◌≤◌, ◌↔◌, ◌⊎◌, if◌then◌else◌, Some, None, [], ◌∷◌, ◌++◌, true, false, length, slice_set, take, map, IsTrue, OnOk, OnErr, IfOk, IfErr, IsErrOf, slice_get};
+ghost use Rattle.std.specs.Prelude.{◌≡◌, ◌+◌, ◌<◌, ◌≤◌, ◌↔◌, ◌⊎◌, if◌then◌else◌, Some, None, [], ◌∷◌, ◌++◌, true, false, length, slice_set, take, map, IsTrue, OnOk, OnErr, IfOk, IfErr, IfSome, IsErrOf, slice_get};
 ghost use Rattle.std.specs.Option.{option_map};
+ghost use Rattle.dv_bson.specs.Measure.{IsMeasure};
 ghost use Rattle.dv_bson.specs.Names.{bare, AreNamed, place_under, value_under, with_value_under, without, has_name, has_zero};
 ghost use Rattle.dv_bson.specs.Put.{with_value_at};
 ghost use Rattle.dv_bson.specs.Spelling.{kind_of};
@@ -11,7 +12,7 @@ use crate::NoMemory;
 use crate::bytes::Bytes;
 use crate::fault::BsonFault;
 use crate::kind::Kind;
-use crate::limits::MAX_LEVELS;
+use crate::limits::{MAX_LEVELS, document_size};
 use crate::name_list::Names;
 use crate::text::Str;
 use std::alloc::Global;
@@ -63,6 +64,9 @@ const _: () = prove!(size_of::<Value>() == 32);
 /// Beside the memory that a copy shares.
 const _: () = prove!(size_of::<Document>() == 16);
 
+/// With the two counts of a pointer that is shared, no more than 56 bytes: what malloc hands out in a chunk of 64.
+const _: () = prove!(size_of::<Measured>() == 40);
+
 /// The fields of a document and of its copies, in the order in which they were added.
 #[cycle(value)]
 #[derive(Debug, Drop)]
@@ -73,6 +77,15 @@ pub(crate) struct Fields {
     values: Vec<Value>,
 }
 
+/// Fields, and how long their spelling is, if that is known.
+#[cycle(value)]
+#[derive(Debug, Drop)]
+pub(crate) struct Measured {
+    fields: Fields,
+    /// Forgotten as the fields change. Where there is one, they are known to be valid at each of their levels, too.
+    size: Option<u32>,
+}
+
 /// Fields in the order in which they were added. No two have one name, and no name holds a zero byte.
 #[cycle(value)]
 #[derive(Debug, Drop)]
@@ -80,7 +93,7 @@ pub struct Document {
     alloc: Global,
     /// Shared by a document and its copies until one of them is changed. None where there is no field, since a new
     /// document takes no memory.
-    fields: Option<Rc<Fields>>,
+    fields: Option<Rc<Measured>>,
 }
 
 /// The values of an array, in order.
@@ -108,12 +121,35 @@ impl Model for Fields {
 
     ghost invariant = { λ f. length f.values.items ≤ length f.names.value };
 
-    ghost size = { λ fs. 2 * fields_weight (fields_of fs) };
+    ghost size = { λ fs. 3 * fields_weight (fields_of fs) };
 
     ghost use Rattle.std.proofs.Common.{arith};
     ghost use Rattle.dv_bson.specs.ViewFalls.{fields_fall};
 
     ghost size_decreases = { λ f h. omega (arith, fields_fall f.names.value f.values.items h) };
+}
+
+impl Model for Measured {
+    ghost use Rattle.std.specs.Prelude as prelude;
+    ghost use Rattle.std.specs.Prelude.{ℕ, suc, ◌*◌, IfSome};
+    ghost use Rattle.std.specs.Coded.{coded_list, coded×, coded_ℕ};
+    ghost use Rattle.dv_bson.specs.Tree.{Field, fields_of, fields_weight};
+    ghost use Rattle.dv_bson.specs.TreeCode.{coded_tree};
+    ghost use Rattle.dv_bson.specs.Measure.{IsMeasure};
+
+    ghost Value = { prelude.List Field };
+
+    ghost coded = { coded_list (coded× (coded_list coded_ℕ) coded_tree) };
+
+    ghost view = { λ m. m.fields };
+
+    ghost invariant = { λ m. IfSome m.size (λ size. IsMeasure size m.fields) };
+
+    ghost size = { λ fs. suc (3 * fields_weight (fields_of fs)) };
+
+    ghost use Rattle.std.proofs.Common.{arith};
+
+    ghost size_decreases = { λ m h. Prim.grind arith };
 }
 
 impl Model for Document {
@@ -131,7 +167,7 @@ impl Model for Document {
 
     ghost view = { λ d. held d.fields };
 
-    ghost size = { λ fs. suc (2 * fields_weight (fields_of fs)) };
+    ghost size = { λ fs. suc (suc (3 * fields_weight (fields_of fs))) };
 
     ghost use Rattle.std.proofs.Common.{arith};
 
@@ -153,7 +189,7 @@ impl Model for List {
 
     ghost view = { λ l. map tree l.values.items };
 
-    ghost size = { λ vs. 2 * elements_weight (elements_of vs) };
+    ghost size = { λ vs. 3 * elements_weight (elements_of vs) };
 
     ghost use Rattle.std.proofs.Common.{arith};
     ghost use Rattle.dv_bson.specs.ViewFalls.{values_fall};
@@ -228,19 +264,22 @@ impl Document {
         if like.is_empty() {
             return Ok(Document::new(alloc));
         }
-        let fields = Some(Rc::new(alloc, Fields::beside(alloc, like)?)?);
+        let fields = Measured::of(Fields::beside(alloc, like)?, None);
+        let fields = Some(Rc::new(alloc, fields)?);
         Ok(Document { alloc, fields })
     }
 
-    /// The document with these fields, which give back what room they have left.
-    pub(crate) fn of(alloc: Global, mut fields: Fields) -> Result<Self, NoMemory>
+    /// The document with these fields, whose spelling is so long. They give back what room they have left. Fails where
+    /// memory is wanting.
+    pub(crate) fn of(alloc: Global, mut fields: Fields, size: u32) -> Result<Self, NoMemory>
+        requires { IsMeasure size fields }
         ensures { IfOk result (λ document. document ≡ fields) }
     {
         if fields.len() == 0 {
             return Ok(Document::new(alloc));
         }
         fields.trim();
-        let fields = Some(Rc::new(alloc, fields)?);
+        let fields = Some(Rc::new(alloc, Measured::of(fields, Some(size)))?);
         Ok(Document { alloc, fields })
     }
 
@@ -251,7 +290,7 @@ impl Document {
         ensures named { AreNamed self.now }
     {
         match &self.fields {
-            Some(fields) => fields.len(),
+            Some(measured) => measured.fields().len(),
             None => 0,
         }
     }
@@ -268,7 +307,7 @@ impl Document {
         ensures { option_map (λ field. (field.0.now, tree field.1.now)) result ≡ slice_get self.now place }
     {
         match &self.fields {
-            Some(fields) => fields.entry(place),
+            Some(measured) => measured.fields().entry(place),
             None => None,
         }
     }
@@ -279,7 +318,7 @@ impl Document {
         ensures { option_map (λ value. tree value.now) result ≡ value_under name.now self.now }
     {
         match &self.fields {
-            Some(fields) => fields.get(name),
+            Some(measured) => measured.fields().get(name),
             None => None,
         }
     }
@@ -320,7 +359,7 @@ impl Document {
         ensures named { AreNamed self.now }
     {
         match &self.fields {
-            Some(fields) => fields.has(name),
+            Some(measured) => measured.fields().has(name),
             None => false,
         }
     }
@@ -412,13 +451,51 @@ impl Document {
         let Some(others) = &with.fields else {
             return;
         };
-        if !gains_names(shared, others) {
+        if !gains_names(shared, others.fields()) {
             return;
         }
         let Ok(own) = Rc::make_mut(shared) else {
             return;
         };
-        own.share_names(others, levels);
+        own.share_names(others.fields(), levels);
+    }
+
+    /// Keeps the length of the spelling beside the fields, if there is one and no copy shares them, until they change: then
+    /// `size`, `fits` and writing need not work it out again, where this document stands in another one either. Nothing
+    /// that a caller sees changes. Takes no memory. In time linear in what stands in the document, but for documents inside
+    /// it that keep theirs.
+    pub fn keep_size(&mut self)
+        ensures { self.new ≡ self.old }
+    {
+        if self.is_shared() {
+            return;
+        }
+        let Some(size) = document_size(self) else {
+            return;
+        };
+        if let Some(shared) = &mut self.fields {
+            if let Some(own) = Rc::get_mut(shared) {
+                own.keep(size as u32);
+            }
+        }
+    }
+
+    /// Whether a copy shares the fields.
+    fn is_shared(&self) -> bool {
+        match &self.fields {
+            Some(shared) => Rc::strong_count(shared) > 1,
+            None => false,
+        }
+    }
+
+    /// The length of the spelling, where it is kept.
+    pub(crate) fn kept_size(&self) -> Option<u32>
+        ensures { IfSome result (λ size. IsMeasure size self.now) }
+    {
+        match &self.fields {
+            Some(measured) => measured.size(),
+            None => None,
+        }
     }
 
     /// The name and the value of a field that is there.
@@ -448,6 +525,91 @@ impl Document {
     }
 }
 
+impl Measured {
+    /// These fields, and the length of their spelling, if it is known.
+    fn of(fields: Fields, size: Option<u32>) -> Self
+        requires { IfSome size (λ size. IsMeasure size fields) }
+        ensures { result ≡ fields }
+    {
+        Measured { fields, size }
+    }
+
+    fn fields(&self) -> &Fields
+        ensures { result.now ≡ self.now }
+    {
+        &self.fields
+    }
+
+    /// The length of the spelling, if it is known.
+    fn size(&self) -> Option<u32>
+        ensures { IfSome result (λ size. IsMeasure size self.now) }
+    {
+        self.size
+    }
+
+    /// Keeps the length of the spelling.
+    fn keep(&mut self, size: u32)
+        requires { IsMeasure size self.old }
+        ensures { self.new ≡ self.old }
+    {
+        self.size = Some(size);
+    }
+
+    /// As `add` of `Fields`.
+    fn add(&mut self, name: &str, value: Value) -> Result<(), NoMemory>
+        requires whole { has_zero name.now ≡ false }
+        requires fresh { has_name name.now self.old ≡ false }
+        ensures ok { OnOk result (self.new ≡ self.old ++ (name.now, tree value) ∷ []) }
+        ensures err { OnErr result (self.new ≡ self.old) }
+    {
+        self.size = None;
+        self.fields.add(name, value)
+    }
+
+    /// As `replace` of `Fields`.
+    fn replace(&mut self, name: &str, value: Value) -> Option<Value>
+        ensures before { option_map tree result ≡ value_under name.now self.old }
+        ensures after { self.new ≡ with_value_under name.now (tree value) self.old }
+    {
+        self.size = None;
+        self.fields.replace(name, value)
+    }
+
+    /// As `copy_with` of `Fields`.
+    fn copy_with(&self, place: usize, value: Value) -> Result<Self, NoMemory>
+        requires { place < length self.now }
+        ensures { IfOk result (λ copy. copy ≡ with_value_at place (tree value) self.now) }
+    {
+        Ok(Measured::of(self.fields.copy_with(place, value)?, None))
+    }
+
+    /// As `remove` of `Fields`.
+    fn remove(&mut self, name: &str) -> Result<Option<Value>, NoMemory>
+        ensures before { IfOk result (λ before. option_map tree before ≡ value_under name.now self.old) }
+        ensures ok { OnOk result (self.new ≡ without name.now self.old) }
+        ensures err { OnErr result (self.new ≡ self.old) }
+    {
+        self.size = None;
+        self.fields.remove(name)
+    }
+
+    /// As `share_names` of `Fields`. The spelling stays as it is.
+    #[cycle(sharing)]
+    fn share_names(&mut self, other: &Fields, levels: u32)
+        ensures { self.new ≡ self.old }
+    {
+        self.fields.share_names(other, levels);
+    }
+}
+
+impl Clone for Measured {
+    ghost is_clone = { λ measured copy. copy ≡ measured };
+
+    fn clone(&self) -> Result<Self, NoMemory> {
+        Ok(Measured::of(self.fields.try_clone()?, self.size))
+    }
+}
+
 impl Fields {
     /// No fields, with room for so many. Fails where memory is wanting.
     fn with_room(alloc: Global, fields: usize) -> Result<Self, NoMemory>
@@ -464,9 +626,9 @@ impl Fields {
         ensures { IfOk result (λ fields. fields ≡ []) }
     {
         match &document.fields {
-            Some(fields) => Ok(Fields {
-                names: fields.names.clone()?,
-                values: Vec::with_capacity(alloc, fields.values.len())?,
+            Some(measured) => Ok(Fields {
+                names: measured.fields().names.clone()?,
+                values: Vec::with_capacity(alloc, measured.fields().len())?,
             }),
             None => Fields::with_room(alloc, 0),
         }
@@ -638,14 +800,6 @@ impl Fields {
     }
 }
 
-impl Clone for Fields {
-    ghost is_clone = { λ fields copy. copy ≡ fields };
-
-    fn clone(&self) -> Result<Self, NoMemory> {
-        self.try_clone()
-    }
-}
-
 /// Copies of the values, in order. Fails where memory is wanting.
 #[cycle(value)]
 fn copies_of(values: &Vec<Value>) -> Result<Vec<Value>, NoMemory>
@@ -684,7 +838,7 @@ fn put_copies(copies: &mut Vec<Value>, values: &[Value]) -> Result<(), NoMemory>
 /// copy shares are copied without the one that goes.
 fn put_value(
     alloc: Global,
-    shared: &mut Rc<Fields>,
+    shared: &mut Rc<Measured>,
     name: &str,
     value: Value,
 ) -> Result<Option<Value>, NoMemory>
@@ -692,7 +846,7 @@ fn put_value(
     ensures ok { OnOk result (shared.new.value ≡ with_value_under name.now (tree value) shared.old.value) }
     ensures err { OnErr result (shared.new.value ≡ shared.old.value) }
 {
-    let Some(place) = shared.place_of(name) else {
+    let Some(place) = shared.fields().place_of(name) else {
         return Ok(Some(value));
     };
     if let Some(own) = Rc::get_mut(shared) {
@@ -705,18 +859,19 @@ fn put_value(
 }
 
 /// One field, whose name holds no zero byte. Fails where memory is wanting.
-fn first_field(alloc: Global, name: &str, value: Value) -> Result<Rc<Fields>, NoMemory>
+fn first_field(alloc: Global, name: &str, value: Value) -> Result<Rc<Measured>, NoMemory>
     requires { has_zero name.now ≡ false }
     ensures { IfOk result (λ fields. fields.value ≡ (name.now, tree value) ∷ []) }
 {
     let mut fields = Fields::with_room(alloc, 1)?;
     fields.add(name, value)?;
-    Ok(Rc::new(alloc, fields)?)
+    Ok(Rc::new(alloc, Measured::of(fields, None))?)
 }
 
 /// Whether the fields may take the other's names: where no copy shares them, or names that no other document has could go.
-fn gains_names(fields: &Rc<Fields>, other: &Fields) -> bool {
-    Rc::strong_count(fields) == 1
+fn gains_names(shared: &Rc<Measured>, other: &Fields) -> bool {
+    let fields = shared.fields();
+    Rc::strong_count(shared) == 1
         || (Rc::strong_count(&fields.names) == 1
             && fields.names.begins_as(&other.names, fields.values.len()))
 }

@@ -9,23 +9,23 @@ use Rattle.dv_bson.proofs.Payloads.{length-string, length-document, length-array
 use Rattle.dv_bson.proofs.Rest.{fields_spelling-nil, elements_spelling-nil, fields_length-drop, elements_length-drop, AreValidBefore-more, elements_valid-more}
 use Rattle.dv_bson.proofs.limits.+size.Goals as goal
 
-pub document_size-loop-place-init : goal.document_size-loop-place-init
-document_size-loop-place-init t c = record {
+pub counted_size-loop-place-init : goal.counted_size-loop-place-init
+counted_size-loop-place-init t c = record {
   within = omega arith;
   left = omega (arith, length-document (fields_of c.args.document.now));
   before = record { named = c.len-place-end.ensures.named; valid = λ valid. valid };
 }
 
-pub document_size-with_element-requires : goal.document_size-with_element-requires
-document_size-with_element-requires t c =
+pub counted_size-with_element-requires : goal.counted_size-with_element-requires
+counted_size-with_element-requires t c =
     (omega (arith, field_weighs_less c.args.document.now c.loop-place.place c.field.result.0.now (tree c.field.result.1.now) (sym c.field.ensures)), tt)
 
-pub document_size-returns-in_err-total-clause-size : goal.document_size-returns-in_err-total-clause-size
-document_size-returns-in_err-total-clause-size t c =
+pub counted_size-returns-in_err-total-clause-size : goal.counted_size-returns-in_err-total-clause-size
+counted_size-returns-in_err-total-clause-size t c =
     rw c.from_residual.ensures (λ short. c.in_err-total.ensures.size (omega (arith, fields_length-drop c.args.document.now c.loop-place.place (c.field.result.0.now, tree c.field.result.1.now) c.field.ensures)))
 
-pub document_size-loop-place-preserved : goal.document_size-loop-place-preserved
-document_size-loop-place-preserved t c =
+pub counted_size-loop-place-preserved : goal.counted_size-loop-place-preserved
+counted_size-loop-place-preserved t c =
     let f : Field = (c.field.result.0.now, tree c.field.result.1.now) in
     record {
       within = omega (arith, c.in_ok-total.ensures.size);
@@ -33,8 +33,8 @@ document_size-loop-place-preserved t c =
       before = AreValidBefore-more c.args.document.now c.loop-place.place f c.field.ensures (search rules) c.in_ok-total.ensures.valid c.loop-place.invariant.before;
     }
 
-pub document_size-returns-clause-size : goal.document_size-returns-clause-size
-document_size-returns-clause-size t c =
+pub counted_size-returns-clause-size : goal.counted_size-returns-clause-size
+counted_size-returns-clause-size t c =
     let none = drop_all c.loop-place.place c.args.document.now (omega arith) in
     let nothing = ap length (fields_spelling-nil _ none) in
     (omega arith, omega arith)

@@ -4,6 +4,7 @@ use Rattle.dv_bson.specs.View.{tree}
 use Rattle.dv_bson.specs.Parts.{numbered}
 use Rattle.dv_bson.proofs.Shorter.{behind_name, frame_within}
 use Rattle.dv_bson.proofs.Elements.{field_may_be_added, array_read, numbered_push}
+use Rattle.dv_bson.proofs.Measured.{inside_measured}
 use Rattle.dv_bson.proofs.Loop.{shorter, goes_on, ends, is_done, starts, too_deep, some_left, none_left}
 use Rattle.dv_bson.proofs.Turns.{fails_kind, fails_name, fails_value, gives_field, gives_element}
 use Rattle.dv_bson.proofs.reader.+reader.Goals as goal
@@ -109,6 +110,11 @@ document_of-returns-in_err-closed t c =
     let p = err_from_is_err_and c.from_residual-in_err-closed.result c.from_residual-in_err-closed.ensures.1 in
     let done = is_done _ _ _ _ _ _ _ (none_left _ (sym c.is_empty.ensures ∙ c.elements-test.false)) c.elements.invariant.read in
     rw (p.1, p.2, ← done) (c.in_err-closed.ensures c.elements.fields)
+
+pub document_of-of-requires : goal.document_of-of-requires
+document_of-of-requires t c =
+    let done = is_done _ _ _ _ _ _ _ (none_left _ (sym c.is_empty.ensures ∙ c.elements-test.false)) c.elements.invariant.read in
+    inside_measured c.args.levels c.args.at c.args.elements.now c.args.last c.elements.fields (λ i. omega (arith, c.type_inv.elements i)) (omega (arith, c.requires)) (sym done ∙ c.in_ok-closed.ensures c.elements.fields)
 
 pub document_of-returns : goal.document_of-returns
 document_of-returns t c =

@@ -1,4 +1,4 @@
-use Rattle.std.proofs.Common.{◌≡◌, ◌*◌, ◌+◌, ◌-◌, ◌^◌, ◌<◌, true, false, length, map}
+use Rattle.std.proofs.Common.{◌≡◌, ◌*◌, ◌+◌, ◌-◌, ◌<◌, true, false, length, map}
 use Rattle.dv_bson.specs.View.{tree}
 use Rattle.dv_bson.specs.Reading.{fields_at, body_at}
 use Rattle.dv_bson.specs.Parts.{numbered}
@@ -24,7 +24,7 @@ decreases-element_of l = 3 * l.levels + 2
 abbrev pub invariant-document_of-elements : goal.invariant-document_of-elements
 invariant-document_of-elements l = record {
   read : fields_at (body_at (l.levels - 1)) (length l.rest) false l.at l.fields l.rest l.last ≡ body_at l.levels false l.fn.at l.elements l.last;
-  in_range : l.at + length l.rest < 2 ^ 64;
+  in_range : l.at + length l.rest < 16777216;
 }
 
 abbrev pub decreases-document_of-elements : goal.decreases-document_of-elements
@@ -33,7 +33,7 @@ decreases-document_of-elements l = length l.rest
 abbrev pub invariant-list_of-elements : goal.invariant-list_of-elements
 invariant-list_of-elements l = record {
   read : fields_at (body_at (l.levels - 1)) (length l.rest) true l.at (numbered 0 (map tree l.values.items)) l.rest l.last ≡ body_at l.levels true l.fn.at l.elements l.last;
-  in_range : l.at + length l.rest < 2 ^ 64;
+  in_range : l.at + length l.rest < 16777216;
 }
 
 abbrev pub decreases-list_of-elements : goal.decreases-list_of-elements
