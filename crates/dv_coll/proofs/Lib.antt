@@ -2,3 +2,4 @@ pub mod Places
 pub mod Inserted
 pub mod Removed
 pub mod Replaced
+pub mod PutIn

@@ -1,8 +1,9 @@
 -- Collections: documents that begin with an `_id` of their own, in the order of these.
-use Rattle.std.specs.Prelude.{◌≡◌, pos, Bool, not, List, [], ◌∷◌, map, Option, codes, if◌then◌else◌, ⊤}
+use Rattle.std.specs.Prelude.{◌≡◌, ℕ, pos, Bool, not, List, [], ◌∷◌, map, Option, None, Some, codes, if◌then◌else◌, ⊤}
 use Rattle.std.specs.List.{find, filter}
 use Rattle.std.specs.List.Sorted.{IsStrictlySortedBy}
 use Rattle.std.specs.Ordering.{is_eq, is_lt}
+use Rattle.dv_bson.specs.Names.{with_value_under}
 use Rattle.dv_bson.specs.Tree.{Tree, int64, array, Field}
 use Rattle.dv_order.specs.Order.{canon}
 use Rattle.dv_order.specs.Key.{KeyTree, value, key_order}
@@ -45,3 +46,8 @@ removed k ds = filter (λ d. not (has_key k d)) ds
 -- the documents, with d in place of the one that has an equal `_id`
 abbrev pub replaced : List Field → List (List Field) → List (List Field)
 replaced d ds = map (λ e. if has_key (id_key d) e then d else e) ds
+
+-- the documents, with the value put under the name in the one that was found
+abbrev pub with_value_in : Option (List Field) → List ℕ → Tree → List (List Field) → List (List Field)
+with_value_in None name v ds = ds
+with_value_in (Some d) name v ds = replaced (with_value_under name v d) ds

@@ -1,13 +1,18 @@
 //! Documents by their `_id`.
 
-ghost use Rattle.std.specs.Prelude.{◌≡◌, ◌↔◌, [], None, length, IfOk, IsErrOf, IsSome, IsTrue, OnErr, OnOk, is_some};
+ghost use Rattle.std.specs.Prelude.{◌≡◌, ◌↔◌, [], None, codes, false, length, IfOk, IsErrOf, IsSome, IsTrue, OnErr, OnOk, is_some};
+ghost use Rattle.std.specs.BTreeMap.{get_by};
 ghost use Rattle.std.specs.Iterator.{YieldsFirstRef, item_count};
 ghost use Rattle.std.specs.List.{AllByRecursion};
 ghost use Rattle.std.specs.Option.{option_map};
-ghost use Rattle.dv_coll.specs.Collection.{HasId, IsAscending, id_key, found, inserted, removed, replaced};
+ghost use Rattle.std.specs.Str.{bytes_eq};
+ghost use Rattle.dv_bson.specs.View.{tree};
+ghost use Rattle.dv_order.specs.Key.{key_order};
+ghost use Rattle.dv_coll.specs.Collection.{HasId, IsAscending, id_key, found, inserted, removed, replaced, with_value_in};
+ghost use Rattle.dv_coll.specs.Keyed.{put_under};
 
 use crate::fault::InsertFault;
-use dv_bson::{Document, NoMemory};
+use dv_bson::{Document, NoMemory, Value};
 use dv_order::{Key, key_of, laws, replace_under_first};
 use std::alloc::Global;
 use std::collections::BTreeMap;
@@ -118,6 +123,21 @@ impl Collection {
         replace_under_first(&mut self.documents, document)
     }
 
+    /// Puts the value in place of the one under the name, in the document under the key of its `_id`, and answers whether
+    /// there is such a document. Where there is none, or where no field of it has the name, nothing is changed, and the value
+    /// is dropped. The document is changed in place, unless a copy shares its fields: then these are copied first, and it
+    /// fails where memory is wanting, with nothing changed.
+    #[tactic(auto, using(crate::proofs::PutIn::put_in))]
+    pub fn put(&mut self, key: &Key, name: &str, value: Value) -> Result<bool, NoMemory>
+        requires { bytes_eq name.now (codes "_id") ≡ false }
+        ensures found { IfOk result (λ there. there ≡ is_some (found key.now self.old)) }
+        ensures ok { OnOk result (self.new ≡ with_value_in (found key.now self.old) name.now (tree value) self.old) }
+        ensures err { OnErr result (self.new ≡ self.old) }
+    {
+        laws::equal_keys_are_one();
+        put_in_document(&mut self.documents, key, name, value)
+    }
+
     /// Takes out the document under the key of its `_id`, where there is one, and answers it. Takes no memory.
     #[tactic(auto, using(crate::proofs::Places::places, crate::proofs::Removed::removals))]
     pub fn remove(&mut self, key: &Key) -> Option<Document>
@@ -145,6 +165,26 @@ impl Collection {
             }
         }
     }
+}
+
+/// Puts the value in place of the one under the name, in the document under the key, and answers whether there is one. Fails
+/// where memory is wanting to copy the fields; then nothing is changed.
+#[tactic(auto, using(crate::proofs::PutIn::put_same))]
+fn put_in_document(
+    documents: &mut BTreeMap<Key, Document>,
+    key: &Key,
+    name: &str,
+    value: Value,
+) -> Result<bool, NoMemory>
+    ensures found { IfOk result (λ there. there ≡ is_some (get_by (key_order key.now) documents.old)) }
+    ensures ok { OnOk result (documents.new.entries ≡ put_under (get_by (key_order key.now) documents.old) key.now name.now (tree value) documents.old.entries) }
+    ensures err { OnErr result (documents.new.entries ≡ documents.old.entries) }
+{
+    let Some(document) = documents.get_mut(key) else {
+        return Ok(false);
+    };
+    let _ = document.put(name, value)?;
+    Ok(true)
 }
 
 /// The key of the document's `_id`. Fails where memory is wanting.
