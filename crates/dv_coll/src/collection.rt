@@ -107,6 +107,7 @@ impl Collection {
         if let Some((_, last)) = self.documents.last_key_value() {
             document.share_names(last);
         }
+        document.keep_size();
         let key = key_of_id(&document)?;
         self.insert_under(key, document)
     }
@@ -184,6 +185,7 @@ fn put_in_document(
         return Ok(false);
     };
     let _ = document.put(name, value)?;
+    document.keep_size();
     Ok(true)
 }
 

@@ -37,7 +37,8 @@ impl Update {
     pub fn apply(&self, alloc: Global, document: &Document) -> Result<Document, UpdateFault>
         ensures { Gives (λ changed. changed) result (defined.applied (update self.now) document.now) }
     {
-        let changed = self.change(alloc, document)?;
+        let mut changed = self.change(alloc, document)?;
+        changed.keep_size();
         if !keeps_id(document, &changed) {
             return Err(UpdateFault::IdChanged);
         }
