@@ -7,5 +7,6 @@ pub mod Members
 pub mod Ordered
 pub mod Same
 pub mod Sound
+pub mod Standing
 pub mod Taken
 pub mod Unwound

@@ -11,6 +11,7 @@ pub mod Parsing
 pub mod Projecting
 pub mod ProjectParsing
 pub mod Row
+pub mod RowValueView
 pub mod Unwinding
 pub mod Valid
 pub mod ValidRows

@@ -6,7 +6,9 @@ ghost use Rattle.dv_bson.specs.Tree.{fields_of};
 ghost use Rattle.dv_bson.specs.View.{tree};
 ghost use Rattle.dv_row.specs.Expressions as defined;
 ghost use Rattle.dv_row.specs.ExpressionView.{expression, named};
+ghost use Rattle.dv_row.specs.RowValueView.{row_value};
 
+use crate::row_value::{RowValue, made, path_value};
 use dv_bson::{BsonFault, Document, NoMemory, Str, Value};
 use dv_path::{Path, expr_value};
 use std::alloc::{AllocError, Global};
@@ -78,6 +80,23 @@ impl Expr {
                 computed.push_values(alloc, row, &mut document)?;
                 Ok(Some(Value::Doc(document)))
             }
+        }
+    }
+
+    /// The value over the row, without a copy where it stands in the row or in the expression; `None` where it is missing.
+    /// Fails where memory is wanting.
+    #[tactic(auto, unfolding(crate::specs::Expressions::value_of))]
+    pub fn value_in<'a>(
+        &'a self,
+        alloc: Global,
+        row: &'a Document,
+    ) -> Result<Option<RowValue<'a>>, NoMemory>
+        ensures { IfOk result (λ value. option_map row_value value ≡ defined.value_of (expression self.now) row.now) }
+    {
+        match self {
+            Expr::Path(path) => path_value(alloc, row, path),
+            Expr::Constant(value) => Ok(Some(RowValue::Lent(value))),
+            Expr::Document(_) => made(self.value(alloc, row)?),
         }
     }
 

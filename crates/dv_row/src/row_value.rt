@@ -1,0 +1,89 @@
+//! Values that stand in a row, or were made for it.
+
+ghost use Rattle.std.specs.Prelude.{◌≡◌, IfOk, IfSome};
+ghost use Rattle.std.specs.Option.{option_map};
+ghost use Rattle.dv_bson.specs.View.{tree};
+ghost use Rattle.dv_path.specs.Expression as defined;
+ghost use Rattle.dv_row.specs.RowValueView.{row_value};
+
+use dv_bson::{Document, NoMemory, Value};
+use dv_path::{Component, Path, expr_value};
+use std::alloc::Global;
+
+/// The value of an expression over a row.
+#[derive(Debug, Drop)]
+pub enum RowValue<'a> {
+    /// One that stands in the row or in the expression.
+    Lent(&'a Value),
+    /// One that was made for the row.
+    Made(Value),
+}
+
+impl<'a> RowValue<'a> {
+    /// The value. Takes no memory.
+    pub fn get(&self) -> &Value
+        ensures { tree result.now ≡ row_value self.now }
+    {
+        match self {
+            RowValue::Lent(value) => value,
+            RowValue::Made(value) => value,
+        }
+    }
+
+    /// The value itself, or a copy of one that stands elsewhere. Fails where memory is wanting.
+    pub fn into_value(self) -> Result<Value, NoMemory>
+        ensures { IfOk result (λ value. tree value ≡ row_value self.entry) }
+    {
+        match self {
+            RowValue::Lent(value) => value.try_clone(),
+            RowValue::Made(value) => Ok(value),
+        }
+    }
+}
+
+/// The value of the path over the row, which stands there unless an array is on the path's way.
+pub(crate) fn path_value<'a>(
+    alloc: Global,
+    row: &'a Document,
+    path: &Path,
+) -> Result<Option<RowValue<'a>>, NoMemory>
+    ensures { IfOk result (λ value. option_map row_value value ≡ defined.expr row.now path.now) }
+{
+    match standing(row, path.components()) {
+        Some(Some(value)) => Ok(Some(RowValue::Lent(value))),
+        Some(None) => Ok(None),
+        None => made(expr_value(alloc, row, path)?),
+    }
+}
+
+/// A value that was made, where there is one.
+pub(crate) fn made<'a>(value: Option<Value>) -> Result<Option<RowValue<'a>>, NoMemory>
+    ensures { IfOk result (λ made. option_map row_value made ≡ option_map tree value) }
+{
+    match value {
+        Some(value) => Ok(Some(RowValue::Made(value))),
+        None => Ok(None),
+    }
+}
+
+/// The value of the path in the document, as an expression means it, if one stands there; `None` where an array is on the
+/// path's way, from whose elements one is made. It goes as deep as documents nest.
+#[tactic(auto, unfolding(dv_path::specs::Expression::expr))]
+fn standing<'a>(document: &'a Document, path: &[Component]) -> Option<Option<&'a Value>>
+    ensures { IfSome result (λ found. option_map (λ value. tree value.now) found ≡ defined.expr document.now path.now) }
+{
+    let Some((component, rest)) = path.split_first() else {
+        return None;
+    };
+    let Some(value) = document.get(component.as_str()) else {
+        return Some(None);
+    };
+    if rest.is_empty() {
+        return Some(Some(value));
+    }
+    match value {
+        Value::Doc(inner) => standing(inner, rest),
+        Value::Array(_) => None,
+        _ => Some(None),
+    }
+}
