@@ -3,3 +3,4 @@ pub mod Inserted
 pub mod Removed
 pub mod Replaced
 pub mod PutIn
+pub mod Standing

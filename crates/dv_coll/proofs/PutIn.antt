@@ -38,11 +38,11 @@ module _ (name : List ℕ) (v : Tree) (other : bytes_eq name (codes "_id") ≡ f
   first-kept : (f : Field) (fs : List Field) → HasId (f ∷ fs) → with_value_under name v (f ∷ fs) ≡ f ∷ with_value_under name v fs
   first-kept f fs h = ap (λ b. if b then (f.0, v) ∷ fs else f ∷ with_value_under name v fs) (ap (bytes_eq name) h.0 ∙ other)
 
-  pub HasId-kept : (d : List Field) → HasId d → HasId (with_value_under name v d)
+  HasId-kept : (d : List Field) → HasId d → HasId (with_value_under name v d)
   HasId-kept [] h = absurd h
   HasId-kept (f ∷ fs) h = subst HasId (sym (first-kept f fs h)) h
 
-  pub id_key-kept : (d : List Field) → HasId d → id_key (with_value_under name v d) ≡ id_key d
+  id_key-kept : (d : List Field) → HasId d → id_key (with_value_under name v d) ≡ id_key d
   id_key-kept [] h = absurd h
   id_key-kept (f ∷ fs) h = ap id_key (first-kept f fs h)
 
@@ -89,5 +89,21 @@ module _ (name : List ℕ) (v : Tree) (other : bytes_eq name (codes "_id") ≡ f
   pub values-put_under : (k : KeyTree) (es fs : Entries) → IsKeyed es → fs ≡ put_under (lookup (is_at (key_order k)) es) k name v es → values_of fs ≡ with_value_in (found k (values_of es)) name v (values_of es)
   values-put_under k es fs keyed is =
       ap values_of is ∙ values-by k es keyed (lookup (is_at (key_order k)) es) refl ∙ ap (λ o. with_value_in o name v (values_of es)) (lookup-found k es keyed.keys)
+
+pub HasId_kept : (name : List ℕ) (v : Tree) (d : List Field) → bytes_eq name (codes "_id") ≡ false → HasId d → HasId (with_value_under name v d)
+HasId_kept name v d other h = HasId-kept name v other d h
+
+pub id_key_kept : (name : List ℕ) (v : Tree) (d : List Field) → bytes_eq name (codes "_id") ≡ false → HasId d → id_key (with_value_under name v d) ≡ id_key d
+id_key_kept name v d other h = id_key-kept name v other d h
+
+pub ruleset id_kept = (HasId_kept, id_key_kept)
+
+pub found_has : (k : KeyTree) (d : List Field) (ds : List (List Field)) → found k ds ≡ Some d → has_key k d ≡ true
+found_has k d ds is = found-has k ds d is
+
+pub found_id : (k : KeyTree) (d : List Field) (ds : List (List Field)) → AllByRecursion HasId ds → found k ds ≡ Some d → HasId d
+found_id k d ds all is = found-id k ds d all is
+
+pub ruleset found_with_key = (found_has, found_id)
 
 pub ruleset put_in = (lookup-found, values-put_under)

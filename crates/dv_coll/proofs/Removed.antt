@@ -55,7 +55,7 @@ pub ruleset removals = (values-remove_entry, keys-remove_entry, identified_remov
 -- ---- the laws
 
 module _ (l : KeyTree) where
-  follow-kept : (b : Bool) (d : List Field) (ds : List (List Field)) → key_order l (id_key d) ≡ Less → Follow l ds → Follow l (cond b (d ∷ ds) ds)
+  pub follow-kept : (b : Bool) (d : List Field) (ds : List (List Field)) → key_order l (id_key d) ≡ Less → Follow l ds → Follow l (cond b (d ∷ ds) ds)
   follow-kept true d ds before rest = (before, rest)
   follow-kept false d ds before rest = rest
 
@@ -63,7 +63,7 @@ module _ (l : KeyTree) where
   follow-removed k [] h = tt
   follow-removed k (d ∷ ds) h = follow-kept (not (has_key k d)) d (removed k ds) h.0 (follow-removed k ds h.1)
 
-ascending-kept : (b : Bool) (d : List Field) (ds : List (List Field)) → Follow (id_key d) ds → IsAscending ds → IsAscending (cond b (d ∷ ds) ds)
+pub ascending-kept : (b : Bool) (d : List Field) (ds : List (List Field)) → Follow (id_key d) ds → IsAscending ds → IsAscending (cond b (d ∷ ds) ds)
 unfolding IsStrictlySortedBy
 ascending-kept true d ds before rest = (before, rest)
 ascending-kept false d ds before rest = rest

@@ -1,6 +1,6 @@
 -- Collections: documents that begin with an `_id` of their own, in the order of these.
 use Rattle.std.specs.Prelude.{◌≡◌, ℕ, pos, Bool, not, List, [], ◌∷◌, map, Option, None, Some, codes, if◌then◌else◌, ⊤}
-use Rattle.std.specs.List.{find, filter}
+use Rattle.std.specs.List.{AllByRecursion, find, filter}
 use Rattle.std.specs.List.Sorted.{IsStrictlySortedBy}
 use Rattle.std.specs.Ordering.{is_eq, is_lt}
 use Rattle.dv_bson.specs.Names.{with_value_under}
@@ -51,3 +51,7 @@ replaced d ds = map (λ e. if has_key (id_key d) e then d else e) ds
 abbrev pub with_value_in : Option (List Field) → List ℕ → Tree → List (List Field) → List (List Field)
 with_value_in None name v ds = ds
 with_value_in (Some d) name v ds = replaced (with_value_under name v d) ds
+
+-- each of these is found under its `_id` as it is, and they ascend
+abbrev pub AreStanding : List (List Field) → List (List Field) → Type 0
+AreStanding ds those = AllByRecursion (λ d. found (id_key d) ds ≡ Some d) those × IsAscending those

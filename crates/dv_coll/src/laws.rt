@@ -1,12 +1,14 @@
 //! The laws of collections, each the contract of a function that does nothing.
 
-ghost use Rattle.std.specs.Prelude.{◌≡◌, List, None, Some, if◌then◌else◌};
+ghost use Rattle.std.specs.Prelude.{◌≡◌, ◌∷◌, ℕ, Bool, List, None, Some, codes, false, filter, if◌then◌else◌, take, true};
 ghost use Rattle.std.specs.List.{AllByRecursion};
 ghost use Rattle.std.specs.Option.{option_map};
 ghost use Rattle.std.specs.Ordering.{is_eq};
-ghost use Rattle.dv_bson.specs.Tree.{Field};
+ghost use Rattle.std.specs.Str.{bytes_eq};
+ghost use Rattle.dv_bson.specs.Names.{with_value_under};
+ghost use Rattle.dv_bson.specs.Tree.{Field, Tree};
 ghost use Rattle.dv_order.specs.Key.{KeyTree, key_order};
-ghost use Rattle.dv_coll.specs.Collection.{HasId, IsAscending, found, has_key, id_key, inserted, removed, replaced};
+ghost use Rattle.dv_coll.specs.Collection.{AreStanding, HasId, IsAscending, found, has_key, id_key, inserted, removed, replaced};
 
 /// Documents ascend after one is inserted whose `_id` is new.
 #[tactic(auto, using(crate::proofs::Inserted::inserted_ascending))]
@@ -63,4 +65,28 @@ pub fn replaced_documents_begin_with_ids()
 #[tactic(auto, using(crate::proofs::Replaced::found_replaced))]
 pub fn replaced_document_is_found()
     ensures { (k : KeyTree) (d : List Field) (ds : List (List Field)) → found k (replaced d ds) ≡ (if has_key k d then option_map (λ e. d) (found k ds) else found k ds) }
+{}
+
+/// A value that is put under another name leaves the `_id` as it is.
+#[tactic(auto, using(crate::proofs::PutIn::id_kept))]
+pub fn a_value_under_another_name_leaves_the_id()
+    ensures begins { (name : List ℕ) (v : Tree) (d : List Field) → bytes_eq name (codes "_id") ≡ false → HasId d → HasId (with_value_under name v d) }
+    ensures key { (name : List ℕ) (v : Tree) (d : List Field) → bytes_eq name (codes "_id") ≡ false → HasId d → id_key (with_value_under name v d) ≡ id_key d }
+{}
+
+/// A document that is found under a key has it, and begins with an `_id` where all documents do.
+#[tactic(auto, using(crate::proofs::PutIn::found_with_key))]
+pub fn what_is_found_has_the_key()
+    ensures key { (k : KeyTree) (d : List Field) (ds : List (List Field)) → found k ds ≡ Some d → has_key k d ≡ true }
+    ensures begins { (k : KeyTree) (d : List Field) (ds : List (List Field)) → AllByRecursion HasId ds → found k ds ≡ Some d → HasId d }
+{}
+
+/// Documents that ascend stand where they are found; so do those of them that pass a test, and the first; and so do the others
+/// after one comes in place of the first.
+#[tactic(auto, using(crate::proofs::Standing::standing))]
+pub fn documents_stand_where_they_are_found()
+    ensures all { (ds : List (List Field)) → IsAscending ds → AreStanding ds ds }
+    ensures passing { (p : List Field → Bool) (ds those : List (List Field)) → AreStanding ds those → AreStanding ds (filter p those) }
+    ensures first { (ds those : List (List Field)) → AreStanding ds those → AreStanding ds (take 1 those) }
+    ensures others { (d e : List Field) (ds those : List (List Field)) → AreStanding ds (e ∷ those) → id_key d ≡ id_key e → AreStanding (replaced d ds) those }
 {}

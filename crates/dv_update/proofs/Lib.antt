@@ -2,7 +2,9 @@ pub mod Gathered
 pub mod Items
 pub mod Lawful
 pub mod Left
+pub mod Lengths
 pub mod Made
+pub mod OneValue
 pub mod Paths
 pub mod Placed
 pub mod PutThere

@@ -3,6 +3,7 @@ pub mod Collected
 pub mod Examples
 pub mod Fault
 pub mod OtherFaults
+pub mod Outcome
 pub mod Parsing
 pub mod PathOrder
 pub mod PathOrderLaws

@@ -17,10 +17,10 @@ use dv_bson::{BsonFault, Document, NoMemory, Value, fits, size};
 use std::alloc::{AllocError, Global};
 
 /// The name of the field that a stored document begins with.
-const ID: &str = "_id";
+pub(crate) const ID: &str = "_id";
 
 /// The length in bytes of the longest document that is stored.
-const MAX_DOCUMENT_LEN: u32 = 16_777_216;
+pub(crate) const MAX_DOCUMENT_LEN: u32 = 16_777_216;
 
 impl Update {
     /// What the update makes of the document, which stays as it is.

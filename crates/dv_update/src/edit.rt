@@ -91,7 +91,7 @@ fn increase_at(
 }
 
 /// The number added to what stands there.
-fn increased(number: Number, slot: Slot<'_>) -> Result<Value, UpdateFault>
+pub(crate) fn increased(number: Number, slot: Slot<'_>) -> Result<Value, UpdateFault>
     ensures { Gives tree result (defined.increased number (slot_seen slot.entry)) }
 {
     match slot {

@@ -1,0 +1,63 @@
+-- What an update changes in a document, told by the value of one field where that is all.
+use Rattle.std.specs.Prelude.{◌≡◌, ℕ, ◌+◌, ◌≤◌, Bool, true, false, List, [], ◌∷◌, length, Option, Some, None, Result, Ok, Err, codes, if◌then◌else◌}
+use Rattle.std.specs.Str.{bytes_eq}
+use Rattle.dv_bson.specs.Names.{with_value_under}
+use Rattle.dv_bson.specs.Spelling.{levels, payload, spelling}
+use Rattle.dv_bson.specs.Tree.{Tree, document, Field, fields_of}
+use Rattle.dv_bson.specs.View.{tree}
+use Rattle.dv_path.specs.Slots.{taken}
+use Rattle.dv_update.specs.Apply.{Path, increased}
+use Rattle.dv_update.specs.Same.{same_fields}
+use Rattle.dv_update.specs.Update.{Operation, assign, increase, Edit, Update, operators, replacement}
+use Rattle.dv_update.specs.declared.fault.UpdateFault.{UpdateFault}
+use Rattle.dv_update.specs.declared.fault.UpdateFault.TheVariants.{NotViable}
+use Rattle.dv_update.specs.declared.outcome.Outcome.{Outcome}
+use Rattle.dv_update.specs.declared.outcome.Outcome.TheVariants.{Same, Value, Whole}
+
+-- an edit whose path is one name, and not `_id`: the name, and what is done
+abbrev pub edit_under : Path → Operation → Option (List ℕ × Operation)
+edit_under (name ∷ []) o = if bytes_eq name (codes "_id") then None else Some (name, o)
+edit_under path o = None
+
+-- of the edits, where there is but one
+abbrev pub only_edit : List Edit → Option (List ℕ × Operation)
+only_edit (e ∷ []) = edit_under e.0 e.1
+only_edit es = None
+
+abbrev pub sole_edit : Update → Option (List ℕ × Operation)
+sole_edit (operators es) = only_edit es
+sole_edit (replacement fields) = None
+
+-- its name, or where there is no such edit the empty one, which is in no path
+abbrev pub name_of : Option (List ℕ × Operation) → List ℕ
+name_of None = []
+name_of (Some e) = e.0
+
+abbrev pub sole_name : Update → List ℕ
+sole_name update = name_of (sole_edit update)
+
+-- the document afterwards
+abbrev pub outcome_seen : List ℕ → List Field → Outcome → List Field
+outcome_seen name d Same = d
+outcome_seen name d (Value v) = with_value_under name (tree v) d
+outcome_seen name d (Whole e) = e
+
+abbrev pub stays : Outcome → Bool
+stays Same = true
+stays outcome = false
+
+-- a document is told to stay where it is spelled as it was
+abbrev pub stays_so : List ℕ → List Field → Outcome → Bool
+stays_so name d outcome = same_fields (fields_of d) (fields_of (outcome_seen name d outcome))
+
+-- the value that comes in place of one that is there, by an operator that doesn't look into documents and arrays
+abbrev pub value_by : Operation → Tree → Result Tree UpdateFault
+value_by (assign v) w = Ok v
+value_by (increase n) w = increased n (taken w)
+value_by o w = Err NotViable
+
+-- the document stays within the limits with a value in place of another, in which no document or array is
+pub record HasRoom (d : List Field) (v : Tree) : Type 0 where
+  pub size : length (spelling d) + length (payload v) ≤ 16777216
+  pub flat : levels v ≡ 0
+  pub depth : levels (document (fields_of d)) ≤ 100
