@@ -1,5 +1,5 @@
 -- What stands at the front of bytes.
-use Rattle.std.proofs.Common.{◌≡◌, ℕ, suc, ◌+◌, ◌-◌, ◌==◌, if◌then◌else◌, Bool, true, false, cond, not, ltb, List, [], ◌∷◌, length, take, drop, map, Option, Some, None, Result, Ok, Err, refl, sym, ap, ◌∙◌, decimal, add-one, arith, inl, inr}
+use Rattle.std.proofs.Common.{◌≡◌, ℕ, suc, ◌+◌, ◌-◌, ◌==◌, ◌||◌, if◌then◌else◌, Bool, true, false, cond, not, ltb, List, [], ◌∷◌, length, take, drop, map, Option, Some, None, Result, Ok, Err, refl, sym, ap, ◌∙◌, decimal, add-one, arith, inl, inr}
 use Rattle.std.specs.Option.{option_map}
 use Rattle.std.specs.List.{position, position_or_len}
 use Rattle.std.specs.Str.{bytes_eq, IsUtf8, is_utf8}
@@ -12,7 +12,7 @@ use Rattle.dv_bson.specs.declared.value.Value.{Value}
 use Rattle.dv_bson.specs.declared.fault.BsonFault.TheVariants.{BadUtf8, BadArrayName, RepeatedName}
 use Rattle.dv_bson.specs.Tree.{Field}
 use Rattle.dv_bson.specs.View.{tree}
-use Rattle.dv_bson.specs.Names.{has_name}
+use Rattle.dv_bson.specs.Names.{bare, has_name}
 use Rattle.dv_bson.specs.Reading.{◌>>=◌, cut_at_zero, onto_name, named_by, name_at}
 use Rattle.dv_bson.specs.Parts.{utf8_name, any_name_at, numbered}
 
@@ -82,18 +82,26 @@ no_name in_array seen bytes f e = name_first in_array seen bytes ∙ ap (λ r. r
 pub compared : (in_array : Bool) (seen : List Field) (bytes : List ℕ) (name : List ℕ × List ℕ) → any_name_at bytes ≡ Ok name → name_at in_array seen bytes ≡ name_beside in_array seen name
 compared in_array seen bytes name e = name_first in_array seen bytes ∙ ap (λ r. r >>= name_beside in_array seen) e
 
-length_numbered : (i : ℕ) (vs : List Value) → length (numbered i (map tree vs)) ≡ length vs
+pub length_numbered : (i : ℕ) (vs : List Value) → length (numbered i (map tree vs)) ≡ length vs
 length_numbered i [] = refl
 length_numbered i (v ∷ vs) = ap suc (length_numbered (suc i) vs)
 
+has_name-names : (name : List ℕ) (seen : List Field) → has_name name (map bare (map (λ f. f.0) seen)) ≡ has_name name seen
+has_name-names name [] = refl
+has_name-names name (f ∷ fs) = ap (λ b. bytes_eq name f.0 || b) (has_name-names name fs)
+
 -- the name of an array's element
-abbrev pub index_beside : List Value → List ℕ × List ℕ → Result (List ℕ × List ℕ) BsonFault
-index_beside before name = if bytes_eq name.0 (decimal (length before)) then Ok (decimal (length before), name.1) else Err BadArrayName
+abbrev pub index_beside : ℕ → List ℕ × List ℕ → Result (List ℕ × List ℕ) BsonFault
+index_beside place name = if bytes_eq name.0 (decimal place) then Ok (decimal place, name.1) else Err BadArrayName
 
 same_index : (b : Bool) (name : List ℕ × List ℕ) (text : List ℕ) → (b ≡ true → name.0 ≡ text) → (if b then Ok name else Err BadArrayName) ≡ (if b then Ok (text, name.1) else Err BadArrayName)
 same_index true name text h = ap (λ (n : List ℕ). Ok (n, name.1)) (h refl)
 same_index false name text h = refl
 
-pub index_compared : (before : List Value) (bytes : List ℕ) (name : List ℕ × List ℕ) → any_name_at bytes ≡ Ok name → name_at true (numbered 0 (map tree before)) bytes ≡ index_beside before name
-index_compared before bytes name e =
-    compared true (numbered 0 (map tree before)) bytes name e ∙ rw (length_numbered 0 before) (same_index (bytes_eq name.0 (decimal (length before))) name (decimal (length before)) (bytes_eq-Decides name.0 (decimal (length before))).0)
+pub index_compared : (place : ℕ) (seen : List Field) (bytes : List ℕ) (name : List ℕ × List ℕ) → length seen ≡ place → any_name_at bytes ≡ Ok name → name_at true seen bytes ≡ index_beside place name
+index_compared place seen bytes name here e =
+    compared true seen bytes name e ∙ rw here (same_index (bytes_eq name.0 (decimal place)) name (decimal place) (bytes_eq-Decides name.0 (decimal place)).0)
+
+-- a name among the fields is one among their names
+pub has_name-bare : (name : List ℕ) (seen : List Field) (names : List (List ℕ)) → map (λ f. f.0) seen ≡ names → has_name name (map bare names) ≡ has_name name seen
+has_name-bare name seen names e = ap (λ (ns : List (List ℕ)). has_name name (map bare ns)) (sym e) ∙ has_name-names name seen

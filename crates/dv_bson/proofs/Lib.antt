@@ -8,6 +8,8 @@ pub mod Frames
 pub mod Fields
 pub mod Taken
 pub mod Measured
+pub mod Outermost
+pub mod Walked
 pub mod Again
 pub mod Both
 pub mod ByText

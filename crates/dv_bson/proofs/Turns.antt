@@ -6,7 +6,7 @@ use Rattle.dv_bson.specs.declared.fault.ReadError.{ReadError}
 use Rattle.dv_bson.specs.declared.fault.ReadError.TheVariants as errors
 use Rattle.dv_bson.specs.Tree.{Tree, Field}
 use Rattle.dv_bson.specs.Reading.{◌>>=◌, Fails, Gives, name_at, value_at, Inside}
-use Rattle.dv_bson.specs.Parts.{front_kind_at, field_at}
+use Rattle.dv_bson.specs.Parts.{GivesPart, front_kind_at, field_at}
 
 fails_first : {A B : Type 0} (e : ReadError) (r : Result A BsonFault) (f : A → Result B BsonFault) → Fails e r → Fails e (r >>= f)
 fails_first errors.Memory r f failed = tt
@@ -35,3 +35,8 @@ module _ (inside : Inside) (in_array : Bool) (at : ℕ) (seen : List Field) (byt
           → Gives (λ x. ((name.0, (view x).0), (view x).1)) r (field_at inside in_array at seen bytes)
       gives_element view (Ok x) given = gives_field (view x) given
       gives_element view (Err e) given = fails_value e given
+
+      pub gives_rest : {X : Type 0} (rest : X → List ℕ) (r : Result X ReadError) → GivesPart rest (λ x. x.1) r (value_at inside kind.0 (at + (length bytes - length name.1)) name.1)
+          → GivesPart rest (λ made. made.1) r (field_at inside in_array at seen bytes)
+      gives_rest rest (Ok x) given = (((name.0, given.0.0), given.0.1), gives_field given.0 given.1, given.2)
+      gives_rest rest (Err e) given = fails_value e given

@@ -1,13 +1,13 @@
 -- Parts of reading, as the reader takes them one by one.
-use Rattle.std.specs.Prelude.{ℕ, suc, ◌+◌, ◌-◌, Bool, List, [], ◌∷◌, length, Option, Some, None, Result, Ok, Err, if◌then◌else◌, decimal}
+use Rattle.std.specs.Prelude.{◌≡◌, ℕ, suc, ◌+◌, ◌-◌, Bool, List, [], ◌∷◌, length, Option, Some, None, Result, Ok, Err, nat_lt, if◌then◌else◌, decimal}
 use Rattle.std.specs.Str.{is_utf8}
 use Rattle.dv_bson.specs.declared.kind.Kind.{Kind}
 use Rattle.dv_bson.specs.declared.fault.BsonFault.{BsonFault}
-use Rattle.dv_bson.specs.declared.fault.BsonFault.TheVariants.{BadLength, BadUtf8, NoMemory}
+use Rattle.dv_bson.specs.declared.fault.BsonFault.TheVariants.{Truncated, BadLength, BadUtf8, TooLarge, NoMemory}
 use Rattle.dv_bson.specs.declared.fault.ReadError.{ReadError}
 use Rattle.dv_bson.specs.declared.fault.ReadError.TheVariants as errors
 use Rattle.dv_bson.specs.Tree.{Tree, Field}
-use Rattle.dv_bson.specs.Reading.{◌>>=◌, kind_at, cut_at_zero, name_at, value_at, Inside}
+use Rattle.dv_bson.specs.Reading.{◌>>=◌, Fails, Gives, count_at, kind_at, cut_at_zero, name_at, value_at, Frame, frame_of, Inside}
 
 -- a type, and the bytes behind its byte
 abbrev pub with_rest : List ℕ → Kind → Result (Kind × List ℕ) BsonFault
@@ -42,6 +42,33 @@ field_at inside in_array at seen bytes = do
 abbrev pub numbered : ℕ → List Tree → List Field
 numbered i [] = []
 numbered i (v ∷ vs) = (decimal i, v) ∷ numbered (suc i) vs
+
+-- What a function returned is a part of what reading gives, and its fault is reading's first one, unless memory is wanting.
+abbrev pub GivesPart : {X Y Z : Type 0} → (X → Z) → (Y → Z) → Result X ReadError → Result Y BsonFault → Type 0
+GivesPart {Y = Y} view part (Ok x) read = (y : Y) × (read ≡ Ok y) × (part y ≡ view x)
+GivesPart view part (Err e) read = Fails e read
+
+-- Reading goes on to the end where a function says so, and else the function's fault is reading's first one, unless memory is
+-- wanting.
+abbrev pub Passes : {X Y : Type 0} → Result X ReadError → Result Y BsonFault → Type 0
+Passes {Y = Y} (Ok x) read = (y : Y) × (read ≡ Ok y)
+Passes (Err e) read = Fails e read
+
+-- what a function returned is where reading ends whose value another one returned
+abbrev pub EndsAs : {X Y : Type 0} → (X → Tree × List ℕ) → Result X ReadError → (Y → List ℕ) → Result Y ReadError → Type 0
+EndsAs view value rest ended = (read : Result (Tree × List ℕ) BsonFault) → Gives view value read → GivesPart rest (λ x. x.1) ended read
+
+-- the outermost document at the front, as its length frames it, and its length
+abbrev pub outermost_frame : Option ℕ → List ℕ → Result (Frame × ℕ) BsonFault
+outermost_frame None bytes = Err Truncated
+outermost_frame (Some n) bytes =
+    if nat_lt n 5 then Err BadLength
+    else if nat_lt 16777216 n then Err TooLarge
+    else if nat_lt (length bytes) n then Err Truncated
+    else Ok (frame_of n bytes, n)
+
+unfoldable pub outermost_frame_at : List ℕ → Result (Frame × ℕ) BsonFault
+outermost_frame_at bytes = outermost_frame (count_at bytes) bytes
 
 -- what a caller is told of why reading stopped
 abbrev pub public_fault : ReadError → BsonFault

@@ -13,6 +13,7 @@ mod reader;
 mod reading;
 mod text;
 mod value;
+mod walk;
 mod writer;
 
 pub use bytes::Bytes;
@@ -22,6 +23,7 @@ pub use name::begins_with_dollar;
 pub use reader::read_document;
 pub use text::Str;
 pub use value::{Document, List, Value};
+pub use walk::check_document;
 pub use writer::write_document;
 
 /// Want of memory, where nothing else can be refused.

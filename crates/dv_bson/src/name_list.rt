@@ -114,6 +114,13 @@ impl Names {
         Some(place)
     }
 
+    /// Whether the name is among them.
+    pub(crate) fn has(&self, name: &str) -> bool
+        ensures { result ≡ has_name name.now (map bare self.now) }
+    {
+        self.place_of(name).is_some()
+    }
+
     /// The same, wherever the last name stood.
     fn place_by_search(&self, name: &str) -> Option<usize>
         ensures place { result ≡ place_under name.now (map bare self.now) }

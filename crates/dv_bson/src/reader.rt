@@ -9,11 +9,10 @@ ghost use Rattle.dv_bson.specs.Parts.{field_at, numbered};
 
 use crate::fault::{BsonFault, ReadError};
 use crate::kind::Kind;
-use crate::limits::{FRAME, MAX_DOCUMENT_LEN, MAX_LEVELS};
+use crate::limits::{FRAME, MAX_LEVELS};
 use crate::reading::{
-    MIN_DOCUMENT_LEN, behind_index, binary_of, boolean_of, count_of, date_of, field_name_of,
-    frame_of, framed, front_kind_of, int32_of, int64_of, kind_of, object_id_of, text_of,
-    timestamp_of,
+    behind_index, binary_of, boolean_of, date_of, field_name_of, frame_of, front_kind_of, int32_of,
+    int64_of, kind_of, object_id_of, outermost_frame_of, text_of, timestamp_of,
 };
 use crate::value::{Document, Fields, List, Value};
 use std::alloc::Global;
@@ -113,7 +112,7 @@ fn element_of<'a>(
     ensures { Gives (λ x. ((decimal (length before.now), tree x.0), x.1.now)) result (field_at (body_at levels) true at (numbered 0 (map tree before.now)) bytes.now) }
 {
     let (kind, behind) = front_kind_of(bytes, at)?;
-    let rest = behind_index(before, behind)?;
+    let rest = behind_index(before.len(), behind)?;
     let like = before.last().or(like);
     let at = at + (bytes.len() - rest.len());
     value_of(alloc, levels, kind, like, at, rest)
@@ -143,7 +142,7 @@ fn value_like(document: Option<&Document>, place: usize) -> Option<&Value> {
 
 /// Whether a document is closed where its elements end: by a zero as its last byte. Another last byte is
 /// looked at as the type byte of an element that lacks its name.
-fn closed(last: u8, at: usize) -> Result<(), ReadError>
+pub(crate) fn closed(last: u8, at: usize) -> Result<(), ReadError>
     ensures { (seen : Entries Field) → Gives (λ _. seen) result (closed_by last at seen) }
 {
     if last == 0 {
@@ -155,7 +154,7 @@ fn closed(last: u8, at: usize) -> Result<(), ReadError>
 
 /// For how many fields room is made before the first is read, where so many bytes of elements are there: for as many
 /// as a document of that length often has, so that fields are seldom moved, and never for many.
-fn first_room(len: usize) -> usize
+pub(crate) fn first_room(len: usize) -> usize
     ensures { result ≤ 12 }
 {
     if len == 0 { 0 } else { (len / 20).clamp(4, 12) }
@@ -221,23 +220,10 @@ fn list_of(
 }
 
 /// The document at the front, and its length.
-#[tactic(auto, unfolding(crate::specs::Reading::document_at))]
 fn outermost_of(alloc: Global, bytes: &[u8]) -> Result<(Document, usize), ReadError>
     ensures { Gives (λ x. (x.0, x.1)) result (document_at bytes.now) }
 {
-    let Some((len, _)) = count_of(bytes) else {
-        return Err(ReadError::Fault(BsonFault::Truncated));
-    };
-    if len < MIN_DOCUMENT_LEN {
-        return Err(ReadError::Fault(BsonFault::BadLength));
-    }
-    if len > MAX_DOCUMENT_LEN as usize {
-        return Err(ReadError::Fault(BsonFault::TooLarge));
-    }
-    if bytes.len() < len {
-        return Err(ReadError::Fault(BsonFault::Truncated));
-    }
-    let frame = framed(len, bytes);
+    let (frame, len) = outermost_frame_of(bytes)?;
     let document = document_of(alloc, MAX_LEVELS, None, 4, frame.elements, frame.last)?;
     Ok((document, len))
 }

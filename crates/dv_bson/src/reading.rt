@@ -1,17 +1,19 @@
 //! What stands at the front of bytes: a count, a type, a name, a text, a number, or the frame of a document.
 
-ghost use Rattle.std.specs.Prelude.{◌≡◌, ◌≤◌, ◌==◌, ◌||◌, Ok, nat_lt, true, false, length, drop, map, decimal, position, MatchResult, IfSome};
+ghost use Rattle.std.specs.Prelude.{◌≡◌, ◌≤◌, ◌<◌, ◌+◌, ◌==◌, ◌||◌, Ok, List as Entries, nat_lt, true, false, length, drop, map, decimal, position, MatchResult, IfSome, IfOk};
 ghost use Rattle.std.specs.Option.{option_map};
 ghost use Rattle.std.specs.Int.{w32, w64, from_le_bytes};
 ghost use Rattle.std.specs.Str.{is_utf8};
-ghost use Rattle.dv_bson.specs.Tree.{int32, int64, object_id, date, timestamp};
+ghost use Rattle.dv_bson.specs.Tree.{Field, int32, int64, binary, object_id, date, timestamp};
 ghost use Rattle.dv_bson.specs.View.{tree};
 ghost use Rattle.dv_bson.specs.Reading.{Gives, count_at, kind_at, cut_at_zero, name_at, text_at, frame_of, frame_at, boolean_at, first_bytes, signed_at, binary_at};
-ghost use Rattle.dv_bson.specs.Parts.{front_kind_at, any_name_at, numbered};
+ghost use Rattle.dv_bson.specs.Parts.{front_kind_at, any_name_at, outermost_frame_at};
 
 use crate::bytes::Bytes;
 use crate::fault::{BsonFault, ReadError};
 use crate::kind::Kind;
+use crate::limits::MAX_DOCUMENT_LEN;
+use crate::name_list::Names;
 use crate::text::Str;
 use crate::value::{Fields, Value};
 use itoa::Buffer;
@@ -147,23 +149,38 @@ pub(crate) fn field_name_of<'a>(
     Ok((name, rest))
 }
 
-/// The bytes behind the name of an array's element, which has to be its index as a decimal number.
+/// The name of a field that stands behind those with these names, and the bytes behind its closing zero.
 #[tactic(auto, using(crate::proofs::Fronts::no_name))]
-pub(crate) fn behind_index<'a>(before: &[Value], bytes: &'a [u8]) -> Result<&'a [u8], ReadError>
-    ensures { Gives (λ rest. (decimal (length before.now), rest.now)) result (name_at true (numbered 0 (map tree before.now)) bytes.now) }
+pub(crate) fn new_name_of<'a>(
+    names: &Names,
+    bytes: &'a [u8],
+) -> Result<(&'a str, &'a [u8]), ReadError>
+    ensures { (seen : Entries Field) → map (λ f. f.0) seen ≡ names.now → Gives (λ x. (x.0.now, x.1.now)) result (name_at false seen bytes.now) }
 {
     let (name, rest) = name_of(bytes)?;
-    if name == Buffer::new().format(before.len()) {
+    if names.has(name) {
+        return Err(ReadError::Fault(BsonFault::RepeatedName));
+    }
+    Ok((name, rest))
+}
+
+/// The bytes behind the name of an array's element at this place, which has to be the place as a decimal number.
+#[tactic(auto, using(crate::proofs::Fronts::no_name))]
+pub(crate) fn behind_index(place: usize, bytes: &[u8]) -> Result<&[u8], ReadError>
+    ensures { (seen : Entries Field) → length seen ≡ place → Gives (λ rest. (decimal place, rest.now)) result (name_at true seen bytes.now) }
+{
+    let (name, rest) = name_of(bytes)?;
+    if name == Buffer::new().format(place) {
         Ok(rest)
     } else {
         Err(ReadError::Fault(BsonFault::BadArrayName))
     }
 }
 
-/// A text, and the bytes behind it: a count of its bytes and the closing zero, the bytes, the zero.
+/// A text as it lies in the bytes, and those behind it: a count of its bytes and the closing zero, the bytes, the zero.
 #[tactic(auto, unfolding(crate::specs::Reading::text_at))]
-pub(crate) fn text_of(alloc: Global, bytes: &[u8]) -> Result<(Str, &[u8]), ReadError>
-    ensures { Gives (λ x. (x.0, x.1.now)) result (text_at bytes.now) }
+pub(crate) fn counted_text_of(bytes: &[u8]) -> Result<(&str, &[u8]), ReadError>
+    ensures { Gives (λ x. (x.0.now, x.1.now)) result (text_at bytes.now) }
 {
     let Some((count, counted)) = count_of(bytes) else {
         return Err(ReadError::Fault(BsonFault::BadLength));
@@ -172,7 +189,15 @@ pub(crate) fn text_of(alloc: Global, bytes: &[u8]) -> Result<(Str, &[u8]), ReadE
         return Err(ReadError::Fault(BsonFault::BadLength));
     }
     let text = utf8_of(&counted[..count - 1])?;
-    Ok((Str::of(String::from_str(alloc, text)?), &counted[count..]))
+    Ok((text, &counted[count..]))
+}
+
+/// A text of its own, and the bytes behind it.
+pub(crate) fn text_of(alloc: Global, bytes: &[u8]) -> Result<(Str, &[u8]), ReadError>
+    ensures { Gives (λ x. (x.0, x.1.now)) result (text_at bytes.now) }
+{
+    let (text, rest) = counted_text_of(bytes)?;
+    Ok((Str::of(String::from_str(alloc, text)?), rest))
 }
 
 /// The document of `len` bytes at the front.
@@ -198,6 +223,27 @@ pub(crate) fn frame_of(bytes: &[u8]) -> Result<Frame<'_>, ReadError>
         Some((len, _)) if MIN_DOCUMENT_LEN <= len && len <= bytes.len() => Ok(framed(len, bytes)),
         _ => Err(ReadError::Fault(BsonFault::BadLength)),
     }
+}
+
+/// The outermost document at the front, as its length frames it, and its length.
+#[tactic(auto, unfolding(crate::specs::Parts::outermost_frame_at))]
+pub(crate) fn outermost_frame_of(bytes: &[u8]) -> Result<(Frame<'_>, usize), ReadError>
+    ensures frame { Gives (λ x. (record { elements = x.0.elements.now; last = x.0.last; rest = x.0.rest.now }, x.1)) result (outermost_frame_at bytes.now) }
+    ensures short { IfOk result (λ x. 4 + length x.0.elements.now < 16777216) }
+{
+    let Some((len, _)) = count_of(bytes) else {
+        return Err(ReadError::Fault(BsonFault::Truncated));
+    };
+    if len < MIN_DOCUMENT_LEN {
+        return Err(ReadError::Fault(BsonFault::BadLength));
+    }
+    if len > MAX_DOCUMENT_LEN as usize {
+        return Err(ReadError::Fault(BsonFault::TooLarge));
+    }
+    if bytes.len() < len {
+        return Err(ReadError::Fault(BsonFault::Truncated));
+    }
+    Ok((framed(len, bytes), len))
 }
 
 /// A boolean, and the bytes behind it.
@@ -262,10 +308,10 @@ pub(crate) fn object_id_of(bytes: &[u8]) -> Result<(Value, &[u8]), ReadError>
     Ok((Value::ObjectId(*front), rest))
 }
 
-/// A binary, and the bytes behind it: a count of its bytes, the subtype, the bytes.
+/// A binary's subtype, its bytes as they lie there, and those behind it: a count of its bytes, the subtype, the bytes.
 #[tactic(auto, unfolding(crate::specs::Reading::binary_at))]
-pub(crate) fn binary_of(alloc: Global, bytes: &[u8]) -> Result<(Value, &[u8]), ReadError>
-    ensures { Gives (λ x. (tree x.0, x.1.now)) result (binary_at bytes.now) }
+pub(crate) fn counted_binary_of(bytes: &[u8]) -> Result<(u8, &[u8], &[u8]), ReadError>
+    ensures { Gives (λ x. (binary x.0 x.1.now, x.2.now)) result (binary_at bytes.now) }
 {
     let Some((front, behind)) = bytes.split_first_chunk::<4>() else {
         return Err(ReadError::Fault(BsonFault::BadLength));
@@ -278,12 +324,14 @@ pub(crate) fn binary_of(alloc: Global, bytes: &[u8]) -> Result<(Value, &[u8]), R
         return Err(ReadError::Fault(BsonFault::BadLength));
     }
     let (own, rest) = counted.split_at(count as usize);
+    Ok((*subtype, own, rest))
+}
+
+/// A binary, and the bytes behind it.
+pub(crate) fn binary_of(alloc: Global, bytes: &[u8]) -> Result<(Value, &[u8]), ReadError>
+    ensures { Gives (λ x. (tree x.0, x.1.now)) result (binary_at bytes.now) }
+{
+    let (subtype, own, rest) = counted_binary_of(bytes)?;
     let bytes = Bytes::of(Vec::from_slice(alloc, own)?);
-    Ok((
-        Value::Binary {
-            subtype: *subtype,
-            bytes,
-        },
-        rest,
-    ))
+    Ok((Value::Binary { subtype, bytes }, rest))
 }

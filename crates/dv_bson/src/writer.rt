@@ -21,9 +21,10 @@ pub fn write_document(document: &Document, out: &mut Vec<u8>) -> Result<(), Bson
     ensures other { IfErr result (λ e. (e ≡ BsonFault.TooLarge) ⊎ (e ≡ BsonFault.NoMemory)) }
     ensures err { OnErr result (out.new.items ≡ out.old.items) }
 {
-    if document_size(document).is_none() {
+    let Some(size) = document_size(document) else {
         return Err(BsonFault::TooLarge);
-    }
+    };
+    out.reserve(size)?;
     let start = out.len();
     if put_document(document, out).is_err() {
         out.truncate(start);

@@ -5,6 +5,7 @@ pub mod Entries
 pub mod Firsts
 pub mod Several
 pub mod Chosen
+pub mod Ordered
 pub mod Picked
 pub mod Ranges
 pub mod Built

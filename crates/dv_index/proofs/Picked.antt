@@ -1,5 +1,5 @@
 -- The documents under keys that ascend are those of a list that ascends whose keys are among them.
-use Rattle.std.proofs.Common.{◌≡◌, ◌∙◌, List, [], ◌∷◌, ◌++◌, refl, ap, sym, Bool, true, false, cond, ◌||◌, Option, Some, None, filter}
+use Rattle.std.proofs.Common.{Bor, ◌≡◌, ◌∙◌, ◌+◌, ◌<◌, ℕ, zero, suc, take, get_or, add-one, append-nil, append_assoc, List, [], ◌∷◌, ◌++◌, refl, ap, sym, Bool, true, false, cond, ◌||◌, Option, Some, None, filter, length, arith}
 use Rattle.std.specs.List.{list_any, flat_map, AllByRecursion}
 use Rattle.std.specs.List.Sorted.{IsStrictlySortedBy}
 use Rattle.std.specs.declared.cmp.Ordering.{Ordering}
@@ -13,14 +13,28 @@ use Rattle.dv_order.specs.Key.{KeyTree, key_order}
 use Rattle.dv_order.specs.KeyLaws.{key_order_total}
 use Rattle.dv_coll.specs.Collection.{IsAscending, id_key, has_key, found}
 use Rattle.dv_index.proofs.Lists.{equal-back, equal-from}
+use Rattle.dv_index.proofs.Ordered.{now}
 
 abbrev pub as-list : {X : Type 0} → Option X → List X
 as-list None = []
 as-list (Some x) = x ∷ []
 
 -- the documents under these keys, one key after the other
-abbrev pub picked : List KeyTree → List (List Field) → List (List Field)
-picked ids ds = flat_map (λ i. as-list (found i ds)) ids
+abbrev pub each : List KeyTree → List (List Field) → List (List Field)
+each ids ds = flat_map (λ i. filter (λ d. is_eq (key_order (id_key d) i)) ds) ids
+
+pub one-key-more : (ds : List (List Field)) (ids : List (Bor KeyTree)) (i : ℕ) (x : Bor KeyTree) → i < length ids → x ≡ get_or ids i x → each (map now (take (i + 1) ids)) ds ≡ each (map now (take i ids)) ds ++ filter (λ d. is_eq (key_order (id_key d) x.now)) ds
+one-key-more ds [] i x within is = absurd (omega arith)
+one-key-more ds (y ∷ ys) zero x within is = append-nil _ ∙ ap (λ (k : Bor KeyTree). filter (λ d. is_eq (key_order (id_key d) k.now)) ds) (sym is)
+one-key-more ds (y ∷ ys) (suc i) x within is =
+    let here = filter (λ d. is_eq (key_order (id_key d) y.now)) ds in
+    let there = filter (λ d. is_eq (key_order (id_key d) x.now)) ds in
+    let rest = rw add-one at (one-key-more ds ys i x (omega arith) is) in
+    rw add-one (ap (λ es. here ++ es) rest ∙ sym (append_assoc here (each (map now (take i ys)) ds) there))
+
+pub one-more : (ds : List (Bor (List Field))) (d : Bor (List Field)) → map (λ (e : Bor (List Field)). e.now) (ds ++ d ∷ []) ≡ map (λ (e : Bor (List Field)). e.now) ds ++ d.now ∷ []
+one-more [] d = refl
+one-more (e ∷ ds) d = ap (λ es. e.now ∷ es) (one-more ds d)
 
 -- d stands before each of ds
 abbrev pub Before : KeyTree → List (List Field) → Type 0
@@ -66,6 +80,10 @@ found-alone i (d ∷ ds) h = at (has_key i d) refl (found-alone i ds (tail-ascen
         ap (λ es. d ∷ es) (none-pass (has_key i) (id_key d) ds (λ f less. let o : key_order i (id_key f) ≡ Less = key_order_total.congr i (id_key d) (id_key f) (equal-from (key_order i (id_key d)) e) ∙ less in ap is_eq o) (head-before d ds h))
     at false e rest = rest
 
+-- the documents whose `_id` is equal to a key
+pub under : (i : KeyTree) (ds : List (List Field)) → IsAscending ds → filter (λ d. is_eq (key_order (id_key d) i)) ds ≡ as-list (found i ds)
+under i ds h = ap (λ p. filter p ds) (λ j d. equal-back (id_key d) i j) ∙ found-alone i ds h
+
 -- two tests, the documents that pass the one standing before those that pass the other
 split : (p q : List Field → Bool) → ((d e : List Field) → p d ≡ true → q e ≡ true → key_order (id_key d) (id_key e) ≡ Less) → (ds : List (List Field)) → IsAscending ds → filter (λ d. p d || q d) ds ≡ filter p ds ++ filter q ds
 split p q before [] h = refl
@@ -91,16 +109,14 @@ among-later i (l ∷ is) h k e = at (is_eq (key_order k l)) refl (among-later i 
     at true same rest f = alike_right key_order_total k l i (equal-from (key_order k l) same) ∙ h.0
     at false same rest f = rest f
 
-pub picked-all : (ids : List KeyTree) (ds : List (List Field)) → IsStrictlySortedBy key_order ids → IsAscending ds → picked ids ds ≡ filter (λ d. list_any (λ l. is_eq (key_order (id_key d) l)) ids) ds
-picked-all [] ds s h = sym (nothing ds)
+pub each-all : (ids : List KeyTree) (ds : List (List Field)) → IsStrictlySortedBy key_order ids → IsAscending ds → each ids ds ≡ filter (λ d. list_any (λ l. is_eq (key_order (id_key d) l)) ids) ds
+each-all [] ds s h = sym (nothing ds)
   where
     nothing : (es : List (List Field)) → filter (λ d. false) es ≡ []
     nothing [] = refl
     nothing (e ∷ es) = nothing es
-picked-all (i ∷ is) ds s h =
+each-all (i ∷ is) ds s h =
     let later = λ (d : List Field). list_any (λ l. is_eq (key_order (id_key d) l)) is in
     let here = λ (d : List Field). is_eq (key_order (id_key d) i) in
-    let same : filter here ds ≡ as-list (found i ds) = ap (λ p. filter p ds) (λ j d. equal-back (id_key d) i j) ∙ found-alone i ds h in
     sym (split here later (λ d e p q. key_order_total.congr (id_key d) i (id_key e) (equal-from (key_order (id_key d) i) p) ∙ among-later i is (sorted_head key_order i is s) (id_key e) q) ds h
-    ∙ ap (λ es. es ++ filter later ds) same
-    ∙ ap (λ es. as-list (found i ds) ++ es) (sym (picked-all is ds (sorted_tail key_order i is s) h)))
+    ∙ ap (λ es. filter here ds ++ es) (sym (each-all is ds (sorted_tail key_order i is s) h)))

@@ -1,6 +1,6 @@
 //! The documents that stand under one key.
 
-ghost use Rattle.std.specs.Prelude.{◌≡◌, ◌||◌, ◌&&◌, ◌↔◌, not, [], ◌∷◌, IsTrue, IfOk, OnErr, OnOk};
+ghost use Rattle.std.specs.Prelude.{◌≡◌, ◌||◌, ◌&&◌, ◌↔◌, not, [], ◌∷◌, ◌++◌, map, IsTrue, IfOk, OnErr, OnOk};
 ghost use Rattle.std.specs.BTreeSet.{contains};
 ghost use Rattle.std.specs.Ordering.{is_eq};
 ghost use Rattle.dv_order.specs.Key.{KeyTree, key_order};
@@ -85,12 +85,14 @@ impl Ids {
         })
     }
 
-    /// Adds all of them to a set. Where memory is wanting, some of them are added.
-    pub(crate) fn add_to(&self, found: &mut BTreeSet<Key>) -> Result<(), NoMemory>
-        ensures { OnOk result ((i : KeyTree) → contains key_order found.new i ≡ (contains key_order found.old i || has_key i self.now)) }
+    /// Adds all of them to a list. Where memory is wanting, some of them are added.
+    pub(crate) fn add_to<'i>(&'i self, found: &mut Vec<&'i Key>) -> Result<(), NoMemory>
+        ensures { OnOk result (map (λ i. i.now) found.new.items ≡ map (λ i. i.now) found.old.items ++ self.now) }
     {
-        insert_first_into(found, &self.first)?;
-        insert_all_into(found, &self.others)
+        if let Some(first) = &self.first {
+            found.push(first)?;
+        }
+        add_all_to(found, &self.others)
     }
 }
 
@@ -133,21 +135,12 @@ fn drop_first(first: &mut Option<Key>, id: &Key)
     }
 }
 
-fn insert_first_into(found: &mut BTreeSet<Key>, first: &Option<Key>) -> Result<(), NoMemory>
-    ensures { OnOk result ((i : KeyTree) → contains key_order found.new i ≡ (contains key_order found.old i || has_first i first.now)) }
+/// Adds all of the ids to a list. Where memory is wanting, some of them are added.
+fn add_all_to<'i>(found: &mut Vec<&'i Key>, ids: &'i BTreeSet<Key>) -> Result<(), NoMemory>
+    ensures { OnOk result (map (λ i. i.now) found.new.items ≡ map (λ i. i.now) found.old.items ++ ids.now.keys) }
 {
-    match first {
-        Some(first) => insert_into(found, first),
-        None => Ok(()),
-    }
-}
-
-/// Adds all of the ids to a set. Where memory is wanting, some of them are added.
-fn insert_all_into(found: &mut BTreeSet<Key>, ids: &BTreeSet<Key>) -> Result<(), NoMemory>
-    ensures { OnOk result ((i : KeyTree) → contains key_order found.new i ≡ (contains key_order found.old i || contains key_order ids.now i)) }
-{
-    for id in ids {
-        insert_into(found, id)?;
+    'ids: for id in ids {
+        found.push(id)?;
     }
     Ok(())
 }

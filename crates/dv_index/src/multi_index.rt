@@ -5,7 +5,6 @@ ghost use Rattle.std.specs.List.Sorted.{IsStrictlySortedBy};
 ghost use Rattle.std.specs.Map.{keys_of};
 ghost use Rattle.std.specs.Ordering.{is_eq};
 ghost use Rattle.std.specs.BTreeMap.Range.{IsLeBy, IsLtBy, range_contains};
-ghost use Rattle.std.specs.BTreeSet.{contains};
 ghost use Rattle.std.specs.Range.Bound.{IsForward};
 ghost use Rattle.dv_order.specs.Key.{KeyTree, key_order};
 ghost use Rattle.dv_index.specs.Keys.{has_key};
@@ -16,7 +15,7 @@ use crate::keys::Keys;
 use dv_bson::NoMemory;
 use dv_order::Key;
 use std::alloc::Global;
-use std::collections::{BTreeMap, BTreeSet};
+use std::collections::BTreeMap;
 use std::marker::Model;
 use std::ops::Bound;
 
@@ -99,9 +98,13 @@ impl MultiIndex {
         })
     }
 
-    /// Adds to a set the `_id`s' keys that stand under a key. Where memory is wanting, some of them are added.
-    pub(crate) fn add_ids_at(&self, key: &Key, ids: &mut BTreeSet<Key>) -> Result<(), NoMemory>
-        ensures { OnOk result ((i : KeyTree) → contains key_order ids.new i ≡ (contains key_order ids.old i || has_pair key.now i self.now)) }
+    /// Adds to a list the `_id`s' keys that stand under a key. Where memory is wanting, some of them are added.
+    pub(crate) fn add_ids_at<'i>(
+        &'i self,
+        key: &Key,
+        ids: &mut Vec<&'i Key>,
+    ) -> Result<(), NoMemory>
+        ensures { OnOk result ((i : KeyTree) → has_key i (map (λ l. l.now) ids.new.items) ≡ (has_key i (map (λ l. l.now) ids.old.items) || has_pair key.now i self.now)) }
     {
         match self.entries.get(key) {
             Some(found) => found.add_to(ids),
@@ -109,16 +112,16 @@ impl MultiIndex {
         }
     }
 
-    /// Adds to a set the `_id`s' keys of the pairs whose keys stand between two ends. Where memory is wanting, some of them
-    /// are added.
-    pub(crate) fn add_ids_between(
-        &self,
+    /// Adds to a list the `_id`s' keys of the pairs whose keys stand between two ends. Where memory is wanting, some of
+    /// them are added.
+    pub(crate) fn add_ids_between<'i>(
+        &'i self,
         low: Bound<Key>,
         high: Bound<Key>,
-        ids: &mut BTreeSet<Key>,
+        ids: &mut Vec<&'i Key>,
     ) -> Result<(), NoMemory>
         requires { IsForward (IsLeBy key_order) (IsLtBy key_order) low high }
-        ensures { OnOk result ((i : KeyTree) → contains key_order ids.new i ≡ (contains key_order ids.old i || has_id i (filter (λ p. range_contains key_order low high p.0) self.now))) }
+        ensures { OnOk result ((i : KeyTree) → has_key i (map (λ l. l.now) ids.new.items) ≡ (has_key i (map (λ l. l.now) ids.old.items) || has_id i (filter (λ p. range_contains key_order low high p.0) self.now))) }
     {
         for (_, found) in self.entries.range((low, high)) {
             found.add_to(ids)?;

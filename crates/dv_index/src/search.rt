@@ -1,23 +1,26 @@
 //! The documents that a plan finds.
 
-ghost use Rattle.std.specs.Prelude.{◌≡◌, Bool, true, List as Sequence, map, take, filter as kept, IfOk, OnOk};
+ghost use Rattle.std.specs.Prelude.{◌≡◌, ◌++◌, Bool, true, List as Sequence, map, take, filter as kept, IfOk, OnOk};
 ghost use Rattle.dv_bson.specs.Tree.{Field};
 ghost use Rattle.dv_match.specs.Match.{matches};
 ghost use Rattle.dv_index.specs.Choice.{chosen};
-ghost use Rattle.std.specs.BTreeSet.{contains};
+ghost use Rattle.std.specs.List.Sorted.{IsStrictlySortedBy};
+ghost use Rattle.std.specs.Ordering.{is_eq};
 ghost use Rattle.dv_coll.specs.Collection.{id_key};
 ghost use Rattle.dv_bson.specs.View.{tree};
 ghost use Rattle.dv_match.specs.Filter.{among, equal, in_range};
-ghost use Rattle.dv_order.specs.Key.{KeyTree, key_order};
+ghost use Rattle.dv_order.specs.Key.{KeyTree, key_order, value as key_of_tree};
+ghost use Rattle.dv_order.specs.Order.{canon};
 ghost use Rattle.dv_index.specs.Pairs.{has_pair};
 ghost use Rattle.dv_index.specs.Change.{AreIndexesOf, IsIndexAt};
 ghost use Rattle.dv_index.specs.Index.{id_form};
+ghost use Rattle.dv_index.specs.Keys.{has_key, is_key_of};
+ghost use Rattle.std.specs.List.{list_any};
 ghost use Rattle.dv_index.specs.Search.{IsIndexOf, covers, has_within};
 ghost use Rattle.dv_index.specs.View.{bounds_seen, plan_seen};
 
 use crate::bounds::ends_within;
 use crate::indexes::{Index, Indexes};
-use crate::keys::{add_elements, add_key};
 use crate::multi_index::MultiIndex;
 use crate::plan::{Bounds, Plan};
 use dv_bson::{Document, List, NoMemory, Value};
@@ -25,7 +28,6 @@ use dv_coll::Collection;
 use dv_match::{Filter, Range};
 use dv_order::{Key, key_of, laws};
 use std::alloc::Global;
-use std::collections::BTreeSet;
 
 /// The documents that match the filter, in the order of their `_id`s. By an index only those are looked at that have a key
 /// in the plan's bounds. Fails where memory is wanting.
@@ -133,18 +135,55 @@ fn candidates_by_id<'c>(
     laws::keys_stand_as_their_values();
     // Each document has an `_id`.
     let _ = collection.len();
-    let mut ids = BTreeSet::new(alloc);
     match bounds {
-        Bounds::Equal(value) => {
-            add_key(&mut ids, value)?;
-            documents_of(alloc, &ids, collection)
-        }
-        Bounds::Among(choices) => {
-            add_elements(&mut ids, choices.values())?;
-            documents_of(alloc, &ids, collection)
-        }
+        Bounds::Equal(value) => with_id(alloc, value, collection),
+        Bounds::Among(choices) => with_ids(alloc, choices.values(), collection),
         Bounds::Within(..) => all_of(alloc, collection),
     }
+}
+
+/// The document whose `_id` is equal to a value, where there is one.
+fn with_id<'c>(
+    alloc: Global,
+    value: &Value,
+    collection: &'c Collection,
+) -> Result<Vec<&'c Document>, NoMemory>
+    ensures { IfOk result (λ found. map (λ d. d.now) found.items ≡ kept (λ d. is_key_of (tree value.now) (id_key d)) collection.now) }
+{
+    let key = key_of(value)?;
+    let mut found = Vec::new(alloc);
+    add_document(&mut found, &key, collection)?;
+    Ok(found)
+}
+
+/// The documents whose `_id`s are equal to values of a list, in the order of their `_id`s.
+fn with_ids<'c>(
+    alloc: Global,
+    values: &List,
+    collection: &'c Collection,
+) -> Result<Vec<&'c Document>, NoMemory>
+    ensures { IfOk result (λ found. map (λ d. d.now) found.items ≡ kept (λ d. list_any (λ v. is_key_of v (id_key d)) values.now) collection.now) }
+{
+    let keys = keys_of_each(alloc, values.as_slice())?;
+    let ids = lent(alloc, &keys)?;
+    documents_of(alloc, ids, collection)
+}
+
+/// The keys of the values. Fails where memory is wanting.
+fn keys_of_each(alloc: Global, values: &[Value]) -> Result<Vec<Key>, NoMemory>
+    ensures { IfOk result (λ keys. keys.items ≡ map (λ v. key_of_tree (canon (tree v))) values.now) }
+{
+    let mut keys = Vec::with_capacity(alloc, values.len())?;
+    'values: for value in values {
+        keys.push(key_of(value)?)?;
+    }
+    Ok(keys)
+}
+
+fn lent(alloc: Global, keys: &[Key]) -> Result<Vec<&Key>, NoMemory>
+    ensures { IfOk result (λ lent. map (λ k. k.now) lent.items ≡ keys.now) }
+{
+    keys.iter().collect(alloc)
 }
 
 fn all_of(alloc: Global, collection: &Collection) -> Result<Vec<&Document>, NoMemory>
@@ -167,37 +206,77 @@ fn candidates_by_key<'c>(
     // The documents ascend by their `_id`s.
     let _ = collection.len();
     let ids = ids_within(alloc, index.pairs(), bounds)?;
-    documents_of(alloc, &ids, collection)
+    documents_of(alloc, ids, collection)
 }
 
 /// The documents of a collection that have these `_id`s, in the order of their `_id`s.
 fn documents_of<'c>(
     alloc: Global,
-    ids: &BTreeSet<Key>,
+    ids: Vec<&Key>,
     collection: &'c Collection,
 ) -> Result<Vec<&'c Document>, NoMemory>
-    ensures { IfOk result (λ found. map (λ d. d.now) found.items ≡ kept (λ d. contains key_order ids.now (id_key d)) collection.now) }
+    ensures { IfOk result (λ found. map (λ d. d.now) found.items ≡ kept (λ d. has_key (id_key d) (map (λ i. i.now) ids.entry.items)) collection.now) }
+{
+    let ordered = in_order(ids);
+    documents_under(alloc, &ordered, collection)
+}
+
+/// The documents of a collection whose `_id`s are among these, which ascend.
+fn documents_under<'c>(
+    alloc: Global,
+    ids: &[&Key],
+    collection: &'c Collection,
+) -> Result<Vec<&'c Document>, NoMemory>
+    requires { IsStrictlySortedBy key_order (map (λ i. i.now) ids.now) }
+    ensures { IfOk result (λ found. map (λ d. d.now) found.items ≡ kept (λ d. has_key (id_key d) (map (λ i. i.now) ids.now)) collection.now) }
 {
     // The documents ascend by their `_id`s, as the keys do.
     let _ = collection.len();
-    let mut found = Vec::new(alloc);
-    for id in ids {
-        if let Some(document) = collection.get(id) {
-            found.push(document)?;
-        }
+    let mut found = Vec::with_capacity(alloc, ids.len())?;
+    'ids: for id in ids {
+        add_document(&mut found, id, collection)?;
     }
     Ok(found)
 }
 
-/// The `_id`s' keys of the pairs whose keys are in the bounds.
-fn ids_within(
-    alloc: Global,
-    index: &MultiIndex,
-    bounds: Bounds<'_>,
-) -> Result<BTreeSet<Key>, NoMemory>
-    ensures { IfOk result (λ ids. (k i : KeyTree) → covers (bounds_seen bounds.entry) k ≡ true → has_pair k i index.now ≡ true → contains key_order ids i ≡ true) }
+/// Adds the document that has this `_id`, where there is one.
+fn add_document<'c>(
+    found: &mut Vec<&'c Document>,
+    id: &Key,
+    collection: &'c Collection,
+) -> Result<(), NoMemory>
+    ensures { OnOk result (map (λ d. d.now) found.new.items ≡ map (λ d. d.now) found.old.items ++ kept (λ d. is_eq (key_order (id_key d) id.now)) collection.now) }
 {
-    let mut ids = BTreeSet::new(alloc);
+    // No two documents have equal `_id`s.
+    let _ = collection.len();
+    match collection.get(id) {
+        Some(document) => {
+            found.push(document)?;
+            Ok(())
+        }
+        None => Ok(()),
+    }
+}
+
+/// The keys in their order, and of equal ones one. Most of them stand in order already. Takes no memory.
+fn in_order(mut keys: Vec<&Key>) -> Vec<&Key>
+    ensures ascending { IsStrictlySortedBy key_order (map (λ k. k.now) result.items) }
+    ensures same { (k : KeyTree) → has_key k (map (λ l. l.now) result.items) ≡ has_key k (map (λ l. l.now) keys.entry.items) }
+{
+    keys.sort_unstable();
+    keys.dedup();
+    keys
+}
+
+/// The `_id`s' keys of the pairs whose keys are in the bounds, in no order.
+fn ids_within<'i>(
+    alloc: Global,
+    index: &'i MultiIndex,
+    bounds: Bounds<'_>,
+) -> Result<Vec<&'i Key>, NoMemory>
+    ensures { IfOk result (λ ids. (k i : KeyTree) → covers (bounds_seen bounds.entry) k ≡ true → has_pair k i index.now ≡ true → has_key i (map (λ l. l.now) ids.items) ≡ true) }
+{
+    let mut ids = Vec::new(alloc);
     match bounds {
         Bounds::Equal(value) => add_equal(index, value, &mut ids)?,
         Bounds::Among(choices) => add_among(index, choices.values(), &mut ids)?,
@@ -207,21 +286,25 @@ fn ids_within(
 }
 
 /// Adds the `_id`s' keys of the pairs whose key is of the value's class and stands so to it.
-fn add_in_range(
+fn add_in_range<'i>(
     alloc: Global,
-    index: &MultiIndex,
+    index: &'i MultiIndex,
     range: Range,
     value: &Value,
-    ids: &mut BTreeSet<Key>,
+    ids: &mut Vec<&'i Key>,
 ) -> Result<(), NoMemory>
-    ensures { OnOk result ((k i : KeyTree) → covers (in_range range (tree value.now)) k ≡ true → has_pair k i index.now ≡ true → contains key_order ids.new i ≡ true) }
+    ensures { OnOk result ((k i : KeyTree) → covers (in_range range (tree value.now)) k ≡ true → has_pair k i index.now ≡ true → has_key i (map (λ l. l.now) ids.new.items) ≡ true) }
 {
     let ends = ends_within(alloc, range, value)?;
     index.add_ids_between(ends.0, ends.1, ids)
 }
 
-fn add_among(index: &MultiIndex, values: &List, ids: &mut BTreeSet<Key>) -> Result<(), NoMemory>
-    ensures { OnOk result ((k i : KeyTree) → covers (among values.now) k ≡ true → has_pair k i index.now ≡ true → contains key_order ids.new i ≡ true) }
+fn add_among<'i>(
+    index: &'i MultiIndex,
+    values: &List,
+    ids: &mut Vec<&'i Key>,
+) -> Result<(), NoMemory>
+    ensures { OnOk result ((k i : KeyTree) → covers (among values.now) k ≡ true → has_pair k i index.now ≡ true → has_key i (map (λ l. l.now) ids.new.items) ≡ true) }
 {
     for value in values.as_slice() {
         add_equal(index, value, ids)?;
@@ -230,9 +313,13 @@ fn add_among(index: &MultiIndex, values: &List, ids: &mut BTreeSet<Key>) -> Resu
 }
 
 /// Adds the `_id`s' keys of the pairs whose key is the value's.
-fn add_equal(index: &MultiIndex, value: &Value, ids: &mut BTreeSet<Key>) -> Result<(), NoMemory>
-    ensures found { OnOk result ((k i : KeyTree) → covers (equal (tree value.now)) k ≡ true → has_pair k i index.now ≡ true → contains key_order ids.new i ≡ true) }
-    ensures kept { OnOk result ((i : KeyTree) → contains key_order ids.old i ≡ true → contains key_order ids.new i ≡ true) }
+fn add_equal<'i>(
+    index: &'i MultiIndex,
+    value: &Value,
+    ids: &mut Vec<&'i Key>,
+) -> Result<(), NoMemory>
+    ensures found { OnOk result ((k i : KeyTree) → covers (equal (tree value.now)) k ≡ true → has_pair k i index.now ≡ true → has_key i (map (λ l. l.now) ids.new.items) ≡ true) }
+    ensures kept { OnOk result ((i : KeyTree) → has_key i (map (λ l. l.now) ids.old.items) ≡ true → has_key i (map (λ l. l.now) ids.new.items) ≡ true) }
 {
     let key = key_of(value)?;
     index.add_ids_at(&key, ids)

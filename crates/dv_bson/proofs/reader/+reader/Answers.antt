@@ -3,6 +3,7 @@ use Rattle.std.proofs.lemmas.Result.{err_from_is_err_and}
 use Rattle.dv_bson.specs.View.{tree}
 use Rattle.dv_bson.specs.Parts.{numbered}
 use Rattle.dv_bson.proofs.Shorter.{behind_name, frame_within}
+use Rattle.dv_bson.proofs.Fronts.{length_numbered}
 use Rattle.dv_bson.proofs.Elements.{field_may_be_added, array_read, numbered_push}
 use Rattle.dv_bson.proofs.Measured.{inside_measured}
 use Rattle.dv_bson.proofs.Loop.{shorter, goes_on, ends, is_done, starts, too_deep, some_left, none_left}
@@ -18,10 +19,10 @@ pub field_of-value_of-requires : goal.field_of-value_of-requires
 field_of-value_of-requires t c = (search rules, omega (arith, c.requires, behind_name _ _ _ _ _ _ c.in_ok-kind.ensures c.in_ok-name.ensures))
 
 pub element_of-overflow_sub-at : goal.element_of-overflow_sub-at
-element_of-overflow_sub-at t c = behind_name _ _ _ _ _ _ c.in_ok-kind.ensures c.in_ok-rest.ensures
+element_of-overflow_sub-at t c = behind_name _ _ _ _ _ _ c.in_ok-kind.ensures (c.in_ok-rest.ensures _ (length_numbered 0 c.args.before.now))
 
 pub element_of-value_of-requires : goal.element_of-value_of-requires
-element_of-value_of-requires t c = (search rules, omega (arith, c.requires, behind_name _ _ _ _ _ _ c.in_ok-kind.ensures c.in_ok-rest.ensures))
+element_of-value_of-requires t c = (search rules, omega (arith, c.requires, behind_name _ _ _ _ _ _ c.in_ok-kind.ensures (c.in_ok-rest.ensures _ (length_numbered 0 c.args.before.now))))
 
 pub field_of-returns-in_err-kind : goal.field_of-returns-in_err-kind
 field_of-returns-in_err-kind t c =
@@ -49,10 +50,10 @@ element_of-returns-in_err-kind t c =
 pub element_of-returns-in_err-rest : goal.element_of-returns-in_err-rest
 element_of-returns-in_err-rest t c =
     let p = err_from_is_err_and c.from_residual-in_err-rest.result c.from_residual-in_err-rest.ensures.1 in
-    rw (p.1, p.2) (fails_name _ _ _ _ _ _ c.in_ok-kind.ensures _ c.in_err-rest.ensures)
+    rw (p.1, p.2) (fails_name _ _ _ _ _ _ c.in_ok-kind.ensures _ (c.in_err-rest.ensures _ (length_numbered 0 c.args.before.now)))
 
 pub element_of-returns : goal.element_of-returns
-element_of-returns t c = gives_element _ _ _ _ _ _ c.in_ok-kind.ensures _ c.in_ok-rest.ensures (λ x. (tree x.0, x.1.now)) c.value_of.result c.value_of.ensures
+element_of-returns t c = gives_element _ _ _ _ _ _ c.in_ok-kind.ensures _ (c.in_ok-rest.ensures _ (length_numbered 0 c.args.before.now)) (λ x. (tree x.0, x.1.now)) c.value_of.result c.value_of.ensures
 
 -- ---- a value
 
