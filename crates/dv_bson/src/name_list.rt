@@ -118,7 +118,7 @@ impl Names {
     pub(crate) fn has(&self, name: &str) -> bool
         ensures { result ≡ has_name name.now (map bare self.now) }
     {
-        self.place_of(name).is_some()
+        self.place_by_search(name).is_some()
     }
 
     /// The same, wherever the last name stood.

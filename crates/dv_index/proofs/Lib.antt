@@ -13,3 +13,4 @@ pub mod Places
 pub mod Sound
 pub mod Changed
 pub mod Copied
+pub mod PutIn

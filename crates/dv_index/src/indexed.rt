@@ -1,14 +1,17 @@
 //! A collection with its indexes.
 
-ghost use Rattle.std.specs.Prelude.{◌≡◌, ◌↔◌, ◌||◌, ◌&&◌, ◌++◌, ◌∷◌, [], None, filter as kept, is_some, length, map, take, IfOk, IsErrOf, IsSome, IsTrue, OnErr, OnOk};
+ghost use Rattle.std.specs.Prelude.{◌≡◌, ◌↔◌, ◌||◌, ◌&&◌, ◌++◌, ◌∷◌, [], None, List, codes, false, filter as kept, is_some, length, map, take, IfOk, IsErrOf, IsSome, IsTrue, OnErr, OnOk};
 ghost use Rattle.std.specs.List.{AllByRecursion, list_any};
 ghost use Rattle.std.specs.Option.{option_map};
-ghost use Rattle.dv_coll.specs.Collection.{HasId, IsAscending, found, id_key, inserted, removed, replaced};
+ghost use Rattle.std.specs.Str.{bytes_eq};
+ghost use Rattle.dv_bson.specs.Tree.{Field};
+ghost use Rattle.dv_bson.specs.View.{tree};
+ghost use Rattle.dv_coll.specs.Collection.{HasId, IsAscending, found, id_key, inserted, removed, replaced, with_value_in};
 ghost use Rattle.dv_match.specs.Match.{matches};
 ghost use Rattle.std.specs.Ordering.{is_eq};
 ghost use Rattle.dv_order.specs.Key.{KeyTree, key_order};
 ghost use Rattle.dv_index.specs.Keys.{is_leaf_key};
-ghost use Rattle.dv_index.specs.Change.{IsChangeOf, IsTaken, documents_after};
+ghost use Rattle.dv_index.specs.Change.{AreIndexesOf, IsChangeOf, IsTaken, documents_after};
 ghost use Rattle.dv_index.specs.Index.{form_of, id_form};
 ghost use Rattle.dv_index.specs.View.{form_of_new, plan_seen};
 ghost use Rattle.dv_index.specs.Indexed.{empty_indexed, is_dropped, with_documents, with_indexes, without_index};
@@ -23,8 +26,8 @@ use crate::keys::keys_of;
 use crate::multi_index::MultiIndex;
 use crate::plan::{Plan, Planner};
 use crate::search::{run, run_first};
-use dv_bson::{Document, NoMemory, Str};
-use dv_coll::{Collection, InsertFault, Iter};
+use dv_bson::{Document, NoMemory, Str, Value};
+use dv_coll::{Collection, InsertFault, Iter, laws};
 use dv_match::Filter;
 use dv_order::Key;
 use dv_path::Path;
@@ -136,11 +139,50 @@ impl IndexedCollection {
         ensures ok { OnOk result (self.new ≡ with_documents (replaced document self.old.documents) self.old) }
         ensures err { OnErr result (self.new ≡ self.old) }
     {
+        if are_only_id(&self.indexes) {
+            return Ok(self.documents.replace(document));
+        }
         let id = key_of_id(&document)?;
         if self.documents.get(&id).is_none() {
             return Ok(false);
         }
         self.change(Change::Replace(document))?;
+        Ok(true)
+    }
+
+    /// Puts the value in place of the one under the name, in the document under the key of its `_id`, and answers whether
+    /// there is such a document. Where there is none, or where no field of it has the name, nothing is changed, and the value
+    /// is dropped. Without an index beside that on `_id` the document is changed in place, as `Collection::put` does it. Fails
+    /// where memory is wanting; then nothing is changed.
+    pub fn put(&mut self, key: &Key, name: &str, value: Value) -> Result<bool, NoMemory>
+        requires { bytes_eq name.now (codes "_id") ≡ false }
+        ensures found { IfOk result (λ there. there ≡ is_some (found key.now self.old.documents)) }
+        ensures ok { OnOk result (self.new ≡ with_documents (with_value_in (found key.now self.old.documents) name.now (tree value) self.old.documents) self.old) }
+        ensures err { OnErr result (self.new ≡ self.old) }
+    {
+        if are_only_id(&self.indexes) {
+            return self.documents.put(key, name, value);
+        }
+        self.put_in_copy(key, name, value)
+    }
+
+    /// The same, by a copy of the document that comes in its place, with its keys in the indexes.
+    fn put_in_copy(&mut self, key: &Key, name: &str, value: Value) -> Result<bool, NoMemory>
+        requires { bytes_eq name.now (codes "_id") ≡ false }
+        ensures found { IfOk result (λ there. there ≡ is_some (found key.now self.old.documents)) }
+        ensures ok { OnOk result (self.new ≡ with_documents (with_value_in (found key.now self.old.documents) name.now (tree value) self.old.documents) self.old) }
+        ensures err { OnErr result (self.new ≡ self.old) }
+    {
+        laws::a_value_under_another_name_leaves_the_id();
+        laws::what_is_found_has_the_key();
+        // All documents begin with their `_id`s.
+        let _ = self.documents.len();
+        let Some(document) = self.documents.get(key) else {
+            return Ok(false);
+        };
+        let mut changed = document.try_clone()?;
+        let _ = changed.put(name, value)?;
+        self.change(Change::Replace(changed))?;
         Ok(true)
     }
 
@@ -239,6 +281,14 @@ impl IndexedCollection {
             Err(InsertFault::Duplicate) => unreachable!(),
         }
     }
+}
+
+/// Whether there is no index but the one on `_id`, which has no keys of its own.
+#[tactic(auto, using(crate::proofs::PutIn::one_index))]
+fn are_only_id(indexes: &Indexes) -> bool
+    ensures { IsTrue result → (documents : List (List Field)) → AreIndexesOf indexes.now documents }
+{
+    indexes.as_slice().len() == 1
 }
 
 /// Indexes over all documents, in the order in which they are wanted. Fails where memory is wanting.

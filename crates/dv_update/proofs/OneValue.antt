@@ -1,24 +1,24 @@
 -- An edit under one name, where a value stands, changes that value alone.
-use Rattle.std.proofs.Common.{◌≡◌, ◌∙◌, ap, ap₂, sym, refl, subst, List, [], ◌∷◌, ℕ, suc, ◌+◌, ◌≤◌, Bool, true, false, ◌&&◌, not, max, nat_lt, length, Option, Some, None, Result, Ok, Err, codes, arith, if◌then◌else◌}
+use Rattle.std.proofs.Common.{◌≡◌, ◌∙◌, ap, ap₂, sym, refl, List, [], ◌∷◌, ℕ, ◌+◌, ◌≤◌, Bool, true, false, ◌&&◌, not, max, nat_lt, length, Option, Some, None, Result, Ok, Err, codes, arith, if◌then◌else◌}
 use Rattle.std.specs.Str.{bytes_eq}
 use Rattle.std.proofs.lemmas.Bool.Decides.{nat_tests}
 use Rattle.std.proofs.lemmas.Slice.Eq.{bytes_eq-Decides}
 use Rattle.dv_bson.specs.Names.{value_under, with_value_under}
 use Rattle.dv_bson.specs.Spelling.{payload, spelling, levels, fields_levels}
 use Rattle.dv_bson.specs.Tree.{Tree, document, Field, fields_of, list_of_fields}
-use Rattle.dv_path.specs.Placing.{with_field, put_field, put_behind, put}
+use Rattle.dv_path.specs.Placing.{with_field, put}
 use Rattle.dv_path.specs.Slots.{slot, slot_of, taken}
-use Rattle.dv_update.specs.Apply.{Path, told, set_at, increased, increase_at, edit_at, edited, changed, checked, applied, is_id, leading_id, document_limit, level_limit}
-use Rattle.dv_update.specs.Outcome.{HasRoom, edit_under, only_edit, sole_edit, sole_name, name_of, value_by}
+use Rattle.dv_update.specs.Apply.{Path, told, set_at, increased, edit_at, edited, checked, applied, is_id, leading_id, document_limit, level_limit}
+use Rattle.dv_update.specs.Outcome.{HasRoom, edit_under, sole_edit, sole_name, name_of, value_by}
 use Rattle.dv_update.specs.Parsing.{◌>>=◌}
 use Rattle.dv_update.specs.Same.{both_same, is_same, same_fields}
-use Rattle.dv_update.specs.Update.{Operation, assign, take_away, increase, append, pull, Edit, Update, operators, replacement}
+use Rattle.dv_update.specs.Update.{Operation, assign, take_away, increase, append, pull, Update, operators, replacement}
 use Rattle.dv_update.specs.declared.fault.UpdateFault.{UpdateFault}
 use Rattle.dv_update.specs.declared.fault.UpdateFault.TheVariants.{IdChanged, TooLarge, TooDeep}
 use Rattle.dv_update.proofs.Items.{fields_again}
 use Rattle.dv_update.proofs.Lawful.{same_documents}
 use Rattle.dv_update.proofs.Made.{put_taken}
-use Rattle.dv_update.proofs.Sameness.{same-is, same-itself, same-fields, fields-itself}
+use Rattle.dv_update.proofs.Sameness.{same-itself, same-fields, fields-itself}
 
 -- what dv_bson's law says of spellings
 abbrev pub FieldAdds : Type 0

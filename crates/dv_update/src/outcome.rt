@@ -35,6 +35,15 @@ pub enum Outcome {
     Whole(Document),
 }
 
+impl Outcome {
+    /// Whether the document stays as it is spelled. Takes no memory.
+    pub fn stays(&self) -> bool
+        ensures { result ≡ defined.stays self.now }
+    {
+        matches!(self, Outcome::Same)
+    }
+}
+
 impl Update {
     /// The name of the one field that the update changes, where it has one edit, whose path is one name and not `_id`;
     /// else the empty name, which is in no path.
@@ -55,9 +64,17 @@ impl Update {
         ensures applied { Gives (λ outcome. defined.outcome_seen (defined.sole_name (update self.now)) document.now outcome) result (applied (update self.now) document.now) }
         ensures same { IfOk result (λ outcome. defined.stays outcome ≡ defined.stays_so (defined.sole_name (update self.now)) document.now outcome) }
     {
-        if let Some(outcome) = self.value_alone(document)? {
-            return Ok(outcome);
+        match self.value_alone(document)? {
+            Some(outcome) => Ok(outcome),
+            None => self.whole_outcome(alloc, document),
         }
+    }
+
+    /// The same, but never told by a value alone.
+    pub fn whole_outcome(&self, alloc: Global, document: &Document) -> Result<Outcome, UpdateFault>
+        ensures applied { Gives (λ outcome. defined.outcome_seen (defined.sole_name (update self.now)) document.now outcome) result (applied (update self.now) document.now) }
+        ensures same { IfOk result (λ outcome. defined.stays outcome ≡ defined.stays_so (defined.sole_name (update self.now)) document.now outcome) }
+    {
         let after = self.apply(alloc, document)?;
         if same_documents(document, &after) {
             return Ok(Outcome::Same);

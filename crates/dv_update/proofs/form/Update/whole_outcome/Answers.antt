@@ -1,5 +1,5 @@
 use Rattle.dv_update.proofs.OneValue.{is_itself, stays_applied}
-use Rattle.dv_update.proofs.form.Update.outcome.Goals as goal
+use Rattle.dv_update.proofs.form.Update.whole_outcome.Goals as goal
 
 pub returns-then-same_documents-clause-applied : goal.returns-then-same_documents-clause-applied
 returns-then-same_documents-clause-applied c = stays_applied c.args.document.now c.in_ok-after.after _ c.in_ok-after.ensures c.if-same_documents.ensures
