@@ -58,7 +58,8 @@ impl Rows {
     pub fn batch(&self, count: u64) -> Result<Vec<Document>, NoMemory>
         ensures { IfOk result (λ rows. rows.items ≡ batch count self.now) }
     {
-        let mut taken = Vec::new(*self.rows.allocator());
+        let most = (self.rows.len() as u64).min(count) as usize;
+        let mut taken = Vec::with_capacity(*self.rows.allocator(), most)?;
         let mut bytes = 0;
         'rows: for row in self.rows.iter() {
             let more = bytes_with(bytes, row);

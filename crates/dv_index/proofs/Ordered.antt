@@ -1,5 +1,5 @@
 -- Lent keys that are sorted, and of which equal ones stand there once.
-use Rattle.std.proofs.Common.{Bor, ◌≡◌, ◌∙◌, List, [], ◌∷◌, map, refl, ap, sym, subst, Bool, true, false, cond, ◌||◌}
+use Rattle.std.proofs.Common.{Bor, ◌≡◌, ◌∙◌, ◌+◌, ◌<◌, ℕ, zero, suc, length, take, get_or, add-one, arith, List, [], ◌∷◌, map, refl, ap, sym, subst, Bool, true, false, cond, ◌||◌}
 use Rattle.std.specs.List.{AllByRecursion, dedup, dedup_from, list_any}
 use Rattle.std.specs.List.Retain.{DiffersFromLast, IsFiltered}
 use Rattle.std.specs.List.Sorted.{IsPermutation, IsSorted, IsStrictlySortedBy}
@@ -73,3 +73,20 @@ module _ (xs sorted ys : List (Bor KeyTree)) (filtered : IsFiltered (DiffersFrom
       ∙ any-once p (λ x y same. ap is_eq (alike_right key_order_total x.now y.now k (equal-from (key_order x.now y.now) same))) sorted
       ∙ sym (list_any-IsPermutation p xs sorted moved)
       ∙ sym (any-map (λ l. is_eq (key_order k l)) now xs)
+
+or-none : (b : Bool) → b || false ≡ false || b
+or-none true = refl
+or-none false = refl
+
+or-grouped : (a b c : Bool) → a || (b || c) ≡ (a || b) || c
+or-grouped true b c = refl
+or-grouped false b c = refl
+
+-- a key stands among the first keys and the next one where it stands among the first, or is the next one
+pub one-among-more : (k : KeyTree) (ids : List (Bor KeyTree)) (i : ℕ) (x : Bor KeyTree) → i < length ids → x ≡ get_or ids i x → has_key k (map now (take (i + 1) ids)) ≡ has_key k (map now (take i ids)) || is_eq (key_order k x.now)
+one-among-more k [] i x within is = absurd (omega arith)
+one-among-more k (y ∷ ys) zero x within is = or-none (is_eq (key_order k y.now)) ∙ ap (λ (z : Bor KeyTree). is_eq (key_order k z.now)) (sym is)
+one-among-more k (y ∷ ys) (suc i) x within is =
+    let here = is_eq (key_order k y.now) in
+    let rest = rw add-one at (one-among-more k ys i x (omega arith) is) in
+    rw add-one (ap (λ b. here || b) rest ∙ or-grouped here (has_key k (map now (take i ys))) (is_eq (key_order k x.now)))

@@ -217,7 +217,7 @@ fn documents_of<'c>(
 ) -> Result<Vec<&'c Document>, NoMemory>
     ensures { IfOk result (λ found. map (λ d. d.now) found.items ≡ kept (λ d. has_key (id_key d) (map (λ i. i.now) ids.entry.items)) collection.now) }
 {
-    let ordered = in_order(ids);
+    let ordered = in_order(ids)?;
     documents_under(alloc, &ordered, collection)
 }
 
@@ -258,14 +258,15 @@ fn add_document<'c>(
     }
 }
 
-/// The keys in their order, and of equal ones one. Most of them stand in order already. Takes no memory.
-fn in_order(mut keys: Vec<&Key>) -> Vec<&Key>
-    ensures ascending { IsStrictlySortedBy key_order (map (λ k. k.now) result.items) }
-    ensures same { (k : KeyTree) → has_key k (map (λ l. l.now) result.items) ≡ has_key k (map (λ l. l.now) keys.entry.items) }
+/// The keys in their order, and of equal ones one. Those of one index key stand in order already, so there are few runs to
+/// merge. Fails where memory is wanting.
+fn in_order(mut keys: Vec<&Key>) -> Result<Vec<&Key>, NoMemory>
+    ensures ascending { IfOk result (λ ordered. IsStrictlySortedBy key_order (map (λ k. k.now) ordered.items)) }
+    ensures same { IfOk result (λ ordered. (k : KeyTree) → has_key k (map (λ l. l.now) ordered.items) ≡ has_key k (map (λ l. l.now) keys.entry.items)) }
 {
-    keys.sort_unstable();
+    keys.sort()?;
     keys.dedup();
-    keys
+    Ok(keys)
 }
 
 /// The `_id`s' keys of the pairs whose keys are in the bounds, in no order.
@@ -279,7 +280,7 @@ fn ids_within<'i>(
     let mut ids = Vec::new(alloc);
     match bounds {
         Bounds::Equal(value) => add_equal(index, value, &mut ids)?,
-        Bounds::Among(choices) => add_among(index, choices.values(), &mut ids)?,
+        Bounds::Among(choices) => add_among(alloc, index, choices.values(), &mut ids)?,
         Bounds::Within(range, value) => add_in_range(alloc, index, range, value, &mut ids)?,
     }
     Ok(ids)
@@ -299,15 +300,32 @@ fn add_in_range<'i>(
     index.add_ids_between(ends.0, ends.1, ids)
 }
 
+/// Adds the `_id`s' keys of the pairs whose key is one of the values'; a value that stands there several times is looked up
+/// once.
 fn add_among<'i>(
+    alloc: Global,
     index: &'i MultiIndex,
     values: &List,
     ids: &mut Vec<&'i Key>,
 ) -> Result<(), NoMemory>
     ensures { OnOk result ((k i : KeyTree) → covers (among values.now) k ≡ true → has_pair k i index.now ≡ true → has_key i (map (λ l. l.now) ids.new.items) ≡ true) }
 {
-    for value in values.as_slice() {
-        add_equal(index, value, ids)?;
+    let keys = keys_of_each(alloc, values.as_slice())?;
+    let all = lent(alloc, &keys)?;
+    let ordered = in_order(all)?;
+    add_each(index, &ordered, ids)
+}
+
+/// Adds the `_id`s' keys of the pairs that have one of the keys.
+fn add_each<'i>(
+    index: &'i MultiIndex,
+    keys: &[&Key],
+    ids: &mut Vec<&'i Key>,
+) -> Result<(), NoMemory>
+    ensures { OnOk result ((k i : KeyTree) → has_key k (map (λ l. l.now) keys.now) ≡ true → has_pair k i index.now ≡ true → has_key i (map (λ l. l.now) ids.new.items) ≡ true) }
+{
+    'keys: for key in keys {
+        add_at(index, key, ids)?;
     }
     Ok(())
 }
@@ -318,9 +336,20 @@ fn add_equal<'i>(
     value: &Value,
     ids: &mut Vec<&'i Key>,
 ) -> Result<(), NoMemory>
-    ensures found { OnOk result ((k i : KeyTree) → covers (equal (tree value.now)) k ≡ true → has_pair k i index.now ≡ true → has_key i (map (λ l. l.now) ids.new.items) ≡ true) }
-    ensures kept { OnOk result ((i : KeyTree) → has_key i (map (λ l. l.now) ids.old.items) ≡ true → has_key i (map (λ l. l.now) ids.new.items) ≡ true) }
+    ensures { OnOk result ((k i : KeyTree) → covers (equal (tree value.now)) k ≡ true → has_pair k i index.now ≡ true → has_key i (map (λ l. l.now) ids.new.items) ≡ true) }
 {
     let key = key_of(value)?;
-    index.add_ids_at(&key, ids)
+    add_at(index, &key, ids)
+}
+
+/// Adds the `_id`s' keys of the pairs that have the key.
+fn add_at<'i>(
+    index: &'i MultiIndex,
+    key: &Key,
+    ids: &mut Vec<&'i Key>,
+) -> Result<(), NoMemory>
+    ensures found { OnOk result ((k i : KeyTree) → is_eq (key_order k key.now) ≡ true → has_pair k i index.now ≡ true → has_key i (map (λ l. l.now) ids.new.items) ≡ true) }
+    ensures kept { OnOk result ((i : KeyTree) → has_key i (map (λ l. l.now) ids.old.items) ≡ true → has_key i (map (λ l. l.now) ids.new.items) ≡ true) }
+{
+    index.add_ids_at(key, ids)
 }

@@ -9,4 +9,4 @@ use Rattle.dv_index.proofs.search.documents_of.Goals as goal
 pub returns : goal.returns
 returns c =
     IfOk-weaker c.documents_under.result _ _ (λ found is.
-    is ∙ ap (λ p. filter p c.args.collection.now) (λ j d. (ap (λ ids. has_key (id_key d) (map now ids)) c.deref.ensures.value ∙ c.in_order-ordered.ensures.same (id_key d)) j)) c.documents_under.ensures
+    is ∙ ap (λ p. filter p c.args.collection.now) (λ j d. (ap (λ ids. has_key (id_key d) (map now ids)) c.deref.ensures.value ∙ c.in_ok-ordered.ensures.same (id_key d)) j)) c.documents_under.ensures

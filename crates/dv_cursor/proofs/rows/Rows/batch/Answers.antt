@@ -8,14 +8,14 @@ use Rattle.dv_cursor.proofs.rows.Rows.batch.Goals.{in-None, in-Some+then-not-is_
 pub rows-init : goal.rows-init
 unfolding batch
 rows-init c = record {
-  filled = rw (c.new-taken.ensures.items, c.into_iter-row-iterator.ensures.into_iter_gives, c.iter-row-items.ensures.rest, ← c.self.view_is) refl;
-  counted = rw c.new-taken.ensures.items refl;
+  filled = rw (c.in_ok-taken.ensures.items, c.into_iter-row-iterator.ensures.into_iter_gives, c.iter-row-items.ensures.rest, ← c.self.view_is) refl;
+  counted = rw c.in_ok-taken.ensures.items refl;
 }
 
 pub rows-preserved : goal.rows-preserved
 rows-preserved c =
     let row = c.in-Some.row.now in
-    let test = takes-is c.args.count c.len.result c.rows.bytes c.bytes_with-more.result c.rows.taken.items row (c.len.ensures ∙ c.rows.taken.ok.0) c.rows.invariant.counted c.bytes_with-more.ensures in
+    let test = takes-is c.args.count c.len-2.result c.rows.bytes c.bytes_with-more.result c.rows.taken.items row (c.len-2.ensures ∙ c.rows.taken.ok.0) c.rows.invariant.counted c.bytes_with-more.ensures in
     let taken : takes c.args.count c.rows.taken.items row ≡ true = cc in
     let pushed = c.in_ok-push.ensures.items in
     record {
@@ -29,7 +29,7 @@ returns c =
       | in-None w ↦ rw (nil_from_length _ w.in-None.ensures.steps.0) at c.rows.invariant.filled
       | in-Some+then-not-is_taken w ↦
           let row = w.in-Some.row.now in
-          let test = takes-is c.args.count w.len.result c.rows.bytes w.bytes_with-more.result c.rows.taken.items row (w.len.ensures ∙ c.rows.taken.ok.0) c.rows.invariant.counted w.bytes_with-more.ensures in
+          let test = takes-is c.args.count w.len-2.result c.rows.bytes w.bytes_with-more.result c.rows.taken.items row (w.len-2.ensures ∙ c.rows.taken.ok.0) c.rows.invariant.counted w.bytes_with-more.ensures in
           let none : takes c.args.count c.rows.taken.items row ≡ false = cc in
           filled-no_more _ _ _ _ none ∙ (rw w.in-Some.ensures.steps at c.rows.invariant.filled)
     ]
