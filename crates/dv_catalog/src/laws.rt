@@ -1,11 +1,13 @@
 //! What holds of changes, each the contract of a function that does nothing.
 
-ghost use Rattle.std.specs.Prelude.{◌≡◌, List, map};
+ghost use Rattle.std.specs.Prelude.{◌≡◌, ◌++◌, ◌∷◌, [], false, length, List, map, Ok, Err};
 ghost use Rattle.dv_bson.specs.Tree.{Field};
 ghost use Rattle.dv_catalog.specs.Changes.{Change, with_change, with_changes};
 ghost use Rattle.dv_catalog.specs.EffectView.{AreAble, BeginsWithId};
-ghost use Rattle.dv_catalog.specs.State.{AreOrdered};
+ghost use Rattle.dv_catalog.specs.State.{AreOrdered, ViewForm};
 ghost use Rattle.dv_catalog.specs.Told.{told};
+ghost use Rattle.dv_catalog.specs.Views.{reads, reads_name, reads_view, with_view};
+ghost use Rattle.dv_fields.specs.declared.refusal.Refusal.TheVariants.{LimitReached};
 ghost use Rattle.dv_views.specs.Changed.{AreMade, changed};
 
 /// Documents stay in the order of their `_id`s after a change, if a document that is put begins with its `_id`.
@@ -31,3 +33,9 @@ pub(crate) fn told_changes_are_made()
     dv_views::laws::no_change_changes_nothing();
     dv_views::laws::changes_follow_on();
 }
+
+/// There may be a thousand views.
+pub fn there_may_be_a_thousand_views()
+    ensures room { (v : ViewForm) (views : List ViewForm) → length views ≡ 999 → reads_view views v ≡ false → reads_name views v.name ≡ false → reads v v.name ≡ false → with_view v views ≡ Ok (views ++ v ∷ []) }
+    ensures full { (v : ViewForm) (views : List ViewForm) → length views ≡ 1000 → reads_view views v ≡ false → reads_name views v.name ≡ false → reads v v.name ≡ false → with_view v views ≡ Err LimitReached }
+{}

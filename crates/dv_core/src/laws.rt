@@ -1,6 +1,6 @@
 //! What holds of every step of the machine.
 
-ghost use Rattle.std.specs.Prelude.{◌≡◌, ◌≤◌, ◌↔◌, ◌⊎◌, ℕ, List, [], ◌∷◌, Some, None, Ok, Err, true, false, codes, pos, length, map, if◌then◌else◌};
+ghost use Rattle.std.specs.Prelude.{◌≡◌, ◌≤◌, ◌↔◌, ◌⊎◌, Bool, ℕ, IsSome, List, [], ◌∷◌, Some, None, Ok, Err, true, false, codes, pos, length, map, if◌then◌else◌};
 ghost use Rattle.dv_bson.specs.Names.{value_under};
 ghost use Rattle.dv_bson.specs.Spelling.{Fits};
 ghost use Rattle.dv_bson.specs.Tree.{Field, int32};
@@ -9,10 +9,11 @@ ghost use Rattle.dv_command.specs.Replies.{document_of, next_batch_reply, refusa
 ghost use Rattle.dv_command.specs.Sound.{AreValid};
 ghost use Rattle.dv_command.specs.declared.command.Command.{Command};
 ghost use Rattle.dv_fields.specs.declared.refusal.Refusal.{Refusal};
-ghost use Rattle.dv_fields.specs.declared.refusal.Refusal.TheVariants.{OnView};
+ghost use Rattle.dv_fields.specs.declared.refusal.Refusal.TheVariants.{LimitReached, OnView, TooLarge};
 ghost use Rattle.dv_core.specs.declared.outcome.Outcome.{Outcome};
 ghost use Rattle.dv_core.specs.declared.outcome.Outcome.TheVariants.{Reply, Wanting};
 ghost use Rattle.dv_core.specs.Examples as examples;
+ghost use Rattle.dv_core.specs.Find.{are_too_large, first_batch};
 ghost use Rattle.dv_core.specs.Load.{insert_alone, loaded, namespace_in};
 ghost use Rattle.dv_core.specs.Part.{IsPart};
 ghost use Rattle.dv_core.specs.Sound.{AreSoundViews, HasSpelling, IsSound, IsSoundCommand, IsSoundDocument, IsTold, ShowsValid};
@@ -20,7 +21,8 @@ ghost use Rattle.dv_catalog.specs.State.{Namespaces, IsOrdered, documents_of, is
 ghost use Rattle.dv_core.specs.State.{State, empty_state};
 ghost use Rattle.std.specs.Str.{bytes_eq};
 ghost use Rattle.dv_core.specs.Runs.{Move, Shows, carries, wants, rows_told, state_behind, state_behind_all, tells_last};
-ghost use Rattle.dv_cursor.specs.Cursors.{rows_to_come};
+ghost use Rattle.dv_cursor.specs.Batch.{behind};
+ghost use Rattle.dv_cursor.specs.Cursors.{Cursors, free_id, rows_to_come};
 ghost use Rattle.dv_catalog.specs.Scan.{scan};
 ghost use Rattle.dv_catalog.specs.State as stored;
 ghost use Rattle.dv_catalog.specs.Views.{aggregated};
@@ -224,4 +226,11 @@ pub fn refusals_by_example()
 /// What is told of want of memory, by worked examples.
 pub fn wants_by_example()
     ensures { examples.WantExamples }
+{}
+
+/// A row over the limits refuses an answer wherever it stands, also behind the first batch; the want of room for a cursor is
+/// told before it.
+pub fn each_row_is_within_the_limits()
+    ensures refused { (session count : ℕ) (single : Bool) (namespace : List ℕ) (rows : List (List Field)) (cursors : Cursors) → are_too_large rows ≡ true → IsSome (free_id cursors) → first_batch session namespace count single rows cursors ≡ Err TooLarge }
+    ensures behind { (session count : ℕ) (namespace : List ℕ) (row : List Field) (rows rest : List (List Field)) (cursors : Cursors) → behind count rows ≡ row ∷ rest → free_id cursors ≡ None → first_batch session namespace count false rows cursors ≡ Err LimitReached }
 {}

@@ -6,7 +6,7 @@ ghost use Rattle.std.specs.List.Sorted.{IsStrictlySortedBy};
 ghost use Rattle.std.specs.Ordering.{nat_cmp};
 ghost use Rattle.dv_bson.specs.Tree.{Field};
 ghost use Rattle.dv_cursor.specs.Batch.{batch, behind, takes};
-ghost use Rattle.dv_cursor.specs.Cursors.{Cursors, added, advanced, closed, cursor_behind, without_session};
+ghost use Rattle.dv_cursor.specs.Cursors.{Cursors, added, advanced, closed, cursor_behind, free_id, without_session};
 ghost use Rattle.dv_cursor.specs.Runs.{Event, IsWithin, behind_all, ids_given, is_place, joined};
 
 /// A batch and the rows behind it are the rows.
@@ -44,4 +44,11 @@ pub fn a_change_leaves_other_cursors()
     ensures ended { (session id other : ℕ) (cursors : Cursors)
         → finite.get (without_session other cursors).kept (session, id) ≡ (if session == other then None else finite.get cursors.kept (session, id)) }
     ensures next { (session id count : ℕ) (cursors : Cursors) → (advanced session id count cursors).next ≡ cursors.next }
+{}
+
+/// A thousand cursors may be open, and their ids are those of positive int64s.
+pub fn a_thousand_cursors_may_be_open()
+    ensures room { (cursors : Cursors) → finite.len cursors.kept ≡ 999 → cursors.next ≡ 9223372036854775807 → free_id cursors ≡ Some 9223372036854775807 }
+    ensures full { (cursors : Cursors) → finite.len cursors.kept ≡ 1000 → free_id cursors ≡ None }
+    ensures last { (cursors : Cursors) → cursors.next ≡ 9223372036854775808 → free_id cursors ≡ None }
 {}
