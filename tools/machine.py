@@ -105,10 +105,10 @@ class Store:
             self.collections.setdefault(place, Collection()).change(wanted, document)
 
 
-def execute(store, body, cut=None):
+def execute(store, body, cut=None, session=None):
     """Carries a command without lists beside its body out and gives its reply. A write may be cut for want of memory: at
     which statement, and behind how many of its changes."""
-    return answer_to(store, None, [(None, [body])], cut)
+    return answer_to(store, session, [(None, [body])], cut)
 
 
 def answer_to(store, session, sections, cut=None):
@@ -575,19 +575,24 @@ class Machine:
         number = form[1]
         if number is None:
             return []
-        if number not in self.sessions:
-            if self.sessions and "sessions" not in commands:
-                return None
-            self.sessions[number] = Session()
+        if number not in self.sessions and self.sessions and "sessions" not in commands:
+            return None
         return self.end(number) if form[2] else self.feed(number, bytes.fromhex(form[3].decode()))
 
+    def session(self, number):
+        """The session of this number, which is opened if it isn't open."""
+        return self.sessions.setdefault(number, Session())
+
     def end(self, number):
-        session = self.sessions.pop(number)
+        """Ends a session, and gives the line that tells of it."""
+        session = self.session(number)
+        del self.sessions[number]
         self.store.cursors.end(session)
         return [b"%s end %d" % (number, 0 if session.is_closed else len(session.stream))]
 
     def feed(self, number, data):
-        session, said = self.sessions[number], []
+        """The lines that a session is answered to its next bytes."""
+        session, said = self.session(number), []
         if session.is_closed:
             return said
         session.stream += data

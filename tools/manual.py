@@ -2,7 +2,9 @@
 """Runs the examples of docs/MANUAL.md through docd and through the model of `tools/machine.py`, and compares the replies.
 
 Needs the built program (run ./docd once). In a fenced block a line `> COMMAND` is sent, of session 0, or of another one as
-`1> COMMAND`, and the line behind it is its reply; each heading begins with an empty store.
+`1> COMMAND`, and the line behind it is its reply; each heading begins with an empty store. A line `$ WORDS` is typed in a
+shell, and the lines behind it are what is printed; each heading begins with a folder that has `docd`, `tools` and
+`examples` and nothing else.
 
     python3 tools/manual.py
 """
@@ -11,6 +13,7 @@ import os
 import re
 import subprocess
 import sys
+import tempfile
 
 import machine
 from compare import DOCD, HERE, message_of, shown
@@ -23,20 +26,51 @@ COMMAND = re.compile(r"(\d*)> (.*)")
 
 
 def sections(text):
-    """For each heading its examples: the session, the command and the reply, as texts."""
+    """For each heading its blocks, as texts."""
     for section in re.split(r"(?m)^## ", text)[1:]:
-        examples = []
-        for block in re.findall(r"(?ms)^```\n(.*?)^```", section):
-            lines = block.splitlines()
-            for command, reply in zip(lines[::2], lines[1::2], strict=True):
-                session, asked = COMMAND.fullmatch(command).groups()
-                examples.append((int(session or 0), asked, reply))
-        yield section.splitlines()[0], examples
+        yield section.splitlines()[0], re.findall(r"(?ms)^```\n(.*?)^```", section)
+
+
+def examples_of(blocks):
+    """The sessions, commands and replies of some blocks, as texts."""
+    examples = []
+    for block in blocks:
+        lines = block.splitlines()
+        for command, reply in zip(lines[::2], lines[1::2], strict=True):
+            session, asked = COMMAND.fullmatch(command).groups()
+            examples.append((int(session or 0), asked, reply))
+    return examples
+
+
+def typed_of(blocks):
+    """What is typed in some blocks, and what is printed, as texts."""
+    return [tuple(one.partition("\n")[::2]) for block in blocks for one in re.split(r"(?m)^\$ ", block)[1:]]
 
 
 def replies(output):
     """The replies among printed lines, in the notation of the examples."""
     return [shown((DOCUMENT, message_of(line)[1])) for line in output.splitlines()]
+
+
+def sent(program, examples):
+    """For each example what was sent, what is written of it, and what docd and the model say."""
+    script = b"".join(line + b"\n" for session, asked, _ in examples for line in lines_of_session(session, fields_of(asked)))
+    done = subprocess.run([program, "run", "--hex"], input=script, capture_output=True, timeout=60)
+    said, modelled = replies(done.stdout), replies(machine.run(script)[0])
+    said += ["nothing"] * (len(examples) - len(said))
+    for (_, asked, reply), by_docd, by_model in zip(examples, said, modelled, strict=True):
+        yield asked, reply, by_docd, by_model
+
+
+def typed(program, examples):
+    """For each line that is typed what is written of it, and what is printed."""
+    with tempfile.TemporaryDirectory() as folder:
+        for name, target in ("docd", program), ("tools", os.path.join(HERE, "tools")), ("examples", os.path.join(HERE, "examples")):
+            os.symlink(os.path.abspath(target), os.path.join(folder, name))
+        for words, written in examples:
+            done = subprocess.run(["sh", "-c", words], cwd=folder, stdout=subprocess.PIPE, stderr=subprocess.STDOUT, stdin=subprocess.DEVNULL,
+                                  timeout=60)
+            yield words, written, done.stdout.decode()
 
 
 def main():
@@ -49,17 +83,18 @@ def main():
     right, wrong = 0, 0
     with open(MANUAL, encoding="utf-8") as file:
         text = file.read()
-    for heading, examples in sections(text):
-        script = b"".join(line + b"\n" for session, asked, _ in examples for line in lines_of_session(session, fields_of(asked)))
-        done = subprocess.run([given.program, "run", "--hex"], input=script, capture_output=True, timeout=60)
-        said, modelled = replies(done.stdout), replies(machine.run(script)[0])
-        said += ["nothing"] * (len(examples) - len(said))
-        for (_, asked, reply), by_docd, by_model in zip(examples, said, modelled, strict=True):
-            if by_docd == by_model == reply:
+    for heading, blocks in sections(text):
+        in_shell = [block for block in blocks if block.startswith("$ ")]
+        outcomes = [*sent(given.program, examples_of(block for block in blocks if block not in in_shell)),
+                    *typed(given.program, typed_of(in_shell))]
+        for asked, written, *said in outcomes:
+            if all(one == written for one in said):
                 right += 1
                 continue
             wrong += 1
-            print("manual: %s\n  > %s\n    written: %s\n    docd:    %s\n    model:   %s" % (heading, asked, reply, by_docd, by_model))
+            print("manual: %s\n  > %s\n    written: %s" % (heading, asked, written))
+            for who, one in zip(("docd", "the model"), said):
+                print("    %s: %s" % (who, one))
     print("%d right, %d wrong" % (right, wrong))
     return 1 if wrong else 0
 

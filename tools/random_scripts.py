@@ -720,7 +720,7 @@ class Maker(Pipelines):
         flags = self.rng.choice([2, 65536, 65538, 2**31]) if self.often(0.1) else 0
         if self.often(0.003):
             flags = self.rng.choice([1, 4, 5, 2**15])
-        data = joined(self.sections(self.command()), self.rng.randint(-2**31, 2**31 - 1), flags)
+        data = self.whole(flags)
         if self.often(0.03):
             # A byte of the fields, mostly, since one in front of them closes the session.
             place = self.rng.randrange(25 if self.often(0.9) else 0, len(data) - 1)
@@ -730,6 +730,10 @@ class Maker(Pipelines):
             data += self.rng.choice([b"", b"\0", spelled([]), b"\1" + struct.pack("<i", 6) + b"x\0"])
             data = struct.pack("<i", self.rng.choice([len(data), 25, -1, 48_000_001])) + data[4:]
         return self.carried_out(data)
+
+    def whole(self, flags):
+        """A message of a command, whose bytes are as they should be."""
+        return joined(self.sections(self.command()), self.rng.randint(-2**31, 2**31 - 1), flags)
 
     def sections(self, fields):
         """The sections of a message of these fields: a list of documents may stand beside the body."""

@@ -15,6 +15,7 @@ The finds of a later session show what stands then.
 
     python3 tools/refuse_allocations.py
     python3 tools/refuse_allocations.py --commands hello,find,delete --program crates/docd/out/docd
+    python3 tools/refuse_allocations.py --scripts "index,cursor"
 """
 import argparse
 import copy
@@ -123,14 +124,28 @@ def three(*commands):
     return [Message(0, insert("c", there)), *commands, End(0), Message(1, {"find": "c", "$db": "t"}), End(1)]
 
 
-def viewed(*commands):
-    """Commands on a collection of which there are two views, and what it and they hold afterwards."""
+def find(name, session=0, **others):
+    return Message(session, {"find": name, **others, "$db": "t"})
+
+
+def under(views, *commands):
+    """Commands on two collections of which the first has these views, and what they hold afterwards."""
     there = [{"_id": place, "n": 7 - place, "tags": ["t%d" % place, "all"]} for place in range(1, 4)]
-    views = {"v": [{"$match": {"n": {"$gte": 4}}}, {"$unwind": "$tags"}, {"$project": {"tag": "$tags"}}],
-             "w": [{"$sort": {"n": 1}}, {"$limit": 2}]}
-    made = [{"create": name, "viewOn": "c", "pipeline": stages, "$db": "t"} for name, stages in views.items()]
-    finds = [Message(1, {"find": name, "$db": "t"}) for name in ("v", "w", "c", "v")]
-    return [Message(0, insert("c", there)), *(Message(0, one) for one in made), *commands, End(0), *finds, End(1)]
+    made = [Message(0, {"create": name, "viewOn": "c", "pipeline": stages, "$db": "t"}) for name, stages in views.items()]
+    finds = [find(name, 1) for name in (*views, "c", list(views)[0])]
+    return [Message(0, insert("c", there)), *made, *commands, End(0), *finds, End(1)]
+
+
+def viewed(*commands):
+    return under({"v": [{"$match": {"n": {"$gte": 4}}}, {"$unwind": "$tags"}, {"$project": {"tag": "$tags"}}],
+                  "w": [{"$sort": {"n": 1}}, {"$limit": 2}]}, *commands)
+
+
+def gathered(*commands):
+    """Commands under two views, one that groups and one that looks into another collection."""
+    return under({"v": [{"$unwind": "$tags"}, {"$group": {"_id": "$tags", "n": {"$sum": "$n"}, "all": {"$push": "$_id"}, "least": {"$min": "$n"}}}],
+                  "w": [{"$lookup": {"from": "d", "localField": "n", "foreignField": "_id", "as": "d"}}, {"$match": {"d.x": {"$exists": True}}}]},
+                 Message(0, insert("d", [{"_id": 5, "x": "five"}, {"_id": 4, "x": ["four"]}])), *commands)
 
 
 def indexed(*commands):
@@ -151,6 +166,12 @@ def update(*entries):
     return Message(0, {"update": "c", "updates": list(entries), "$db": "t"})
 
 
+def more(identity, session, **others):
+    return Message(session, {"getMore": identity, "collection": "c", **others, "$db": "t"})
+
+
+AGAIN = [Message(0, {"createIndexes": "c", "indexes": [{"key": {"tags": 1}, "name": "tags_1"}], "$db": "t"}),
+         Message(0, insert("c", [{"_id": 9, "tags": ["all", "new"]}]))]
 PING = Message(0, ping())
 NESTED = {"text": "t" * 40, "list": [1, "two", {"three": [True]}], "inner": {"a": {"b": {}}}, "_id": {"a": 1, "b": "x"}}
 MIXED = [{"_id": 1}, {"_id": 2}, {"_id": 3, "a.b": 1}, {"_id": 5, "x": ["five"]}, {"x": 6}, NESTED, {"_id": 4}]
@@ -195,17 +216,32 @@ FURTHER = {
                "two views and a delete": viewed(delete({"q": {"n": {"$gt": 4}}, "limit": 0})),
                "a collection and a view that is refused": viewed(Message(0, {"create": "d", "$db": "t"}),
                                                                  Message(0, {"create": "v", "$db": "t"}))},
-    "drop": {"two views and a drop": viewed(Message(0, {"drop": "c", "$db": "t"}), Message(0, {"drop": "w", "$db": "t"}))},
+    "drop": {"two views and a drop": viewed(Message(0, {"drop": "c", "$db": "t"}), Message(0, {"drop": "w", "$db": "t"})),
+             "a drop of what a view looks into": gathered(Message(0, {"drop": "d", "$db": "t"}), find("w"))},
     "indexes": {"an insert under indexes": indexed(Message(0, insert("c", [{"_id": 9, "n": 5, "tags": ["new", "all"]}]))),
                 "an update under indexes": indexed(update({"q": {"n": {"$gt": 4}}, "u": {"$set": {"tags": [1, "all"]}}, "multi": True})),
                 "a delete under indexes": indexed(delete({"q": {"tags": "all"}, "limit": 0})),
-                "indexes that are dropped": indexed(Message(0, {"dropIndexes": "c", "index": "*", "$db": "t"}))},
+                "indexes that are dropped": indexed(Message(0, {"dropIndexes": "c", "index": "*", "$db": "t"})),
+                "arrays in arrays under indexes": indexed(Message(0, insert("c", [{"_id": 9, "n": [[1, 2], {"a": [3]}, 1, 1], "tags": []}])),
+                                                          update({"q": {"n": 1}, "u": {"$push": {"n": {"$each": [7, [1, 2]]}}}}),
+                                                          delete({"q": {"n": [1, 2]}, "limit": 1})),
+                "an index that is dropped and made again": indexed(Message(0, {"dropIndexes": "c", "index": "tags_1", "$db": "t"}), *AGAIN),
+                "a drop of an indexed collection": indexed(Message(0, {"drop": "c", "$db": "t"}), *AGAIN)},
     "cursors": {"batches": three(Message(0, {"find": "c", "batchSize": 1, "$db": "t"}),
                                  Message(0, {"getMore": 1, "collection": "c", "batchSize": 2, "$db": "t"}),
                                  Message(0, {"getMore": 1, "collection": "c", "$db": "t"})),
                 "a cursor that is killed": three(Message(0, {"find": "c", "batchSize": 0, "$db": "t"}),
-                                                 Message(0, {"killCursors": "c", "cursors": [1, 9], "$db": "t"}))},
-    "group": {"groups": three(Message(0, {"aggregate": "c", "pipeline": [{"$unwind": "$tags"}, {"$group": {
+                                                 Message(0, {"killCursors": "c", "cursors": [1, 9], "$db": "t"})),
+                "cursors of two sessions": three(find("c", batchSize=1), find("c", 2, batchSize=2), more(1, 2), more(2, 2), more(1, 0, batchSize=1),
+                                                 Message(2, {"killCursors": "c", "cursors": [1, 2], "$db": "t"}), End(2), more(1, 0)),
+                "cursors that are left": three(find("c", 2, batchSize=1), Message(0, insert("c", [{"_id": 0}])), more(1, 2, batchSize=1), End(2),
+                                               find("c", batchSize=4), more(2, 0))},
+    "group": {"a group and a lookup under writes": gathered(
+        Message(0, insert("c", [{"_id": 9, "n": 5, "tags": ["new", "all"]}])), find("v"),
+        update({"q": {}, "u": {"$inc": {"n": -1}}, "multi": True}), find("w"),
+        Message(0, insert("d", [{"_id": 3, "x": 3}])), Message(0, {"delete": "d", "deletes": [{"q": {"_id": 5}, "limit": 1}], "$db": "t"}), find("w"),
+        delete({"q": {"tags": "t1"}, "limit": 0})),
+              "groups": three(Message(0, {"aggregate": "c", "pipeline": [{"$unwind": "$tags"}, {"$group": {
         "_id": "$tags", "n": {"$sum": "$n"}, "least": {"$min": "$in"}, "all": {"$push": "$n"}}}], "cursor": {}, "$db": "t"}))},
     "lookup": {"a lookup": three(Message(0, {"aggregate": "c", "pipeline": [{"$lookup": {
         "from": "c", "localField": "n", "foreignField": "_id", "as": "others"}}], "cursor": {}, "$db": "t"}))},
@@ -220,8 +256,8 @@ def run(program, steps, shim, number, token):
     return done.returncode, done.stdout.splitlines(), done.stderr, not os.path.exists(token)
 
 
-def without_memory(store, data):
-    """The ends that a command may come to where memory is wanting: the reply, and the store then."""
+def without_memory(store, data, session):
+    """The ends that a command of a session may come to where memory is wanting: the reply, and the store then."""
     yield refused(WANT_OF_MEMORY), store
     fields = read_document(data)
     list_name, _ = machine.WRITES.get(fields[0][0], (None, None))
@@ -229,7 +265,7 @@ def without_memory(store, data):
         for done in range(MOST_CHANGES):
             after = copy.deepcopy(store)
             try:
-                yield machine.execute(after, data, (index, done)), after
+                yield machine.execute(after, data, (index, done), session), after
             except machine.NoSuchCut:
                 break
 
@@ -242,11 +278,12 @@ def fits(steps, said, store, is_cut, may_want=True):
     if not steps:
         return not said and not is_cut
     step, rest = steps[0], steps[1:]
-    if isinstance(step, End):
-        return said[:1] == [b"%d end 0" % step.session] and fits(rest, said[1:], store, is_cut, may_want)
     after = copy.deepcopy(store)
-    reply, is_usual = machine.execute(after, body(step)), True
-    for reply, after in [(reply, after), *(without_memory(store, body(step)) if may_want else [])]:
+    if isinstance(step, End):
+        after.cursors.end(step.session)
+        return said[:1] == [b"%d end 0" % step.session] and fits(rest, said[1:], after, is_cut, may_want)
+    reply, is_usual = machine.execute(after, body(step), session=step.session), True
+    for reply, after in [(reply, after), *(without_memory(store, body(step), step.session) if may_want else [])]:
         line = [b"%d %s" % (step.session, machine.message(7, reply).hex().encode())] * (not step.flags & 2)
         # Where no reply is sent, want of memory is told by the end of the session alone.
         is_told = is_usual or not step.flags & 2
@@ -275,6 +312,7 @@ def kind(status, said, ample):
 def main():
     options = argparse.ArgumentParser(description=__doc__, formatter_class=argparse.RawDescriptionHelpFormatter)
     options.add_argument("--program", default=DOCD)
+    options.add_argument("--scripts", default="", help="words, joined by commas, of which the names of the scripts have one")
     machine.add_commands(options)
     given = options.parse_args()
     machine.commands = given.commands
@@ -289,7 +327,8 @@ def main():
         with open(os.path.join(folder, "shim.c"), "w") as source:
             source.write(SHIM)
         subprocess.run(["cc", "-shared", "-fPIC", "-O1", "-o", shim, source.name, "-ldl"], check=True)
-        for name, steps in scripts.items():
+        words = given.scripts.split(",")
+        for name, steps in ((name, steps) for name, steps in scripts.items() if any(word in name for word in words)):
             status, ample, _, _ = run(given.program, steps, shim, 0, token)
             assert status == 0 and fits(steps, ample, machine.Store(), False, may_want=False), name
             number, seen = 1, Counter()

@@ -47,8 +47,9 @@ def sections_of(data):
             continue
         wanted(kind == LIST and at + 5 <= len(data))
         start, end = at + 5, at + 1 + int32(data, at + 1)
+        wanted(start < end <= len(data))
         zero = data.find(0, start, end)
-        wanted(end <= len(data) and zero >= 0)
+        wanted(zero >= 0)
         documents, at = framed(data, zero + 1, end)
         sections.append((identifier(data[start:zero]), documents))
     names = [name for name, _ in sections]
