@@ -57,9 +57,12 @@ def show(head, documents):
 
 
 def main():
-    if len(sys.argv) != 2:
-        sys.exit("client: the word to give is the port")
-    stall = Stall(int(sys.argv[1]))
+    if len(sys.argv) != 2 or not sys.argv[1].isdigit():
+        sys.exit("client: the word to give is the port, a number")
+    try:
+        stall = Stall(int(sys.argv[1]))
+    except OSError as error:
+        sys.exit("client: nothing serves at port %s: %s" % (sys.argv[1], error))
     stall.drop("spent", "orders")
     stall.ask(insert="orders", documents=ORDERS)
     stall.ask(createIndexes="orders", indexes=[{"key": {"customer": 1}, "name": "customer_1"}])
