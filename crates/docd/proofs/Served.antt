@@ -1,5 +1,6 @@
 -- Connections that are served one after the other.
-use Rattle.std.proofs.Common.{◌≡◌, ℕ, ◌+◌, ◌<◌, ◌≤◌, List, [], ◌∷◌, ◌++◌, ◌∙◌, Option, Some, None, Result, Ok, Err, refl, sym, ap, subst, length, length-append, arith, append_assoc, append-nil}
+use Rattle.std.proofs.Common.{◌≡◌, ℕ, ◌+◌, ◌<◌, ◌≤◌, List, [], ◌∷◌, ◌++◌, ◌∙◌, Option, Result, refl, sym, ap, subst, length, length-append, arith, append_assoc, append-nil}
+use Rattle.std.proofs.KnownBytes.{Appends-nil, Appends-trans}
 use Rattle.std.specs.Io.KnownBytes.{Appends}
 use Rattle.dv_wire.specs.Schedule.{World}
 use Rattle.dv_wire.specs.Service.{ComesTo}
@@ -14,25 +15,15 @@ pub record ServedSoFar (connections count : ℕ) (coming_old coming_now : Option
   pub appended : Appends taken_old taken_now text
   pub within : count ≤ connections
 
-appends_nothing : (known : Option (List ℕ)) → Appends known known []
-appends_nothing None = tt
-appends_nothing (Some xs) = sym (append-nil xs)
-
 pub none_served : (connections : ℕ) (coming : Option (List (List ℕ))) (old : World) (taken : Option (List ℕ)) → ServedSoFar connections 0 coming coming old old taken taken
 none_served connections coming old taken = record {
   text = [];
   served = record { connections = []; counted = refl; come = refl; each = (refl, refl) };
-  appended = appends_nothing taken;
+  appended = Appends-nil taken;
   within = omega arith;
 }
 
 -- ---- one connection more
-
-appends_twice : (old mid new : Option (List ℕ)) (one two : List ℕ) → Appends old mid one → Appends mid new two → Appends old new (one ++ two)
-appends_twice None mid new one two first second = tt
-appends_twice (Some xs) None new one two first second = absurd first
-appends_twice (Some xs) (Some ys) None one two first second = absurd second
-appends_twice (Some xs) (Some ys) (Some zs) one two first second = second ∙ ap (λ (bytes : List ℕ). bytes ++ two) first ∙ append_assoc xs one two
 
 Come-more : (old mid new : Option (List (List ℕ))) (connections : List (Option (List ℕ))) (known : Option (List ℕ)) → Come old connections mid → Accepts mid known new → Come old (connections ++ known ∷ []) new
 Come-more old mid new [] known come accepts = (new, subst (λ c. Accepts c known new) come accepts, refl)
@@ -71,7 +62,7 @@ pub more_served : (connections count : ℕ) (coming_old coming_mid coming_new : 
 more_served connections count coming_old coming_mid coming_new known old mid new taken_old taken_mid taken_new told so_far accepts this written within = record {
   text = so_far.text ++ connection_line (count + 1) told;
   served = one_served count coming_old coming_mid coming_new known old mid new so_far.text told so_far.served accepts this;
-  appended = appends_twice taken_old taken_mid taken_new so_far.text (connection_line (count + 1) told) so_far.appended written;
+  appended = Appends-trans taken_old taken_mid taken_new so_far.text (connection_line (count + 1) told) so_far.appended written;
   within = within;
 }
 

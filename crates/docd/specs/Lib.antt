@@ -6,4 +6,5 @@ pub mod Output
 pub mod Reading
 pub mod Script
 pub mod Serve
+pub mod Streams
 pub mod Words

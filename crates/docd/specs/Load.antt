@@ -4,6 +4,7 @@ use Rattle.dv_bson.specs.Tree.{Field}
 use Rattle.dv_bson.specs.Reading.{first_fault}
 use Rattle.dv_core.specs.Load.{IsCodeOf, loaded}
 use Rattle.dv_core.specs.State.{State}
+use Rattle.dv_wire.specs.Stream.{once_more}
 use Rattle.docd.specs.File.{Begins, Holds}
 use Rattle.docd.specs.declared.file.FileFault.{FileFault}
 use Rattle.docd.specs.declared.file.FileFault.TheVariants as file
@@ -15,6 +16,15 @@ abbrev pub read_fault : FileFault → LoadFault
 read_fault file.Read = Read
 read_fault file.TooLarge = TooLarge
 read_fault file.NoMemory = NoMemory
+
+-- how often a reader has failed, behind a load: once more where that is told, and else as before
+abbrev pub failures_read_in : {A : Type 0} → Result A LoadFault → ℕ → ℕ
+failures_read_in (Ok done) failures = failures
+failures_read_in (Err Read) failures = once_more failures
+failures_read_in (Err TooLarge) failures = failures
+failures_read_in (Err (Document number at fault)) failures = failures
+failures_read_in (Err (Refused number at code)) failures = failures
+failures_read_in (Err NoMemory) failures = failures
 
 -- documents are loaded under a namespace, one after the other, and this is left
 abbrev pub LoadsEach : List ℕ → List (List Field) → State → State → Type 0

@@ -7,6 +7,9 @@ use Rattle.dv_wire.specs.Service.{ComesTo}
 use Rattle.dv_wire.specs.declared.fault.CloseFault.{CloseFault}
 use Rattle.dv_wire.specs.declared.fault.RunFault.{RunFault}
 use Rattle.dv_wire.specs.declared.service.Done.{Done}
+use Rattle.dv_wire.specs.Stream.{once_more}
+use Rattle.docd.specs.declared.serve.ServeFault.{ServeFault}
+use Rattle.docd.specs.declared.serve.ServeFault.TheVariants.{Accept, Write}
 
 -- ---- lines
 
@@ -53,3 +56,15 @@ pub record Served (count : ℕ) (coming_old coming_new : Option (List (List ℕ)
   pub counted : length connections ≡ count
   pub come : Come coming_old connections coming_new
   pub each : ServesEach 1 connections old text new
+
+-- how often a port has failed, behind so many connections: once more where that is told, and else as before
+abbrev pub failures_accepted_in : {A : Type 0} → Result A ServeFault → ℕ → ℕ
+failures_accepted_in (Ok done) failures = failures
+failures_accepted_in (Err Accept) failures = once_more failures
+failures_accepted_in (Err Write) failures = failures
+
+-- and a writer
+abbrev pub failures_written_in : {A : Type 0} → Result A ServeFault → ℕ → ℕ
+failures_written_in (Ok done) failures = failures
+failures_written_in (Err Accept) failures = failures
+failures_written_in (Err Write) failures = once_more failures

@@ -1,16 +1,19 @@
 //! Checking a file of documents.
 
-ghost use Rattle.std.specs.Prelude.{◌≡◌, ◌≢◌, ◌⊎◌, ◌≤◌, ℕ, List, Ok, Err, Some, length, IfErr, IfOk, IfSome, OnOk};
+ghost use Rattle.std.specs.Prelude.{◌≡◌, ◌≢◌, ◌⊎◌, ◌<◌, ◌≤◌, ℕ, List, Ok, Err, Some, length, IfErr, IfOk, IfSome, OnOk};
 ghost use Rattle.std.specs.Io.KnownBytes.{Appends, Keeps};
 ghost use Rattle.dv_bson.specs.Tree.{Field};
+ghost use Rattle.docd.specs.Check.{failures_read_in, failures_written_in};
 ghost use Rattle.docd.specs.File.{FirstFault, Holds, ok_line};
+ghost use Rattle.docd.specs.Streams.{failures_behind};
 ghost use Rattle.dv_bson.specs.declared.fault.BsonFault.{BsonFault};
 
-use crate::file::{FileFault, first_document, read_file};
+use crate::file::{FileFault, behind_document, read_file};
+use crate::streams::TextOut;
 use dv_bson::BsonFault;
 use dv_bson::laws::what_a_field_adds;
-use std::alloc::{AllocError, Global};
-use std::io::{Read, Write};
+use dv_wire::{ByteIn, Failed};
+use std::alloc::Global;
 
 /// Why a file is not `ok`.
 #[derive(Clone, Copy, Debug, PartialEq, Eq)]
@@ -38,22 +41,14 @@ impl CheckFault {
     fn of_document(number: usize, at: usize, fault: BsonFault) -> CheckFault
         ensures memory { fault ≡ BsonFault.NoMemory → result ≡ CheckFault.NoMemory }
         ensures other { fault ≢ BsonFault.NoMemory → result ≡ CheckFault.Document number at fault }
+        ensures streams { (n : ℕ) → (failures_read_in {A = ℕ} (Err result) n ≡ n) × (failures_written_in {A = ℕ} (Err result) n ≡ n) }
+        ensures small { result ≢ CheckFault.TooLarge }
         ensures told { (n a : ℕ) (f : BsonFault) → result ≡ CheckFault.Document n a f → (n ≡ number) × (a ≡ at) × (f ≡ fault) }
     {
         match fault {
             BsonFault::NoMemory => CheckFault::NoMemory,
             _ => CheckFault::Document { number, at, fault },
         }
-    }
-}
-
-impl From<AllocError> for CheckFault {
-    ghost use Rattle.docd.specs.declared.check.CheckFault.TheVariants.{NoMemory};
-
-    ghost from_gives = { λ _ e. e ≡ NoMemory };
-
-    fn from(_e: AllocError) -> CheckFault {
-        CheckFault::NoMemory
     }
 }
 
@@ -73,7 +68,7 @@ impl From<FileFault> for CheckFault {
 
 /// Writes `ok N` as a line, where the file is N documents that fit, one behind the other. Otherwise nothing is written, and
 /// the fault is that of the first document that has one. The file is read to its end before its documents are.
-pub fn check<R: Read, W: Write>(
+pub fn check<R: ByteIn, W: TextOut>(
     alloc: Global,
     reader: &mut R,
     writer: &mut W,
@@ -84,15 +79,23 @@ pub fn check<R: Read, W: Write>(
         → IfErr result (λ e. (e ≡ CheckFault.Read) ⊎ (e ≡ CheckFault.Write) ⊎ (e ≡ CheckFault.NoMemory))) }
     ensures refused { (number at : ℕ) (fault : BsonFault) → result ≡ Err (CheckFault.Document number at fault)
         → IfSome (R.remaining reader.old) (λ file. FirstFault file number at fault) }
+    ensures large { result ≡ Err CheckFault.TooLarge → IfSome (R.remaining reader.old) (λ file. 1073741824 < length file) }
     ensures unwritten { IfErr result (λ e. (e ≡ CheckFault.Write) ⊎ Keeps (W.contents writer.old) (W.contents writer.new)) }
+    ensures reader { R.failures reader.new ≡ failures_read_in result (R.failures reader.old) }
+    ensures writer { W.failures writer.new ≡ failures_written_in result (W.failures writer.old) }
 {
     let bytes = read_file(alloc, reader)?;
     let count = count(alloc, bytes.as_slice())?;
-    let text = format!(in alloc; "ok {count}\n")?;
-    writer
-        .write_all(text.as_bytes())
-        .map_err(|_| CheckFault::Write)?;
-    writer.flush().map_err(|_| CheckFault::Write)
+    tell(writer, count).map_err(|_| CheckFault::Write)
+}
+
+// Writes that a file is so many documents, and flushes it.
+fn tell<W: TextOut>(writer: &mut W, count: usize) -> Result<(), Failed>
+    ensures told { OnOk result (Appends (W.contents writer.old) (W.contents writer.new) (ok_line count)) }
+    ensures failures { W.failures writer.new ≡ failures_behind result (W.failures writer.old) }
+{
+    write!(writer, "ok {count}\n")?;
+    writer.flush()
 }
 
 // How many documents the bytes are.
@@ -100,13 +103,15 @@ fn count(alloc: Global, bytes: &[u8]) -> Result<usize, CheckFault>
     ensures counted { IfOk result (λ n. (documents : List (List Field)) × Holds documents bytes.now × (n ≡ length documents)) }
     ensures only { (documents : List (List Field)) → Holds documents bytes.now → (result ≡ Ok (length documents)) ⊎ (result ≡ Err CheckFault.NoMemory) }
     ensures refused { (number at : ℕ) (fault : BsonFault) → result ≡ Err (CheckFault.Document number at fault) → FirstFault bytes.now number at fault }
+    ensures streams { (n : ℕ) → (failures_read_in result n ≡ n) × (failures_written_in result n ≡ n) }
+    ensures small { result ≢ Err CheckFault.TooLarge }
 {
     what_a_field_adds();
     let mut count = 0;
     let mut rest = bytes;
     'documents: while !rest.is_empty() {
-        rest = match first_document(alloc, rest) {
-            Ok((_, behind)) => behind,
+        rest = match behind_document(alloc, rest) {
+            Ok(behind) => behind,
             Err(fault) => {
                 let at = bytes.len() - rest.len();
                 return Err(CheckFault::of_document(count + 1, at, fault));

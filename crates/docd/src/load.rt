@@ -1,18 +1,17 @@
 //! Loading a file of documents into a store.
 
-ghost use Rattle.std.specs.Prelude.{◌≡◌, ◌≢◌, ◌⊎◌, ℕ, List, Ok, pos, IfErr, IfOk, IfSome, OnErr};
+ghost use Rattle.std.specs.Prelude.{◌≡◌, ◌≢◌, ◌⊎◌, ℕ, List, Ok, Err, pos, IfErr, IfOk, IfSome, OnErr};
 ghost use Rattle.dv_bson.specs.declared.fault.BsonFault.{BsonFault};
 ghost use Rattle.dv_bson.specs.Tree.{Field};
 ghost use Rattle.dv_core.specs.Load.{loaded};
 ghost use Rattle.docd.specs.File.{Begins};
-ghost use Rattle.docd.specs.Load.{IsWhy, LoadsFile};
+ghost use Rattle.docd.specs.Load.{IsWhy, LoadsFile, failures_read_in};
 
 use crate::file::{FileFault, first_document, read_file};
 use dv_bson::BsonFault;
 use dv_bson::laws::what_a_field_adds;
-use dv_wire::Store;
+use dv_wire::{ByteIn, Store};
 use std::alloc::Global;
-use std::io::Read;
 
 /// The code of a document that is refused for want of memory.
 const WANT_OF_MEMORY: i32 = 900;
@@ -50,6 +49,7 @@ impl LoadFault {
     fn of_document(number: usize, at: usize, fault: BsonFault) -> LoadFault
         ensures memory { fault ≡ BsonFault.NoMemory → result ≡ LoadFault.NoMemory }
         ensures other { fault ≢ BsonFault.NoMemory → result ≡ LoadFault.Document number at fault }
+        ensures reader { (n : ℕ) → failures_read_in {A = ℕ} (Err result) n ≡ n }
     {
         match fault {
             BsonFault::NoMemory => LoadFault::NoMemory,
@@ -61,6 +61,7 @@ impl LoadFault {
     fn of_code(number: usize, at: usize, code: i32) -> LoadFault
         ensures memory { code ≡ pos 900 → result ≡ LoadFault.NoMemory }
         ensures either { (result ≡ LoadFault.NoMemory) ⊎ ((result ≡ LoadFault.Refused number at code) × (code ≢ pos 900)) }
+        ensures reader { (n : ℕ) → failures_read_in {A = ℕ} (Err result) n ≡ n }
     {
         if code == WANT_OF_MEMORY {
             LoadFault::NoMemory
@@ -87,13 +88,14 @@ impl From<FileFault> for LoadFault {
 /// Loads the documents of a file, which stand one behind the other, under a namespace: each as an insert of it alone, in
 /// order. The first fault ends it, and the documents in front of it stand. The file is read to its end first, so where
 /// the reader fails and where the file is too large the store is as it was.
-pub fn load_file<R: Read>(
+pub fn load_file<R: ByteIn>(
     alloc: Global,
     store: &mut Store,
     namespace: &str,
     reader: &mut R,
 ) -> Result<(), LoadFault>
-    ensures { (file : List ℕ) × IfSome (R.remaining reader.old) (λ known. file ≡ known) × LoadsFile file namespace.now store.old result store.new }
+    ensures loads { (file : List ℕ) × IfSome (R.remaining reader.old) (λ known. file ≡ known) × LoadsFile file namespace.now store.old result store.new }
+    ensures reader { R.failures reader.new ≡ failures_read_in result (R.failures reader.old) }
 {
     let bytes = read_file(alloc, reader)?;
     load_documents(alloc, store, namespace, bytes.as_slice())
@@ -106,7 +108,8 @@ fn load_documents(
     namespace: &str,
     bytes: &[u8],
 ) -> Result<(), LoadFault>
-    ensures { LoadsFile bytes.now namespace.now store.old result store.new }
+    ensures loads { LoadsFile bytes.now namespace.now store.old result store.new }
+    ensures reader { (n : ℕ) → failures_read_in result n ≡ n }
 {
     what_a_field_adds();
     let mut number = 1;
@@ -133,6 +136,7 @@ fn load_first<'a>(
     ensures loaded { IfOk result (λ behind. (document : List Field) × Begins bytes.now document behind.now × (loaded namespace.now document store.old ≡ Ok store.new)) }
     ensures kept { OnErr result (store.new ≡ store.old) }
     ensures why { IfErr result (λ fault. IsWhy fault namespace.now store.old bytes.now number at) }
+    ensures reader { (n : ℕ) → failures_read_in result n ≡ n }
 {
     match first_document(alloc, bytes) {
         Ok((document, behind)) => match store.load(namespace, document) {

@@ -21,12 +21,12 @@ use dv_wire::{Hub, Store};
 use fault::{DocdFault, status};
 use load::load_file;
 use serve::{Port, serve_on};
-use std::io::{BufWriter, ErrorKind, Write};
+use std::io::{BufWriter, ErrorKind};
 use std::net::{Ipv4Addr, Net, SocketAddr, SocketAddrV4, TcpListener, TcpStream};
 use std::process::ExitCode;
 use std::rt::{Env, Files};
 use std::{env, fs, io};
-use streams::{CountedReader, CountedWriter};
+use streams::{CountedReader, CountedWriter, TextOut};
 use words::{Job, Load};
 
 fn main(rt: HostRuntime) -> ExitCode {
@@ -90,8 +90,9 @@ where
     let alloc = rt.alloc();
     let address = SocketAddr::V4(SocketAddrV4::new(Ipv4Addr::LOCALHOST, port));
     let listener = TcpListener::bind(rt, address).map_err(|_| DocdFault::Serve)?;
-    let mut writer = BufWriter::new(alloc, io::writer(rt)).map_err(|_| DocdFault::NoMemory)?;
-    writeln!(writer, "serving {address}").map_err(|_| DocdFault::Write)?;
+    let writer = BufWriter::new(alloc, io::writer(rt)).map_err(|_| DocdFault::NoMemory)?;
+    let mut writer = CountedWriter::of(writer);
+    write!(writer, "serving {address}\n").map_err(|_| DocdFault::Write)?;
     writer.flush().map_err(|_| DocdFault::Write)?;
     let mut hub = Hub::new(alloc, Store::new(alloc));
     serve_on(
@@ -110,7 +111,7 @@ fn loaded<R: Files + AllocGlobal>(rt: &R, loads: Vec<Load>) -> Result<Store, Doc
     let mut store = Store::new(alloc);
     for Load { namespace, file } in loads {
         let mut reader = match fs::open(rt, &file) {
-            Ok(reader) => reader,
+            Ok(reader) => CountedReader::of(reader),
             Err(_) => return Err(DocdFault::CannotRead { file }),
         };
         load_file(alloc, &mut store, &namespace, &mut reader).map_err(|fault| DocdFault::of_load(
@@ -123,9 +124,10 @@ fn loaded<R: Files + AllocGlobal>(rt: &R, loads: Vec<Load>) -> Result<Store, Doc
 // Tells how many documents a file holds.
 fn check_file<R: Files + Print + AllocGlobal>(rt: &R, file: String) -> Result<(), DocdFault> {
     let alloc = rt.alloc();
-    let mut writer = BufWriter::new(alloc, io::writer(rt)).map_err(|_| DocdFault::NoMemory)?;
+    let writer = BufWriter::new(alloc, io::writer(rt)).map_err(|_| DocdFault::NoMemory)?;
+    let mut writer = CountedWriter::of(writer);
     let mut reader = match fs::open(rt, &file) {
-        Ok(reader) => reader,
+        Ok(reader) => CountedReader::of(reader),
         Err(_) => return Err(DocdFault::CannotRead { file }),
     };
     check::check(alloc, &mut reader, &mut writer).map_err(|fault| DocdFault::of_check(file, fault))

@@ -9,6 +9,7 @@ use crate::line::{LONGEST_LINE, line};
 use crate::output::{end_text, fed_text};
 use crate::said::{Line, LineFault};
 use crate::sessions::{Session, Sessions};
+use crate::streams::piece;
 use dv_wire::{Fed, Hub, HubFault};
 use std::alloc::{AllocError, Global};
 use std::io::{Read, Write};
@@ -16,9 +17,6 @@ use thiserror::Error;
 
 /// The most reads that a script takes.
 const MOST_READS: u64 = 4_294_967_296;
-
-/// The most bytes that one read takes.
-const PIECE: usize = 65_536;
 
 /// Why a script ends before its last line.
 #[derive(Clone, Copy, Debug, PartialEq, Eq, Error)]
@@ -121,7 +119,7 @@ impl Progress {
             × Appends (W.contents writer.old) (W.contents writer.new) said
             × Runs (standing_of self.old.sessions hub.old) text said (standing_of self.new.sessions hub.new))) }
     {
-        let mut piece = room(self.alloc)?;
+        let mut piece = piece(self.alloc)?;
         'reads: for _ in 0..MOST_READS {
             // The next read may wait for someone who waits for these replies.
             flush(writer)?;
@@ -284,11 +282,4 @@ fn line_end(bytes: &[u8]) -> Option<(&[u8], &[u8])>
 {
     let at = bytes.iter().position(|byte| *byte == b'\n')?;
     Some((&bytes[..at], &bytes[at + 1..]))
-}
-
-// Room for one read's bytes. Apart, so that no proof spells all of them out.
-fn room(alloc: Global) -> Result<Vec<u8>, AllocError>
-    ensures { IfOk result (λ piece. 0 < length piece.items) }
-{
-    vec![in alloc; 0u8; PIECE]
 }

@@ -2,13 +2,13 @@
 
 ghost use Rattle.std.specs.Prelude.{◌≡◌, ◌<◌, ◌≤◌, ℕ, List, Option, Err, IfErr, IfOk, OnErr, OnOk};
 ghost use Rattle.std.specs.Io.KnownBytes.{Appends};
-ghost use Rattle.docd.specs.Serve.{Accepts, HasSession, Served, connection_line};
+ghost use Rattle.docd.specs.Serve.{Accepts, HasSession, Served, connection_line, failures_accepted_in, failures_written_in};
+ghost use Rattle.docd.specs.Streams.{failures_behind};
 
-use crate::streams::{CountedReader, CountedWriter};
+use crate::streams::{CountedReader, CountedWriter, TextOut, counted};
 use dv_wire::{ByteIn, ByteOut, Done, Failed, Hub, RunFault, run};
 use std::alloc::Global;
 use std::io;
-use std::io::Write;
 use std::net::{TcpListener, TcpStream};
 
 /// Why serving ends before the last connection.
@@ -24,6 +24,7 @@ pub enum ServeFault {
 pub trait Listener {
     ghost use Rattle.std.specs.Prelude.{◌≡◌, ℕ, List, Option, IfOk, OnErr};
     ghost use Rattle.docd.specs.Serve.{Accepts};
+    ghost use Rattle.docd.specs.Streams.{failures_behind};
 
     /// Where a connection's bytes come from.
     type Input: ByteIn + Drop;
@@ -34,21 +35,29 @@ pub trait Listener {
     // The bytes of each connection that is still to come, where they are known.
     ghost coming: { Self → Option (List (List ℕ)) };
 
+    // How often it has failed, as 64 bits count it.
+    ghost failures: { Self → ℕ };
+
     /// Waits for the next connection.
     fn accept(&mut self) -> Result<(Self::Input, Self::Output), Failed>
         ensures next { IfOk result (λ connection. Accepts (coming self.old) (Self.Input.remaining connection.0) (coming self.new)) }
-        ensures kept { OnErr result (coming self.new ≡ coming self.old) };
+        ensures kept { OnErr result (coming self.new ≡ coming self.old) }
+        ensures failures { failures self.new ≡ failures_behind result (failures self.old) };
 }
 
 /// A port of this machine. Which bytes come from it isn't known.
 #[derive(Drop)]
 pub struct Port {
     listener: TcpListener,
+    failures: u64,
 }
 
 impl Port {
     pub fn of(listener: TcpListener) -> Self {
-        Port { listener }
+        Port {
+            listener,
+            failures: 0,
+        }
     }
 }
 
@@ -61,13 +70,22 @@ impl Listener for Port {
 
     ghost coming = { λ _. None };
 
+    ghost failures = { λ s. s.failures };
+
     fn accept(&mut self) -> Result<(Self::Input, Self::Output), Failed> {
-        let (stream, _) = self.listener.accept().map_err(|_| Failed)?;
-        // A small reply goes out at once. A stream that can't do so is as good otherwise.
-        let _ = stream.set_nodelay(true);
-        let writer = stream.try_clone().map_err(|_| Failed)?;
-        Ok((CountedReader::of(stream), CountedWriter::of(writer)))
+        counted(connection(&self.listener), &mut self.failures)
     }
+}
+
+// The two sides of the next connection.
+fn connection(
+    listener: &TcpListener,
+) -> io::Result<(CountedReader<TcpStream>, CountedWriter<TcpStream>)> {
+    let (stream, _) = listener.accept()?;
+    // A small reply goes out at once. A stream that can't do so is as good otherwise.
+    let _ = stream.set_nodelay(true);
+    let writer = stream.try_clone()?;
+    Ok((CountedReader::of(stream), CountedWriter::of(writer)))
 }
 
 /// Serves so many connections, one after the other, each by a session of the hub from its first byte to its last. Behind
@@ -76,8 +94,8 @@ impl Listener for Port {
 /// or no session was had. Then it is closed, and the next one is served.
 ///
 /// Fails with `Accept` where no connection is had and with `Write` where the writer fails. What was served stands.
-#[tactic(auto, using(crate::proofs::Served::none_served, crate::proofs::Served::more_served, crate::proofs::Served::all_served, crate::proofs::Served::none_accepted, crate::proofs::Served::not_written))]
-pub fn serve_on<L: Listener, W: Write>(
+#[tactic(auto, using(crate::proofs::Served::all_served, crate::proofs::Served::none_accepted))]
+pub fn serve_on<L: Listener, W: TextOut>(
     alloc: Global,
     hub: &mut Hub,
     listener: &mut L,
@@ -90,6 +108,8 @@ pub fn serve_on<L: Listener, W: Write>(
         × Served count (L.coming listener.old) (L.coming listener.new) hub.old text hub.new × Appends (W.contents writer.old) (W.contents writer.new) text }
     ensures write { result ≡ Err ServeFault.Write → (count : ℕ) × (text : List ℕ) × (count ≤ connections)
         × Served count (L.coming listener.old) (L.coming listener.new) hub.old text hub.new }
+    ensures listener { L.failures listener.new ≡ failures_accepted_in result (L.failures listener.old) }
+    ensures writer { W.failures writer.new ≡ failures_written_in result (W.failures writer.old) }
 {
     let mut number = 0;
     'connections: while number < connections {
@@ -111,30 +131,33 @@ fn serve_next<L: Listener>(
         × HasSession known hub.old told hub.new) }
     ensures none { OnErr result ((hub.new ≡ hub.old) × (L.coming listener.new ≡ L.coming listener.old)) }
     ensures fault { IfErr result (λ fault. fault ≡ ServeFault.Accept) }
+    ensures failures { L.failures listener.new ≡ failures_behind result (L.failures listener.old) }
 {
     let (mut input, mut output) = listener.accept().map_err(|_| ServeFault::Accept)?;
     Ok(run(alloc, hub, &mut input, &mut output))
 }
 
 // Writes how a connection ended, and flushes it.
-fn tell<W: Write>(
+fn tell<W: TextOut>(
     writer: &mut W,
     number: u32,
     told: Result<Done, RunFault>,
 ) -> Result<(), ServeFault>
     ensures ok { OnOk result (Appends (W.contents writer.old) (W.contents writer.new) (connection_line number told)) }
     ensures fault { IfErr result (λ fault. fault ≡ ServeFault.Write) }
+    ensures failures { W.failures writer.new ≡ failures_behind result (W.failures writer.old) }
 {
     write_ending(writer, number, told).map_err(|_| ServeFault::Write)?;
     writer.flush().map_err(|_| ServeFault::Write)
 }
 
-fn write_ending<W: Write>(
+fn write_ending<W: TextOut>(
     writer: &mut W,
     number: u32,
     told: Result<Done, RunFault>,
-) -> io::Result<()>
-    ensures { OnOk result (Appends (W.contents writer.old) (W.contents writer.new) (connection_line number told)) }
+) -> Result<(), Failed>
+    ensures told { OnOk result (Appends (W.contents writer.old) (W.contents writer.new) (connection_line number told)) }
+    ensures failures { W.failures writer.new ≡ failures_behind result (W.failures writer.old) }
 {
     match told {
         Ok(done) => match done.closing {

@@ -1,11 +1,16 @@
 -- Documents that are updated.
-use Rattle.std.proofs.Common.{◌≡◌, ℕ, Bool, true, false, cond, not, List, [], ◌∷◌, length, map, Option, Some, None, is_some, if◌then◌else◌, Result, Ok, refl, sym, ap, subst, ◌∙◌}
-use Rattle.dv_bson.specs.Tree.{Field}
+use Rattle.std.proofs.Common.{◌≡◌, ℕ, Bool, true, false, cond, not, List, [], ◌∷◌, length, map, Option, Some, None, is_some, if◌then◌else◌, Result, Ok, Err, refl, sym, ap, subst, ◌∙◌}
+use Rattle.std.specs.Prelude.{codes, filter, take}
+use Rattle.std.specs.Str.{bytes_eq}
+use Rattle.dv_bson.specs.Tree.{Field, fields_of}
 use Rattle.std.specs.List.{AllByRecursion}
 use Rattle.std.specs.Option.{option_map}
 use Rattle.dv_order.specs.Key.{KeyTree}
-use Rattle.dv_coll.specs.Collection.{HasId, found, has_key, id_key, inserted, replaced}
-use Rattle.dv_catalog.specs.EffectView.{ArePlaced}
+use Rattle.dv_coll.specs.Collection.{AreStanding, HasId, IsAscending, found, has_key, id_key, inserted, replaced}
+use Rattle.dv_match.specs.Match.{matches}
+use Rattle.dv_update.specs.Same.{same_fields}
+use Rattle.dv_catalog.specs.declared.effect.Updated.{Updated}
+use Rattle.dv_catalog.specs.EffectView.{ArePlaced, AreUpdatesOf, after_of}
 use Rattle.dv_catalog.proofs.Keys.{AreThere, all_there}
 use Rattle.dv_update.specs.Update as form
 use Rattle.dv_command.specs.Entries.{Updating}
@@ -14,7 +19,7 @@ use Rattle.dv_fields.specs.declared.refusal.Refusal.{Refusal}
 use Rattle.dv_catalog.specs.Changes.{Change, put, Effect}
 use Rattle.dv_catalog.specs.Effects.{all_or_first}
 use Rattle.dv_catalog.specs.Scan.{matching}
-use Rattle.dv_catalog.specs.Effects.{changed_by, update_chosen}
+use Rattle.dv_catalog.specs.Effects.{after, changed_by, changes, differs, update_chosen}
 use Rattle.dv_catalog.specs.EffectLaws.{KeepsId, IsGoodAfter, chosen_good, matching_good, all_changed_good, after_id}
 
 none_chosen : (first : Bool) → all_or_first first [] ≡ []
@@ -84,3 +89,60 @@ updates_placed still law updating old ds changed finds all does =
     let ids : AllByRecursion HasId ds = subst (AllByRecursion HasId) (sym finds) (chosen_good HasId (not updating.multi) rows (matching_good HasId updating.filter old all)) in
     let both = both_placed old changed (all_changed_good (IsPlaced old) updating.update ds changed does (afters_placed law updating.update old ds ids there)) in
     puts_placed still old changed both.0 both.1
+
+-- ---- what is updated stands where it stood
+
+abbrev pub Others : Type 0
+Others = (d e : List Field) (ds those : List (List Field)) → AreStanding ds (e ∷ those) → id_key d ≡ id_key e → AreStanding (replaced d ds) those
+
+-- after one is put, the others stand still
+pub next_updates : Others → (documents : List (List Field)) (name : List ℕ) (u : Updated) (left : List Updated) → AreUpdatesOf documents name (u ∷ left) → AreUpdatesOf (replaced (after_of name u) documents) name left
+next_updates law documents name u left are =
+    let first : id_key (after_of name u) ≡ id_key u.before = cc (are.same_ids) in
+    record {
+      standing = law (after_of name u) u.before documents (map (λ x. x.before) left) are.standing first;
+      same_ids = cc (are.same_ids);
+      no_id = are.no_id;
+    }
+
+-- the documents that an update changes keep their `_id`s
+ids-kept : KeepsId → (update : form.Update) (d : List Field) (ds : List (List Field)) (first : Result (List Field) Refusal) (rest : Result (List (List Field)) Refusal) (changed : List (List Field))
+    → ((e : List Field) → first ≡ Ok e → id_key e ≡ id_key d) → ((es : List (List Field)) → rest ≡ Ok es → map id_key es ≡ map id_key (filter (changes update) ds))
+    → (first >>= λ e. rest >>= λ es. Ok (if same_fields (fields_of d) (fields_of e) then es else e ∷ es)) ≡ Ok changed
+    → map id_key changed ≡ map id_key (if differs d first then d ∷ filter (changes update) ds else filter (changes update) ds)
+ids-kept law update d ds (Ok e) (Ok es) changed same others is =
+    by (same_fields (fields_of d) (fields_of e)) is (same e refl) (others es refl)
+  where
+    by : (b : Bool) → (let r : Result (List (List Field)) Refusal = Ok (if b then es else e ∷ es) in r) ≡ Ok changed → id_key e ≡ id_key d → map id_key es ≡ map id_key (filter (changes update) ds)
+        → map id_key changed ≡ map id_key (if not b then d ∷ filter (changes update) ds else filter (changes update) ds)
+    by true all here rest = let whole : es ≡ changed = cc in ap (map id_key) (sym whole) ∙ rest
+    by false all here rest = let whole : e ∷ es ≡ changed = cc in ap (map id_key) (sym whole) ∙ (λ i. here i ∷ rest i)
+ids-kept law update d ds (Ok e) (Err refusal) changed same others is = absurd cc
+ids-kept law update d ds (Err refusal) rest changed same others is = absurd cc
+
+pub all_ids_kept : KeepsId → (update : form.Update) (ds changed : List (List Field)) → AllByRecursion HasId ds → changed_by update ds ≡ Ok changed → map id_key changed ≡ map id_key (filter (changes update) ds)
+all_ids_kept law update [] changed ids is = let all : [] ≡ changed = cc in ap (map id_key) (sym all)
+all_ids_kept law update (d ∷ ds) changed ids is =
+    ids-kept law update d ds (after update d) (changed_by update ds) changed (λ e told. (after_id law update d e ids.0 told).1) (λ es rest. all_ids_kept law update ds es ids.1 rest) is
+
+-- of the documents that an updating is for
+pub record StandingLaws : Type 0 where
+  pub all : (ds : List (List Field)) → IsAscending ds → AreStanding ds ds
+  pub passing : (p : List Field → Bool) (ds those : List (List Field)) → AreStanding ds those → AreStanding ds (filter p those)
+  pub first : (ds those : List (List Field)) → AreStanding ds those → AreStanding ds (take 1 those)
+
+chosen-stand : StandingLaws → (b : Bool) (ds those : List (List Field)) → AreStanding ds those → AreStanding ds (all_or_first b those)
+chosen-stand laws false ds those stand = stand
+chosen-stand laws true ds those stand = laws.first ds those stand
+
+pub updates_stand : StandingLaws → KeepsId → (updating : Updating) (old ds : List (List Field)) (name : List ℕ) (each : List Updated) → ds ≡ all_or_first (not updating.multi) (matching updating.filter old) → IsAscending old → AllByRecursion HasId old
+    → changed_by updating.update ds ≡ Ok (map (after_of name) each) → map (λ u. u.before) each ≡ filter (changes updating.update) ds → bytes_eq name (codes "_id") ≡ false → AreUpdatesOf old name each
+updates_stand laws law updating old ds name each finds ascending all does befores other =
+    let rows = matching updating.filter old in
+    let these : AreStanding old ds = subst (AreStanding old) (sym finds) (chosen-stand laws (not updating.multi) old rows (laws.passing (matches updating.filter) old old (laws.all old ascending))) in
+    let ids : AllByRecursion HasId ds = subst (AllByRecursion HasId) (sym finds) (chosen_good HasId (not updating.multi) rows (matching_good HasId updating.filter old all)) in
+    record {
+      standing = subst (AreStanding old) (sym befores) (laws.passing (changes updating.update) old ds these);
+      same_ids = all_ids_kept law updating.update ds (map (after_of name) each) ids does ∙ ap (map id_key) (sym befores);
+      no_id = other;
+    }

@@ -1,14 +1,21 @@
 -- What stands in memory for the effect of a statement.
-use Rattle.std.specs.Prelude.{◌≡◌, true, List, [], ◌∷◌, map, is_some, ⊤}
+use Rattle.std.specs.Prelude.{◌≡◌, ℕ, true, false, List, [], ◌∷◌, codes, map, is_some, ⊤}
+use Rattle.std.specs.Str.{bytes_eq}
 use Rattle.dv_bson.specs.Tree.{Field}
-use Rattle.dv_coll.specs.Collection.{HasId, found, id_key}
+use Rattle.dv_coll.specs.Collection.{AreStanding, HasId, found, id_key}
+use Rattle.dv_update.specs.Outcome.{outcome_seen}
 use Rattle.dv_catalog.specs.declared.effect.Changes as memory
 use Rattle.dv_catalog.specs.declared.effect.Changes.TheVariants.{Put, Gone}
 use Rattle.dv_catalog.specs.declared.effect.Effect as memory_effect
+use Rattle.dv_catalog.specs.declared.effect.Updated.{Updated}
 use Rattle.dv_catalog.specs.Changes.{Change, Effect, put, gone, with_change}
 
+-- the document that comes in place of one that is updated
+abbrev pub after_of : List ℕ → Updated → List Field
+after_of name u = outcome_seen name u.before u.outcome
+
 abbrev pub changes_seen : memory.Changes → List Change
-changes_seen (Put documents) = map put documents.items
+changes_seen (Put updates) = map put (map (after_of updates.name) updates.each.items)
 changes_seen (Gone keys) = map gone keys.items
 
 abbrev pub effect_seen : memory_effect.Effect → Effect
@@ -37,3 +44,13 @@ IsAble documents (gone k) = is_some (found k documents) ≡ true
 abbrev pub AreAble : List (List Field) → List Change → Type 0
 AreAble documents [] = ⊤
 AreAble documents (change ∷ changes) = IsAble documents change × AreAble (with_change documents change) changes
+
+-- the documents that are updated stand there as they were, and their `_id`s stay
+pub record AreUpdatesOf (documents : List (List Field)) (name : List ℕ) (each : List Updated) : Type 0 where
+  pub standing : AreStanding documents (map (λ u. u.before) each)
+  pub same_ids : map id_key (map (after_of name) each) ≡ map id_key (map (λ u. u.before) each)
+  pub no_id : bytes_eq name (codes "_id") ≡ false
+
+abbrev pub StandsFor : List (List Field) → memory.Changes → Type 0
+StandsFor documents (Put updates) = AreUpdatesOf documents updates.name updates.each.items
+StandsFor documents (Gone keys) = ⊤

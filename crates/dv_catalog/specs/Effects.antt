@@ -38,6 +38,14 @@ abbrev pub changed_by : form.Update → List (List Field) → Result (List (List
 changed_by update [] = Ok []
 changed_by update (d ∷ ds) = after update d >>= λ e. changed_by update ds >>= λ es. Ok (if same_fields (fields_of d) (fields_of e) then es else e ∷ es)
 
+-- whether an update changes a document
+abbrev pub differs : List Field → Result (List Field) Refusal → Bool
+differs d (Ok e) = not (same_fields (fields_of d) (fields_of e))
+differs d (Err refusal) = false
+
+abbrev pub changes : form.Update → List Field → Bool
+changes update d = differs d (after update d)
+
 -- those that match are updated, all of them or the first in the order of the `_id`s; all before the first is changed
 abbrev pub update_chosen : Updating → Statement
 update_chosen updating documents =

@@ -63,7 +63,7 @@ impl Catalog {
     ghost use Rattle.dv_command.specs.View.{aggregate_seen, create_seen, deletion_seen, find_seen, updating_seen, view_on_seen};
     ghost use Rattle.dv_catalog.specs.Changes.{apply};
     ghost use Rattle.dv_catalog.specs.Effects as effects;
-    ghost use Rattle.dv_catalog.specs.EffectView.{ArePlaced, changes_seen, effect_seen};
+    ghost use Rattle.dv_catalog.specs.EffectView.{ArePlaced, StandsFor, changes_seen, effect_seen};
     ghost use Rattle.dv_catalog.specs.IndexMaking as indexing;
     ghost use Rattle.dv_catalog.specs.IndexParts.{explained_seen};
     ghost use Rattle.dv_catalog.specs.Parts.{Leaves, Makes, MakesSo, one};
@@ -120,8 +120,10 @@ impl Catalog {
         ensures made { Makes (λ counted. counted) namespace.now (effects.update_chosen (updating_seen updating.now)) self.old.namespaces result self.new.namespaces }
         ensures views { self.new.views ≡ self.old.views }
     {
+        // Views share the documents of which they are told.
+        let whole = self.views.is_read(namespace);
         let effect = match self.collections.get(namespace) {
-            Some(collection) => updated(self.alloc, collection, updating)?,
+            Some(collection) => updated(self.alloc, collection, updating, whole)?,
             None => return Ok(NOTHING),
         };
         self.carry_out(namespace, effect)
@@ -147,6 +149,7 @@ impl Catalog {
         requires collection { is_view namespace.now self.old.views ≡ false }
         requires ordered { AreOrdered (documents_of namespace.now self.old.namespaces) }
         requires placed { ArePlaced (documents_of namespace.now self.old.namespaces) (changes_seen effect.changes) }
+        requires standing { StandsFor (documents_of namespace.now self.old.namespaces) effect.changes }
         ensures made { MakesSo (λ counted. counted) namespace.now (Ok (effect_seen effect)) self.old.namespaces result self.new.namespaces }
         ensures views { self.new.views ≡ self.old.views }
     {
@@ -168,6 +171,7 @@ impl Catalog {
         requires collection { is_view namespace.now self.old.views ≡ false }
         requires ordered { AreOrdered (documents_of namespace.now self.old.namespaces) }
         requires placed { ArePlaced (documents_of namespace.now self.old.namespaces) (changes_seen changes) }
+        requires standing { StandsFor (documents_of namespace.now self.old.namespaces) changes }
         ensures count { IfOk result (λ done. done ≤ length (changes_seen changes)) }
         ensures made { IfOk result (λ done. self.new.namespaces ≡ apply namespace.now (take done (changes_seen changes)) self.old.namespaces) }
         ensures kept { OnErr result (self.new ≡ self.old) }

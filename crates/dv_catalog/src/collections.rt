@@ -7,7 +7,7 @@ ghost use Rattle.std.specs.Option.{option_map};
 ghost use Rattle.dv_coll.specs.Collection.{HasId};
 ghost use Rattle.dv_catalog.specs.Changes.{apply};
 ghost use Rattle.dv_catalog.specs.Effects.{put_new};
-ghost use Rattle.dv_catalog.specs.EffectView.{ArePlaced, changes_seen};
+ghost use Rattle.dv_catalog.specs.EffectView.{ArePlaced, StandsFor, changes_seen};
 ghost use Rattle.dv_catalog.specs.IndexMaking as making;
 ghost use Rattle.dv_catalog.specs.IndexParts.{namespaces_so};
 ghost use Rattle.dv_catalog.specs.Parts.{Leaves, Makes, one};
@@ -119,7 +119,8 @@ impl Collections {
     /// Makes these changes of the documents of a namespace, one after the other, until memory is wanting, and answers how
     /// many were made.
     pub(crate) fn make(&mut self, namespace: &str, changes: Changes) -> usize
-        requires { ArePlaced (documents_of namespace.now self.old) (changes_seen changes) }
+        requires placed { ArePlaced (documents_of namespace.now self.old) (changes_seen changes) }
+        requires standing { StandsFor (documents_of namespace.now self.old) changes }
         ensures count { result ≤ length (changes_seen changes) }
         ensures made { self.new ≡ apply namespace.now (take result (changes_seen changes)) self.old }
     {

@@ -6,7 +6,7 @@ ghost use Rattle.dv_coll.specs.Collection.{HasId, id_key};
 ghost use Rattle.dv_command.specs.View.{deletion_seen};
 ghost use Rattle.dv_catalog.specs.Changes.{gone, with_changes};
 ghost use Rattle.dv_catalog.specs.Effects.{delete_chosen};
-ghost use Rattle.dv_catalog.specs.EffectView.{ArePlaced, changes_seen, effect_seen};
+ghost use Rattle.dv_catalog.specs.EffectView.{ArePlaced, StandsFor, changes_seen, effect_seen};
 ghost use Rattle.dv_catalog.specs.State.{AreOrdered};
 ghost use Rattle.dv_index.specs.Indexed.{with_documents};
 ghost use Rattle.dv_pipe.specs.Sources.{referred};
@@ -29,6 +29,7 @@ pub(crate) fn deleted(
     ensures effect { IfOk result (λ effect. delete_chosen (deletion_seen deletion.now) collection.now.documents ≡ Ok (effect_seen effect)) }
     ensures ordered { AreOrdered collection.now.documents }
     ensures placed { IfOk result (λ effect. ArePlaced collection.now.documents (changes_seen effect.changes)) }
+    ensures standing { IfOk result (λ effect. StandsFor collection.now.documents effect.changes) }
 {
     laws::removed_document_is_not_found();
     // The documents are in order, and begin with their `_id`s.

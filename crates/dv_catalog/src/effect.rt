@@ -2,22 +2,38 @@
 
 ghost use Rattle.std.specs.Prelude.{◌≡◌, ◌≤◌, length, take};
 ghost use Rattle.dv_catalog.specs.Changes.{with_changes};
-ghost use Rattle.dv_catalog.specs.EffectView.{ArePlaced, changes_seen};
+ghost use Rattle.dv_catalog.specs.EffectView.{ArePlaced, StandsFor, changes_seen};
 ghost use Rattle.dv_index.specs.Indexed.{with_documents};
 
 use crate::delete::remove_each;
-use crate::update::replace_each;
-use dv_bson::Document;
+use crate::update::put_each;
+use dv_bson::{Document, Str};
 use dv_index::IndexedCollection;
 use dv_order::Key;
+use dv_update::Outcome;
 
 /// Changes of a collection, each of one document, in order.
 #[derive(Drop)]
 pub(crate) enum Changes {
-    /// Documents in place of those that have equal `_id`s.
-    Put(Vec<Document>),
+    /// Documents are updated.
+    Put(Updates),
     /// The documents under these keys go.
     Gone(Vec<Key>),
+}
+
+/// What an update makes of documents, in the order of their `_id`s.
+#[derive(Drop)]
+pub(crate) struct Updates {
+    /// The update's sole name, under which the values come.
+    pub(crate) name: Str,
+    pub(crate) each: Vec<Updated>,
+}
+
+/// A document as it is, whose fields are shared, and what becomes of it.
+#[derive(Drop)]
+pub(crate) struct Updated {
+    pub(crate) before: Document,
+    pub(crate) outcome: Outcome,
 }
 
 impl Changes {
@@ -26,19 +42,20 @@ impl Changes {
         ensures { result ≡ length (changes_seen self.now) }
     {
         match self {
-            Changes::Put(documents) => documents.len(),
+            Changes::Put(updates) => updates.each.len(),
             Changes::Gone(keys) => keys.len(),
         }
     }
 
     /// Makes the changes in a collection, one after the other, until memory is wanting, and answers how many were made.
     pub(crate) fn make_in(self, collection: &mut IndexedCollection) -> usize
-        requires { ArePlaced collection.old.documents (changes_seen self) }
+        requires placed { ArePlaced collection.old.documents (changes_seen self) }
+        requires standing { StandsFor collection.old.documents self }
         ensures count { result ≤ length (changes_seen self) }
         ensures made { collection.new ≡ with_documents (with_changes collection.old.documents (take result (changes_seen self))) collection.old }
     {
         match self {
-            Changes::Put(documents) => replace_each(collection, documents),
+            Changes::Put(updates) => put_each(collection, updates),
             Changes::Gone(keys) => remove_each(collection, &keys),
         }
     }

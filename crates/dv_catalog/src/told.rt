@@ -4,16 +4,17 @@ ghost use Rattle.std.specs.Prelude.{◌≡◌, ◌∷◌, [], IfOk, map};
 ghost use Rattle.std.specs.List.{AllByRecursion};
 ghost use Rattle.dv_coll.specs.Collection.{HasId, id_key};
 ghost use Rattle.dv_catalog.specs.Changes as changing;
-ghost use Rattle.dv_catalog.specs.EffectView.{BeginsWithId, changes_seen};
+ghost use Rattle.dv_catalog.specs.EffectView.{BeginsWithId, after_of, changes_seen};
 ghost use Rattle.dv_catalog.specs.Told as defined;
 ghost use Rattle.dv_flow.specs.declared.position.Part.TheVariants.{Up};
 
 use crate::delete::key_of_id;
-use crate::effect::Changes;
+use crate::effect::{Changes, Updated, Updates};
 use crate::rows::Rows;
 use dv_bson::{Document, NoMemory};
 use dv_flow::{Change, Part, Pos};
 use dv_order::Key;
+use dv_update::Outcome;
 use std::alloc::Global;
 
 /// The changes as they are told to views. Fails where memory is wanting.
@@ -22,20 +23,36 @@ pub(crate) fn told(alloc: Global, changes: &Changes) -> Result<Vec<Change>, NoMe
     ensures { IfOk result (λ all. all.items ≡ map defined.told (changes_seen changes.now)) }
 {
     match changes {
-        Changes::Put(documents) => all_put(alloc, documents),
+        Changes::Put(updates) => all_put(alloc, updates),
         Changes::Gone(keys) => all_gone(alloc, keys),
     }
 }
 
-fn all_put(alloc: Global, documents: &[Document]) -> Result<Vec<Change>, NoMemory>
-    requires { AllByRecursion HasId documents.now }
-    ensures { IfOk result (λ all. all.items ≡ map defined.told (map changing.put documents.now)) }
+fn all_put(alloc: Global, updates: &Updates) -> Result<Vec<Change>, NoMemory>
+    requires { AllByRecursion HasId (map (after_of updates.now.name) updates.now.each.items) }
+    ensures { IfOk result (λ all. all.items ≡ map defined.told (map changing.put (map (after_of updates.now.name) updates.now.each.items))) }
 {
-    let mut all = Vec::with_capacity(alloc, documents.len())?;
-    'documents: for document in documents {
-        all.push(put(alloc, document)?)?;
+    let mut all = Vec::with_capacity(alloc, updates.each.len())?;
+    'documents: for document in &updates.each {
+        let after = whole_after(updates.name.as_str(), document)?;
+        all.push(put(alloc, &after)?)?;
     }
     Ok(all)
+}
+
+/// The document that comes in place of one that is updated. Fails where memory is wanting.
+fn whole_after(name: &str, document: &Updated) -> Result<Document, NoMemory>
+    ensures { IfOk result (λ after. after ≡ after_of name.now document.now) }
+{
+    match &document.outcome {
+        Outcome::Same => document.before.try_clone(),
+        Outcome::Whole(after) => after.try_clone(),
+        Outcome::Value(value) => {
+            let mut after = document.before.try_clone()?;
+            let _ = after.put(name, value.try_clone()?)?;
+            Ok(after)
+        }
+    }
 }
 
 fn all_gone(alloc: Global, keys: &[Key]) -> Result<Vec<Change>, NoMemory>

@@ -1,45 +1,64 @@
 //! Updating documents.
 
-ghost use Rattle.std.specs.Prelude.{◌≡◌, ◌≤◌, length, map, take, IfOk};
+ghost use Rattle.std.specs.Prelude.{◌≡◌, ◌≤◌, Some, codes, false, filter, length, map, take, IfOk, OnErr, OnOk};
+ghost use Rattle.std.specs.Str.{bytes_eq};
+ghost use Rattle.dv_coll.specs.Collection.{HasId, found, id_key, replaced};
 ghost use Rattle.dv_fields.specs.Refusals.{UnlessWanting};
 ghost use Rattle.dv_command.specs.View.{updating_seen};
 ghost use Rattle.dv_catalog.specs.Changes.{put, with_changes};
 ghost use Rattle.dv_catalog.specs.Effects as effects;
-ghost use Rattle.dv_catalog.specs.EffectView.{ArePlaced, changes_seen, effect_seen};
+ghost use Rattle.dv_catalog.specs.EffectView.{ArePlaced, AreUpdatesOf, StandsFor, after_of, changes_seen, effect_seen};
 ghost use Rattle.dv_catalog.specs.State.{AreOrdered};
 ghost use Rattle.dv_index.specs.Indexed.{with_documents};
 ghost use Rattle.dv_pipe.specs.Sources.{referred};
+ghost use Rattle.dv_update.specs.Apply.{applied};
+ghost use Rattle.dv_update.specs.Outcome as outcomes;
+ghost use Rattle.dv_update.specs.Parsing.{Gives};
 ghost use Rattle.dv_update.specs.UpdateView as seen;
 
 use crate::chosen::chosen;
-use crate::effect::{Changes, Effect};
-use dv_bson::Document;
+use crate::delete::key_of_id;
+use crate::effect::{Changes, Effect, Updated, Updates};
+use dv_bson::{Document, NoMemory, Str};
 use dv_coll::laws;
 use dv_command::{Refusal, Updating};
 use dv_index::IndexedCollection;
-use dv_update::{Update, same_documents};
+use dv_update::{Outcome, Update, UpdateFault};
 use std::alloc::Global;
 
-/// What an updating does to the documents of a collection. Refused as the first of them is, and where memory is wanting.
+/// What an updating does to the documents of a collection: where they are wanted whole, each as a whole document. Refused as
+/// the first of them is, and where memory is wanting.
 pub(crate) fn updated(
     alloc: Global,
     collection: &IndexedCollection,
     updating: &Updating,
+    whole: bool,
 ) -> Result<Effect, Refusal>
     ensures effect { UnlessWanting effect_seen (effects.update_chosen (updating_seen updating.now) collection.now.documents) result }
     ensures ordered { AreOrdered collection.now.documents }
     ensures placed { IfOk result (λ effect. ArePlaced collection.now.documents (changes_seen effect.changes)) }
+    ensures standing { IfOk result (λ effect. StandsFor collection.now.documents effect.changes) }
 {
     laws::replaced_document_is_found();
+    laws::documents_stand_where_they_are_found();
     dv_update::laws::the_id_stays();
     // The documents are in order.
     let _ = collection.len();
     let documents = chosen(collection, &updating.filter, !updating.multi)?;
-    let changed = changed_by(alloc, &updating.update, &documents)?;
+    let each = changed_by(alloc, &updating.update, &documents, whole)?;
+    let name = name_of(alloc, &updating.update)?;
     Ok(Effect {
         matched: documents.len(),
-        changes: Changes::Put(changed),
+        changes: Changes::Put(Updates { name, each }),
     })
+}
+
+/// The sole name of an update. Fails where memory is wanting.
+fn name_of(alloc: Global, update: &Update) -> Result<Str, NoMemory>
+    ensures name { IfOk result (λ name. name ≡ outcomes.sole_name (seen.update update.now)) }
+    ensures no_id { IfOk result (λ name. bytes_eq name (codes "_id") ≡ false) }
+{
+    Ok(Str::of(String::from_str(alloc, update.sole_name())?))
 }
 
 /// What an update makes of the documents, in order, without those that stay as they are spelled. Refused as the first is,
@@ -48,33 +67,86 @@ fn changed_by(
     alloc: Global,
     update: &Update,
     documents: &[&Document],
-) -> Result<Vec<Document>, Refusal>
-    ensures { UnlessWanting (λ changed. changed.items) (effects.changed_by (seen.update update.now) (referred documents.now)) result }
+    whole: bool,
+) -> Result<Vec<Updated>, Refusal>
+    ensures afters { UnlessWanting (λ changed. map (after_of (outcomes.sole_name (seen.update update.now))) changed.items) (effects.changed_by (seen.update update.now) (referred documents.now)) result }
+    ensures befores { IfOk result (λ changed. map (λ u. u.before) changed.items ≡ filter (effects.changes (seen.update update.now)) (referred documents.now)) }
 {
     let mut changed = Vec::new(alloc);
     'documents: for document in documents {
-        let after = update.apply(alloc, document)?;
-        if !same_documents(document, &after) {
-            changed.push(after)?;
+        let outcome = outcome_of(alloc, update, document, whole)?;
+        if !outcome.stays() {
+            changed.push(Updated {
+                before: document.try_clone()?,
+                outcome,
+            })?;
         }
     }
     Ok(changed)
 }
 
-/// Puts the documents in place of those with equal `_id`s, which are there, until memory is wanting, and answers how many
-/// were put.
-pub(crate) fn replace_each(collection: &mut IndexedCollection, documents: Vec<Document>) -> usize
-    requires { ArePlaced collection.old.documents (map put documents.items) }
-    ensures count { result ≤ length documents.items }
-    ensures made { collection.new ≡ with_documents (with_changes collection.old.documents (take result (map put documents.items))) collection.old }
+/// What an update makes of a document, as `Update::outcome` tells it; where it is wanted whole, as a whole document.
+fn outcome_of(
+    alloc: Global,
+    update: &Update,
+    document: &Document,
+    whole: bool,
+) -> Result<Outcome, UpdateFault>
+    ensures applied { Gives (λ outcome. outcomes.outcome_seen (outcomes.sole_name (seen.update update.now)) document.now outcome) result (applied (seen.update update.now) document.now) }
+    ensures same { IfOk result (λ outcome. outcomes.stays outcome ≡ outcomes.stays_so (outcomes.sole_name (seen.update update.now)) document.now outcome) }
 {
-    let count = documents.len();
+    if whole {
+        update.whole_outcome(alloc, document)
+    } else {
+        update.outcome(alloc, document)
+    }
+}
+
+/// Puts what documents become in their places, where they are, until memory is wanting, and answers how many were put.
+pub(crate) fn put_each(collection: &mut IndexedCollection, updates: Updates) -> usize
+    requires placed { ArePlaced collection.old.documents (map put (map (after_of updates.name) updates.each.items)) }
+    requires standing { AreUpdatesOf collection.old.documents updates.name updates.each.items }
+    ensures count { result ≤ length updates.each.items }
+    ensures made { collection.new ≡ with_documents (with_changes collection.old.documents (take result (map put (map (after_of updates.name) updates.each.items)))) collection.old }
+{
+    laws::documents_stand_where_they_are_found();
+    let Updates { name, each } = updates;
+    let count = each.len();
     let mut made = 0;
-    'documents: for document in documents {
-        let Ok(_) = collection.replace(document) else {
+    'documents: for document in each {
+        let Ok(()) = put_one(collection, name.as_str(), document) else {
             return made;
         };
         made += 1;
     }
     count
+}
+
+/// Puts what a document becomes in its place: a value alone in place, where nothing else shares the fields. Fails where
+/// memory is wanting; then nothing is changed.
+fn put_one(
+    collection: &mut IndexedCollection,
+    name: &str,
+    document: Updated,
+) -> Result<(), NoMemory>
+    requires identified { HasId (after_of name.now document) }
+    requires standing { found (id_key document.before) collection.old.documents ≡ Some document.before }
+    requires no_id { bytes_eq name.now (codes "_id") ≡ false }
+    ensures ok { OnOk result (collection.new ≡ with_documents (replaced (after_of name.now document) collection.old.documents) collection.old) }
+    ensures err { OnErr result (collection.new ≡ collection.old) }
+{
+    laws::what_is_found_has_the_key();
+    // The documents begin with their `_id`s.
+    let _ = collection.len();
+    let Updated { before, outcome } = document;
+    let _ = match outcome {
+        Outcome::Same => collection.replace(before)?,
+        Outcome::Whole(after) => collection.replace(after)?,
+        Outcome::Value(value) => {
+            let key = key_of_id(&before)?;
+            drop(before);
+            collection.put(&key, name, value)?
+        }
+    };
+    Ok(())
 }

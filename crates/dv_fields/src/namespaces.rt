@@ -1,12 +1,12 @@
 //! The names of databases and collections.
 
-ghost use Rattle.std.specs.Prelude.{◌≡◌, Ok, Err, IfOk, MatchResult};
+ghost use Rattle.std.specs.Prelude.{◌≡◌, Ok, Err, MatchResult};
 ghost use Rattle.std.specs.String.{string_bytes};
 ghost use Rattle.dv_fields.specs.Namespaces as names;
 ghost use Rattle.dv_fields.specs.Refusals.{UnlessWanting};
 
 use crate::refusal::Refusal;
-use dv_bson::{Document, NoMemory, Value, begins_with_dollar};
+use dv_bson::{Document, Value, begins_with_dollar};
 use std::alloc::Global;
 
 /// How many bytes a namespace may have.
@@ -52,21 +52,10 @@ pub fn namespace(alloc: Global, database: &str, collection: &str) -> Result<Stri
     // One byte more is the dot's.
     let is_short = database.len() + 1 + collection.len() <= LONGEST_NAMESPACE;
     if is_short && is_collection_name(collection) {
-        Ok(dotted(alloc, database, collection)?)
+        Ok(format!(in alloc; "{database}.{collection}")?)
     } else {
         Err(Refusal::BadValue)
     }
-}
-
-/// The two names joined by a dot. Fails where memory is wanting.
-fn dotted(alloc: Global, database: &str, collection: &str) -> Result<String, NoMemory>
-    ensures { IfOk result (λ joined. string_bytes joined ≡ names.dotted database.now collection.now) }
-{
-    let mut joined = String::with_capacity(alloc, database.len() + 1 + collection.len())?;
-    joined.push_str(database)?;
-    joined.push_str(".")?;
-    joined.push_str(collection)?;
-    Ok(joined)
 }
 
 /// Whether the name is not empty, without a dollar sign in front and without a zero byte.

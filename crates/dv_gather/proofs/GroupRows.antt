@@ -1,33 +1,196 @@
--- Rows of groups, loop by loop.
-use Rattle.std.proofs.Common.{◌≡◌, ◌∙◌, ap, sym, refl, List, [], ◌∷◌, ◌++◌, ℕ, ◌+◌, ◌<◌, ◌≤◌, drop, length, get_or, map, Some, None, append_assoc, append-nil}
+-- Groups so far are what comes of the rows of each group.
+use Rattle.std.proofs.Common.{◌≡◌, ◌∙◌, ap, ap₂, sym, refl, Bool, true, false, not, ◌||◌, ◌&&◌, List, [], ◌∷◌, ◌++◌, ℕ, suc, ℤ, pos, ◌+ℤ◌, map, Option, Some, None, append_assoc, append-nil, arith, cond, codes}
+use Rattle.std.proofs.lemmas.Int.{ints}
+use Rattle.std.specs.List.{list_any}
+use Rattle.std.specs.Map.{lookup}
+use Rattle.std.specs.Option.{option_map, unwrap_or}
+use Rattle.std.specs.BTreeMap.{insert_entry, is_at}
+use Rattle.std.specs.Ordering.{match_ordering}
+use Rattle.std.specs.declared.cmp.Ordering.{Ordering}
+use Rattle.std.specs.declared.cmp.Ordering.TheVariants.{Less, Equal, Greater}
 use Rattle.dv_bson.specs.Tree.{Tree, Field}
+use Rattle.dv_order.specs.Order.{canon, order}
+use Rattle.dv_order.specs.Key.{KeyTree, value, key_order}
 use Rattle.dv_path.specs.Candidates.{Candidate}
-use Rattle.dv_row.specs.EachLaws.{drop-read, drop-past}
 use Rattle.dv_row.specs.Expressions.{Expression, value_of, with_field}
 use Rattle.dv_row.specs.Row.{Row}
-use Rattle.dv_gather.specs.Grouping.{Accumulation, with_present, values_over, field_over, with_accumulated}
+use Rattle.dv_gather.specs.declared.extreme.Extreme.{Extreme}
+use Rattle.dv_gather.specs.declared.accumulator.Accumulator.{Accumulator}
+use Rattle.dv_gather.specs.declared.accumulator.Accumulator.TheVariants.{Sum, Min, Max, Push}
+use Rattle.dv_gather.specs.Extremes.{better, extreme_from}
+use Rattle.dv_gather.specs.Gathering.{Entry, listed, put, gathered}
+use Rattle.dv_gather.specs.Grouping.{Accumulation, Grouping, key_in, keyed, with_present, values_over, accumulated, with_accumulated, key_of_group, group_row, grouped}
+use Rattle.dv_gather.specs.Sums.{addend, is_int64, total}
+use Rattle.dv_gather.specs.Tallies.{Tallied, with_present_at, with_values_from, with_values, with_row, without_rows, with_row_under, with_row_put, with_rows_put, with_finished, key_or_null, finished_row}
+use Rattle.dv_gather.specs.Totals.{Total, summed, best, all, of_none, with_value, with_each, with_value_at, finished}
+use Rattle.dv_gather.proofs.Grouped.{groups-are}
 
-present-front : (c : Candidate) (vs : List Tree) → with_present c [] ++ vs ≡ with_present c vs
-present-front None vs = refl
-present-front (Some v) vs = refl
+-- ---- maps whose values are seen as others
 
-module _ (e : Expression) (rows : List Row) (i : ℕ) where
-  -- the value of one row more
-  pub values-next : (row : Row) (c : Candidate) (vs new : List Tree) → i < length rows → row ≡ get_or rows i row → c ≡ value_of e row → new ≡ vs ++ with_present c [] → new ++ values_over e (drop (i + 1) rows) ≡ vs ++ values_over e (drop i rows)
-  values-next row c vs new within is value added =
-      let rest = values_over e (drop (i + 1) rows) in
-      ap (λ l. l ++ rest) added ∙ append_assoc vs (with_present c []) rest
-      ∙ ap (λ l. vs ++ l) (present-front c rest ∙ ap (λ d. with_present d rest) value ∙ sym (ap (values_over e) (drop-read rows i row within is)))
+module _ {K X Y : Type 0} (f : X → Y) where
+  abbrev pub seen-by : List (K × X) → List (K × Y)
+  seen-by = map (λ e. (e.0, f e.1))
 
-  pub values-all : (vs : List Tree) → length rows ≤ i → vs ++ values_over e (drop i rows) ≡ vs
-  values-all vs past = ap (λ l. vs ++ values_over e l) (drop-past rows i past) ∙ append-nil vs
+  pub seen-inserted : (cmp : K → K → Ordering) (es : List (K × X)) (k : K) (x : X) → seen-by (insert_entry cmp es k x) ≡ insert_entry cmp (seen-by es) k (f x)
+  seen-inserted cmp [] k x = refl
+  seen-inserted cmp (e ∷ es) k x = go (cmp k e.0) (seen-inserted cmp es k x)
+    where
+      go : (o : Ordering) → seen-by (insert_entry cmp es k x) ≡ insert_entry cmp (seen-by es) k (f x)
+          → seen-by (match_ordering o ((k, x) ∷ e ∷ es) ((e.0, x) ∷ es) (e ∷ insert_entry cmp es k x)) ≡ match_ordering o ((k, f x) ∷ (e.0, f e.1) ∷ seen-by es) ((e.0, f x) ∷ seen-by es) ((e.0, f e.1) ∷ insert_entry cmp (seen-by es) k (f x))
+      go Less rest = refl
+      go Equal rest = refl
+      go Greater rest = ap (λ l. let g : K × Y = (e.0, f e.1) in g ∷ l) rest
 
--- what comes of one field more
-module _ {X : Type 0} (view : X → Accumulation) (fields : List X) (i : ℕ) (rows : List Row) (d : List Field) where
-  pub fields-next : (f : X) (v : Tree) (new : List Field) → i < length fields → f ≡ get_or fields i f → v ≡ field_over (view f) rows → new ≡ with_field (view f).name (Some v) d → with_accumulated (map view (drop (i + 1) fields)) rows new ≡ with_accumulated (map view (drop i fields)) rows d
-  fields-next f v new within is value added =
-      ap (with_accumulated (map view (drop (i + 1) fields)) rows) (added ∙ ap (λ w. with_field (view f).name (Some w) d) value)
-      ∙ sym (ap (λ l. with_accumulated (map view l) rows d) (drop-read fields i f within is))
+  pub seen-found : (test : K → Bool) (es : List (K × X)) → lookup test (seen-by es) ≡ option_map f (lookup test es)
+  seen-found test [] = refl
+  seen-found test (e ∷ es) = go (test e.0) (seen-found test es)
+    where
+      go : (b : Bool) → lookup test (seen-by es) ≡ option_map f (lookup test es) → cond b (Some (f e.1)) (lookup test (seen-by es)) ≡ option_map f (cond b (Some e.1) (lookup test es))
+      go true rest = refl
+      go false rest = rest
 
-  pub fields-all : length fields ≤ i → with_accumulated (map view (drop i fields)) rows d ≡ d
-  fields-all past = ap (λ l. with_accumulated (map view l) rows d) (drop-past fields i past)
+-- ---- values
+
+each-more : (vs : List Tree) (v : Tree) (t : Total) → with_each (vs ++ v ∷ []) t ≡ with_value v (with_each vs t)
+each-more [] v t = refl
+each-more (w ∷ vs) v t = each-more vs v (with_value w t)
+
+each-all : (vs us : List Tree) → with_each vs (all us) ≡ all (us ++ vs)
+each-all [] us = ap all (sym (append-nil us))
+each-all (v ∷ vs) us = each-all vs (us ++ v ∷ []) ∙ ap all (append_assoc us (v ∷ []) vs)
+
+each-best : (e : Extreme) (vs : List Tree) (b : Tree) → with_each vs (best e b) ≡ best e (extreme_from e b vs)
+each-best e [] b = refl
+each-best e (v ∷ vs) b = each-best e vs (better e v b)
+
+and-true : (b : Bool) → b ≡ b && true
+and-true true = refl
+and-true false = refl
+
+neither : (b c d : Bool) → (b && not c) && not d ≡ b && not (c || d)
+neither true true d = refl
+neither true false d = refl
+neither false c d = refl
+
+each-summed : (vs : List Tree) (n : ℤ) (narrow : Bool) → with_each vs (summed n narrow) ≡ summed (n +ℤ total vs) (narrow && not (list_any is_int64 vs))
+each-summed [] n narrow =
+    let same : n ≡ n +ℤ pos 0 = omega (arith, ints) in
+    ap₂ summed same (and-true narrow)
+each-summed (v ∷ vs) n narrow =
+    let same : (n +ℤ addend v) +ℤ total vs ≡ n +ℤ (addend v +ℤ total vs) = plus-assoc n (addend v) (total vs) in
+    each-summed vs (n +ℤ addend v) (narrow && not (is_int64 v)) ∙ ap₂ summed same (neither narrow (is_int64 v) (list_any is_int64 vs))
+  where
+    plus-assoc : (a b c : ℤ) → (a +ℤ b) +ℤ c ≡ a +ℤ (b +ℤ c)
+    plus-assoc a b c = omega (arith, ints)
+
+-- what comes of values one after the other
+finished-each : (a : Accumulator) (vs : List Tree) → finished (with_each vs (of_none a)) ≡ accumulated a vs
+finished-each Sum vs =
+    ap finished (each-summed vs (pos 0) true) ∙ ap (λ n. finished (summed n (not (list_any is_int64 vs)))) (nothing-more (total vs))
+  where
+    nothing-more : (n : ℤ) → pos 0 +ℤ n ≡ n
+    nothing-more n = omega (arith, ints)
+finished-each Min vs = ap finished (each-best Extreme.Least vs Tree.null)
+finished-each Max vs = ap finished (each-best Extreme.Greatest vs Tree.null)
+finished-each Push vs = ap finished (each-all vs [])
+
+-- ---- rows of one group
+
+abbrev with_present_value : Candidate → Total → Total
+with_present_value None t = t
+with_present_value (Some v) t = with_value v t
+
+present-front : (c : Candidate) (vs ws : List Tree) → with_present c (vs ++ ws) ≡ with_present c vs ++ ws
+present-front None vs ws = refl
+present-front (Some v) vs ws = refl
+
+values-more : (e : Expression) (ds : List Row) (d : Row) → values_over e (ds ++ d ∷ []) ≡ values_over e ds ++ with_present (value_of e d) []
+values-more e [] d = refl
+values-more e (c ∷ ds) d = ap (with_present (value_of e c)) (values-more e ds d) ∙ present-front (value_of e c) (values_over e ds) (with_present (value_of e d) [])
+
+abbrev total_over : List Row → Accumulation → Total
+total_over ds a = with_each (values_over a.argument ds) (of_none a.accumulator)
+
+total-more : (a : Accumulation) (ds : List Row) (d : Row) → total_over (ds ++ d ∷ []) a ≡ with_present_value (value_of a.argument d) (total_over ds a)
+total-more a ds d = ap (λ vs. with_each vs (of_none a.accumulator)) (values-more a.argument ds d) ∙ go (value_of a.argument d)
+  where
+    go : (c : Candidate) → with_each (values_over a.argument ds ++ with_present c []) (of_none a.accumulator) ≡ with_present_value c (total_over ds a)
+    go None = ap (λ vs. with_each vs (of_none a.accumulator)) (append-nil (values_over a.argument ds))
+    go (Some v) = each-more (values_over a.argument ds) v (of_none a.accumulator)
+
+-- the places of a list begin with the first
+from-next : (i : ℕ) (fields : List Accumulation) (d : Row) (t : Total) (ts : List Total) → with_values_from (suc i) fields d (t ∷ ts) ≡ t ∷ with_values_from i fields d ts
+from-next i [] d t ts = refl
+from-next i (a ∷ fields) d t ts = go (value_of a.argument d) (from-next (suc i) fields d t)
+  where
+    go : (c : Candidate) → ((us : List Total) → with_values_from (suc (suc i)) fields d (t ∷ us) ≡ t ∷ with_values_from (suc i) fields d us) → with_values_from (suc (suc i)) fields d (with_present_at (suc i) c (t ∷ ts)) ≡ t ∷ with_values_from (suc i) fields d (with_present_at i c ts)
+    go None rest = rest ts
+    go (Some v) rest = rest (with_value_at i v ts)
+
+totals-more : (fields : List Accumulation) (ds : List Row) (d : Row) → with_values fields d (map (total_over ds) fields) ≡ map (total_over (ds ++ d ∷ [])) fields
+totals-more [] ds d = refl
+totals-more (a ∷ fields) ds d =
+    ap (with_values_from 1 fields d) (at-first (value_of a.argument d))
+    ∙ from-next 0 fields d (with_present_value (value_of a.argument d) (total_over ds a)) (map (total_over ds) fields)
+    ∙ ap₂ (λ (t : Total) (ts : List Total). t ∷ ts) (sym (total-more a ds d)) (totals-more fields ds d)
+  where
+    at-first : (c : Candidate) → with_present_at 0 c (total_over ds a ∷ map (total_over ds) fields) ≡ with_present_value c (total_over ds a) ∷ map (total_over ds) fields
+    at-first None = refl
+    at-first (Some v) = refl
+
+finished-fields : (fields : List Accumulation) (ds : List Row) (fs : List Field) → with_finished fields (map (total_over ds) fields) fs ≡ with_accumulated fields ds fs
+finished-fields [] ds fs = refl
+finished-fields (a ∷ fields) ds fs =
+    ap (λ v. with_finished fields (map (total_over ds) fields) (with_field a.name (Some v) fs)) (finished-each a.accumulator (values_over a.argument ds))
+    ∙ finished-fields fields ds (with_field a.name (Some (accumulated a.accumulator (values_over a.argument ds))) fs)
+
+-- ---- groups
+
+module _ (g : Grouping) where
+  abbrev first_of : List Row → List Tree
+  first_of [] = []
+  first_of (d ∷ ds) = key_in g d ∷ []
+
+  -- what has come of the rows of a group
+  abbrev so_far : List Row → Tallied
+  so_far ds = (first_of ds, map (total_over ds) g.fields)
+
+  abbrev pair : List Tree → List Total → Tallied
+  pair k ts = (k, ts)
+
+  so_far-more : (ds : List Row) (d : Row) → with_row g d (so_far ds) ≡ so_far (ds ++ d ∷ [])
+  so_far-more [] d = ap (pair (key_in g d ∷ [])) (totals-more g.fields [] d)
+  so_far-more (c ∷ ds) d = ap (pair (key_in g c ∷ [])) (totals-more g.fields (c ∷ ds) d)
+
+  put-so_far : (d : Row) (k : KeyTree) (es : List Entry) → seen-by so_far (put k d es) ≡ with_row_under g d k (seen-by so_far es)
+  put-so_far d k es =
+      seen-inserted so_far key_order es k (listed k es ++ d ∷ [])
+      ∙ ap (insert_entry key_order (seen-by so_far es) k) (sym (so_far-more (listed k es) d) ∙ there (lookup (is_at (key_order k)) es) ∙ ap (λ o. with_row g d (unwrap_or o without_rows)) (sym (seen-found so_far (is_at (key_order k)) es)))
+    where
+      there : (o : Option (List Row)) → with_row g d (so_far (unwrap_or o [])) ≡ with_row g d (unwrap_or (option_map so_far o) without_rows)
+      there None = refl
+      there (Some ds) = refl
+
+  rows-put : (ds : List Row) (es : List Entry) → with_rows_put g ds (seen-by so_far es) ≡ seen-by so_far (gathered es (map (keyed g) ds))
+  rows-put [] es = refl
+  rows-put (d ∷ ds) es =
+      let k = value (canon (key_in g d)) in
+      ap (with_rows_put g ds) (sym (put-so_far d k es)) ∙ rows-put ds (put k d es)
+
+  row-so_far : (ds : List Row) → finished_row g.fields (so_far ds) ≡ group_row g ds
+  row-so_far ds = finished-fields g.fields ds _ ∙ ap (λ k. with_accumulated g.fields ds ((codes "_id", k) ∷ [])) (keys ds)
+    where
+      keys : (ds : List Row) → key_or_null (first_of ds) ≡ key_of_group g ds
+      keys [] = refl
+      keys (d ∷ ds) = refl
+
+  rows-so_far : (es : List Entry) → map (λ e. finished_row g.fields e.1) (seen-by so_far es) ≡ map (group_row g) (map (λ e. e.1) es)
+  rows-so_far [] = refl
+  rows-so_far (e ∷ es) = ap₂ (λ (r : Row) (rs : List Row). r ∷ rs) (row-so_far e.1) (rows-so_far es)
+
+  pub rows-are : (stands : (v w : Tree) → key_order (value (canon v)) (value (canon w)) ≡ order v w) (ds : List Row) → map (λ e. finished_row g.fields e.1) (with_rows_put g ds []) ≡ grouped g ds
+  unfolding grouped
+  rows-are stands ds =
+      ap (map (λ (e : KeyTree × Tallied). finished_row g.fields e.1)) (rows-put ds [])
+      ∙ rows-so_far (gathered [] (map (keyed g) ds))
+      ∙ ap (map (group_row g)) (groups-are stands (map (keyed g) ds))

@@ -1,5 +1,5 @@
 -- What is gathered under keys are the documents of each key.
-use Rattle.std.proofs.Common.{◌≡◌, ◌∙◌, ap, sym, refl, Bool, true, false, ◌||◌, List, [], ◌∷◌, ◌++◌, map, append_assoc, append-nil, Some, if◌then◌else◌, Vec, Result, Ok, Err}
+use Rattle.std.proofs.Common.{◌≡◌, ◌∙◌, ap, sym, refl, Bool, true, false, ◌||◌, List, [], ◌∷◌, ◌++◌, map, append_assoc, append-nil, Some, if◌then◌else◌, Result, Ok, Err}
 use Rattle.std.specs.Result.{IfOk}
 use Rattle.std.specs.List.{list_any, AllByRecursion}
 use Rattle.std.specs.List.Sorted.{IsStrictlySortedBy}
@@ -15,7 +15,7 @@ use Rattle.dv_order.specs.Order.{canon, order}
 use Rattle.dv_order.specs.TotalOrder.{order_total}
 use Rattle.dv_order.specs.Key.{KeyTree, value, key_order}
 use Rattle.dv_gather.specs.Groups.{Keyed, with_key, keys_from, keys_of, under, groups_of}
-use Rattle.dv_gather.specs.Gathering.{Entry, entries_of, listed, put, gathered}
+use Rattle.dv_gather.specs.Gathering.{Entry, listed, put, gathered}
 
 same-as : (v w x : Tree) → order v w ≡ Equal → order v x ≡ order w x
 same-as v w x e = order_total.congr v w x e
@@ -209,31 +209,6 @@ module _ (stands : (v w : Tree) → key_order (value (canon v)) (value (canon w)
   pub groups-are : (ds : List Keyed) → map (λ e. e.1) (gathered [] ds) ≡ groups_of ds
   unfolding groups_of
   groups-are ds = ap (map (λ e. e.1)) (gathered-all [] [] [] start ds).are ∙ second-of (λ k. under k ds) (keys_of ds)
-
--- ---- a map in memory
-
-module _ {A : Type 0} (k : KeyTree) where
-  entries-inserted : (es : List (KeyTree × Vec (List Field) A)) (w : Vec (List Field) A) → entries_of (insert_entry key_order es k w) ≡ insert_entry key_order (entries_of es) k w.items
-  entries-inserted [] w = refl
-  entries-inserted (e ∷ es) w = go (key_order k e.0) (entries-inserted es w)
-    where
-      go : (o : Ordering) → entries_of (insert_entry key_order es k w) ≡ insert_entry key_order (entries_of es) k w.items
-          → entries_of (match_ordering o ((k, w) ∷ e ∷ es) ((e.0, w) ∷ es) (e ∷ insert_entry key_order es k w)) ≡ match_ordering o ((k, w.items) ∷ (e.0, e.1.items) ∷ entries_of es) ((e.0, w.items) ∷ entries_of es) ((e.0, e.1.items) ∷ insert_entry key_order (entries_of es) k w.items)
-      go Less rest = refl
-      go Equal rest = refl
-      go Greater rest = ap (λ l. let f : Entry = (e.0, e.1.items) in f ∷ l) rest
-
-  listed-items : (es : List (KeyTree × Vec (List Field) A)) (none : Vec (List Field) A) → none.items ≡ [] → (unwrap_or (lookup (is_at (key_order k)) es) none).items ≡ listed k (entries_of es)
-  listed-items [] none empty = empty
-  listed-items (e ∷ es) none empty = go (is_eq (key_order k e.0)) (listed-items es none empty)
-    where
-      go : (b : Bool) → (unwrap_or (lookup (is_at (key_order k)) es) none).items ≡ listed k (entries_of es) → (unwrap_or (if b then Some e.1 else lookup (is_at (key_order k)) es) none).items ≡ unwrap_or (if b then Some e.1.items else lookup (is_at (key_order k)) (entries_of es)) []
-      go true rest = refl
-      go false rest = rest
-
-  pub put-entry : (es final : List (KeyTree × Vec (List Field) A)) (d : List Field) (none was w : Vec (List Field) A) → none.items ≡ [] → was ≡ unwrap_or (lookup (is_at (key_order k)) es) none → w.items ≡ was.items ++ d ∷ [] → final ≡ insert_entry key_order es k w → entries_of final ≡ put k d (entries_of es)
-  put-entry es final d none was w empty is pushed e =
-      ap entries_of e ∙ entries-inserted es w ∙ ap (insert_entry key_order (entries_of es) k) (pushed ∙ ap (λ v. v.items ++ d ∷ []) is ∙ ap (λ l. l ++ d ∷ []) (listed-items es none empty))
 
 pub if-ok : {X E : Type 0} {P Q : X → Type 0} → ((x : X) → P x → Q x) → (r : Result X E) → IfOk r P → IfOk r Q
 if-ok f (Ok x) h = f x h

@@ -4,5 +4,6 @@ pub mod Shared
 pub mod Placed
 pub mod Grouped
 pub mod GroupRows
+pub mod Totalled
 pub mod GatherLaws
 pub mod Worked

@@ -1,11 +1,9 @@
 -- Documents gathered under keys, one after the other: words of bodies.
-use Rattle.std.specs.Prelude.{List, [], ◌∷◌, ◌++◌, map, Vec}
+use Rattle.std.specs.Prelude.{List, [], ◌∷◌, ◌++◌}
 use Rattle.std.specs.Option.{unwrap_or}
 use Rattle.std.specs.Map.{lookup}
 use Rattle.std.specs.BTreeMap.{insert_entry, is_at}
 use Rattle.dv_bson.specs.Tree.{Field}
-use Rattle.dv_bson.specs.View.{tree}
-use Rattle.dv_gather.specs.declared.grouping.Keyed as memory
 use Rattle.dv_order.specs.Order.{canon}
 use Rattle.dv_order.specs.Key.{KeyTree, value, key_order}
 use Rattle.dv_gather.specs.Groups.{Keyed}
@@ -13,15 +11,6 @@ use Rattle.dv_gather.specs.Groups.{Keyed}
 -- a key and documents
 abbrev pub Entry : Type 0
 Entry = KeyTree × List (List Field)
-
-abbrev pub lists_of : {A : Type 0} → List (Vec (List Field) A) → List (List (List Field))
-lists_of = map (λ v. v.items)
-
-abbrev pub entries_of : {A : Type 0} → List (KeyTree × Vec (List Field) A) → List Entry
-entries_of = map (λ e. (e.0, e.1.items))
-
-abbrev pub seen : memory.Keyed → Keyed
-seen one = (tree one.key, one.document)
 
 -- what stands under a key
 abbrev pub listed : KeyTree → List Entry → List (List Field)

@@ -11,4 +11,7 @@ pub mod KeySets
 pub mod Lookups
 pub mod Places
 pub mod Sums
+pub mod Tallies
+pub mod TotalView
+pub mod Totals
 pub mod Valid

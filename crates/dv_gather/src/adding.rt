@@ -1,25 +1,54 @@
 //! Sums.
 
-ghost use Rattle.std.specs.Prelude.{◌≡◌, map, IfOk};
+ghost use Rattle.std.specs.Prelude.{◌≡◌, IfOk, OnOk, pos, true};
 ghost use Rattle.dv_bson.specs.View.{tree};
 ghost use Rattle.dv_gather.specs.Sums as defined;
+ghost use Rattle.dv_gather.specs.Totals.{summed, with_value, finished};
+ghost use Rattle.dv_gather.specs.TotalView.{sum_seen};
 
 use dv_bson::{BsonFault, Document, NoMemory, Str, Value};
 use itoa::Buffer;
 use std::alloc::{AllocError, Global};
 
-/// The sum of the numbers among the values: an int32 where it fits and each of them was one, 0 for none; else an int64
-/// where it fits; else a document with its decimal digits under `$sum128`. Fails where memory is wanting.
-pub fn sum(alloc: Global, values: &[Value]) -> Result<Value, NoMemory>
-    ensures { IfOk result (λ sum. tree sum ≡ defined.sum_of (map tree values.now)) }
-{
-    let mut total: i128 = 0;
-    let mut narrow = true;
-    'values: for value in values {
-        total += i128::from(addend(value));
-        narrow = narrow && !is_int64(value);
+/// A sum of numbers so far.
+#[derive(Debug, Drop)]
+pub(crate) struct Sum {
+    total: i128,
+    /// Whether none of the numbers was an int64.
+    narrow: bool,
+}
+
+impl Sum {
+    /// The sum of no numbers.
+    pub(crate) fn of_none() -> Self
+        ensures { sum_seen result ≡ summed (pos 0) true }
+    {
+        Sum {
+            total: 0,
+            narrow: true,
+        }
     }
-    spelled(alloc, narrow, total)
+
+    /// Adds the value, if it is a number. Fails where memory is wanting: so does a sum that 128 bits can't hold, for which
+    /// more than 2^64 numbers would be needed.
+    pub(crate) fn add(&mut self, value: &Value) -> Result<(), NoMemory>
+        ensures { OnOk result (sum_seen self.new ≡ with_value (tree value.now) (sum_seen self.old)) }
+    {
+        let Some(total) = self.total.checked_add(i128::from(addend(value))) else {
+            return Err(AllocError);
+        };
+        self.total = total;
+        self.narrow = self.narrow && !is_int64(value);
+        Ok(())
+    }
+
+    /// The sum as a value: an int32 where it fits and each number was one, 0 for none; else an int64 where it fits; else a
+    /// document with its decimal digits under `$sum128`. Fails where memory is wanting.
+    pub(crate) fn value(&self, alloc: Global) -> Result<Value, NoMemory>
+        ensures { IfOk result (λ sum. tree sum ≡ finished (sum_seen self.now)) }
+    {
+        spelled(alloc, self.narrow, self.total)
+    }
 }
 
 /// What the value adds to a sum.

@@ -1,19 +1,21 @@
 //! `$group`.
 
-ghost use Rattle.std.specs.Prelude.{◌≡◌, ◌++◌, [], map, IfOk, OnOk};
-ghost use Rattle.std.specs.Option.{option_map};
-ghost use Rattle.dv_bson.specs.View.{tree};
+ghost use Rattle.std.specs.Prelude.{◌≡◌, [], map, IfOk, OnOk};
 ghost use Rattle.dv_row.specs.ExpressionView.{expression};
+ghost use Rattle.dv_row.specs.RowValueView.{row_value};
 ghost use Rattle.dv_gather.specs.Grouping as defined;
-ghost use Rattle.dv_gather.specs.Gathering.{seen};
 ghost use Rattle.dv_gather.specs.GroupParsing.{grouping};
 ghost use Rattle.dv_gather.specs.GroupView.{accumulation};
+ghost use Rattle.dv_gather.specs.Tallies.{finished_row, with_row_put, with_rows_put};
+ghost use Rattle.dv_gather.specs.TotalView.{tallies_seen};
 
 use crate::accumulator::Accumulator;
-use crate::grouping::{Keyed, groups};
+use crate::tally::Tally;
 use dv_bson::{Document, NoMemory, Str, Value};
-use dv_row::{Expr, push_field};
+use dv_order::{Key, key_of, laws};
+use dv_row::{Expr, RowValue};
 use std::alloc::Global;
+use std::collections::BTreeMap;
 use std::marker::Model;
 
 /// A field of a group: what comes of the values of an expression over the group's rows.
@@ -51,14 +53,6 @@ impl Model for Group {
 }
 
 impl GroupField {
-    /// What comes of the rows. Fails where memory is wanting.
-    fn value(&self, alloc: Global, rows: &[Document]) -> Result<Value, NoMemory>
-        ensures { IfOk result (λ value. tree value ≡ defined.field_over (accumulation self.now) rows.now) }
-    {
-        let values = values_over(alloc, &self.expr, rows)?;
-        self.accumulator.of(alloc, values)
-    }
-
     /// A copy of its own. Fails where memory is wanting.
     pub fn try_clone(&self) -> Result<Self, NoMemory>
         ensures { IfOk result (λ copy. copy ≡ self.now) }
@@ -69,28 +63,6 @@ impl GroupField {
             expr: self.expr.try_clone()?,
         })
     }
-}
-
-/// The values of the expression over the rows, in their order; a row where it is missing gives none.
-fn values_over(alloc: Global, expr: &Expr, rows: &[Document]) -> Result<Vec<Value>, NoMemory>
-    ensures { IfOk result (λ values. map tree values.items ≡ defined.values_over (expression expr.now) rows.now) }
-{
-    let mut values = Vec::new(alloc);
-    'rows: for row in rows {
-        let value = expr.value(alloc, row)?;
-        push_present(&mut values, value)?;
-    }
-    Ok(values)
-}
-
-/// Puts a value behind others, where there is one.
-fn push_present(values: &mut Vec<Value>, value: Option<Value>) -> Result<(), NoMemory>
-    ensures { OnOk result (map tree values.new.items ≡ map tree values.old.items ++ defined.with_present (option_map tree value) []) }
-{
-    if let Some(value) = value {
-        values.push(value)?;
-    }
-    Ok(())
 }
 
 impl Group {
@@ -118,64 +90,64 @@ impl Group {
     /// A row for each group of the rows, ascending by their keys. Rows whose keys compare equal are one group, and a missing
     /// key counts as null. Its row has `_id`, spelled as in the group's first row, and behind it the fields. In time n log n
     /// for each field. Fails where memory is wanting.
-    #[tactic(auto, unfolding(crate::specs::Grouping::grouped))]
     pub fn rows(&self, alloc: Global, rows: &[Document]) -> Result<Vec<Document>, NoMemory>
         ensures { IfOk result (λ left. left.items ≡ defined.grouped self.now rows.now) }
     {
-        let keyed = self.keyed(alloc, rows)?;
-        let groups = groups(alloc, &keyed)?;
-        let mut left = Vec::with_capacity(alloc, groups.len())?;
-        'groups: for group in &groups {
-            left.push(self.row(alloc, group)?)?;
-        }
-        Ok(left)
+        laws::keys_stand_as_their_values();
+        let tallies = self.tallies(alloc, rows)?;
+        self.finished(alloc, tallies)
     }
 
-    /// The rows under their keys.
-    fn keyed(&self, alloc: Global, rows: &[Document]) -> Result<Vec<Keyed>, NoMemory>
-        ensures { IfOk result (λ keyed. map seen keyed.items ≡ map (defined.keyed self.now) rows.now) }
+    /// The groups of the rows, by their keys.
+    fn tallies(&self, alloc: Global, rows: &[Document]) -> Result<BTreeMap<Key, Tally>, NoMemory>
+        ensures { IfOk result (λ tallies. tallies_seen tallies.entries ≡ with_rows_put self.now rows.now []) }
     {
-        let mut keyed = Vec::with_capacity(alloc, rows.len())?;
+        let mut tallies = BTreeMap::new(alloc);
         'rows: for row in rows {
-            let key = self.key_in(alloc, row)?;
-            let document = row.try_clone()?;
-            keyed.push(Keyed { key, document })?;
+            self.put(alloc, &mut tallies, row)?;
         }
-        Ok(keyed)
+        Ok(tallies)
+    }
+
+    /// Takes a row into the group of its key.
+    fn put(
+        &self,
+        alloc: Global,
+        tallies: &mut BTreeMap<Key, Tally>,
+        row: &Document,
+    ) -> Result<(), NoMemory>
+        ensures { OnOk result (tallies_seen tallies.new.entries ≡ with_row_put self.now row.now (tallies_seen tallies.old.entries)) }
+    {
+        let key = self.key_in(alloc, row)?;
+        let place = key_of(key.get())?;
+        let tally = tallies.entry(place)?.or_insert(Tally::new(alloc));
+        tally.add(alloc, key, self.fields(), row)
     }
 
     /// The row's key.
-    fn key_in(&self, alloc: Global, row: &Document) -> Result<Value, NoMemory>
-        ensures { IfOk result (λ key. tree key ≡ defined.key_in self.now row.now) }
+    fn key_in<'a>(&'a self, alloc: Global, row: &'a Document) -> Result<RowValue<'a>, NoMemory>
+        ensures { IfOk result (λ key. row_value key ≡ defined.key_in self.now row.now) }
     {
-        match self.key.value(alloc, row)? {
+        match self.key.value_in(alloc, row)? {
             Some(key) => Ok(key),
-            None => Ok(Value::Null),
+            None => Ok(RowValue::Made(Value::Null)),
         }
     }
 
-    /// The row of a group of rows.
-    fn row(&self, alloc: Global, rows: &[Document]) -> Result<Document, NoMemory>
-        ensures { IfOk result (λ row. row ≡ defined.group_row self.now rows.now) }
+    /// The rows of the groups, ascending by their keys.
+    fn finished(
+        &self,
+        alloc: Global,
+        tallies: BTreeMap<Key, Tally>,
+    ) -> Result<Vec<Document>, NoMemory>
+        ensures { IfOk result (λ left. left.items ≡ map (λ e. finished_row self.now.fields e.1) (tallies_seen tallies.entries)) }
     {
-        let key = self.key_of(alloc, rows)?;
-        let mut row = Document::new(alloc);
-        push_field(&mut row, "_id", Some(key))?;
-        'fields: for field in &self.fields {
-            let value = field.value(alloc, rows)?;
-            push_field(&mut row, field.name.as_str(), Some(value))?;
+        let mut left = Vec::with_capacity(alloc, tallies.len())?;
+        'groups: for tally in tallies.into_values() {
+            let row = tally.row(alloc, &self.fields, left.last())?;
+            left.push(row)?;
         }
-        Ok(row)
-    }
-
-    /// The key of a group, as its first row spells it.
-    fn key_of(&self, alloc: Global, rows: &[Document]) -> Result<Value, NoMemory>
-        ensures { IfOk result (λ key. tree key ≡ defined.key_of_group self.now rows.now) }
-    {
-        match rows.first() {
-            Some(row) => self.key_in(alloc, row),
-            None => Ok(Value::Null),
-        }
+        Ok(left)
     }
 
     /// A copy of its own. Fails where memory is wanting.

@@ -1,51 +1,11 @@
-//! Scripts with ample memory: no command, session, size or count is answered by want of it. The bytes of messages and
-//! replies were spelled apart from the program.
+//! Scripts with ample memory: no command, size or count is answered by want of it.
 
 use super::assert_script;
-use super::inserts::{
-    FIND, FIND_ALL, INSERT, INSERTED, document, documents, found, insert, message,
+use super::messages::{
+    FIND, FIND_ALL, INSERT, INSERTED, PING, PONG, document, documents, found, insert, message,
 };
 use std::alloc::{AllocError, Global};
 use std::test::Fail;
-
-// {ping: 1, $db: "t"} of the request 7, and its reply.
-const PING: &str =
-    "2f0000000700000000000000dd07000000000000001a0000001070696e670001000000022464620002000000740000";
-
-const PINGED: &str = "220000000000000007000000dd07000000000000000d000000106f6b000100000000";
-
-// {find: "d", $db: "t"} of the request 2, and its reply without a document.
-const FIND_OTHER: &str =
-    "310000000200000000000000dd07000000000000001c0000000266696e6400020000006400022464620002000000740000";
-
-const FOUND_OTHER: &str =
-    "580000000000000002000000dd07000000000000004300000003637572736f72002e0000000466697273744261746368000500000000126964000000000000000000026e730004000000742e640000106f6b000100000000";
-
-#[test]
-fn serves_session_after_session(rt: HostRuntime) -> Result<(), Fail> {
-    let alloc = rt.alloc();
-    let mut input = String::new(alloc);
-    let mut output = String::new(alloc);
-    let mut identities = Vec::new(alloc);
-    for number in 0..300u32 {
-        let identity = number * 2;
-        identities.push(identity)?;
-        let one = documents(alloc, &[identity])?;
-        let digits = insert(alloc, one.as_slice(), true, 0)?;
-        writeln!(
-            input,
-            "{number} {PING}\n{number} {digits}\n{number} {FIND_OTHER}\n{number} end"
-        )?;
-        writeln!(
-            output,
-            "{number} {PINGED}\n{number} {INSERTED}\n{number} {FOUND_OTHER}\n{number} end 0"
-        )?;
-    }
-    writeln!(input, "7 {FIND_ALL}")?;
-    let all = documents(alloc, identities.as_slice())?;
-    writeln!(output, "7 {}", found(alloc, all.as_slice())?)?;
-    assert_script(&rt, &mut input.as_bytes(), Ok(()), output.as_str())
-}
 
 // {n: 1001, writeErrors: [{index: 1001, code: 11000, errmsg: "DuplicateKey"}, {index: 1002, ..}], ok: 1} to the request 1.
 const TWO_ERRORS: &str =
@@ -98,7 +58,7 @@ fn writes_a_long_reply_beside_a_short_one(rt: HostRuntime) -> Result<(), Fail> {
     // A bad length behind two messages closes the session, which is told behind their replies.
     writeln!(input, "0 {FIND}{PING}19000000\n0 {PING}\n0 end")?;
     let found = found(alloc, stored.as_slice())?;
-    let output = format!(in alloc; "0 {found}\n0 {PINGED}\n0 closed 1\n0 end 0\n")?;
+    let output = format!(in alloc; "0 {found}\n0 {PONG}\n0 closed 1\n0 end 0\n")?;
     assert_script(&rt, &mut input.as_bytes(), Ok(()), output.as_str())
 }
 
@@ -142,6 +102,6 @@ fn deep(alloc: Global, levels: u8) -> Result<String, AllocError> {
 fn tells_a_document_that_is_too_deep(rt: HostRuntime) -> Result<(), Fail> {
     let alloc = rt.alloc();
     let input = format!(in alloc; "0 {}\n0 {}\n", deep(alloc, 100)?, deep(alloc, 101)?)?;
-    let output = format!(in alloc; "0 {PINGED}\n0 {TOO_DEEP}\n")?;
+    let output = format!(in alloc; "0 {PONG}\n0 {TOO_DEEP}\n")?;
     assert_script(&rt, &mut input.as_bytes(), Ok(()), output.as_str())
 }

@@ -1,12 +1,12 @@
 //! Files of documents.
 
+use super::fakes::{Dropping, Narrow};
 use crate::check::{CheckFault, check};
 use crate::fault::DocdFault;
 use crate::load::load_file;
+use crate::streams::{CountedReader, CountedWriter};
 use dv_wire::Store;
 use std::alloc::{AllocError, Global};
-use std::io;
-use std::io::{ErrorKind, Read, Write};
 use std::process::Abort;
 use std::test::Fail;
 
@@ -21,9 +21,9 @@ const TWO: [u8; 28] = [
 
 // What a check writes, or why it doesn't, for a file under the name `f`.
 fn checked(alloc: Global, file: &[u8]) -> Result<String, AllocError> {
-    let mut reader = file;
     let mut written = Vec::new(alloc);
-    match check(alloc, &mut reader, &mut written) {
+    let mut writer = CountedWriter::of(&mut written);
+    match check(alloc, &mut CountedReader::of(file), &mut writer) {
         Ok(()) => match String::from_utf8(written) {
             Ok(text) => Ok(text),
             Err(_) => Err(AllocError),
@@ -62,7 +62,7 @@ fn loaded(alloc: Global, namespace: &str, files: &[&[u8]]) -> Result<String, All
     let mut store = Store::new(alloc);
     let mut text = String::new(alloc);
     for file in files {
-        let mut reader = *file;
+        let mut reader = CountedReader::of(*file);
         match load_file(alloc, &mut store, namespace, &mut reader) {
             Ok(()) => text.push_str("ok\n")?,
             Err(fault) => {
@@ -114,40 +114,13 @@ fn loads_documents(rt: HostRuntime) -> Result<(), Fail> {
     Ok(())
 }
 
-// Gives its bytes one at a read, and fails at this call.
-#[derive(Drop)]
-pub(super) struct Dropping<'a> {
-    pub bytes: &'a [u8],
-    pub calls: usize,
-    pub failing: usize,
-}
-
-impl Read for Dropping<'_> {
-    fn read(&mut self, buf: &mut [u8]) -> io::Result<usize> {
-        self.calls = self.calls.saturating_add(1);
-        if self.calls == self.failing {
-            return Err(io::Error::from(ErrorKind::Other));
-        }
-        let (Some((first, others)), Some(place)) = (self.bytes.split_first(), buf.first_mut())
-        else {
-            return Ok(0);
-        };
-        *place = *first;
-        self.bytes = others;
-        Ok(1)
-    }
-}
-
 #[test]
 fn tells_a_reader_that_fails(rt: HostRuntime) -> Result<(), Fail> {
     for failing in 1..=ONE.len() + 2 {
-        let mut reader = Dropping {
-            bytes: &ONE,
-            calls: 0,
-            failing,
-        };
+        let mut reader = CountedReader::of(Dropping::failing(&ONE, failing));
         let mut written = Vec::new(rt.alloc());
-        let done = check(rt.alloc(), &mut reader, &mut written);
+        let mut writer = CountedWriter::of(&mut written);
+        let done = check(rt.alloc(), &mut reader, &mut writer);
         // One read for each byte, and one that tells the end.
         let (want, text) = if failing <= ONE.len() + 1 {
             (Err(CheckFault::Read), "")
@@ -160,54 +133,16 @@ fn tells_a_reader_that_fails(rt: HostRuntime) -> Result<(), Fail> {
     Ok(())
 }
 
-// Takes one byte at a call, and fails at this one.
-#[derive(Drop)]
-pub(super) struct Narrow {
-    pub taken: Vec<u8>,
-    pub calls: usize,
-    pub failing: usize,
-}
-
-impl Narrow {
-    fn is_failing(&mut self) -> bool {
-        self.calls = self.calls.saturating_add(1);
-        self.calls == self.failing
-    }
-}
-
-impl Write for Narrow {
-    fn write(&mut self, buf: &[u8]) -> io::Result<usize> {
-        if self.is_failing() {
-            return Err(io::Error::from(ErrorKind::Other));
-        }
-        match buf.first() {
-            Some(byte) => {
-                self.taken
-                    .push(*byte)
-                    .map_err(|_| io::Error::from(ErrorKind::OutOfMemory))?;
-                Ok(1)
-            }
-            None => Ok(0),
-        }
-    }
-
-    fn flush(&mut self) -> io::Result<()> {
-        if self.is_failing() {
-            return Err(io::Error::from(ErrorKind::Other));
-        }
-        Ok(())
-    }
-}
-
 #[test]
 fn tells_a_writer_that_fails(rt: HostRuntime) -> Result<(), Fail> {
     for failing in 1..=7usize {
-        let mut writer = Narrow {
-            taken: Vec::new(rt.alloc()),
-            calls: 0,
-            failing,
-        };
-        let done = check(rt.alloc(), &mut ONE.as_slice(), &mut writer);
+        let mut narrow = Narrow::failing(rt.alloc(), failing);
+        let mut writer = CountedWriter::of(&mut narrow);
+        let done = check(
+            rt.alloc(),
+            &mut CountedReader::of(ONE.as_slice()),
+            &mut writer,
+        );
         // One write for each of the five bytes, and a flush.
         let want = if failing <= 6 {
             Err(CheckFault::Write)
@@ -215,7 +150,7 @@ fn tells_a_writer_that_fails(rt: HostRuntime) -> Result<(), Fail> {
             Ok(())
         };
         assert_eq!(rt; done, want, "{failing}");
-        assert!(rt; b"ok 1\n".starts_with(writer.taken.as_slice()), "{failing}");
+        assert!(rt; b"ok 1\n".starts_with(narrow.taken.as_slice()), "{failing}");
     }
     Ok(())
 }

@@ -1,7 +1,7 @@
 //! Sessions over readers and writers, and over the loopback.
 
-use super::files::{Dropping, Narrow};
-use super::inserts::{FIND, FOUND, INSERT, INSERTED};
+use super::fakes::{Dropping, Narrow};
+use super::messages::{FIND, FOUND, INSERT, INSERTED, PING, PONG};
 use crate::serve::{Listener, Port, ServeFault, serve_on};
 use crate::streams::{CountedReader, CountedWriter};
 use dv_wire::{Done, Failed, Hub, RunFault, Store, run};
@@ -10,12 +10,6 @@ use std::io::{Read, Write};
 use std::net::{Shutdown, TcpListener, TcpStream};
 use std::process::Abort;
 use std::test::Fail;
-
-// {ping: 1, $db: "t"} of the request 7, and its reply {ok: 1}.
-const PING: &str =
-    "2f0000000700000000000000dd07000000000000001a0000001070696e670001000000022464620002000000740000";
-
-const PONG: &str = "220000000000000007000000dd07000000000000000d000000106f6b000100000000";
 
 // A session over these bytes, one at a read and one at a write, with failures at these calls: what it comes to, and the
 // digits of what the writer took.
@@ -26,16 +20,8 @@ fn session(
     write_failing: usize,
 ) -> Result<(Result<Done, RunFault>, String), Fail> {
     let bytes = hex::decode(alloc, digits)?;
-    let mut reader = CountedReader::of(Dropping {
-        bytes: bytes.as_slice(),
-        calls: 0,
-        failing: read_failing,
-    });
-    let mut narrow = Narrow {
-        taken: Vec::new(alloc),
-        calls: 0,
-        failing: write_failing,
-    };
+    let mut reader = CountedReader::of(Dropping::failing(bytes.as_slice(), read_failing));
+    let mut narrow = Narrow::failing(alloc, write_failing);
     let mut hub = Hub::new(alloc, Store::new(alloc));
     let done = run(
         alloc,
@@ -92,6 +78,7 @@ struct Clients<'a> {
     alloc: Global,
     all: &'a [(&'a [u8], usize)],
     next: usize,
+    failures: u64,
 }
 
 impl<'a> Listener for Clients<'a> {
@@ -103,18 +90,16 @@ impl<'a> Listener for Clients<'a> {
 
     ghost coming = { λ _. None };
 
+    ghost failures = { λ s. s.failures };
+
     fn accept(&mut self) -> Result<(Self::Input, Self::Output), Failed> {
         let Some(&(bytes, failing)) = self.all.get(self.next) else {
+            self.failures = self.failures.wrapping_add(1);
             return Err(Failed);
         };
         self.next = self.next.saturating_add(1);
-        let reader = Dropping {
-            bytes,
-            calls: 0,
-            failing,
-        };
         Ok((
-            CountedReader::of(reader),
+            CountedReader::of(Dropping::failing(bytes, failing)),
             CountedWriter::of(Vec::new(self.alloc)),
         ))
     }
@@ -140,8 +125,10 @@ fn serves_behind_a_connection_that_was_closed_or_failed(rt: HostRuntime) -> Resu
             alloc,
             all: &clients,
             next: 0,
+            failures: 0,
         };
-        let done = serve_on(alloc, &mut hub, &mut listener, connections, &mut written);
+        let mut writer = CountedWriter::of(&mut written);
+        let done = serve_on(alloc, &mut hub, &mut listener, connections, &mut writer);
         assert_eq!(rt; done, want);
         assert_eq!(rt; written.as_slice(), lines.as_bytes());
     }
@@ -162,7 +149,8 @@ fn serves_the_loopback(rt: HostRuntime) -> Result<(), Fail> {
     }
     let mut hub = Hub::new(alloc, Store::new(alloc));
     let mut written = Vec::new(alloc);
-    let done = serve_on(alloc, &mut hub, &mut Port::of(listener), 2, &mut written);
+    let mut writer = CountedWriter::of(&mut written);
+    let done = serve_on(alloc, &mut hub, &mut Port::of(listener), 2, &mut writer);
     assert_eq!(rt; done, Ok(()));
     assert_eq!(rt;
         written.as_slice(),

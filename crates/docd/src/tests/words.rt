@@ -132,6 +132,13 @@ fn tells_its_faults(rt: HostRuntime) -> Result<(), Fail> {
             DocdFault::Script(ScriptFault::BadLine { line: 12 }),
             "1 line 12: bad line",
         ),
+        (DocdFault::Script(ScriptFault::Read), "1 read failed"),
+        (DocdFault::Script(ScriptFault::Write), "1 write failed"),
+        (DocdFault::Script(ScriptFault::NoMemory), "1 no memory"),
+        (
+            DocdFault::Script(ScriptFault::Sessions),
+            "1 too many sessions",
+        ),
     ];
     for (fault, want) in rows {
         let status = status(&fault);

@@ -1,4 +1,4 @@
-use Rattle.std.proofs.Common.{◌∙◌, ◌<◌, Err, Ok, Some, ap, arith, inl, inr, length, length-append, rules, sym}
+use Rattle.std.proofs.Common.{◌∙◌, ◌<◌, Err, Ok, Some, ap, arith, inl, inr, length, length-append, refl, rules, sym}
 use Rattle.std.proofs.lemmas.Bool.{eqb-true}
 use Rattle.std.proofs.lemmas.List.{nil_from_length}
 use Rattle.docd.proofs.Files.{Counts-all, Counts-held, Counts-more, Counts-nothing, Counts-stops, HasBytes, fewer_behind}
@@ -10,14 +10,13 @@ documents-init c = Counts-nothing c.args.bytes.now
 pub documents-smaller : goal.documents-smaller
 documents-smaller c =
     let law : HasBytes = record { nothing = c.what_a_field_adds.ensures.nothing; more = c.what_a_field_adds.ensures.more } in
-    fewer_behind law c.documents.rest.now _ c.in-Ok.behind.now c.in-Ok.ensures.found
+    fewer_behind law c.documents.rest.now _ c.in-Ok.behind.now c.in-Ok.ensures.found.1
 
 pub documents-preserved : goal.documents-preserved
 documents-preserved c =
     let law : HasBytes = record { nothing = c.what_a_field_adds.ensures.nothing; more = c.what_a_field_adds.ensures.more } in
     let some : 0 < length c.documents.rest.now = search rules in
-    Counts-more law c.args.bytes.now c.documents.rest.now _ c.in-Ok.behind.now c.documents.count c.documents.invariant some c.in-Ok.ensures.found
-    (λ e others begins. (c.in-Ok.ensures.only e others begins).1)
+    Counts-more law c.args.bytes.now c.documents.rest.now _ c.in-Ok.behind.now c.documents.count c.documents.invariant some c.in-Ok.ensures.found.1 c.in-Ok.ensures.only
 
 pub returns-in-Err : goal.returns-in-Err
 returns-in-Err c =
@@ -42,6 +41,8 @@ returns-in-Err c =
               first = first ∙ ap Some (sym told.2);
             }
           ];
+      streams = c.of_document.ensures.streams;
+      small = λ e. c.of_document.ensures.small cc;
     }
 
 pub returns : goal.returns
@@ -52,4 +53,6 @@ returns c =
       counted = Counts-held _ _ _ c.documents.invariant none;
       only = λ all holds. inl (ap Ok (Counts-all law _ _ _ c.documents.invariant none all holds));
       refused = λ number at fault e. cc;
+      streams = λ n. (refl, refl);
+      small = λ e. cc;
     }

@@ -1,7 +1,7 @@
 use Rattle.std.proofs.Common.{List, take, sym, ap, subst, ◌∙◌}
 use Rattle.dv_bson.specs.Tree.{Field}
 use Rattle.dv_catalog.specs.Changes.{Change, apply}
-use Rattle.dv_catalog.specs.EffectView.{ArePlaced, changes_seen}
+use Rattle.dv_catalog.specs.EffectView.{ArePlaced, StandsFor, changes_seen}
 use Rattle.dv_catalog.specs.State.{Collection}
 use Rattle.dv_catalog.specs.View.{standing_by_namespace}
 use Rattle.dv_catalog.proofs.ByNamespace.{applied, collection-there, same-written, standing-written, with_collection}
@@ -12,7 +12,11 @@ use Rattle.dv_catalog.proofs.collections.Collections.make.Goals.{in-Some, in-Non
 pub make_in-requires : goal.make_in-requires
 make_in-requires c =
     let are = collection-there c.self.inside.collections c.args.namespace.now _ c.in-Some.ensures.value in
-    subst (λ (ds : List (List Field)). ArePlaced ds (changes_seen c.args.changes)) (ap (λ (x : Collection). x.documents) are) (rw (← c.self.view_is) at c.requires)
+    let there = ap (λ (x : Collection). x.documents) are in
+    record {
+      placed = subst (λ (ds : List (List Field)). ArePlaced ds (changes_seen c.args.changes)) there (rw (← c.self.view_is) at c.requires.placed);
+      standing = subst (λ (ds : List (List Field)). StandsFor ds c.args.changes) there (rw (← c.self.view_is) at c.requires.standing);
+    }
 
 pub returns-clause-made : goal.returns-clause-made
 returns-clause-made c =

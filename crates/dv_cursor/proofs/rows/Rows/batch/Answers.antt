@@ -15,7 +15,7 @@ rows-init c = record {
 pub rows-preserved : goal.rows-preserved
 rows-preserved c =
     let row = c.in-Some.row.now in
-    let test = takes-is c.args.count c.len-2.result c.rows.bytes c.bytes_with-more.result c.rows.taken.items row (c.len-2.ensures ∙ c.rows.taken.ok.0) c.rows.invariant.counted c.bytes_with-more.ensures in
+    let test = takes-is c.args.count c.len-in-rows.result c.rows.bytes c.bytes_with-more.result c.rows.taken.items row (c.len-in-rows.ensures ∙ c.rows.taken.ok.0) c.rows.invariant.counted c.bytes_with-more.ensures in
     let taken : takes c.args.count c.rows.taken.items row ≡ true = cc in
     let pushed = c.in_ok-push.ensures.items in
     record {
@@ -29,7 +29,7 @@ returns c =
       | in-None w ↦ rw (nil_from_length _ w.in-None.ensures.steps.0) at c.rows.invariant.filled
       | in-Some+then-not-is_taken w ↦
           let row = w.in-Some.row.now in
-          let test = takes-is c.args.count w.len-2.result c.rows.bytes w.bytes_with-more.result c.rows.taken.items row (w.len-2.ensures ∙ c.rows.taken.ok.0) c.rows.invariant.counted w.bytes_with-more.ensures in
+          let test = takes-is c.args.count w.len-in-rows.result c.rows.bytes w.bytes_with-more.result c.rows.taken.items row (w.len-in-rows.ensures ∙ c.rows.taken.ok.0) c.rows.invariant.counted w.bytes_with-more.ensures in
           let none : takes c.args.count c.rows.taken.items row ≡ false = cc in
           filled-no_more _ _ _ _ none ∙ (rw w.in-Some.ensures.steps at c.rows.invariant.filled)
     ]

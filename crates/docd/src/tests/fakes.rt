@@ -1,0 +1,88 @@
+//! Readers and writers that take one byte at a call, and fail.
+
+use std::alloc::Global;
+use std::io;
+use std::io::{ErrorKind, Read, Write};
+
+// Gives its bytes one at a read, and fails at this call.
+#[derive(Drop)]
+pub(super) struct Dropping<'a> {
+    bytes: &'a [u8],
+    calls: usize,
+    failing: usize,
+}
+
+impl<'a> Dropping<'a> {
+    // Fails at no call where this is 0.
+    pub(super) fn failing(bytes: &'a [u8], failing: usize) -> Self {
+        Dropping {
+            bytes,
+            calls: 0,
+            failing,
+        }
+    }
+}
+
+impl Read for Dropping<'_> {
+    fn read(&mut self, buf: &mut [u8]) -> io::Result<usize> {
+        self.calls = self.calls.saturating_add(1);
+        if self.calls == self.failing {
+            return Err(io::Error::from(ErrorKind::Other));
+        }
+        let (Some((first, others)), Some(place)) = (self.bytes.split_first(), buf.first_mut())
+        else {
+            return Ok(0);
+        };
+        *place = *first;
+        self.bytes = others;
+        Ok(1)
+    }
+}
+
+// Takes one byte at a call, and fails at this one.
+#[derive(Drop)]
+pub(super) struct Narrow {
+    pub(super) taken: Vec<u8>,
+    calls: usize,
+    failing: usize,
+}
+
+impl Narrow {
+    // Fails at no call where this is 0.
+    pub(super) fn failing(alloc: Global, failing: usize) -> Self {
+        Narrow {
+            taken: Vec::new(alloc),
+            calls: 0,
+            failing,
+        }
+    }
+
+    fn is_failing(&mut self) -> bool {
+        self.calls = self.calls.saturating_add(1);
+        self.calls == self.failing
+    }
+}
+
+impl Write for Narrow {
+    fn write(&mut self, buf: &[u8]) -> io::Result<usize> {
+        if self.is_failing() {
+            return Err(io::Error::from(ErrorKind::Other));
+        }
+        match buf.first() {
+            Some(byte) => {
+                self.taken
+                    .push(*byte)
+                    .map_err(|_| io::Error::from(ErrorKind::OutOfMemory))?;
+                Ok(1)
+            }
+            None => Ok(0),
+        }
+    }
+
+    fn flush(&mut self) -> io::Result<()> {
+        if self.is_failing() {
+            return Err(io::Error::from(ErrorKind::Other));
+        }
+        Ok(())
+    }
+}

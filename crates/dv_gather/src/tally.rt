@@ -1,0 +1,148 @@
+//! Groups so far.
+
+ghost use Rattle.std.specs.Prelude.{◌≡◌, [], map, IfOk, OnOk};
+ghost use Rattle.dv_bson.specs.View.{tree};
+ghost use Rattle.dv_row.specs.RowValueView.{row_value};
+ghost use Rattle.dv_gather.specs.GroupView.{accumulation};
+ghost use Rattle.dv_gather.specs.Tallies as defined;
+ghost use Rattle.dv_gather.specs.TotalView.{keys_seen, tally_seen, total_seen};
+
+use crate::group::GroupField;
+use crate::total::{Total, add_at};
+use dv_bson::{Document, NoMemory, Value};
+use dv_row::{RowValue, push_field};
+use std::alloc::Global;
+
+/// What has come of a group's rows so far.
+#[derive(Debug, Drop)]
+pub(crate) struct Tally {
+    /// The key as the first row spells it, where there was a row.
+    key: Option<Value>,
+    totals: Vec<Total>,
+}
+
+impl Tally {
+    /// A group of no rows. Takes no memory.
+    pub(crate) fn new(alloc: Global) -> Self
+        ensures { tally_seen result ≡ defined.without_rows }
+    {
+        Tally {
+            key: None,
+            totals: Vec::new(alloc),
+        }
+    }
+
+    /// Takes a row of the group in, which has this key. Fails where memory is wanting.
+    pub(crate) fn add(
+        &mut self,
+        alloc: Global,
+        key: RowValue<'_>,
+        fields: &[GroupField],
+        row: &Document,
+    ) -> Result<(), NoMemory>
+        ensures { OnOk result (tally_seen self.new ≡ defined.taken (map accumulation fields.now) row.now (defined.started (map accumulation fields.now) (row_value key.entry) (tally_seen self.old))) }
+    {
+        self.start(alloc, key, fields)?;
+        self.add_values(alloc, fields, row)
+    }
+
+    /// Begins with the key and empty totals, where there was no row.
+    fn start(
+        &mut self,
+        alloc: Global,
+        key: RowValue<'_>,
+        fields: &[GroupField],
+    ) -> Result<(), NoMemory>
+        ensures { OnOk result (tally_seen self.new ≡ defined.started (map accumulation fields.now) (row_value key.entry) (tally_seen self.old)) }
+    {
+        if self.key.is_some() {
+            return Ok(());
+        }
+        self.totals = empty_totals(alloc, fields)?;
+        self.key = Some(key.into_value()?);
+        Ok(())
+    }
+
+    /// Takes the row's values into the totals.
+    fn add_values(
+        &mut self,
+        alloc: Global,
+        fields: &[GroupField],
+        row: &Document,
+    ) -> Result<(), NoMemory>
+        ensures { OnOk result (tally_seen self.new ≡ defined.taken (map accumulation fields.now) row.now (tally_seen self.old)) }
+    {
+        add_each(alloc, &mut self.totals, fields, row)
+    }
+
+    /// The group's row. A row before it lends its names. Fails where memory is wanting.
+    pub(crate) fn row(
+        self,
+        alloc: Global,
+        fields: &[GroupField],
+        before: Option<&Document>,
+    ) -> Result<Document, NoMemory>
+        ensures { IfOk result (λ row. row ≡ defined.finished_row (map accumulation fields.now) (tally_seen self)) }
+    {
+        let Tally { key, totals } = self;
+        let mut row = beside(alloc, before)?;
+        push_field(&mut row, "_id", Some(spelled(key)))?;
+        let mut totals = totals.into_iter();
+        'fields: for field in fields {
+            let Some(total) = totals.next() else {
+                break;
+            };
+            let value = total.value(alloc)?;
+            push_field(&mut row, field.name.as_str(), Some(value))?;
+        }
+        Ok(row)
+    }
+}
+
+/// Takes a row's values into the totals of the fields. Fails where memory is wanting.
+fn add_each(
+    alloc: Global,
+    totals: &mut Vec<Total>,
+    fields: &[GroupField],
+    row: &Document,
+) -> Result<(), NoMemory>
+    ensures { OnOk result (map total_seen totals.new.items ≡ defined.with_values (map accumulation fields.now) row.now (map total_seen totals.old.items)) }
+{
+    'fields: for (place, field) in fields.iter().enumerate() {
+        if let Some(value) = field.expr.value_in(alloc, row)? {
+            add_at(totals, place, value)?;
+        }
+    }
+    Ok(())
+}
+
+/// The key of a group, null where there was no row.
+fn spelled(key: Option<Value>) -> Value
+    ensures { tree result ≡ defined.key_or_null (keys_seen key) }
+{
+    match key {
+        Some(key) => key,
+        None => Value::Null,
+    }
+}
+
+/// The totals of the fields over no rows. Fails where memory is wanting.
+fn empty_totals(alloc: Global, fields: &[GroupField]) -> Result<Vec<Total>, NoMemory>
+    ensures { IfOk result (λ totals. map total_seen totals.items ≡ defined.totals_of_none (map accumulation fields.now)) }
+{
+    let mut totals = Vec::with_capacity(alloc, fields.len())?;
+    'fields: for field in fields {
+        totals.push(Total::of_none(alloc, field.accumulator))?;
+    }
+    Ok(totals)
+}
+
+/// A row without fields that expects those of the row before it, where there is one. Fails where memory is wanting.
+fn beside(alloc: Global, before: Option<&Document>) -> Result<Document, NoMemory>
+    ensures { IfOk result (λ row. row ≡ []) }
+{
+    match before {
+        Some(before) => Document::expecting(alloc, before),
+        None => Ok(Document::new(alloc)),
+    }
+}
