@@ -202,7 +202,7 @@ fn set_under(document: &Document, name: &str, value: Option<Value>) -> Result<Do
 {
     let mut set = document.try_clone()?;
     match value {
-        Some(value) => set.replace(name, value)?,
+        Some(value) => set.put(name, value)?,
         None => set.remove(name)?,
     };
     Ok(set)
