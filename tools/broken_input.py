@@ -42,6 +42,8 @@ Piece = namedtuple("Piece", "session data")
 # A length that stands at a place, and the bytes that it counts.
 Length = namedtuple("Length", "at start end")
 
+STRANGE = [b"\0", b"\xff", b"\0\0\0\0", b"\xff\xff\xff\x7f", b"\5\0\0\0\0", b"\x10a\0\1\0\0\0", b"\2", b"a\0"]
+NUMBERS = [0, -1, 1, 4, 5, 16_777_216, 16_777_217, 2**31 - 1, -2**31]
 WRONG_UTF8 = [b"\xff", b"\xc0\x80", b"\xed\xa0\x80", b"\xf4\x90\x80\x80", b"\xe2\x82", b"\x80", b"\xf0\x80\x80\x80", b"\xc3"]
 REFUSED_BYTES = b"InvalidBSON: ".hex().encode()
 RIGHT_UTF8 = ["é".encode(), "€".encode(), "😀".encode(), b"\xf4\x8f\xbf\xbf", b"\xef\xbf\xbf", b"\x7f"]
@@ -161,8 +163,7 @@ class Breaker:
 
     def some(self):
         """Some bytes that come in no message, or in any."""
-        return self.rng.choice([b"\0", b"\xff", b"\0\0\0\0", b"\xff\xff\xff\x7f", b"\5\0\0\0\0", b"\x10a\0\1\0\0\0", b"\2", b"a\0",
-                                self.rng.randbytes(self.rng.randrange(1, 20))])
+        return self.rng.choice([*STRANGE, self.rng.randbytes(self.rng.randrange(1, 20))])
 
     def changed(self, parts):
         front = 20 if self.rng.random() < 0.1 else 26
@@ -207,8 +208,7 @@ class Breaker:
             return None
         at = self.rng.choice(lengths).at
         old = int32(parts.data, at)
-        new = self.rng.choice([old + 1, old - 1, old + 4, old - 4, 0, -1, 1, 4, 5, -old, old + 256, old + 65_536, 2**31 - 1, -2**31,
-                               16_777_216, 16_777_217, 2**30 + old])
+        new = self.rng.choice([*NUMBERS, old + 1, old - 1, old + 4, old - 4, -old, old + 256, old + 65_536, old + 2**30])
         new = (new + 2**31) % 2**32 - 2**31
         return parts.data[:at] + struct.pack("<i", new) + parts.data[at + 4:]
 
@@ -226,7 +226,8 @@ class Breaker:
             return None
         start, end = self.rng.choice(names)
         other = parts.data[slice(*self.rng.choice(names))]
-        new = self.rng.choice([b"", other, b"\0" + other, b"$" + other, other + b".", b"0", b"1", b"00", b"_id", b"$db", b"$or", b"\0"])
+        names = [b"", b"0", b"1", b"00", b"_id", b"$db", b"$or", b"\0"]
+        new = self.rng.choice([*names, other, b"\0" + other, b"$" + other, other + b"."])
         return self.replaced(parts, start, self.rng.choice([end, end, end + 1]), new)
 
     def wrong_text(self, parts):
@@ -263,8 +264,10 @@ class Breaker:
         start, end = self.rng.choice(sections)
         other = b"\1" + struct.pack("<i", self.rng.choice([4, 5, 6, 7, -1, -5, -2**31, 2**31 - 1, 14])) + self.rng.choice(
             [b"x\0", b"\0", b"documents\0", b"\xff\0", b"x"]) + self.rng.choice([b"", b"\5\0\0\0\0", b"\4\0\0\0"])
-        return self.rng.choice([parts.data[:start] + bytes([self.rng.choice([0, 1, 2, 255])]) + parts.data[end:],
-                                self.replaced(parts, start, start, other), self.replaced(parts, len(parts.data), len(parts.data), other)])
+        if self.rng.random() < 0.3:
+            return parts.data[:start] + bytes([self.rng.choice([0, 1, 2, 255])]) + parts.data[end:]
+        at = self.rng.choice([start, len(parts.data)])
+        return self.replaced(parts, at, at, other)
 
     def joined(self, parts):
         """A piece of one message in front of the next."""
@@ -488,7 +491,8 @@ def main():
         seen = compare(WAYS[name](given.program), name, given.seed, given.count)
         if seen is None:
             return 1
-        print("%s (seed %d): no difference; %s" % (name, given.seed, ", ".join("%d %s" % (count, what) for what, count in sorted(seen.items()))))
+        shown = ", ".join("%d %s" % (count, what) for what, count in sorted(seen.items()))
+        print("%s (seed %d): no difference; %s" % (name, given.seed, shown), flush=True)
     return 0
 
 

@@ -7,7 +7,7 @@ both sizes the processor time and the most memory that was resident are printed,
 ratio above 2.5 stands out, as more than the size grows. So does a run that doesn't end well, and then the exit status is 1.
 
     python3 tools/limits.py
-    python3 tools/limits.py --cases "unwind,lookup" --program crates/docd/out/docd
+    python3 tools/limits.py --cases "unwind,lookup" --part 10 --program crates/docd/out/docd
 """
 import argparse
 import os
@@ -50,7 +50,11 @@ def command(name, *fields, of=b"c"):
 
 def put(*documents):
     """An insert, whose documents stand beside the message's body, so that each may be as large as is allowed."""
-    return joined([section(None, [spelled([(b"insert", text(b"c")), DATABASE])]), section(b"documents", map(spelled, documents))], 1, 0)
+    return put_bytes(map(spelled, documents))
+
+
+def put_bytes(documents, of=b"c"):
+    return joined([section(None, [spelled([(b"insert", text(of)), DATABASE])]), section(b"documents", documents)], 1, 0)
 
 
 def find(**fields):
@@ -61,9 +65,22 @@ def aggregate(*stages):
     return command(b"aggregate", (b"pipeline", array(stages)), (b"cursor", document([])))
 
 
+def stage(name, operand):
+    return document([(name, operand)])
+
+
+def with_id(identity):
+    return document([(b"_id", number(identity))])
+
+
+def updating(query, operator, *operands, **others):
+    """An entry of an update."""
+    entry = [(b"q", query), (b"u", stage(operator, document(operands)))]
+    return document([*entry, *((name.encode(), value) for name, value in others.items())])
+
+
 def update(operator, *operands, **others):
-    entry = [(b"q", document([])), (b"u", document([(operator, document(operands))]))]
-    return command(b"update", (b"updates", array([document([*entry, *((name.encode(), value) for name, value in others.items())])])))
+    return command(b"update", (b"updates", array([updating(document([]), operator, *operands, **others)])))
 
 
 def plain(count, field=b"a"):
@@ -123,14 +140,13 @@ def statements_of_an_insert(count):
 @case(100_000)
 def statements_of_a_delete(count):
     yield from plain(count)
-    yield command(b"delete", (b"deletes", array(document([(b"q", document([(b"_id", number(at))])), (b"limit", ONE)]) for at in range(count))))
+    yield command(b"delete", (b"deletes", array(document([(b"q", with_id(at)), (b"limit", ONE)]) for at in range(count))))
 
 
 @case(100_000)
 def statements_of_an_update(count):
     yield from plain(count)
-    yield command(b"update", (b"updates", array(document([(b"q", document([(b"_id", number(at))])), (b"u", document([(b"$inc", document([(b"a", ONE)]))]))])
-                                                for at in range(count))))
+    yield command(b"update", (b"updates", array(updating(with_id(at), b"$inc", (b"a", ONE)) for at in range(count))))
 
 
 @case(400_000)
@@ -246,19 +262,20 @@ def paths_of_inc(count):
     yield update(b"$inc", *named(count))
 
 
-@case(20_000)
+@case(1_000)
 def paths_of_unset(count):
+    """Fewer than are allowed: each path costs the document's fields, and 100,000 of both would take an hour."""
     yield put([IDENTITY, *named(count)])
     yield update(b"$unset", *named(count))
 
 
-@case(20_000)
+@case(100_000)
 def paths_of_push(count):
     yield put([IDENTITY, *named(count, array([]))])
     yield update(b"$push", *named(count))
 
 
-@case(20_000)
+@case(100_000)
 def paths_of_pull(count):
     yield put([IDENTITY, *named(count, array([ONE]))])
     yield update(b"$pull", *named(count))
@@ -285,14 +302,10 @@ def documents_whose_arrays_are_filled_with_nulls(count):
 @case(2_000)
 def statements_that_push_to_one_array(count):
     yield put([IDENTITY, (b"a", array([ONE] * 1_000))])
-    yield command(b"update", (b"updates", array([document([(b"q", document([])), (b"u", document([(b"$push", document([(b"a", ONE)]))]))])] * count)))
+    yield command(b"update", (b"updates", array([updating(document([]), b"$push", (b"a", ONE))] * count)))
 
 
 # Pipelines.
-
-
-def stage(name, operand):
-    return document([(name, operand)])
 
 
 @case(100_000)
@@ -350,8 +363,8 @@ def elements_of_an_unwind_in_a_wide_document(count):
     yield aggregate(stage(b"$unwind", text(b"$a")), stage(b"$limit", ONE))
 
 
-def lookup(local, foreign):
-    fields = [(b"from", b"c"), (b"localField", local), (b"foreignField", foreign), (b"as", b"o")]
+def lookup(local, foreign, of=b"c"):
+    fields = [(b"from", of), (b"localField", local), (b"foreignField", foreign), (b"as", b"o")]
     return stage(b"$lookup", document([(name, text(value)) for name, value in fields]))
 
 
@@ -368,10 +381,11 @@ def elements_of_a_lookup(count):
     yield aggregate(stage(b"$match", document([(b"_id", number(-1))])), lookup(b"a", b"_id"))
 
 
-@case(2_000)
-def rows_of_a_lookup_of_all_by_all(count):
-    yield put(*([(b"_id", number(at))] for at in range(count)))
-    yield aggregate(lookup(b"a", b"a"))
+@case(20_000)
+def rows_of_a_lookup_that_each_find_the_same(count):
+    yield from plain(count)
+    yield put_bytes((spelled([(b"_id", number(at))]) for at in range(100)), of=b"d")
+    yield aggregate(lookup(b"none", b"none", of=b"d"))
 
 
 @case(16)
@@ -425,23 +439,26 @@ def writes_under_a_view(count):
         yield put([(b"_id", number(-1 - place))])
 
 
+def indexing(*paths):
+    entries = (document([(b"key", document([(path, ONE)])), (b"name", text(path))]) for path in paths)
+    return command(b"createIndexes", (b"indexes", array(entries)))
+
+
 @case(63)
 def indexes(count):
-    entries = array(document([(b"key", document([(b"n%d" % place, ONE)])), (b"name", text(b"n%d" % place))]) for place in range(count))
-    yield command(b"createIndexes", (b"indexes", entries))
+    yield indexing(*(b"n%d" % place for place in range(count)))
     for start in range(0, 5_000, 100):
         yield put(*([(b"_id", number(at)), *named(63, number(at))] for at in range(start, start + 100)))
 
 
 @case(100_000)
 def entries_of_indexes(count):
-    entry = document([(b"key", document([(b"a", ONE)])), (b"name", text(b"a_1"))])
-    yield command(b"createIndexes", (b"indexes", array([entry] * count)))
+    yield indexing(*[b"a"] * count)
 
 
 @case(500_000)
 def elements_under_an_index(count):
-    yield command(b"createIndexes", (b"indexes", array([document([(b"key", document([(b"a", ONE)])), (b"name", text(b"a_1"))])])))
+    yield indexing(b"a")
     yield put([IDENTITY, (b"a", array(map(number, range(count))))])
     yield update(b"$push", (b"a", number(-1)))
     yield find(filter=document([(b"a", document([(b"$gte", number(0))]))]))
@@ -463,7 +480,7 @@ def pings(count):
 
 @case(3_000_000)
 def documents_of_a_section(count):
-    yield joined([section(None, [spelled([(b"insert", text(b"c")), DATABASE])]), section(b"documents", [b"\5\0\0\0\0"] * count)], 1, 0)
+    yield put_bytes([b"\5\0\0\0\0"] * count)
 
 
 @case(40_000_000)
@@ -506,14 +523,19 @@ def run(program, is_script, given, answer):
     return Took(usage.ru_utime + usage.ru_stime, usage.ru_maxrss << 10, docd.returncode)
 
 
+def kind(reply):
+    if b"code" in reply:
+        return "code %d" % reply[b"code"][1]
+    return "with write errors" if b"writeErrors" in reply else "ok"
+
+
 def answered(path):
     """What the replies in a file tell: how many there are, and how many refusals of each code."""
     seen, at = Counter(), 0
     with open(path, "rb") as file:
         while len(header := file.read(4)) == 4 and 26 <= (length := struct.unpack("<i", header)[0]):
             rest = file.read(length - 4)
-            fields = dict(read_document(rest[17:])) if length < 1_000 else {}
-            seen["code %d" % fields[b"code"][1] if b"code" in fields else "write errors" if b"writeErrors" in fields else "ok"] += 1
+            seen[kind(dict(read_document(rest[17:])) if length < 1_000 else {})] += 1
             at = file.tell()
         file.seek(at)
         last = file.read(200).decode(errors="replace").strip()
@@ -523,13 +545,14 @@ def answered(path):
 Took = namedtuple("Took", "seconds memory status")
 
 
-def measured(program, name, folder):
+def measured(program, name, part, folder):
     """Prints a case's line, and tells whether nothing in it stands out. What stands out is run again, and the least counts."""
     make, most = CASES[name]
+    sizes = most // part // 2, most // part
     given, answer, best = os.path.join(folder, "given"), os.path.join(folder, "answer"), []
     for _ in range(MOST_RUNS):
         took = []
-        for size in (most // 2, most):
+        for size in sizes:
             write(make, size, given)
             took.append(run(program, make is sessions, given, answer))
         best = [min(runs) for runs in zip(best, took)] if best else took
@@ -537,7 +560,7 @@ def measured(program, name, folder):
         is_right = not stands_out(best[1], ratios)
         if is_right or best[1].status:
             break
-    told = ["%d: %.2f s, %d MB" % (size, one.seconds, one.memory >> 20) for size, one in zip((most // 2, most), best)]
+    told = ["%d: %.2f s, %d MB" % (size, one.seconds, one.memory >> 20) for size, one in zip(sizes, best)]
     told += ["ratios %.1f and %.1f" % ratios, *(["status %d" % best[1].status] if best[1].status else []), answered(answer)]
     print("%s %s: %s" % ("  " if is_right else "!!", name, "; ".join(told)), flush=True)
     return is_right
@@ -553,12 +576,13 @@ def main():
     options = argparse.ArgumentParser(description=__doc__, formatter_class=argparse.RawDescriptionHelpFormatter)
     options.add_argument("--cases", default="", help="words, joined by commas, of which the names of the cases have one")
     options.add_argument("--program", default=DOCD)
+    options.add_argument("--part", type=int, default=1, help="take so-manieth parts of the sizes, to be quicker")
     given = options.parse_args()
     if not os.path.exists(given.program):
         sys.exit("limits: build the program first, by running ./docd once")
     words = given.cases.split(",")
     with tempfile.TemporaryDirectory() as folder:
-        right = [measured(given.program, name, folder) for name in CASES if any(word in name for word in words)]
+        right = [measured(given.program, name, given.part, folder) for name in CASES if any(word in name for word in words)]
     print("%d cases, of which %d stand out" % (len(right), right.count(False)))
     return 0 if all(right) else 1
 

@@ -1,5 +1,5 @@
 #!/usr/bin/python3
-"""Makes a script's lines of commands that are written as JSON, and reads docd's lines back as JSON; asks a docd that serves;
+r"""Makes a script's lines of commands that are written as JSON, and reads docd's lines back as JSON; asks a docd that serves;
 or makes a file to be loaded.
 
 One command a line on standard input, its name first; lines that are empty or begin with `#` are skipped. How values are

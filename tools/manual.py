@@ -65,11 +65,12 @@ def sent(program, examples):
 def typed(program, examples):
     """For each line that is typed what is written of it, and what is printed."""
     with tempfile.TemporaryDirectory() as folder:
-        for name, target in ("docd", program), ("tools", os.path.join(HERE, "tools")), ("examples", os.path.join(HERE, "examples")):
-            os.symlink(os.path.abspath(target), os.path.join(folder, name))
+        os.symlink(os.path.abspath(program), os.path.join(folder, "docd"))
+        for name in "tools", "examples":
+            os.symlink(os.path.join(HERE, name), os.path.join(folder, name))
         for words, written in examples:
-            done = subprocess.run(["sh", "-c", words], cwd=folder, stdout=subprocess.PIPE, stderr=subprocess.STDOUT, stdin=subprocess.DEVNULL,
-                                  timeout=60)
+            done = subprocess.run(["sh", "-c", words], cwd=folder, stdin=subprocess.DEVNULL, stdout=subprocess.PIPE,
+                                  stderr=subprocess.STDOUT, timeout=60)
             yield words, written, done.stdout.decode()
 
 

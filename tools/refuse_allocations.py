@@ -143,8 +143,9 @@ def viewed(*commands):
 
 def gathered(*commands):
     """Commands under two views, one that groups and one that looks into another collection."""
-    return under({"v": [{"$unwind": "$tags"}, {"$group": {"_id": "$tags", "n": {"$sum": "$n"}, "all": {"$push": "$_id"}, "least": {"$min": "$n"}}}],
-                  "w": [{"$lookup": {"from": "d", "localField": "n", "foreignField": "_id", "as": "d"}}, {"$match": {"d.x": {"$exists": True}}}]},
+    fields = {"_id": "$tags", "n": {"$sum": "$n"}, "all": {"$push": "$_id"}, "least": {"$min": "$n"}}
+    looked = {"from": "d", "localField": "n", "foreignField": "_id", "as": "d"}
+    return under({"v": [{"$unwind": "$tags"}, {"$group": fields}], "w": [{"$lookup": looked}, {"$match": {"d.x": {"$exists": True}}}]},
                  Message(0, insert("d", [{"_id": 5, "x": "five"}, {"_id": 4, "x": ["four"]}])), *commands)
 
 
@@ -222,25 +223,28 @@ FURTHER = {
                 "an update under indexes": indexed(update({"q": {"n": {"$gt": 4}}, "u": {"$set": {"tags": [1, "all"]}}, "multi": True})),
                 "a delete under indexes": indexed(delete({"q": {"tags": "all"}, "limit": 0})),
                 "indexes that are dropped": indexed(Message(0, {"dropIndexes": "c", "index": "*", "$db": "t"})),
-                "arrays in arrays under indexes": indexed(Message(0, insert("c", [{"_id": 9, "n": [[1, 2], {"a": [3]}, 1, 1], "tags": []}])),
-                                                          update({"q": {"n": 1}, "u": {"$push": {"n": {"$each": [7, [1, 2]]}}}}),
-                                                          delete({"q": {"n": [1, 2]}, "limit": 1})),
-                "an index that is dropped and made again": indexed(Message(0, {"dropIndexes": "c", "index": "tags_1", "$db": "t"}), *AGAIN),
+                "arrays in arrays under indexes": indexed(
+                    Message(0, insert("c", [{"_id": 9, "n": [[1, 2], {"a": [3]}, 1, 1], "tags": []}])),
+                    update({"q": {"n": 1}, "u": {"$push": {"n": {"$each": [7, [1, 2]]}}}}), delete({"q": {"n": [1, 2]}, "limit": 1})),
+                "an index that is dropped and made again": indexed(
+                    Message(0, {"dropIndexes": "c", "index": "tags_1", "$db": "t"}), *AGAIN),
                 "a drop of an indexed collection": indexed(Message(0, {"drop": "c", "$db": "t"}), *AGAIN)},
     "cursors": {"batches": three(Message(0, {"find": "c", "batchSize": 1, "$db": "t"}),
                                  Message(0, {"getMore": 1, "collection": "c", "batchSize": 2, "$db": "t"}),
                                  Message(0, {"getMore": 1, "collection": "c", "$db": "t"})),
                 "a cursor that is killed": three(Message(0, {"find": "c", "batchSize": 0, "$db": "t"}),
                                                  Message(0, {"killCursors": "c", "cursors": [1, 9], "$db": "t"})),
-                "cursors of two sessions": three(find("c", batchSize=1), find("c", 2, batchSize=2), more(1, 2), more(2, 2), more(1, 0, batchSize=1),
-                                                 Message(2, {"killCursors": "c", "cursors": [1, 2], "$db": "t"}), End(2), more(1, 0)),
-                "cursors that are left": three(find("c", 2, batchSize=1), Message(0, insert("c", [{"_id": 0}])), more(1, 2, batchSize=1), End(2),
-                                               find("c", batchSize=4), more(2, 0))},
+                "cursors of two sessions": three(
+                    find("c", batchSize=1), find("c", 2, batchSize=2), more(1, 2), more(2, 2), more(1, 0, batchSize=1),
+                    Message(2, {"killCursors": "c", "cursors": [1, 2], "$db": "t"}), End(2), more(1, 0)),
+                "cursors that are left": three(
+                    find("c", 2, batchSize=1), Message(0, insert("c", [{"_id": 0}])), more(1, 2, batchSize=1), End(2),
+                    find("c", batchSize=4), more(2, 0))},
     "group": {"a group and a lookup under writes": gathered(
         Message(0, insert("c", [{"_id": 9, "n": 5, "tags": ["new", "all"]}])), find("v"),
         update({"q": {}, "u": {"$inc": {"n": -1}}, "multi": True}), find("w"),
-        Message(0, insert("d", [{"_id": 3, "x": 3}])), Message(0, {"delete": "d", "deletes": [{"q": {"_id": 5}, "limit": 1}], "$db": "t"}), find("w"),
-        delete({"q": {"tags": "t1"}, "limit": 0})),
+        Message(0, insert("d", [{"_id": 3, "x": 3}])), Message(0, {"delete": "d", "deletes": [{"q": {"_id": 5}, "limit": 1}], "$db": "t"}),
+        find("w"), delete({"q": {"tags": "t1"}, "limit": 0})),
               "groups": three(Message(0, {"aggregate": "c", "pipeline": [{"$unwind": "$tags"}, {"$group": {
         "_id": "$tags", "n": {"$sum": "$n"}, "least": {"$min": "$in"}, "all": {"$push": "$n"}}}], "cursor": {}, "$db": "t"}))},
     "lookup": {"a lookup": three(Message(0, {"aggregate": "c", "pipeline": [{"$lookup": {
