@@ -1,5 +1,5 @@
 -- Documents that are updated.
-use Rattle.std.proofs.Common.{◌≡◌, ℕ, Bool, true, false, cond, not, List, [], ◌∷◌, length, map, Option, Some, None, is_some, if◌then◌else◌, Result, Ok, Err, refl, sym, ap, subst, ◌∙◌}
+use Rattle.std.proofs.Common.{◌≡◌, ℕ, Bool, true, false, cond, not, List, [], ◌∷◌, length, map, Option, Some, None, is_some, if◌then◌else◌, ◌++◌, append-nil, append_assoc, Result, Ok, Err, refl, sym, ap, subst, ◌∙◌}
 use Rattle.std.specs.Prelude.{codes, filter, take}
 use Rattle.std.specs.Str.{bytes_eq}
 use Rattle.dv_bson.specs.Tree.{Field, fields_of}
@@ -146,3 +146,33 @@ updates_stand laws law updating old ds name each finds ascending all does before
       same_ids = all_ids_kept law updating.update ds (map (after_of name) each) ids does ∙ ap (map id_key) (sym befores);
       no_id = other;
     }
+
+-- ---- one document more
+
+told-more : (done : List (List Field)) (e : List Field) (b : Bool) (rest : Result (List (List Field)) Refusal)
+    → ((rest >>= λ es. Ok (if b then es else e ∷ es)) >>= λ es. Ok (done ++ es)) ≡ (rest >>= λ es. Ok ((done ++ (if b then [] else e ∷ [])) ++ es))
+told-more done e true (Ok es) = ap (λ xs. Ok (xs ++ es)) (sym (append-nil done))
+told-more done e false (Ok es) = ap Ok (sym (append_assoc done (e ∷ []) es))
+told-more done e b (Err refusal) = refl
+
+pub afters_more : (update : form.Update) (d e : List Field) (ds done more : List (List Field)) (b : Bool) → after update d ≡ Ok e → b ≡ same_fields (fields_of d) (fields_of e) → more ≡ done ++ (if b then [] else e ∷ [])
+    → (changed_by update (d ∷ ds) >>= λ es. Ok (done ++ es)) ≡ (changed_by update ds >>= λ es. Ok (more ++ es))
+afters_more update d e ds done more b is same all =
+    let rest = changed_by update ds in
+    ap (λ (first : Result (List Field) Refusal). (first >>= λ x. rest >>= λ es. Ok (if same_fields (fields_of d) (fields_of x) then es else x ∷ es)) >>= λ es. Ok (done ++ es)) is
+    ∙ ap (λ (c : Bool). (rest >>= λ es. Ok (if c then es else e ∷ es)) >>= λ es. Ok (done ++ es)) (sym same)
+    ∙ told-more done e b rest
+    ∙ ap (λ (xs : List (List Field)). rest >>= λ es. Ok (xs ++ es)) (sym all)
+
+left-more : (done : List (List Field)) (d : List Field) (b : Bool) (ds : List (List Field)) → done ++ (if not b then d ∷ ds else ds) ≡ (done ++ (if b then [] else d ∷ [])) ++ ds
+left-more done d true ds = ap (λ xs. xs ++ ds) (sym (append-nil done))
+left-more done d false ds = sym (append_assoc done (d ∷ []) ds)
+
+pub befores_more : (update : form.Update) (d e : List Field) (ds done more : List (List Field)) (b : Bool) → after update d ≡ Ok e → b ≡ same_fields (fields_of d) (fields_of e) → more ≡ done ++ (if b then [] else d ∷ [])
+    → done ++ filter (changes update) (d ∷ ds) ≡ more ++ filter (changes update) ds
+befores_more update d e ds done more b is same all =
+    let left = filter (changes update) ds in
+    ap (λ (first : Result (List Field) Refusal). done ++ (if differs d first then d ∷ left else left)) is
+    ∙ ap (λ (c : Bool). done ++ (if not c then d ∷ left else left)) (sym same)
+    ∙ left-more done d b left
+    ∙ ap (λ xs. xs ++ left) (sym all)

@@ -55,7 +55,10 @@ impl Changes {
         ensures made { collection.new ≡ with_documents (with_changes collection.old.documents (take result (changes_seen self))) collection.old }
     {
         match self {
-            Changes::Put(updates) => put_each(collection, updates),
+            Changes::Put(updates) => {
+                let Updates { name, each } = updates;
+                put_each(collection, name.as_str(), each)
+            }
             Changes::Gone(keys) => remove_each(collection, &keys),
         }
     }

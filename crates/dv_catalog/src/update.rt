@@ -1,6 +1,6 @@
 //! Updating documents.
 
-ghost use Rattle.std.specs.Prelude.{◌≡◌, ◌≤◌, Some, codes, false, filter, length, map, take, IfOk, OnErr, OnOk};
+ghost use Rattle.std.specs.Prelude.{◌≡◌, ◌≤◌, ◌++◌, ◌∷◌, ℕ, List, [], Some, codes, false, filter, if◌then◌else◌, length, map, take, IfOk, OnErr, OnOk};
 ghost use Rattle.std.specs.Str.{bytes_eq};
 ghost use Rattle.dv_coll.specs.Collection.{HasId, found, id_key, replaced};
 ghost use Rattle.dv_fields.specs.Refusals.{UnlessWanting};
@@ -75,14 +75,26 @@ fn changed_by(
     let mut changed = Vec::new(alloc);
     'documents: for document in documents {
         let outcome = outcome_of(alloc, update, document, whole)?;
-        if !outcome.stays() {
-            changed.push(Updated {
-                before: document.try_clone()?,
-                outcome,
-            })?;
-        }
+        add_changed(&mut changed, document, outcome)?;
     }
     Ok(changed)
+}
+
+/// Adds a document to those that are changed, unless it stays as it is spelled. Fails where memory is wanting.
+fn add_changed(
+    changed: &mut Vec<Updated>,
+    document: &Document,
+    outcome: Outcome,
+) -> Result<(), NoMemory>
+    ensures afters { OnOk result ((name : List ℕ) → map (after_of name) changed.new.items ≡ map (after_of name) changed.old.items ++ (if outcomes.stays outcome then [] else outcomes.outcome_seen name document.now outcome ∷ [])) }
+    ensures befores { OnOk result (map (λ u. u.before) changed.new.items ≡ map (λ u. u.before) changed.old.items ++ (if outcomes.stays outcome then [] else document.now ∷ [])) }
+{
+    if outcome.stays() {
+        return Ok(());
+    }
+    let before = document.try_clone()?;
+    changed.push(Updated { before, outcome })?;
+    Ok(())
 }
 
 /// What an update makes of a document, as `Update::outcome` tells it; where it is wanted whole, as a whole document.
@@ -102,19 +114,19 @@ fn outcome_of(
     }
 }
 
-/// Puts what documents become in their places, where they are, until memory is wanting, and answers how many were put.
-pub(crate) fn put_each(collection: &mut IndexedCollection, updates: Updates) -> usize
-    requires placed { ArePlaced collection.old.documents (map put (map (after_of updates.name) updates.each.items)) }
-    requires standing { AreUpdatesOf collection.old.documents updates.name updates.each.items }
-    ensures count { result ≤ length updates.each.items }
-    ensures made { collection.new ≡ with_documents (with_changes collection.old.documents (take result (map put (map (after_of updates.name) updates.each.items)))) collection.old }
+/// Puts what documents become in their places, where they are, until memory is wanting, and answers how many were put. Values
+/// come under the name.
+pub(crate) fn put_each(collection: &mut IndexedCollection, name: &str, each: Vec<Updated>) -> usize
+    requires placed { ArePlaced collection.old.documents (map put (map (after_of name.now) each.items)) }
+    requires standing { AreUpdatesOf collection.old.documents name.now each.items }
+    ensures count { result ≤ length each.items }
+    ensures made { collection.new ≡ with_documents (with_changes collection.old.documents (take result (map put (map (after_of name.now) each.items)))) collection.old }
 {
     laws::documents_stand_where_they_are_found();
-    let Updates { name, each } = updates;
     let count = each.len();
     let mut made = 0;
     'documents: for document in each {
-        let Ok(()) = put_one(collection, name.as_str(), document) else {
+        let Ok(()) = put_one(collection, name, document) else {
             return made;
         };
         made += 1;

@@ -1,4 +1,4 @@
-use Rattle.std.proofs.Common.{◌≡◌, List, ◌∷◌, map, sym, ap, subst, ◌∙◌}
+use Rattle.std.proofs.Common.{◌≡◌, List, ◌∷◌, arith, length, map, sym, ap, subst, ◌∙◌}
 use Rattle.std.specs.Vec.Iter.{into_iter_items}
 use Rattle.dv_bson.specs.Tree.{Field}
 use Rattle.dv_index.specs.Indexed.{IndexedTree, with_documents}
@@ -11,8 +11,8 @@ use Rattle.dv_catalog.proofs.update.put_each.Goals as goal
 
 pub documents-preserved : goal.documents-preserved
 documents-preserved c =
-    let name = c.args.updates.name in
-    let all = map (after_of name) c.args.updates.each.items in
+    let name = c.args.name.now in
+    let all = map (after_of name) c.args.each.items in
     let left : List Updated = into_iter_items c.next.new.self in
     let u : Updated = c.in-Some.document in
     let d : List Field = after_of name u in
@@ -27,6 +27,6 @@ documents-preserved c =
       made = made_more put c.args.collection.now all c.documents.made d (map (after_of name) left) was c.put_one.new.collection so_far goes;
       placed = subst (λ (x : IndexedTree). ArePlaced x.documents (map put (map (after_of name) left))) (sym goes) placed.1;
       standing = subst (λ (x : IndexedTree). AreUpdatesOf x.documents name left) (sym c.in-Ok.ensures.ok) (next_updates c.documents_stand_where_they_are_found.ensures.others was.documents name u left standing);
+      counted = omega (arith, c.documents.invariant.counted, ap length c.in-Some.ensures.steps.0);
       all = c.documents.invariant.all;
-      named = c.documents.invariant.named;
     }
