@@ -343,11 +343,7 @@ fn add_equal<'i>(
 }
 
 /// Adds the `_id`s' keys of the pairs that have the key.
-fn add_at<'i>(
-    index: &'i MultiIndex,
-    key: &Key,
-    ids: &mut Vec<&'i Key>,
-) -> Result<(), NoMemory>
+fn add_at<'i>(index: &'i MultiIndex, key: &Key, ids: &mut Vec<&'i Key>) -> Result<(), NoMemory>
     ensures found { OnOk result ((k i : KeyTree) → is_eq (key_order k key.now) ≡ true → has_pair k i index.now ≡ true → has_key i (map (λ l. l.now) ids.new.items) ≡ true) }
     ensures kept { OnOk result ((i : KeyTree) → has_key i (map (λ l. l.now) ids.old.items) ≡ true → has_key i (map (λ l. l.now) ids.new.items) ≡ true) }
 {
