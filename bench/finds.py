@@ -3,8 +3,7 @@
 
 Needs what bench/measuring.py says. The documents have ten fields; SQLite holds them as JSON, in memory and without an
 index (`json_extract`), mongomock (`apt-get install python3-mongomock`; it is left out where that is missing) holds a tenth
-of them. All three give as many documents. All times are processor time, the least of
-some runs in turn; docd's hold the digits of the line that asks and of the reply.
+of them. All three give as many documents. All times are processor time, the least of some runs in turn.
 
     /usr/bin/python3 bench/finds.py
     /usr/bin/python3 bench/finds.py --count 10000 --program crates/docd/out/docd
@@ -51,11 +50,11 @@ Asked = namedtuple("Asked", "action clock told")
 
 def asked_of_docd(docd, find):
     command = {"find": "c", "filter": find.filter, "sort": find.sort, "limit": find.limit, "batchSize": measuring.ALL}
-    script = measuring.script_of([command])
+    stream = measuring.stream_of([command])
     reply, = docd.ask(command)
     if "cursor" not in reply:
         sys.exit("bench: the find is refused: %r" % reply)
-    return Asked(lambda: docd.send(script, 1), docd.clock, lambda: len(reply["cursor"]["firstBatch"]))
+    return Asked(lambda: docd.send(stream, 1), docd.clock, lambda: len(reply["cursor"]["firstBatch"]))
 
 
 def asked_of_sqlite(base, find):

@@ -3,8 +3,7 @@
 
 Needs what bench/measuring.py says. A group counts the documents and adds up a number by a field of few or of many values;
 a lookup finds for each document the one of another collection that has the same number, in SQLite by a join on an indexed
-column. docd's times hold the digits of the line that asks and of the reply. All
-times are processor time, the least of some runs in turn.
+column. All times are processor time, the least of some runs in turn.
 
     /usr/bin/python3 bench/groups.py
     /usr/bin/python3 bench/groups.py --count 10000 --program crates/docd/out/docd
@@ -68,12 +67,12 @@ def main():
              "`$lookup` into %d" % (count // 10): LOOKUP}
     for name, (stages, sql) in cases.items():
         command = {"aggregate": "c", "pipeline": stages, "cursor": {"batchSize": measuring.ALL}}
-        script = measuring.script_of([command])
+        stream = measuring.stream_of([command])
         reply, = docd.ask(command)
         found, told = len(reply["cursor"]["firstBatch"]), len(base.execute(sql).fetchall())
         if found != told:
             sys.exit("bench: %s: docd gives %d rows and SQLite %d" % (name, found, told))
-        spent, other = in_turn((lambda: docd.send(script, 1), docd.clock),
+        spent, other = in_turn((lambda: docd.send(stream, 1), docd.clock),
                                (lambda: base.execute(sql).fetchall(), time.thread_time))
         row(name, "%d" % found, "%.1f" % (1e3 * spent), "%.0f" % (count / spent / 1e3),
             "%.0f" % (count / other / 1e3), "%.2f" % (other / spent))

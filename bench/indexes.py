@@ -4,8 +4,8 @@
 Needs what bench/measuring.py says. The documents have ten fields; SQLite holds them as JSON in memory, with indexes on
 `json_extract` of the same fields, and its answers stand in the order of its indexes, docd's in that of `_id`. A hundred
 documents have one `bucket`; `serial` is another number in each. All times are processor time, the least of some runs in
-turn; docd's hold the digits of the lines that ask and of the replies, SQLite's the making of the statement and of Python's
-rows.
+turn; docd's hold the reading of its messages and the writing of its replies, SQLite's the making of the statement and of
+Python's rows.
 
     /usr/bin/python3 bench/indexes.py
     /usr/bin/python3 bench/indexes.py --count 10000 --program crates/docd/out/docd
@@ -106,7 +106,7 @@ def print_making(docd, found):
 
 def tell_find(docd, base, asked):
     commands = [{"find": "c", "filter": asked.filter(at), "batchSize": measuring.ALL} for at in range(asked.times)]
-    script = measuring.script_of(commands)
+    stream = measuring.stream_of(commands)
     sql = "SELECT body FROM c WHERE %s" % asked.sql
     statements = [asked.values(at) for at in range(asked.times)]
 
@@ -121,7 +121,7 @@ def tell_find(docd, base, asked):
     explained, = docd.ask({"explain": {"find": "c", "filter": asked.filter(0)}})
     if explained["stage"] != "IXSCAN":
         sys.exit("bench: %s: docd makes no use of an index: %r" % (asked.name, explained))
-    spent, other = in_turn((lambda: docd.send(script, asked.times), docd.clock), (ask_sqlite, time.thread_time))
+    spent, other = in_turn((lambda: docd.send(stream, asked.times), docd.clock), (ask_sqlite, time.thread_time))
     row(asked.name, "%.0f" % (given / asked.times), "%.1f" % (1e6 * spent / asked.times), "%.1f" % (1e6 * other / asked.times),
         "%.2f" % (other / spent))
 
@@ -138,9 +138,9 @@ def print_writes(found):
 def least_of_writes(found, fields):
     """Seconds that docd and SQLite take for an insert, and for an update."""
     least = [[float("inf")] * 2 for _ in range(2)]
-    script, updates = measuring.script_of(inserts(found)), updates_of(len(found))
+    stream, updates = measuring.stream_of(inserts(found)), updates_of(len(found))
     for _ in range(measuring.RUNS):
-        for system, times in enumerate((docd_writes(found, script, updates, fields), sqlite_writes(found, updates, fields))):
+        for system, times in enumerate((docd_writes(found, stream, updates, fields), sqlite_writes(found, updates, fields))):
             for write, spent in enumerate(times):
                 least[write][system] = min(least[write][system], spent)
     return least
@@ -153,10 +153,10 @@ def updates_of(count):
             for place in rng.sample(range(count), count // 10)]
 
 
-def docd_writes(found, script, updates, fields):
+def docd_writes(found, stream, updates, fields):
     docd = indexed_docd(found, fields)
     start = docd.clock()
-    docd.send(script, len(inserts(found)))
+    docd.send(stream, len(inserts(found)))
     inserted = docd.clock() - start
     entries = [{"q": {"_id": place}, "u": {"$set": dict(zip(FIELDS, values))}} for place, values in updates]
     commands = [{"update": "c", "updates": entries[i:i + STATEMENTS]} for i in range(0, len(entries), STATEMENTS)]

@@ -2,8 +2,8 @@
 """What reading and writing values of each kind costs in docd, beside another BSON library on the same bytes in the same run.
 
 Needs what bench/measuring.py says. A document has an `_id` and 20 fields of one kind. docd reads it in an insert and writes
-it in the answer of a find; its times hold the script's hexadecimal digits, those of an insert the store too. The other
-library decodes and encodes the same documents.
+it in the answer of a find; the times of an insert hold the store too. The other library decodes and encodes the same
+documents.
 
     /usr/bin/python3 bench/kinds.py
 """
@@ -17,7 +17,8 @@ from bson.min_key import MinKey
 from bson.objectid import ObjectId
 from bson.timestamp import Timestamp
 
-from measuring import ALL, LINE_BYTES, check_tools, heads, least, lines, message, row, seconds
+import measuring
+from measuring import ALL, check_tools, heads, least, row, seconds, stream_of
 
 DOCUMENTS = 5_000
 FIELDS = 20
@@ -40,22 +41,16 @@ KINDS = {
 }
 
 
-def spelled(value):
-    """Inserts of documents with this value in each field."""
-    documents = [dict({"_id": i}, **{"f%d" % k: value for k in range(FIELDS)}) for i in range(DOCUMENTS)]
-    return documents, [bson.encode({"insert": "c", "documents": documents[i:i + BATCH], "$db": "t"}) for i in range(0, DOCUMENTS, BATCH)]
-
-
 def main():
     check_tools()
     idle = seconds(b"", 0)
-    find = lines(message(bson.encode({"find": "c", "filter": {}, "batchSize": ALL, "$db": "t"})), LINE_BYTES)
     heads("kind", "bytes a document", "nanoseconds a value inserted", "found", "python3-bson decoded", "encoded")
     for name, value in KINDS.items():
-        documents, bodies = spelled(value)
-        inserts = lines(b"".join(message(body) for body in bodies), LINE_BYTES)
-        inserted = seconds(inserts, len(bodies)) - idle
-        found = seconds(inserts + find, len(bodies) + 1) - idle - inserted
+        documents = [dict({"_id": i}, **{"f%d" % k: value for k in range(FIELDS)}) for i in range(DOCUMENTS)]
+        inserts, find = measuring.inserts(documents, BATCH), {"find": "c", "filter": {}, "batchSize": ALL}
+        inserted = seconds(stream_of(inserts), len(inserts)) - idle
+        found = seconds(stream_of(inserts + [find]), len(inserts) + 1) - idle - inserted
+        bodies = [bson.encode(command) for command in inserts]
         decoded = least(lambda: [bson.decode(body) for body in bodies])
         encoded = least(lambda: [bson.encode(document) for document in documents])
         each = [1e9 * spent / (DOCUMENTS * FIELDS) for spent in (inserted, found, decoded, encoded)]

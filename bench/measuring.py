@@ -1,4 +1,4 @@
-"""What the measurements share: scripts, their times, a running program, what stands beside it, and tables.
+"""What the measurements share: messages, their times, a running program, what stands beside it, and tables.
 
 All need the built program (run ./docd once) and the BSON library of Debian's package python3-bson with its C extension
 (`apt-get install python3-bson python3-bson-ext`; run with /usr/bin/python3). All times are processor time, which other
@@ -27,9 +27,6 @@ LINE_BYTES = 65_000  # a script's line has at most 131,200 characters
 RUNS = 5
 ALL = 2**31 - 1  # as many rows in a first batch as its bytes let
 
-# A message's length may not be 25: what comes later for the session is decoded and dropped.
-CLOSING = b"0 19000000\n"
-
 
 def check_tools():
     if not os.path.exists(DOCD):
@@ -54,8 +51,23 @@ def message(body):
     return struct.pack("<iiiiIB", 21 + len(body), 1, 0, 2013, 0, 0) + body
 
 
+def stream_of(commands):
+    """The messages that bring commands of the database `t`."""
+    return b"".join(message(bson.encode({**command, "$db": "t"})) for command in commands)
+
+
 def lines(stream, size):
+    """A hex script that brings the bytes, so many in a line."""
     return "".join("0 %s\n" % stream[i:i + size].hex() for i in range(0, len(stream), size)).encode()
+
+
+def replies_in(stream):
+    """The bodies of the replies that a stream has one after the other."""
+    at = 0
+    while at < len(stream):
+        size, = struct.unpack_from("<i", stream, at)
+        yield stream[at + HEADER:at + size]
+        at += size
 
 
 def in_turn(*timed):
@@ -91,48 +103,52 @@ def load():
     return "%.1f processes run or wait on %d processors" % (os.getloadavg()[0], os.cpu_count())
 
 
-def seconds(script, replies):
-    """The time of a run of docd, which prints so many lines."""
+def seconds(stream, replies):
+    """The time of a run of docd, which answers the messages of the stream by so many."""
     def run():
-        done = subprocess.run([DOCD, "run", "--hex"], input=script, stdout=subprocess.PIPE, check=True)
-        if done.stdout.count(b"\n") != replies:
-            sys.exit("bench: %d replies, not %d" % (done.stdout.count(b"\n"), replies))
+        done = subprocess.run([DOCD, "run"], input=stream, stdout=subprocess.PIPE, check=True)
+        if (given := sum(1 for _ in replies_in(done.stdout))) != replies:
+            sys.exit("bench: %d replies, not %d" % (given, replies))
 
     return least(run, ended_time)
 
 
-def parts(script, replies):
-    """The time of a run without the program's start, and how much of it goes to reading the lines and their digits."""
-    idle = seconds(b"", 0)
-    return seconds(script, replies) - idle, seconds(CLOSING + script, 1) - idle
+def seconds_of_script(script, replies):
+    """The time of a run of docd on a hex script, which prints so many lines."""
+    def run():
+        done = subprocess.run([DOCD, "run", "--hex"], input=script, stdout=subprocess.PIPE, check=True)
+        if (given := done.stdout.count(b"\n")) != replies:
+            sys.exit("bench: %d lines, not %d" % (given, replies))
+
+    return least(run, ended_time)
 
 
 class Docd:
     """A running program, whose input stays open."""
 
     def __init__(self):
-        self.process = subprocess.Popen([DOCD, "run", "--hex"], stdin=subprocess.PIPE, stdout=subprocess.PIPE)
-        self.lines = queue.SimpleQueue()
+        self.process = subprocess.Popen([DOCD, "run"], stdin=subprocess.PIPE, stdout=subprocess.PIPE)
+        self.bodies = queue.SimpleQueue()
         threading.Thread(target=self.read, daemon=True).start()
 
     def read(self):
-        for line in self.process.stdout:
-            self.lines.put(line)
-        self.lines.put(None)
+        while header := self.process.stdout.read(HEADER):
+            size, = struct.unpack_from("<i", header)
+            self.bodies.put(self.process.stdout.read(size - HEADER))
+        self.bodies.put(None)
 
-    def send(self, script, replies):
-        """Sends the lines, and gives the replies, which are so many."""
-        self.process.stdin.write(script)
+    def send(self, stream, replies):
+        """Sends messages, and gives the bodies of the replies, which are so many."""
+        self.process.stdin.write(stream)
         self.process.stdin.flush()
-        said = [self.lines.get() for _ in range(replies)]
-        if None in said:
+        bodies = [self.bodies.get() for _ in range(replies)]
+        if None in bodies:
             sys.exit("bench: the program has ended")
-        return said
+        return bodies
 
     def ask(self, *commands):
         """Sends commands of the database `t`, and gives the replies."""
-        said = self.send(script_of(commands), len(commands))
-        return [bson.decode(bytes.fromhex(line.split()[1].decode())[HEADER:]) for line in said]
+        return [bson.decode(body) for body in self.send(stream_of(commands), len(commands))]
 
     def clock(self):
         """The processor time that it has taken when all that it was sent is done."""
@@ -142,11 +158,6 @@ class Docd:
     def close(self):
         self.process.stdin.close()
         self.process.wait()
-
-
-def script_of(commands):
-    """The lines that bring commands of the database `t`."""
-    return lines(b"".join(message(bson.encode({**command, "$db": "t"})) for command in commands), LINE_BYTES)
 
 
 def inserts(documents, batch=1_000):
@@ -208,13 +219,3 @@ def row(*cells):
 def heads(*cells):
     row(*cells)
     row(*["---:"] * len(cells))
-
-
-def print_pings(*counts_of_bytes):
-    """A table of streams of pings: how many, and how many bytes come in a line."""
-    ping = message(bson.encode({"ping": 1, "$db": "t"}))
-    heads("pings", "bytes a line", "seconds", "of it reading lines", "microseconds each", "without reading lines")
-    for count, size in counts_of_bytes:
-        whole, reading = parts(lines(ping * count, size), count)
-        row("%d" % count, "%d" % size, "%.3f" % whole, "%.3f" % reading, "%.2f" % (1e6 * whole / count),
-            "%.2f" % (1e6 * (whole - reading) / count))

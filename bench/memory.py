@@ -23,7 +23,7 @@ from bson.int64 import Int64
 
 import measuring
 from inserts import document
-from measuring import Docd, LINE_BYTES, heads, lines, message, row
+from measuring import Docd, heads, inserts, row
 
 
 def numbers(rng, identity):
@@ -63,10 +63,9 @@ def resident(process):
 def stored_by_docd(documents, batch):
     """The bytes that a document takes."""
     docd = Docd()
-    docd.send(lines(message(bson.encode({"ping": 1, "$db": "t"})), LINE_BYTES), 1)
+    docd.ask({"ping": 1})
     idle = resident(docd.process)
-    bodies = [{"insert": "c", "documents": documents[i:i + batch], "$db": "t"} for i in range(0, len(documents), batch)]
-    docd.send(lines(b"".join(message(bson.encode(body)) for body in bodies), LINE_BYTES), len(bodies))
+    docd.ask(*inserts(documents, batch))
     taken = resident(docd.process) - idle
     docd.close()
     return taken / len(documents)

@@ -1,14 +1,17 @@
 #!/usr/bin/python3
-"""What messages cost, and how that grows: docd on scripts, beside another BSON library on the same bytes.
+"""What messages cost that are long, have many fields or come in small pieces, and how that grows, beside another BSON library
+on the same bytes.
 
-Needs what bench/measuring.py says. Inputs are fixed, so that runs compare. docd's times are whole: they hold the reading
-of lines and their hexadecimal digits, but for the columns that leave it out.
+Needs what bench/measuring.py says. Inputs are fixed, so that runs compare. Small pieces are lines of a hex script: those
+times hold the lines and their digits, which the same bytes in long lines tell of.
 
     /usr/bin/python3 bench/messages.py
 """
 import bson
 
-from measuring import LINE_BYTES, check_tools, heads, least, lines, message, print_pings, row, seconds
+from measuring import LINE_BYTES, check_tools, heads, least, lines, message, row, seconds, seconds_of_script, stream_of
+
+WAYS = ("lines of 65,000 bytes", LINE_BYTES), ("a byte a line", 1)
 
 
 def decode(bodies):
@@ -19,14 +22,19 @@ def decode(bodies):
 def main():
     check_tools()
     idle = seconds(b"", 0)
-    print_pings((1_000, LINE_BYTES), (10_000, LINE_BYTES), (100_000, LINE_BYTES), (1_000, 1), (10_000, 1))
+    heads("pings", "how they come", "seconds", "microseconds each")
+    for count in (1_000, 10_000):
+        pings = stream_of([{"ping": 1}] * count)
+        for name, length in WAYS:
+            spent = seconds_of_script(lines(pings, length), count) - idle
+            row("%d" % count, name, "%.3f" % spent, "%.2f" % (1e6 * spent / count))
 
     print()
     heads("bytes of one ping", "how they come", "seconds", "nanoseconds a byte")
     for size in (10_000, 100_000, 1_000_000):
         long = message(bson.encode({"ping": 1, "text": "x" * size, "$db": "t"}))
-        for name, length in (("lines of 65,000 bytes", LINE_BYTES), ("a byte a line", 1)):
-            spent = seconds(lines(long, length), 1) - idle
+        for name, length in WAYS:
+            spent = seconds_of_script(lines(long, length), 1) - idle
             row("%d" % len(long), name, "%.4f" % spent, "%.1f" % (1e9 * spent / len(long)))
 
     print()
@@ -36,7 +44,7 @@ def main():
         body.update(("name%d" % i, i) for i in range(count))
         spelled = bson.encode(body)
         times = max(1, 262_144 // count)
-        spent = (seconds(lines(message(spelled) * times, LINE_BYTES), times) - idle) / times
+        spent = (seconds(message(spelled) * times, times) - idle) / times
         other = least(lambda: decode([spelled] * times)) / times
         row("%d" % count, "%d" % len(spelled), "%.6f" % spent, "%.0f" % (1e9 * spent / count), "%.0f" % (1e9 * other / count))
 

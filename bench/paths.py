@@ -8,12 +8,9 @@ one find beside a find of the same documents by a name that they don't have, wit
 
     /usr/bin/python3 bench/paths.py
 """
-import subprocess
 import sys
 
-import bson
-
-from measuring import DOCD, LINE_BYTES, check_tools, heads, lines, message, row, seconds
+from measuring import Docd, check_tools, heads, inserts, row, seconds, stream_of
 
 COMPONENTS = 50
 FINDS = 2_000
@@ -28,24 +25,22 @@ def nested(levels):
     return {"0": value}
 
 
-def script(levels, **fields):
-    documents = [dict(_id=i, **nested(levels)) for i in (1, 2)]
-    insert = message(bson.encode({"insert": "c", "documents": documents, "$db": "t"}))
-    find = message(bson.encode(dict({"find": "c"}, **fields, **{"$db": "t"})))
-    return lines(insert, LINE_BYTES) + lines(find * FINDS, LINE_BYTES)
+def documents(levels):
+    return [dict(_id=i, **nested(levels)) for i in (1, 2)]
 
 
 def check_find():
     """Stops where docd's find takes no filter or sort by paths."""
-    asked = script(10, filter={PATH: 1}, sort={PATH: 1})
-    answered = subprocess.run([DOCD, "run", "--hex"], input=asked, stdout=subprocess.PIPE, check=True).stdout
-    reply = bson.decode(bytes.fromhex(answered.splitlines()[1].split()[1].decode())[21:])
+    docd = Docd()
+    _, reply = docd.ask(*inserts(documents(10)), {"find": "c", "filter": {PATH: 1}, "sort": {PATH: 1}})
+    docd.close()
     if reply["ok"] != 1:
         sys.exit("bench: find refuses a filter or a sort by a path: %s" % reply["errmsg"])
 
 
 def microseconds(levels, **fields):
-    return 1e6 * seconds(script(levels, **fields), FINDS + 1) / FINDS
+    stream = stream_of(inserts(documents(levels))) + stream_of([{"find": "c", **fields}]) * FINDS
+    return 1e6 * seconds(stream, FINDS + 1) / FINDS
 
 
 def main():

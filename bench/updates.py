@@ -2,8 +2,7 @@
 """What updates of one field cost, one statement for all documents and one for each, beside SQLite in process.
 
 Needs what bench/measuring.py says. The documents have ten fields; SQLite holds them as JSON in memory (`json_set`), and
-finds the one of a statement by its primary key. All times are processor time, the least of some runs in turn; docd's hold
-the digits of the lines and of the replies.
+finds the one of a statement by its primary key. All times are processor time, the least of some runs in turn.
 
     /usr/bin/python3 bench/updates.py
     /usr/bin/python3 bench/updates.py --count 10000 --program crates/docd/out/docd
