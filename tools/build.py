@@ -8,6 +8,7 @@ crates/docd/out/build.log. A fault is told in one line, and the exit status is t
     python3 tools/build.py            builds
     python3 tools/build.py --look     only looks whether the kit is there and is the one that README.md names
 """
+import argparse
 import os
 import pathlib
 import re
@@ -120,9 +121,12 @@ def build():
 
 
 def main():
+    words = argparse.ArgumentParser(description=__doc__, formatter_class=argparse.RawDescriptionHelpFormatter)
+    words.add_argument("--look", action="store_true", help="build nothing: only look whether the kit is there")
+    only_looks = words.parse_args().look
     try:
         find_kit()
-        if sys.argv[1:] != ["--look"]:
+        if not only_looks:
             build()
     except Fault as fault:
         tell(str(fault))
