@@ -1,6 +1,6 @@
 //! Copies of values.
 
-ghost use Rattle.std.specs.Prelude.{◌≡◌, ◌+◌, ◌<◌, ◌++◌, length, slice_set, map, OnOk, IfOk};
+ghost use Rattle.std.specs.Prelude.{◌≡◌, ◌<◌, ◌++◌, length, slice_set, map, OnOk, IfOk};
 ghost use Rattle.dv_bson.specs.View.{tree};
 
 use crate::NoMemory;

@@ -1,6 +1,6 @@
 //! Documents: how they are made, looked at and changed.
 
-ghost use Rattle.std.specs.Prelude.{◌≡◌, ◌+◌, ◌<◌, ◌↔◌, ◌⊎◌, if◌then◌else◌, Some, None, [], ◌∷◌, ◌++◌, true, false, length, IsTrue, OnOk, OnErr, IfOk, IfErr, IfSome, IsErrOf, slice_get};
+ghost use Rattle.std.specs.Prelude.{◌≡◌, ◌<◌, ◌↔◌, ◌⊎◌, if◌then◌else◌, Some, None, [], ◌∷◌, ◌++◌, true, false, length, IsTrue, OnOk, OnErr, IfOk, IfErr, IfSome, IsErrOf, slice_get};
 ghost use Rattle.std.specs.Option.{option_map};
 ghost use Rattle.dv_bson.specs.Measure.{IsMeasure};
 ghost use Rattle.dv_bson.specs.Names.{AreNamed, value_under, with_value_under, without, has_name, has_zero};
@@ -11,7 +11,6 @@ use crate::fault::BsonFault;
 use crate::limits::document_size;
 use crate::value::{Document, Fields, Measured, Value};
 use std::alloc::Global;
-use std::mem::replace;
 use std::rc::Rc;
 
 impl Document {

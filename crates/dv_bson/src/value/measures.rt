@@ -1,6 +1,6 @@
 //! Fields with the length of their spelling, which is forgotten as they change.
 
-ghost use Rattle.std.specs.Prelude.{◌≡◌, ◌+◌, ◌<◌, [], ◌∷◌, ◌++◌, false, length, OnOk, OnErr, IfOk, IfSome};
+ghost use Rattle.std.specs.Prelude.{◌≡◌, ◌<◌, [], ◌∷◌, ◌++◌, false, length, OnOk, OnErr, IfOk, IfSome};
 ghost use Rattle.std.specs.Option.{option_map};
 ghost use Rattle.dv_bson.specs.Measure.{IsMeasure};
 ghost use Rattle.dv_bson.specs.Names.{value_under, with_value_under, without, has_name, has_zero};
@@ -9,7 +9,6 @@ ghost use Rattle.dv_bson.specs.View.{tree};
 
 use crate::NoMemory;
 use crate::value::{Fields, Measured, Value};
-use std::mem::replace;
 
 impl Measured {
     /// These fields, and the length of their spelling, if it is known.
