@@ -1,99 +1,193 @@
--- Bytes that are appended, and a length that is put in front of them.
-use Rattle.std.proofs.Common.{◌≡◌, ℕ, ◌+◌, ◌-◌, ◌≤◌, cond, Result, Ok, Err, List, [], ◌∷◌, ◌++◌, length, take, drop, refl, sym, ap, ◌∙◌, append_assoc, length-append, length-take, length-drop, arith}
-use Rattle.std.proofs.Math.Seq.{take-length}
+-- Bytes that are put over others, part by part, and a length that is put in front of them.
+use Rattle.std.proofs.Common.{◌≡◌, ℕ, ◌+◌, ◌-◌, ◌≤◌, List, [], ◌∷◌, ◌++◌, length, take, drop, replicate, refl, sym, ap, subst, ◌∙◌, append_assoc, length-append, length-drop, arith}
+use Rattle.std.proofs.Math.Seq.{take-append-add, drop-append-add, take-append_seam}
 use Rattle.std.specs.Int.{w32, to_le_bytes}
-use Rattle.std.specs.Result.{OnOk, is_ok}
-use Rattle.std.proofs.lemmas.List.{append-nil, take_all, take_at, take-take, drop_at, drop_all, drop-drop, take-append-le, drop-append-le}
+use Rattle.std.proofs.lemmas.List.{append-nil, length-take-le, length-replicate, take_all, take_at, take-take, take-append-drop, take-append-le, drop_all, drop_at, drop-drop}
 use Rattle.dv_bson.specs.declared.kind.Kind.{Kind}
 use Rattle.dv_bson.specs.Spelling.{type_byte, framed, counted, tagged, element_spelling}
-use Rattle.dv_bson.proofs.Payloads.{length-framed}
+use Rattle.dv_bson.specs.Writing.{with_bytes_at, IsPut}
+use Rattle.dv_bson.proofs.Numbers.{wide32}
 
--- ---- what stood before
+parts_front : (p a rest : List ℕ) (n : ℕ) → n ≡ length p + length a → take n (p ++ (a ++ rest)) ≡ p ++ a
+parts_front p a rest n e = ap (λ (k : ℕ). take k (p ++ (a ++ rest))) e ∙ take-append-add p (a ++ rest) (length a) ∙ ap (λ (bytes : List ℕ). p ++ bytes) (take-append_seam a rest)
 
-pub front_more : (old out new : List ℕ) → take (length old) out ≡ old → take (length out) new ≡ out → take (length old) new ≡ old
-front_more old out new front more =
-    let within : length old ≤ length out = omega (arith, ap length front, length-take (length old) out) in
-    sym (take-take (length old) (length out) new within) ∙ ap (take (length old)) more ∙ front
+parts_back : (p a rest : List ℕ) (n k : ℕ) → n ≡ length p + (length a + k) → drop n (p ++ (a ++ rest)) ≡ drop k rest
+parts_back p a rest n k e = ap (λ (m : ℕ). drop m (p ++ (a ++ rest))) e ∙ drop-append-add p (a ++ rest) (length a + k) ∙ drop-append-add a rest k
 
-pub front_append : (old out bytes : List ℕ) → take (length old) out ≡ old → take (length old) (out ++ bytes) ≡ old
-front_append old out bytes front =
-    let within : length old ≤ length out = omega (arith, ap length front, length-take (length old) out) in
-    rw (take-append-le (length old) out bytes within) front
+length-with_bytes_at : (at : ℕ) (bytes out : List ℕ) → at + length bytes ≤ length out → length (with_bytes_at at bytes out) ≡ length out
+unfolding with_bytes_at
+length-with_bytes_at at bytes out le =
+    omega (arith, length-append (take at out) (bytes ++ drop (at + length bytes) out), length-append bytes (drop (at + length bytes) out), length-take-le at out (omega arith), length-drop (at + length bytes) out)
 
--- ---- parts that are appended
+-- a part, and another one behind it
+part_behind : (at : ℕ) (a b out : List ℕ) → at ≤ length out → with_bytes_at (at + length a) b (with_bytes_at at a out) ≡ with_bytes_at at (a ++ b) out
+unfolding with_bytes_at
+part_behind at a b out le =
+    let here = length-take-le at out le in
+    let rest = drop (at + length a) out in
+    let front = parts_front (take at out) a rest (at + length a) (omega (arith, here)) in
+    let back = parts_back (take at out) a rest (at + length a + length b) (length b) (omega (arith, here)) ∙ drop-drop (length b) (at + length a) out in
+    let end : at + length a + length b ≡ at + length (a ++ b) = omega (arith, length-append a b) in
+    rw (front, back, end) (append_assoc (take at out) a (b ++ drop (at + length (a ++ b)) out) ∙ ap (λ (bytes : List ℕ). take at out ++ bytes) (sym (append_assoc a b (drop (at + length (a ++ b)) out))))
 
-pub appended : {T E : Type 0} (result : Result T E) (old new bytes same : List ℕ) → new ≡ cond (is_ok result) (old ++ bytes) old → bytes ≡ same → OnOk result (new ≡ old ++ same)
-appended (Ok x) old new bytes same is e = is ∙ ap (λ (part : List ℕ). old ++ part) e
-appended (Err d) old new bytes same is e = tt
+-- where the part behind was put first
+part_before : (at middle : ℕ) (a b out : List ℕ) → middle ≡ at + length a → middle ≤ length out → with_bytes_at at a (with_bytes_at middle b out) ≡ with_bytes_at at (a ++ b) out
+unfolding with_bytes_at
+part_before at middle a b out e le =
+    let here = length-take-le middle out le in
+    let rest = b ++ drop (middle + length b) out in
+    let front : take at (take middle out ++ rest) ≡ take at out = take-append-le at (take middle out) rest (omega (arith, here)) ∙ take-take at middle out (omega arith) in
+    let back : drop (at + length a) (take middle out ++ rest) ≡ rest = drop_at (take middle out) rest (at + length a) (omega (arith, here)) in
+    let end : middle + length b ≡ at + length (a ++ b) = omega (arith, length-append a b) in
+    rw (front, back, end) (ap (λ (bytes : List ℕ). take at out ++ bytes) (sym (append_assoc a b (drop (at + length (a ++ b)) out))))
 
--- what stood before stays, whether a part is appended or memory is wanting
-pub kept : {T E : Type 0} (result : Result T E) (old new bytes : List ℕ) → new ≡ cond (is_ok result) (old ++ bytes) old → take (length old) new ≡ old
-kept (Ok x) old new bytes is = rw is (front_append old old bytes (take-length old))
-kept (Err d) old new bytes is = rw is (take-length old)
+nothing_put : (at : ℕ) (out : List ℕ) → with_bytes_at at [] out ≡ out
+unfolding with_bytes_at
+nothing_put at out =
+    let end : at + 0 ≡ at = omega arith in
+    rw end (take-append-drop at out)
 
--- one part more of what is left to write
-pub left_more : (out new part left rest whole : List ℕ) → new ≡ out ++ part → left ≡ part ++ rest → out ++ left ≡ whole → new ++ rest ≡ whole
-left_more out new part left rest whole grown split so_far = ap (λ (bytes : List ℕ). bytes ++ rest) grown ∙ append_assoc out part rest ∙ ap (λ (bytes : List ℕ). out ++ bytes) (sym split) ∙ so_far
+-- ---- what was put
 
--- what was written where nothing is left, behind four bytes for a length
-pub left_none : (old opened out left whole : List ℕ) → left ≡ [] → opened ≡ old ++ 0 ∷ 0 ∷ 0 ∷ 0 ∷ [] → out ++ left ≡ opened ++ whole → out ≡ (old ++ 0 ∷ 0 ∷ 0 ∷ 0 ∷ []) ++ whole
-left_none old opened out left whole none zeros so_far = sym (append-nil out) ∙ ap (λ (bytes : List ℕ). out ++ bytes) (sym none) ∙ so_far ∙ ap (λ (bytes : List ℕ). bytes ++ whole) zeros
+-- a slice that is written, as the code does it
+pub put_there : (at end : ℕ) (bytes out : List ℕ) → end ≡ at + length bytes → take at out ++ (bytes ++ drop (end - at) (drop at out)) ≡ with_bytes_at at bytes out
+unfolding with_bytes_at
+put_there at end bytes out e =
+    let back : drop (end - at) (drop at out) ≡ drop (at + length bytes) out = drop-drop (end - at) at out ∙ ap (λ (k : ℕ). drop k out) (omega arith) in
+    ap (λ (rest : List ℕ). take at out ++ (bytes ++ rest)) back
 
-pub length-written : (old out whole : List ℕ) → out ≡ (old ++ 0 ∷ 0 ∷ 0 ∷ 0 ∷ []) ++ whole → length out ≡ length old + 4 + length whole
-length-written old out whole written = ap length written ∙ rw (length-append, length-append) refl
+pub put_none : (at : ℕ) (bytes out : List ℕ) → bytes ≡ [] → at ≤ length out → IsPut at bytes out out at
+put_none at bytes out none le =
+    let no_length : length bytes ≡ 0 = ap length none in
+    record {
+      within = omega (arith, no_length);
+      put = sym (ap (λ (b : List ℕ). with_bytes_at at b out) none ∙ nothing_put at out);
+      ends = omega (arith, no_length);
+    }
 
-pub append-element : (kind : Kind) (old name value : List ℕ) → ((old ++ type_byte kind ∷ []) ++ name ++ 0 ∷ []) ++ value ≡ old ++ element_spelling kind name value
-unfolding element_spelling
-append-element kind old name value = simp append_assoc
+pub put_as : (at : ℕ) (a b old new : List ℕ) (end : ℕ) → a ≡ b → IsPut at a old new end → IsPut at b old new end
+put_as at a b old new end e p = subst (λ (bytes : List ℕ). IsPut at bytes old new end) e p
 
--- a text behind its count
-pub append-counted : (old count text : List ℕ) → count ≡ to_le_bytes w32 (length text + 1) → ((old ++ count) ++ text) ++ 0 ∷ [] ≡ old ++ counted text
-unfolding counted
-append-counted old count text e = append_assoc (old ++ count) text (0 ∷ []) ∙ append_assoc old count (text ++ 0 ∷ []) ∙ ap (λ (bytes : List ℕ). old ++ (bytes ++ (text ++ 0 ∷ []))) e
+pub length-put : (at : ℕ) (bytes old new : List ℕ) (end : ℕ) → IsPut at bytes old new end → length new ≡ length old
+length-put at bytes old new end p = ap length p.put ∙ length-with_bytes_at at bytes old p.within
 
--- a binary's bytes behind their count and the subtype
-pub append-tagged : (subtype : ℕ) (old count bytes : List ℕ) → count ≡ to_le_bytes w32 (length bytes) → ((old ++ count) ++ subtype ∷ []) ++ bytes ≡ old ++ tagged subtype bytes
-unfolding tagged
-append-tagged subtype old count bytes e = append_assoc (old ++ count) (subtype ∷ []) bytes ∙ append_assoc old count (subtype ∷ bytes) ∙ ap (λ (c : List ℕ). old ++ (c ++ subtype ∷ bytes)) e
+pub put_both : (at : ℕ) (a b old new newer : List ℕ) (middle end : ℕ) → IsPut at a old new middle → IsPut middle b new newer end → IsPut at (a ++ b) old newer end
+put_both at a b old new newer middle end p q =
+    let same = length-put at a old new middle p in
+    let long = length-append a b in
+    let le : at ≤ length old = omega (arith, p.within) in
+    record {
+      within = omega (arith, p.ends, q.within, same, long);
+      put = q.put ∙ ap (λ (k : ℕ). with_bytes_at k b new) p.ends ∙ ap (with_bytes_at (at + length a) b) p.put ∙ part_behind at a b old le;
+      ends = omega (arith, p.ends, q.ends, long);
+    }
+
+-- ---- parts that are put in a loop
+
+-- putting the rest is what is left of putting the whole
+pub record IsLeft (at : ℕ) (left out : List ℕ) (start : ℕ) (whole first : List ℕ) : Type 0 where
+  pub within : start + length whole ≤ length first
+  pub same : length out ≡ length first
+  pub ends : at + length left ≡ start + length whole
+  pub put : with_bytes_at at left out ≡ with_bytes_at start whole first
+
+pub all_left : (start : ℕ) (whole first : List ℕ) → start + length whole ≤ length first → IsLeft start whole first start whole first
+all_left start whole first le = record { within = le; same = refl; ends = refl; put = refl }
+
+module _ (at : ℕ) (left out : List ℕ) (start : ℕ) (whole first : List ℕ) (so_far : IsLeft at left out start whole first) where
+  pub room_for : (part rest : List ℕ) → left ≡ part ++ rest → at + length part ≤ length out
+  room_for part rest split =
+      let long : length left ≡ length part + length rest = ap length split ∙ length-append part rest in
+      omega (arith, so_far.within, so_far.same, so_far.ends, long)
+
+  pub less_left : (part rest new : List ℕ) (end : ℕ) → left ≡ part ++ rest → IsPut at part out new end → IsLeft end rest new start whole first
+  less_left part rest new end split p =
+      let long : length left ≡ length part + length rest = ap length split ∙ length-append part rest in
+      let le : at ≤ length out = omega (arith, p.within) in
+      record {
+        within = so_far.within;
+        same = length-put at part out new end p ∙ so_far.same;
+        ends = omega (arith, so_far.ends, p.ends, long);
+        put = ap (λ (k : ℕ). with_bytes_at k rest new) p.ends ∙ ap (with_bytes_at (at + length part) rest) p.put ∙ part_behind at part rest out le
+            ∙ ap (λ (bytes : List ℕ). with_bytes_at at bytes out) (sym split) ∙ so_far.put;
+      }
+
+  pub none_left : left ≡ [] → IsPut start whole first out at
+  none_left none =
+      let no_length : length left ≡ 0 = ap length none in
+      record {
+        within = so_far.within;
+        put = sym (nothing_put at out) ∙ ap (λ (bytes : List ℕ). with_bytes_at at bytes out) (sym none) ∙ so_far.put;
+        ends = omega (arith, so_far.ends, no_length);
+      }
+
+-- ---- the spelling's parts
 
 framed-is : (count elements : List ℕ) → count ≡ to_le_bytes w32 (length elements + 5) → count ++ (elements ++ 0 ∷ []) ≡ framed elements
 unfolding framed
 framed-is count elements e = ap (λ (bytes : List ℕ). bytes ++ (elements ++ 0 ∷ [])) e
 
--- four bytes written over those from `start` on
-over : (start : ℕ) (old count : List ℕ) → start + 4 ≤ length old
-    → take start (old ++ 0 ∷ []) ++ (count ++ drop (start + 4 - start) (drop start (old ++ 0 ∷ []))) ≡ take start old ++ (count ++ (drop (start + 4) old ++ 0 ∷ []))
-over start old count le =
-    let four : start + 4 - start ≡ 4 = omega arith in
-    let within : start ≤ length old = omega arith in
-    rw (four, drop-drop 4 start (old ++ 0 ∷ []), take-append-le start old (0 ∷ []) within, drop-append-le (start + 4) old (0 ∷ []) le) refl
+-- elements, the closing zero behind them, and then the length in front
+pub framed_put : (start at end last : ℕ) (count elements first out closed new : List ℕ) → IsPut (start + 4) elements first out at → IsPut at (0 ∷ []) out closed end → IsPut start count closed new last → count ≡ to_le_bytes w32 (end - start)
+    → IsPut start (framed elements) first new end
+framed_put start at end last count elements first out closed new p q r e =
+    let behind = put_both (start + 4) elements (0 ∷ []) first out closed at end p q in
+    let four : length count ≡ 4 = ap length e ∙ wide32.len (end - start) in
+    let long : end - start ≡ length elements + 5 = omega (arith, p.ends, q.ends) in
+    let le : start + 4 ≤ length first = omega (arith, p.within) in
+    let is = framed-is count elements (e ∙ ap (to_le_bytes w32) long) in
+    let length_behind = length-append elements (0 ∷ []) in
+    let length_all = length-append count (elements ++ 0 ∷ []) in
+    put_as start (count ++ (elements ++ 0 ∷ [])) (framed elements) first new end is (record {
+      within = omega (arith, behind.within, four, length_all);
+      put = r.put ∙ ap (with_bytes_at start count) behind.put ∙ part_before start (start + 4) count (elements ++ 0 ∷ []) first (omega (arith, four)) le;
+      ends = omega (arith, behind.ends, four, length_all);
+    })
 
--- what a vector is after a slice of all its items was written
-rewritten : (size : ℕ) (items new : List ℕ) → length new ≡ length items → size ≡ length items → take size (new ++ drop (length new) items) ≡ new
-rewritten size items new same whole =
-    rw (drop_all (length new) items (omega arith), append-nil new) (take_all size new (omega arith))
+counted-is : (count text : List ℕ) → count ≡ to_le_bytes w32 (length text + 1) → (count ++ text) ++ 0 ∷ [] ≡ counted text
+unfolding counted
+counted-is count text e = append_assoc count text (0 ∷ []) ∙ ap (λ (bytes : List ℕ). bytes ++ (text ++ 0 ∷ [])) e
 
--- the length of a document, put over the four bytes where the document starts
-close-framed : (start : ℕ) (old count : List ℕ) → start + 4 ≤ length old → count ≡ to_le_bytes w32 (length old + 1 - start)
-    → take start (old ++ 0 ∷ []) ++ (count ++ drop (start + 4 - start) (drop start (old ++ 0 ∷ []))) ≡ take start old ++ framed (drop (start + 4) old)
-close-framed start old count le e =
-    let whole : length old + 1 - start ≡ length (drop (start + 4) old) + 5 = omega (arith, length-drop (start + 4) old) in
-    over start old count le ∙ ap (λ (bytes : List ℕ). take start old ++ bytes) (framed-is count (drop (start + 4) old) (e ∙ ap (to_le_bytes w32) whole))
+pub counted_put : (at a b end : ℕ) (count text old one two new : List ℕ) → count ≡ to_le_bytes w32 (length text + 1) → IsPut at count old one a → IsPut a text one two b → IsPut b (0 ∷ []) two new end → IsPut at (counted text) old new end
+counted_put at a b end count text old one two new e p q r =
+    put_as at ((count ++ text) ++ 0 ∷ []) (counted text) old new end (counted-is count text e) (put_both at (count ++ text) (0 ∷ []) old two new b end (put_both at count text old one two a b p q) r)
 
-pub closed : (start size : ℕ) (old seen items count : List ℕ) → start + 4 ≤ length old → items ≡ old ++ 0 ∷ [] → seen ≡ old ++ 0 ∷ [] → size ≡ length items → count ≡ to_le_bytes w32 (size - start)
-    → take size (take start seen ++ (count ++ drop (start + 4 - start) (drop start seen)) ++ drop (length (take start seen ++ (count ++ drop (start + 4 - start) (drop start seen)))) items) ≡ take start old ++ framed (drop (start + 4) old)
-closed start size old seen items count le is_items is_seen is_size is_count =
-    let length_items : length items ≡ length old + 1 = rw is_items (length-append old (0 ∷ [])) in
-    let from_start : size - start ≡ length old + 1 - start = omega arith in
-    let new = close-framed start old count le (is_count ∙ ap (to_le_bytes w32) from_start) in
-    let same : length (take start old ++ framed (drop (start + 4) old)) ≡ length items =
-    omega (arith, length-append (take start old) (framed (drop (start + 4) old)), length-take start old, length-framed (drop (start + 4) old), length-drop (start + 4) old) in
-    rw (is_seen, new) (rewritten size items (take start old ++ framed (drop (start + 4) old)) same is_size)
+tagged-is : (subtype : ℕ) (count bytes : List ℕ) → count ≡ to_le_bytes w32 (length bytes) → (count ++ subtype ∷ []) ++ bytes ≡ tagged subtype bytes
+unfolding tagged
+tagged-is subtype count bytes e = append_assoc count (subtype ∷ []) bytes ∙ ap (λ (c : List ℕ). c ++ subtype ∷ bytes) e
 
--- a document whose length was put in front of its elements
-pub framed_behind : (start : ℕ) (old out elements : List ℕ) → start ≡ length old → out ≡ (old ++ 0 ∷ 0 ∷ 0 ∷ 0 ∷ []) ++ elements → take start out ++ framed (drop (start + 4) out) ≡ old ++ framed elements
-framed_behind start old out elements at is =
-    let zeros : length (old ++ 0 ∷ 0 ∷ 0 ∷ 0 ∷ []) ≡ start + 4 = omega (arith, length-append old (0 ∷ 0 ∷ 0 ∷ 0 ∷ [])) in
-    let front : take start out ≡ old = ap (take start) (is ∙ append_assoc old (0 ∷ 0 ∷ 0 ∷ 0 ∷ []) elements) ∙ take_at old ((0 ∷ 0 ∷ 0 ∷ 0 ∷ []) ++ elements) start (sym at) in
-    let back : drop (start + 4) out ≡ elements = ap (drop (start + 4)) is ∙ drop_at (old ++ 0 ∷ 0 ∷ 0 ∷ 0 ∷ []) elements (start + 4) zeros in
-    rw (front, back) refl
+pub tagged_put : (at a b end subtype : ℕ) (count bytes old one two new : List ℕ) → count ≡ to_le_bytes w32 (length bytes) → IsPut at count old one a → IsPut a (subtype ∷ []) one two b → IsPut b bytes two new end → IsPut at (tagged subtype bytes) old new end
+tagged_put at a b end subtype count bytes old one two new e p q r =
+    put_as at ((count ++ subtype ∷ []) ++ bytes) (tagged subtype bytes) old new end (tagged-is subtype count bytes e) (put_both at (count ++ subtype ∷ []) bytes old two new b end (put_both at count (subtype ∷ []) old one two a b p q) r)
+
+element-is : (kind : Kind) (name value : List ℕ) → ((type_byte kind ∷ [] ++ name) ++ 0 ∷ []) ++ value ≡ element_spelling kind name value
+unfolding element_spelling
+element-is kind name value = simp append_assoc
+
+pub element_put : (at a b c end : ℕ) (kind : Kind) (name value old one two three new : List ℕ) → IsPut at (type_byte kind ∷ []) old one a → IsPut a name one two b → IsPut b (0 ∷ []) two three c → IsPut c value three new end
+    → IsPut at (element_spelling kind name value) old new end
+element_put at a b c end kind name value old one two three new p q r s =
+    let front = put_both at (type_byte kind ∷ [] ++ name) (0 ∷ []) old two three b c (put_both at (type_byte kind ∷ []) name old one two a b p q) r in
+    put_as at (((type_byte kind ∷ [] ++ name) ++ 0 ∷ []) ++ value) (element_spelling kind name value) old new end (element-is kind name value)
+    (put_both at ((type_byte kind ∷ [] ++ name) ++ 0 ∷ []) value old three new c end front s)
+
+-- ---- room at the end
+
+at_end : (start size n : ℕ) (old bytes : List ℕ) → start ≡ length old → n ≡ start + size → size ≡ length bytes → with_bytes_at start bytes (take n old ++ replicate (n - start) 0) ≡ old ++ bytes
+unfolding with_bytes_at
+at_end start size n old bytes at long whole =
+    let kept : take n old ≡ old = take_all n old (omega arith) in
+    let front : take start (old ++ replicate (n - start) 0) ≡ old = take_at old (replicate (n - start) 0) start (sym at) in
+    let back : drop (start + length bytes) (old ++ replicate (n - start) 0) ≡ [] = drop_all (start + length bytes) (old ++ replicate (n - start) 0) (omega (arith, length-append old (replicate (n - start) 0), length-replicate {A = ℕ} (n - start) 0)) in
+    rw (kept, front, back, append-nil) refl
+
+-- bytes that were put behind the old ones, where room was made for them
+pub appended : (start size n len whole end : ℕ) (old bytes seen items new : List ℕ) → start ≡ length old → len ≡ length old → n ≡ start + size → size ≡ length bytes → items ≡ take n old ++ replicate (n - len) 0 → seen ≡ items → whole ≡ length items
+    → IsPut start bytes seen new end → take whole (new ++ drop (length new) items) ≡ old ++ bytes
+appended start size n len whole end old bytes seen items new at is_len long is_size is_items is_seen is_whole p =
+    let none_more : n - len ≡ n - start = omega arith in
+    let filled : with_bytes_at start bytes items ≡ old ++ bytes = ap (with_bytes_at start bytes) (is_items ∙ ap (λ (k : ℕ). take n old ++ replicate k 0) none_more) ∙ at_end start size n old bytes at long is_size in
+    let same : length new ≡ length items = length-put start bytes seen new end p ∙ ap length is_seen in
+    let back : drop (length new) items ≡ [] = drop_all (length new) items (omega (arith, same)) in
+    let all : take whole (new ++ drop (length new) items) ≡ new = rw (back, append-nil new) (take_all whole new (omega (arith, same))) in
+    all ∙ p.put ∙ ap (with_bytes_at start bytes) is_seen ∙ filled

@@ -1,12 +1,12 @@
 //! Documents as bytes.
 
-ghost use Rattle.std.specs.Prelude.{◌≡◌, ◌+◌, ◌<◌, ◌≤◌, ◌↔◌, ◌⊎◌, [], ◌∷◌, ◌++◌, length, take, drop, IfOk, OnOk, IfErr, OnErr, IsErrOf};
+ghost use Rattle.std.specs.Prelude.{◌≡◌, ℕ, ◌+◌, ◌<◌, ◌≤◌, ◌↔◌, ◌⊎◌, ◌++◌, List as Entries, length, OnOk, IfErr, OnErr, IsErrOf};
 ghost use Rattle.dv_bson.specs.Tree.{fields_of, elements_of};
 ghost use Rattle.dv_bson.specs.Tree as trees;
 ghost use Rattle.dv_bson.specs.Spelling.{payload, spelling, framed, counted, tagged, element_spelling, kind_of, Spells};
 ghost use Rattle.dv_bson.specs.View.{tree};
+ghost use Rattle.dv_bson.specs.Writing.{IsPut};
 
-use crate::NoMemory;
 use crate::fault::BsonFault;
 use crate::limits::document_size;
 use crate::value::{Document, List, Value};
@@ -24,122 +24,117 @@ pub fn write_document(document: &Document, out: &mut Vec<u8>) -> Result<(), Bson
     let Some(size) = document_size(document) else {
         return Err(BsonFault::TooLarge);
     };
-    out.reserve(size)?;
     let start = out.len();
-    if put_document(document, out).is_err() {
-        out.truncate(start);
-        return Err(BsonFault::NoMemory);
-    }
+    // All room is made first, so that nothing can fail while the parts are put there.
+    out.resize(start + size, 0)?;
+    put_document(document, out.as_mut_slice(), start);
     Ok(())
 }
 
-/// Appends four bytes, for a length that `close` puts there. Returns where they begin.
-fn open(out: &mut Vec<u8>) -> Result<usize, NoMemory>
-    ensures ok { IfOk result (λ start. (start ≡ length out.old.items) × (out.new.items ≡ out.old.items ++ 0 ∷ 0 ∷ 0 ∷ 0 ∷ [])) }
-    ensures err { OnErr result (out.new.items ≡ out.old.items) }
+/// Puts the bytes over those that stand at `at`. Returns where they end, as all that follow here do for what they put.
+#[inline]
+fn put(bytes: &[u8], out: &mut [u8], at: usize) -> usize
+    requires { at + length bytes.now ≤ length out.old }
+    ensures { IsPut at bytes.now out.old out.new result }
 {
-    let start = out.len();
-    out.extend_from_slice(&[0; 4])?;
-    Ok(start)
+    let end = at + bytes.len();
+    out[at..end].copy_from_slice(bytes);
+    end
 }
 
-/// Ends the document whose four bytes for its length begin at `start`.
-fn close(out: &mut Vec<u8>, start: usize) -> Result<(), NoMemory>
-    requires opened { start + 4 ≤ length out.old.items }
-    requires short { length out.old.items + 1 ≤ start + 2147483647 }
-    ensures ok { OnOk result (out.new.items ≡ take start out.old.items ++ framed (drop (start + 4) out.old.items)) }
-    ensures front { take start out.new.items ≡ take start out.old.items }
+/// Ends the document that starts at `start`, where four bytes are left for its length, and whose elements end at `at`.
+fn close(out: &mut [u8], start: usize, at: usize) -> usize
+    requires { (start + 4 ≤ at) × (at + 1 ≤ length out.old) × (at + 1 ≤ start + 2147483647) }
+    ensures { (elements first : Entries ℕ) → IsPut (start + 4) elements first out.old at → IsPut start (framed elements) first out.new result }
 {
-    out.push(0)?;
-    let length = (out.len() - start) as u32;
-    out[start..start + 4].copy_from_slice(&length.to_le_bytes());
-    Ok(())
+    let end = put(&[0], out, at);
+    let length = (end - start) as u32;
+    put(&length.to_le_bytes(), out, start);
+    end
 }
 
-fn put_text(text: &str, out: &mut Vec<u8>) -> Result<(), NoMemory>
-    requires { length (counted text.now) ≤ 2147483647 }
-    ensures ok { OnOk result (out.new.items ≡ out.old.items ++ counted text.now) }
-    ensures front { take (length out.old.items) out.new.items ≡ out.old.items }
+fn put_text(text: &str, out: &mut [u8], at: usize) -> usize
+    requires within { at + length (counted text.now) ≤ length out.old }
+    requires short { length (counted text.now) ≤ 2147483647 }
+    ensures { IsPut at (counted text.now) out.old out.new result }
 {
-    out.extend_from_slice(&(text.len() as u32 + 1).to_le_bytes())?;
-    out.extend_from_slice(text.as_bytes())?;
-    out.push(0)?;
-    Ok(())
+    let count = text.len() as u32 + 1;
+    let at = put(&count.to_le_bytes(), out, at);
+    let at = put(text.as_bytes(), out, at);
+    put(&[0], out, at)
 }
 
-fn put_binary(subtype: u8, bytes: &[u8], out: &mut Vec<u8>) -> Result<(), NoMemory>
-    requires { length (tagged subtype bytes.now) ≤ 2147483647 }
-    ensures ok { OnOk result (out.new.items ≡ out.old.items ++ tagged subtype bytes.now) }
-    ensures front { take (length out.old.items) out.new.items ≡ out.old.items }
+fn put_binary(subtype: u8, bytes: &[u8], out: &mut [u8], at: usize) -> usize
+    requires within { at + length (tagged subtype bytes.now) ≤ length out.old }
+    requires short { length (tagged subtype bytes.now) ≤ 2147483647 }
+    ensures { IsPut at (tagged subtype bytes.now) out.old out.new result }
 {
-    out.extend_from_slice(&(bytes.len() as u32).to_le_bytes())?;
-    out.push(subtype)?;
-    out.extend_from_slice(bytes)
+    let count = bytes.len() as u32;
+    let at = put(&count.to_le_bytes(), out, at);
+    let at = put(&[subtype], out, at);
+    put(bytes, out, at)
 }
 
 #[cycle(writer)]
-fn put_value(value: &Value, out: &mut Vec<u8>) -> Result<(), NoMemory>
-    requires { length (payload (tree value.now)) ≤ 2147483647 }
-    ensures ok { OnOk result (out.new.items ≡ out.old.items ++ payload (tree value.now)) }
-    ensures front { take (length out.old.items) out.new.items ≡ out.old.items }
+fn put_value(value: &Value, out: &mut [u8], at: usize) -> usize
+    requires within { at + length (payload (tree value.now)) ≤ length out.old }
+    requires short { length (payload (tree value.now)) ≤ 2147483647 }
+    ensures { IsPut at (payload (tree value.now)) out.old out.new result }
 {
     match value {
-        Value::Int32(number) => out.extend_from_slice(&number.to_le_bytes()),
-        Value::Int64(number) => out.extend_from_slice(&number.to_le_bytes()),
-        Value::Text(text) => put_text(text.as_str(), out),
-        Value::Doc(document) => put_document(document, out),
-        Value::Array(list) => put_list(list, out),
-        Value::Binary { subtype, bytes } => put_binary(*subtype, bytes.as_slice(), out),
-        Value::ObjectId(id) => out.extend_from_slice(id),
-        Value::Bool(boolean) => {
-            out.push(*boolean as u8)?;
-            Ok(())
-        }
-        Value::Date(milliseconds) => out.extend_from_slice(&milliseconds.to_le_bytes()),
-        Value::Timestamp(time) => out.extend_from_slice(&time.to_le_bytes()),
-        Value::Null => Ok(()),
-        Value::MinKey => Ok(()),
-        Value::MaxKey => Ok(()),
+        Value::Int32(number) => put(&number.to_le_bytes(), out, at),
+        Value::Int64(number) => put(&number.to_le_bytes(), out, at),
+        Value::Text(text) => put_text(text.as_str(), out, at),
+        Value::Doc(document) => put_document(document, out, at),
+        Value::Array(list) => put_list(list, out, at),
+        Value::Binary { subtype, bytes } => put_binary(*subtype, bytes.as_slice(), out, at),
+        Value::ObjectId(id) => put(id, out, at),
+        Value::Bool(boolean) => put(&[*boolean as u8], out, at),
+        Value::Date(milliseconds) => put(&milliseconds.to_le_bytes(), out, at),
+        Value::Timestamp(time) => put(&time.to_le_bytes(), out, at),
+        Value::Null => at,
+        Value::MinKey => at,
+        Value::MaxKey => at,
     }
 }
 
-/// Appends a value behind its type byte and its name.
+/// A value behind its type byte and its name.
 #[cycle(writer)]
-fn put_element(name: &str, value: &Value, out: &mut Vec<u8>) -> Result<(), NoMemory>
-    requires { length (payload (tree value.now)) ≤ 2147483647 }
-    ensures ok { OnOk result (out.new.items ≡ out.old.items ++ element_spelling (kind_of (tree value.now)) name.now (payload (tree value.now))) }
-    ensures front { take (length out.old.items) out.new.items ≡ out.old.items }
+fn put_element(name: &str, value: &Value, out: &mut [u8], at: usize) -> usize
+    requires within { at + length (element_spelling (kind_of (tree value.now)) name.now (payload (tree value.now))) ≤ length out.old }
+    requires short { length (payload (tree value.now)) ≤ 2147483647 }
+    ensures { IsPut at (element_spelling (kind_of (tree value.now)) name.now (payload (tree value.now))) out.old out.new result }
 {
-    out.push(value.kind().byte())?;
-    out.extend_from_slice(name.as_bytes())?;
-    out.push(0)?;
-    put_value(value, out)
+    let at = put(&[value.kind().byte()], out, at);
+    let at = put(name.as_bytes(), out, at);
+    let at = put(&[0], out, at);
+    put_value(value, out, at)
 }
 
 #[cycle(writer)]
-fn put_document(document: &Document, out: &mut Vec<u8>) -> Result<(), NoMemory>
-    requires { length (spelling document.now) ≤ 2147483647 }
-    ensures ok { OnOk result (out.new.items ≡ out.old.items ++ spelling document.now) }
-    ensures front { take (length out.old.items) out.new.items ≡ out.old.items }
+fn put_document(document: &Document, out: &mut [u8], start: usize) -> usize
+    requires within { start + length (spelling document.now) ≤ length out.old }
+    requires short { length (spelling document.now) ≤ 2147483647 }
+    ensures { IsPut start (spelling document.now) out.old out.new result }
 {
-    let start = open(out)?;
+    let mut at = start + 4;
     for place in 0..document.len() {
         let (name, value) = document.field(place);
-        put_element(name, value, out)?;
+        at = put_element(name, value, out, at);
     }
-    close(out, start)
+    close(out, start, at)
 }
 
 #[cycle(writer)]
-fn put_list(list: &List, out: &mut Vec<u8>) -> Result<(), NoMemory>
-    requires { length (payload (trees.array (elements_of list.now))) ≤ 2147483647 }
-    ensures ok { OnOk result (out.new.items ≡ out.old.items ++ payload (trees.array (elements_of list.now))) }
-    ensures front { take (length out.old.items) out.new.items ≡ out.old.items }
+fn put_list(list: &List, out: &mut [u8], start: usize) -> usize
+    requires within { start + length (payload (trees.array (elements_of list.now))) ≤ length out.old }
+    requires short { length (payload (trees.array (elements_of list.now))) ≤ 2147483647 }
+    ensures { IsPut start (payload (trees.array (elements_of list.now))) out.old out.new result }
 {
-    let start = open(out)?;
+    let mut at = start + 4;
     for (place, value) in list.as_slice().iter().enumerate() {
         let mut name = Buffer::new();
-        put_element(name.format(place), value, out)?;
+        at = put_element(name.format(place), value, out, at);
     }
-    close(out, start)
+    close(out, start, at)
 }

@@ -11,8 +11,8 @@ decreases-Measured::share_names l = 4 * l.levels + 2
 abbrev pub decreases-Fields::share_names : goal.decreases-Fields::share_names
 decreases-Fields::share_names l = 4 * l.levels + 1
 
-abbrev pub decreases-share_inner_names : goal.decreases-share_inner_names
-decreases-share_inner_names l = 4 * l.levels
+abbrev pub decreases-sharing::share_inner_names : goal.decreases-sharing::share_inner_names
+decreases-sharing::share_inner_names l = 4 * l.levels
 
-abbrev pub invariant-share_inner_names-loop-place : goal.invariant-share_inner_names-loop-place
-invariant-share_inner_names-loop-place l = map tree l.values ≡ map tree l.initial.values
+abbrev pub invariant-sharing::share_inner_names-loop-place : goal.invariant-sharing::share_inner_names-loop-place
+invariant-sharing::share_inner_names-loop-place l = map tree l.values ≡ map tree l.initial.values

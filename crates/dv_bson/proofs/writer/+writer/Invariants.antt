@@ -1,7 +1,8 @@
-use Rattle.std.proofs.Common.{◌≡◌, ◌+◌, ◌*◌, ◌++◌, length, take, drop}
+use Rattle.std.proofs.Common.{◌+◌, ◌*◌, drop}
 use Rattle.dv_bson.specs.Tree.{weight, fields_of, fields_weight, elements_of, elements_weight}
 use Rattle.dv_bson.specs.Spelling.{fields_spelling, elements_spelling}
 use Rattle.dv_bson.specs.View.{tree}
+use Rattle.dv_bson.proofs.Written.{IsLeft}
 use Rattle.dv_bson.proofs.writer.+writer.Given as goal
 
 abbrev pub decreases-put_value : goal.decreases-put_value
@@ -17,13 +18,7 @@ abbrev pub decreases-put_list : goal.decreases-put_list
 decreases-put_list l = 3 * elements_weight (elements_of l.list.now) + 2
 
 abbrev pub invariant-put_document-loop-place : goal.invariant-put_document-loop-place
-invariant-put_document-loop-place l = record {
-  front : take (length l.fn.out.items) l.out.items ≡ l.fn.out.items;
-  left : l.out.items ++ fields_spelling (fields_of (drop l.place l.document)) ≡ l.initial.out.items ++ fields_spelling (fields_of l.document);
-}
+invariant-put_document-loop-place l = IsLeft l.at (fields_spelling (fields_of (drop l.place l.document))) l.out (l.start + 4) (fields_spelling (fields_of l.document)) l.initial.out
 
 abbrev pub invariant-put_list-loop-place : goal.invariant-put_list-loop-place
-invariant-put_list-loop-place l = record {
-  front : take (length l.fn.out.items) l.out.items ≡ l.fn.out.items;
-  left : l.out.items ++ elements_spelling l.place (elements_of (drop l.place l.list)) ≡ l.initial.out.items ++ elements_spelling 0 (elements_of l.list);
-}
+invariant-put_list-loop-place l = IsLeft l.at (elements_spelling l.place (elements_of (drop l.place l.list))) l.out (l.start + 4) (elements_spelling 0 (elements_of l.list)) l.initial.out

@@ -3,7 +3,7 @@ use Rattle.std.proofs.lemmas.Grind.{common_steps}
 use Rattle.std.proofs.lemmas.List.{map-append}
 use Rattle.dv_bson.specs.View.{tree}
 use Rattle.dv_bson.proofs.Changed.{around}
-use Rattle.dv_bson.proofs.value.copies_with.Goals as goal
+use Rattle.dv_bson.proofs.value.copies.copies_with.Goals as goal
 
 pub returns : goal.returns
 returns c =

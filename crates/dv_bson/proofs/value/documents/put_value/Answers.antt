@@ -3,7 +3,7 @@ use Rattle.std.proofs.lemmas.Grind.{common_steps}
 use Rattle.dv_bson.specs.Names.{place_under}
 use Rattle.dv_bson.specs.View.{tree}
 use Rattle.dv_bson.proofs.Changed.{found_has, found_within, nowhere_has_not, with_value_at-found, with_value_under-nowhere}
-use Rattle.dv_bson.proofs.value.put_value.Goals as goal
+use Rattle.dv_bson.proofs.value.documents.put_value.Goals as goal
 
 pub returns-in_default-clause-back : goal.returns-in_default-clause-back
 returns-in_default-clause-back c =

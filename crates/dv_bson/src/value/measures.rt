@@ -1,0 +1,88 @@
+//! Fields with the length of their spelling, which is forgotten as they change.
+
+ghost use Rattle.std.specs.Prelude.{◌≡◌, ◌<◌, [], ◌∷◌, ◌++◌, false, length, OnOk, OnErr, IfOk, IfSome};
+ghost use Rattle.std.specs.Option.{option_map};
+ghost use Rattle.dv_bson.specs.Measure.{IsMeasure};
+ghost use Rattle.dv_bson.specs.Names.{value_under, with_value_under, without, has_name, has_zero};
+ghost use Rattle.dv_bson.specs.Put.{with_value_at};
+ghost use Rattle.dv_bson.specs.View.{tree};
+
+use crate::NoMemory;
+use crate::value::{Fields, Measured, Value};
+
+impl Measured {
+    /// These fields, and the length of their spelling, if it is known.
+    pub(super) fn of(fields: Fields, size: Option<u32>) -> Self
+        requires { IfSome size (λ size. IsMeasure size fields) }
+        ensures { result ≡ fields }
+    {
+        Measured { fields, size }
+    }
+
+    pub(super) fn fields(&self) -> &Fields
+        ensures { result.now ≡ self.now }
+    {
+        &self.fields
+    }
+
+    /// The length of the spelling, if it is known.
+    pub(super) fn size(&self) -> Option<u32>
+        ensures { IfSome result (λ size. IsMeasure size self.now) }
+    {
+        self.size
+    }
+
+    /// Keeps the length of the spelling.
+    pub(super) fn keep(&mut self, size: u32)
+        requires { IsMeasure size self.old }
+        ensures { self.new ≡ self.old }
+    {
+        self.size = Some(size);
+    }
+
+    /// As `add` of `Fields`.
+    pub(super) fn add(&mut self, name: &str, value: Value) -> Result<(), NoMemory>
+        requires whole { has_zero name.now ≡ false }
+        requires fresh { has_name name.now self.old ≡ false }
+        ensures ok { OnOk result (self.new ≡ self.old ++ (name.now, tree value) ∷ []) }
+        ensures err { OnErr result (self.new ≡ self.old) }
+    {
+        self.size = None;
+        self.fields.add(name, value)
+    }
+
+    /// As `replace` of `Fields`.
+    pub(super) fn replace(&mut self, name: &str, value: Value) -> Option<Value>
+        ensures before { option_map tree result ≡ value_under name.now self.old }
+        ensures after { self.new ≡ with_value_under name.now (tree value) self.old }
+    {
+        self.size = None;
+        self.fields.replace(name, value)
+    }
+
+    /// As `copy_with` of `Fields`.
+    pub(super) fn copy_with(&self, place: usize, value: Value) -> Result<Self, NoMemory>
+        requires { place < length self.now }
+        ensures { IfOk result (λ copy. copy ≡ with_value_at place (tree value) self.now) }
+    {
+        Ok(Measured::of(self.fields.copy_with(place, value)?, None))
+    }
+
+    /// As `remove` of `Fields`.
+    pub(super) fn remove(&mut self, name: &str) -> Result<Option<Value>, NoMemory>
+        ensures before { IfOk result (λ before. option_map tree before ≡ value_under name.now self.old) }
+        ensures ok { OnOk result (self.new ≡ without name.now self.old) }
+        ensures err { OnErr result (self.new ≡ self.old) }
+    {
+        self.size = None;
+        self.fields.remove(name)
+    }
+}
+
+impl Clone for Measured {
+    ghost is_clone = { λ measured copy. copy ≡ measured };
+
+    fn clone(&self) -> Result<Self, NoMemory> {
+        Ok(Measured::of(self.fields.try_clone()?, self.size))
+    }
+}
