@@ -12,3 +12,4 @@ pub mod Parts
 pub mod Weight
 pub mod Put
 pub mod Measure
+pub mod Removing
