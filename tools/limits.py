@@ -262,11 +262,28 @@ def paths_of_inc(count):
     yield update(b"$inc", *named(count))
 
 
-@case(1_000)
+@case(100_000)
 def paths_of_unset(count):
-    """Fewer than are allowed: each path costs the document's fields, and 100,000 of both would take an hour."""
     yield put([IDENTITY, *named(count)])
     yield update(b"$unset", *named(count))
+
+
+@case(100_000)
+def paths_of_unset_between_those_of_set(count):
+    """Every other field is taken away: in the order of their paths, removals and other edits alternate."""
+    fields = named(count)
+    yield put([IDENTITY, *fields])
+    edits = [(b"$unset", document(fields[::2])), (b"$set", document(named(count, NOTHING)[1::2]))]
+    yield command(b"update", (b"updates", array([document([(b"q", document([])), (b"u", document(edits))])])))
+
+
+@case(100_000)
+def paths_of_unset_in_a_document(count):
+    """Every other one leads a level further."""
+    fields = [field for at in range(0, count, 2) for field in [(b"n%d" % at, ONE), (b"n%d" % (at + 1), nested(1))]]
+    paths = [path for at in range(0, count, 2) for path in [(b"a.n%d" % at, ONE), (b"a.n%d.d" % (at + 1), ONE)]]
+    yield put([IDENTITY, (b"a", document(fields))])
+    yield update(b"$unset", *paths)
 
 
 @case(100_000)

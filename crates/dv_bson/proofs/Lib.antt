@@ -28,3 +28,4 @@ pub mod Moved
 pub mod Changed
 pub mod Shallow
 pub mod Last
+pub mod Removed

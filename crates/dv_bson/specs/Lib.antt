@@ -13,3 +13,4 @@ pub mod Weight
 pub mod Put
 pub mod Measure
 pub mod Writing
+pub mod Removing

@@ -11,6 +11,7 @@ mod name_index;
 mod name_list;
 mod reader;
 mod reading;
+mod removing;
 mod text;
 mod value;
 mod walk;

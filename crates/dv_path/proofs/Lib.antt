@@ -13,3 +13,6 @@ pub mod Fielded
 pub mod Placed
 pub mod Exchanged
 pub mod Vectors
+pub mod Indexed
+pub mod Parting
+pub mod Together

@@ -13,3 +13,4 @@ pub mod Placing
 pub mod Removing
 pub mod Ways
 pub mod Examples
+pub mod Apart

@@ -3,6 +3,7 @@
 ghost use Rattle.std.specs.Prelude.{◌≡◌, ◌≢◌, ℕ, List, [], ◌∷◌, Some, None, Ok, Err, codes};
 ghost use Rattle.dv_bson.specs.Names.{value_under};
 ghost use Rattle.dv_bson.specs.Tree.{Tree, document, Field, fields_of, null};
+ghost use Rattle.dv_path.specs.Apart.{AreApart};
 ghost use Rattle.dv_path.specs.Candidates.{whole, leaves};
 ghost use Rattle.dv_path.specs.declared.fault.PathFault.TheVariants.{NotViable, IndexTooLarge};
 ghost use Rattle.dv_path.specs.Examples.{int, one, doc, list};
@@ -10,7 +11,7 @@ ghost use Rattle.dv_order.specs.Key.{key_at};
 ghost use Rattle.dv_path.specs.declared.direction.Direction.TheVariants.{Ascending, Descending};
 ghost use Rattle.dv_path.specs.Expression.{expr};
 ghost use Rattle.dv_path.specs.SortKey.{sort_key};
-ghost use Rattle.dv_path.specs.Placing.{put};
+ghost use Rattle.dv_path.specs.Placing.{put, result_map};
 ghost use Rattle.dv_path.specs.Removing.{remove};
 ghost use Rattle.dv_path.specs.Slots.{slot, taken, blocked};
 ghost use Rattle.dv_path.specs.Ways.{HasNoArray};
@@ -38,6 +39,13 @@ pub fn what_is_not_there_is_not_removed()
 pub fn other_fields_stay()
     ensures put { (fields : List Field) (name : List ℕ) (path : List (List ℕ)) (v : Tree) (after : List Field) (other : List ℕ) → other ≢ name → put fields (name ∷ path) v ≡ Ok after → value_under other after ≡ value_under other fields }
     ensures removed { (fields : List Field) (name : List ℕ) (path : List (List ℕ)) (other : List ℕ) → other ≢ name → value_under other (remove fields (name ∷ path)) ≡ value_under other fields }
+{}
+
+/// Where neither of two paths begins or equals the other, what the one leads to is no matter to what stands, or is put, where
+/// the other leads.
+pub fn paths_that_part_are_independent()
+    ensures slot { (fields : List Field) (p q : List (List ℕ)) → AreApart p q → slot (remove fields p) q ≡ slot fields q }
+    ensures put { (fields : List Field) (p q : List (List ℕ)) (v : Tree) → AreApart p q → put (remove fields p) q v ≡ result_map (λ after. remove after p) (put fields q v) }
 {}
 
 /// The first field keeps its name and its place where a value is put, and stays as it is under a path that begins with
