@@ -1,19 +1,21 @@
 -- What stands at the front of bytes.
-use Rattle.std.proofs.Common.{◌≡◌, ℕ, suc, ◌+◌, ◌-◌, ◌==◌, ◌||◌, if◌then◌else◌, Bool, true, false, cond, not, ltb, List, [], ◌∷◌, length, take, drop, map, Option, Some, None, Result, Ok, Err, refl, sym, ap, ◌∙◌, decimal, add-one, arith, inl, inr}
+use Rattle.std.proofs.Common.{◌≡◌, ℕ, suc, ◌+◌, ◌-◌, ◌<◌, ◌==◌, ◌++◌, get_or, ◌||◌, if◌then◌else◌, Bool, true, false, cond, not, ltb, List, [], ◌∷◌, length, take, drop, map, Option, Some, None, Result, Ok, Err, refl, sym, ap, ◌∙◌, decimal, add-one, arith, inl, inr}
 use Rattle.std.specs.Option.{option_map}
 use Rattle.std.specs.List.{position, position_or_len}
 use Rattle.std.specs.Str.{bytes_eq, IsUtf8, is_utf8}
 use Rattle.std.proofs.lemmas.Bool.{cases_lt, lt-ltb, le-ltb}
 use Rattle.std.proofs.lemmas.List.{take_all, length-drop}
 use Rattle.std.proofs.lemmas.Slice.Eq.{bytes_eq-Decides}
-use Rattle.std.proofs.lemmas.Str.{IsUtf8-from_is_utf8}
+use Rattle.std.proofs.lemmas.Str.{IsUtf8-from_is_utf8, is_utf8-from_IsUtf8}
 use Rattle.dv_bson.specs.declared.fault.BsonFault.{BsonFault}
 use Rattle.dv_bson.specs.declared.value.Value.{Value}
 use Rattle.dv_bson.specs.declared.fault.BsonFault.TheVariants.{BadUtf8, BadArrayName, RepeatedName}
 use Rattle.dv_bson.specs.Tree.{Field}
 use Rattle.dv_bson.specs.View.{tree}
-use Rattle.dv_bson.specs.Names.{bare, has_name}
+use Rattle.dv_bson.specs.Names.{bare, has_name, has_zero}
 use Rattle.dv_bson.specs.Reading.{◌>>=◌, cut_at_zero, onto_name, named_by, name_at}
+use Rattle.dv_bson.proofs.Names.{cut_again}
+use Rattle.dv_bson.proofs.Steps.{parted_at_zero}
 use Rattle.dv_bson.specs.Parts.{utf8_name, any_name_at, numbered}
 
 -- where the first zero is, as a front byte and the place behind it tell
@@ -105,3 +107,24 @@ index_compared place seen bytes name here e =
 -- a name among the fields is one among their names
 pub has_name-bare : (name : List ℕ) (seen : List Field) (names : List (List ℕ)) → map (λ f. f.0) seen ≡ names → has_name name (map bare names) ≡ has_name name seen
 has_name-bare name seen names e = ap (λ (ns : List (List ℕ)). has_name name (map bare ns)) (sym e) ∙ has_name-names name seen
+
+-- ---- a name that is known before it is read
+
+not_false : (b : Bool) → not b ≡ false → b ≡ true
+not_false true e = refl
+not_false false e = absurd cc
+
+pub same_bytes : (a b : List ℕ) (differ : Bool) → differ ≡ not (bytes_eq a b) → differ ≡ false → a ≡ b
+same_bytes a b differ e f = (bytes_eq-Decides a b).0 (not_false (bytes_eq a b) (sym e ∙ f))
+
+pub known_name : (seen : List Field) (bytes name : List ℕ) (end : ℕ) → IsUtf8 name → has_name name seen ≡ false → has_zero name ≡ false → end < length bytes → get_or bytes end 0 ≡ 0 → take end bytes ≡ name
+    → name_at false seen bytes ≡ Ok (take end bytes, take (length bytes - (end + 1)) (drop (end + 1) bytes))
+unfolding any_name_at
+known_name seen bytes name end text fresh whole within zero is =
+    let rest = drop (suc end) bytes in
+    let parted : bytes ≡ name ++ 0 ∷ rest = parted_at_zero bytes end within zero ∙ ap (λ (n : List ℕ). n ++ 0 ∷ rest) is in
+    let cut : cut_at_zero bytes ≡ Some (name, rest) = ap cut_at_zero parted ∙ cut_again name rest whole in
+    let valid : is_utf8 name ≡ true = is_utf8-from_IsUtf8 name text in
+    let found : any_name_at bytes ≡ Ok (name, rest) = rw (cut, valid) refl in
+    let behind : take (length bytes - suc end) (drop (suc end) bytes) ≡ rest = take_all (length bytes - suc end) rest (omega (arith, length-drop (suc end) bytes)) in
+    rw (add-one, behind, is) (compared false seen bytes (name, rest) found ∙ rw fresh refl)

@@ -2,13 +2,14 @@
 use Rattle.std.proofs.Common.{◌≡◌, ℕ, zero, suc, ◌+◌, ◌≤◌, ◌<◌, true, false, ◌||◌, cond, ltb, List, [], ◌∷◌, ◌++◌, length, take, drop, map, Option, Some, None, refl, sym, ap, subst, ◌∙◌, arith}
 use Rattle.std.specs.Prelude.{if◌then◌else◌, nat_lt}
 use Rattle.std.specs.List.{zip, slice_get, position_from}
+use Rattle.std.specs.Option.{option_map, IfSome}
 use Rattle.std.specs.Str.{bytes_eq}
 use Rattle.std.proofs.lemmas.Bool.{lt-ltb, le-ltb}
 use Rattle.std.proofs.lemmas.List.{length_push, length-take-le, take-append-drop, take_more, map-append}
 use Rattle.std.proofs.lemmas.Option.{slice_get_within, slice_get_past, get_or_from_slice_get}
 use Rattle.std.proofs.lemmas.Slice.Zip.{length-zip}
 use Rattle.dv_bson.specs.Tree.{Tree, Field}
-use Rattle.dv_bson.specs.Names.{bare, AreNamed, has_name, place_under}
+use Rattle.dv_bson.specs.Names.{bare, AreNamed, has_name, has_zero, place_under}
 use Rattle.dv_bson.proofs.Items.{drop_item}
 use Rattle.dv_bson.proofs.Named.{named_apart}
 
@@ -93,6 +94,22 @@ next_is_fresh name ns vs named next =
     let rest = drop (length vs + 1) ns in
     let split : map bare ns ≡ map bare front ++ bare name ∷ map bare rest = ap (map bare) (sym (take-append-drop (length vs) ns) ∙ ap (λ (left : Texts). front ++ left) (drop_item ns (length vs) name next)) ∙ map-append bare front (name ∷ rest) in
     has_name-zip name ns vs (omega arith) ∙ named_apart (map bare front) (map bare rest) (bare name) (subst AreNamed split named)
+
+-- and it holds no zero
+named_whole : (fs gs : List Field) (f : Field) → AreNamed (fs ++ f ∷ gs) → has_zero f.0 ≡ false
+named_whole [] gs f named = named.0
+named_whole (g ∷ fs) gs f named = named_whole fs gs f named.2
+
+pub next_is_whole : (name : List ℕ) (ns : Texts) (place : ℕ) → AreNamed (map bare ns) → slice_get ns place ≡ Some name → has_zero name ≡ false
+next_is_whole name ns place named next =
+    let front = take place ns in
+    let rest = drop (place + 1) ns in
+    let split : map bare ns ≡ map bare front ++ bare name ∷ map bare rest = ap (map bare) (sym (take-append-drop place ns) ∙ ap (λ (left : Texts). front ++ left) (drop_item ns place name next)) ∙ map-append bare front (name ∷ rest) in
+    named_whole (map bare front) (map bare rest) (bare name) (subst AreNamed split named)
+
+pub next_name : {B : Type 0} (text : B → List ℕ) (o : Option B) (ns : Texts) (vs : List Tree) → AreNamed (map bare ns) → option_map text o ≡ slice_get ns (length vs) → IfSome o (λ b. (has_name (text b) (zip ns vs) ≡ false) × (has_zero (text b) ≡ false))
+next_name text None ns vs named e = tt
+next_name text (Some b) ns vs named e = (next_is_fresh (text b) ns vs named (sym e), next_is_whole (text b) ns (length vs) named (sym e))
 
 -- a place, if it is below n
 abbrev pub below : ℕ → Option ℕ → Option ℕ

@@ -134,6 +134,20 @@ fn name_of(bytes: &[u8]) -> Result<(&str, &[u8]), ReadError>
     Ok((utf8_of(name)?, rest))
 }
 
+/// The name that is expected behind the fields of `before`, and the bytes behind its closing zero, where it stands there:
+/// it is known to be a text without a zero, which no field has.
+fn expected_name_of<'a>(before: &Fields, bytes: &'a [u8]) -> Option<(&'a str, &'a [u8])>
+    ensures { IfSome result (λ x. name_at false before.now bytes.now ≡ Ok (x.0.now, x.1.now)) }
+{
+    let expected = before.expected_name()?;
+    let end = expected.len();
+    if bytes.len() <= end || bytes[end] != 0 || &bytes[..end] != expected.as_bytes() {
+        return None;
+    }
+    let name = unsafe { str::from_utf8_unchecked(&bytes[..end]) };
+    Some((name, &bytes[end + 1..]))
+}
+
 /// The name of a field that stands behind those of `before`, and the bytes behind its closing zero.
 #[tactic(auto, using(crate::proofs::Fronts::no_name))]
 pub(crate) fn field_name_of<'a>(
@@ -142,6 +156,9 @@ pub(crate) fn field_name_of<'a>(
 ) -> Result<(&'a str, &'a [u8]), ReadError>
     ensures { Gives (λ x. (x.0.now, x.1.now)) result (name_at false before.now bytes.now) }
 {
+    if let Some(found) = expected_name_of(before, bytes) {
+        return Ok(found);
+    }
     let (name, rest) = name_of(bytes)?;
     if before.has(name) {
         return Err(ReadError::Fault(BsonFault::RepeatedName));

@@ -1,6 +1,6 @@
 //! The fields of documents: values beside names that they may share.
 
-ghost use Rattle.std.specs.Prelude.{◌≡◌, ◌+◌, ◌<◌, ◌≤◌, [], ◌∷◌, ◌++◌, false, length, take, map, OnOk, OnErr, IfOk, slice_get};
+ghost use Rattle.std.specs.Prelude.{◌≡◌, ◌+◌, ◌<◌, ◌≤◌, [], ◌∷◌, ◌++◌, false, length, take, map, OnOk, OnErr, IfOk, IfSome, slice_get};
 ghost use Rattle.std.specs.Option.{option_map};
 ghost use Rattle.dv_bson.specs.Names.{bare, AreNamed, place_under, value_under, with_value_under, without, has_name, has_zero};
 ghost use Rattle.dv_bson.specs.Put.{with_value_at};
@@ -88,6 +88,18 @@ impl Fields {
         let place = self.names.place_of(name)?;
         if place < self.values.len() {
             Some(place)
+        } else {
+            None
+        }
+    }
+
+    /// The name that the next field is expected to have, where other documents of the same names have one there.
+    pub(crate) fn expected_name(&self) -> Option<&str>
+        ensures { IfSome result (λ name. (has_name name.now self.now ≡ false) × (has_zero name.now ≡ false)) }
+    {
+        let place = self.values.len();
+        if place < self.names.len() {
+            self.names.get(place)
         } else {
             None
         }
