@@ -1,20 +1,20 @@
 -- The keys that a fold over candidates gathers.
-use Rattle.std.proofs.Common.{Bor, ◌≡◌, List, [], ◌∷◌, map, Some, refl, ap, sym, ◌∙◌, Bool, true, false, cond, ◌||◌, ◌&&◌, ◌==◌, Result, Ok, ℕ, ◌≤◌, length, take, take_all}
+use Rattle.std.proofs.Common.{Bor, ◌≡◌, List, [], ◌∷◌, map, Some, refl, ap, sym, ◌∙◌, Bool, true, false, cond, ◌||◌, ◌&&◌, ◌==◌, Result, Ok, ℕ, ◌≤◌, length, take, take_all, append-nil}
 use Rattle.std.specs.List.{list_any, flat_map, FoldsTo}
 use Rattle.std.specs.BTreeSet.{BTreeSet, contains}
 use Rattle.std.specs.Ordering.{is_eq}
 use Rattle.dv_bson.specs.declared.value.Value.{Value}
-use Rattle.dv_bson.specs.Tree.{Tree, Field, array, elements_of, fields_of, list_of_elements, list_of_fields}
+use Rattle.dv_bson.specs.Tree.{Tree, Field, array, null, elements_of, fields_of, list_of_elements, list_of_fields}
 use Rattle.dv_bson.specs.View.{tree}
 use Rattle.dv_order.specs.Order.{canon}
 use Rattle.dv_order.specs.Key.{KeyTree, value, key_order}
 use Rattle.dv_path.specs.declared.candidate.Candidate as memory
-use Rattle.dv_path.specs.declared.candidate.Candidate.TheVariants.{Found}
+use Rattle.dv_path.specs.declared.candidate.Candidate.TheVariants.{Found, Missing}
 use Rattle.dv_path.specs.View.{seen}
 use Rattle.dv_path.specs.Candidates.{Candidate, whole, leaves, with_elements}
 use Rattle.dv_path.specs.Fold.{Takes, FoldsOver, Passes}
 use Rattle.dv_gather.specs.Joining.{or_null, local_values, joined_by, found_under}
-use Rattle.dv_gather.specs.KeySets.{is_key_of, is_some_key}
+use Rattle.dv_gather.specs.KeySets.{AreKeysOf, is_key_of, is_some_key}
 use Rattle.dv_gather.specs.Places.{is_found}
 use Rattle.dv_gather.proofs.Lists.{same-truth, or-false, or-assoc, and-either, cond-or, any-and, any-map, any-flat_map, any-same, equal-back}
 
@@ -105,3 +105,22 @@ pub gathered-leaves : {X E T : Type 0} (seen : X → Candidate) (call : T → X 
 gathered-leaves seen call has place steps path d t u h k i =
     gathered seen call (λ t. has t k i) (λ c. (place == i) && is_some_key k (map or_null (with_elements c))) (λ t x u h. steps t x u h k i) path d t u h
     ∙ ap (λ b. has t k i || b) (any-and (place == i) (λ c. is_some_key k (map or_null (with_elements c))) (whole d path) ∙ ap (λ b. (place == i) && b) (found-leaves k path d))
+
+-- ---- the one value by which a document is joined
+
+pub value-missing : (c : memory.Candidate) → ((v : Bor Value) → c ≡ Found v → ⊥) → local_values (seen c) ≡ null ∷ []
+value-missing (Found v) none = absurd (none v refl)
+value-missing Missing none = refl
+
+alone-value : (v : Value) → ((l : List Tree) → v ≡ Value.Array l → ⊥) → local_values (Some (tree v)) ≡ tree v ∷ []
+alone-value (Value.Array l) none = absurd (none l refl)
+alone-value v none = refl
+
+pub value-found : (c : memory.Candidate) (v : Bor Value) → c ≡ Found v → ((l : List Tree) → v.now ≡ Value.Array l → ⊥) → local_values (seen c) ≡ tree v.now ∷ []
+value-found c v at none = ap (λ d. local_values (seen d)) at ∙ alone-value v.now none
+
+pub key-alone : (key : KeyTree) (path : List (List ℕ)) (d : List Field) (c : Candidate) (v : Tree) → whole d path ≡ c ∷ [] → local_values c ≡ v ∷ [] → key ≡ value (canon v) → AreKeysOf (key ∷ []) (joined_by path d)
+unfolding joined_by
+key-alone key path d c v sole values is k =
+    ap (λ l. is_eq (key_order k l) || false) is
+    ∙ sym (ap (is_some_key k) (ap (flat_map local_values) sole ∙ append-nil (local_values c) ∙ values))

@@ -1,11 +1,10 @@
 -- Items at places: what is kept under keys, and the places in order.
-use Rattle.std.proofs.Common.{◌≡◌, ◌∙◌, ap, sym, subst, refl, Bool, true, false, ◌||◌, ◌&&◌, ◌==◌, List, [], ◌∷◌, ◌++◌, ℕ, ◌<◌, zero, suc, map, filter, take, drop, length, get_or, add-one, slice_get, append_assoc, Bor, ◌+◌, ◌≤◌, Option, Some, None, Vec, cond, arith, if◌then◌else◌}
+use Rattle.std.proofs.Common.{◌≡◌, ◌∙◌, ap, sym, subst, refl, Bool, true, false, ◌||◌, ◌&&◌, ◌==◌, List, [], ◌∷◌, ◌++◌, ℕ, ◌<◌, zero, suc, map, filter, take, drop, length, get_or, add-one, slice_get, append-nil, append_assoc, Bor, ◌+◌, ◌≤◌, Option, Some, None, Vec, cond, arith, if◌then◌else◌}
 use Rattle.std.specs.List.{list_any, AllByRecursion}
 use Rattle.std.specs.Map.{lookup}
-use Rattle.std.specs.Option.{is_some, option_map, unwrap_or}
+use Rattle.std.specs.Option.{IfSome, option_map, unwrap_or}
 use Rattle.std.specs.Str.{bytes_eq}
 use Rattle.std.specs.BTreeMap.{BTreeMap, get, is_at}
-use Rattle.std.specs.BTreeSet.{BTreeSet, contains}
 use Rattle.std.specs.Cmp.{eq_by_cmp_equiv}
 use Rattle.std.specs.List.Sorted.{IsStrictlySortedBy}
 use Rattle.std.specs.Ordering.{is_eq, nat_cmp}
@@ -15,13 +14,15 @@ use Rattle.std.proofs.lemmas.Cmp.{ranked}
 use Rattle.std.proofs.lemmas.List.{take-map}
 use Rattle.std.proofs.lemmas.Option.{slice_get_read}
 use Rattle.dv_bson.specs.Tree.{Tree, Field}
-use Rattle.dv_bson.specs.Names.{has_name, value_under}
+use Rattle.dv_bson.specs.Names.{has_name, with_value_under}
 use Rattle.dv_row.specs.EachLaws.{drop-read}
 use Rattle.dv_order.specs.Order.{canon, order}
 use Rattle.dv_order.specs.Key.{KeyTree, value, key_order}
 use Rattle.dv_order.specs.KeyLaws.{key_order_total}
 use Rattle.dv_gather.specs.Joining.{as_value, joined_by, found_under, matches}
-use Rattle.dv_gather.specs.KeySets.{is_key_of, is_some_key, any_key, referred}
+use Rattle.dv_gather.specs.Lookups.{set_field}
+use Rattle.dv_row.specs.Expressions.{with_field}
+use Rattle.dv_gather.specs.KeySets.{AreKeysOf, is_key_of, is_some_key, any_key, referred}
 use Rattle.dv_gather.specs.Places.{ArePlaces, is_place, is_kept, is_under, is_found, passes_at, chosen, item_at, items_at}
 use Rattle.dv_gather.proofs.Lists.{or-false, or-assoc, cond-or, any-same, equal-back}
 use Rattle.dv_gather.proofs.Shared.{matches-by_keys}
@@ -176,12 +177,44 @@ module _ {A : Type 0} (k l : KeyTree) (old : BTreeMap KeyTree (Vec ℕ A)) where
       go false e = sym (or-false (is_under old k i)) ∙ ap (λ b. is_under old k i || b) (sym (and-false (place == i)))
 
 -- the documents that have some of the keys
-pub matches-by_places : {A : Type 0} (stands : (v w : Tree) → key_order (value (canon v)) (value (canon w)) ≡ order v w) (m : BTreeMap KeyTree (Vec ℕ A)) (keys : BTreeSet KeyTree) (found : ℕ → Bool) (local foreign : List (List ℕ)) (d : List Field) (ds : List (List Field))
-    → ((k : KeyTree) → contains key_order keys k ≡ is_some_key k (joined_by local d)) → ((i : ℕ) → found i ≡ list_any (λ k. is_under m k i) keys.keys) → ArePlaces m foreign ds → chosen found ds ≡ matches local foreign ds d
+pub matches-by_places : {A : Type 0} (stands : (v w : Tree) → key_order (value (canon v)) (value (canon w)) ≡ order v w) (m : BTreeMap KeyTree (Vec ℕ A)) (keys : List KeyTree) (found : ℕ → Bool) (local foreign : List (List ℕ)) (d : List Field) (ds : List (List Field))
+    → AreKeysOf keys (joined_by local d) → ((i : ℕ) → found i ≡ list_any (λ k. is_under m k i) keys) → ArePlaces m foreign ds → chosen found ds ≡ matches local foreign ds d
 matches-by_places stands m keys found local foreign d ds own under are =
-    let test = λ (f : List Field). any_key keys.keys (found_under foreign f) in
-    chosen-filter found test ds (λ i. under i ∙ any-same (λ k. is_under m k i) (λ k. passes_at (is_found foreign k) ds i) (λ k. are k i) keys.keys ∙ any-passes (is_found foreign) keys.keys ds i)
+    let test = λ (f : List Field). any_key keys (found_under foreign f) in
+    chosen-filter found test ds (λ i. under i ∙ any-same (λ k. is_under m k i) (λ k. passes_at (is_found foreign k) ds i) (λ k. are k i) keys ∙ any-passes (is_found foreign) keys ds i)
     ∙ matches-by_keys stands keys local foreign d ds own
+
+member-is : (ps : List ℕ) (i : ℕ) → member ps i ≡ is_place ps i
+member-is ps i = any-same (λ k. is_eq (nat_cmp i k)) (λ p. p == i) (same-back i) ps
+  where
+    same-back : (i p : ℕ) → is_eq (nat_cmp i p) ≡ (p == i)
+    same-back i p = grind (arith, nat_tests)
+
+-- the documents that one key finds, by their places
+pub found-by_key : {A : Type 0} (stands : (v w : Tree) → key_order (value (canon v)) (value (canon w)) ≡ order v w) (m : BTreeMap KeyTree (Vec ℕ A)) (key : KeyTree) (ps : List ℕ) (local foreign : List (List ℕ)) (d : List Field) (ds : List (List Field))
+    → IsStrictlySortedBy nat_cmp ps → ((i : ℕ) → is_under m key i ≡ is_place ps i) → AreKeysOf (key ∷ []) (joined_by local d) → ArePlaces m foreign ds → items_at ps ds ≡ matches local foreign ds d
+found-by_key stands m key ps local foreign d ds sorted kept own are =
+    items-chosen ds ps sorted ∙ matches-by_places stands m (key ∷ []) (member ps) local foreign d ds own (λ i. member-is ps i ∙ sym (kept i) ∙ sym (or-false (is_under m key i))) are
+
+module _ {A : Type 0} (stands : (v w : Tree) → key_order (value (canon v)) (value (canon w)) ≡ order v w) (m : BTreeMap KeyTree (Vec ℕ A)) (key : KeyTree) (local foreign : List (List ℕ)) (d : List Field) (ds : List (List Field)) (own : AreKeysOf (key ∷ []) (joined_by local d)) (are : ArePlaces m foreign ds) where
+  -- no place, or one
+  pub found-none : None ≡ get key_order m key → [] ≡ map as_value (matches local foreign ds d)
+  unfolding IsStrictlySortedBy
+  found-none none = ap (map as_value) (found-by_key stands m key [] local foreign d ds tt (λ i. ap (λ o. is_kept o i) (sym none)) own are)
+
+  pub found-one : (ps : Vec ℕ A) (place : ℕ) → Some ps ≡ get key_order m key → ps.items ≡ place ∷ [] → map as_value (item_at (slice_get ds place)) ≡ map as_value (matches local foreign ds d)
+  unfolding IsStrictlySortedBy
+  found-one ps place some one =
+      ap (map as_value) (sym (append-nil (item_at (slice_get ds place)))
+      ∙ found-by_key stands m key (place ∷ []) local foreign d ds (tt, tt) (λ i. ap (λ o. is_kept o i) (sym some) ∙ ap (λ l. is_place l i) one) own are)
+
+pub if-some : {X : Type 0} (P : X → Type 0) (o : Option X) (x : X) → o ≡ Some x → IfSome o P → P x
+if-some P o x is p = subst (λ r. IfSome r P) is p
+
+pub alone : (xs : List ℕ) (d : ℕ) → 1 ≤ length xs → length xs < 2 → xs ≡ get_or xs 0 d ∷ []
+alone [] d low high = absurd (omega arith)
+alone (x ∷ []) d low high = refl
+alone (x ∷ y ∷ xs) d low high = absurd (omega arith)
 
 -- ---- loops
 
@@ -215,21 +248,27 @@ passes-referred p ds n d within is i =
     ∙ passes-more p (referred ds) n d.now (slice-get_map now ds n ∙ ap (option_map now) (slice_get_read ds (length ds) n d refl within is)) i
     ∙ ap (λ l. passes_at p l i || ((n == i) && p d.now)) (take-map now n ds)
 
--- whether a field was found
-pub has-found : {X : Type 0} (name : List ℕ) (fs : List Field) (view : X → Tree) (o : Option X) → option_map view o ≡ value_under name fs → (b : Bool) → b ≡ is_some o → has_name name fs ≡ b
-has-found {X = X} name fs view o found b is = there fs ∙ ap is_some (sym found) ∙ mapped o ∙ sym is
+-- a value under a name that isn't there
+pub under-nothing : (name : List ℕ) (v : Tree) (fs : List Field) → has_name name fs ≡ false → with_value_under name v fs ≡ fs
+under-nothing name v [] e = refl
+under-nothing name v (f ∷ fs) e = go (bytes_eq name f.0) e (under-nothing name v fs)
   where
-    there : (fs : List Field) → has_name name fs ≡ is_some (value_under name fs)
-    there [] = refl
-    there (f ∷ fs) = go (bytes_eq name f.0) (there fs)
-      where
-        go : (b : Bool) → has_name name fs ≡ is_some (value_under name fs) → b || has_name name fs ≡ is_some (if b then Some f.1 else value_under name fs)
-        go true rest = refl
-        go false rest = rest
+    go : (b : Bool) → b || has_name name fs ≡ false → (has_name name fs ≡ false → with_value_under name v fs ≡ fs) → (if b then (f.0, v) ∷ fs else f ∷ with_value_under name v fs) ≡ f ∷ fs
+    go true h rest = absurd (let same : true ≡ false = h in cc)
+    go false h rest = ap (λ l. f ∷ l) (rest h)
 
-    mapped : (o : Option X) → is_some (option_map view o) ≡ is_some o
-    mapped None = refl
-    mapped (Some x) = refl
+-- the value that comes back, where nothing stands under the name
+pub came-back : (b : Bool) (v w : Tree) → Some w ≡ (if b then None else Some v) → (b ≡ false) × (w ≡ v)
+came-back true v w e = absurd cc
+came-back false v w e = (refl, cc)
+
+-- a value behind the others, where nothing stood under the name
+pub set-behind : (name : List ℕ) (v w : Tree) (d after : List Field) → Some w ≡ (if has_name name d then None else Some v) → after ≡ with_value_under name v d → set_field name v d ≡ with_field name (Some w) after
+set-behind name v w d after back is =
+    let came = came-back (has_name name d) v w back in
+    ap (λ b. if b then with_value_under name v d else with_field name (Some v) d) came.0
+    ∙ ap (λ u. with_field name (Some u) d) (sym came.1)
+    ∙ ap (with_field name (Some w)) (sym (is ∙ under-nothing name v d came.0))
 
 -- the documents at one place more
 module _ (ds : List (Bor (List Field))) (p : ℕ) (rest : List ℕ) (vs : List Tree) where

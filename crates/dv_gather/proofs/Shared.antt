@@ -3,7 +3,6 @@ use Rattle.std.proofs.Common.{◌≡◌, ◌∙◌, ap, sym, refl, Bool, true, f
 use Rattle.std.proofs.lemmas.List.{map-append}
 use Rattle.std.proofs.lemmas.Option.{slice_get_read}
 use Rattle.std.specs.List.{list_any}
-use Rattle.std.specs.BTreeSet.{BTreeSet, contains}
 use Rattle.std.specs.Cmp.{eq_by_cmp_equiv}
 use Rattle.std.specs.Ordering.{is_eq}
 use Rattle.dv_bson.specs.Tree.{Tree, Field}
@@ -11,7 +10,7 @@ use Rattle.dv_order.specs.Order.{canon, order}
 use Rattle.dv_order.specs.Key.{KeyTree, value, key_order}
 use Rattle.dv_order.specs.KeyLaws.{key_order_total}
 use Rattle.dv_gather.specs.Joining.{is_among, is_joined, joined_by, found_under, matches}
-use Rattle.dv_gather.specs.KeySets.{is_key_of, is_some_key, any_key}
+use Rattle.dv_gather.specs.KeySets.{AreKeysOf, is_key_of, is_some_key, any_key}
 use Rattle.dv_gather.proofs.Lists.{same-truth, any-same}
 
 -- equal keys are those of the same values
@@ -46,32 +45,32 @@ key-itself : (k : KeyTree) → is_eq (key_order k k) ≡ true
 key-itself k = (eq_by_cmp_equiv key_order_total).refl k
 
 module _ (stands : (v w : Tree) → key_order (value (canon v)) (value (canon w)) ≡ order v w) where
-  -- a set of the keys of some values has a key of others exactly where one of the values is among them
-  pub any-key_is : (keys : BTreeSet KeyTree) (vs ws : List Tree) → ((k : KeyTree) → contains key_order keys k ≡ is_some_key k vs) → any_key keys.keys ws ≡ list_any (is_among ws) vs
-  any-key_is keys vs ws is = same-truth (any_key keys.keys ws) (list_any (is_among ws) vs) there back
+  -- keys of some values have one of others exactly where one of the values is among them
+  pub any-key_is : (keys : List KeyTree) (vs ws : List Tree) → AreKeysOf keys vs → any_key keys ws ≡ list_any (is_among ws) vs
+  any-key_is keys vs ws is = same-truth (any_key keys ws) (list_any (is_among ws) vs) there back
     where
       among-is : (v : Tree) → is_some_key (value (canon v)) ws ≡ is_among ws v
       among-is v = any-same (is_key_of (value (canon v))) (λ w. is_eq (order v w)) (λ w. ap is_eq (stands v w)) ws
 
-      there : any_key keys.keys ws ≡ true → list_any (is_among ws) vs ≡ true
+      there : any_key keys ws ≡ true → list_any (is_among ws) vs ≡ true
       there e =
-          let k : Some-of (λ k. is_some_key k ws) keys.keys = some-of (λ k. is_some_key k ws) keys.keys e in
+          let k : Some-of (λ k. is_some_key k ws) keys = some-of (λ k. is_some_key k ws) keys e in
           let v : Some-of (is_key_of k.one) vs = some-of (is_key_of k.one) vs (sym (is k.one) ∙ k.among (λ l. is_eq (key_order k.one l)) (key-itself k.one)) in
           v.among (is_among ws) (sym (among-is v.one) ∙ sym (alike k.one (value (canon v.one)) ws v.passes) ∙ k.passes)
 
-      back : list_any (is_among ws) vs ≡ true → any_key keys.keys ws ≡ true
+      back : list_any (is_among ws) vs ≡ true → any_key keys ws ≡ true
       back e =
           let v : Some-of (is_among ws) vs = some-of (is_among ws) vs e in
           let key = value (canon v.one) in
-          let k : Some-of (λ l. is_eq (key_order key l)) keys.keys = some-of (λ l. is_eq (key_order key l)) keys.keys (is key ∙ v.among (is_key_of key) (key-itself key)) in
+          let k : Some-of (λ l. is_eq (key_order key l)) keys = some-of (λ l. is_eq (key_order key l)) keys (is key ∙ v.among (is_key_of key) (key-itself key)) in
           k.among (λ k. is_some_key k ws) (sym (alike key k.one ws k.passes) ∙ among-is v.one ∙ v.passes)
 
   filter-same : {X : Type 0} (p q : X → Bool) → ((x : X) → p x ≡ q x) → (xs : List X) → filter p xs ≡ filter q xs
   filter-same p q h [] = refl
   filter-same p q h (x ∷ xs) = ap (λ b. if b then x ∷ filter p xs else filter p xs) (h x) ∙ ap (λ l. if q x then x ∷ l else l) (filter-same p q h xs)
 
-  pub matches-by_keys : (keys : BTreeSet KeyTree) (local foreign : List (List ℕ)) (d : List Field) (ds : List (List Field)) → ((k : KeyTree) → contains key_order keys k ≡ is_some_key k (joined_by local d)) → filter (λ f. any_key keys.keys (found_under foreign f)) ds ≡ matches local foreign ds d
-  matches-by_keys keys local foreign d ds is = filter-same (λ f. any_key keys.keys (found_under foreign f)) (is_joined local foreign d) (λ f. any-key_is keys (joined_by local d) (found_under foreign f) is) ds
+  pub matches-by_keys : (keys : List KeyTree) (local foreign : List (List ℕ)) (d : List Field) (ds : List (List Field)) → AreKeysOf keys (joined_by local d) → filter (λ f. any_key keys (found_under foreign f)) ds ≡ matches local foreign ds d
+  matches-by_keys keys local foreign d ds is = filter-same (λ f. any_key keys (found_under foreign f)) (is_joined local foreign d) (λ f. any-key_is keys (joined_by local d) (found_under foreign f) is) ds
 
 -- ---- loops
 

@@ -1,5 +1,5 @@
 -- Keys of values: words of bodies.
-use Rattle.std.specs.Prelude.{Bool, List, map}
+use Rattle.std.specs.Prelude.{◌≡◌, Bool, List, map}
 use Rattle.std.specs.List.{list_any}
 use Rattle.std.specs.Ordering.{is_eq}
 use denote.Ref.{Bor}
@@ -14,6 +14,10 @@ is_key_of k v = is_eq (key_order k (value (canon v)))
 -- whether k is the key of one of these values
 abbrev pub is_some_key : KeyTree → List Tree → Bool
 is_some_key k vs = list_any (is_key_of k) vs
+
+-- keys are those of values: a key equals one of them exactly where it is that of a value
+abbrev pub AreKeysOf : List KeyTree → List Tree → Type 0
+AreKeysOf ks vs = (k : KeyTree) → list_any (λ l. is_eq (key_order k l)) ks ≡ is_some_key k vs
 
 -- whether one of these keys is that of one of these values
 abbrev pub any_key : List KeyTree → List Tree → Bool

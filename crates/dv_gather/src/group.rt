@@ -6,6 +6,7 @@ ghost use Rattle.dv_row.specs.RowValueView.{row_value};
 ghost use Rattle.dv_gather.specs.Grouping as defined;
 ghost use Rattle.dv_gather.specs.GroupParsing.{grouping};
 ghost use Rattle.dv_gather.specs.GroupView.{accumulation};
+ghost use Rattle.dv_gather.specs.KeySets.{referred};
 ghost use Rattle.dv_gather.specs.Tallies.{finished_row, with_row_put, with_rows_put};
 ghost use Rattle.dv_gather.specs.TotalView.{tallies_seen};
 
@@ -90,8 +91,8 @@ impl Group {
     /// A row for each group of the rows, ascending by their keys. Rows whose keys compare equal are one group, and a missing
     /// key counts as null. Its row has `_id`, spelled as in the group's first row, and behind it the fields. In time n log n
     /// for each field. Fails where memory is wanting.
-    pub fn rows(&self, alloc: Global, rows: &[Document]) -> Result<Vec<Document>, NoMemory>
-        ensures { IfOk result (λ left. left.items ≡ defined.grouped self.now rows.now) }
+    pub fn rows(&self, alloc: Global, rows: &[&Document]) -> Result<Vec<Document>, NoMemory>
+        ensures { IfOk result (λ left. left.items ≡ defined.grouped self.now (referred rows.now)) }
     {
         laws::keys_stand_as_their_values();
         let tallies = self.tallies(alloc, rows)?;
@@ -99,8 +100,8 @@ impl Group {
     }
 
     /// The groups of the rows, by their keys.
-    fn tallies(&self, alloc: Global, rows: &[Document]) -> Result<BTreeMap<Key, Tally>, NoMemory>
-        ensures { IfOk result (λ tallies. tallies_seen tallies.entries ≡ with_rows_put self.now rows.now []) }
+    fn tallies(&self, alloc: Global, rows: &[&Document]) -> Result<BTreeMap<Key, Tally>, NoMemory>
+        ensures { IfOk result (λ tallies. tallies_seen tallies.entries ≡ with_rows_put self.now (referred rows.now) []) }
     {
         let mut tallies = BTreeMap::new(alloc);
         'rows: for row in rows {

@@ -1,18 +1,18 @@
 //! The keys by which documents are joined, and the places where they are found.
 
-ghost use Rattle.std.specs.Prelude.{◌≡◌, ◌&&◌, ◌||◌, ◌==◌, ℕ, map, IfOk, OnOk};
+ghost use Rattle.std.specs.Prelude.{◌≡◌, ◌&&◌, ◌||◌, ◌==◌, ◌∷◌, [], ℕ, map, IfOk, IfSome, OnOk};
 ghost use Rattle.std.specs.BTreeSet.{contains};
 ghost use Rattle.dv_bson.specs.View.{tree};
 ghost use Rattle.dv_order.specs.Key.{KeyTree, key_order};
 ghost use Rattle.dv_path.specs.View.{seen};
 ghost use Rattle.dv_path.specs.Candidates.{with_elements};
 ghost use Rattle.dv_gather.specs.Joining.{joined_by, local_values, or_null};
-ghost use Rattle.dv_gather.specs.KeySets.{is_key_of, is_some_key};
+ghost use Rattle.dv_gather.specs.KeySets.{AreKeysOf, is_key_of, is_some_key};
 ghost use Rattle.dv_gather.specs.Places.{is_found, is_place, is_under};
 
 use dv_bson::{Document, List, NoMemory, Value};
 use dv_order::{Key, key_of};
-use dv_path::{Candidate, Path, fold_whole};
+use dv_path::{Candidate, Path, fold_whole, sole_candidate};
 use std::alloc::Global;
 use std::collections::{BTreeMap, BTreeSet};
 
@@ -28,6 +28,22 @@ pub(crate) fn local_keys(
         with_local(keys, candidate)
     })?;
     Ok(keys)
+}
+
+/// The key of the one value by which the document is joined; `None` where there may be more.
+pub(crate) fn sole_key(document: &Document, path: &Path) -> Result<Option<Key>, NoMemory>
+    ensures { IfOk result (λ key. IfSome key (λ k. AreKeysOf (k ∷ []) (joined_by path.now document.now))) }
+{
+    let Some(candidate) = sole_candidate(document, path) else {
+        return Ok(None);
+    };
+    let Candidate::Found(value) = candidate else {
+        return Ok(Some(key_of(&Value::Null)?));
+    };
+    match value {
+        Value::Array(_) => Ok(None),
+        _ => Ok(Some(key_of(value)?)),
+    }
 }
 
 /// The places with that of a document, under the keys of the values under which it is found.

@@ -16,4 +16,4 @@ mod total;
 
 pub use accumulator::Accumulator;
 pub use group::{Group, GroupField};
-pub use lookup::Lookup;
+pub use lookup::{Join, Lookup};

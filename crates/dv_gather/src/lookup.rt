@@ -7,9 +7,12 @@ ghost use Rattle.dv_gather.specs.Lookups as defined;
 
 use crate::joining::{matches_of, places_of};
 use dv_bson::{Document, NoMemory, Str, Value};
+use dv_order::Key;
 use dv_path::Path;
 use dv_row::push_field;
 use std::alloc::Global;
+use std::collections::BTreeMap;
+use std::marker::Model;
 
 /// The documents of another collection that a row is joined with, put into it: those that have a leaf at `foreign` which
 /// compares equal to a value of the row at `local`, an array of the row standing for its elements, and what is missing
@@ -26,28 +29,52 @@ pub struct Lookup {
     pub target: Str,
 }
 
+/// A look-up into documents.
+#[derive(Debug, Drop)]
+pub struct Join<'a> {
+    lookup: &'a Lookup,
+    documents: &'a [&'a Document],
+    /// The places of the documents, by the keys of the values under which they are found.
+    places: BTreeMap<Key, Vec<usize>>,
+}
+
+impl<'a> Model for Join<'a> {
+    ghost use Rattle.std.specs.Prelude.{List};
+    ghost use Rattle.dv_bson.specs.Tree.{Field};
+    ghost use Rattle.dv_gather.specs.declared.lookup.Lookup.{Lookup};
+
+    ghost Value = { Lookup × List (List Field) };
+
+    ghost use Rattle.std.specs.Coded.{coded_list, coded×, coded_ℕ};
+    ghost use Rattle.dv_bson.specs.TreeCode.{coded_tree};
+    ghost use Rattle.dv_gather.specs.contracts.lookup.Lookup as lookups;
+
+    ghost coded = { coded× lookups.the_row.coded (coded_list (coded_list (coded× (coded_list coded_ℕ) coded_tree))) };
+
+    ghost use Rattle.dv_gather.specs.KeySets.{referred};
+    ghost use Rattle.dv_gather.specs.Places.{ArePlaces};
+
+    ghost view = { λ j. (j.lookup.now, referred j.documents.now) };
+
+    ghost invariant = { λ j. ArePlaces j.places j.lookup.now.foreign (referred j.documents.now) };
+}
+
 impl Lookup {
-    /// Each row with the documents that it is joined with, an array in their order, each once, in place of the field of the
-    /// target's name or behind the others. They share their memory with the documents. Takes time of the values of both
-    /// sides and of the matches, times a logarithm. Fails where memory is wanting.
-    #[tactic(auto, unfolding(crate::specs::Lookups::looked_up))]
-    pub fn rows(
-        &self,
+    /// The look-up into these documents, which stand in it by their values at `foreign`. Takes time of these values, times a
+    /// logarithm. Fails where memory is wanting.
+    pub fn join<'a>(
+        &'a self,
         alloc: Global,
-        rows: &[Document],
-        documents: &[&Document],
-    ) -> Result<Vec<Document>, NoMemory>
-        ensures { IfOk result (λ left. left.items ≡ defined.looked_up self.now rows.now (referred documents.now)) }
+        documents: &'a [&'a Document],
+    ) -> Result<Join<'a>, NoMemory>
+        ensures { IfOk result (λ join. join ≡ (self.now, referred documents.now)) }
     {
         let places = places_of(alloc, documents, &self.foreign)?;
-        let mut left = Vec::with_capacity(alloc, rows.len())?;
-        'rows: for row in rows {
-            let matches = matches_of(alloc, row, &self.local, documents, &places)?;
-            let mut joined = row.try_clone()?;
-            set_field(&mut joined, self.target.as_str(), Value::Array(matches))?;
-            left.push(joined)?;
-        }
-        Ok(left)
+        Ok(Join {
+            lookup: self,
+            documents,
+            places,
+        })
     }
 
     /// A copy of its own. Fails where memory is wanting.
@@ -63,13 +90,27 @@ impl Lookup {
     }
 }
 
+impl<'a> Join<'a> {
+    /// The row with the documents that it is joined with, an array in their order, each once, in place of the field of the
+    /// target's name or behind the others. They share their memory with the documents. Takes time of the row's values and of
+    /// the matches, times a logarithm. Fails where memory is wanting.
+    pub fn row(&self, alloc: Global, row: &Document) -> Result<Document, NoMemory>
+        ensures { IfOk result (λ joined. joined ≡ defined.joined_row self.now.0 self.now.1 row.now) }
+    {
+        let lookup = self.lookup;
+        let matches = matches_of(alloc, row, &lookup.local, self.documents, &self.places)?;
+        let mut joined = row.try_clone()?;
+        set_field(&mut joined, lookup.target.as_str(), Value::Array(matches))?;
+        Ok(joined)
+    }
+}
+
 /// Puts the value under the name: in place of the one that stands there, or behind the other fields.
 fn set_field(document: &mut Document, name: &str, value: Value) -> Result<(), NoMemory>
     ensures { OnOk result (document.new ≡ defined.set_field name.now (tree value) document.old) }
 {
-    if document.get(name).is_some() {
-        let _ = document.replace(name, value)?;
-        return Ok(());
+    match document.put(name, value)? {
+        Some(value) => push_field(document, name, Some(value)),
+        None => Ok(()),
     }
-    push_field(document, name, Some(value))
 }

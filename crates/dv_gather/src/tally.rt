@@ -1,6 +1,6 @@
 //! Groups so far.
 
-ghost use Rattle.std.specs.Prelude.{◌≡◌, [], map, IfOk, OnOk};
+ghost use Rattle.std.specs.Prelude.{◌≡◌, map, IfOk, OnOk};
 ghost use Rattle.dv_bson.specs.View.{tree};
 ghost use Rattle.dv_row.specs.RowValueView.{row_value};
 ghost use Rattle.dv_gather.specs.GroupView.{accumulation};
@@ -10,7 +10,7 @@ ghost use Rattle.dv_gather.specs.TotalView.{keys_seen, tally_seen, total_seen};
 use crate::group::GroupField;
 use crate::total::{Total, add_at};
 use dv_bson::{Document, NoMemory, Value};
-use dv_row::{RowValue, push_field};
+use dv_row::{RowValue, push_field, row_beside};
 use std::alloc::Global;
 
 /// What has come of a group's rows so far.
@@ -85,7 +85,7 @@ impl Tally {
         ensures { IfOk result (λ row. row ≡ defined.finished_row (map accumulation fields.now) (tally_seen self)) }
     {
         let Tally { key, totals } = self;
-        let mut row = beside(alloc, before)?;
+        let mut row = row_beside(alloc, before)?;
         push_field(&mut row, "_id", Some(spelled(key)))?;
         let mut totals = totals.into_iter();
         'fields: for field in fields {
@@ -95,6 +95,8 @@ impl Tally {
             let value = total.value(alloc)?;
             push_field(&mut row, field.name.as_str(), Some(value))?;
         }
+        // Its length is asked more than once before it is written.
+        row.keep_size();
         Ok(row)
     }
 }
@@ -135,14 +137,4 @@ fn empty_totals(alloc: Global, fields: &[GroupField]) -> Result<Vec<Total>, NoMe
         totals.push(Total::of_none(alloc, field.accumulator))?;
     }
     Ok(totals)
-}
-
-/// A row without fields that expects those of the row before it, where there is one. Fails where memory is wanting.
-fn beside(alloc: Global, before: Option<&Document>) -> Result<Document, NoMemory>
-    ensures { IfOk result (λ row. row ≡ []) }
-{
-    match before {
-        Some(before) => Document::expecting(alloc, before),
-        None => Ok(Document::new(alloc)),
-    }
 }

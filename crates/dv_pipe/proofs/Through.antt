@@ -8,7 +8,8 @@ use Rattle.dv_pipe.specs.declared.stage.Stage.{Stage}
 use Rattle.dv_pipe.specs.declared.stage.Stage.TheVariants.{Match, Project, Unwind, Sort, Limit, Group, Lookup}
 use Rattle.dv_pipe.specs.Parts.{wanted}
 use Rattle.dv_pipe.specs.Sources.{Row}
-use Rattle.dv_pipe.specs.Stages.{Lists, stage, through}
+use Rattle.dv_gather.specs.Grouping.{Grouping, grouped}
+use Rattle.dv_pipe.specs.Stages.{Lists, foreign_of, stage, through}
 
 take-again : {X : Type 0} (n : ℕ) (xs : List X) → take n (take n xs) ≡ take n xs
 take-again zero xs = refl
@@ -49,3 +50,11 @@ front_nothing parts (Some n) = ap (fronted parts (Some n)) (sym (take-nil n))
     take-nil : (n : ℕ) → take n (let none : List Row = [] in none) ≡ []
     take-nil zero = refl
     take-nil (suc n) = refl
+
+-- what groups of the source leave is what leaves the first stage
+pub through_group : (stages later : List Stage) (s : Stage) (g : Grouping) (rows left : List Row) → stages ≡ s ∷ later → s ≡ Group g → left ≡ grouped g rows → (source : List ℕ) (lists : Lists) → through later source lists left ≡ through stages source lists rows
+unfolding through stage
+through_group stages later s g rows left split is e source lists =
+    ap (through later source lists) e
+    ∙ ap (λ (t : Stage). through later source lists (stage t rows (foreign_of s source lists))) (sym is)
+    ∙ ap (λ (l : List Stage). through l source lists rows) (sym split)

@@ -10,6 +10,7 @@ use crate::pipeline::Pipeline;
 use crate::sources::Sources;
 use crate::stage::Stage;
 use dv_bson::{Document, NoMemory};
+use dv_gather::{Group, Lookup};
 use dv_match::Filter;
 use dv_path::SortSpec;
 use dv_row::{Project, Unwind};
@@ -26,8 +27,31 @@ pub fn evaluate(
 ) -> Result<Vec<Document>, NoMemory>
     ensures { IfOk result (λ rows. rows.items ≡ defined.evaluated pipeline.now source.now (lists_of sources.now)) }
 {
-    let mut rows = copies(alloc, sources.get(source))?;
-    let mut stages = pipeline.stages();
+    let documents = sources.get(source);
+    let stages = pipeline.stages();
+    if let Some((stage, later)) = stages.split_first() {
+        if let Stage::Group(group) = stage {
+            // Groups copy no document but where a key is one.
+            let rows = group.rows(alloc, documents)?;
+            return carried_on(alloc, later, source, sources, rows);
+        }
+    }
+    let rows = copies(alloc, documents)?;
+    carried_on(alloc, stages, source, sources, rows)
+}
+
+/// The rows that leave stages over the source.
+fn carried_on(
+    alloc: Global,
+    stages: &[Stage],
+    source: &str,
+    sources: &Sources<'_>,
+    rows: Vec<Document>,
+) -> Result<Vec<Document>, NoMemory>
+    ensures { IfOk result (λ left. left.items ≡ defined.through stages.now source.now (lists_of sources.now) rows.items) }
+{
+    let mut rows = rows;
+    let mut stages = stages;
     'stages: while let Some((stage, later)) = stages.split_first() {
         let foreign = foreign_of(stage, source, sources);
         rows = through(alloc, stage, later, rows, foreign)?;
@@ -74,18 +98,57 @@ fn through(
         Stage::Unwind(unwind) => unwound(alloc, unwind, &rows),
         Stage::Sort(spec) => sorted(alloc, spec, wanted(later), &rows),
         Stage::Limit(count) => Ok(front(*count, rows)),
-        Stage::Group(group) => group.rows(alloc, &rows),
-        Stage::Lookup(lookup) => lookup.rows(alloc, &rows, foreign),
+        Stage::Group(group) => grouped(alloc, group, &rows),
+        Stage::Lookup(lookup) => looked_up(alloc, lookup, &rows, foreign),
     }
 }
 
-/// Each row as it is shown.
+/// Each row as it is shown. What is shown of one lends its names to the next.
 fn projected(alloc: Global, project: &Project, rows: &[Document]) -> Result<Vec<Document>, NoMemory>
     ensures { IfOk result (λ left. left.items ≡ defined.stage (Stage.Project project.now) rows.now []) }
 {
     let mut left = Vec::with_capacity(alloc, rows.len())?;
     'rows: for row in rows {
-        left.push(project.row(alloc, row)?)?;
+        let mut shown = project.row_behind(alloc, row, left.last())?;
+        // Its length is asked more than once before it is written.
+        shown.keep_size();
+        left.push(shown)?;
+    }
+    Ok(left)
+}
+
+/// The rows of the groups.
+fn grouped(alloc: Global, group: &Group, rows: &[Document]) -> Result<Vec<Document>, NoMemory>
+    ensures { IfOk result (λ left. left.items ≡ defined.stage (Stage.Group group.now) rows.now []) }
+{
+    let lent = references(alloc, rows)?;
+    group.rows(alloc, &lent)
+}
+
+/// References to the rows.
+fn references<'r>(alloc: Global, rows: &'r [Document]) -> Result<Vec<&'r Document>, NoMemory>
+    ensures { IfOk result (λ lent. referred lent.items ≡ rows.now) }
+{
+    let mut lent = Vec::with_capacity(alloc, rows.len())?;
+    'rows: for row in rows {
+        lent.push(row)?;
+    }
+    Ok(lent)
+}
+
+/// Each row with the documents that it is joined with.
+fn looked_up(
+    alloc: Global,
+    lookup: &Lookup,
+    rows: &[Document],
+    foreign: &[&Document],
+) -> Result<Vec<Document>, NoMemory>
+    ensures { IfOk result (λ left. left.items ≡ defined.stage (Stage.Lookup lookup.now) rows.now (referred foreign.now)) }
+{
+    let join = lookup.join(alloc, foreign)?;
+    let mut left = Vec::with_capacity(alloc, rows.len())?;
+    'rows: for row in rows {
+        left.push(join.row(alloc, row)?)?;
     }
     Ok(left)
 }

@@ -1,6 +1,6 @@
 //! Expressions.
 
-ghost use Rattle.std.specs.Prelude.{◌≡◌, ◌++◌, map, IfOk, OnOk, OnErr};
+ghost use Rattle.std.specs.Prelude.{◌≡◌, ◌++◌, [], map, IfOk, OnOk, OnErr};
 ghost use Rattle.std.specs.Option.{option_map};
 ghost use Rattle.dv_bson.specs.Tree.{fields_of};
 ghost use Rattle.dv_bson.specs.View.{tree};
@@ -168,6 +168,17 @@ impl Computed {
             fields.push(field.try_clone()?)?;
         }
         Ok(Computed { fields })
+    }
+}
+
+/// A row without fields that expects those of the row before it, where there is one: fields of the same names share them.
+/// Fails where memory is wanting.
+pub fn row_beside(alloc: Global, before: Option<&Document>) -> Result<Document, NoMemory>
+    ensures { IfOk result (λ row. row ≡ []) }
+{
+    match before {
+        Some(before) => Document::expecting(alloc, before),
+        None => Ok(Document::new(alloc)),
     }
 }
 

@@ -6,7 +6,7 @@ ghost use Rattle.dv_bson.specs.Tree.{fields_of, elements_of, list_of_elements};
 ghost use Rattle.dv_bson.specs.View.{tree};
 ghost use Rattle.dv_row.specs.Projecting as defined;
 
-use crate::expr::{Computed, push_field};
+use crate::expr::{Computed, push_field, row_beside};
 use crate::paths::Paths;
 use crate::ways::Ways;
 use dv_bson::{Document, List, NoMemory, Value};
@@ -24,17 +24,29 @@ pub enum Project {
 
 impl Project {
     /// What is shown of the row. Fails where memory is wanting.
-    #[tactic(auto, unfolding(crate::specs::Projecting::projected))]
     pub fn row(&self, alloc: Global, row: &Document) -> Result<Document, NoMemory>
+        ensures { IfOk result (λ shown. shown ≡ defined.projected self.now row.now) }
+    {
+        self.row_behind(alloc, row, None)
+    }
+
+    /// The same. What was shown of the row before it lends its names, where there is one.
+    #[tactic(auto, unfolding(crate::specs::Projecting::projected))]
+    pub fn row_behind(
+        &self,
+        alloc: Global,
+        row: &Document,
+        before: Option<&Document>,
+    ) -> Result<Document, NoMemory>
         ensures { IfOk result (λ shown. shown ≡ defined.projected self.now row.now) }
     {
         match self {
             Project::Include(paths, computed) => {
-                let mut shown = row_left(alloc, true, paths, row)?;
+                let mut shown = row_left(alloc, true, paths, row, before)?;
                 computed.push_values(alloc, row, &mut shown)?;
                 Ok(shown)
             }
-            Project::Exclude(paths) => row_left(alloc, false, paths, row),
+            Project::Exclude(paths) => row_left(alloc, false, paths, row, before),
         }
     }
 
@@ -51,24 +63,31 @@ impl Project {
     }
 }
 
-/// What is left of the row: what the paths lead to, or all but that.
-fn row_left(alloc: Global, keeps: bool, paths: &Paths, row: &Document) -> Result<Document, NoMemory>
+/// What is left of the row: what the paths lead to, or all but that. The row before it lends its names.
+fn row_left(
+    alloc: Global,
+    keeps: bool,
+    paths: &Paths,
+    row: &Document,
+    before: Option<&Document>,
+) -> Result<Document, NoMemory>
     ensures { IfOk result (λ left. left ≡ defined.row_left keeps paths.now row.now) }
 {
-    document_left(alloc, keeps, &paths.ways(), row)
+    document_left(alloc, keeps, &paths.ways(), row, before)
 }
 
-/// What is left of a document.
+/// What is left of a document. One that was made before it lends its names.
 #[cycle(left)]
 fn document_left(
     alloc: Global,
     keeps: bool,
     ways: &Ways<'_>,
     document: &Document,
+    before: Option<&Document>,
 ) -> Result<Document, NoMemory>
     ensures { IfOk result (λ left. left ≡ defined.row_left keeps ways.now document.now) }
 {
-    let mut left = Document::new(alloc);
+    let mut left = row_beside(alloc, before)?;
     'fields: for place in 0..document.len() {
         let Some((name, value)) = document.entry(place) else {
             break;
@@ -111,7 +130,7 @@ fn left_inside(
 {
     match value {
         Value::Doc(document) => {
-            let left = document_left(alloc, keeps, ways, document)?;
+            let left = document_left(alloc, keeps, ways, document, None)?;
             Ok(Some(Value::Doc(left)))
         }
         Value::Array(list) => {

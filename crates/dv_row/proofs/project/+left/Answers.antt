@@ -13,7 +13,7 @@ use Rattle.dv_row.proofs.project.+left.Goals.{document_left-else-fields-test, do
 
 pub document_left-fields-init : goal.document_left-fields-init
 unfolding fields_left
-document_left-fields-init t c = c.new-left.ensures
+document_left-fields-init t c = c.in_ok-left.ensures
 
 pub document_left-value_left-requires : goal.document_left-value_left-requires
 document_left-value_left-requires t c = (omega (arith, field_weighs_less c.args.document.now c.fields.place c.in-Some.name.now (tree c.in-Some.value.now) c.in-Some.ensures), tt)

@@ -1,5 +1,6 @@
 use Rattle.std.proofs.Common.{◌∙◌, ap, map}
 use Rattle.dv_order.specs.Key.{KeyTree}
+use Rattle.dv_gather.specs.KeySets.{referred}
 use Rattle.dv_gather.specs.Tallies.{Tallied, finished_row}
 use Rattle.dv_gather.proofs.Grouped.{if-ok}
 use Rattle.dv_gather.proofs.GroupRows.{rows-are}
@@ -8,4 +9,4 @@ use Rattle.dv_gather.proofs.group.Group.rows.Goals as goal
 pub returns : goal.returns
 returns c =
     let g = c.args.self.now in
-    if-ok (λ left h. h ∙ ap (map (λ (e : KeyTree × Tallied). finished_row g.fields e.1)) c.in_ok-tallies.ensures ∙ rows-are g c.keys_stand_as_their_values.ensures c.args.rows.now) c.finished.result c.finished.ensures
+    if-ok (λ left h. h ∙ ap (map (λ (e : KeyTree × Tallied). finished_row g.fields e.1)) c.in_ok-tallies.ensures ∙ rows-are g c.keys_stand_as_their_values.ensures (referred c.args.rows.now)) c.finished.result c.finished.ensures
