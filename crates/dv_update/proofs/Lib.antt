@@ -14,3 +14,5 @@ pub mod Sameness
 pub mod Sound
 pub mod Texts
 pub mod Valid
+pub mod RemovalsLast
+pub mod Stepwise

@@ -200,14 +200,14 @@ or-none-second : (a b : Bool) → (a || b) ≡ false → b ≡ false
 or-none-second true b h = cc
 or-none-second false b h = h
 
-or-none : (a b : Bool) → a ≡ false → b ≡ false → (a || b) ≡ false
+pub or-none : (a b : Bool) → a ≡ false → b ≡ false → (a || b) ≡ false
 or-none a b h g = ap₂ (λ x y. x || y) h g
 
-is-false : (b : Bool) → (b ≡ true → ⊥) → b ≡ false
+pub is-false : (b : Bool) → (b ≡ true → ⊥) → b ≡ false
 is-false true f = absurd (f refl)
 is-false false f = refl
 
-clash : (b : Bool) → b ≡ false → b ≡ true → ⊥
+pub clash : (b : Bool) → b ≡ false → b ≡ true → ⊥
 clash b h g = cc
 
 -- the one that follows is behind each of the others
@@ -215,7 +215,7 @@ below-later : (e x : Edit) (es rest : List Edit) → AllByRecursion (λ d. path_
 below-later e x [] rest h = h.0
 below-later e x (d ∷ es) rest h = below-later e x es rest h.1
 
-apart-below : (e x : Edit) → path_order e.0 x.0 ≡ Less → begins e.0 x.0 ≡ false → conflicts e x ≡ false
+pub apart-below : (e x : Edit) → path_order e.0 x.0 ≡ Less → begins e.0 x.0 ≡ false → conflicts e x ≡ false
 apart-below e x l h = or-none _ _ h (is-false (begins x.0 e.0) (λ b. begins-first x.0 e.0 b l))
 
 any-none-append : (p : Edit → Bool) (es : List Edit) (x : Edit) → list_any p es ≡ false → p x ≡ false → list_any p (es ++ x ∷ []) ≡ false

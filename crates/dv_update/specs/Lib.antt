@@ -12,3 +12,4 @@ pub mod Update
 pub mod UpdateCode
 pub mod UpdateView
 pub mod View
+pub mod Removals

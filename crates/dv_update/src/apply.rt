@@ -10,8 +10,9 @@ ghost use Rattle.dv_update.specs.Parsing.{Gives};
 ghost use Rattle.dv_update.specs.Same.{both_same};
 ghost use Rattle.dv_update.specs.UpdateView.{update};
 
+use crate::edits::edited;
 use crate::fault::UpdateFault;
-use crate::form::{Edits, Update};
+use crate::form::Update;
 use crate::same::is_same;
 use dv_bson::{BsonFault, Document, NoMemory, Value, fits, size};
 use std::alloc::{AllocError, Global};
@@ -60,17 +61,6 @@ impl Update {
             Update::Operators(edits) => edited(alloc, edits, document.try_clone()?),
         }
     }
-}
-
-/// The edits made one after the other.
-fn edited(alloc: Global, edits: &Edits, document: Document) -> Result<Document, UpdateFault>
-    ensures { Gives (λ changed. changed) result (defined.edited edits.now document) }
-{
-    let mut changed = document;
-    'edits: for edit in edits.as_slice() {
-        changed = edit.make(alloc, changed)?;
-    }
-    Ok(changed)
 }
 
 /// The fields with the `_id` of their own, or else the document's, in front. Fails where memory is wanting.

@@ -6,10 +6,11 @@ ghost use Rattle.std.specs.declared.cmp.Ordering.TheVariants.{Less, Equal};
 ghost use Rattle.dv_bson.specs.Spelling.{AreFields, Fits};
 ghost use Rattle.dv_bson.specs.Tree.{Tree, Field, fields_of, null};
 ghost use Rattle.dv_path.specs.Slots.{slot, taken};
-ghost use Rattle.dv_update.specs.Apply.{Path, applied, set_at};
+ghost use Rattle.dv_update.specs.Apply.{Path, applied, edited, set_at};
 ghost use Rattle.dv_update.specs.Examples.{doc, int, list, long, one, outcome, start, with_a};
-ghost use Rattle.dv_update.specs.Parsing.{conflicts, in_order, update_of};
+ghost use Rattle.dv_update.specs.Parsing.{conflicts, has_conflict, in_order, update_of};
 ghost use Rattle.dv_update.specs.PathOrder.{path_order};
+ghost use Rattle.dv_update.specs.Removals.{edited_removals_last};
 ghost use Rattle.dv_update.specs.Same.{is_same, same_fields};
 ghost use Rattle.dv_update.specs.Update.{Edit, Update};
 ghost use Rattle.dv_update.specs.declared.fault.UpdateFault.TheVariants.{BadName, BadOperand, Conflict, IdChanged, NotArray, NotNumber, NotViable, Overflow, UnknownOperator};
@@ -28,6 +29,13 @@ pub fn paths_stand_in_a_total_order()
 pub fn the_written_order_is_no_matter()
     ensures { (before after : List Edit) (d e : Edit) → conflicts d e ≡ false → in_order (before ++ d ∷ e ∷ after) ≡ in_order (before ++ e ∷ d ∷ after) }
 {}
+
+/// Where no path begins or equals another one, removals may be made behind all other edits.
+pub fn removals_may_come_last()
+    ensures { (edits : List Edit) (d : List Field) → has_conflict edits ≡ false → edited edits d ≡ edited_removals_last edits d }
+{
+    dv_path::laws::paths_that_part_are_independent();
+}
 
 /// `$set` of what is there changes nothing.
 #[tactic(auto, using(crate::proofs::Lawful::set_again))]

@@ -3,6 +3,7 @@
 
 mod apply;
 mod edit;
+mod edits;
 mod fault;
 mod form;
 pub mod laws;

@@ -1,10 +1,11 @@
 //! Edits in the order of their paths.
 
-ghost use Rattle.std.specs.Prelude.{◌≡◌, ◌⊎◌, true, map, refl, IfOk, IfErr, OnOk, MatchResult, if◌then◌else◌, Ok, Err};
+ghost use Rattle.std.specs.Prelude.{◌≡◌, ◌⊎◌, true, false, map, IsTrue, refl, IfOk, IfErr, OnOk, MatchResult, if◌then◌else◌, Ok, Err};
 ghost use Rattle.std.specs.BTreeMap.{IsOrdered};
 ghost use Rattle.std.specs.Cmp.{eq_by_cmp_equiv, partial_equiv_from_equiv, partial_order_from_total};
 ghost use Rattle.std.specs.List.{list_any};
 ghost use Rattle.std.specs.Ordering.{as_partial_cmp, eq_by_cmp};
+ghost use Rattle.std.specs.declared.cmp.Ordering.TheVariants.{Less};
 ghost use Rattle.dv_update.specs.Parsing as defined;
 ghost use Rattle.dv_update.specs.Parsing.{Gives};
 ghost use Rattle.dv_update.specs.PathOrder.{begins as begins_with, component_order, path_order};
@@ -126,6 +127,29 @@ fn begins(a: &Path, b: &Path) -> bool
         }
     }
     xs.len() <= ys.len()
+}
+
+/// Whether the edits stand in the order of their paths, and none of these begins another one.
+pub(crate) fn are_apart(edits: &[Edit]) -> bool
+    ensures { IsTrue result → (defined.has_conflict (map edit edits.now) ≡ false) }
+{
+    let mut left = edits;
+    'edits: while let Some((first, behind)) = left.split_first() {
+        if let Some(next) = behind.first() {
+            if !parts_from(&first.path, &next.path) {
+                return false;
+            }
+        }
+        left = behind;
+    }
+    true
+}
+
+/// Whether the path `a` stands before the path `b`, and doesn't begin it.
+fn parts_from(a: &Path, b: &Path) -> bool
+    ensures { IsTrue result → (path_order a.now b.now ≡ Less) × (begins_with a.now b.now ≡ false) }
+{
+    compare_paths(a.components(), b.components()).is_lt() && !begins(a, b)
 }
 
 /// The edits in the order of their paths. Refused with `Conflict` where one path begins or equals another, and with
