@@ -20,7 +20,7 @@ pub use bytes::Bytes;
 pub use fault::BsonFault;
 pub use limits::{fits, size};
 pub use name::begins_with_dollar;
-pub use reader::read_document;
+pub use reader::{read_document, read_document_like};
 pub use text::Str;
 pub use value::{Document, List, Value};
 pub use walk::check_document;

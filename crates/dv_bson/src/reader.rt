@@ -219,12 +219,17 @@ fn list_of(
     Ok(List::of(values))
 }
 
-/// The document at the front, and its length.
-fn outermost_of(alloc: Global, bytes: &[u8]) -> Result<(Document, usize), ReadError>
+/// The document at the front, and its length. A document that it is `like`, if there is one, has the names that are to be
+/// expected.
+fn outermost_of(
+    alloc: Global,
+    like: Option<&Document>,
+    bytes: &[u8],
+) -> Result<(Document, usize), ReadError>
     ensures { Gives (λ x. (x.0, x.1)) result (document_at bytes.now) }
 {
     let (frame, len) = outermost_frame_of(bytes)?;
-    let document = document_of(alloc, MAX_LEVELS, None, 4, frame.elements, frame.last)?;
+    let document = document_of(alloc, MAX_LEVELS, like, 4, frame.elements, frame.last)?;
     Ok((document, len))
 }
 
@@ -256,7 +261,27 @@ pub fn read_document(alloc: Global, bytes: &[u8]) -> Result<(Document, usize), B
     ensures exact { IfOk result (λ read. document_at bytes.now ≡ Ok (read.0, read.1)) }
     ensures refused { IfErr result (λ e. (e ≡ BsonFault.NoMemory) ⊎ (first_fault bytes.now ≡ Some e)) }
 {
-    Ok(outermost_of(alloc, bytes)?)
+    Ok(outermost_of(alloc, None, bytes)?)
+}
+
+/// Reads as `read_document` does, with the same limits and the same faults. Fields that have the names of `like`, in its
+/// order, share its names, and so do documents inside it: that saves time and memory where many documents of one shape are
+/// read. What is read is the same whatever `like` is.
+pub fn read_document_like(
+    alloc: Global,
+    bytes: &[u8],
+    like: &Document,
+) -> Result<(Document, usize), BsonFault>
+    // What is read is spelled so, and fits.
+    ensures found { IfOk result (λ read. (read.1 ≤ length bytes.now) × Spells read.0 (take read.1 bytes.now) × Fits read.0) }
+    // What is spelled at the front and fits is read, unless memory is wanting.
+    ensures only { (d : Entries Field) (spelled rest : Entries ℕ) → Spells d spelled → Fits d → bytes.now ≡ spelled ++ rest
+        → MatchResult result (λ read. (read.0 ≡ d) × (read.1 ≡ length spelled)) (λ e. e ≡ BsonFault.NoMemory) }
+    // Which document, or which fault it is.
+    ensures exact { IfOk result (λ read. document_at bytes.now ≡ Ok (read.0, read.1)) }
+    ensures refused { IfErr result (λ e. (e ≡ BsonFault.NoMemory) ⊎ (first_fault bytes.now ≡ Some e)) }
+{
+    Ok(outermost_of(alloc, Some(like), bytes)?)
 }
 
 #[cfg(test)]
