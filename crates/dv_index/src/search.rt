@@ -63,7 +63,7 @@ pub(crate) fn run_first<'c>(
     if let Plan::Index { place, bounds } = *plan {
         if let Some(index) = indexes.get(place) {
             let found = candidates(alloc, place, index, bounds, collection)?;
-            return matching(alloc, &found, filter, most);
+            return matching(alloc, found, filter, most);
         }
     }
     scan(alloc, filter, collection, most)
@@ -89,17 +89,21 @@ fn scan<'c>(
     Ok(found)
 }
 
+/// The first `most` of the documents that match the filter.
 fn matching<'c>(
     alloc: Global,
-    documents: &[&'c Document],
+    mut documents: Vec<&'c Document>,
     filter: &Filter,
     most: usize,
 ) -> Result<Vec<&'c Document>, NoMemory>
-    ensures { IfOk result (λ found. found.items ≡ take most (kept (λ d. matches filter.now d.now) documents.now)) }
+    ensures { IfOk result (λ found. found.items ≡ take most (kept (λ d. matches filter.now d.now) documents.entry.items)) }
 {
+    if documents.len() <= most {
+        documents.retain(|document| filter.matches(document));
+        return Ok(documents);
+    }
     documents
-        .iter()
-        .copied()
+        .into_iter()
         .filter(|document| filter.matches(document))
         .take(most)
         .collect(alloc)

@@ -20,6 +20,5 @@ returns-in-Some c =
     IfOk-weaker c.matching.result _ _ (λ found is.
     ap (map now) is
     ∙ sym (take-map now c.args.most _)
-    ∙ ap (take c.args.most) (map-kept test c.deref.result.now
-    ∙ ap (λ xs. filter test (map now xs)) c.deref.ensures.value
+    ∙ ap (take c.args.most) (map-kept test c.in_ok-found.found.items
     ∙ c.in_ok-found.ensures test (λ d h. chosen-within c.args.filter.now c.args.indexes.now c.in-Index.place (bounds_seen c.in-Index.bounds) c.in-Some.index.now d (sym c.requires.planned ∙ ap plan_seen c.in-Index.is) there h))) c.matching.ensures
