@@ -14,6 +14,7 @@ ghost use Rattle.dv_path.specs.SortKey.{sort_key};
 ghost use Rattle.dv_path.specs.Placing.{put, result_map};
 ghost use Rattle.dv_path.specs.Removing.{remove};
 ghost use Rattle.dv_path.specs.Slots.{slot, taken, blocked};
+ghost use Rattle.dv_path.specs.Path.{path_of, index_of};
 ghost use Rattle.dv_path.specs.Ways.{HasNoArray};
 
 /// What was put stands where its path leads.
@@ -62,6 +63,17 @@ pub fn expressions_find_what_filters_do()
     ensures { (fields : List Field) (path : List (List ℕ)) → HasNoArray path (Some (document (fields_of fields))) → whole fields path ≡ expr fields path ∷ [] }
 {}
 
+/// What is a path, and what is a place in an array: at most ten digits, without a 0 in front.
+#[tactic(auto, unfolding(crate::specs::Path::path_of, crate::specs::Path::index_of))]
+pub fn examples_of_paths()
+    ensures two_components { path_of (codes "a.b") ≡ Some (codes "a" ∷ codes "b" ∷ []) }
+    ensures nothing_behind_a_dot { path_of (codes "a.") ≡ None }
+    ensures a_zero_byte { path_of (97 ∷ 0 ∷ []) ≡ None }
+    ensures nought { index_of (codes "0") ≡ Some 0 }
+    ensures ten_digits { index_of (codes "9876543210") ≡ Some 9876543210 }
+    ensures eleven_digits { index_of (codes "10000000000") ≡ None }
+{}
+
 /// What paths find in arrays of documents, and what counts as null.
 #[tactic(auto, unfolding(crate::specs::Path::index_of, crate::specs::Candidates::whole, crate::specs::Candidates::leaves, crate::specs::Expression::expr))]
 pub fn examples_of_finding()
@@ -71,6 +83,9 @@ pub fn examples_of_finding()
     ensures a_missing_field { leaves [] (codes "a" ∷ []) ≡ None ∷ [] }
     ensures an_empty_array { leaves (one (codes "a") (list [])) (codes "a" ∷ []) ≡ Some (list []) ∷ [] }
     ensures an_array_of_null { leaves (one (codes "a") (list (null ∷ []))) (codes "a" ∷ []) ≡ Some (list (null ∷ [])) ∷ Some null ∷ [] }
+    ensures an_array_in_an_array { whole (one (codes "a") (list (list (doc (one (codes "b") (int 1)) ∷ []) ∷ []))) (codes "a" ∷ codes "b" ∷ []) ≡ [] }
+    ensures through_a_number { whole (one (codes "a") (int 5)) (codes "a" ∷ codes "b" ∷ []) ≡ None ∷ [] }
+    ensures an_array_as_a_leaf { leaves (one (codes "a") (list (list (int 1 ∷ []) ∷ []))) (codes "a" ∷ []) ≡ Some (list (list (int 1 ∷ []) ∷ [])) ∷ Some (list (int 1 ∷ [])) ∷ [] }
     ensures an_expression { expr (one (codes "a") (list (doc ((codes "b", int 1) ∷ (codes "c", int 2) ∷ []) ∷ int 7 ∷ list (doc (one (codes "b") (int 3)) ∷ []) ∷ []))) (codes "a" ∷ codes "b" ∷ []) ≡ Some (list (int 1 ∷ [])) }
 {}
 
@@ -94,6 +109,9 @@ pub fn examples_of_removing()
     ensures an_element { remove (one (codes "a") (list (int 1 ∷ int 2 ∷ int 3 ∷ []))) (codes "a" ∷ codes "1" ∷ []) ≡ one (codes "a") (list (int 1 ∷ null ∷ int 3 ∷ [])) }
     ensures a_name_in_an_array { remove (one (codes "a") (list (int 1 ∷ []))) (codes "a" ∷ codes "x" ∷ []) ≡ one (codes "a") (list (int 1 ∷ [])) }
     ensures beyond_the_end { remove (one (codes "a") (list (int 1 ∷ []))) (codes "a" ∷ codes "1" ∷ []) ≡ one (codes "a") (list (int 1 ∷ [])) }
+    ensures the_last_element { remove (one (codes "a") (list (int 1 ∷ int 2 ∷ []))) (codes "a" ∷ codes "1" ∷ []) ≡ one (codes "a") (list (int 1 ∷ null ∷ [])) }
+    ensures a_null { remove (one (codes "a") null) (codes "a" ∷ []) ≡ [] }
+    ensures the_only_field_of_a_document { remove (one (codes "a") (doc (one (codes "b") (int 1)))) (codes "a" ∷ codes "b" ∷ []) ≡ one (codes "a") (doc []) }
 {}
 
 /// Documents in order of `a`: an empty array first, then a missing field, an array by its least or its greatest.
@@ -103,4 +121,6 @@ pub fn examples_of_sort_keys()
     ensures the_greatest { sort_key (one (codes "a") (list (int 3 ∷ int 1 ∷ []))) (codes "a" ∷ []) Descending ≡ key_at (Some (int 3)) }
     ensures missing { sort_key [] (codes "a" ∷ []) Ascending ≡ key_at (Some null) }
     ensures an_empty_array { sort_key (one (codes "a") (list [])) (codes "a" ∷ []) Ascending ≡ key_at None }
+    ensures missing_beside_a_number { sort_key (one (codes "a") (list (doc (one (codes "b") (int 1)) ∷ doc [] ∷ []))) (codes "a" ∷ codes "b" ∷ []) Ascending ≡ key_at (Some null) }
+    ensures an_empty_array_behind_a_number { sort_key (one (codes "a") (list (doc (one (codes "b") (int 1)) ∷ doc (one (codes "b") (list [])) ∷ []))) (codes "a" ∷ codes "b" ∷ []) Ascending ≡ key_at None }
 {}
