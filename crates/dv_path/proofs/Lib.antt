@@ -16,3 +16,5 @@ pub mod Vectors
 pub mod Indexed
 pub mod Parting
 pub mod Together
+pub mod Grouped
+pub mod Taken

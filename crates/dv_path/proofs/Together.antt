@@ -1,17 +1,17 @@
 -- Fields that are taken away together, before what the other paths lead to.
 use Rattle.std.proofs.Common.{◌≡◌, ◌∙◌, ap, sym, refl, ℕ, ◌+◌, ◌<◌, ◌≤◌, Bool, true, false, List, [], ◌∷◌, ◌++◌, length, drop, map, get_or, Some, None, inl, inr, if◌then◌else◌, option_and_then, append_assoc, arith, Bor}
-use Rattle.std.specs.Option.{option_map}
 use Rattle.std.specs.Str.{bytes_eq}
 use Rattle.std.proofs.lemmas.List.{drop_more, map-append}
+use Rattle.std.specs.List.{filter}
 use Rattle.std.proofs.lemmas.Slice.Eq.{bytes_eq-Decides}
 use Rattle.dv_bson.specs.Tree.{Field}
 use Rattle.dv_bson.specs.Names.{value_under, without}
 use Rattle.dv_bson.specs.Removing.{without_each}
-use Rattle.dv_path.specs.Apart.{AreApart, IsApartFrom, AreAllApart, remove_each, fields_alone, leading_further, field_there}
+use Rattle.dv_path.specs.Apart.{AreApart, IsApartFrom, AreAllApart, remove_each, fields_alone, leading_further, field_alone, leads_to_value}
 use Rattle.dv_path.specs.Candidates.{Candidate}
 use Rattle.dv_path.specs.Placing.{field_with, with_field}
 use Rattle.dv_path.specs.Removing.{remove_field, left_behind, remove}
-use Rattle.dv_path.proofs.Fielded.{field-other, field-missing, differ}
+use Rattle.dv_path.proofs.Fielded.{field-other, differ}
 
 -- ---- one field
 
@@ -79,7 +79,18 @@ fields-first ((m ∷ []) ∷ ps) fs h = fields-first ps (without m fs) h.1 ∙ a
 fields-first ((a ∷ b ∷ names) ∷ ps) fs h =
     ap (λ gs. remove_each gs (leading_further ps)) (sym (each-removed a b names ps fs h.0)) ∙ fields-first ps (remove fs (a ∷ b ∷ names)) h.1
 
--- ---- the loop over the paths that lead further
+-- ---- loops over paths that are lent
+
+abbrev pub lent : List (Bor (List (List ℕ))) → List (List (List ℕ))
+lent paths = map (λ path. path.now) paths
+
+pub lent-drop : (paths : List (Bor (List (List ℕ)))) (i : ℕ) (p : Bor (List (List ℕ))) → i < length paths → p ≡ get_or paths i p → lent (drop i paths) ≡ p.now ∷ lent (drop (i + 1) paths)
+lent-drop paths i p within is = ap lent (drop_more paths i p within ∙ ap (λ (q : Bor (List (List ℕ))). q ∷ drop (i + 1) paths) (sym is))
+
+pub lent-more : {X : Type 0} (xs new : List (Bor X)) (x : Bor X) (rest : List X) → new ≡ xs ++ x ∷ [] → map (λ y. y.now) new ++ rest ≡ map (λ y. y.now) xs ++ x.now ∷ rest
+lent-more xs new x rest pushed =
+    ap (λ l. l ++ rest) (ap (map (λ y. y.now)) pushed ∙ map-append (λ y. y.now) xs (x ∷ []))
+    ∙ append_assoc (map (λ y. y.now) xs) (x.now ∷ []) rest
 
 leads-further : (p : List (List ℕ)) (ps : List (List (List ℕ))) → 1 < length p → leading_further (p ∷ ps) ≡ p ∷ leading_further ps
 leads-further [] ps h = absurd (omega arith)
@@ -91,61 +102,45 @@ leads-to-field [] ps h = refl
 leads-to-field (m ∷ []) ps h = refl
 leads-to-field (a ∷ b ∷ names) ps h = absurd (omega arith)
 
-abbrev pub lent : List (Bor (List (List ℕ))) → List (List (List ℕ))
-lent paths = map (λ path. path.now) paths
+alone-there : (p : List (List ℕ)) (ps : List (List (List ℕ))) (n : List ℕ) → Some n ≡ field_alone p → fields_alone (p ∷ ps) ≡ n ∷ fields_alone ps
+alone-there [] ps n e = cc
+alone-there (name ∷ []) ps n e = let same : n ≡ name = cc in ap (λ m. m ∷ fields_alone ps) (sym same)
+alone-there (a ∷ b ∷ names) ps n e = cc
 
-pub lent-drop : (paths : List (Bor (List (List ℕ)))) (i : ℕ) (p : Bor (List (List ℕ))) → i < length paths → p ≡ get_or paths i p → lent (drop i paths) ≡ p.now ∷ lent (drop (i + 1) paths)
-lent-drop paths i p within is = ap lent (drop_more paths i p within ∙ ap (λ (q : Bor (List (List ℕ))). q ∷ drop (i + 1) paths) (sym is))
+not-alone : (p : List (List ℕ)) (ps : List (List (List ℕ))) → None ≡ field_alone p → fields_alone ps ≡ fields_alone (p ∷ ps)
+not-alone [] ps e = refl
+not-alone (name ∷ []) ps e = cc
+not-alone (a ∷ b ∷ names) ps e = refl
 
-module _ (paths : List (Bor (List (List ℕ)))) (i : ℕ) (p : Bor (List (List ℕ))) (within : i < length paths) (is : p ≡ get_or paths i p) (fs : List Field) where
-  pub removed-further : 1 < length p.now → remove_each (remove fs p.now) (leading_further (lent (drop (i + 1) paths))) ≡ remove_each fs (leading_further (lent (drop i paths)))
-  removed-further h = ap (remove_each fs) (sym (ap leading_further (lent-drop paths i p within is) ∙ leads-further p.now (lent (drop (i + 1) paths)) h))
+module _ (paths : List (Bor (List (List ℕ)))) (i : ℕ) (p : Bor (List (List ℕ))) (within : i < length paths) (is : p ≡ get_or paths i p) where
+  here : lent (drop i paths) ≡ p.now ∷ lent (drop (i + 1) paths)
+  here = lent-drop paths i p within is
 
-  pub passed-over : length p.now ≤ 1 → remove_each fs (leading_further (lent (drop (i + 1) paths))) ≡ remove_each fs (leading_further (lent (drop i paths)))
-  passed-over h = ap (remove_each fs) (sym (ap leading_further (lent-drop paths i p within is) ∙ leads-to-field p.now (lent (drop (i + 1) paths)) h))
+  pub long-more : (xs new : List (Bor (List (List ℕ)))) → new ≡ xs ++ p ∷ [] → 1 < length p.now → lent new ++ leading_further (lent (drop (i + 1) paths)) ≡ lent xs ++ leading_further (lent (drop i paths))
+  long-more xs new pushed h =
+      lent-more xs new p (leading_further (lent (drop (i + 1) paths))) pushed
+      ∙ ap (λ l. lent xs ++ l) (sym (ap leading_further here ∙ leads-further p.now (lent (drop (i + 1) paths)) h))
 
--- ---- the loop that gathers names
+  pub long-passed : (xs : List (Bor (List (List ℕ)))) → length p.now ≤ 1 → lent xs ++ leading_further (lent (drop (i + 1) paths)) ≡ lent xs ++ leading_further (lent (drop i paths))
+  long-passed xs h = ap (λ l. lent xs ++ l) (sym (ap leading_further here ∙ leads-to-field p.now (lent (drop (i + 1) paths)) h))
 
-still-missing : (n m : List ℕ) (fs : List Field) → value_under n fs ≡ None → value_under n (without m fs) ≡ None
-still-missing n m [] none = refl
-still-missing n m (f ∷ fs) none = grind (arith, still-missing n m fs)
+  pub name-more : (names new : List (Bor (List ℕ))) (n : Bor (List ℕ)) → new ≡ names ++ n ∷ [] → Some n.now ≡ field_alone p.now → map (λ name. name.now) new ++ fields_alone (lent (drop (i + 1) paths)) ≡ map (λ name. name.now) names ++ fields_alone (lent (drop i paths))
+  name-more names new n pushed e =
+      lent-more names new n (fields_alone (lent (drop (i + 1) paths))) pushed
+      ∙ ap (λ l. map (λ name. name.now) names ++ l) (sym (ap fields_alone here ∙ alone-there p.now (lent (drop (i + 1) paths)) n.now e))
 
-without-missing : (n : List ℕ) (fs : List Field) → value_under n fs ≡ None → without n fs ≡ fs
-without-missing n fs none = without-is n fs ∙ field-missing n fs none
+  pub name-passed : (names : List (Bor (List ℕ))) → None ≡ field_alone p.now → map (λ name. name.now) names ++ fields_alone (lent (drop (i + 1) paths)) ≡ map (λ name. name.now) names ++ fields_alone (lent (drop i paths))
+  name-passed names e = ap (λ l. map (λ name. name.now) names ++ l) (not-alone p.now (lent (drop (i + 1) paths)) e ∙ ap fields_alone (sym here))
 
--- a name that no field has is no matter
-unneeded : (names : List (List ℕ)) (n : List ℕ) (rest : List (List ℕ)) (fs : List Field) → value_under n fs ≡ None → without_each (names ++ n ∷ rest) fs ≡ without_each (names ++ rest) fs
-unneeded [] n rest fs none = ap (without_each rest) (without-missing n fs none)
-unneeded (m ∷ names) n rest fs none = unneeded names n rest (without m fs) (still-missing n m fs none)
+  module _ (fs : List Field) where
+    kept : (b : Bool) → leads_to_value fs p.now ≡ b → filter (leads_to_value fs) (lent (drop i paths)) ≡ (if b then p.now ∷ filter (leads_to_value fs) (lent (drop (i + 1) paths)) else filter (leads_to_value fs) (lent (drop (i + 1) paths)))
+    kept b e = ap (filter (leads_to_value fs)) here ∙ ap (λ c. if c then p.now ∷ filter (leads_to_value fs) (lent (drop (i + 1) paths)) else filter (leads_to_value fs) (lent (drop (i + 1) paths))) e
 
-alone-there : (c : Candidate) (name n : List ℕ) → Some n ≡ option_map (λ v. name) c → n ≡ name
-alone-there None name n e = cc
-alone-there (Some v) name n e = cc
+    pub value-more : (xs new : List (Bor (List (List ℕ)))) (q : Bor (List (List ℕ))) → new ≡ xs ++ q ∷ [] → q.now ≡ p.now → leads_to_value fs p.now ≡ true → lent new ++ filter (leads_to_value fs) (lent (drop (i + 1) paths)) ≡ lent xs ++ filter (leads_to_value fs) (lent (drop i paths))
+    value-more xs new q pushed same e =
+        lent-more xs new q (filter (leads_to_value fs) (lent (drop (i + 1) paths))) pushed
+        ∙ ap (λ n. lent xs ++ n ∷ filter (leads_to_value fs) (lent (drop (i + 1) paths))) same
+        ∙ ap (λ l. lent xs ++ l) (sym (kept true e))
 
-alone-missing : (c : Candidate) (name : List ℕ) → None ≡ option_map (λ v. name) c → c ≡ None
-alone-missing None name e = refl
-alone-missing (Some v) name e = cc
-
-pub name-there : (fs : List Field) (p : List (List ℕ)) (ps : List (List (List ℕ))) (n : List ℕ) → Some n ≡ field_there fs p → fields_alone (p ∷ ps) ≡ n ∷ fields_alone ps
-name-there fs [] ps n e = cc
-name-there fs (name ∷ []) ps n e = ap (λ m. m ∷ fields_alone ps) (sym (alone-there (value_under name fs) name n e))
-name-there fs (a ∷ b ∷ names) ps n e = cc
-
-pub no-name-there : (fs : List Field) (p : List (List ℕ)) (ps : List (List (List ℕ))) (names : List (List ℕ)) → None ≡ field_there fs p → without_each (names ++ fields_alone ps) fs ≡ without_each (names ++ fields_alone (p ∷ ps)) fs
-no-name-there fs [] ps names e = refl
-no-name-there fs (name ∷ []) ps names e = sym (unneeded names name (fields_alone ps) fs (alone-missing (value_under name fs) name e))
-no-name-there fs (a ∷ b ∷ more) ps names e = refl
-
-module _ (paths : List (Bor (List (List ℕ)))) (i : ℕ) (p : Bor (List (List ℕ))) (within : i < length paths) (is : p ≡ get_or paths i p) (fs : List Field) (names : List (Bor (List ℕ))) where
-  pub name-gathered : (n : Bor (List ℕ)) (new : List (Bor (List ℕ))) → new ≡ names ++ n ∷ [] → Some n.now ≡ field_there fs p.now → without_each (map (λ name. name.now) new ++ fields_alone (lent (drop (i + 1) paths))) fs ≡ without_each (map (λ name. name.now) names ++ fields_alone (lent (drop i paths))) fs
-  name-gathered n new pushed here =
-      let rest = fields_alone (lent (drop (i + 1) paths)) in
-      ap (λ (l : List (Bor (List ℕ))). without_each (map (λ name. name.now) l ++ rest) fs) pushed
-      ∙ ap (λ l. without_each (l ++ rest) fs) (map-append (λ (name : Bor (List ℕ)). name.now) names (n ∷ []))
-      ∙ ap (λ l. without_each l fs) (append_assoc (map (λ name. name.now) names) (n.now ∷ []) rest)
-      ∙ ap (λ l. without_each (map (λ name. name.now) names ++ l) fs) (sym (ap fields_alone (lent-drop paths i p within is) ∙ name-there fs p.now (lent (drop (i + 1) paths)) n.now here))
-
-  pub no-name-gathered : None ≡ field_there fs p.now → without_each (map (λ name. name.now) names ++ fields_alone (lent (drop (i + 1) paths))) fs ≡ without_each (map (λ name. name.now) names ++ fields_alone (lent (drop i paths))) fs
-  no-name-gathered none =
-      no-name-there fs p.now (lent (drop (i + 1) paths)) (map (λ name. name.now) names) none
-      ∙ ap (λ l. without_each (map (λ name. name.now) names ++ fields_alone l) fs) (sym (lent-drop paths i p within is))
+    pub value-passed : (xs : List (Bor (List (List ℕ)))) → leads_to_value fs p.now ≡ false → lent xs ++ filter (leads_to_value fs) (lent (drop (i + 1) paths)) ≡ lent xs ++ filter (leads_to_value fs) (lent (drop i paths))
+    value-passed xs e = ap (λ l. lent xs ++ l) (sym (kept false e))

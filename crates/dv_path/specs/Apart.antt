@@ -1,9 +1,8 @@
 -- Paths of which none begins or equals another, and what all of them take away.
-use Rattle.std.specs.Prelude.{◌≡◌, ◌≢◌, ◌⊎◌, ⊤, ℕ, List, [], ◌∷◌, Option, None}
-use Rattle.std.specs.Option.{option_map}
-use Rattle.dv_bson.specs.Names.{value_under}
+use Rattle.std.specs.Prelude.{◌≡◌, ◌≢◌, ◌⊎◌, ⊤, ℕ, List, [], ◌∷◌, Option, Some, None, Bool, true, false}
 use Rattle.dv_bson.specs.Tree.{Field}
 use Rattle.dv_path.specs.Removing.{remove}
+use Rattle.dv_path.specs.Slots.{Slot, taken, slot}
 
 -- two paths part: behind a beginning that they have in common they go on by two components
 abbrev pub AreApart : List (List ℕ) → List (List ℕ) → Type 0
@@ -38,7 +37,15 @@ leading_further [] = []
 leading_further ((a ∷ b ∷ path) ∷ paths) = (a ∷ b ∷ path) ∷ leading_further paths
 leading_further (path ∷ paths) = leading_further paths
 
--- the field of the document itself to which a path leads, if one is there
-abbrev pub field_there : List Field → List (List ℕ) → Option (List ℕ)
-field_there fields (name ∷ []) = option_map (λ v. name) (value_under name fields)
-field_there fields path = None
+-- the component of a path that has but one
+abbrev pub field_alone : List (List ℕ) → Option (List ℕ)
+field_alone (name ∷ []) = Some name
+field_alone path = None
+
+-- whether a value stands where a path leads
+abbrev pub is_taken : Slot → Bool
+is_taken (taken v) = true
+is_taken s = false
+
+abbrev pub leads_to_value : List Field → List (List ℕ) → Bool
+leads_to_value fields path = is_taken (slot fields path)

@@ -14,3 +14,5 @@ pub mod Removing
 pub mod Ways
 pub mod Examples
 pub mod Apart
+pub mod Groups
+pub mod GroupView

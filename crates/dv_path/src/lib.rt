@@ -8,6 +8,7 @@ mod direction;
 mod exchange;
 mod expression;
 mod fault;
+mod grouping;
 pub mod laws;
 mod listed;
 mod path;
