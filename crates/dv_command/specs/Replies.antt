@@ -59,10 +59,13 @@ update_reply n changed errors = reply_of ((codes "n", count n) ∷ (codes "nModi
 abbrev pub drop_reply : List ℕ → List Field
 drop_reply namespace = reply_of ((codes "ns", string namespace) ∷ [])
 
+-- a cursor of a namespace, with a batch of rows; 0 where no others are left for it
+abbrev pub cursor_of : List ℕ → List ℕ → ℕ → List Tree → List Field
+cursor_of batch namespace id rows = (batch, array (elements_of rows)) ∷ (codes "id", int64 (pos id)) ∷ (codes "ns", string namespace) ∷ []
+
 -- the reply with a batch of rows of a namespace, and the cursor that has the others; 0 where there is none
 abbrev pub batch_reply : List ℕ → List ℕ → ℕ → List Tree → List Field
-batch_reply batch namespace id rows =
-    reply_of ((codes "cursor", document_of ((batch, array (elements_of rows)) ∷ (codes "id", int64 (pos id)) ∷ (codes "ns", string namespace) ∷ [])) ∷ [])
+batch_reply batch namespace id rows = reply_of ((codes "cursor", document_of (cursor_of batch namespace id rows)) ∷ [])
 
 -- to a find or an aggregation
 abbrev pub first_batch_reply : List ℕ → ℕ → List Tree → List Field

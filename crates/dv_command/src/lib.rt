@@ -12,6 +12,7 @@ mod lists;
 mod parsing;
 mod reads;
 pub mod replies;
+mod reply_names;
 mod rules;
 mod statements;
 
@@ -23,3 +24,4 @@ pub use command::{Command, DocumentList, DocumentLists};
 pub use dv_fields::{Documents, Refusal, namespaces};
 pub use entries::{Deletion, Updating, deletion_of, updating_of};
 pub use parsing::parse;
+pub use reply_names::ReplyNames;

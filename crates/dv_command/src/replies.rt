@@ -1,6 +1,6 @@
 //! The documents of replies.
 
-ghost use Rattle.std.specs.Prelude.{◌≡◌, ◌∷◌, [], ◌++◌, ◌^◌, ◌<◌, false, IfOk, OnOk, codes, map};
+ghost use Rattle.std.specs.Prelude.{◌≡◌, ◌∷◌, [], ◌++◌, ◌^◌, ◌<◌, false, IfOk, OnErr, OnOk, codes, map};
 ghost use Rattle.std.specs.Option.{option_map};
 ghost use Rattle.std.specs.Str.{bytes_eq};
 ghost use Rattle.std.specs.String.{string_bytes};
@@ -9,6 +9,7 @@ ghost use Rattle.dv_bson.specs.Tree.{string};
 ghost use Rattle.dv_bson.specs.View.{tree};
 ghost use Rattle.dv_command.specs.Replies as replies;
 
+use crate::reply_names::ReplyNames;
 use dv_bson::{Document, List, NoMemory, Str, Value};
 use dv_fields::Refusal;
 use std::alloc::{AllocError, Global};
@@ -79,10 +80,15 @@ pub fn cut_error(alloc: Global, place: usize, changes: usize) -> Result<Document
 /// The reply to a write: the number that it counts, and the errors of its statements where there are any. Fails where
 /// memory is wanting.
 #[tactic(auto, using(crate::proofs::Errors::none_is_ok))]
-pub fn write_reply(alloc: Global, n: u128, errors: Vec<Value>) -> Result<Document, NoMemory>
+pub fn write_reply(
+    alloc: Global,
+    names: &ReplyNames,
+    n: u128,
+    errors: Vec<Value>,
+) -> Result<Document, NoMemory>
     ensures { IfOk result (λ reply. reply ≡ replies.write_reply n (map tree errors.items)) }
 {
-    let mut fields = Document::new(alloc);
+    let mut fields = Document::expecting(alloc, &names.write)?;
     add(&mut fields, "n", count(n))?;
     add_errors(&mut fields, errors)?;
     reply_of(fields)
@@ -93,13 +99,14 @@ pub fn write_reply(alloc: Global, n: u128, errors: Vec<Value>) -> Result<Documen
 #[tactic(auto, using(crate::proofs::Errors::none_is_ok))]
 pub fn update_reply(
     alloc: Global,
+    names: &ReplyNames,
     n: u128,
     changed: u128,
     errors: Vec<Value>,
 ) -> Result<Document, NoMemory>
     ensures { IfOk result (λ reply. reply ≡ replies.update_reply n changed (map tree errors.items)) }
 {
-    let mut fields = Document::new(alloc);
+    let mut fields = Document::expecting(alloc, &names.update)?;
     add(&mut fields, "n", count(n))?;
     add(&mut fields, "nModified", count(changed))?;
     add_errors(&mut fields, errors)?;
@@ -131,6 +138,7 @@ pub fn drop_reply(alloc: Global, namespace: String) -> Result<Document, NoMemory
 /// Fails where memory is wanting.
 pub fn first_batch_reply(
     alloc: Global,
+    names: &ReplyNames,
     namespace: String,
     id: u64,
     rows: List,
@@ -138,13 +146,15 @@ pub fn first_batch_reply(
     requires { id < 2 ^ 63 }
     ensures { IfOk result (λ reply. reply ≡ replies.first_batch_reply (string_bytes namespace) id rows) }
 {
-    batch_reply(alloc, "firstBatch", namespace, id, rows)
+    let cursor = cursor_of(alloc, &names.first_batch, "firstBatch", namespace, id, rows)?;
+    cursor_reply(alloc, names, cursor)
 }
 
 /// The reply to what asks for the next rows of a cursor: these rows, and the cursor that has the others, 0 where there is
 /// none. Fails where memory is wanting.
 pub fn next_batch_reply(
     alloc: Global,
+    names: &ReplyNames,
     namespace: String,
     id: u64,
     rows: List,
@@ -152,12 +162,15 @@ pub fn next_batch_reply(
     requires { id < 2 ^ 63 }
     ensures { IfOk result (λ reply. reply ≡ replies.next_batch_reply (string_bytes namespace) id rows) }
 {
-    batch_reply(alloc, "nextBatch", namespace, id, rows)
+    let cursor = cursor_of(alloc, &names.next_batch, "nextBatch", namespace, id, rows)?;
+    cursor_reply(alloc, names, cursor)
 }
 
-/// The reply with a batch of rows under the name of such a batch, which isn't that of another field.
-fn batch_reply(
+/// The cursor of an id and a namespace, with a batch of rows under the name of such a batch, which isn't that of another
+/// field. It may share the names of `like`.
+fn cursor_of(
     alloc: Global,
+    like: &Document,
     batch: &str,
     namespace: String,
     id: u64,
@@ -167,13 +180,20 @@ fn batch_reply(
     requires whole { has_zero batch.now ≡ false }
     requires no_id { bytes_eq (codes "id") batch.now ≡ false }
     requires no_ns { bytes_eq (codes "ns") batch.now ≡ false }
-    ensures { IfOk result (λ reply. reply ≡ replies.batch_reply batch.now (string_bytes namespace) id rows) }
+    ensures { IfOk result (λ cursor. cursor ≡ replies.cursor_of batch.now (string_bytes namespace) id rows) }
 {
-    let mut cursor = Document::new(alloc);
+    let mut cursor = Document::expecting(alloc, like)?;
     add(&mut cursor, batch, Value::Array(rows))?;
     add(&mut cursor, "id", Value::Int64(id as i64))?;
     add(&mut cursor, "ns", Value::Text(Str::of(namespace)))?;
-    let mut fields = Document::new(alloc);
+    Ok(cursor)
+}
+
+/// The reply with a cursor.
+fn cursor_reply(alloc: Global, names: &ReplyNames, cursor: Document) -> Result<Document, NoMemory>
+    ensures { IfOk result (λ reply. reply ≡ replies.reply_of ((codes "cursor", replies.document_of cursor) ∷ [])) }
+{
+    let mut fields = Document::expecting(alloc, &names.cursor)?;
     add(&mut fields, "cursor", Value::Doc(cursor))?;
     reply_of(fields)
 }
@@ -255,11 +275,13 @@ fn long_count(number: u128) -> Value
     Value::Int64(number.min(i64::MAX as u128) as i64)
 }
 
-/// Adds a field whose name is known to be new and without a zero byte. Fails where memory is wanting.
+/// Adds a field whose name is known to be new and without a zero byte. Fails where memory is wanting; then the fields are as
+/// they were.
 pub fn add(document: &mut Document, name: &str, value: Value) -> Result<(), NoMemory>
     requires whole { has_zero name.now ≡ false }
     requires fresh { has_name name.now document.old ≡ false }
-    ensures { OnOk result (document.new ≡ document.old ++ (name.now, tree value) ∷ []) }
+    ensures ok { OnOk result (document.new ≡ document.old ++ (name.now, tree value) ∷ []) }
+    ensures err { OnErr result (document.new ≡ document.old) }
 {
     document.push(name, value).map_err(|_| AllocError)
 }

@@ -8,8 +8,8 @@ ghost use Rattle.dv_command.specs.Replies as replies;
 ghost use Rattle.dv_command.specs.Replies.{document_of};
 
 use dv_bson::{Document, List, NoMemory, Value, fits};
-use dv_command::Refusal;
 use dv_command::replies::first_batch_reply;
+use dv_command::{Refusal, ReplyNames};
 use dv_cursor::{Cursors, Rows};
 use std::alloc::Global;
 
@@ -28,6 +28,7 @@ pub(crate) struct First {
 /// is over 16,777,216 bytes or 100 levels; and with `WantOfMemory`. Then nothing is changed.
 pub(crate) fn first_batch(
     alloc: Global,
+    names: &ReplyNames,
     cursors: &mut Cursors,
     first: First,
     rows: Vec<Document>,
@@ -48,7 +49,7 @@ pub(crate) fn first_batch(
         if too_large {
             return Err(Refusal::TooLarge);
         }
-        return Ok(reply_with(alloc, namespace, 0, batch)?);
+        return Ok(reply_with(alloc, names, namespace, 0, batch)?);
     }
     let Some(id) = cursors.free_id() else {
         return Err(Refusal::LimitReached);
@@ -58,7 +59,7 @@ pub(crate) fn first_batch(
     }
     // Behind the change nothing may want memory.
     let told = String::from_str(alloc, &namespace)?;
-    let reply = reply_with(alloc, told, id, batch)?;
+    let reply = reply_with(alloc, names, told, id, batch)?;
     cursors.add(session, namespace, rows)?;
     Ok(reply)
 }
@@ -66,6 +67,7 @@ pub(crate) fn first_batch(
 /// The reply with a first batch. Fails where memory is wanting.
 fn reply_with(
     alloc: Global,
+    names: &ReplyNames,
     namespace: String,
     id: u64,
     batch: Vec<Document>,
@@ -73,7 +75,7 @@ fn reply_with(
     requires { id < 2 ^ 63 }
     ensures { IfOk result (λ reply. reply ≡ replies.first_batch_reply (string_bytes namespace) id (map document_of batch.items)) }
 {
-    first_batch_reply(alloc, namespace, id, values_of(alloc, batch)?)
+    first_batch_reply(alloc, names, namespace, id, values_of(alloc, batch)?)
 }
 
 /// Whether one of the rows is over the limits for documents. Takes no memory.

@@ -12,7 +12,7 @@ use crate::find::values_of;
 use crate::outcome::Outcome;
 use dv_bson::{Document, List, NoMemory, Value};
 use dv_command::replies::{kill_cursors_reply, next_batch_reply};
-use dv_command::{GetMore, KillCursors, Refusal};
+use dv_command::{GetMore, KillCursors, Refusal, ReplyNames};
 use dv_cursor::{Cursors, Rows};
 use std::alloc::Global;
 
@@ -20,6 +20,7 @@ use std::alloc::Global;
 /// session has no such cursor over the namespace, and with `WantOfMemory`; then nothing is changed.
 pub(crate) fn next_batch(
     alloc: Global,
+    names: &ReplyNames,
     cursors: &mut Cursors,
     session: u32,
     asked: GetMore,
@@ -39,7 +40,7 @@ pub(crate) fn next_batch(
     let id = number_of(id);
     let told = if taken < rows.len() { id } else { 0 };
     // Behind the change nothing may want memory.
-    let reply = next_batch_reply(alloc, namespace, told, values_of(alloc, batch)?)?;
+    let reply = next_batch_reply(alloc, names, namespace, told, values_of(alloc, batch)?)?;
     cursors.advance(session, id, taken);
     Ok(reply)
 }

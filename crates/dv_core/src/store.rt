@@ -14,7 +14,7 @@ use dv_catalog::Catalog;
 use dv_command::replies::{create_indexes_reply, drop_indexes_reply, drop_reply, reply_of};
 use dv_command::{
     Aggregate, Asked, Command, Create, CreateIndexes, Delete, Documents, DropIndexes,
-    DropNamespace, Explain, Find, GetMore, Insert, KillCursors, Refusal, Update, parse,
+    DropNamespace, Explain, Find, GetMore, Insert, KillCursors, Refusal, ReplyNames, Update, parse,
 };
 use dv_cursor::Cursors;
 use std::alloc::Global;
@@ -28,6 +28,8 @@ pub struct Store {
     alloc: Global,
     catalog: Catalog,
     cursors: Cursors,
+    /// Replies are made beside these.
+    names: ReplyNames,
 }
 
 impl Model for Store {
@@ -72,6 +74,7 @@ impl Store {
             alloc,
             catalog: Catalog::new(alloc),
             cursors: Cursors::new(alloc),
+            names: ReplyNames::new(alloc),
         }
     }
 
@@ -160,7 +163,8 @@ impl Store {
         if self.catalog.is_view(&terms.namespace) {
             return refuse(self.alloc, Refusal::OnView);
         }
-        let outcome = write_all(self.alloc, &mut self.catalog, terms, entries);
+        self.names.prepare(self.alloc);
+        let outcome = write_all(self.alloc, &self.names, &mut self.catalog, terms, entries);
         self.catalog.refresh();
         outcome
     }
@@ -182,7 +186,8 @@ impl Store {
             count: batch_size,
             single: single_batch,
         };
-        first_batch(self.alloc, &mut self.cursors, first, rows)
+        self.names.prepare(self.alloc);
+        first_batch(self.alloc, &self.names, &mut self.cursors, first, rows)
     }
 
     fn aggregate(&mut self, session: u32, aggregate: Aggregate) -> Result<Document, Refusal>
@@ -201,14 +206,16 @@ impl Store {
             count: batch_size,
             single: false,
         };
-        first_batch(self.alloc, &mut self.cursors, first, rows)
+        self.names.prepare(self.alloc);
+        first_batch(self.alloc, &self.names, &mut self.cursors, first, rows)
     }
 
     fn get_more(&mut self, session: u32, asked: GetMore) -> Result<Document, Refusal>
         ensures catalog { self.new.catalog ≡ self.old.catalog }
         ensures reply { Gives (more.next_batch session (get_more_seen asked) self.old.cursors) self.old.cursors result self.new.cursors }
     {
-        next_batch(self.alloc, &mut self.cursors, session, asked)
+        self.names.prepare(self.alloc);
+        next_batch(self.alloc, &self.names, &mut self.cursors, session, asked)
     }
 
     fn kill_cursors(&mut self, session: u32, asked: KillCursors) -> Outcome

@@ -17,7 +17,7 @@ use crate::storable::storable;
 use crate::written::Written;
 use dv_bson::{Document, NoMemory};
 use dv_catalog::{Catalog, Counted, Stopped};
-use dv_command::{Documents, deletion_of, updating_of};
+use dv_command::{Documents, ReplyNames, deletion_of, updating_of};
 use std::alloc::Global;
 
 /// A write but for its entries.
@@ -33,6 +33,7 @@ pub(crate) struct Terms {
 /// is wanting for the reply, there is none.
 pub(crate) fn write_all(
     alloc: Global,
+    names: &ReplyNames,
     catalog: &mut Catalog,
     terms: &Terms,
     entries: Documents<'_>,
@@ -42,7 +43,7 @@ pub(crate) fn write_all(
     ensures writes { Writes (write_seen terms.now entries.entry) catalog.old.namespaces result catalog.new.namespaces }
     ensures views { catalog.new.views ≡ catalog.old.views }
 {
-    match write_each(alloc, catalog, terms, entries) {
+    match write_each(alloc, names, catalog, terms, entries) {
         Ok(outcome) => outcome,
         Err(_) => Outcome::NoReply,
     }
@@ -51,6 +52,7 @@ pub(crate) fn write_all(
 /// Carries out the statements one after the other. Fails where memory is wanting for the reply.
 fn write_each(
     alloc: Global,
+    names: &ReplyNames,
     catalog: &mut Catalog,
     terms: &Terms,
     entries: Documents<'_>,
@@ -65,10 +67,10 @@ fn write_each(
         match write_next(alloc, catalog, terms, entry, &mut written)? {
             Next::Due => {}
             Next::Ended => break,
-            Next::Cut => return Ok(Outcome::Wanting(written.reply(alloc, terms.kind)?)),
+            Next::Cut => return Ok(Outcome::Wanting(written.reply(alloc, names, terms.kind)?)),
         }
     }
-    Ok(Outcome::Reply(written.reply(alloc, terms.kind)?))
+    Ok(Outcome::Reply(written.reply(alloc, names, terms.kind)?))
 }
 
 /// Carries out the next statement, and notes what came of it. Answers what comes behind it; fails where memory is

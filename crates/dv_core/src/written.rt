@@ -6,6 +6,7 @@ use crate::kind::Kind;
 use crate::next::{Next, error_of, next_behind};
 use dv_bson::{Document, NoMemory, Value};
 use dv_catalog::{Counted, Stopped};
+use dv_command::ReplyNames;
 use dv_command::replies::{update_reply, write_reply};
 use std::alloc::Global;
 
@@ -71,7 +72,12 @@ impl Written {
     }
 
     /// The reply of a write. Fails where memory is wanting.
-    pub(crate) fn reply(self, alloc: Global, kind: Kind) -> Result<Document, NoMemory>
+    pub(crate) fn reply(
+        self,
+        alloc: Global,
+        names: &ReplyNames,
+        kind: Kind,
+    ) -> Result<Document, NoMemory>
         ensures { IfOk result (λ reply. reply ≡ reply_by kind self.n self.changed (map tree self.errors.items)) }
     {
         let Written {
@@ -81,8 +87,8 @@ impl Written {
             ..
         } = self;
         match kind {
-            Kind::Insert | Kind::Delete => write_reply(alloc, n, errors),
-            Kind::Update => update_reply(alloc, n, changed, errors),
+            Kind::Insert | Kind::Delete => write_reply(alloc, names, n, errors),
+            Kind::Update => update_reply(alloc, names, n, changed, errors),
         }
     }
 }

@@ -8,7 +8,7 @@ use Rattle.dv_core.proofs.storable.with_id_moved.Goals.{then-ne+in_ok-try_clone-
 
 pub others-init : goal.others-init
 others-init c =
-    nothing_copied (tree c.args.id.now) c.args.document.now c.add.new.document c.len-place-end.ensures.named (rw (c.in_ok-add.ensures, c.new-copy.ensures, c.in_ok-try_clone.ensures) refl)
+    nothing_copied (tree c.args.id.now) c.args.document.now c.add.new.document c.len-place-end.ensures.named (rw (c.in_ok-add.ensures.ok, c.new-copy.ensures, c.in_ok-try_clone.ensures) refl)
 
 pub add-requires-then-ne-clause-whole : goal.add-requires-then-ne-clause-whole
 add-requires-then-ne-clause-whole c =
@@ -27,7 +27,7 @@ others-preserved c =
     let Kept : List Field → Type 0 = λ copy. IsCopied (codes "_id", tree c.args.id.now) c.args.document.now copy (drop (c.others.place + 1) c.args.document.now) in
     elim c.if-ne.branch [
       | then-ne+in_ok-try_clone-2+in_ok-add-2 w ↦
-          (let is : c.others.copy ++ field ∷ [] ≡ c.if-ne.copy = rw (w.copy-is, w.in_ok-add-2.ensures, w.in_ok-try_clone-2.ensures) refl in subst Kept is (IsCopied-more c.others.invariant field _ here w.if-ne.ensures))
+          (let is : c.others.copy ++ field ∷ [] ≡ c.if-ne.copy = rw (w.copy-is, w.in_ok-add-2.ensures.ok, w.in_ok-try_clone-2.ensures) refl in subst Kept is (IsCopied-more c.others.invariant field _ here w.if-ne.ensures))
       | else-ne w ↦ subst Kept (sym w.copy-is) (IsCopied-id c.others.invariant field _ here w.if-ne.ensures)
     ]
 
