@@ -10,6 +10,7 @@ use Rattle.std.proofs.lemmas.Cmp.{ranked}
 use Rattle.std.proofs.lemmas.List.{map-append}
 use Rattle.dv_wire.specs.declared.session.Conversation.{Conversation as ConversationSeen}
 use Rattle.dv_wire.specs.declared.session.Session.{Session}
+use Rattle.dv_wire.specs.declared.shapes.Shapes.{Shapes}
 use Rattle.dv_wire.specs.declared.hub.Fed.{Fed}
 use Rattle.dv_wire.specs.declared.hub.Fed.TheVariants.{Unknown}
 use Rattle.dv_core.specs.State.{State}
@@ -92,10 +93,10 @@ module _ (n : ℕ) where
   sessions_but_from i k (s ∷ ss) place =
       grind (arith, within_from (i + 1) k ss, sessions_but_from (i + 1) k ss, remove_first s ss (k - i), remove_later s ss (k - i) (k - (i + 1)))
 
-  with_conversation_from : (i k : ℕ) (ss : List Session) (now : ConversationSeen) → position_from (λ s. eqb s.number n) i ss ≡ Some k
-      → with_conversation n (conversation_seen now) (map session_seen ss) ≡ map session_seen (set ss (k - i) (record { number = n; conversation = now }))
-  with_conversation_from i k [] now place = grind arith
-  with_conversation_from i k (s ∷ ss) now place = grind (arith, within_from (i + 1) k ss, with_conversation_from (i + 1) k ss now)
+  with_conversation_from : (i k : ℕ) (ss : List Session) (now : ConversationSeen) (shapes : Shapes) → position_from (λ s. eqb s.number n) i ss ≡ Some k
+      → with_conversation n (conversation_seen now) (map session_seen ss) ≡ map session_seen (set ss (k - i) (record { number = n; conversation = now; shapes = shapes }))
+  with_conversation_from i k [] now shapes place = grind arith
+  with_conversation_from i k (s ∷ ss) now shapes place = grind (arith, within_from (i + 1) k ss, with_conversation_from (i + 1) k ss now shapes)
 
   pub within : (k : ℕ) (ss : List Session) → position_from (λ s. eqb s.number n) 0 ss ≡ Some k → k < length ss
   within k ss place = omega (arith, (within_from 0 k ss place).1)
@@ -111,18 +112,18 @@ module _ (n : ℕ) where
   pub sessions_but-remove : (k : ℕ) (ss : List Session) → position_from (λ s. eqb s.number n) 0 ss ≡ Some k → sessions_but n (map session_seen ss) ≡ map session_seen (remove ss k)
   sessions_but-remove k ss place = let here : k - 0 ≡ k = omega arith in rw here at (sessions_but_from 0 k ss place)
 
-  with_conversation-set : (k : ℕ) (ss : List Session) (now : ConversationSeen) → position_from (λ s. eqb s.number n) 0 ss ≡ Some k
-      → with_conversation n (conversation_seen now) (map session_seen ss) ≡ map session_seen (set ss k (record { number = n; conversation = now }))
-  with_conversation-set k ss now place = let here : k - 0 ≡ k = omega arith in rw here at (with_conversation_from 0 k ss now place)
+  with_conversation-set : (k : ℕ) (ss : List Session) (now : ConversationSeen) (shapes : Shapes) → position_from (λ s. eqb s.number n) 0 ss ≡ Some k
+      → with_conversation n (conversation_seen now) (map session_seen ss) ≡ map session_seen (set ss k (record { number = n; conversation = now; shapes = shapes }))
+  with_conversation-set k ss now shapes place = let here : k - 0 ≡ k = omega arith in rw here at (with_conversation_from 0 k ss now shapes place)
 
   -- they stay in order where one of them changes, and where one goes
   pub numbered_set : (k : ℕ) (ss : List Session) (next : ℕ) (before after : Session) → position_from (λ s. eqb s.number n) 0 ss ≡ Some k → before ≡ get_or ss k before → after.number ≡ before.number
       → AreNumbered 0 (map session_seen ss) next → AreNumbered 0 (map session_seen (set ss k after)) next
   numbered_set k ss next before after place here same numbered =
       let number : after.number ≡ n = same ∙ ap (λ (s : Session). s.number) here ∙ (there k ss before place).1 in
-      let set_to : record { number = n; conversation = after.conversation } ≡ after = ap (λ (m : ℕ). record { number = m; conversation = after.conversation }) (sym number) in
+      let set_to : record { number = n; conversation = after.conversation; shapes = after.shapes } ≡ after = ap (λ (m : ℕ). record { number = m; conversation = after.conversation; shapes = after.shapes }) (sym number) in
       subst (λ (s : Session). AreNumbered 0 (map session_seen (set ss k s)) next) set_to
-      (subst (λ (seen : List (ℕ × Conversation)). AreNumbered 0 seen next) (with_conversation-set k ss after.conversation place)
+      (subst (λ (seen : List (ℕ × Conversation)). AreNumbered 0 seen next) (with_conversation-set k ss after.conversation after.shapes place)
       (AreNumbered-with n 0 (conversation_seen after.conversation) (map session_seen ss) next numbered))
 
   pub numbered_but : (k : ℕ) (ss : List Session) (next : ℕ) → position_from (λ s. eqb s.number n) 0 ss ≡ Some k → AreNumbered 0 (map session_seen ss) next
@@ -148,10 +149,10 @@ module _ (n : ℕ) where
   comes_to_one old state next k ss before after piece answers answer place here hears tells same =
       let seen = there k ss before place in
       let number : before.number ≡ n = ap (λ s. s.number) here ∙ seen.1 in
-      let set_to : record { number = n; conversation = after.conversation } ≡ after = ap (λ m. record { number = m; conversation = after.conversation }) (sym (same ∙ number)) in
+      let set_to : record { number = n; conversation = after.conversation; shapes = after.shapes } ≡ after = ap (λ m. record { number = m; conversation = after.conversation; shapes = after.shapes }) (sym (same ∙ number)) in
       let now_there : conversation_of n (map session_seen ss) ≡ Some (conversation_seen before.conversation) = seen.0 ∙ ap (λ s. Some (conversation_seen s.conversation)) (sym here) in
       let run : Run = record { answers = answers; state = state; conversation = conversation_seen after.conversation } in
-      rw now_there (run, rw (← number) hears, refl, tells, rw (with_conversation-set k ss after.conversation place, set_to) refl)
+      rw now_there (run, rw (← number) hears, refl, tells, rw (with_conversation-set k ss after.conversation after.shapes place, set_to) refl)
 
 -- and where one is opened
 pub numbered_more : (ss new : List Session) (next : ℕ) (s : Session) → AreNumbered 0 (map session_seen ss) next → new ≡ ss ++ s ∷ [] → s.number ≡ next → AreNumbered 0 (map session_seen new) (next + 1)

@@ -8,16 +8,17 @@ ghost use Rattle.dv_wire.specs.Sections as wire;
 ghost use Rattle.dv_wire.specs.SectionsView.{section_seen};
 
 use crate::sections::Section;
-use dv_bson::{BsonFault, Document, Str, read_document};
+use crate::shapes::Shapes;
+use dv_bson::{BsonFault, Document, Str, read_document_like};
 use dv_command::{Command, DocumentList, DocumentLists};
 use std::alloc::Global;
 
 /// The command that a message's sections bring, or the first fault in their documents; or that memory is wanting to
-/// read them.
-pub(crate) fn command_in(alloc: Global, sections: &[Section<'_>]) -> Command
+/// read them. Documents of the given shapes share their names.
+pub(crate) fn command_in(alloc: Global, sections: &[Section<'_>], shapes: &Shapes) -> Command
     ensures { (brings.command_from (brings.read_in (map section_seen sections.now)) ≡ result) ⊎ (result ≡ Command.Invalid BsonFault.NoMemory) }
 {
-    match read_sections(alloc, sections) {
+    match read_sections(alloc, sections, shapes) {
         Ok(read) => Command::Sections {
             body: read.body,
             lists: DocumentLists::of(read.lists),
@@ -34,25 +35,36 @@ struct Read {
 }
 
 /// Reads the documents of sections in their order, to the first fault.
-fn read_sections(alloc: Global, sections: &[Section<'_>]) -> Result<Read, BsonFault>
+fn read_sections(
+    alloc: Global,
+    sections: &[Section<'_>],
+    shapes: &Shapes,
+) -> Result<Read, BsonFault>
     ensures { ReadAs (λ read. (read.body, map list_seen read.lists.items)) result (brings.read_in (map section_seen sections.now)) }
 {
     let mut body = Document::new(alloc);
     let mut lists = Vec::new(alloc);
     'sections: for section in sections {
         match section {
-            Section::Body(document) => body = read_one(alloc, document)?,
-            Section::Named { name, documents } => lists.push(read_list(alloc, name, documents)?)?,
+            Section::Body(document) => body = read_one(alloc, document, shapes.body())?,
+            Section::Named { name, documents } => {
+                lists.push(read_list(alloc, name, documents, shapes.listed())?)?
+            }
         }
     }
     Ok(Read { body, lists })
 }
 
-/// Reads the documents that stand under a name.
-fn read_list(alloc: Global, name: &str, documents: &[&[u8]]) -> Result<DocumentList, BsonFault>
+/// Reads the documents that stand under a name. They are likely to be `like` this one.
+fn read_list(
+    alloc: Global,
+    name: &str,
+    documents: &[&[u8]],
+    like: &Document,
+) -> Result<DocumentList, BsonFault>
     ensures { ReadAs (λ list. brings.brought_list list.name list.documents.items) result (brings.brought_by (wire.named name.now (map (λ d. d.now) documents.now))) }
 {
-    let documents = read_each(alloc, documents)?;
+    let documents = read_each(alloc, documents, like)?;
     let name = String::from_str(alloc, name)?;
     Ok(DocumentList {
         name: Str::of(name),
@@ -60,21 +72,25 @@ fn read_list(alloc: Global, name: &str, documents: &[&[u8]]) -> Result<DocumentL
     })
 }
 
-/// Reads documents in their order, to the first fault.
-fn read_each(alloc: Global, documents: &[&[u8]]) -> Result<Vec<Document>, BsonFault>
+/// Reads documents in their order, to the first fault. They are likely to be `like` this one.
+fn read_each(
+    alloc: Global,
+    documents: &[&[u8]],
+    like: &Document,
+) -> Result<Vec<Document>, BsonFault>
     ensures { ReadAs (λ read. read.items) result (brings.each_read brings.fields_in (map (λ d. d.now) documents.now)) }
 {
     let mut read = Vec::new(alloc);
     'documents: for document in documents {
-        read.push(read_one(alloc, document)?)?;
+        read.push(read_one(alloc, document, like)?)?;
     }
     Ok(read)
 }
 
-/// Reads the document that the bytes begin with.
-fn read_one(alloc: Global, document: &[u8]) -> Result<Document, BsonFault>
+/// Reads the document that the bytes begin with. Where it has the names of `like`, it shares them.
+fn read_one(alloc: Global, document: &[u8], like: &Document) -> Result<Document, BsonFault>
     ensures { ReadAs (λ read. read) result (brings.fields_in document.now) }
 {
-    let (read, _) = read_document(alloc, document)?;
+    let (read, _) = read_document_like(alloc, document, like)?;
     Ok(read)
 }

@@ -8,6 +8,7 @@ ghost use Rattle.dv_wire.specs.View.{session_seen};
 use crate::events::{Event, Said};
 use crate::fault::{CloseFault, HubFault};
 use crate::session::{Conversation, Counts, Session};
+use crate::shapes::Shapes;
 use dv_bson::{Bytes, NoMemory};
 use dv_core::Store;
 use std::alloc::Global;
@@ -101,6 +102,7 @@ impl Hub {
         let session = Session {
             number,
             conversation: Conversation::Reading(Vec::new(self.alloc)),
+            shapes: Shapes::new(self.alloc),
         };
         self.sessions.push(session)?;
         self.next += 1;

@@ -11,6 +11,7 @@ mod reply;
 mod sections;
 mod service;
 mod session;
+mod shapes;
 mod stream;
 
 pub use dv_core::Store;

@@ -12,6 +12,7 @@ use crate::fault::CloseFault;
 use crate::front::{Front, Message, front_of};
 use crate::hub::Fed;
 use crate::reply::append_reply;
+use crate::shapes::Shapes;
 use dv_bson::{Document, NoMemory};
 use dv_core::{Outcome, Store};
 use std::alloc::{AllocError, Global};
@@ -77,6 +78,7 @@ impl Conversation {
 pub(crate) struct Session {
     pub(crate) number: u32,
     pub(crate) conversation: Conversation,
+    pub(crate) shapes: Shapes,
 }
 
 impl Session {
@@ -97,7 +99,17 @@ impl Session {
         ensures number { self.new.number ≡ self.old.number }
     {
         if let Conversation::Reading(kept) = &mut self.conversation {
-            if let Err(fault) = take_in(alloc, store, self.number, kept, piece, out, counts) {
+            let shapes = &mut self.shapes;
+            if let Err(fault) = take_in(
+                alloc,
+                store,
+                self.number,
+                shapes,
+                kept,
+                piece,
+                out,
+                counts,
+            ) {
                 self.conversation = Conversation::Closed(fault);
             }
         }
@@ -111,6 +123,7 @@ fn take_in(
     alloc: Global,
     store: &mut Store,
     session: u32,
+    shapes: &mut Shapes,
     kept: &mut Vec<u8>,
     piece: &[u8],
     out: &mut Vec<u8>,
@@ -119,7 +132,7 @@ fn take_in(
     ensures { Answered out.old.items out.new.items counts.old counts.new (λ answers. Takes session store.old (split (kept.old.items ++ piece.now)) (record { answers = answers; state = store.new; conversation = kept_or_closed result kept.new.items })) }
 {
     kept.extend_from_slice(piece)?;
-    let taken = carry_out_all(alloc, store, session, kept, out, counts)?;
+    let taken = carry_out_all(alloc, store, session, shapes, kept, out, counts)?;
     drop_front(kept, taken);
     Ok(())
 }
@@ -142,6 +155,7 @@ fn carry_out_all(
     alloc: Global,
     store: &mut Store,
     session: u32,
+    shapes: &mut Shapes,
     stream: &[u8],
     out: &mut Vec<u8>,
     counts: &mut Counts,
@@ -158,7 +172,7 @@ fn carry_out_all(
                 message,
                 rest: behind,
             } => {
-                carry_out(alloc, store, session, &message, out, counts)?;
+                carry_out(alloc, store, session, shapes, &message, out, counts)?;
                 rest = behind;
             }
         }
@@ -171,13 +185,14 @@ fn carry_out(
     alloc: Global,
     store: &mut Store,
     session: u32,
+    shapes: &mut Shapes,
     message: &Message<'_>,
     out: &mut Vec<u8>,
     counts: &mut Counts,
 ) -> Result<(), NoMemory>
     ensures { Answered out.old.items out.new.items counts.old counts.new (λ answers. Carries session store.old (message_seen message.now) answers store.new result) }
 {
-    let outcome = step(alloc, store, session, message);
+    let outcome = step(alloc, store, session, shapes, message);
     counts.messages = counts.messages.saturating_add(1);
     if let Some(reply) = reply_to(message, outcome)? {
         append_reply(message.request_id, &reply, out)?;
@@ -201,9 +216,18 @@ fn reply_to(message: &Message<'_>, outcome: Outcome) -> Result<Option<Document>,
 }
 
 /// Carries out the command that a message's sections bring.
-fn step(alloc: Global, store: &mut Store, session: u32, message: &Message<'_>) -> Outcome
+fn step(
+    alloc: Global,
+    store: &mut Store,
+    session: u32,
+    shapes: &mut Shapes,
+    message: &Message<'_>,
+) -> Outcome
     ensures { MemoryStep store.old session (command_of (message_seen message.now)) result store.new }
 {
-    let command = command_in(alloc, &message.sections);
-    store.execute(session, &command)
+    let command = command_in(alloc, &message.sections, shapes);
+    let outcome = store.execute(session, &command);
+    // Behind the command, so that documents that it stored could take the names of their neighbours.
+    shapes.keep(alloc, &command);
+    outcome
 }
