@@ -5,4 +5,6 @@ mod Numbers
 mod Pairs
 mod Pieces
 mod Replies
+mod Scripts
 mod Served
+mod Stopped

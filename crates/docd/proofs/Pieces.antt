@@ -1,78 +1,205 @@
 -- Scripts that come in pieces.
-use Rattle.std.proofs.Common.{◌≡◌, ℕ, Bool, true, false, List, [], ◌∷◌, ◌++◌, refl, sym, ap, subst, ◌∙◌, append_assoc, append-nil}
-use Rattle.std.specs.Bool.{MatchBool}
-use Rattle.std.specs.List.{slice_split}
-use Rattle.std.proofs.lemmas.List.Elements.{All-append, All-cons, All-head, All-nil, All-tail}
-use Rattle.std.proofs.lemmas.List.Splits.{slice_split_at, slice_split_none}
-use Rattle.docd.specs.Script.{DoesLine, DoesLines, HasNoLf, Standing, TakesPiece, is_lf}
+use Rattle.std.proofs.Common.{◌≡◌, ℕ, suc, ◌+◌, ◌*◌, ◌^◌, ◌<◌, ◌≤◌, ◌⊎◌, inl, inr, Bool, true, false, List, [], ◌∷◌, ◌++◌, Option, length, refl, sym, ap, subst, ◌∙◌, append_assoc, append-nil, length-append, arith}
+use Rattle.std.proofs.KnownBytes.{Appends-nil, Appends-trans}
+use Rattle.std.proofs.lemmas.List.Elements.{All-append, All-head, All-nil, All-tail}
+use Rattle.std.proofs.lemmas.List.Splits.{slice_split-cons_no, slice_split-cons_yes, slice_split_at}
+use Rattle.std.specs.Io.KnownBytes.{Appends}
+use Rattle.std.specs.List.{onto_first, slice_split}
+use Rattle.dv_wire.specs.Schedule.{World}
+use Rattle.docd.specs.Line.{IsLine}
+use Rattle.docd.specs.Pieces.{StopsIn, Takes}
+use Rattle.docd.specs.Script.{DoesLine, DoesLines, HasNoLf, IsBad, Standing, is_lf}
+use Rattle.docd.specs.Stops.{EndsAt}
+use Rattle.docd.specs.declared.said.Line.{Line}
+use Rattle.docd.specs.declared.script.ScriptFault.{ScriptFault}
+use Rattle.docd.specs.declared.script.ScriptFault.TheVariants.{BadLine, NoMemory}
 
--- ---- a choice of two facts
+-- ---- the first line of bytes
 
-at_true : (b : Bool) (A B : Type 0) → b ≡ true → A → MatchBool b A B
-at_true b A B e a = subst (λ c. MatchBool c A B) (sym e) a
-
-at_false : (b : Bool) (A B : Type 0) → b ≡ false → B → MatchBool b A B
-at_false b A B e x = subst (λ c. MatchBool c A B) (sym e) x
-
-either : (b : Bool) (A B P : Type 0) → (b ≡ true → A → P) → (b ≡ false → B → P) → MatchBool b A B → P
-either true A B P f g h = f refl h
-either false A B P f g h = g refl h
-
--- ---- pieces
-
-abbrev NoLf : ℕ → Type 0
+abbrev pub NoLf : ℕ → Type 0
 NoLf b = is_lf b ≡ false
 
-pub TakesPiece-append : (xs ys : List ℕ) (a m n : Standing) (line kept last s t : List ℕ) → TakesPiece a line xs s m kept → TakesPiece m kept ys t n last → TakesPiece a line (xs ++ ys) (s ++ t) n last
-TakesPiece-append [] ys a m n line kept last s t h k =
-    subst (λ said. TakesPiece a line ys (said ++ t) n last) (sym h.0)
-    (subst (λ from. TakesPiece from line ys t n last) h.1 (subst (λ at. TakesPiece m at ys t n last) h.2 k))
-TakesPiece-append (b ∷ xs) ys a m n line kept last s t h k =
-    either (is_lf b) _ _ _
-    (λ e l. at_true (is_lf b) _ _ e (l.0, l.1, l.2 ++ t, l.3, TakesPiece-append xs ys l.0 m n [] kept last l.2 t l.4 k, ap (λ said. said ++ t) l.5 ∙ append_assoc l.1 l.2 t))
-    (λ e l. at_false (is_lf b) _ _ e (TakesPiece-append xs ys a m n (line ++ b ∷ []) kept last s t l k))
-    h
+-- bytes have a first line, be it empty
+pub record HasFirst (bytes : List ℕ) : Type 0 where
+  pub first : List ℕ
+  pub others : List (List ℕ)
+  pub split : slice_split is_lf bytes ≡ first ∷ others
 
-pub TakesPiece-part : (xs : List ℕ) (a : Standing) (line : List ℕ) → HasNoLf xs → TakesPiece a line xs [] a (line ++ xs)
-TakesPiece-part [] a line none = (refl, refl, append-nil line)
-TakesPiece-part (b ∷ xs) a line none =
-    at_false (is_lf b) _ _ (All-head NoLf b xs none)
-    (subst (λ kept. TakesPiece a (line ++ b ∷ []) xs [] a kept) (append_assoc line (b ∷ []) xs) (TakesPiece-part xs a (line ++ b ∷ []) (All-tail NoLf b xs none)))
+first_by : (byte : ℕ) (bytes : List ℕ) (b : Bool) → is_lf byte ≡ b → HasFirst bytes → HasFirst (byte ∷ bytes)
+first_by byte bytes true e h = record { first = []; others = slice_split is_lf bytes; split = slice_split-cons_yes is_lf byte bytes e }
+first_by byte bytes false e h = record { first = byte ∷ h.first; others = h.others; split = slice_split-cons_no is_lf byte bytes e ∙ ap (onto_first byte) h.split }
 
-pub TakesPiece-line : (xs : List ℕ) (a m : Standing) (line text : List ℕ) → HasNoLf xs → DoesLine a (line ++ xs) text m → TakesPiece a line (xs ++ 10 ∷ []) text m []
-TakesPiece-line xs a m line text none does =
-    TakesPiece-append xs (10 ∷ []) a a m line (line ++ xs) [] [] text (TakesPiece-part xs a line none)
-    (m, text, [], does, (refl, refl, refl), sym (append-nil text))
+pub has_first : (bytes : List ℕ) → HasFirst bytes
+has_first [] = record { first = []; others = []; split = refl }
+has_first (b ∷ bytes) = first_by b bytes (is_lf b) refl (has_first bytes)
 
--- a script whose pieces were taken, and whose last line was done, has run
-pub Runs-TakesPiece : (xs : List ℕ) (a m n : Standing) (line kept s t : List ℕ) → HasNoLf line → TakesPiece a line xs s m kept → DoesLine m kept t n → DoesLines a (slice_split is_lf (line ++ xs)) (s ++ t) n
-Runs-TakesPiece [] a m n line kept s t none h last =
-    let whole : slice_split is_lf (line ++ []) ≡ line ∷ [] = ap (slice_split is_lf) (append-nil line) ∙ slice_split_none is_lf line none in
-    let does = subst (λ from. DoesLine from line t n) h.1 (subst (λ at. DoesLine m at t n) h.2 last) in
-    subst (λ lines. DoesLines a lines (s ++ t) n) (sym whole) (n, t, [], does, (refl, refl), ap (λ said. said ++ t) h.0 ∙ sym (append-nil t))
-Runs-TakesPiece (b ∷ xs) a m n line kept s t none h last =
-    either (is_lf b) _ _ _
-    (λ e l. subst (λ lines. DoesLines a lines (s ++ t) n) (sym (slice_split_at is_lf line b xs none e))
-    (l.0, l.1, l.2 ++ t, l.3, Runs-TakesPiece xs l.0 m n [] kept l.2 t (All-nil NoLf) l.4 last, ap (λ said. said ++ t) l.5 ∙ append_assoc l.1 l.2 t))
-    (λ e l. subst (λ bytes. DoesLines a (slice_split is_lf bytes) (s ++ t) n) (append_assoc line (b ∷ []) xs)
-    (Runs-TakesPiece xs a m n (line ++ b ∷ []) kept s t (All-append NoLf line (b ∷ []) none (All-cons NoLf b [] e (All-nil NoLf))) l last))
-    h
+-- what stands in front of a first line, without LF, belongs to it
+pub longer_first : (front bytes : List ℕ) → HasNoLf front → (h : HasFirst bytes) → slice_split is_lf (front ++ bytes) ≡ (front ++ h.first) ∷ h.others
+longer_first [] bytes none h = h.split
+longer_first (b ∷ front) bytes none h =
+    slice_split-cons_no is_lf b (front ++ bytes) (All-head NoLf b front none) ∙ ap (onto_first b) (longer_first front bytes (All-tail NoLf b front none) h)
+
+pub ended_line : (line end behind : List ℕ) → HasNoLf line → HasNoLf end → slice_split is_lf (line ++ (end ++ 10 ∷ behind)) ≡ (line ++ end) ∷ slice_split is_lf behind
+ended_line line end behind clean none =
+    ap (slice_split is_lf) (sym (append_assoc line end (10 ∷ behind))) ∙ slice_split_at is_lf (line ++ end) 10 behind (All-append NoLf line end clean none) refl
+
+-- ---- lines that are done
+
+pub DoesLines-append : (xs ys : List (List ℕ)) (a m n : Standing) (s t : List ℕ) → DoesLines a xs s m → DoesLines m ys t n → DoesLines a (xs ++ ys) (s ++ t) n
+DoesLines-append [] ys a m n s t h k = subst (λ said. DoesLines a ys (said ++ t) n) (sym h.0) (subst (λ from. DoesLines from ys t n) h.1 k)
+DoesLines-append (x ∷ xs) ys a m n s t h k =
+    (h.0, h.1, h.2 ++ t, h.3, DoesLines-append xs ys h.0 m n h.2 t h.4 k, ap (λ said. said ++ t) h.5 ∙ append_assoc h.1 h.2 t)
+
+pub one_line : (a m : Standing) (line text : List ℕ) → DoesLine a line text m → DoesLines a (line ∷ []) text m
+one_line a m line text does = (m, text, [], does, (refl, refl), sym (append-nil text))
+
+-- ---- pieces that are taken
+
+abbrev pub Takes-nothing : (a : Standing) (line : List ℕ) → Takes a line [] [] a line
+Takes-nothing a line = record { lines = []; split = λ after. refl; few = omega arith; done = (refl, refl) }
+
+abbrev pub Takes-append : (xs ys : List ℕ) (a m n : Standing) (line mid kept s t : List ℕ) → Takes a line xs s m mid → Takes m mid ys t n kept → Takes a line (xs ++ ys) (s ++ t) n kept
+Takes-append xs ys a m n line mid kept s t h k = record {
+  lines = h.lines ++ k.lines;
+  split = λ after.
+      ap (λ bytes. slice_split is_lf (line ++ bytes)) (append_assoc xs ys after) ∙ h.split (ys ++ after)
+      ∙ ap (λ others. h.lines ++ others) (k.split after) ∙ sym (append_assoc h.lines k.lines (slice_split is_lf (kept ++ after)));
+  few = omega (arith, h.few, k.few, length-append h.lines k.lines, length-append xs ys);
+  done = DoesLines-append h.lines k.lines a m n s t h.done k.done;
+}
+
+-- a line that ends is done
+abbrev pub Takes-line : (xs : List ℕ) (a m : Standing) (line text : List ℕ) → HasNoLf line → HasNoLf xs → DoesLine a (line ++ xs) text m → Takes a line (xs ++ 10 ∷ []) text m []
+Takes-line xs a m line text clean none does = record {
+  lines = (line ++ xs) ∷ [];
+  split = λ after. ap (λ bytes. slice_split is_lf (line ++ bytes)) (append_assoc xs (10 ∷ []) after) ∙ ended_line line xs after clean none;
+  few = omega (arith, length-append xs (10 ∷ []));
+  done = one_line a m (line ++ xs) text does;
+}
 
 -- ---- a piece of which a front was taken
 
--- one more line of it is taken, its end kept first
-pub taken_line : (piece front rest end behind : List ℕ) (a m n : Standing) (from line said text : List ℕ)
-    → piece ≡ front ++ rest → rest ≡ end ++ 10 ∷ behind → HasNoLf end → TakesPiece a from front said m line → DoesLine m (line ++ end) text n
-    → (piece ≡ (front ++ (end ++ 10 ∷ [])) ++ behind) × TakesPiece a from (front ++ (end ++ 10 ∷ [])) (said ++ text) n []
-taken_line piece front rest end behind a m n from line said text whole cut none takes does = (
-  whole ∙ ap (λ bytes. front ++ bytes) (cut ∙ sym (append_assoc end (10 ∷ []) behind)) ∙ sym (append_assoc front (end ++ 10 ∷ []) behind),
-  TakesPiece-append front (end ++ 10 ∷ []) a m n from line [] said text takes (TakesPiece-line end m n line text none does),
-)
+pub record TakenSoFar (old : Standing) (number : ℕ) (line piece : List ℕ) (before : Option (List ℕ)) (rest : List ℕ) (after : Option (List ℕ)) (now : Standing) (number_now : ℕ) (line_now : List ℕ) : Type 0 where
+  pub front : List ℕ
+  pub said : List ℕ
+  pub whole : piece ≡ front ++ rest
+  pub appended : Appends before after said
+  pub taken : Takes old line front said now line_now
+  pub number_is : number_now ≡ number + length taken.lines
+  pub clean : HasNoLf line_now
 
--- its last bytes are taken, in which no line ends
-pub taken_rest : (piece front rest : List ℕ) (a m : Standing) (from line said : List ℕ)
-    → piece ≡ front ++ rest → HasNoLf rest → TakesPiece a from front said m line → TakesPiece a from piece said m (line ++ rest)
-taken_rest piece front rest a m from line said whole none takes =
-    subst (λ bytes. TakesPiece a from bytes said m (line ++ rest)) (sym whole)
-    (subst (λ text. TakesPiece a from (front ++ rest) text m (line ++ rest)) (append-nil said)
-    (TakesPiece-append front rest a m m from line (line ++ rest) said [] takes (TakesPiece-part rest m line none)))
+pub nothing_taken : (old : Standing) (number : ℕ) (line piece : List ℕ) (before : Option (List ℕ)) → HasNoLf line → TakenSoFar old number line piece before piece before old number line
+nothing_taken old number line piece before clean =
+    let none : length (Takes-nothing old line).lines ≡ 0 = refl in
+    record { front = []; said = []; whole = refl; appended = Appends-nil before; taken = Takes-nothing old line; number_is = omega (arith, none); clean = clean }
+
+module _ (old now : Standing) (number number_now : ℕ) (line piece rest line_now : List ℕ) (before mid : Option (List ℕ))
+    (so_far : TakenSoFar old number line piece before rest mid now number_now line_now) where
+  -- no line ends in the rest, which is kept
+  pub rest_taken : (new : Standing) (number_new : ℕ) (kept : List ℕ) → new ≡ now → number_new ≡ number_now → kept ≡ line_now ++ rest
+      → (takes : Takes old line piece so_far.said new kept) × (number_new ≡ number + length takes.lines)
+  rest_taken new number_new kept same same_number whole_line = (
+    record {
+      lines = so_far.taken.lines;
+      split = λ after.
+          ap (λ bytes. slice_split is_lf (line ++ (bytes ++ after))) so_far.whole
+          ∙ ap (λ bytes. slice_split is_lf (line ++ bytes)) (append_assoc so_far.front rest after) ∙ so_far.taken.split (rest ++ after)
+          ∙ ap (λ bytes. so_far.taken.lines ++ slice_split is_lf bytes) (sym (append_assoc line_now rest after))
+          ∙ ap (λ bytes. so_far.taken.lines ++ slice_split is_lf (bytes ++ after)) (sym whole_line);
+      few = omega (arith, so_far.taken.few, ap length so_far.whole, length-append so_far.front rest);
+      done = subst (λ n. DoesLines old so_far.taken.lines so_far.said n) (sym same) so_far.taken.done;
+    },
+    same_number ∙ so_far.number_is,
+  )
+
+  pub clean_still : HasNoLf rest → HasNoLf (line_now ++ rest)
+  clean_still none = All-append NoLf line_now rest so_far.clean none
+
+  -- the script ends at the line that the rest begins with
+  module _ (fault : ScriptFault) (part : List ℕ) (new : World) where
+    stops_at : ((after : List ℕ) → (last : List ℕ) × (others : List (List ℕ)) × (slice_split is_lf (line_now ++ (rest ++ after)) ≡ last ∷ others) × EndsAt fault now number_now last part new)
+        → StopsIn fault old number line piece (so_far.said ++ part) new
+    stops_at ends = record {
+      lines = so_far.taken.lines;
+      said = so_far.said;
+      mid = now;
+      done = so_far.taken.done;
+      part = part;
+      written = refl;
+      ends = λ after.
+          let next = ends after in (
+            next.0,
+            next.1,
+            ap (λ bytes. slice_split is_lf (line ++ (bytes ++ after))) so_far.whole
+                ∙ ap (λ bytes. slice_split is_lf (line ++ bytes)) (append_assoc so_far.front rest after) ∙ so_far.taken.split (rest ++ after)
+                ∙ ap (λ others. so_far.taken.lines ++ others) next.2,
+            subst (λ n. EndsAt fault now n next.0 part new) so_far.number_is next.3,
+          );
+    }
+
+    pub stops_in : (after : Option (List ℕ)) → Appends mid after part
+        → ((tail : List ℕ) → (last : List ℕ) × (others : List (List ℕ)) × (slice_split is_lf (line_now ++ (rest ++ tail)) ≡ last ∷ others) × EndsAt fault now number_now last part new)
+        → (said : List ℕ) × Appends before after said × StopsIn fault old number line piece said new
+    stops_in after appended ends = (so_far.said ++ part, Appends-trans before mid after so_far.said part so_far.appended appended, stops_at ends)
+
+    -- where its LF was read
+    pub stops_ended : (end behind : List ℕ) → rest ≡ end ++ 10 ∷ behind → HasNoLf end → EndsAt fault now number_now (line_now ++ end) part new
+        → (after : Option (List ℕ)) → Appends mid after part → (said : List ℕ) × Appends before after said × StopsIn fault old number line piece said new
+    stops_ended end behind cut none why after appended =
+        let split : (tail : List ℕ) → slice_split is_lf (line_now ++ (rest ++ tail)) ≡ (line_now ++ end) ∷ slice_split is_lf (behind ++ tail) = λ tail.
+        ap (λ bytes. slice_split is_lf (line_now ++ bytes)) (ap (λ bytes. bytes ++ tail) cut ∙ append_assoc end (10 ∷ behind) tail) ∙ ended_line line_now end (behind ++ tail) so_far.clean none in
+        stops_in after appended (λ tail. (line_now ++ end, slice_split is_lf (behind ++ tail), split tail, why))
+
+    -- and where it wasn't
+    pub stops_open : HasNoLf rest → ((more : List ℕ) → EndsAt fault now number_now ((line_now ++ rest) ++ more) part new)
+        → (after : Option (List ℕ)) → Appends mid after part → (said : List ℕ) × Appends before after said × StopsIn fault old number line piece said new
+    stops_open none why after appended =
+        let next = has_first in
+        let split : (tail : List ℕ) → slice_split is_lf (line_now ++ (rest ++ tail)) ≡ ((line_now ++ rest) ++ (next tail).first) ∷ (next tail).others = λ tail.
+        ap (slice_split is_lf) (sym (append_assoc line_now rest tail)) ∙ longer_first (line_now ++ rest) tail (clean_still none) (next tail) in
+        stops_in after appended (λ tail. ((line_now ++ rest) ++ (next tail).first, (next tail).others, split tail, why (next tail).first))
+
+  -- another line ends in the rest
+  module _ (end behind : List ℕ) (cut : rest ≡ end ++ 10 ∷ behind) (none : HasNoLf end) where
+    pub numbers_left : number + length piece < 2 ^ 64 → suc number_now < 2 ^ 64
+    numbers_left room =
+        omega (arith, room, so_far.number_is, so_far.taken.few, ap length so_far.whole, length-append so_far.front rest, ap length cut, length-append end (10 ∷ behind))
+
+    -- it is kept first
+    module _ (kept : Standing) (number_kept : ℕ) (line_kept : List ℕ) (same : kept ≡ now) (same_number : number_kept ≡ number_now) (whole_line : line_kept ≡ line_now ++ end) where
+      -- and is done
+      pub line_taken : (new : Standing) (text : List ℕ) (after : Option (List ℕ)) (number_new : ℕ) (line_new : List ℕ) → Appends mid after text → DoesLine kept line_kept text new
+          → number_new ≡ suc number_kept → line_new ≡ [] → TakenSoFar old number line piece before behind after new number_new line_new
+      line_taken new text after number_new line_new appended does more none_new =
+          let this = subst (λ from. DoesLine from (line_now ++ end) text new) same (subst (λ l. DoesLine kept l text new) whole_line does) in
+          let one = Takes-line end now new line_now text so_far.clean none this in
+          let both : Takes old line (so_far.front ++ (end ++ 10 ∷ [])) (so_far.said ++ text) new [] = Takes-append so_far.front (end ++ 10 ∷ []) old now new line line_now [] so_far.said text so_far.taken one in
+          let lines : length both.lines ≡ length (so_far.taken.lines ++ (line_now ++ end) ∷ []) = refl in
+          subst (λ l. TakenSoFar old number line piece before behind after new number_new l) (sym none_new) (record {
+            front = so_far.front ++ (end ++ 10 ∷ []);
+            said = so_far.said ++ text;
+            whole = so_far.whole ∙ ap (λ bytes. so_far.front ++ bytes) (cut ∙ sym (append_assoc end (10 ∷ []) behind)) ∙ sym (append_assoc so_far.front (end ++ 10 ∷ []) behind);
+            appended = Appends-trans before mid after so_far.said text so_far.appended appended;
+            taken = both;
+            number_is = omega (arith, lines, more, same_number, so_far.number_is, length-append so_far.taken.lines ((line_now ++ end) ∷ []));
+            clean = All-nil NoLf;
+          })
+
+      -- or ends the script
+      pub line_stops : (fault : ScriptFault) (part : List ℕ) (new : World) (after : Option (List ℕ)) → EndsAt fault kept number_kept line_kept part new → Appends mid after part
+          → (said : List ℕ) × Appends before after said × StopsIn fault old number line piece said new
+      line_stops fault part new after why appended =
+          stops_ended fault part new end behind cut none (subst (λ from. EndsAt fault from number_now (line_now ++ end) part new) same
+          (subst (λ n. EndsAt fault kept n (line_now ++ end) part new) same_number (subst (λ l. EndsAt fault kept number_kept l part new) whole_line why))) after appended
+
+-- ---- a line that isn't kept
+
+too_long : (line part more : List ℕ) → 131200 < length line + length part → IsBad ((line ++ part) ++ more)
+too_long line part more long meant is = omega (arith, is.limit, long, length-append (line ++ part) more, length-append line part)
+
+-- it is too long, or there is no memory for it, whatever else stands in it
+pub not_kept : (fault : ScriptFault) (now : Standing) (number : ℕ) (line part : List ℕ) → (fault ≡ BadLine number) ⊎ (fault ≡ NoMemory)
+    → (fault ≡ BadLine number → 131200 < length line + length part) → (more : List ℕ) → EndsAt fault now number ((line ++ part) ++ more) [] now.hub
+not_kept fault now number line part (inl e) long more =
+    subst (λ f. EndsAt f now number ((line ++ part) ++ more) [] now.hub) (sym e) (refl, too_long line part more (long e), refl, refl)
+not_kept fault now number line part (inr e) long more = subst (λ f. EndsAt f now number ((line ++ part) ++ more) [] now.hub) (sym e) (refl, inl (refl, refl))

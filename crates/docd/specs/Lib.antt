@@ -3,8 +3,10 @@ pub mod File
 pub mod Line
 pub mod Load
 pub mod Output
+pub mod Pieces
 pub mod Reading
 pub mod Script
 pub mod Serve
+pub mod Stops
 pub mod Streams
 pub mod Words

@@ -1,6 +1,5 @@
 -- What a script does, line by line, and what is written.
 use Rattle.std.specs.Prelude.{◌≡◌, ℕ, ◌⊎◌, Bool, true, false, List, [], ◌∷◌, ◌++◌, ◌==◌, Option, Some, None, Ok, replicate, slice_get, slice_set}
-use Rattle.std.specs.Bool.{MatchBool}
 use Rattle.std.specs.List.{All, slice_split}
 use Rattle.dv_wire.specs.declared.hub.Fed.{Fed}
 use Rattle.dv_wire.specs.declared.hub.Fed.TheVariants as fed
@@ -89,13 +88,3 @@ Runs old script text new = DoesLines old (slice_split is_lf script) text new
 -- before a script: no number has a session
 abbrev pub begun : World → Standing
 begun hub = record { sessions = replicate 1000 None; hub = hub }
-
--- ---- a script that comes in pieces
-
--- behind a line's first bytes come these: each LF ends a line, which is done, and what stands behind the last one is kept
-abbrev pub TakesPiece : Standing → List ℕ → List ℕ → List ℕ → Standing → List ℕ → Type 0
-TakesPiece old line [] text new kept = (text ≡ []) × (new ≡ old) × (kept ≡ line)
-TakesPiece old line (b ∷ bytes) text new kept =
-    MatchBool (is_lf b)
-    ((mid : Standing) × (first : List ℕ) × (others : List ℕ) × DoesLine old line first mid × TakesPiece mid [] bytes others new kept × (text ≡ first ++ others))
-    (TakesPiece old (line ++ b ∷ []) bytes text new kept)

@@ -43,6 +43,7 @@ impl CheckFault {
         ensures other { fault ≢ BsonFault.NoMemory → result ≡ CheckFault.Document number at fault }
         ensures streams { (n : ℕ) → (failures_read_in {A = ℕ} (Err result) n ≡ n) × (failures_written_in {A = ℕ} (Err result) n ≡ n) }
         ensures small { result ≢ CheckFault.TooLarge }
+        ensures read { result ≢ CheckFault.Write }
         ensures told { (n a : ℕ) (f : BsonFault) → result ≡ CheckFault.Document n a f → (n ≡ number) × (a ≡ at) × (f ≡ fault) }
     {
         match fault {
@@ -67,7 +68,8 @@ impl From<FileFault> for CheckFault {
 }
 
 /// Writes `ok N` as a line, where the file is N documents that fit, one behind the other. Otherwise nothing is written, and
-/// the fault is that of the first document that has one. The file is read to its end before its documents are.
+/// the fault is that of the first document that has one. The file is read to its end before its documents are, and nothing is
+/// tried to be written before these are found to fit.
 pub fn check<R: ByteIn, W: TextOut>(
     alloc: Global,
     reader: &mut R,
@@ -78,8 +80,9 @@ pub fn check<R: ByteIn, W: TextOut>(
     ensures only { (documents : List (List Field)) → IfSome (R.remaining reader.old) (λ file. Holds documents file → length file ≤ 1073741824
         → IfErr result (λ e. (e ≡ CheckFault.Read) ⊎ (e ≡ CheckFault.Write) ⊎ (e ≡ CheckFault.NoMemory))) }
     ensures refused { (number at : ℕ) (fault : BsonFault) → result ≡ Err (CheckFault.Document number at fault)
-        → IfSome (R.remaining reader.old) (λ file. FirstFault file number at fault) }
+        → IfSome (R.remaining reader.old) (λ file. FirstFault file number at fault × (length file ≤ 1073741824)) }
     ensures large { result ≡ Err CheckFault.TooLarge → IfSome (R.remaining reader.old) (λ file. 1073741824 < length file) }
+    ensures tried { result ≡ Err CheckFault.Write → IfSome (R.remaining reader.old) (λ file. (documents : List (List Field)) × Holds documents file × (length file ≤ 1073741824)) }
     ensures unwritten { IfErr result (λ e. (e ≡ CheckFault.Write) ⊎ Keeps (W.contents writer.old) (W.contents writer.new)) }
     ensures reader { R.failures reader.new ≡ failures_read_in result (R.failures reader.old) }
     ensures writer { W.failures writer.new ≡ failures_written_in result (W.failures writer.old) }
@@ -105,6 +108,7 @@ fn count(alloc: Global, bytes: &[u8]) -> Result<usize, CheckFault>
     ensures refused { (number at : ℕ) (fault : BsonFault) → result ≡ Err (CheckFault.Document number at fault) → FirstFault bytes.now number at fault }
     ensures streams { (n : ℕ) → (failures_read_in result n ≡ n) × (failures_written_in result n ≡ n) }
     ensures small { result ≢ Err CheckFault.TooLarge }
+    ensures read { result ≢ Err CheckFault.Write }
 {
     what_a_field_adds();
     let mut count = 0;

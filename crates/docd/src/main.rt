@@ -67,8 +67,13 @@ where
 // Does the script on standard input.
 fn run_script<R: Input + Print + AllocGlobal>(rt: &R, hub: &mut Hub) -> Result<(), DocdFault> {
     let alloc = rt.alloc();
-    let mut writer = BufWriter::new(alloc, io::writer(rt)).map_err(|_| DocdFault::NoMemory)?;
-    script::script(alloc, hub, &mut rt.reader(), &mut writer)?;
+    let writer = BufWriter::new(alloc, io::writer(rt)).map_err(|_| DocdFault::NoMemory)?;
+    script::script(
+        alloc,
+        hub,
+        &mut CountedReader::of(rt.reader()),
+        &mut CountedWriter::of(writer),
+    )?;
     Ok(())
 }
 

@@ -1,18 +1,19 @@
 //! Scripts: lines that bring bytes to the sessions of a hub.
 
-ghost use Rattle.std.specs.Prelude.{◌≡◌, ◌<◌, ◌≤◌, ◌+◌, ◌↔◌, ◌++◌, ◌∷◌, ℕ, List, [], length, replicate, string_bytes, take, IfOk, IfSome, MatchOption, OnOk};
-ghost use Rattle.std.specs.Io.KnownBytes.{Appends, Consumes, IsAtEnd, Keeps};
-ghost use Rattle.dv_wire.specs.Schedule.{Opens};
-ghost use Rattle.docd.specs.Script.{Does, DoesLine, Finds, HasNoLf, IsBad, Runs, Standing, TakesPiece, begun, standing_of};
+ghost use Rattle.std.specs.Prelude.{◌≡◌, ◌<◌, ◌≤◌, ◌+◌, ◌^◌, ◌↔◌, ◌⊎◌, ◌++◌, ◌∷◌, ℕ, List, [], length, replicate, string_bytes, suc, IfErr, IfOk, IfSome, IsTrue, MatchOption, OnOk};
+ghost use Rattle.std.specs.Io.KnownBytes.{Appends, Keeps};
+ghost use Rattle.docd.specs.Script.{Does, DoesLine, Finds, HasNoLf, Runs, Standing, begun, standing_of};
+ghost use Rattle.docd.specs.Stops.{Asks, EndsAt, FailsWriting, OfScript, OpensNone, StopsBy, StopsLine, failures_read_in, failures_written_in};
+ghost use Rattle.docd.specs.Streams.{failures_behind};
+ghost use Rattle.docd.specs.Pieces.{StopsIn, Takes};
 
 use crate::line::{LONGEST_LINE, line};
 use crate::output::{end_text, fed_text};
 use crate::said::{Line, LineFault};
 use crate::sessions::{Session, Sessions};
-use crate::streams::piece;
-use dv_wire::{Fed, Hub, HubFault};
+use crate::streams::{TextOut, piece};
+use dv_wire::{ByteIn, Fed, Hub, HubFault, give_all};
 use std::alloc::{AllocError, Global};
-use std::io::{Read, Write};
 use thiserror::Error;
 
 /// The most reads that a script takes.
@@ -24,9 +25,12 @@ pub enum ScriptFault {
     /// A line has no form, or is too long. Lines count from 1, those that are skipped too.
     #[error("line {line}: bad line")]
     BadLine { line: u64 },
-    /// The reader failed, or took too many reads.
+    /// The reader failed.
     #[error("read failed")]
     Read,
+    /// The script didn't end within 4,294,967,296 reads.
+    #[error("read failed")]
+    TooManyReads,
     /// The writer failed.
     #[error("write failed")]
     Write,
@@ -67,21 +71,42 @@ impl From<HubFault> for ScriptFault {
 /// message. Bytes for a closed session are dropped. What is written is flushed before each read, and at the end.
 ///
 /// The first fault ends the script; what was written before stays written. The hub keeps the sessions that the script
-/// hasn't ended.
-pub fn script<R: Read, W: Write>(
+/// hasn't ended. Lines count from 1, those that are skipped too. Behind `BadLine` and `Sessions` the lines in front of that
+/// one are done and answered, and nothing is done of it. So it is behind `NoMemory`, but that line may be done too, and not
+/// answered; behind `Write` its answer may be written in part. Behind `Read` and `TooManyReads` each line that was read to
+/// its LF is done and answered.
+pub fn script<R: ByteIn, W: TextOut>(
     alloc: Global,
     hub: &mut Hub,
     reader: &mut R,
     writer: &mut W,
 ) -> Result<(), ScriptFault>
-    ensures { OnOk result (IfSome (R.remaining reader.old) (λ text. (said : List ℕ) × (end : Standing)
+    ensures done { OnOk result (IfSome (R.remaining reader.old) (λ text. (said : List ℕ) × (end : Standing)
         × Appends (W.contents writer.old) (W.contents writer.new) said × Runs (begun hub.old) text said end × (end.hub ≡ hub.new))) }
+    ensures stopped { IfErr result (λ fault. StopsBy fault (begun hub.old) (R.remaining reader.old) (R.remaining reader.new)
+        (W.contents writer.old) (W.contents writer.new) hub.new) }
+    ensures reader { R.failures reader.new ≡ failures_read_in result (R.failures reader.old) }
+    ensures writer { FailsWriting result (W.failures writer.old) (W.failures writer.new) }
+    ensures reads { Asks result (R.reads reader.old) (R.reads reader.new) }
 {
     let mut progress = Progress::new(alloc);
-    let done = progress.read(hub, reader, writer);
-    let flushed = flush(writer);
-    done?;
-    flushed
+    match progress.read(hub, reader, writer) {
+        Ok(()) => flush(writer),
+        Err(fault) => {
+            if is_of_writer(fault) {
+                return Err(fault);
+            }
+            // The first fault is the one that is told.
+            let _ = flush(writer);
+            Err(fault)
+        }
+    }
+}
+
+fn is_of_writer(fault: ScriptFault) -> bool
+    ensures { IsTrue result ↔ fault ≡ ScriptFault.Write }
+{
+    matches!(fault, ScriptFault::Write)
 }
 
 /// How far a script is done.
@@ -99,6 +124,7 @@ impl Progress {
     fn new(alloc: Global) -> Self
         ensures none { result.sessions.places ≡ replicate 1000 None }
         ensures line { result.line.items ≡ [] }
+        ensures first { result.number ≡ 1 }
     {
         Progress {
             alloc,
@@ -108,39 +134,55 @@ impl Progress {
         }
     }
 
-    fn read<R: Read, W: Write>(
+    fn read<R: ByteIn, W: TextOut>(
         &mut self,
         hub: &mut Hub,
         reader: &mut R,
         writer: &mut W,
     ) -> Result<(), ScriptFault>
-        requires { self.old.line.items ≡ [] }
-        ensures { OnOk result (IfSome (R.remaining reader.old) (λ text. (said : List ℕ)
-            × Appends (W.contents writer.old) (W.contents writer.new) said
-            × Runs (standing_of self.old.sessions hub.old) text said (standing_of self.new.sessions hub.new))) }
+        requires line { self.old.line.items ≡ [] }
+        requires first { self.old.number ≡ 1 }
+        ensures done { OnOk result (OfScript (λ script text. Runs (standing_of self.old.sessions hub.old) script text (standing_of self.new.sessions hub.new))
+            (R.remaining reader.old) (W.contents writer.old) (W.contents writer.new)) }
+        ensures stopped { IfErr result (λ fault. StopsBy fault (standing_of self.old.sessions hub.old) (R.remaining reader.old) (R.remaining reader.new)
+            (W.contents writer.old) (W.contents writer.new) hub.new) }
+        ensures reader { R.failures reader.new ≡ failures_read_in result (R.failures reader.old) }
+        ensures writer { W.failures writer.new ≡ failures_written_in result (W.failures writer.old) }
+        ensures reads { Asks result (R.reads reader.old) (R.reads reader.new) }
     {
         let mut piece = piece(self.alloc)?;
         'reads: for _ in 0..MOST_READS {
             // The next read may wait for someone who waits for these replies.
             flush(writer)?;
-            let count = read_some(reader, &mut piece)?;
+            let Ok(count) = reader.take(&mut piece) else {
+                return Err(ScriptFault::Read);
+            };
             if count == 0 {
-                return self.finish_line(hub, writer);
+                self.finish_line(hub, writer)?;
+                return Ok(());
             }
             self.take(hub, &piece[..count], writer)?;
         }
-        Err(ScriptFault::Read)
+        Err(ScriptFault::TooManyReads)
     }
 
-    // TakesPiece the next piece of the script, which may end any number of lines.
-    fn take<W: Write>(
+    // Takes the next piece of the script, which may end any number of lines.
+    fn take<W: TextOut>(
         &mut self,
         hub: &mut Hub,
         piece: &[u8],
         writer: &mut W,
     ) -> Result<(), ScriptFault>
-        ensures { OnOk result ((said : List ℕ) × Appends (W.contents writer.old) (W.contents writer.new) said
-            × TakesPiece (standing_of self.old.sessions hub.old) self.old.line.items piece.now said (standing_of self.new.sessions hub.new) self.new.line.items) }
+        requires line { HasNoLf self.old.line.items }
+        requires numbers { self.old.number + length piece.now < 2 ^ 64 }
+        ensures line { OnOk result (HasNoLf self.new.line.items) }
+        ensures done { OnOk result ((said : List ℕ) × Appends (W.contents writer.old) (W.contents writer.new) said
+            × (takes : Takes (standing_of self.old.sessions hub.old) self.old.line.items piece.now said (standing_of self.new.sessions hub.new) self.new.line.items)
+            × (self.new.number ≡ self.old.number + length takes.lines)) }
+        ensures stopped { IfErr result (λ fault. (said : List ℕ) × Appends (W.contents writer.old) (W.contents writer.new) said
+            × StopsIn fault (standing_of self.old.sessions hub.old) self.old.number self.old.line.items piece.now said hub.new) }
+        ensures reader { (n : ℕ) → failures_read_in result n ≡ n }
+        ensures writer { W.failures writer.new ≡ failures_written_in result (W.failures writer.old) }
     {
         let mut rest = piece;
         'lines: while let Some((end, behind)) = line_end(rest) {
@@ -154,9 +196,10 @@ impl Progress {
 
     // Keeps what comes next of the line, where that isn't too much.
     fn keep(&mut self, part: &[u8]) -> Result<(), ScriptFault>
-        ensures kept { OnOk result (self.new ≡ record self.old { line = self.new.line }) }
+        ensures kept { self.new ≡ record self.old { line = self.new.line } }
         ensures line { OnOk result (self.new.line.items ≡ self.old.line.items ++ part.now) }
         ensures limit { (result ≡ Err (ScriptFault.BadLine self.old.number)) ↔ (131200 < length self.old.line.items + length part.now) }
+        ensures faults { IfErr result (λ fault. (fault ≡ ScriptFault.BadLine self.old.number) ⊎ (fault ≡ ScriptFault.NoMemory)) }
     {
         if self.line.len().saturating_add(part.len()) > LONGEST_LINE {
             return Err(self.bad_line());
@@ -172,17 +215,20 @@ impl Progress {
     }
 
     // Does the line that was read. At the script's end that is an empty one, where the last line has its LF.
-    fn finish_line<W: Write>(&mut self, hub: &mut Hub, writer: &mut W) -> Result<(), ScriptFault>
-        ensures next { OnOk result (self.new.line.items ≡ []) }
+    fn finish_line<W: TextOut>(&mut self, hub: &mut Hub, writer: &mut W) -> Result<(), ScriptFault>
+        requires { suc self.old.number < 2 ^ 64 }
+        ensures next { OnOk result ((self.new.line.items ≡ []) × (self.new.number ≡ suc self.old.number)) }
         ensures done { OnOk result ((said : List ℕ) × Appends (W.contents writer.old) (W.contents writer.new) said
             × DoesLine (standing_of self.old.sessions hub.old) self.old.line.items said (standing_of self.new.sessions hub.new)) }
+        ensures stopped { IfErr result (λ fault. (part : List ℕ) × Appends (W.contents writer.old) (W.contents writer.new) part
+            × EndsAt fault (standing_of self.old.sessions hub.old) self.old.number self.old.line.items part hub.new) }
+        ensures reader { (n : ℕ) → failures_read_in result n ≡ n }
+        ensures writer { W.failures writer.new ≡ failures_written_in result (W.failures writer.old) }
     {
         let text = self.do_line(hub)?;
-        writer
-            .write_all(text.as_bytes())
-            .map_err(|_| ScriptFault::Write)?;
+        give_all(writer, text.as_bytes()).map_err(|_| ScriptFault::Write)?;
         self.line.clear();
-        self.number = self.number.saturating_add(1);
+        self.number += 1;
         Ok(())
     }
 
@@ -191,7 +237,8 @@ impl Progress {
         ensures kept { self.new ≡ record self.old { sessions = self.new.sessions } }
         ensures done { IfOk result (λ text.
             DoesLine (standing_of self.old.sessions hub.old) self.old.line.items (string_bytes text) (standing_of self.new.sessions hub.new)) }
-        ensures bad { (n : ℕ) → result ≡ Err (ScriptFault.BadLine n) → (n ≡ self.old.number) × IsBad self.old.line.items }
+        ensures stopped { IfErr result (λ fault. EndsAt fault (standing_of self.old.sessions hub.old) self.old.number self.old.line.items [] hub.new) }
+        ensures streams { (n : ℕ) → (failures_read_in result n ≡ n) × (failures_written_in result n ≡ n) }
     {
         match line(self.alloc, self.line.as_slice()) {
             Ok(Line::Skip) => Ok(String::new(self.alloc)),
@@ -207,7 +254,7 @@ impl Progress {
         ensures kept { self.new ≡ record self.old { sessions = self.new.sessions } }
         ensures done { IfOk result (λ text.
             Does (standing_of self.old.sessions hub.old) (Line.Bytes number bytes.now) (string_bytes text) (standing_of self.new.sessions hub.new)) }
-        ensures never_bad { (n : ℕ) → result ≡ Err (ScriptFault.BadLine n) → ⊥ }
+        ensures stopped { IfErr result (λ fault. StopsLine fault (standing_of self.old.sessions hub.old) (Line.Bytes number bytes.now) hub.new) }
     {
         let session = self.session(hub, number)?;
         if session.is_closed {
@@ -231,7 +278,7 @@ impl Progress {
         ensures kept { self.new ≡ record self.old { sessions = self.new.sessions } }
         ensures done { IfOk result (λ text.
             Does (standing_of self.old.sessions hub.old) (Line.End number) (string_bytes text) (standing_of self.new.sessions hub.new)) }
-        ensures never_bad { (n : ℕ) → result ≡ Err (ScriptFault.BadLine n) → ⊥ }
+        ensures stopped { IfErr result (λ fault. StopsLine fault (standing_of self.old.sessions hub.old) (Line.End number) hub.new) }
     {
         let session = self.session(hub, number)?;
         let unfinished = hub.end(session.id);
@@ -245,8 +292,7 @@ impl Progress {
         ensures kept { self.new ≡ record self.old { sessions = self.new.sessions } }
         ensures found { IfOk result (λ session.
             Finds (standing_of self.old.sessions hub.old) number session (standing_of self.new.sessions hub.new)) }
-        ensures full { result ≡ Err ScriptFault.Sessions → Opens hub.old (Err HubFault.TooManySessions) hub.new }
-        ensures never_bad { (n : ℕ) → result ≡ Err (ScriptFault.BadLine n) → ⊥ }
+        ensures refused { IfErr result (λ fault. OpensNone fault (standing_of self.old.sessions hub.old) number hub.new) }
     {
         if let Some(session) = self.sessions.get(number) {
             return Ok(session);
@@ -260,18 +306,10 @@ impl Progress {
     }
 }
 
-// Puts the next bytes of a script at the front of the piece, and answers how many they are: none at its end.
-fn read_some<R: Read>(reader: &mut R, piece: &mut [u8]) -> Result<usize, ScriptFault>
-    requires { 0 < length piece.old }
-    ensures few { IfOk result (λ count. count ≤ length piece.new) }
-    ensures bytes { IfOk result (λ count. Consumes (R.remaining reader.old) (R.remaining reader.new) (take count piece.new)) }
-    ensures end { IfOk result (λ count. count ≡ 0 → IsAtEnd (R.remaining reader.new)) }
-{
-    reader.read(piece).map_err(|_| ScriptFault::Read)
-}
-
-fn flush<W: Write>(writer: &mut W) -> Result<(), ScriptFault>
-    ensures { OnOk result (Keeps (W.contents writer.old) (W.contents writer.new)) }
+fn flush<W: TextOut>(writer: &mut W) -> Result<(), ScriptFault>
+    ensures kept { Keeps (W.contents writer.old) (W.contents writer.new) }
+    ensures fault { IfErr result (λ fault. fault ≡ ScriptFault.Write) }
+    ensures failures { W.failures writer.new ≡ failures_behind result (W.failures writer.old) }
 {
     writer.flush().map_err(|_| ScriptFault::Write)
 }

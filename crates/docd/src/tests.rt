@@ -10,6 +10,7 @@ mod words;
 use crate::line::{LONGEST_LINE, line};
 use crate::said::LineFault;
 use crate::script::{ScriptFault, script};
+use crate::streams::{CountedReader, CountedWriter};
 use dv_wire::{Hub, Store};
 use fakes::{Dropping, Narrow};
 use std::io::Read;
@@ -53,7 +54,12 @@ fn assert_script<R: Read>(
 ) -> Result<(), Fail> {
     let mut hub = Hub::new(rt.alloc(), Store::new(rt.alloc()));
     let mut written = Vec::new(rt.alloc());
-    let done = script(rt.alloc(), &mut hub, reader, &mut written);
+    let done = script(
+        rt.alloc(),
+        &mut hub,
+        &mut CountedReader::of(reader),
+        &mut CountedWriter::of(&mut written),
+    );
     assert_eq!(rt; done, want, "{output}");
     assert_eq!(rt; written.as_slice(), output.as_bytes(), "{output}");
     Ok(())
@@ -96,8 +102,8 @@ fn tells_a_writer_that_fails(rt: HostRuntime) -> Result<(), Fail> {
         let done = script(
             rt.alloc(),
             &mut hub,
-            &mut b"0 end\n".as_slice(),
-            &mut writer,
+            &mut CountedReader::of(b"0 end\n".as_slice()),
+            &mut CountedWriter::of(&mut writer),
         );
         let want = if failing <= 11 {
             Err(ScriptFault::Write)
@@ -119,8 +125,8 @@ fn tells_a_hub_that_opens_nothing(rt: HostRuntime) -> Result<(), Fail> {
     let done = script(
         rt.alloc(),
         &mut hub,
-        &mut b"0 end\n".as_slice(),
-        &mut written,
+        &mut CountedReader::of(b"0 end\n".as_slice()),
+        &mut CountedWriter::of(&mut written),
     );
     assert_eq!(rt; done, Err(ScriptFault::Sessions));
     assert!(rt; written.is_empty());

@@ -1,4 +1,5 @@
 mod Sessions
+mod Asking
 mod Bytes
 mod Rows
 mod Frames

@@ -8,7 +8,7 @@ use Rattle.dv_wire.specs.declared.hub.SessionId.{SessionId}
 use Rattle.dv_wire.specs.declared.service.Done.{Done}
 use Rattle.dv_wire.specs.Message.{Conversation, reading, closed}
 use Rattle.dv_wire.specs.Schedule.{Run, World, Opens, Hears, bytes_of, end, unfinished_in, world_behind}
-use Rattle.dv_wire.specs.Stream.{once_more}
+use Rattle.dv_wire.specs.Stream.{MoreBy, once_more}
 
 -- A session is opened, these bytes come from it, this is what its messages come to, and it ends. However its bytes are cut, the
 -- same may happen, so they stand here as one piece.
@@ -77,3 +77,15 @@ failures_written_in (Err Read) failures = failures
 failures_written_in (Err Write) failures = once_more failures
 failures_written_in (Err TooManyReads) failures = failures
 failures_written_in (Err (Hub fault)) failures = failures
+
+-- a reader is asked no more often than may be
+abbrev pub AsksFew : ℕ → ℕ → Type 0
+AsksFew old new = (reads : ℕ) × (reads ≤ most_reads) × MoreBy reads old new
+
+-- how often a reader is asked in a run: just as often as may be where too many reads are told, and never where no session is had
+abbrev pub Asks : {A : Type 0} → Result A RunFault → ℕ → ℕ → Type 0
+Asks (Ok done) old new = AsksFew old new
+Asks (Err Read) old new = AsksFew old new
+Asks (Err Write) old new = AsksFew old new
+Asks (Err TooManyReads) old new = MoreBy most_reads old new
+Asks (Err (Hub fault)) old new = MoreBy 0 old new

@@ -19,4 +19,4 @@ pub use events::{Event, Said};
 pub use fault::{CloseFault, HubFault, RunFault};
 pub use hub::{Fed, Hub, SessionId};
 pub use service::{Done, run};
-pub use stream::{ByteIn, ByteOut, Failed};
+pub use stream::{ByteIn, ByteOut, Failed, give_all};

@@ -12,13 +12,16 @@ pub struct Failed;
 pub trait ByteIn {
     ghost use Rattle.std.specs.Prelude.{◌≡◌, ◌≤◌, ◌<◌, ℕ, List, Option, length, take, IfOk, OnErr};
     ghost use Rattle.std.specs.Io.KnownBytes.{Consumes, IsAtEnd, Keeps};
-    ghost use Rattle.dv_wire.specs.Stream.{failures_read};
+    ghost use Rattle.dv_wire.specs.Stream.{MoreBy, failures_read};
 
     // The bytes that are still to come, where they are known.
     ghost remaining: { Self → Option (List ℕ) };
 
     // How often it has failed, as 64 bits count it.
     ghost failures: { Self → ℕ };
+
+    // How often it was asked for bytes, as 64 bits count it.
+    ghost reads: { Self → ℕ };
 
     /// Puts the next bytes at the front of the piece, and answers how many they are: 0 at the end of input alone. Fails
     /// where it can't tell; then no byte is lost.
@@ -28,7 +31,8 @@ pub trait ByteIn {
         ensures bytes { IfOk result (λ count. Consumes (remaining self.old) (remaining self.new) (take count piece.new)) }
         ensures end { IfOk result (λ count. count ≡ 0 → IsAtEnd (remaining self.new)) }
         ensures kept { OnErr result (Keeps (remaining self.old) (remaining self.new)) }
-        ensures failures { failures self.new ≡ failures_read result (failures self.old) };
+        ensures failures { failures self.new ≡ failures_read result (failures self.old) }
+        ensures reads { MoreBy 1 (reads self.old) (reads self.new) };
 }
 
 /// What bytes are written to.
@@ -53,7 +57,7 @@ pub trait ByteOut {
 }
 
 /// Writes all the bytes: where the writer takes less, the rest is given to it. Fails where the writer does.
-pub(crate) fn give_all<W: ByteOut>(writer: &mut W, bytes: &[u8]) -> Result<(), Failed>
+pub fn give_all<W: ByteOut>(writer: &mut W, bytes: &[u8]) -> Result<(), Failed>
     ensures all { OnOk result (Appends (W.contents writer.old) (W.contents writer.new) bytes.now) }
     ensures part { OnErr result ((part : List ℕ) × (rest : List ℕ) × (bytes.now ≡ part ++ rest) × Appends (W.contents writer.old) (W.contents writer.new) part) }
     ensures counted { OnOk result (W.failures writer.new ≡ W.failures writer.old) }

@@ -78,6 +78,7 @@ struct Clients<'a> {
     alloc: Global,
     all: &'a [(&'a [u8], usize)],
     next: usize,
+    closed: usize,
     failures: u64,
 }
 
@@ -89,6 +90,8 @@ impl<'a> Listener for Clients<'a> {
     type Output = CountedWriter<Vec<u8>>;
 
     ghost coming = { λ _. None };
+
+    ghost closed = { λ _. None };
 
     ghost failures = { λ s. s.failures };
 
@@ -102,6 +105,10 @@ impl<'a> Listener for Clients<'a> {
             CountedReader::of(Dropping::failing(bytes, failing)),
             CountedWriter::of(Vec::new(self.alloc)),
         ))
+    }
+
+    fn close(&mut self, _input: Self::Input, _output: Self::Output) {
+        self.closed = self.closed.saturating_add(1);
     }
 }
 
@@ -125,12 +132,14 @@ fn serves_behind_a_connection_that_was_closed_or_failed(rt: HostRuntime) -> Resu
             alloc,
             all: &clients,
             next: 0,
+            closed: 0,
             failures: 0,
         };
         let mut writer = CountedWriter::of(&mut written);
         let done = serve_on(alloc, &mut hub, &mut listener, connections, &mut writer);
         assert_eq!(rt; done, want);
         assert_eq!(rt; written.as_slice(), lines.as_bytes());
+        assert_eq!(rt; listener.closed, 4);
     }
     Ok(())
 }

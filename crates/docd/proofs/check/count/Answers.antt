@@ -43,6 +43,7 @@ returns-in-Err c =
           ];
       streams = c.of_document.ensures.streams;
       small = λ e. c.of_document.ensures.small cc;
+      read = λ e. c.of_document.ensures.read cc;
     }
 
 pub returns : goal.returns
@@ -55,4 +56,5 @@ returns c =
       refused = λ number at fault e. cc;
       streams = λ n. (refl, refl);
       small = λ e. cc;
+      read = λ e. cc;
     }

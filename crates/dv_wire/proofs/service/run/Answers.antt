@@ -1,6 +1,7 @@
 use Rattle.std.proofs.Common.{◌∙◌, refl}
 use Rattle.std.proofs.KnownBytes.{Keeps-refl}
 use Rattle.std.proofs.lemmas.Result.{err_from_is_err_and}
+use Rattle.dv_wire.proofs.Asking.{no_more}
 use Rattle.dv_wire.proofs.Ran.{ran_done, ran_fault}
 use Rattle.dv_wire.proofs.service.run.Goals as goal
 
@@ -65,3 +66,21 @@ returns-clause-reader g c = c.in_ok-counts.ensures.reader
 
 pub returns-clause-writer : goal.returns-clause-writer
 returns-clause-writer g c = c.in_ok-counts.ensures.writer
+
+pub returns-in_err-piece-clause-reads : goal.returns-in_err-piece-clause-reads
+returns-in_err-piece-clause-reads g c =
+    let p = err_from_is_err_and c.from_residual.result c.from_residual.ensures.1 in
+    rw (p.1, p.2) (no_more (g.R.ByteIn.reads c.args.reader.now))
+
+pub returns-in_err-session-clause-reads : goal.returns-in_err-session-clause-reads
+returns-in_err-session-clause-reads g c =
+    let p = err_from_is_err_and c.from_residual-in_err-session.result c.from_residual-in_err-session.ensures.1 in
+    rw (p.1, p.2) (no_more (g.R.ByteIn.reads c.args.reader.now))
+
+pub returns-in_err-counts-clause-reads : goal.returns-in_err-counts-clause-reads
+returns-in_err-counts-clause-reads g c =
+    let p = err_from_is_err_and c.from_residual-in_err-counts.result c.from_residual-in_err-counts.ensures.1 in
+    rw (p.1, p.2) c.in_err-counts.ensures.reads
+
+pub returns-clause-reads : goal.returns-clause-reads
+returns-clause-reads g c = c.in_ok-counts.ensures.reads

@@ -1,13 +1,14 @@
-use Rattle.std.proofs.Common.{◌∙◌, ◌++◌, ap, refl, subst, sym, take}
+use Rattle.std.proofs.Common.{◌∙◌, ◌++◌, ap, arith, refl, rules, subst, sym, take}
 use Rattle.std.specs.List.{concat}
 use Rattle.std.specs.Io.KnownBytes.{Consumes}
 use Rattle.dv_wire.specs.Stream.{once_more}
+use Rattle.dv_wire.proofs.Asking.{asks_few, asks_most, no_more, one_more}
 use Rattle.dv_wire.proofs.Talks.{at_closing, at_end, at_err, at_failure, at_limit, at_ok, at_part, begins, is_not_none, not_some, read_more, talks_on}
 use Rattle.dv_wire.proofs.service.serve.Goals as goal
 
 pub reads-init : goal.reads-init
 reads-init g c =
-    (begins c.args.session.number c.args.hub.now _ _ _ c.requires.there c.none-counts.ensures.messages c.none-counts.ensures.replies, c.new-replies.ensures.items, refl, refl)
+    (begins c.args.session.number c.args.hub.now _ _ _ c.requires.there c.none-counts.ensures.messages c.none-counts.ensures.replies, c.new-replies.ensures.items, refl, refl, no_more (g.R.ByteIn.reads c.args.reader.now))
 
 pub returns-in_default-clause-talked : goal.returns-in_default-clause-talked
 returns-in_default-clause-talked g c =
@@ -19,6 +20,10 @@ returns-in_default-clause-reader g c = c.in_default.ensures.failures ∙ ap once
 pub returns-in_default-clause-writer : goal.returns-in_default-clause-writer
 returns-in_default-clause-writer g c = c.reads.invariant.3
 
+pub returns-in_default-clause-reads : goal.returns-in_default-clause-reads
+returns-in_default-clause-reads g c =
+    asks_few c.reads.counter (g.R.ByteIn.reads c.args.reader.now) (g.R.ByteIn.reads c.reads.reader) (g.R.ByteIn.reads c.take.new.self) c.reads-test.true c.reads.invariant.4 c.in_default.ensures.reads
+
 pub returns-then-count-eq0-clause-talked : goal.returns-then-count-eq0-clause-talked
 returns-then-count-eq0-clause-talked g c =
     let none = subst (λ count. Consumes (g.R.ByteIn.remaining c.reads.reader) (g.R.ByteIn.remaining c.take.new.self) (take count c.take.new.piece)) c.if-count-eq0.true c.in-Ok.ensures.bytes in
@@ -29,6 +34,10 @@ returns-then-count-eq0-clause-reader g c = c.in-Ok.ensures.failures ∙ c.reads.
 
 pub returns-then-count-eq0-clause-writer : goal.returns-then-count-eq0-clause-writer
 returns-then-count-eq0-clause-writer g c = c.reads.invariant.3
+
+pub returns-then-count-eq0-clause-reads : goal.returns-then-count-eq0-clause-reads
+returns-then-count-eq0-clause-reads g c =
+    asks_few c.reads.counter (g.R.ByteIn.reads c.args.reader.now) (g.R.ByteIn.reads c.reads.reader) (g.R.ByteIn.reads c.take.new.self) c.reads-test.true c.reads.invariant.4 c.in-Ok.ensures.reads
 
 pub returns-then-is_err-clause-talked : goal.returns-then-is_err-clause-talked
 returns-then-is_err-clause-talked g c =
@@ -48,6 +57,10 @@ pub returns-then-is_err-clause-writer : goal.returns-then-is_err-clause-writer
 returns-then-is_err-clause-writer g c =
     at_err c.give_all.result _ (sym c.is_err.ensures.value ∙ c.if-is_err.true) c.give_all.ensures.failed ∙ ap once_more c.reads.invariant.3
 
+pub returns-then-is_err-clause-reads : goal.returns-then-is_err-clause-reads
+returns-then-is_err-clause-reads g c =
+    asks_few c.reads.counter (g.R.ByteIn.reads c.args.reader.now) (g.R.ByteIn.reads c.reads.reader) (g.R.ByteIn.reads c.take.new.self) c.reads-test.true c.reads.invariant.4 c.in-Ok.ensures.reads
+
 pub returns-then-is_some-clause-talked : goal.returns-then-is_some-clause-talked
 returns-then-is_some-clause-talked g c =
     let fed = c.feed_counted-fed.ensures in
@@ -66,6 +79,10 @@ returns-then-is_some-clause-reader g c = c.in-Ok.ensures.failures ∙ c.reads.in
 pub returns-then-is_some-clause-writer : goal.returns-then-is_some-clause-writer
 returns-then-is_some-clause-writer g c = at_ok c.give_all.result _ (sym c.is_err.ensures.value ∙ c.if-is_err.false) c.give_all.ensures.counted ∙ c.reads.invariant.3
 
+pub returns-then-is_some-clause-reads : goal.returns-then-is_some-clause-reads
+returns-then-is_some-clause-reads g c =
+    asks_few c.reads.counter (g.R.ByteIn.reads c.args.reader.now) (g.R.ByteIn.reads c.reads.reader) (g.R.ByteIn.reads c.take.new.self) c.reads-test.true c.reads.invariant.4 c.in-Ok.ensures.reads
+
 pub reads-preserved : goal.reads-preserved
 reads-preserved g c =
     let fed = c.feed_counted-fed.ensures in
@@ -80,6 +97,7 @@ reads-preserved g c =
       c.shrink_to.ensures.items ∙ c.clear.ensures.items,
       c.in-Ok.ensures.failures ∙ c.reads.invariant.2,
       at_ok c.give_all.result _ (sym c.is_err.ensures.value ∙ c.if-is_err.false) c.give_all.ensures.counted ∙ c.reads.invariant.3,
+      one_more c.reads.counter (g.R.ByteIn.reads c.args.reader.now) (g.R.ByteIn.reads c.reads.reader) (g.R.ByteIn.reads c.take.new.self) c.reads.invariant.4 c.in-Ok.ensures.reads,
     )
 
 pub returns-clause-talked : goal.returns-clause-talked
@@ -90,3 +108,7 @@ returns-clause-reader g c = c.reads.invariant.2
 
 pub returns-clause-writer : goal.returns-clause-writer
 returns-clause-writer g c = c.reads.invariant.3
+
+pub returns-clause-reads : goal.returns-clause-reads
+returns-clause-reads g c =
+    asks_most c.reads.counter (g.R.ByteIn.reads c.args.reader.now) (g.R.ByteIn.reads c.reads.reader) (search (rules, arith)) c.reads-test.false c.reads.invariant.4

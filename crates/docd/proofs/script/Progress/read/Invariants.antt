@@ -1,12 +1,15 @@
-use Rattle.std.proofs.Common.{◌<◌, ℕ, List, length}
-use Rattle.std.specs.Io.KnownBytes.{Appends, Consumes}
-use Rattle.docd.specs.Script.{TakesPiece, standing_of}
+use Rattle.std.proofs.Common.{◌≡◌, length}
+use Rattle.dv_wire.specs.Stream.{MoreBy}
+use Rattle.docd.specs.Script.{standing_of}
+use Rattle.docd.proofs.Scripts.{ReadSoFar}
 use Rattle.docd.proofs.script.Progress.read.Given as goal
 
--- what was read was taken
+-- what was read was taken, and nobody has failed
 abbrev pub invariant-reads : goal.invariant-reads
-invariant-reads g l = (front : List ℕ) × (said : List ℕ)
-    × Consumes (g.R.Read.remaining l.fn.reader) (g.R.Read.remaining l.reader) front
-    × Appends (g.W.Write.contents l.fn.writer) (g.W.Write.contents l.writer) said
-    × TakesPiece (standing_of l.fn.self.sessions l.fn.hub) l.fn.self.line.items front said (standing_of l.self.sessions l.hub) l.self.line.items
-    × (0 < length l.piece.items)
+invariant-reads g l =
+    ReadSoFar (standing_of l.fn.self.sessions l.fn.hub) l.counter (g.R.ByteIn.remaining l.fn.reader) (g.R.ByteIn.remaining l.reader) (g.W.ByteOut.contents l.fn.writer) (g.W.ByteOut.contents l.writer)
+    (standing_of l.self.sessions l.hub) l.self.number l.self.line.items
+    × (length l.piece.items ≡ 65536)
+    × (g.R.ByteIn.failures l.reader ≡ g.R.ByteIn.failures l.fn.reader)
+    × (g.W.ByteOut.failures l.writer ≡ g.W.ByteOut.failures l.fn.writer)
+    × MoreBy l.counter (g.R.ByteIn.reads l.fn.reader) (g.R.ByteIn.reads l.reader)
