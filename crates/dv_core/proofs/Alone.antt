@@ -10,7 +10,8 @@ use Rattle.dv_coll.specs.Collection.{found, id_key}
 use Rattle.dv_command.specs.Asked.{Asked, Insert, insert, asked_by}
 use Rattle.dv_command.specs.Replies.{document_of, refusal_reply, write_error, write_reply}
 use Rattle.dv_command.specs.declared.command.Command.{Command}
-use Rattle.dv_fields.specs.Namespaces.{has_dot, is_collection_name, is_database_name, longest_namespace, namespace}
+use Rattle.dv_path.specs.Names.{has_dot}
+use Rattle.dv_fields.specs.Namespaces.{is_collection_name, is_database_name, longest_namespace, namespace}
 use Rattle.dv_fields.specs.Namespaces as names
 use Rattle.dv_fields.specs.Refusals.{◌>>=◌}
 use Rattle.dv_fields.specs.declared.refusal.Refusal.{Refusal}

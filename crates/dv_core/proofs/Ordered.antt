@@ -33,7 +33,8 @@ use Rattle.dv_catalog.specs.State.{documents_of, is_view, AreOrdered, IsOrdered}
 use Rattle.dv_core.specs.State.{State, empty_state}
 use Rattle.dv_core.specs.Statements.{Write}
 use Rattle.dv_core.specs.Step.{write_of, MemoryStep}
-use Rattle.dv_core.specs.Storable.{are_fields_dotted, has_dollar, id_in, is_within_limits, storable, with_id_first, without_field}
+use Rattle.dv_path.specs.Names.{has_bad_name}
+use Rattle.dv_core.specs.Storable.{id_in, is_within_limits, storable, with_id_first, without_field}
 use Rattle.dv_core.proofs.Asking.{AsksSoundly, soundly_asked}
 use Rattle.dv_catalog.specs.StateLaws.{documents_there}
 use Rattle.dv_core.proofs.Kept.{Keeps, apply_holds, insert_keeps, updates_keep, deletes_keep, step_holds}
@@ -83,7 +84,7 @@ within_limits (Err refusal) h = tt
 stored_id : (d stored : List Field) → storable d ≡ Ok stored → HasId stored
 stored_id d stored is =
     subst GivesId is
-    (within_limits (with_id_first d) (first_with_id (has_dollar d || are_fields_dotted (fields_of d)) _ (id_given (codes "_id") refl (value_under (codes "_id") d) (without_field (codes "_id") d))))
+    (within_limits (with_id_first d) (first_with_id (has_bad_name d) _ (id_given (codes "_id") refl (value_under (codes "_id") d) (without_field (codes "_id") d))))
 
 -- ---- what becomes of a document that is updated begins with its `_id`
 

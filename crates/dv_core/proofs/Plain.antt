@@ -29,7 +29,8 @@ use Rattle.dv_core.specs.Delete.{delete_one}
 use Rattle.dv_core.specs.Insert.{insert_one}
 use Rattle.dv_core.specs.Update.{update_one}
 use Rattle.dv_catalog.specs.Scan.{matching}
-use Rattle.dv_core.specs.Storable.{are_fields_dotted, has_dollar, without_field, id_in, is_within_limits, with_id_first, storable}
+use Rattle.dv_path.specs.Names.{has_bad_name}
+use Rattle.dv_core.specs.Storable.{without_field, id_in, is_within_limits, with_id_first, storable}
 
 -- a refusal of a statement, which tells of no fault in bytes
 abbrev pub IsPlain : Refusal → Type 0
@@ -220,7 +221,7 @@ id_plainly (Some v) d = tt
 
 storable_plainly : (d : List Field) → IsPlainly (storable d)
 storable_plainly d =
-    then_plainly (with_id_first d) _ (test_plainly (has_dollar d || are_fields_dotted (fields_of d)) (Err BadValue) _ tt (id_plainly (value_under (codes "_id") d) (without_field (codes "_id") d)))
+    then_plainly (with_id_first d) _ (test_plainly (has_bad_name d) (Err BadValue) _ tt (id_plainly (value_under (codes "_id") d) (without_field (codes "_id") d)))
     (λ stored. test_plainly (is_within_limits stored) (Ok stored) (Err TooLarge) tt tt)
 
 -- ---- statements

@@ -1,4 +1,4 @@
--- Names that are looked at from the front, and a document with one of its fields in front.
+-- A document with one of its fields in front.
 use Rattle.std.specs.Prelude.{◌≡◌, ℕ, ◌+◌, ◌≤◌, ◌<◌, ◌||◌, ◌&&◌, ◌↔◌, IsTrue, not, nat_lt, Bool, true, false, if◌then◌else◌, List, [], ◌∷◌, ◌++◌, length, map, drop, slice_get, slice_index_or, Option, Result, Ok, Err, Some, None, zero, suc, refl, codes}
 use Rattle.std.specs.Str.{bytes_eq}
 use Rattle.std.proofs.Common.{ap, sym, ◌∙◌, subst, arith, append_assoc, drop_of_length-le}
@@ -15,40 +15,16 @@ use Rattle.dv_core.proofs.Lists.{slice_get_seen, drop_item, drop_seen}
 use Rattle.dv_core.proofs.Spellings.{spelling-field}
 use Rattle.dv_bson.specs.Weight.{field_weighs_less, value_weighs_less}
 use Rattle.dv_bson.specs.Names.{begins_with_dollar}
-use Rattle.dv_fields.specs.Namespaces.{has_dot}
 use Rattle.dv_fields.specs.declared.refusal.Refusal.{Refusal}
 use Rattle.dv_fields.specs.declared.refusal.Refusal.TheVariants.{TooLarge}
 use Rattle.dv_fields.specs.Refusals.{◌>>=◌}
-use Rattle.dv_core.specs.Storable.{is_dotted, are_fields_dotted, are_elements_dotted, has_dollar, without_field, id_in, is_within_limits, with_id_first, storable}
-
--- ---- what is left from a place on
-
-pub are_fields_dotted-drop : (fs : List Field) (place : ℕ) (name : List ℕ) (value : Tree) → Some (name, value) ≡ slice_get fs place
-    → are_fields_dotted (fields_of (drop place fs)) ≡ (has_dot name || is_dotted value || are_fields_dotted (fields_of (drop (place + 1) fs)))
-are_fields_dotted-drop fs place name value here = ap (λ (rest : List Field). are_fields_dotted (fields_of rest)) (drop_item fs place (name, value) (sym here))
-
-pub has_dollar-drop : (fs : List Field) (place : ℕ) (name : List ℕ) (value : Tree) → Some (name, value) ≡ slice_get fs place
-    → has_dollar (drop place fs) ≡ (begins_with_dollar name || has_dollar (drop (place + 1) fs))
-has_dollar-drop fs place name value here = ap has_dollar (drop_item fs place (name, value) (sym here))
+use Rattle.dv_core.specs.Storable.{without_field, id_in, is_within_limits, with_id_first, storable}
 
 -- past the last field nothing is left
 pub drop-none : (fs : List Field) (place : ℕ) → None ≡ slice_get fs place → drop place fs ≡ []
 drop-none [] place none = drop_of_length-le [] (omega arith)
 drop-none (f ∷ fs) zero none = absurd cc
 drop-none (f ∷ fs) (suc place) none = drop-none fs place none
-
-pub are_elements_dotted-drop : (values : List Value) (vs : List Tree) (place : ℕ) (value : Value) → map tree values ≡ vs → place < length values → value ≡ slice_index_or values place value
-    → are_elements_dotted (elements_of (drop place vs)) ≡ (is_dotted (tree value) || are_elements_dotted (elements_of (drop (place + 1) vs)))
-are_elements_dotted-drop values vs place value seen within is =
-    ap (λ (rest : List Tree). are_elements_dotted (elements_of rest)) (drop_item vs place (tree value) (slice_get_seen tree values vs place value seen within is))
-
-pub no_elements_left : (values : List Value) (vs : List Tree) (place : ℕ) → map tree values ≡ vs → length values ≤ place → are_elements_dotted (elements_of (drop place vs)) ≡ false
-no_elements_left values vs place seen past = ap (λ (rest : List Tree). are_elements_dotted (elements_of rest)) (drop_seen tree values vs place seen past)
-
--- for loops over fields, and over elements
-pub ruleset fields_left = (are_fields_dotted-drop, has_dollar-drop, drop-none, drop_of_length-le, field_weighs_less)
-
-pub ruleset elements_left = (are_elements_dotted-drop, no_elements_left, value_weighs_less)
 
 -- ---- a document without one of its fields
 

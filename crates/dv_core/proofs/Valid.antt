@@ -8,7 +8,8 @@ use Rattle.dv_bson.specs.Tree.{Tree, array, Field, fields_of, list_of_fields}
 use Rattle.dv_fields.specs.Refusals.{◌>>=◌}
 use Rattle.dv_fields.specs.declared.refusal.Refusal.{Refusal}
 use Rattle.dv_fields.specs.declared.refusal.Refusal.TheVariants.{BadValue, TooLarge}
-use Rattle.dv_core.specs.Storable.{are_fields_dotted, has_dollar, without_field, id_in, is_within_limits, with_id_first, storable}
+use Rattle.dv_path.specs.Names.{has_bad_name}
+use Rattle.dv_core.specs.Storable.{without_field, id_in, is_within_limits, with_id_first, storable}
 use Rattle.dv_core.proofs.Stored.{has_name-without_field, without_field-gone}
 use Rattle.dv_core.proofs.Texts.{IsUtf8-ascii}
 
@@ -60,4 +61,4 @@ limited_valid d stored (Err refusal) valid is = absurd cc
 
 pub storable_valid : (d stored : List Field) → AreFields (fields_of d) → storable d ≡ Ok stored → AreFields (fields_of stored)
 storable_valid d stored valid is =
-    limited_valid d stored (with_id_first d) (λ e first. named_valid d e (has_dollar d || are_fields_dotted (fields_of d)) valid first) is
+    limited_valid d stored (with_id_first d) (λ e first. named_valid d e (has_bad_name d) valid first) is

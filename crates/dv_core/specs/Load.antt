@@ -6,7 +6,8 @@ use Rattle.dv_catalog.specs.Changes.{Effect, apply}
 use Rattle.dv_catalog.specs.State.{documents_of, is_view}
 use Rattle.dv_core.specs.Insert.{insert_one}
 use Rattle.dv_core.specs.State.{State}
-use Rattle.dv_fields.specs.Namespaces.{has_dot, is_database_name, namespace}
+use Rattle.dv_path.specs.Names.{has_dot}
+use Rattle.dv_fields.specs.Namespaces.{is_database_name, namespace}
 use Rattle.dv_fields.specs.Refusals.{◌>>=◌, code}
 use Rattle.dv_fields.specs.declared.refusal.Refusal.{Refusal}
 use Rattle.dv_fields.specs.declared.refusal.Refusal.TheVariants.{BadValue, OnView, WantOfMemory}

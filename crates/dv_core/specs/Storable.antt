@@ -7,29 +7,8 @@ use Rattle.dv_bson.specs.Names.{value_under}
 use Rattle.dv_bson.specs.Spelling.{spelling, levels}
 use Rattle.dv_fields.specs.declared.refusal.Refusal.{Refusal}
 use Rattle.dv_fields.specs.declared.refusal.Refusal.TheVariants.{BadValue, TooLarge}
-use Rattle.dv_bson.specs.Names.{begins_with_dollar}
-use Rattle.dv_fields.specs.Namespaces.{has_dot}
+use Rattle.dv_path.specs.Names.{has_bad_name}
 use Rattle.dv_fields.specs.Refusals.{◌>>=◌}
-
--- whether a dot stands in a name, at any level
-abbrev mutual
-  pub is_dotted : Tree → Bool
-  is_dotted (document fs) = are_fields_dotted fs
-  is_dotted (array vs) = are_elements_dotted vs
-  is_dotted v = false
-
-  pub are_fields_dotted : Fields → Bool
-  are_fields_dotted no_fields = false
-  are_fields_dotted (field name value fs) = has_dot name || is_dotted value || are_fields_dotted fs
-
-  pub are_elements_dotted : Elements → Bool
-  are_elements_dotted no_elements = false
-  are_elements_dotted (element v vs) = is_dotted v || are_elements_dotted vs
-
--- whether a name begins with a dollar sign, at the top level
-abbrev pub has_dollar : List Field → Bool
-has_dollar [] = false
-has_dollar (f ∷ fs) = begins_with_dollar f.0 || has_dollar fs
 
 abbrev pub without_field : List ℕ → List Field → List Field
 without_field name [] = []
@@ -55,7 +34,7 @@ is_within_limits d = not (nat_lt document_limit (length (spelling d))) && not (n
 -- with `_id` in front; refused for its names, without `_id`, or with an array as `_id`
 abbrev pub with_id_first : List Field → Result (List Field) Refusal
 with_id_first d =
-    if has_dollar d || are_fields_dotted (fields_of d) then Err BadValue
+    if has_bad_name d then Err BadValue
     else id_in (value_under (codes "_id") d) >>= λ id. Ok ((codes "_id", id) ∷ without_field (codes "_id") d)
 
 -- a document as it is stored, or why it can't be: first for its names and `_id`, then for its size

@@ -2,16 +2,15 @@
 
 ghost use Rattle.std.specs.Prelude.{◌≡◌, ◌∷◌, Ok, Err, Some, IfOk, MatchResult, codes};
 ghost use Rattle.dv_bson.specs.Names.{value_under};
-ghost use Rattle.dv_bson.specs.Tree.{fields_of, elements_of};
 ghost use Rattle.dv_bson.specs.View.{tree};
 ghost use Rattle.dv_coll.specs.Collection.{HasId};
 ghost use Rattle.dv_core.specs.Storable as stored;
 ghost use Rattle.dv_fields.specs.Refusals.{UnlessWanting};
 
-use dv_bson::{Document, List, NoMemory, Value, begins_with_dollar, fits};
+use dv_bson::{Document, NoMemory, Value, fits};
 use dv_command::Refusal;
-use dv_command::namespaces::has_dot;
 use dv_command::replies::add;
+use dv_path::has_bad_name;
 use std::alloc::Global;
 
 /// The name of the field that a stored document begins with.
@@ -24,7 +23,7 @@ pub(crate) fn storable(alloc: Global, document: &Document) -> Result<Document, R
     ensures stored { UnlessWanting (λ d. d) (stored.storable document.now) result }
     ensures identified { IfOk result HasId }
 {
-    if has_dollar(document) || are_fields_dotted(document) {
+    if has_bad_name(document) {
         return Err(Refusal::BadValue);
     }
     let id = id_of(document)?;
@@ -33,63 +32,6 @@ pub(crate) fn storable(alloc: Global, document: &Document) -> Result<Document, R
         return Err(Refusal::TooLarge);
     }
     Ok(with_id_first(alloc, document, id)?)
-}
-
-/// Whether a name begins with a dollar sign, at the top level.
-#[tactic(auto, using(crate::proofs::Stored::fields_left))]
-fn has_dollar(document: &Document) -> bool
-    ensures { result ≡ stored.has_dollar document.now }
-{
-    'fields: for place in 0..document.len() {
-        let Some((name, _)) = document.entry(place) else {
-            break;
-        };
-        if begins_with_dollar(name) {
-            return true;
-        }
-    }
-    false
-}
-
-/// Whether a dot stands in a name, at any level of the value.
-#[cycle(dotted)]
-fn is_dotted(value: &Value) -> bool
-    ensures { result ≡ stored.is_dotted (tree value.now) }
-{
-    match value {
-        Value::Doc(document) => are_fields_dotted(document),
-        Value::Array(list) => are_elements_dotted(list),
-        _ => false,
-    }
-}
-
-#[cycle(dotted)]
-#[tactic(auto, using(crate::proofs::Stored::fields_left))]
-fn are_fields_dotted(document: &Document) -> bool
-    ensures { result ≡ stored.are_fields_dotted (fields_of document.now) }
-{
-    'fields: for place in 0..document.len() {
-        let Some((name, value)) = document.entry(place) else {
-            break;
-        };
-        if has_dot(name) || is_dotted(value) {
-            return true;
-        }
-    }
-    false
-}
-
-#[cycle(dotted)]
-#[tactic(auto, using(crate::proofs::Stored::elements_left))]
-fn are_elements_dotted(list: &List) -> bool
-    ensures { result ≡ stored.are_elements_dotted (elements_of list.now) }
-{
-    'elements: for value in list.as_slice() {
-        if is_dotted(value) {
-            return true;
-        }
-    }
-    false
 }
 
 /// The value under `_id`. Refused with `BadValue` where there is none or it is an array.

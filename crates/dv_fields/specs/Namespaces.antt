@@ -3,13 +3,9 @@
 use Rattle.std.specs.Prelude.{ℕ, false, ◌||◌, ◌&&◌, not, Bool, List, [], ◌∷◌, ◌++◌, Option, Some, None, Result, Ok, Err, codes, ◌==◌, nat_lt, length, if◌then◌else◌}
 use Rattle.dv_bson.specs.Tree.{Tree, string, Field}
 use Rattle.dv_bson.specs.Names.{begins_with_dollar, value_under, has_zero}
+use Rattle.dv_path.specs.Names.{has_dot}
 use Rattle.dv_fields.specs.declared.refusal.Refusal.{Refusal}
 use Rattle.dv_fields.specs.declared.refusal.Refusal.TheVariants.{BadValue, FailedToParse, TypeMismatch}
-
--- a dot is 46
-abbrev pub has_dot : List ℕ → Bool
-has_dot [] = false
-has_dot (b ∷ bs) = b == 46 || has_dot bs
 
 -- not empty, without a dot and without a zero byte
 abbrev pub is_database_name : List ℕ → Bool

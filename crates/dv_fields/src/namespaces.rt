@@ -7,6 +7,7 @@ ghost use Rattle.dv_fields.specs.Refusals.{UnlessWanting};
 
 use crate::refusal::Refusal;
 use dv_bson::{Document, Value, begins_with_dollar};
+use dv_path::has_dot;
 use std::alloc::Global;
 
 /// How many bytes a namespace may have.
@@ -27,13 +28,6 @@ pub fn database(body: &Document) -> Result<&str, Refusal>
         }
         Some(_) => Err(Refusal::TypeMismatch),
     }
-}
-
-/// Whether a dot stands in the name.
-pub fn has_dot(name: &str) -> bool
-    ensures { result ≡ names.has_dot name.now }
-{
-    name.as_bytes().contains(&b'.')
 }
 
 /// Whether the name is not empty, without a dot and without a zero byte.

@@ -19,7 +19,8 @@ use Rattle.dv_path.specs.Candidates.{Candidate}
 use Rattle.dv_path.specs.Path.{path_of}
 use Rattle.dv_row.specs.declared.fault.PipelineFault.{PipelineFault}
 use Rattle.dv_row.specs.declared.fault.PipelineFault.TheVariants.{BadSpec}
-use Rattle.dv_row.specs.ExpressionParsing.{expression_in, has_dot}
+use Rattle.dv_path.specs.Names.{has_dot}
+use Rattle.dv_row.specs.ExpressionParsing.{expression_in}
 use Rattle.dv_row.specs.Expressions.{Expression, value_of, with_field}
 use Rattle.dv_row.specs.Parsing.{◌>>=◌, each}
 use Rattle.dv_row.specs.Row.{Row}

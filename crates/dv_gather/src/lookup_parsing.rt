@@ -8,8 +8,8 @@ ghost use Rattle.dv_gather.specs.Lookups as defined;
 
 use crate::lookup::Lookup;
 use dv_bson::{Document, Str, Value, begins_with_dollar};
-use dv_path::Path;
-use dv_row::{PipelineFault, has_dot};
+use dv_path::{Path, has_dot};
+use dv_row::PipelineFault;
 use std::alloc::Global;
 
 impl Lookup {

@@ -1,8 +1,8 @@
 //! What holds of filters and of the documents that match them, each the contract of a function that does nothing.
 
 ghost use Rattle.std.specs.Prelude.{◌≡◌, ◌&&◌, ℕ, not, true, false, List, [], ◌∷◌, codes, Ok, Err, Some};
-ghost use Rattle.dv_bson.specs.Tree.{Tree, Field, document, fields_of, null};
-ghost use Rattle.dv_match.specs.declared.fault.FilterFault.TheVariants.{EmptyList, UnknownOperator};
+ghost use Rattle.dv_bson.specs.Tree.{Tree, Field, boolean, document, fields_of, null};
+ghost use Rattle.dv_match.specs.declared.fault.FilterFault.TheVariants.{BadPath, EmptyList, UnknownOperator};
 ghost use Rattle.dv_match.specs.Parsing.{filter_in};
 ghost use Rattle.dv_path.specs.Candidates.{Candidate, whole, leaves};
 ghost use Rattle.dv_match.specs.Examples.{answer, one, doc, list, int};
@@ -82,6 +82,11 @@ pub fn worked_examples()
     ensures all_of_none_first { answer (one (codes "a") (doc ((codes "$all", list []) ∷ []))) (one (codes "a") (list ((doc ((codes "b", int 1) ∷ [])) ∷ (doc ((codes "b", int 2) ∷ [])) ∷ []))) ≡ Ok false }
     ensures all_of_none_second { answer (one (codes "a") (doc ((codes "$all", list []) ∷ []))) (one (codes "a") (doc ((codes "b", int 2) ∷ []))) ≡ Ok false }
     ensures all_of_none_third { answer (one (codes "a") (doc ((codes "$all", list []) ∷ []))) (one (codes "a") (list (int 5 ∷ []))) ≡ Ok false }
+    ensures a_candidate_beside_missing { answer (one (codes "a.b") (doc ((codes "$exists", boolean true) ∷ []))) (one (codes "a") (list ((doc ((codes "b", int 1) ∷ [])) ∷ doc [] ∷ []))) ≡ Ok true }
+    ensures size_of_an_element { answer (one (codes "a") (doc ((codes "$size", int 1) ∷ []))) (one (codes "a") (list (list (int 1 ∷ []) ∷ list [] ∷ []))) ≡ Ok false }
+    ensures an_element_of_an_element { answer (one (codes "a") (doc ((codes "$elemMatch", (doc ((codes "$gt", int 4) ∷ []))) ∷ []))) (one (codes "a") (list (list (int 5 ∷ []) ∷ []))) ≡ Ok false }
+    ensures in_of_an_operator_list { answer (one (codes "a") (doc ((codes "$in", list (doc ((codes "$gt", int 1) ∷ []) ∷ [])) ∷ []))) [] ≡ Ok false }
+    ensures a_bad_path_before_a_bad_condition { filter_in (fields_of (one (codes "a..b") (doc ((codes "$add", int 1) ∷ [])))) ≡ Err BadPath }
     ensures and_of_none { filter_in (fields_of (one (codes "$and") (list []))) ≡ Err EmptyList }
     ensures another_name_among_operators { filter_in (fields_of (one (codes "a") (doc ((codes "$gt", int 1) ∷ (codes "b", int 2) ∷ [])))) ≡ Err UnknownOperator }
 {}

@@ -2,6 +2,7 @@ pub mod Asked
 pub mod Bits
 pub mod Folds
 pub mod Items
+pub mod Left
 pub mod Parsing
 pub mod Reach
 pub mod SpecParts

@@ -1,4 +1,5 @@
 pub mod Path
+pub mod Names
 pub mod Candidates
 pub mod View
 pub mod Fold

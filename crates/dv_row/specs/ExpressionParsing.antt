@@ -1,10 +1,11 @@
 -- Expressions from values: the form, or the first fault in written order (MongoDB manual, "Aggregation Expressions"). That numbers
 -- and booleans don't stand for themselves in a $project, and which fault is told, is this server's own.
-use Rattle.std.specs.Prelude.{ℕ, ◌==◌, ◌||◌, Bool, true, false, List, [], ◌∷◌, Option, Some, None, Result, Ok, Err, codes, if◌then◌else◌}
+use Rattle.std.specs.Prelude.{ℕ, ◌||◌, Bool, true, false, List, Option, Some, None, Result, Ok, Err, codes, if◌then◌else◌}
 use Rattle.std.specs.Str.{bytes_eq}
 use Rattle.dv_bson.specs.Tree.{Tree, int32, int64, string, boolean, document, array, Fields, no_fields, field}
 use Rattle.dv_bson.specs.Names.{begins_with_dollar}
 use Rattle.dv_match.specs.Parsing.{is_not_zero}
+use Rattle.dv_path.specs.Names.{has_dot}
 use Rattle.dv_row.specs.declared.fault.PipelineFault.{PipelineFault}
 use Rattle.dv_row.specs.declared.fault.PipelineFault.TheVariants.{BadSpec}
 use Rattle.dv_row.specs.Expressions.{Expression, at_path, constant, made, Computed, nothing, computed}
@@ -21,10 +22,6 @@ switch_in v = None
 abbrev pub literal_in : Fields → Option Tree
 literal_in (field name v no_fields) = if bytes_eq (codes "$literal") name then Some v else None
 literal_in fs = None
-
-abbrev pub has_dot : List ℕ → Bool
-has_dot [] = false
-has_dot (b ∷ bs) = b == 46 || has_dot bs
 
 -- a text behind a dollar sign is a path, and another stands for itself
 abbrev pub text_expression : List ℕ → Result Expression PipelineFault

@@ -10,7 +10,8 @@ use Rattle.dv_row.specs.declared.fault.PipelineFault.TheVariants.{BadSpec, Confl
 use Rattle.dv_row.specs.declared.project.Project.{Project}
 use Rattle.dv_row.specs.declared.project.Project.TheVariants.{Include, Exclude}
 use Rattle.dv_row.specs.Expressions.{Expression, computed_of}
-use Rattle.dv_row.specs.ExpressionParsing.{switch_in, has_dot, expression_in}
+use Rattle.dv_path.specs.Names.{has_dot}
+use Rattle.dv_row.specs.ExpressionParsing.{switch_in, expression_in}
 use Rattle.dv_row.specs.Parsing.{◌>>=◌}
 
 -- ---- members

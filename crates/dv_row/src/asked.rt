@@ -16,9 +16,9 @@ use crate::expr::{Computed, ComputedField, Expr};
 use crate::fault::PipelineFault;
 use crate::paths::Paths;
 use crate::project::Project;
-use crate::switch::{has_dot, switch_of};
+use crate::switch::switch_of;
 use dv_bson::{Document, NoMemory, Str, Value};
-use dv_path::{Component, Path};
+use dv_path::{Component, Path, has_dot};
 use std::alloc::Global;
 
 /// What the members ask: the paths that are included, those that are excluded, the fields that are computed.

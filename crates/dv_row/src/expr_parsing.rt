@@ -11,8 +11,9 @@ ghost use Rattle.dv_row.specs.ExpressionParsing as defined;
 use crate::expr::{Computed, ComputedField, Expr};
 use crate::fault::PipelineFault;
 use crate::field_path::field_path;
-use crate::switch::{has_dot, switch_of};
+use crate::switch::switch_of;
 use dv_bson::{Document, Str, Value, begins_with_dollar};
+use dv_path::has_dot;
 use std::alloc::Global;
 
 impl Expr {

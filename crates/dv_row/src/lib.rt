@@ -20,5 +20,4 @@ pub use fault::PipelineFault;
 pub use paths::Paths;
 pub use project::Project;
 pub use row_value::RowValue;
-pub use switch::has_dot;
 pub use unwind::Unwind;

@@ -1,4 +1,4 @@
-//! What stands for itself, and what switches a field on or off.
+//! What switches a field on or off.
 
 ghost use Rattle.std.specs.Prelude.{◌≡◌};
 ghost use Rattle.dv_bson.specs.View.{tree};
@@ -16,11 +16,4 @@ pub(crate) fn switch_of(value: &Value) -> Option<bool>
         Value::Int64(number) => Some(*number != 0),
         _ => None,
     }
-}
-
-/// Whether a dot stands in the name.
-pub fn has_dot(name: &str) -> bool
-    ensures { result ≡ defined.has_dot name.now }
-{
-    name.as_bytes().contains(&b'.')
 }

@@ -1,5 +1,5 @@
 -- What holds of updates.
-use Rattle.std.proofs.Common.{◌≡◌, ◌∙◌, ◌↔◌, ap, ap₂, sym, refl, List, [], ◌∷◌, ◌++◌, ℕ, ◌≤◌, Bool, true, false, ◌||◌, not, cond, nat_lt, length, Some, None, Result, Ok, Err, codes, arith, if◌then◌else◌}
+use Rattle.std.proofs.Common.{◌≡◌, ◌∙◌, ◌↔◌, ap, ap₂, sym, refl, List, [], ◌∷◌, ◌++◌, ℕ, ◌≤◌, ◌<◌, Bool, true, false, ◌||◌, not, cond, nat_lt, length, Some, None, Result, Ok, Err, codes, arith, if◌then◌else◌}
 use Rattle.std.specs.Cmp.{tied_itself}
 use Rattle.std.specs.Ordering.{is_gt, ordering_reverse}
 use Rattle.std.specs.declared.cmp.Ordering.{Ordering}
@@ -137,6 +137,51 @@ fitting update d after e =
     let size : length (spelling after) ≤ 16777216 = grind (arith, nat_tests, is.size) in
     let depth : levels (document (fields_of after)) ≤ 100 = grind (arith, nat_tests, is.depth) in
     record { size = size; depth = depth }
+
+-- what is said of a result by whether it keeps its `_id`, is too large and is too deep
+abbrev verdict : Bool → Bool → Bool → List Field → Result (List Field) UpdateFault
+verdict same large deep new = if not same then Err IdChanged else if large then Err TooLarge else if deep then Err TooDeep else Ok new
+
+none-told : (same large deep : Bool) (new : List Field) → same ≡ true → large ≡ false → deep ≡ false → verdict same large deep new ≡ Ok new
+none-told true false false new e f g = refl
+none-told true false true new e f g = cc
+none-told true true deep new e f g = cc
+none-told false large deep new e f g = cc
+
+id-told : (same large deep : Bool) (new : List Field) → same ≡ false → verdict same large deep new ≡ Err IdChanged
+id-told true large deep new e = cc
+id-told false large deep new e = refl
+
+size-told : (same large deep : Bool) (new : List Field) → same ≡ true → large ≡ true → verdict same large deep new ≡ Err TooLarge
+size-told true true deep new e f = refl
+size-told true false deep new e f = cc
+size-told false large deep new e f = cc
+
+depth-told : (same large deep : Bool) (new : List Field) → same ≡ true → large ≡ false → deep ≡ true → verdict same large deep new ≡ Err TooDeep
+depth-told true false true new e f g = refl
+depth-told true false false new e f g = cc
+depth-told true true deep new e f g = cc
+depth-told false large deep new e f g = cc
+
+pub kept : (update : Update) (d after : List Field) → changed update d ≡ Ok after → both_same (leading_id d) (leading_id after) ≡ true → Fits after → applied update d ≡ Ok after
+kept update d after e same fits =
+    let size : nat_lt document_limit (length (spelling after)) ≡ false = grind (arith, nat_tests, fits.size) in
+    let depth : nat_lt level_limit (levels (document (fields_of after))) ≡ false = grind (arith, nat_tests, fits.depth) in
+    ap (λ r. r >>= checked d) e ∙ none-told (both_same (leading_id d) (leading_id after)) (nat_lt document_limit (length (spelling after))) (nat_lt level_limit (levels (document (fields_of after)))) after same size depth
+
+pub changed_first : (update : Update) (d after : List Field) → changed update d ≡ Ok after → both_same (leading_id d) (leading_id after) ≡ false → applied update d ≡ Err IdChanged
+changed_first update d after e other = ap (λ r. r >>= checked d) e ∙ id-told (both_same (leading_id d) (leading_id after)) (nat_lt document_limit (length (spelling after))) (nat_lt level_limit (levels (document (fields_of after)))) after other
+
+pub size_next : (update : Update) (d after : List Field) → changed update d ≡ Ok after → both_same (leading_id d) (leading_id after) ≡ true → 16777216 < length (spelling after) → applied update d ≡ Err TooLarge
+size_next update d after e same above =
+    let large : nat_lt document_limit (length (spelling after)) ≡ true = grind (arith, nat_tests, above) in
+    ap (λ r. r >>= checked d) e ∙ size-told (both_same (leading_id d) (leading_id after)) (nat_lt document_limit (length (spelling after))) (nat_lt level_limit (levels (document (fields_of after)))) after same large
+
+pub depth_last : (update : Update) (d after : List Field) → changed update d ≡ Ok after → both_same (leading_id d) (leading_id after) ≡ true → length (spelling after) ≤ 16777216 → 100 < levels (document (fields_of after)) → applied update d ≡ Err TooDeep
+depth_last update d after e same within above =
+    let size : nat_lt document_limit (length (spelling after)) ≡ false = grind (arith, nat_tests, within) in
+    let deep : nat_lt level_limit (levels (document (fields_of after))) ≡ true = grind (arith, nat_tests, above) in
+    ap (λ r. r >>= checked d) e ∙ depth-told (both_same (leading_id d) (leading_id after)) (nat_lt document_limit (length (spelling after))) (nat_lt level_limit (levels (document (fields_of after)))) after same size deep
 
 begins-with : (v : Tree) (after : List Field) → both_same (Some v) (leading_id after) ≡ true → (rest : List Field) × (after ≡ (codes "_id", v) ∷ rest)
 begins-with v [] e = cc

@@ -1,7 +1,6 @@
 pub mod Gathered
 pub mod Items
 pub mod Lawful
-pub mod Left
 pub mod Lengths
 pub mod Made
 pub mod OneValue

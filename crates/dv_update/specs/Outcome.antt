@@ -46,6 +46,11 @@ abbrev pub stays : Outcome → Bool
 stays Same = true
 stays outcome = false
 
+-- it is told by the value under one name alone
+abbrev pub is_value : Outcome → Bool
+is_value (Value v) = true
+is_value outcome = false
+
 -- a document is told to stay where it is spelled as it was
 abbrev pub stays_so : List ℕ → List Field → Outcome → Bool
 stays_so name d outcome = same_fields (fields_of d) (fields_of (outcome_seen name d outcome))

@@ -6,6 +6,7 @@ use Rattle.std.specs.Str.{bytes_eq}
 use Rattle.std.specs.Ordering.{is_gt}
 use Rattle.dv_bson.specs.Names.{begins_with_dollar}
 use Rattle.dv_bson.specs.Tree.{Tree, int32, int64, document, array, Fields, no_fields, field, Elements, no_elements, element, Field, fields_of, list_of_fields, list_of_elements}
+use Rattle.dv_path.specs.Names.{has_bad_name}
 use Rattle.dv_path.specs.Path.{path_of}
 use Rattle.dv_match.specs.Filter.{Test}
 use Rattle.dv_match.specs.Parsing.{lists_operators, test_in}
@@ -129,29 +130,7 @@ in_order es = if has_conflict es then Err Conflict else Ok (operators (sorted es
 
 -- ---- replacements
 
--- a dot is 46
-abbrev pub has_dot : List ℕ → Bool
-has_dot name = list_any (λ b. b == 46) name
-
--- whether a dot stands in a name, at any level
-abbrev mutual
-  pub is_dotted : Tree → Bool
-  is_dotted (document fs) = are_fields_dotted fs
-  is_dotted (array vs) = are_elements_dotted vs
-  is_dotted v = false
-
-  pub are_fields_dotted : Fields → Bool
-  are_fields_dotted no_fields = false
-  are_fields_dotted (field name v fs) = has_dot name || is_dotted v || are_fields_dotted fs
-
-  pub are_elements_dotted : Elements → Bool
-  are_elements_dotted no_elements = false
-  are_elements_dotted (element v vs) = is_dotted v || are_elements_dotted vs
-
--- a replacement has no name that begins with a dollar sign at the top level, and none with a dot at any level
-abbrev pub has_bad_name : List Field → Bool
-has_bad_name fs = list_any (λ f. begins_with_dollar f.0) fs || are_fields_dotted (fields_of fs)
-
+-- no name begins with a dollar sign at the top level, and none holds a dot at any level
 abbrev pub replacement_of : List Field → Result Update UpdateFault
 replacement_of fs = if has_bad_name fs then Err BadName else Ok (replacement fs)
 

@@ -1,19 +1,19 @@
 //! What holds of updates, each the contract of a function that does nothing.
 
-ghost use Rattle.std.specs.Prelude.{◌≡◌, ◌↔◌, true, false, ℕ, List, [], ◌∷◌, ◌++◌, Ok, Err, codes};
+ghost use Rattle.std.specs.Prelude.{◌≡◌, ◌↔◌, ◌<◌, ◌≤◌, true, false, ℕ, List, [], ◌∷◌, ◌++◌, length, Ok, Err, codes};
 ghost use Rattle.std.specs.Ordering.{ordering_reverse};
 ghost use Rattle.std.specs.declared.cmp.Ordering.TheVariants.{Less, Equal};
-ghost use Rattle.dv_bson.specs.Spelling.{AreFields, Fits};
-ghost use Rattle.dv_bson.specs.Tree.{Tree, Field, fields_of, null};
+ghost use Rattle.dv_bson.specs.Spelling.{AreFields, Fits, levels, spelling};
+ghost use Rattle.dv_bson.specs.Tree.{Tree, Field, document, fields_of, null};
 ghost use Rattle.dv_path.specs.Slots.{slot, taken};
-ghost use Rattle.dv_update.specs.Apply.{Path, applied, edited, set_at};
+ghost use Rattle.dv_update.specs.Apply.{Path, applied, changed, edited, leading_id, set_at};
 ghost use Rattle.dv_update.specs.Examples.{doc, int, list, long, one, outcome, start, with_a};
 ghost use Rattle.dv_update.specs.Parsing.{conflicts, has_conflict, in_order, update_of};
 ghost use Rattle.dv_update.specs.PathOrder.{path_order};
 ghost use Rattle.dv_update.specs.Removals.{edited_removals_last};
-ghost use Rattle.dv_update.specs.Same.{is_same, same_fields};
+ghost use Rattle.dv_update.specs.Same.{both_same, is_same, same_fields};
 ghost use Rattle.dv_update.specs.Update.{Edit, Update};
-ghost use Rattle.dv_update.specs.declared.fault.UpdateFault.TheVariants.{BadName, BadOperand, Conflict, IdChanged, NotArray, NotNumber, NotViable, Overflow, UnknownOperator};
+ghost use Rattle.dv_update.specs.declared.fault.UpdateFault.TheVariants.{BadName, BadOperand, Conflict, IdChanged, NotArray, NotNumber, NotViable, Overflow, TooDeep, TooLarge, UnknownOperator};
 
 /// Any two paths compare, either way round alike; what stands before a path stands before all that come after it; and two
 /// paths stand beside each other exactly where they are one.
@@ -55,6 +55,15 @@ pub fn what_comes_out_fits()
     ensures { (update : Update) (d after : List Field) → applied update d ≡ Ok after → Fits after }
 {}
 
+/// What fits and keeps its `_id` is what the update makes; another `_id` is told before size, and size before levels.
+#[tactic(auto, using(crate::proofs::Lawful::kept, crate::proofs::Lawful::changed_first, crate::proofs::Lawful::size_next, crate::proofs::Lawful::depth_last))]
+pub fn results_are_refused_in_order()
+    ensures kept { (update : Update) (d after : List Field) → changed update d ≡ Ok after → both_same (leading_id d) (leading_id after) ≡ true → Fits after → applied update d ≡ Ok after }
+    ensures another_id { (update : Update) (d after : List Field) → changed update d ≡ Ok after → both_same (leading_id d) (leading_id after) ≡ false → applied update d ≡ Err IdChanged }
+    ensures too_large { (update : Update) (d after : List Field) → changed update d ≡ Ok after → both_same (leading_id d) (leading_id after) ≡ true → 16777216 < length (spelling after) → applied update d ≡ Err TooLarge }
+    ensures too_deep { (update : Update) (d after : List Field) → changed update d ≡ Ok after → both_same (leading_id d) (leading_id after) ≡ true → length (spelling after) ≤ 16777216 → 100 < levels (document (fields_of after)) → applied update d ≡ Err TooDeep }
+{}
+
 /// What an update makes of a valid document is valid, where the update's own document is.
 #[tactic(auto, using(crate::proofs::Sound::comes_out_valid))]
 pub fn what_comes_out_is_valid()
@@ -81,6 +90,10 @@ pub fn array_examples()
     ensures another_id { outcome (one (codes "$set") (codes "_id") (long 1)) start ≡ Err IdChanged }
     ensures replaced_with_another_id { outcome ((codes "_id", long 1) ∷ (codes "b", int 1) ∷ []) start ≡ Err IdChanged }
     ensures no_array { outcome (one (codes "$push") (codes "_id") (int 1)) start ≡ Err NotArray }
+    ensures null_is_no_array { outcome (one (codes "$push") (codes "v") (int 1)) ((codes "_id", int 1) ∷ (codes "v", null) ∷ []) ≡ Err NotArray }
+    ensures names_that_begin_alike { outcome ((codes "$set", doc ((codes "v", int 1) ∷ (codes "vw", int 2) ∷ [])) ∷ []) ((codes "_id", int 1) ∷ []) ≡ Ok ((codes "_id", int 1) ∷ (codes "v", int 1) ∷ (codes "vw", int 2) ∷ []) }
+    ensures a_dollar_inside { outcome (one (codes "$set") (codes "v$") (int 1)) ((codes "_id", int 1) ∷ []) ≡ Ok ((codes "_id", int 1) ∷ (codes "v$", int 1) ∷ []) }
+    ensures a_dollar_below { outcome ((codes "b", doc ((codes "$c", int 1) ∷ [])) ∷ []) ((codes "_id", int 1) ∷ []) ≡ Ok ((codes "_id", int 1) ∷ (codes "b", doc ((codes "$c", int 1) ∷ [])) ∷ []) }
 {}
 
 /// An element of an array is taken out where it passes a condition.
@@ -116,5 +129,8 @@ pub fn fault_examples()
     ensures each_beside_another { outcome (one (codes "$push") (codes "a") (doc ((codes "$each", list []) ∷ (codes "$slice", int 1) ∷ []))) start ≡ Err UnknownOperator }
     ensures each_of_no_array { outcome (one (codes "$push") (codes "a") (doc ((codes "$each", int 1) ∷ []))) start ≡ Err BadOperand }
     ensures no_condition { outcome (one (codes "$pull") (codes "a") (doc ((codes "$near", int 1) ∷ []))) start ≡ Err BadOperand }
+    ensures each_behind_another { outcome (one (codes "$push") (codes "a") (doc ((codes "$slice", int 1) ∷ (codes "$each", list []) ∷ []))) start ≡ Err UnknownOperator }
+    ensures an_operand_before_a_conflict { outcome ((codes "$set", doc ((codes "a", int 1) ∷ (codes "a.b", int 2) ∷ [])) ∷ (codes "$inc", doc ((codes "c", null) ∷ [])) ∷ []) start ≡ Err NotNumber }
+    ensures a_path_before_its_operand { outcome (one (codes "$inc") (codes "a..b") null) start ≡ Err BadName }
     ensures a_dot_in_a_replacement { outcome ((codes "b", doc ((codes "c.d", int 1) ∷ [])) ∷ []) start ≡ Err BadName }
 {}

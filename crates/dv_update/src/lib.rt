@@ -7,7 +7,6 @@ mod edits;
 mod fault;
 mod form;
 pub mod laws;
-mod names;
 mod number;
 mod operand;
 mod operator;

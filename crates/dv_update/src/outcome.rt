@@ -74,6 +74,7 @@ impl Update {
     pub fn whole_outcome(&self, alloc: Global, document: &Document) -> Result<Outcome, UpdateFault>
         ensures applied { Gives (λ outcome. defined.outcome_seen (defined.sole_name (update self.now)) document.now outcome) result (applied (update self.now) document.now) }
         ensures same { IfOk result (λ outcome. defined.stays outcome ≡ defined.stays_so (defined.sole_name (update self.now)) document.now outcome) }
+        ensures whole { IfOk result (λ outcome. defined.is_value outcome ≡ false) }
     {
         let after = self.apply(alloc, document)?;
         if same_documents(document, &after) {

@@ -15,12 +15,11 @@ ghost use Rattle.dv_update.specs.View.{edit};
 
 use crate::fault::UpdateFault;
 use crate::form::{Edit, Update};
-use crate::names::has_bad_name;
 use crate::operand::operation_of;
 use crate::operator::{Operator, operator_named};
 use crate::order::in_order;
 use dv_bson::{Document, Value, begins_with_dollar};
-use dv_path::Path;
+use dv_path::{Path, has_bad_name};
 use std::alloc::Global;
 
 impl Update {

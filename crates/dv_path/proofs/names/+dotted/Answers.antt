@@ -1,8 +1,8 @@
 use Rattle.std.proofs.Common.{arith}
 use Rattle.dv_bson.specs.View.{tree}
-use Rattle.dv_update.proofs.Left.{are_elements_dotted-drop, are_fields_dotted-drop}
-use Rattle.dv_update.proofs.names.+dotted.Goals as goal
-use Rattle.dv_update.proofs.names.+dotted.Goals.{are_fields_dotted-then-has_dot-via-then-has_dot, are_fields_dotted-then-has_dot-via-else-has_dot+then-is_dotted}
+use Rattle.dv_path.proofs.Left.{are_elements_dotted-drop, are_fields_dotted-drop}
+use Rattle.dv_path.proofs.names.+dotted.Goals as goal
+use Rattle.dv_path.proofs.names.+dotted.Goals.{are_fields_dotted-then-has_dot-via-then-has_dot, are_fields_dotted-then-has_dot-via-else-has_dot+then-is_dotted}
 
 pub are_elements_dotted-returns-then-is_dotted : goal.are_elements_dotted-returns-then-is_dotted
 are_elements_dotted-returns-then-is_dotted t c =

@@ -2,8 +2,8 @@
 use Rattle.std.proofs.Common.{◌≡◌, ◌+◌, ◌*◌, drop}
 use Rattle.dv_bson.specs.Tree.{weight, fields_of, fields_weight, elements_of, elements_weight}
 use Rattle.dv_bson.specs.View.{tree}
-use Rattle.dv_update.specs.Parsing.{are_fields_dotted, are_elements_dotted}
-use Rattle.dv_update.proofs.names.+dotted.Given as goal
+use Rattle.dv_path.specs.Names.{are_fields_dotted, are_elements_dotted}
+use Rattle.dv_path.proofs.names.+dotted.Given as goal
 
 abbrev pub decreases-is_dotted : goal.decreases-is_dotted
 decreases-is_dotted l = 2 * weight (tree l.value.now)

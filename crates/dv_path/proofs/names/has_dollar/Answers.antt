@@ -1,7 +1,7 @@
 use Rattle.std.proofs.Common.{arith}
 use Rattle.dv_bson.specs.View.{tree}
-use Rattle.dv_update.proofs.Left.{has_dollar-drop}
-use Rattle.dv_update.proofs.names.has_dollar.Goals as goal
+use Rattle.dv_path.proofs.Left.{has_dollar-drop}
+use Rattle.dv_path.proofs.names.has_dollar.Goals as goal
 
 pub fields-preserved : goal.fields-preserved
 fields-preserved c =

@@ -1,16 +1,16 @@
-//! The names of a replacement.
+//! Names that a path can't lead to.
 
 ghost use Rattle.std.specs.Prelude.{◌≡◌};
 ghost use Rattle.std.specs.List.{list_any};
 ghost use Rattle.dv_bson.specs.Names as names;
 ghost use Rattle.dv_bson.specs.Tree.{fields_of, elements_of};
 ghost use Rattle.dv_bson.specs.View.{tree};
-ghost use Rattle.dv_update.specs.Parsing as defined;
+ghost use Rattle.dv_path.specs.Names as defined;
 
 use dv_bson::{Document, List, Value, begins_with_dollar};
 
-/// Whether a name begins with a dollar sign at the top level, or holds a dot at any level.
-pub(crate) fn has_bad_name(document: &Document) -> bool
+/// Whether a name begins with a dollar sign at the top level, or holds a dot at any level. Takes no memory.
+pub fn has_bad_name(document: &Document) -> bool
     ensures { result ≡ defined.has_bad_name document.now }
 {
     has_dollar(document) || are_fields_dotted(document)
@@ -32,7 +32,8 @@ fn has_dollar(document: &Document) -> bool
     false
 }
 
-fn has_dot(name: &str) -> bool
+/// Whether a dot stands in the name. Takes no memory.
+pub fn has_dot(name: &str) -> bool
     ensures { result ≡ defined.has_dot name.now }
 {
     name.as_bytes().contains(&b'.')

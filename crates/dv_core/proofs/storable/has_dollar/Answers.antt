@@ -1,8 +1,0 @@
-use Rattle.std.proofs.Common.{arith}
-use Rattle.dv_bson.specs.View.{tree}
-use Rattle.dv_core.proofs.Stored.{has_dollar-drop}
-use Rattle.dv_core.proofs.storable.has_dollar.Goals as goal
-
-pub fields-preserved : goal.fields-preserved
-fields-preserved c =
-    grind (arith, has_dollar-drop c.args.document.now c.fields.place c.in-Some.name.now (tree c.in-Some.field-0-1.now) c.in-Some.ensures)
