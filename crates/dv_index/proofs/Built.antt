@@ -4,6 +4,7 @@ use Rattle.std.specs.List.{AllByRecursion, list_any}
 use Rattle.std.proofs.lemmas.List.{length-map}
 use Rattle.std.specs.Option.{option_map}
 use Rattle.std.specs.Str.{bytes_eq}
+use Rattle.std.proofs.lemmas.Slice.Eq.{bytes_eq-Decides}
 use Rattle.std.specs.declared.cmp.Ordering.TheVariants.{Less, Equal}
 use Rattle.std.specs.Ordering.{is_eq}
 use Rattle.dv_bson.specs.Tree.{Field}
@@ -14,6 +15,7 @@ use Rattle.dv_index.specs.Change.{AreIndexesOf}
 use Rattle.dv_index.specs.Index.{IndexForm, IndexTree, BeginsWithId, form_of, id_form}
 use Rattle.dv_index.specs.Indexed.{IndexedTree, is_dropped, with_documents, with_indexes, without_index}
 use Rattle.dv_index.specs.Keys.{is_leaf_key}
+use Rattle.dv_index.specs.Pairs.{has_pair}
 use Rattle.dv_index.specs.Search.{IsIndexOf, is_key_under}
 use Rattle.dv_index.proofs.Lists.{or-false, equal-from}
 use Rattle.dv_index.proofs.Picked.{Before, head-before, tail-ascends}
@@ -72,6 +74,19 @@ module _ (name : List ℕ) where
   kept-indexes (x ∷ xs) ds b h =
       subst (λ t. AreIndexesOf (cond t (x ∷ filter (λ y. not (is_dropped name (form_of y))) xs) (filter (λ y. not (is_dropped name (form_of y))) xs)) ds) (sym (id-stays x b)) (all-kept (λ y. IsIndexOf y ds) xs h)
 
+  -- one that is put behind others, none of which has its name, is all that goes
+  module _ (path : List (List ℕ)) (other : bytes_eq name id_form.name ≡ false) where
+    abbrev with-last : List IndexForm → List IndexForm
+    with-last xs = without_index name (xs ++ record { name = name; path = path } ∷ [])
+
+    pub last_dropped : (xs : List IndexForm) → list_any (λ x. bytes_eq x.name name) xs ≡ false → with-last xs ≡ xs
+    last_dropped [] fresh = ap (λ b. cond (not b) (record { name = name; path = path } ∷ []) []) (ap (λ b. b && not (bytes_eq name id_form.name)) ((bytes_eq-Decides name name).1 refl) ∙ ap not other)
+    last_dropped (x ∷ xs) fresh = at (bytes_eq x.name name) refl fresh (last_dropped xs)
+      where
+        at : (b : Bool) → bytes_eq x.name name ≡ b → b || list_any (λ y. bytes_eq y.name name) xs ≡ false → (list_any (λ y. bytes_eq y.name name) xs ≡ false → with-last xs ≡ xs) → with-last (x ∷ xs) ≡ x ∷ xs
+        at true e f rest = absurd cc
+        at false e f rest = ap (λ b. cond (not (b && not (bytes_eq x.name id_form.name))) (x ∷ with-last xs) (with-last xs)) e ∙ ap (λ ys. x ∷ ys) (rest f)
+
 pub first-begins : (xs : List IndexTree) → BeginsWithId xs → BeginsWithId (take 1 xs)
 first-begins [] b = absurd b
 first-begins (x ∷ xs) b = b
@@ -79,6 +94,14 @@ first-begins (x ∷ xs) b = b
 pub first-alone : (xs : List IndexTree) → BeginsWithId xs → map form_of (take 1 xs) ≡ id_form ∷ []
 first-alone [] b = absurd b
 first-alone (x ∷ xs) b = ap (λ f. f ∷ []) b
+
+pub none_dropped : (xs : List IndexForm) → without_index id_form.name xs ≡ xs
+none_dropped [] = refl
+none_dropped (x ∷ xs) = ap (λ b. cond (not b) (x ∷ without_index id_form.name xs) (without_index id_form.name xs)) (never (bytes_eq x.name id_form.name)) ∙ ap (λ ys. x ∷ ys) (none_dropped xs)
+  where
+    never : (b : Bool) → b && not b ≡ false
+    never true = refl
+    never false = refl
 
 -- ---- an index of all documents
 -- some of these documents has an `_id` and a key
@@ -97,6 +120,9 @@ some-has-found k id path (d ∷ ds) h = at (is_eq (key_order id (id_key d))) ref
     at : (b : Bool) → is_eq (key_order id (id_key d)) ≡ b → some-has k id path ds ≡ is_key_under k path (found id ds) → (b && is_leaf_key k path d) || some-has k id path ds ≡ is_key_under k path (cond b (Some d) (found id ds))
     at true e rest = ap (λ c. is_leaf_key k path d || c) (none-later k id (id_key d) path ds (equal-from (key_order id (id_key d)) e) (head-before d ds h)) ∙ or-false (is_leaf_key k path d)
     at false e rest = rest
+
+pub same_pairs : (x y : IndexTree) (ds : List (List Field)) → x.path ≡ y.path → IsIndexOf x ds → IsIndexOf y ds → (k id : KeyTree) → has_pair k id x.pairs ≡ has_pair k id y.pairs
+same_pairs x y ds same hx hy k id = hx.has k id ∙ ap (λ p. is_key_under k p (found id ds)) same ∙ sym (hy.has k id)
 
 -- ---- indexes of the same forms
 pub same-length : (xs ys : List IndexTree) → map form_of xs ≡ map form_of ys → length xs ≡ length ys

@@ -14,3 +14,4 @@ pub mod Sound
 pub mod Changed
 pub mod Copied
 pub mod PutIn
+pub mod Counted

@@ -7,7 +7,7 @@ use Rattle.dv_index.specs.Change.{AreIndexesOf, IsIndexAt}
 use Rattle.dv_index.specs.Index.{IndexForm, IndexTree, BeginsWithId, form_of, id_form}
 use Rattle.dv_index.specs.Search.{IsIndexOf}
 
-some-same : {X : Type 0} (x y : X) → Some x ≡ Some y → x ≡ y
+pub some-same : {X : Type 0} (x y : X) → Some x ≡ Some y → x ≡ y
 some-same x y e = cc
 
 behind : (xs : List IndexTree) (n : ℕ) (x : IndexTree) (ds : List (List Field)) → AllByRecursion (λ y. IsIndexOf y ds) xs → slice_get xs n ≡ Some x → IsIndexOf x ds

@@ -1,10 +1,11 @@
 -- A document that matches a filter has a leaf in the bounds of the plan that is chosen for it.
-use Rattle.std.proofs.Common.{◌≡◌, ◌∙◌, ◌⊎◌, inl, inr, ℕ, zero, suc, ◌+◌, ◌≤◌, arith, List, [], ◌∷◌, map, refl, ap, sym, Bool, true, false, cond, ◌&&◌, ◌||◌, ◌==◌, Option, Some, None, slice_get}
+use Rattle.std.proofs.Common.{◌≡◌, ◌∙◌, ◌↔◌, ◌⊎◌, inl, inr, ℕ, zero, suc, ◌+◌, ◌≤◌, arith, List, [], ◌∷◌, map, refl, ap, sym, Bool, true, false, cond, ◌&&◌, ◌||◌, ◌==◌, Option, Some, None, slice_get}
 use Rattle.std.specs.List.{AllByRecursion, flat_map, list_any, filter}
 use Rattle.std.specs.Prelude.{codes}
 use Rattle.std.specs.Option.{option_map, option_or}
 use Rattle.std.specs.Str.{bytes_eq}
 use Rattle.std.specs.Ordering.{is_eq}
+use Rattle.std.specs.declared.cmp.Ordering.TheVariants.{Equal}
 use Rattle.std.proofs.lemmas.Slice.Eq.{bytes_eq-Decides}
 use Rattle.std.proofs.lemmas.Bool.{or_left, or_right}
 use Rattle.std.proofs.lemmas.Cmp.{tied_itself}
@@ -24,8 +25,9 @@ use Rattle.dv_index.specs.Pairs.{has_pair}
 use Rattle.dv_index.specs.Index.{IndexTree}
 use Rattle.dv_index.specs.Choice.{is_point, is_bound, same_path, first_of, first_in, first_in_member, first_in_all, first_place, chosen}
 use Rattle.dv_index.proofs.Ends.{class-canon}
-use Rattle.dv_index.proofs.Lists.{or-false}
+use Rattle.dv_index.proofs.Lists.{equal-from, or-false}
 use Rattle.dv_index.proofs.Picked.{all-found}
+use Rattle.dv_index.proofs.Places.{path-at, some-same}
 use Rattle.dv_index.specs.Search.{is_within, has_within, stands_so, covers, IsIndexOf, is_key_under}
 
 both : (a b : Bool) → a && b ≡ true → (a ≡ true) × (b ≡ true)
@@ -35,9 +37,6 @@ both false b e = absurd cc
 either-or : {X : Type 0} (o p : Option X) (x : X) → option_or o p ≡ Some x → (o ≡ Some x) ⊎ (p ≡ Some x)
 either-or None p x e = inr e
 either-or (Some y) p x e = inl e
-
-some-same : {X : Type 0} (x y : X) → Some x ≡ Some y → x ≡ y
-some-same x y e = cc
 
 one-path : (p q : List (List ℕ)) → same_path p q ≡ true → p ≡ q
 one-path [] [] e = refl
@@ -96,21 +95,21 @@ mutual
 abbrev SamePlan : ℕ → Condition → ℕ → Condition → Type 0
 SamePlan n x m c = let p : ℕ × Condition = (n, x) in let q : ℕ × Condition = (m, c) in p ≡ q
 
+-- a place counted on from n is that of a path, under which the condition stands
+abbrev Placed : (Condition → Bool) → Members → ℕ → List (List (List ℕ)) → ℕ → Condition → Type 0
+Placed test ms n ps m c = (j : ℕ) × (m ≡ n + j) × (path : List (List ℕ)) × (slice_get ps j ≡ Some path) × (first_in test path ms ≡ Some c)
+
 first-or-later : (test : Condition → Bool) (ms : Members) (n : ℕ) (p : List (List ℕ)) (ps : List (List (List ℕ))) (m : ℕ) (c : Condition) (o : Option Condition) → first_in test p ms ≡ o → option_or (option_map (λ x. (n, x)) o) (first_place test ms (suc n) ps) ≡ Some (m, c) → ((n ≡ m) × (first_in test p ms ≡ Some c)) ⊎ (first_place test ms (suc n) ps ≡ Some (m, c))
 first-or-later test ms n p ps m c None is e = inr e
 first-or-later test ms n p ps m c (Some x) is e = let pair : SamePlan n x m c = some-same (n, x) (m, c) e in inl (ap (λ (q : ℕ × Condition). q.0) pair, is ∙ ap (λ (q : ℕ × Condition). Some q.1) pair)
 
-from-place : (test : Condition → Bool) (ms : Members) (n : ℕ) (ps : List (List (List ℕ))) (m : ℕ) (c : Condition) → first_place test ms n ps ≡ Some (m, c) → n ≤ m
-from-place test ms n [] m c e = absurd cc
-from-place test ms n (p ∷ ps) m c e =
-    elim (first-or-later test ms n p ps m c (first_in test p ms) refl e) [ inl here ↦ let same = here.0 in omega arith | inr later ↦ let above = from-place test ms (suc n) ps m c later in omega arith ]
-
-at-place : (test : Condition → Bool) (ms : Members) (n : ℕ) (ps : List (List (List ℕ))) (m : ℕ) (c : Condition) → first_place test ms n ps ≡ Some (m, c) → (j : ℕ) (path : List (List ℕ)) → m ≡ n + j → slice_get ps j ≡ Some path → first_in test path ms ≡ Some c
-at-place test ms n [] m c e j path is there = absurd cc
-at-place test ms n (p ∷ ps) m c e zero path is there =
-    elim (first-or-later test ms n p ps m c (first_in test p ms) refl e) [ inl here ↦ (let same : p ≡ path = cc in ap (λ q. first_in test q ms) (sym same) ∙ here.1) | inr later ↦ absurd (let above = from-place test ms (suc n) ps m c later in omega arith) ]
-at-place test ms n (p ∷ ps) m c e (suc j) path is there =
-    elim (first-or-later test ms n p ps m c (first_in test p ms) refl e) [ inl here ↦ absurd (let same = here.0 in omega arith) | inr later ↦ at-place test ms (suc n) ps m c later j path (omega arith) there ]
+placed : (test : Condition → Bool) (ms : Members) (n : ℕ) (ps : List (List (List ℕ))) (m : ℕ) (c : Condition) → first_place test ms n ps ≡ Some (m, c) → Placed test ms n ps m c
+placed test ms n [] m c e = absurd cc
+placed test ms n (p ∷ ps) m c e =
+    elim (first-or-later test ms n p ps m c (first_in test p ms) refl e) [ inl here ↦ (0, (let same = here.0 in omega arith), p, refl, here.1) | inr later ↦ behind (placed test ms (suc n) ps m c later) ]
+  where
+    behind : Placed test ms (suc n) ps m c → Placed test ms n (p ∷ ps) m c
+    behind h = (suc h.0, (let is = h.1 in omega arith), h.2, h.3, h.4)
 
 met-point : (c : Condition) (path : List (List ℕ)) (d : List Field) → is_point c ≡ true → meets c (whole d path) (leaves d path) ≡ true → has_within c path d ≡ true
 unfolding meets has_within
@@ -123,21 +122,30 @@ unfolding meets has_within
 met-bound (in_range r v) path d e h = h
 met-bound c path d e h = absurd cc
 
-path-at : (xs : List IndexTree) (place : ℕ) (x : IndexTree) → slice_get xs place ≡ Some x → slice_get (map (λ (i : IndexTree). i.path) xs) place ≡ Some x.path
-path-at [] place x e = absurd cc
-path-at (y ∷ ys) zero x e = let same : y ≡ x = cc in ap (λ (i : IndexTree). Some i.path) same
-path-at (y ∷ ys) (suc place) x e = path-at ys place x e
+-- a path stands at the place, and what matches the filter has a leaf in the bounds there
+abbrev pub Plans : Members → List (List (List ℕ)) → ℕ → Condition → Type 0
+Plans ms paths place c = (path : List (List ℕ)) × (slice_get paths place ≡ Some path) × ((d : List Field) → matches ms d ≡ true → has_within c path d ≡ true)
+
+by-test : (test : Condition → Bool) → ((c : Condition) (path : List (List ℕ)) (d : List Field) → test c ≡ true → meets c (whole d path) (leaves d path) ≡ true → has_within c path d ≡ true) → (ms : Members) (paths : List (List (List ℕ))) (place : ℕ) (c : Condition) → first_place test ms 0 paths ≡ Some (place, c) → Plans ms paths place c
+by-test test met ms paths place c e =
+    let at = placed test ms 0 paths place c e in
+    let is : place ≡ at.0 = (let same = at.1 in omega arith) in
+    (at.2, ap (slice_get paths) is ∙ at.3, λ d h. (let f = found-in test at.2 c d ms at.4 h in met c at.2 d f.0 f.1))
 
 -- what matches the filter has a leaf in the bounds of the chosen index
-pub chosen-within : (ms : Members) (xs : List IndexTree) (place : ℕ) (c : Condition) (x : IndexTree) (d : List Field) → chosen ms (map (λ (i : IndexTree). i.path) xs) ≡ Some (place, c) → slice_get xs place ≡ Some x → matches ms d ≡ true → has_within c x.path d ≡ true
+pub planned : (ms : Members) (paths : List (List (List ℕ))) (place : ℕ) (c : Condition) → chosen ms paths ≡ Some (place, c) → Plans ms paths place c
 unfolding chosen
-chosen-within ms xs place c x d e there h =
-    let paths = map (λ (i : IndexTree). i.path) xs in
-    let at = path-at xs place x there in
+planned ms paths place c e =
     elim (either-or (first_place is_point ms 0 paths) (first_place is_bound ms 0 paths) (place, c) e) [
-      | inl point ↦ (let f = found-in is_point x.path c d ms (at-place is_point ms 0 paths place c point place x.path (omega arith) at) h in met-point c x.path d f.0 f.1)
-      | inr bound ↦ (let f = found-in is_bound x.path c d ms (at-place is_bound ms 0 paths place c bound place x.path (omega arith) at) h in met-bound c x.path d f.0 f.1)
+      | inl point ↦ by-test is_point met-point ms paths place c point
+      | inr bound ↦ by-test is_bound met-bound ms paths place c bound
     ]
+
+pub chosen-within : (ms : Members) (xs : List IndexTree) (place : ℕ) (c : Condition) (x : IndexTree) (d : List Field) → chosen ms (map (λ (i : IndexTree). i.path) xs) ≡ Some (place, c) → slice_get xs place ≡ Some x → matches ms d ≡ true → has_within c x.path d ≡ true
+chosen-within ms xs place c x d e there h =
+    let plan = planned ms (map (λ (i : IndexTree). i.path) xs) place c e in
+    let same : plan.0 ≡ x.path = some-same plan.0 x.path (sym plan.1 ∙ path-at xs place ∙ ap (option_map (λ (i : IndexTree). i.path)) there) in
+    ap (λ p. has_within c p d) (sym same) ∙ plan.2 d h
 
 -- ---- documents whose `_id`s are gathered
 narrowed : (among-ids : KeyTree → Bool) (test : List Field → Bool) (P : List Field → Type 0) → ((d : List Field) → P d → test d ≡ true → among-ids (id_key d) ≡ true) → (ds : List (List Field)) → AllByRecursion P ds → filter test (filter (λ d. among-ids (id_key d)) ds) ≡ filter test ds
@@ -162,42 +170,61 @@ leaves-id f fs h =
 
 -- ---- from a leaf in the bounds to a key of the index
 module _ (law : (v w : Tree) → key_order (value (canon v)) (value (canon w)) ≡ order v w) where
-  covers-within : (c : Condition) (x : Candidate) → is_within c x ≡ true → covers c (value (canon (or_null x))) ≡ true
-  covers-within (equal v) x e = ap is_eq (law (or_null x) v) ∙ e
-  covers-within (among vs) x e = ap (λ f. list_any f vs) (λ j v. is_eq (law (or_null x) v j)) ∙ e
-  covers-within (in_range r v) x e =
-      let parts = both (class (or_null x) == class v) (stands r v (or_null x)) e in
-      and-true (ap (λ n. n == class v) (class-canon (or_null x)) ∙ parts.0) (ap (stands_so r) (law (or_null x) v) ∙ by-range r parts.1)
+  covers-within : (c : Condition) (x : Candidate) → covers c (value (canon (or_null x))) ≡ is_within c x
+  covers-within (equal v) x = ap is_eq (law (or_null x) v)
+  covers-within (among vs) x = ap (λ f. list_any f vs) (λ j v. is_eq (law (or_null x) v j))
+  covers-within (in_range r v) x =
+      ap (λ n. (n == class v) && stands_so r (key_order (value (canon (or_null x))) (value (canon v)))) (class-canon (or_null x))
+      ∙ ap (λ b. (class (or_null x) == class v) && b) (ap (stands_so r) (law (or_null x) v) ∙ by-range r)
     where
-      and-true : {a b : Bool} → a ≡ true → b ≡ true → a && b ≡ true
-      and-true {b = b} e f = ap (λ c. c && b) e ∙ f
+      by-range : (s : Range) → stands_so s (order (or_null x) v) ≡ stands s v (or_null x)
+      by-range Above = refl
+      by-range AtLeast = refl
+      by-range Below = refl
+      by-range AtMost = refl
+  covers-within c x = refl
 
-      by-range : (s : Range) → stands s v (or_null x) ≡ true → stands_so s (order (or_null x) v) ≡ true
-      by-range Above f = f
-      by-range AtLeast f = f
-      by-range Below f = f
-      by-range AtMost f = f
-  covers-within c x e = absurd cc
+  -- the key of some value is in the bounds, and among those of the candidates
+  abbrev HasKey : Condition → List Candidate → Type 0
+  HasKey c xs = (v : Tree) × (covers c (value (canon v)) ≡ true) × (is_some_key (value (canon v)) xs ≡ true)
 
-  some-key : (c : Condition) (xs : List Candidate) → list_any (is_within c) xs ≡ true → (k : KeyTree) × (covers c k ≡ true) × (is_some_key k xs ≡ true)
+  some-key : (c : Condition) (xs : List Candidate) → list_any (is_within c) xs ≡ true → HasKey c xs
   some-key c [] e = absurd cc
   some-key c (x ∷ xs) e = at (is_within c x) refl e (some-key c xs)
     where
-      at : (b : Bool) → is_within c x ≡ b → b || list_any (is_within c) xs ≡ true → (list_any (is_within c) xs ≡ true → (k : KeyTree) × (covers c k ≡ true) × (is_some_key k xs ≡ true)) → (k : KeyTree) × (covers c k ≡ true) × (is_some_key k (x ∷ xs) ≡ true)
+      at : (b : Bool) → is_within c x ≡ b → b || list_any (is_within c) xs ≡ true → (list_any (is_within c) xs ≡ true → HasKey c xs) → HasKey c (x ∷ xs)
       at true f g rest =
           let k = value (canon (or_null x)) in
-          (k, covers-within c x f, or_left (is_key_of (or_null x) k) (is_some_key k xs) (ap is_eq (tied_itself key_order_total k)))
-      at false f g rest = let r = rest g in (r.0, r.1, or_right (is_key_of (or_null x) r.0) (is_some_key r.0 xs) r.2)
+          (or_null x, covers-within c x ∙ f, or_left (is_key_of (or_null x) k) (is_some_key k xs) (ap is_eq (tied_itself key_order_total k)))
+      at false f g rest = let r = rest g in let k = value (canon r.0) in (r.0, r.1, or_right (is_key_of (or_null x) k) (is_some_key k xs) r.2)
 
-  leaf-key : (c : Condition) (path : List (List ℕ)) (d : List Field) → has_within c path d ≡ true → (k : KeyTree) × (covers c k ≡ true) × (is_leaf_key k path d ≡ true)
+  leaf-key : (c : Condition) (path : List (List ℕ)) (d : List Field) → has_within c path d ≡ true → (v : Tree) × (covers c (value (canon v)) ≡ true) × (is_leaf_key (value (canon v)) path d ≡ true)
   unfolding has_within is_leaf_key
   leaf-key c path d e = some-key c (leaves d path) e
+
+  -- values whose keys are equal are one to the bounds
+  module _ (same : (v w : Tree) → (order v w ≡ Equal) ↔ (canon v ≡ canon w)) where
+    some-within : (c : Condition) (v : Tree) → covers c (value (canon v)) ≡ true → (xs : List Candidate) → is_some_key (value (canon v)) xs ≡ true → list_any (is_within c) xs ≡ true
+    some-within c v h [] e = absurd cc
+    some-within c v h (x ∷ xs) e = at (is_key_of (or_null x) (value (canon v))) refl e (some-within c v h xs)
+      where
+        at : (b : Bool) → is_key_of (or_null x) (value (canon v)) ≡ b → b || is_some_key (value (canon v)) xs ≡ true → (is_some_key (value (canon v)) xs ≡ true → list_any (is_within c) xs ≡ true) → is_within c x || list_any (is_within c) xs ≡ true
+        at true f g rest =
+            let one = (same v (or_null x)).0 (equal-from (order v (or_null x)) (ap is_eq (sym (law v (or_null x))) ∙ f)) in
+            or_left (is_within c x) (list_any (is_within c) xs) (sym (covers-within c x) ∙ ap (λ w. covers c (value w)) (sym one) ∙ h)
+        at false f g rest = or_right (is_within c x) (list_any (is_within c) xs) (rest g)
+
+    pub by_keys : (c : Condition) (path : List (List ℕ)) (d : List Field) → (has_within c path d ≡ true) ↔ ((v : Tree) × (covers c (value (canon v)) ≡ true) × (is_leaf_key (value (canon v)) path d ≡ true))
+    unfolding has_within is_leaf_key
+    by_keys c path d = (some-key c (leaves d path), λ k. some-within c k.0 k.1 (leaves d path) k.2)
 
   -- the keys of `_id`s that stand beside keys in the bounds are those of all documents that have a leaf there
   module _ (index : IndexTree) (c : Condition) (among-ids : KeyTree → Bool) (gathered : (k i : KeyTree) → covers c k ≡ true → has_pair k i index.pairs ≡ true → among-ids i ≡ true) where
     id-gathered : (ds : List (List Field)) → IsIndexOf index ds → (d : List Field) → found (id_key d) ds ≡ Some d → has_within c index.path d ≡ true → among-ids (id_key d) ≡ true
     id-gathered ds holds d there e =
-        let k = leaf-key c index.path d e in gathered k.0 (id_key d) k.1 (holds.has k.0 (id_key d) ∙ ap (is_key_under k.0 index.path) there ∙ k.2)
+        let v = leaf-key c index.path d e in
+        let k = value (canon v.0) in
+        gathered k (id_key d) v.1 (holds.has k (id_key d) ∙ ap (is_key_under k index.path) there ∙ v.2)
 
     pub gathered-all : (test : List Field → Bool) (ds : List (List Field)) → IsIndexOf index ds → IsAscending ds → ((d : List Field) → test d ≡ true → has_within c index.path d ≡ true) → filter test (filter (λ d. among-ids (id_key d)) ds) ≡ filter test ds
     gathered-all test ds holds ascending within =
@@ -207,7 +234,7 @@ module _ (law : (v w : Tree) → key_order (value (canon v)) (value (canon w)) �
   id-covered : (c : Condition) (d : List Field) → HasId d → has_within c (codes "_id" ∷ []) d ≡ true → covers c (id_key d) ≡ true
   unfolding has_within
   id-covered c [] h e = absurd h
-  id-covered c (f ∷ fs) h e = covers-within c (Some f.1) (sym (ap (list_any (is_within c)) (leaves-id f fs h) ∙ or-false (is_within c (Some f.1))) ∙ e)
+  id-covered c (f ∷ fs) h e = covers-within c (Some f.1) ∙ sym (ap (list_any (is_within c)) (leaves-id f fs h) ∙ or-false (is_within c (Some f.1))) ∙ e
 
   pub gathered-ids : (c : Condition) (among-ids : KeyTree → Bool) → ((k : KeyTree) → covers c k ≡ true → among-ids k ≡ true) → (test : List Field → Bool) (ds : List (List Field)) → AllByRecursion HasId ds → ((d : List Field) → test d ≡ true → has_within c (codes "_id" ∷ []) d ≡ true) → filter test (filter (λ d. among-ids (id_key d)) ds) ≡ filter test ds
   gathered-ids c among-ids covered test ds identified within = narrowed among-ids test HasId (λ d h e. covered (id_key d) (id-covered c d h (within d e))) ds identified

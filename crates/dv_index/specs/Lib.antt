@@ -8,3 +8,4 @@ pub mod Ends
 pub mod Search
 pub mod Indexed
 pub mod Change
+pub mod Examples

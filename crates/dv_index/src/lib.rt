@@ -8,6 +8,7 @@ mod ids;
 mod indexed;
 mod indexes;
 mod keys;
+pub mod laws;
 mod multi_index;
 mod plan;
 mod search;

@@ -3,3 +3,4 @@ pub mod Turns
 pub mod Right
 pub mod Entries
 pub mod Marked
+pub mod Limit

@@ -1,6 +1,7 @@
 -- Views that are right stay right.
-use Rattle.std.proofs.Common.{◌≡◌, ◌||◌, ℕ, Bool, true, false, not, List, [], ◌∷◌, ◌++◌, map, cond, refl, ap, sym, ◌∙◌, true≢false}
+use Rattle.std.proofs.Common.{◌≡◌, ◌||◌, ℕ, Bool, true, false, not, List, [], ◌∷◌, ◌++◌, map, Option, None, Some, is_some, cond, refl, ap, sym, ◌∙◌, true≢false}
 use Rattle.std.specs.Bool.{if◌then◌else◌}
+use Rattle.std.specs.Option.{option_and_then}
 use Rattle.std.specs.Str.{bytes_eq}
 use Rattle.std.proofs.lemmas.Slice.Eq.{bytes_eq-Decides}
 use Rattle.dv_flow.specs.declared.change.Change.{Change}
@@ -8,7 +9,7 @@ use Rattle.dv_pipe.specs.Sources.{Row}
 use Rattle.dv_pipe.specs.Stages.{Lists, evaluated, is_read}
 use Rattle.dv_pipe.specs.declared.stage.Stage.{Stage}
 use Rattle.dv_views.specs.Changed.{AreAfterChange, IsAfterChange, changed, with_changed}
-use Rattle.dv_views.specs.Views.{AreKept, AreRight, IsRight, Mark, live, stale, View, Views, after_change, has_name, made_anew, mark_anew, new_view, reads, reads_name, refreshed, rows_of_view, without}
+use Rattle.dv_views.specs.Views.{AreKept, AreRight, IsRight, Mark, live, stale, View, Views, after_change, has_name, has_view, kept_rows, made_anew, mark_anew, new_view, reads, reads_name, refreshed, rows_of_view, rows_shown, view_named, without}
 
 -- what dv_pipe's law says of pipelines
 abbrev pub UnreadDoesNotMatter : Type 0
@@ -56,6 +57,34 @@ refreshed-right lists false v right = right
 pub right_refreshed : (name : List ℕ) (lists : Lists) (views : Views) → AreRight lists views → AreRight lists (refreshed name lists views)
 right_refreshed name lists [] right = tt
 right_refreshed name lists (v ∷ vs) right = (refreshed-right lists (has_name name v) v right.0, right_refreshed name lists vs right.1)
+
+-- ---- what is shown
+kept-shown : (m : Mark) (rows shown : List Row) → AreKept m rows → kept_rows m ≡ Some shown → shown ≡ rows
+kept-shown (live kept) rows shown right is = (let same : shown ≡ kept = cc in same) ∙ right
+kept-shown stale rows shown right is = absurd cc
+
+named-shown : (lists : Lists) (b : Bool) (v w : View) (rest : Option View) (rows : List Row) → IsRight lists v → (rest ≡ Some w → option_and_then (λ u. kept_rows u.mark) rest ≡ Some rows → rows ≡ rows_of_view w lists)
+    → cond b (Some v) rest ≡ Some w → option_and_then (λ u. kept_rows u.mark) (cond b (Some v) rest) ≡ Some rows → rows ≡ rows_of_view w lists
+named-shown lists true v w rest rows right later is shown =
+    let same : v ≡ w = cc in
+    kept-shown v.mark (rows_of_view v lists) rows right shown ∙ ap (λ u. rows_of_view u lists) same
+named-shown lists false v w rest rows right later is shown = later is shown
+
+pub right_shown : (name : List ℕ) (lists : Lists) (views : Views) (v : View) (rows : List Row) → AreRight lists views → view_named name views ≡ Some v → rows_shown name views ≡ Some rows → rows ≡ rows_of_view v lists
+right_shown name lists [] v rows right is shown = absurd cc
+right_shown name lists (u ∷ us) v rows right is shown = named-shown lists (has_name name u) u v (view_named name us) rows right.0 (right_shown name lists us v rows right.1) is shown
+
+anew-shown : (lists : Lists) (v : View) (m : Mark) → is_some (kept_rows (mark_anew v lists m)) ≡ true
+anew-shown lists v (live rows) = refl
+anew-shown lists v stale = refl
+
+refreshed-shown : (name : List ℕ) (lists : Lists) (b : Bool) (v : View) (after : Views) (known : Bool) → has_name name v ≡ b → is_some (rows_shown name after) ≡ known → is_some (rows_shown name ((if b then made_anew lists v else v) ∷ after)) ≡ b || known
+refreshed-shown name lists true v after known e rest = ap (λ b. is_some (option_and_then (λ (u : View). kept_rows u.mark) (cond b (Some (made_anew lists v)) (view_named name after)))) e ∙ anew-shown lists v v.mark
+refreshed-shown name lists false v after known e rest = ap (λ b. is_some (option_and_then (λ (u : View). kept_rows u.mark) (cond b (Some v) (view_named name after)))) e ∙ rest
+
+pub shown_refreshed : (name : List ℕ) (lists : Lists) (views : Views) → is_some (rows_shown name (refreshed name lists views)) ≡ has_view name views
+shown_refreshed name lists [] = refl
+shown_refreshed name lists (v ∷ vs) = refreshed-shown name lists (has_name name v) v (refreshed name lists vs) (has_view name vs) refl (shown_refreshed name lists vs)
 
 -- ---- after a change
 

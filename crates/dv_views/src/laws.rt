@@ -1,16 +1,17 @@
 //! What holds of changes and of views, each the contract of a function that does nothing.
 
-ghost use Rattle.std.specs.Prelude.{◌≡◌, ◌++◌, ◌∷◌, [], ℕ, List, true, is_some, if◌then◌else◌};
+ghost use Rattle.std.specs.Prelude.{◌≡◌, ◌≢◌, ◌++◌, ◌∷◌, [], ℕ, List, length, Some, None, true, codes, is_some, if◌then◌else◌};
 ghost use Rattle.std.specs.List.{AllByRecursion};
 ghost use Rattle.dv_coll.specs.Collection.{HasId, IsAscending, found, id_key, inserted, removed, replaced};
 ghost use Rattle.dv_flow.specs.declared.position.Part.TheVariants.{Up};
 ghost use Rattle.dv_flow.specs.declared.change.Change.TheVariants.{Put, Gone};
 ghost use Rattle.dv_order.specs.Key.{KeyTree};
 ghost use Rattle.dv_pipe.specs.Sources.{Row};
-ghost use Rattle.dv_pipe.specs.Stages.{Lists};
+ghost use Rattle.dv_pipe.specs.Stages.{Lists, evaluated};
 ghost use Rattle.dv_pipe.specs.declared.stage.Stage.{Stage};
 ghost use Rattle.dv_views.specs.Changed.{AreMade, AreMadeInTurn, changed, own_position};
-ghost use Rattle.dv_views.specs.Views.{AreRight, Views, new_view, reads_name, refreshed, without};
+ghost use Rattle.dv_views.specs.Views.{AreRight, View, Views, fault_of_new, has_view, new_view, reads_name, refreshed, rows_shown, view_named, without};
+ghost use Rattle.dv_views.specs.declared.fault.ViewFault.TheVariants.{Exists, LimitReached, OnView, ReadByView};
 
 use dv_flow::Change;
 
@@ -66,4 +67,28 @@ pub fn a_removed_view_leaves_views_right()
 #[tactic(auto, using(crate::proofs::Right::right_refreshed))]
 pub fn a_refreshed_view_leaves_views_right()
     ensures { (name : List ℕ) (lists : Lists) (views : Views) → AreRight lists views → AreRight lists (refreshed name lists views) }
+{}
+
+/// What a right view shows are the rows of its pipeline; and a view shows rows once it is made anew.
+#[tactic(auto, using(crate::proofs::Right::right_shown, crate::proofs::Right::shown_refreshed))]
+pub fn what_is_shown_is_right()
+    ensures rows { (name : List ℕ) (lists : Lists) (views : Views) (v : View) (rows : List Row) → AreRight lists views → view_named name views ≡ Some v → rows_shown name views ≡ Some rows → rows ≡ evaluated v.stages v.source lists }
+    ensures shown { (name : List ℕ) (lists : Lists) (views : Views) → is_some (rows_shown name (refreshed name lists views)) ≡ has_view name views }
+{}
+
+/// Beside the view `v` of `c` there is no second one, none over it, and none in place of what it reads, told in this order;
+/// nor is there one over itself.
+pub fn refusals_by_example()
+    ensures exists { (lists : Lists) → fault_of_new (new_view (codes "v") (codes "c") [] lists ∷ []) (codes "v") (codes "v") [] ≡ Some Exists }
+    ensures on_view { (lists : Lists) → fault_of_new (new_view (codes "v") (codes "c") [] lists ∷ []) (codes "c") (codes "v") [] ≡ Some OnView }
+    ensures read_by_view { (lists : Lists) → fault_of_new (new_view (codes "v") (codes "c") [] lists ∷ []) (codes "c") (codes "d") [] ≡ Some ReadByView }
+    ensures itself { fault_of_new [] (codes "w") (codes "w") [] ≡ Some ReadByView }
+    ensures beside { (lists : Lists) → fault_of_new (new_view (codes "v") (codes "c") [] lists ∷ []) (codes "w") (codes "c") [] ≡ None }
+{}
+
+/// The thousandth view isn't one too many, and the next is.
+#[tactic(auto, using(crate::proofs::Limit::thousandth, crate::proofs::Limit::one_more))]
+pub fn there_are_a_thousand_views_at_most()
+    ensures thousandth { (views : Views) (name source : List ℕ) (stages : List Stage) → length views ≡ 999 → fault_of_new views name source stages ≢ Some LimitReached }
+    ensures one_more { (views : Views) (name source : List ℕ) (stages : List Stage) → length views ≡ 1000 → fault_of_new views name source stages ≢ None }
 {}

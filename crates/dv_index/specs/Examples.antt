@@ -1,0 +1,32 @@
+-- Worked examples: the keys of a document, by which index a find is answered, and how many documents it covers. Filters and
+-- documents are as they are written.
+use Rattle.std.specs.Prelude.{ℕ, Bool, List, [], ◌∷◌, Option, Result, Ok, codes}
+use Rattle.dv_bson.specs.Tree.{Tree, Field, fields_of}
+use Rattle.dv_order.specs.Order.{canon}
+use Rattle.dv_order.specs.Key.{value}
+use Rattle.dv_match.specs.declared.fault.FilterFault.{FilterFault}
+use Rattle.dv_match.specs.Examples.{int, list, one}
+use Rattle.dv_match.specs.Parsing.{◌>>=◌, filter_in}
+use Rattle.dv_index.specs.Index.{IndexForm, id_form}
+use Rattle.dv_index.specs.Indexed.{documents_covered, index_chosen}
+use Rattle.dv_index.specs.Keys.{is_leaf_key}
+
+-- whether the document has the key of the value under the path
+abbrev pub has_key_of : Tree → List (List ℕ) → List Field → Bool
+has_key_of v path d = is_leaf_key (value (canon v)) path d
+
+-- the indexes on `_id`, on a and on b, made in this order
+abbrev pub three_indexes : List IndexForm
+three_indexes = id_form ∷ record { name = codes "a_1"; path = codes "a" ∷ [] } ∷ record { name = codes "b_1"; path = codes "b" ∷ [] } ∷ []
+
+-- the name of that of them by which a filter is answered, or the fault of what is no filter
+abbrev pub index_for : List Field → Result (Option (List ℕ)) FilterFault
+index_for filter = filter_in (fields_of filter) >>= λ ms. Ok (index_chosen ms three_indexes)
+
+-- three documents, with an array, 4 and 1 as a
+abbrev pub three_documents : List (List Field)
+three_documents = ((codes "_id", int 1) ∷ (codes "a", list (int 0 ∷ int 5 ∷ [])) ∷ []) ∷ ((codes "_id", int 2) ∷ (codes "a", int 4) ∷ []) ∷ ((codes "_id", int 3) ∷ (codes "a", int 1) ∷ []) ∷ []
+
+-- how many of them a find covers by some indexes, or the fault of what is no filter
+abbrev pub covered_by : List IndexForm → List Field → Result ℕ FilterFault
+covered_by indexes filter = filter_in (fields_of filter) >>= λ ms. Ok (documents_covered ms (record { documents = three_documents; indexes = indexes }))

@@ -1,0 +1,95 @@
+//! What holds of indexes and of the finds that they answer, each the contract of a function that does nothing.
+
+ghost use Rattle.std.specs.Prelude.{◌≡◌, ◌↔◌, ◌≤◌, ◌++◌, ◌∷◌, [], ℕ, pos, false, true, codes, filter as kept, length, slice_get, List, None, Ok, Some};
+ghost use Rattle.std.specs.List.{list_any};
+ghost use Rattle.std.specs.Str.{bytes_eq};
+ghost use Rattle.dv_bson.specs.Tree.{Field, Tree, int64, null};
+ghost use Rattle.dv_match.specs.Examples.{doc, int, list, one};
+ghost use Rattle.dv_match.specs.Filter.{Condition, Members};
+ghost use Rattle.dv_match.specs.Match.{matches};
+ghost use Rattle.dv_order.specs.Key.{KeyTree, value};
+ghost use Rattle.dv_order.specs.Order.{canon};
+ghost use Rattle.dv_index.specs.Choice.{chosen};
+ghost use Rattle.dv_index.specs.Examples.{covered_by, has_key_of, index_for, three_indexes};
+ghost use Rattle.dv_index.specs.Index.{IndexForm, IndexTree, id_form};
+ghost use Rattle.dv_index.specs.Indexed.{IndexedTree, documents_covered, without_index};
+ghost use Rattle.dv_index.specs.Keys.{is_leaf_key};
+ghost use Rattle.dv_index.specs.Pairs.{has_pair};
+ghost use Rattle.dv_index.specs.Search.{IsIndexOf, covers, has_within};
+
+/// A filter is answered by an index that is there, and what matches it has a leaf in the bounds: by no index is a document
+/// missed.
+#[tactic(auto, using(crate::proofs::Sound::planned))]
+pub fn what_matches_is_in_the_bounds()
+    ensures { (filter : Members) (paths : List (List (List ℕ))) (place : ℕ) (bounds : Condition) → chosen filter paths ≡ Some (place, bounds) → (path : List (List ℕ)) × (slice_get paths place ≡ Some path) × ((d : List Field) → matches filter d ≡ true → has_within bounds path d ≡ true) }
+{}
+
+/// A find covers all documents that match, and no more than there are.
+#[tactic(auto, using(crate::proofs::Counted::at_least, crate::proofs::Counted::at_most))]
+pub fn a_find_covers_what_it_finds()
+    ensures at_least { (filter : Members) (c : IndexedTree) → length (kept (matches filter) c.documents) ≤ documents_covered filter c }
+    ensures at_most { (filter : Members) (c : IndexedTree) → documents_covered filter c ≤ length c.documents }
+{}
+
+/// A document has a leaf in the bounds exactly where it has a key in them.
+pub fn leaves_are_found_by_keys()
+    ensures { (bounds : Condition) (path : List (List ℕ)) (d : List Field) → (has_within bounds path d ≡ true) ↔ ((v : Tree) × (covers bounds (value (canon v)) ≡ true) × (is_leaf_key (value (canon v)) path d ≡ true)) }
+{
+    dv_order::laws::keys_stand_as_their_values();
+    dv_order::laws::equal_is_same_but_for_widths();
+}
+
+/// What an index has is known by its path and by the documents alone: one that was kept through changes has the pairs of one
+/// that is made anew.
+#[tactic(auto, using(crate::proofs::Built::same_pairs))]
+pub fn an_index_made_anew_is_the_same()
+    ensures { (x y : IndexTree) (ds : List (List Field)) → x.path ≡ y.path → IsIndexOf x ds → IsIndexOf y ds → (k id : KeyTree) → has_pair k id x.pairs ≡ has_pair k id y.pairs }
+{}
+
+/// An index that is made and dropped leaves the others as they were, and the one on `_id` never goes.
+#[tactic(auto, using(crate::proofs::Built::none_dropped))]
+pub fn indexes_come_and_go()
+    ensures others { (name : List ℕ) (path : List (List ℕ)) (xs : List IndexForm) → bytes_eq name id_form.name ≡ false → list_any (λ x. bytes_eq x.name name) xs ≡ false → without_index name (xs ++ record { name = name; path = path } ∷ []) ≡ xs }
+    ensures on_id { (xs : List IndexForm) → without_index id_form.name xs ≡ xs }
+{}
+
+/// The keys of a document: those of what a path leads to, an array being one beside its elements, and null for what is
+/// missing.
+#[tactic(auto, unfolding(dv_path::specs::Path::index_of, dv_path::specs::Candidates::whole, dv_path::specs::Candidates::leaves, crate::specs::Keys::is_leaf_key))]
+pub fn keys_by_example()
+    ensures missing { has_key_of null (codes "a" ∷ []) [] ≡ true }
+    ensures null_itself { has_key_of null (codes "a" ∷ []) (one (codes "a") null) ≡ true }
+    ensures an_empty_array { has_key_of (list []) (codes "a" ∷ []) (one (codes "a") (list [])) ≡ true }
+    ensures no_null_in_an_empty_array { has_key_of null (codes "a" ∷ []) (one (codes "a") (list [])) ≡ false }
+    ensures an_element { has_key_of (int 2) (codes "a" ∷ []) (one (codes "a") (list (int 1 ∷ int 2 ∷ []))) ≡ true }
+    ensures the_array { has_key_of (list (int 1 ∷ int 2 ∷ [])) (codes "a" ∷ []) (one (codes "a") (list (int 1 ∷ int 2 ∷ []))) ≡ true }
+    ensures no_element_of_an_element { has_key_of (int 1) (codes "a" ∷ []) (one (codes "a") (list (list (int 1 ∷ []) ∷ []))) ≡ false }
+    ensures another_width { has_key_of (int64 (pos 2)) (codes "a" ∷ []) (one (codes "a") (int 2)) ≡ true }
+    ensures missing_in_one_of_several { has_key_of null (codes "a" ∷ codes "b" ∷ []) (one (codes "a") (list (doc (one (codes "b") (int 1)) ∷ doc [] ∷ []))) ≡ true }
+    ensures nothing_under_a_number_in_an_array { has_key_of null (codes "a" ∷ codes "b" ∷ []) (one (codes "a") (list (int 5 ∷ []))) ≡ false }
+{}
+
+/// Which of three indexes answers a filter: an equality goes before a range, and else the index that was made first.
+#[tactic(auto, unfolding(dv_match::specs::Parsing::filter_in, dv_match::specs::Parsing::filters_in, dv_match::specs::Parsing::each_filter, dv_match::specs::Parsing::filter_of, dv_match::specs::Parsing::conditions_in, dv_match::specs::Parsing::operators_in, dv_match::specs::Parsing::member_named, dv_match::specs::Parsing::operator_named, dv_path::specs::Path::path_of, crate::specs::Choice::chosen, crate::specs::Choice::first_in, crate::specs::Choice::first_in_member, crate::specs::Choice::first_in_all))]
+pub fn plans_by_example()
+    ensures equality_before_range { index_for ((codes "a", doc (one (codes "$gt") (int 1))) ∷ (codes "b", int 1) ∷ []) ≡ Ok (Some (codes "b_1")) }
+    ensures made_first { index_for ((codes "b", int 1) ∷ (codes "a", int 1) ∷ []) ≡ Ok (Some (codes "a_1")) }
+    ensures made_first_of_ranges { index_for ((codes "b", doc (one (codes "$lt") (int 1))) ∷ (codes "a", doc (one (codes "$gte") (int 1))) ∷ []) ≡ Ok (Some (codes "a_1")) }
+    ensures on_id { index_for ((codes "a", int 1) ∷ (codes "_id", int 1) ∷ []) ≡ Ok (Some (codes "_id_")) }
+    ensures of_none { index_for (one (codes "a") (doc (one (codes "$in") (list [])))) ≡ Ok (Some (codes "a_1")) }
+    ensures below_and { index_for (one (codes "$and") (list (doc (one (codes "$and") (list (doc (one (codes "b") (int 1)) ∷ []))) ∷ []))) ≡ Ok (Some (codes "b_1")) }
+    ensures below_or { index_for (one (codes "$or") (list (doc (one (codes "a") (int 1)) ∷ []))) ≡ Ok None }
+    ensures a_longer_path { index_for (one (codes "a.b") (int 1)) ≡ Ok None }
+    ensures another_condition { index_for (one (codes "a") (doc (one (codes "$ne") (int 1)))) ≡ Ok None }
+{}
+
+/// Three documents with an array, 4 and 1 as `a`: the first bound alone covers, a document once whatever its elements.
+#[tactic(auto, unfolding(dv_match::specs::Parsing::filter_in, dv_match::specs::Parsing::filter_of, dv_match::specs::Parsing::conditions_in, dv_match::specs::Parsing::operators_in, dv_match::specs::Parsing::member_named, dv_match::specs::Parsing::operator_named, dv_path::specs::Path::path_of, dv_path::specs::Path::index_of, dv_path::specs::Candidates::whole, dv_path::specs::Candidates::leaves, crate::specs::Choice::chosen, crate::specs::Choice::first_in, crate::specs::Choice::first_in_member, crate::specs::Choice::first_in_all, crate::specs::Search::covered, crate::specs::Search::has_within))]
+pub fn covered_by_example()
+    ensures first_bound { covered_by three_indexes (one (codes "a") (doc ((codes "$gt", int 1) ∷ (codes "$lt", int 3) ∷ []))) ≡ Ok 2 }
+    ensures other_bound_first { covered_by three_indexes (one (codes "a") (doc ((codes "$lt", int 3) ∷ (codes "$gt", int 4) ∷ []))) ≡ Ok 2 }
+    ensures each_once { covered_by three_indexes (one (codes "a") (doc (one (codes "$gte") (int 0)))) ≡ Ok 3 }
+    ensures missing_as_null { covered_by three_indexes (one (codes "b") null) ≡ Ok 3 }
+    ensures on_id { covered_by three_indexes (one (codes "_id") (int 2)) ≡ Ok 1 }
+    ensures no_index { covered_by (id_form ∷ []) (one (codes "a") (int 7)) ≡ Ok 3 }
+{}
