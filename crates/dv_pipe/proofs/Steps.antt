@@ -43,10 +43,6 @@ through-more ss all s ds is =
     ∙ same-each (passed (ss ++ s ∷ [])) (λ d. flat_map (rows_of_step s) (passed ss d)) (passed-more ss s) ds
     ∙ sym (one-by-one (rows_of_step s) (passed ss) ds)
 
--- steps that begin with one that makes one row
-pub passed-one : (all ss : List Step) (s : Step) (d made : Row) → all ≡ s ∷ ss → rows_of_step s d ≡ made ∷ [] → passed ss made ≡ passed all d
-passed-one all ss s d made is one = sym (ap (λ l. passed l d) is ∙ ap (flat_map (passed ss)) one ∙ append-nil (passed ss made))
-
 -- rows behind which none is wanted
 pub front_full : (ss : List Step) (most : Option ℕ) (documents : List (Bor Row)) (i : ℕ) (rows : List Row) → rows ≡ flat_map (passed ss) (referred (take i documents)) → ((more : List Row) → front most (rows ++ more) ≡ front most rows)
     → front most rows ≡ front most (flat_map (passed ss) (referred documents))
