@@ -9,7 +9,7 @@ use crate::joining::{matches_of, places_of};
 use dv_bson::{Document, NoMemory, Str, Value};
 use dv_order::Key;
 use dv_path::Path;
-use dv_row::push_field;
+use dv_row::{copy_beside, push_field};
 use std::alloc::Global;
 use std::collections::BTreeMap;
 use std::marker::Model;
@@ -92,17 +92,40 @@ impl Lookup {
 
 impl<'a> Join<'a> {
     /// The row with the documents that it is joined with, an array in their order, each once, in place of the field of the
-    /// target's name or behind the others. They share their memory with the documents. Takes time of the row's values and of
-    /// the matches, times a logarithm. Fails where memory is wanting.
-    pub fn row(&self, alloc: Global, row: &Document) -> Result<Document, NoMemory>
+    /// target's name or behind the others. They share their memory with the documents. What was made of the row before it
+    /// lends its names, where there is one. Takes time of the row's values and of the matches, times a logarithm. Fails where
+    /// memory is wanting.
+    pub fn row_behind(
+        &self,
+        alloc: Global,
+        row: &Document,
+        before: Option<&Document>,
+    ) -> Result<Document, NoMemory>
         ensures { IfOk result (λ joined. joined ≡ defined.joined_row self.now.0 self.now.1 row.now) }
     {
         let lookup = self.lookup;
+        let target = lookup.target.as_str();
         let matches = matches_of(alloc, row, &lookup.local, self.documents, &self.places)?;
-        let mut joined = row.try_clone()?;
-        set_field(&mut joined, lookup.target.as_str(), Value::Array(matches))?;
+        let mut joined = copy_for(alloc, row, target, before)?;
+        set_field(&mut joined, target, Value::Array(matches))?;
         Ok(joined)
     }
+}
+
+/// A copy of the row, in which a value is to be put under the name. A document to which that was done lends its names, unless
+/// the row has the name.
+fn copy_for(
+    alloc: Global,
+    row: &Document,
+    name: &str,
+    before: Option<&Document>,
+) -> Result<Document, NoMemory>
+    ensures { IfOk result (λ copy. copy ≡ row.now) }
+{
+    if row.get(name).is_some() {
+        return row.try_clone();
+    }
+    copy_beside(alloc, row, before)
 }
 
 /// Puts the value under the name: in place of the one that stands there, or behind the other fields.

@@ -3,6 +3,7 @@ pub mod Single
 pub mod Sought
 pub mod Pipelines
 pub mod Through
+pub mod Steps
 pub mod StageLaws
 pub mod Valid
 pub mod Namespaces

@@ -1,5 +1,5 @@
 -- What stages make of valid rows is valid, where they were read from valid values.
-use Rattle.std.proofs.Common.{◌≡◌, ◌∙◌, ℕ, zero, suc, nat_le, Bool, true, false, List, [], ◌∷◌, ◌++◌, fold, map, filter, take, length, Option, Some, None, Result, Ok, Err, codes, if◌then◌else◌}
+use Rattle.std.proofs.Common.{◌≡◌, ℕ, zero, suc, nat_le, Bool, List, [], ◌∷◌, ◌++◌, fold, map, filter, take, length, Option, Some, None, Result, Ok, Err, codes, if◌then◌else◌}
 use Rattle.std.specs.Bool.{⊤}
 use Rattle.std.specs.List.{AllByRecursion, flat_map}
 use Rattle.std.specs.Result.{IfOk}
@@ -11,7 +11,7 @@ use Rattle.dv_row.specs.declared.fault.PipelineFault.{PipelineFault}
 use Rattle.dv_row.specs.declared.fault.PipelineFault.TheVariants.{UnknownStage, TooMany}
 use Rattle.dv_row.specs.declared.project.Project as projects
 use Rattle.dv_row.specs.declared.unwind.Unwind as unwinds
-use Rattle.dv_row.specs.Parsing.{◌>>=◌, each, unwind_in}
+use Rattle.dv_row.specs.Parsing.{each, unwind_in}
 use Rattle.dv_row.specs.Projecting.{projected}
 use Rattle.dv_row.specs.ProjectParsing.{project_in}
 use Rattle.dv_row.specs.Row.{Row}
@@ -21,7 +21,7 @@ use Rattle.dv_row.specs.ValidRows.{project_in-sound, projected-valid, unwound-va
 use Rattle.dv_gather.specs.GroupParsing.{group_in}
 use Rattle.dv_gather.specs.Lookups.{lookup_in}
 use Rattle.dv_gather.specs.Valid.{IsSoundGroup, IsSoundLookup, group_in-sound, grouped-valid, lookup_in-sound, looked_up-valid}
-use Rattle.dv_sort.specs.Sorting.{stands_before, placed, ordered, stable}
+use Rattle.dv_sort.specs.Sorting.{stands_before, placed, stable}
 use Rattle.dv_pipe.specs.declared.stage.Stage.{Stage}
 use Rattle.dv_pipe.specs.declared.stage.Stage.TheVariants.{Match, Project, Unwind, Sort, Limit, Group, Lookup}
 use Rattle.dv_pipe.specs.StageParsing.{filter_form, sort_in, count_in, stage_named, stage_of, pipeline_of}

@@ -1,9 +1,55 @@
 -- Words that bodies need.
-use Rattle.std.specs.Prelude.{ℕ, List, ◌∷◌, Option, Some, None}
+use Rattle.std.specs.Prelude.{ℕ, List, [], ◌∷◌, Option, Some, None, if◌then◌else◌}
+use Rattle.std.specs.List.{flat_map}
+use Rattle.dv_match.specs.Match.{matches}
+use Rattle.dv_sort.specs.Sorting.{stable, front}
+use Rattle.dv_row.specs.Projecting.{projected}
+use Rattle.dv_row.specs.Unwinding.{unwound}
+use Rattle.dv_gather.specs.Grouping.{grouped}
+use Rattle.dv_gather.specs.Lookups.{joined_row}
+use Rattle.dv_pipe.specs.declared.run.End.{End}
+use Rattle.dv_pipe.specs.declared.run.End.TheVariants as ends
+use Rattle.dv_pipe.specs.declared.run.Part as parts
+use Rattle.dv_pipe.specs.declared.run.Part.TheVariants as by
+use Rattle.dv_pipe.specs.declared.run.Run.{Run}
 use Rattle.dv_pipe.specs.declared.stage.Stage.{Stage}
 use Rattle.dv_pipe.specs.declared.stage.Stage.TheVariants.{Limit}
+use Rattle.dv_pipe.specs.declared.step.Step.{Step}
+use Rattle.dv_pipe.specs.declared.step.Work as works
+use Rattle.dv_pipe.specs.declared.step.Work.TheVariants as work
+use Rattle.dv_pipe.specs.Sources.{Row}
 
 -- how many of the first rows stages see, where there are more
 abbrev pub wanted : List Stage → Option ℕ
 wanted (Limit count ∷ ss) = Some count
 wanted ss = None
+
+-- what work makes of a row
+abbrev pub rows_of_work : works.Work → Row → List Row
+rows_of_work (work.Match form) d = if matches form.now d then d ∷ [] else []
+rows_of_work (work.Project p) d = projected p.now d ∷ []
+rows_of_work (work.Unwind u) d = unwound u.now d
+rows_of_work (work.Lookup j) d = joined_row j.0 j.1 d ∷ []
+
+abbrev pub rows_of_step : Step → Row → List Row
+rows_of_step s = rows_of_work s.work
+
+-- what steps make of a row, one after the other
+abbrev pub passed : List Step → Row → List Row
+passed [] d = d ∷ []
+passed (s ∷ ss) d = flat_map (passed ss) (rows_of_step s d)
+
+-- what becomes of rows behind steps
+abbrev pub ended : End → List Row → List Row
+ended (ends.Front most) ds = front most ds
+ended (ends.Sort parts most) ds = front most (stable parts.now ds)
+ended (ends.Group g) ds = grouped g.now ds
+
+-- what a stage makes of rows
+abbrev pub rows_of_part : parts.Part → List Row → List Row
+rows_of_part (by.Step s) ds = flat_map (rows_of_step s) ds
+rows_of_part (by.End e) ds = ended e ds
+
+-- what a run makes of rows
+abbrev pub rows_of_run : Run → List Row → List Row
+rows_of_run r ds = ended r.end (flat_map (passed r.steps.items) ds)

@@ -5,8 +5,10 @@ mod evaluation;
 pub mod laws;
 mod namespace;
 mod pipeline;
+mod run;
 mod sources;
 mod stage;
+mod step;
 
 pub use dv_gather::{Accumulator, Group, GroupField, Lookup};
 pub use dv_row::{Computed, ComputedField, Expr, Paths, PipelineFault, Project, Unwind};

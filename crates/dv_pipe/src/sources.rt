@@ -90,11 +90,4 @@ impl<'a> Sources<'a> {
         }
         self.none.as_slice()
     }
-
-    /// No documents.
-    pub(crate) fn nothing(&self) -> &[&'a Document]
-        ensures { referred result.now ≡ [] }
-    {
-        self.none.as_slice()
-    }
 }

@@ -80,6 +80,12 @@ with-field_new : (name : List ℕ) (c : Candidate) (fs : List Field) → has_zer
 with-field_new name None fs e h = sym (append-nil fs)
 with-field_new name (Some v) fs e h = rw (e, h) refl
 
+-- one field more, as it is
+pub copied-more : (d : List Field) (i : ℕ) (name : List ℕ) (v : Tree) → AreNamed d → Some (name, v) ≡ slice_get d i → with_field name (Some v) (take i d) ≡ take (i + 1) d
+copied-more d i name v named e =
+    let new = new-name d i name v named e in
+    with-field_new name (Some v) (take i d) new.0 new.1 ∙ sym (take-here d i (name, v) (sym e)) ∙ ap (λ n. take n d) (sym (add-one i))
+
 -- one field more
 pub row-left_more : (keeps : Bool) (paths : List (List (List ℕ))) (d : List Field) (i : ℕ) (name : List ℕ) (v : Tree) → AreNamed d → Some (name, v) ≡ slice_get d i
     → with_field name (left keeps (behind name paths) v) (row_left keeps paths (take i d)) ≡ row_left keeps paths (take (i + 1) d)

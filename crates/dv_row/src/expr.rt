@@ -182,6 +182,25 @@ pub fn row_beside(alloc: Global, before: Option<&Document>) -> Result<Document, 
     }
 }
 
+/// A copy of the document with its own list of values. The row before it lends its names, where there is one. Fails where
+/// memory is wanting.
+pub fn copy_beside(
+    alloc: Global,
+    document: &Document,
+    before: Option<&Document>,
+) -> Result<Document, NoMemory>
+    ensures { IfOk result (λ copy. copy ≡ document.now) }
+{
+    let mut copy = row_beside(alloc, before)?;
+    'fields: for place in 0..document.len() {
+        let Some((name, value)) = document.entry(place) else {
+            break;
+        };
+        push_field(&mut copy, name, Some(value.try_clone()?))?;
+    }
+    Ok(copy)
+}
+
 /// Puts a field behind those of the document, where there is a value. A name that stands there already, or that no field
 /// may have, is left out. Fails where memory is wanting; then nothing is changed.
 pub fn push_field(document: &mut Document, name: &str, value: Option<Value>) -> Result<(), NoMemory>

@@ -15,7 +15,7 @@ mod switch;
 mod unwind;
 mod ways;
 
-pub use expr::{Computed, ComputedField, Expr, push_field, row_beside};
+pub use expr::{Computed, ComputedField, Expr, copy_beside, push_field, row_beside};
 pub use fault::PipelineFault;
 pub use paths::Paths;
 pub use project::Project;

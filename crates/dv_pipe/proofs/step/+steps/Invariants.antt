@@ -1,0 +1,16 @@
+use Rattle.std.proofs.Common.{◌≡◌, ◌++◌, ◌+◌, ◌*◌, length}
+use Rattle.std.specs.List.{flat_map}
+use Rattle.dv_pipe.specs.Parts.{passed}
+use Rattle.dv_pipe.proofs.step.+steps.Given as goal
+
+abbrev pub decreases-push_row : goal.decreases-push_row
+decreases-push_row l = 3 * length l.steps.now
+
+abbrev pub decreases-push_made : goal.decreases-push_made
+decreases-push_made l = 3 * length l.later.now + 1
+
+abbrev pub decreases-push_each : goal.decreases-push_each
+decreases-push_each l = 3 * length l.later.now + 2
+
+abbrev pub invariant-push_each-made : goal.invariant-push_each-made
+invariant-push_each-made l = l.rows.items ≡ l.initial.rows.items ++ flat_map (passed l.later) l.yielded

@@ -1,0 +1,220 @@
+//! Stages that rows go through one by one, and what becomes of all of them behind.
+
+ghost use Rattle.std.specs.Prelude.{◌≡◌, ◌∷◌, ◌++◌, ◌⊎◌, ◌<◌, [], List, IfOk, length, true};
+ghost use Rattle.std.specs.List.{flat_map};
+ghost use Rattle.dv_sort.specs.Sorting.{stable, front};
+ghost use Rattle.dv_pipe.specs.Parts.{passed, wanted as wanted_by, ended, rows_of_part, rows_of_run};
+ghost use Rattle.dv_pipe.specs.Sources.{Row, lists_of, referred};
+ghost use Rattle.dv_pipe.specs.Stages as defined;
+
+use crate::sources::Sources;
+use crate::stage::Stage;
+use crate::step::{Step, Work, push_row};
+use dv_bson::{Document, NoMemory};
+use dv_gather::Group;
+use dv_path::SortSpec;
+use dv_sort::{Sorter, laws};
+use std::alloc::Global;
+
+/// What becomes of rows behind steps.
+#[derive(Debug, Drop)]
+pub(crate) enum End<'a> {
+    /// They stay as they are: the first so many, or all.
+    Front(Option<usize>),
+    /// They are put in order: the first so many, or all.
+    Sort(&'a SortSpec, Option<usize>),
+    /// They are grouped.
+    Group(&'a Group),
+}
+
+/// A stage, by how rows go through it.
+#[derive(Drop)]
+pub(crate) enum Part<'a> {
+    /// One by one.
+    Step(Step<'a>),
+    /// All of them before the first one leaves.
+    End(End<'a>),
+}
+
+/// Steps, and what becomes of rows behind them.
+#[derive(Drop)]
+pub(crate) struct Run<'a> {
+    steps: Vec<Step<'a>>,
+    end: End<'a>,
+    /// The stages behind the run.
+    pub(crate) later: &'a [Stage],
+}
+
+impl<'a> Run<'a> {
+    /// The run at the front of the stages: up to the first one that needs all rows, or all of them.
+    pub(crate) fn of(
+        alloc: Global,
+        stages: &'a [Stage],
+        source: &str,
+        sources: &'a Sources<'a>,
+    ) -> Result<Self, NoMemory>
+        ensures same { IfOk result (λ run. (rows : List Row) → defined.through run.later.now source.now (lists_of sources.now) (rows_of_run run rows) ≡ defined.through stages.now source.now (lists_of sources.now) rows) }
+        ensures shorter { IfOk result (λ run. (run.later.now ≡ []) ⊎ (length run.later.now < length stages.now)) }
+    {
+        let mut steps = Vec::new(alloc);
+        let mut stages = stages;
+        'stages: while let Some((stage, later)) = stages.split_first() {
+            match part_of(alloc, stage, later, source, sources)? {
+                Part::Step(step) => steps.push(step)?,
+                Part::End(end) => return Ok(Run { steps, end, later }),
+            }
+            stages = later;
+        }
+        Ok(Run {
+            steps,
+            end: End::Front(None),
+            later: stages,
+        })
+    }
+
+    /// What it makes of the documents.
+    pub(crate) fn rows(
+        &self,
+        alloc: Global,
+        documents: &[&Document],
+    ) -> Result<Vec<Document>, NoMemory>
+        ensures { IfOk result (λ rows. rows.items ≡ rows_of_run self.now (referred documents.now)) }
+    {
+        if let End::Front(most) = &self.end {
+            return each(alloc, &self.steps, *most, documents);
+        }
+        if self.steps.is_empty() {
+            return self.end.rows(alloc, documents);
+        }
+        let rows = each(alloc, &self.steps, None, documents)?;
+        let lent = references(alloc, &rows)?;
+        self.end.rows(alloc, &lent)
+    }
+
+    /// What it makes of rows.
+    pub(crate) fn rows_behind(
+        &self,
+        alloc: Global,
+        rows: &[Document],
+    ) -> Result<Vec<Document>, NoMemory>
+        ensures { IfOk result (λ left. left.items ≡ rows_of_run self.now rows.now) }
+    {
+        let lent = references(alloc, rows)?;
+        self.rows(alloc, &lent)
+    }
+}
+
+impl End<'_> {
+    /// What becomes of the documents.
+    fn rows(&self, alloc: Global, documents: &[&Document]) -> Result<Vec<Document>, NoMemory>
+        ensures { IfOk result (λ rows. rows.items ≡ ended self.now (referred documents.now)) }
+    {
+        match self {
+            End::Front(most) => each(alloc, &[], *most, documents),
+            End::Sort(spec, most) => sorted(alloc, spec, *most, documents),
+            End::Group(group) => group.rows(alloc, documents),
+        }
+    }
+}
+
+/// The stage, by how rows go through it, as far as later ones see them.
+fn part_of<'a>(
+    alloc: Global,
+    stage: &'a Stage,
+    later: &[Stage],
+    source: &str,
+    sources: &'a Sources<'a>,
+) -> Result<Part<'a>, NoMemory>
+    ensures { IfOk result (λ part. (rows : List Row) → defined.through later.now source.now (lists_of sources.now) (rows_of_part part rows) ≡ defined.through (stage.now ∷ later.now) source.now (lists_of sources.now) rows) }
+{
+    match stage {
+        Stage::Match(filter) => Ok(Part::Step(Step::of(Work::Match(filter)))),
+        Stage::Project(project) => Ok(Part::Step(Step::of(Work::Project(project)))),
+        Stage::Unwind(unwind) => Ok(Part::Step(Step::of(Work::Unwind(unwind)))),
+        Stage::Sort(spec) => Ok(Part::End(End::Sort(spec, wanted(later)))),
+        Stage::Limit(count) => Ok(Part::End(End::Front(Some(*count as usize)))),
+        Stage::Group(group) => Ok(Part::End(End::Group(group))),
+        Stage::Lookup(lookup) => {
+            let foreign = sources.beside(source, lookup.from.as_str());
+            Ok(Part::Step(Step::of(Work::Lookup(lookup.join(alloc, foreign)?))))
+        }
+    }
+}
+
+/// How many of the first rows the stages see, where there are more.
+fn wanted(stages: &[Stage]) -> Option<usize>
+    ensures { result ≡ wanted_by stages.now }
+{
+    match stages.first() {
+        Some(Stage::Limit(count)) => Some(*count as usize),
+        _ => None,
+    }
+}
+
+/// What the steps make of the documents: the first `most`, behind which no document is looked at, or all.
+fn each(
+    alloc: Global,
+    steps: &[Step<'_>],
+    most: Option<usize>,
+    documents: &[&Document],
+) -> Result<Vec<Document>, NoMemory>
+    ensures { IfOk result (λ rows. rows.items ≡ front most (flat_map (passed steps.now) (referred documents.now))) }
+{
+    let mut rows = Vec::new(alloc);
+    'documents: for document in documents {
+        if is_full(&rows, most) {
+            break;
+        }
+        push_row(alloc, steps, document, &mut rows)?;
+    }
+    Ok(cut(rows, most))
+}
+
+/// Whether no row behind these is wanted.
+fn is_full(rows: &[Document], most: Option<usize>) -> bool
+    ensures { result ≡ true → (more : List Row) → front most (rows.now ++ more) ≡ front most rows.now }
+{
+    match most {
+        Some(most) => rows.len() >= most,
+        None => false,
+    }
+}
+
+/// The first rows, so many at most, or all.
+fn cut(rows: Vec<Document>, most: Option<usize>) -> Vec<Document>
+    ensures { result.items ≡ front most rows.items }
+{
+    let mut left = rows;
+    if let Some(most) = most {
+        left.truncate(most);
+    }
+    left
+}
+
+/// References to the rows.
+fn references<'r>(alloc: Global, rows: &'r [Document]) -> Result<Vec<&'r Document>, NoMemory>
+    ensures { IfOk result (λ lent. referred lent.items ≡ rows.now) }
+{
+    let mut lent = Vec::with_capacity(alloc, rows.len())?;
+    'rows: for row in rows {
+        lent.push(row)?;
+    }
+    Ok(lent)
+}
+
+/// The documents in order: the first `most`, or all.
+fn sorted(
+    alloc: Global,
+    spec: &SortSpec,
+    most: Option<usize>,
+    documents: &[&Document],
+) -> Result<Vec<Document>, NoMemory>
+    ensures { IfOk result (λ rows. rows.items ≡ front most (stable spec.now (referred documents.now))) }
+{
+    laws::one_row_more();
+    let mut sorter = Sorter::new(alloc, spec, most);
+    'documents: for document in documents {
+        sorter.push(document.try_clone()?)?;
+    }
+    sorter.into_rows()
+}

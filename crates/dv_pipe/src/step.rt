@@ -1,0 +1,120 @@
+//! Stages that work on one row each.
+
+ghost use Rattle.std.specs.Prelude.{◌≡◌, ◌++◌, OnOk};
+ghost use Rattle.std.specs.List.{flat_map};
+ghost use Rattle.dv_pipe.specs.Parts.{passed, rows_of_work, rows_of_step};
+
+use dv_bson::{Document, NoMemory};
+use dv_gather::Join;
+use dv_match::Filter;
+use dv_row::{Project, Unwind};
+use std::alloc::Global;
+use std::cell::Cell;
+
+/// What makes rows of one row.
+#[derive(Debug, Drop)]
+pub(crate) enum Work<'a> {
+    /// The row, where it matches the filter.
+    Match(&'a Filter),
+    /// The row as it is shown.
+    Project(&'a Project),
+    /// A row for each element of an array.
+    Unwind(&'a Unwind),
+    /// The row with the documents that it is joined with.
+    Lookup(Join<'a>),
+}
+
+/// Work on rows that come one after the other.
+#[derive(Drop)]
+pub(crate) struct Step<'a> {
+    work: Work<'a>,
+    /// What was made of the row before, where other steps follow: it lends its names.
+    made: Cell<Option<Document>>,
+}
+
+impl<'a> Step<'a> {
+    /// The work, before the first row.
+    pub(crate) fn of(work: Work<'a>) -> Self
+        ensures { rows_of_step result ≡ rows_of_work work.entry }
+    {
+        Step {
+            work,
+            made: Cell::new(None),
+        }
+    }
+}
+
+/// Puts what the steps make of a row behind other rows: it goes through all of them before the next one begins. As deep as
+/// there are steps, of which a pipeline has 16 at most.
+#[cycle(steps)]
+pub(crate) fn push_row(
+    alloc: Global,
+    steps: &[Step<'_>],
+    row: &Document,
+    rows: &mut Vec<Document>,
+) -> Result<(), NoMemory>
+    ensures { OnOk result (rows.new.items ≡ rows.old.items ++ passed steps.now row.now) }
+{
+    let Some((step, later)) = steps.split_first() else {
+        rows.push(row.try_clone()?)?;
+        return Ok(());
+    };
+    match &step.work {
+        Work::Match(filter) => {
+            if filter.matches(row) {
+                push_row(alloc, later, row, rows)?;
+            }
+            Ok(())
+        }
+        Work::Project(project) => {
+            let before = step.made.take();
+            let shown = project.row_behind(alloc, row, before.as_ref().or(rows.last()))?;
+            push_made(alloc, step, later, shown, rows)
+        }
+        Work::Unwind(unwind) => push_each(alloc, step, later, unwind.rows(alloc, row)?, rows),
+        Work::Lookup(join) => {
+            let before = step.made.take();
+            let joined = join.row_behind(alloc, row, before.as_ref().or(rows.last()))?;
+            push_made(alloc, step, later, joined, rows)
+        }
+    }
+}
+
+/// The same of what the later steps make of a row that the step made.
+#[cycle(steps)]
+fn push_made(
+    alloc: Global,
+    step: &Step<'_>,
+    later: &[Step<'_>],
+    mut row: Document,
+    rows: &mut Vec<Document>,
+) -> Result<(), NoMemory>
+    ensures { OnOk result (rows.new.items ≡ rows.old.items ++ passed later.now row) }
+{
+    if later.is_empty() {
+        // Its length is asked more than once before it is written.
+        row.keep_size();
+        rows.push(row)?;
+        return Ok(());
+    }
+    push_row(alloc, later, &row, rows)?;
+    step.made.set(Some(row));
+    Ok(())
+}
+
+/// The same of each of the rows.
+#[cycle(steps)]
+fn push_each(
+    alloc: Global,
+    step: &Step<'_>,
+    later: &[Step<'_>],
+    made: Vec<Document>,
+    rows: &mut Vec<Document>,
+) -> Result<(), NoMemory>
+    ensures { OnOk result (rows.new.items ≡ rows.old.items ++ flat_map (passed later.now) made.items) }
+{
+    'made: for row in made {
+        push_made(alloc, step, later, row, rows)?;
+    }
+    Ok(())
+}
