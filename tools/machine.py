@@ -579,6 +579,10 @@ class Machine:
             return None
         return self.end(number) if form[2] else self.feed(number, bytes.fromhex(form[3].decode()))
 
+    def load(self, place, document):
+        """Inserts a document in front of the script, beside any session."""
+        self.store.change(place, insert_one(self.store.collections.get(place, Collection()), document).changes)
+
     def session(self, number):
         """The session of this number, which is opened if it isn't open."""
         return self.sessions.setdefault(number, Session())

@@ -16,6 +16,10 @@ def check_examples(tell):
     """Each line of the table is answered as it says."""
     model = machine.Machine()
     for example in examples():
+        for place, documents in filter(None, (step.loaded for step in example.steps)):
+            for document in documents:
+                model.load(place, document)
+    for example in examples():
         for step in example.steps:
             said = [one.decode() for line in step.lines for one in model.line(line.encode())]
             tell(said == step.prints, "%s\n    %s\n    %s" % (example.title, step.text or step.lines[0], "\n    ".join(said)))

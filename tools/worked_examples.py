@@ -2,9 +2,9 @@
 """Makes the script with which each gate runs docd, and what it must print, of the examples in tools/worked_examples.txt.
 
 The examples and their replies are written by hand; this writes them as bytes. The file crates/docd/stdin has each line of
-the table as a comment above the lines that it stands for.
+the table as a comment above the lines that it stands for. The files that are loaded lie in crates/docd/data.
 
-    python3 tools/worked_examples.py             writes crates/docd/stdin and crates/docd/stdout
+    python3 tools/worked_examples.py             writes crates/docd/stdin, stdout, args and data
     python3 tools/worked_examples.py --look      says whether they are what the table gives
     python3 tools/worked_examples.py --program crates/docd/out/docd
                                                  has a program answer, and tells each example that it answers otherwise
@@ -26,8 +26,9 @@ TABLE = os.path.join(HERE, "worked_examples.txt")
 CRATE = os.path.join(os.path.dirname(HERE), "crates", "docd")
 SESSIONS = range(1000)
 
-# A line of the table: its text, the script's lines that it stands for, and what these print.
-Step = namedtuple("Step", "text lines prints")
+# A line of the table: its text, the script's lines that it stands for, what these print, and the namespace and the documents of
+# a file that is loaded.
+Step = namedtuple("Step", "text lines prints loaded", defaults=[None])
 Example = namedtuple("Example", "title steps")
 
 TITLE = re.compile(r"([a-z_]+): .*")
@@ -92,6 +93,8 @@ class Script:
         assert not printed, line
         if line.startswith("update "):
             return Step(line, *self.update(line))
+        if line.startswith("file "):
+            return Step(line, [], [], self.loaded(line))
         return Step(line, *self.command(line))
 
     def command(self, line):
@@ -109,6 +112,11 @@ class Script:
         assert bool(arrow) == (count == len(data)), line
         prints = [] if not arrow or wanted == "nothing" else [self.printed(session, request, self.reply(command, wanted))]
         return [session + " " + data[:count].hex()], prints
+
+    def loaded(self, line):
+        """The namespace and the documents of a file."""
+        _, name, documents = line.split(" ", 2)
+        return ("%s.%s" % (self.database, name)).encode(), [fields for _, fields in values(documents)]
 
     def update(self, line):
         """An update of a document that stands alone in a collection of its own."""
@@ -206,15 +214,22 @@ def examples():
 
 
 def written(found):
-    """The two files."""
+    """The files, by their names in the crate."""
     script, printed = ["# Made by tools/worked_examples.py of tools/worked_examples.txt."], []
+    args, files = ["run", "--hex"], {}
     for example in found:
         script += ["", "# " + example.title]
         for step in example.steps:
             script += ["# " + step.text] if step.text else []
             script += step.lines
             printed += step.prints
-    return {"stdin": "\n".join(script) + "\n", "stdout": "\n".join(printed) + "\n"}
+            if step.loaded:
+                place, documents = step.loaded
+                name = "%d.bson" % (len(files) + 1)
+                args += ["--load", place.decode() + "=" + name]
+                files[os.path.join("data", name)] = b"".join(map(spelling, documents))
+    texts = {"stdin": script, "stdout": printed, "args": args}
+    return {**{name: ("\n".join(lines) + "\n").encode() for name, lines in texts.items()}, **files}
 
 
 def differences(found, printed):
@@ -238,16 +253,17 @@ def main():
     given, found = options.parse_args(), examples()
     files, wrong = written(found), []
     if given.program:
-        done = subprocess.run([given.program, "run", "--hex"], input=files["stdin"].encode(), capture_output=True, timeout=120)
+        words = [os.path.abspath(given.program), *files["args"].decode().split()]
+        done = subprocess.run(words, cwd=os.path.join(CRATE, "data"), input=files["stdin"], capture_output=True, timeout=120)
         wrong = list(differences(found, done.stdout.decode().splitlines()))
         wrong += [done.stderr.decode()] if done.returncode else []
     for name, held in files.items():
         path = os.path.join(CRATE, name)
         if given.look:
-            with open(path, encoding="utf-8") as file:
+            with open(path, "rb") as file:
                 wrong += [path + " isn't what the table gives"] if file.read() != held else []
         elif not given.program:
-            with open(path, "w", encoding="utf-8") as file:
+            with open(path, "wb") as file:
                 file.write(held)
     for one in wrong:
         print("worked_examples: " + one)
