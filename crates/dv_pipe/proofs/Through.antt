@@ -77,10 +77,9 @@ module _ (s : Stage) (later : List Stage) (source : List ℕ) (lists : Lists) (r
     unfolding stage
     part_unwind u is e = behind (flat_map f rows) (ap (λ g. flat_map g rows) e ∙ ap (λ t. stage t rows (foreign_of s source lists)) (sym is))
 
-    pub part_lookup : (l : lookups.Lookup) (foreign : List Row) → s ≡ Lookup l → f ≡ (λ d. joined_row l foreign d ∷ []) → foreign ≡ lists (beside source l.from) → IsPart (flat_map f rows)
+    pub part_lookup : (l : lookups.Lookup) → s ≡ Lookup l → f ≡ (λ d. joined_row l (lists (beside source l.from)) d ∷ []) → IsPart (flat_map f rows)
     unfolding stage looked_up
-    part_lookup l foreign is e there =
-        behind (flat_map f rows) (ap (λ g. flat_map g rows) e ∙ flat_map_single (joined_row l foreign) rows ∙ ap (stage (Lookup l) rows) there ∙ ap (λ t. stage t rows (foreign_of t source lists)) (sym is))
+    part_lookup l is e = behind (flat_map f rows) (ap (λ g. flat_map g rows) e ∙ flat_map_single (joined_row l (lists (beside source l.from))) rows ∙ ap (λ t. stage t rows (foreign_of t source lists)) (sym is))
 
   pub part_sort : (parts : List Part) → s ≡ Sort parts → IsPart (front (wanted later) (stable parts rows))
   unfolding through stage

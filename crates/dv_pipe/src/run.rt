@@ -11,7 +11,7 @@ use crate::sources::Sources;
 use crate::stage::Stage;
 use crate::step::{Step, Work, push_row};
 use dv_bson::{Document, NoMemory};
-use dv_gather::Group;
+use dv_gather::{Group, Join, Lookup};
 use dv_path::SortSpec;
 use dv_sort::{Sorter, laws};
 use std::alloc::Global;
@@ -135,10 +135,22 @@ fn part_of<'a>(
         Stage::Limit(count) => Ok(Part::End(End::Front(Some(*count as usize)))),
         Stage::Group(group) => Ok(Part::End(End::Group(group))),
         Stage::Lookup(lookup) => {
-            let foreign = sources.beside(source, lookup.from.as_str());
-            Ok(Part::Step(Step::of(Work::Lookup(lookup.join(alloc, foreign)?))))
+            let join = join_of(alloc, lookup, source, sources)?;
+            Ok(Part::Step(Step::of(Work::Lookup(join))))
         }
     }
+}
+
+/// The look-up into the documents of its collection in the database of the source.
+fn join_of<'a>(
+    alloc: Global,
+    lookup: &'a Lookup,
+    source: &str,
+    sources: &'a Sources<'a>,
+) -> Result<Join<'a>, NoMemory>
+    ensures { IfOk result (λ join. join ≡ (lookup.now, lists_of sources.now (defined.beside source.now lookup.now.from))) }
+{
+    lookup.join(alloc, sources.beside(source, lookup.from.as_str()))
 }
 
 /// How many of the first rows the stages see, where there are more.

@@ -3,7 +3,7 @@ use Rattle.dv_sort.specs.Sorting.{stable, front}
 use Rattle.dv_pipe.specs.Parts.{rows_of_step, rows_of_work}
 use Rattle.dv_pipe.specs.declared.step.Work.TheVariants as work
 use Rattle.dv_pipe.specs.Sources.{lists_of}
-use Rattle.dv_pipe.specs.Stages.{beside, through}
+use Rattle.dv_pipe.specs.Stages.{through}
 use Rattle.dv_pipe.proofs.Through.{part_match, part_project, part_unwind, part_lookup, part_sort, part_limit, part_group}
 use Rattle.dv_pipe.proofs.run.part_of.Goals as goal
 
@@ -29,9 +29,4 @@ pub returns-in-Group : goal.returns-in-Group
 returns-in-Group c rows = part_group c.args.stage.now c.args.later.now c.args.source.now (lists_of c.args.sources.now) rows c.in-Group.group c.in-Group.is
 
 pub returns-in_ok-join-in-Lookup : goal.returns-in_ok-join-in-Lookup
-returns-in_ok-join-in-Lookup c rows =
-    let source = c.args.source.now in
-    let lists = lists_of c.args.sources.now in
-    let joined = ap (λ j. rows_of_work (work.Lookup j)) c.in_ok-join-in-Lookup.ensures in
-    let there = c.beside-foreign.ensures ∙ ap (λ name. lists (beside source name)) c.as_str.ensures in
-    part_lookup c.args.stage.now c.args.later.now source lists rows (rows_of_step c.of-in-Lookup.result) c.in-Lookup.lookup _ c.in-Lookup.is (c.of-in-Lookup.ensures ∙ joined) there
+returns-in_ok-join-in-Lookup c rows = part_lookup c.args.stage.now c.args.later.now c.args.source.now (lists_of c.args.sources.now) rows (rows_of_step c.of-in-Lookup.result) c.in-Lookup.lookup c.in-Lookup.is (c.of-in-Lookup.ensures ∙ ap (λ j. rows_of_work (work.Lookup j)) c.in_ok-join-in-Lookup.ensures)
