@@ -61,10 +61,6 @@ module _ (fs : List Field) (i : ℕ) (ys : List Edit) (so-far : edits_in fs ≡ 
   pub operators-end : length fs ≤ i → edits_in fs ≡ Ok ys
   operators-end past = so-far ∙ ap (λ l. behind ys (edits_in l)) (drop_of_length-le fs past) ∙ ap Ok (append-nil ys)
 
-pub none-behind : (r : Result (List Edit) UpdateFault) → r ≡ behind [] r
-none-behind (Ok es) = refl
-none-behind (Err e) = refl
-
 pub gives-fault : {X Y Y' : Type 0} (view : X → Y) (r : Result X UpdateFault) (e : UpdateFault) (part : Result Y' UpdateFault) (whole : Result Y UpdateFault) → r ≡ Err e → (e ≡ NoMemory) ⊎ (part ≡ Err e) → (part ≡ Err e → whole ≡ Err e) → Gives view r whole
 gives-fault view r e part whole is (inl m) f = rw is (inl m)
 gives-fault view r e part whole is (inr p) f = rw is (inr (f p))

@@ -234,10 +234,6 @@ no-conflict-more (e ∷ d ∷ es) x rest up none apart =
     let apart-x = apart-below e x (below-later e x (d ∷ es) rest up.0) not-x in
     or-none _ _ (any-none-append (conflicts e) (d ∷ es) x here apart-x) behind
 
-any-later : (p : Edit → Bool) (es : List Edit) (x : Edit) (rest : List Edit) → p x ≡ true → list_any p (es ++ x ∷ rest) ≡ true
-any-later p [] x rest h = or-first _ _ h
-any-later p (e ∷ es) x rest h = or-second _ _ (any-later p es x rest h)
-
 pub conflict-here : (done : List Edit) (x : Edit) (rest : List Edit) → last_begins x.0 done ≡ true → has_conflict (done ++ x ∷ rest) ≡ true
 conflict-here [] x rest h = cc
 conflict-here (e ∷ []) x rest h = or-first _ _ (or-first _ _ (or-first _ _ h))
@@ -247,9 +243,6 @@ conflict-here (e ∷ d ∷ es) x rest h = or-second _ _ (conflict-here (d ∷ es
 pub record IsTaken (all done left : List Edit) : Type 0 where
   pub whole : all ≡ done ++ left
   pub apart : has_conflict done ≡ false
-
-pub none_taken : (all : List Edit) → IsTaken all [] all
-none_taken all = record { whole = refl; apart = refl }
 
 module _ {all done left : List Edit} (so-far : IsTaken all done left) (up : Rises all) (x : Edit) (rest : List Edit) (is : left ≡ x ∷ rest) where
   here : all ≡ done ++ x ∷ rest

@@ -79,13 +79,6 @@ module _ {xs ys us vs : List (List ℕ)} (left : IsLeft begins xs ys us vs) wher
   pub begins-ended : (length us ≡ 0) ⊎ (length vs ≡ 0) → nat_le (length xs) (length ys) ≡ begins xs ys
   begins-ended = ended left nat_le (λ n m e. grind (arith, nat_tests)) (λ w ws n m e. grind (arith, nat_tests)) (λ w ws n m e. grind (arith, nat_tests))
 
-  module _ {x y : List ℕ} {us' vs' : List (List ℕ)} (p : us ≡ x ∷ us') (q : vs ≡ y ∷ vs') where
-    pub begins-more : bytes_eq x y ≡ true → IsLeft begins xs ys us' vs'
-    begins-more h = IsLeft-more left p q (ap (λ b. b && begins us' vs') h)
-
-    pub begins-differs : bytes_eq x y ≡ false → false ≡ begins xs ys
-    begins-differs h = decided left p q false (ap (λ b. b && begins us' vs') h)
-
 -- ---- orders
 
 rest_is : (r o : Ordering) → false ≡ is_ne r → ordering_then r o ≡ o
