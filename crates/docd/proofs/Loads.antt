@@ -4,8 +4,9 @@ use Rattle.std.proofs.lemmas.List.{length-replicate}
 use Rattle.dv_bson.specs.Tree.{Field}
 use Rattle.dv_core.specs.Load.{IsCodeOf, loaded}
 use Rattle.dv_core.specs.State.{State}
-use Rattle.docd.specs.File.{Begins, Holds, failures_read_in as failures_of_file}
-use Rattle.docd.specs.Load.{IsWhy, Loads, LoadsEach, LoadsFile, failures_read_in, read_fault}
+use Rattle.docd.specs.File.{Begins, Holds, file_read_failed}
+use Rattle.docd.specs.Load.{IsWhy, Loads, LoadsEach, LoadsFile, load_read_failed, read_fault}
+use Rattle.docd.specs.Streams.{failures_told}
 use Rattle.docd.specs.declared.file.FileFault.{FileFault}
 use Rattle.docd.specs.declared.file.FileFault.TheVariants as file
 use Rattle.docd.specs.declared.load.LoadFault.{LoadFault}
@@ -82,13 +83,13 @@ unread_told A (Ok x) known namespace old fault told large = absurd told
 unread_told A (Err e) known namespace old fault told large =
     subst (λ f. (bytes : List ℕ) × IfSome known (λ whole. bytes ≡ whole) × LoadsFile {A = A} bytes namespace old (Err f) old) (sym told) (unread A known namespace old fault large)
 
-same_count : (A B : Type 0) (fault : FileFault) (old new : ℕ) → new ≡ failures_of_file {A = B} (Err fault) old → new ≡ failures_read_in {A = A} (Err (read_fault fault)) old
+same_count : (A B : Type 0) (fault : FileFault) (old new : ℕ) → new ≡ failures_told {A = B} file_read_failed (Err fault) old → new ≡ failures_told {A = A} load_read_failed (Err (read_fault fault)) old
 same_count A B file.Read old new counted = counted
 same_count A B file.TooLarge old new counted = counted
 same_count A B file.NoMemory old new counted = counted
 
 pub unread_counted : (A B : Type 0) (result : Result A LoadFault) (read : Result B FileFault) (fault : FileFault) (old new : ℕ) → IsErrAnd result (λ e. e ≡ read_fault fault) → read ≡ Err fault
-    → new ≡ failures_of_file read old → new ≡ failures_read_in result old
+    → new ≡ failures_told file_read_failed read old → new ≡ failures_told load_read_failed result old
 unread_counted A B (Ok x) read fault old new told is counted = absurd told
 unread_counted A B (Err e) read fault old new told is counted =
-    subst (λ f. new ≡ failures_read_in {A = A} (Err f) old) (sym told) (same_count A B fault old new (subst (λ read. new ≡ failures_of_file {A = B} read old) is counted))
+    subst (λ f. new ≡ failures_told {A = A} load_read_failed (Err f) old) (sym told) (same_count A B fault old new (subst (λ read. new ≡ failures_told {A = B} file_read_failed read old) is counted))

@@ -11,8 +11,8 @@ use Rattle.dv_wire.specs.Service.{AsksFew, most_reads}
 use Rattle.dv_wire.specs.Stream.{MoreBy, once_more}
 use Rattle.docd.specs.Pieces.{StopsIn, Takes}
 use Rattle.docd.specs.Script.{DoesLine, DoesLines, HasNoLf, Runs, Standing, begun, is_lf, standing_of}
-use Rattle.docd.specs.Stops.{Asks, DoesWhole, EndsAt, FailsWriting, OfScript, Stops, StopsBy, failures_read_in, failures_written_in}
-use Rattle.docd.specs.Streams.{failures_behind}
+use Rattle.docd.specs.Stops.{Asks, DoesWhole, EndsAt, FailsWriting, OfScript, Stops, StopsBy, script_read_failed, script_write_failed}
+use Rattle.docd.specs.Streams.{failures_behind, failures_told}
 use Rattle.docd.specs.declared.script.ScriptFault.{ScriptFault}
 use Rattle.docd.specs.declared.sessions.Sessions as table
 use Rattle.docd.specs.declared.script.ScriptFault.TheVariants.{BadLine, Read, TooManyReads, Write, NoMemory, Sessions}
@@ -280,7 +280,7 @@ stops_kept Sessions old from to before middle after new h kept = (h.0, h.1, h.2,
 
 -- behind a script that is done to its end nothing fails but that flush
 pub record Flushes (A : Type 0) (result : Result A ScriptFault) : Type 0 where
-  pub reader : (n : ℕ) → failures_read_in result n ≡ n
+  pub reader : (n : ℕ) → failures_told script_read_failed result n ≡ n
   pub writer : (n : ℕ) → FailsWriting result n (failures_behind result n)
   pub reads : (old new : ℕ) → AsksFew old new → Asks result old new
 
@@ -292,7 +292,7 @@ flushes A (Ok done) fault = record { reader = λ n. refl; writer = λ n. refl; r
 flushes A (Err e) fault = subst (λ f. Flushes A (Err f)) (sym fault) (flushes_err A)
 
 -- behind another fault of the reading than the writer's
-fails_by : (A B : Type 0) (fault : ScriptFault) (flushed : Result B ScriptFault) (old mid new : ℕ) → (fault ≡ Write → ⊥) → mid ≡ failures_written_in {A = A} (Err fault) old → new ≡ failures_behind flushed mid
+fails_by : (A B : Type 0) (fault : ScriptFault) (flushed : Result B ScriptFault) (old mid new : ℕ) → (fault ≡ Write → ⊥) → mid ≡ failures_told {A = A} script_write_failed (Err fault) old → new ≡ failures_behind flushed mid
     → FailsWriting {A = A} (Err fault) old new
 fails_by A B (BadLine n) (Ok x) old mid new other before last = inl (last ∙ before)
 fails_by A B (BadLine n) (Err e) old mid new other before last = inr (last ∙ ap once_more before)
@@ -306,10 +306,10 @@ fails_by A B NoMemory (Err e) old mid new other before last = inr (last ∙ ap o
 fails_by A B Sessions (Ok x) old mid new other before last = inl (last ∙ before)
 fails_by A B Sessions (Err e) old mid new other before last = inr (last ∙ ap once_more before)
 
-pub fails_behind : (A B : Type 0) (read : Result A ScriptFault) (fault : ScriptFault) (flushed : Result B ScriptFault) (old mid new : ℕ) → read ≡ Err fault → (fault ≡ Write → ⊥) → mid ≡ failures_written_in read old → new ≡ failures_behind flushed mid
+pub fails_behind : (A B : Type 0) (read : Result A ScriptFault) (fault : ScriptFault) (flushed : Result B ScriptFault) (old mid new : ℕ) → read ≡ Err fault → (fault ≡ Write → ⊥) → mid ≡ failures_told script_write_failed read old → new ≡ failures_behind flushed mid
     → FailsWriting {A = A} (Err fault) old new
 fails_behind A B read fault flushed old mid new is other before last =
-    fails_by A B fault flushed old mid new other (subst (λ r. mid ≡ failures_written_in r old) is before) last
+    fails_by A B fault flushed old mid new other (subst (λ r. mid ≡ failures_told script_write_failed r old) is before) last
 
 pub on_ok : (A E : Type 0) (result : Result A E) (P : Type 0) → P → OnOk result P
 on_ok A E (Ok x) P p = p

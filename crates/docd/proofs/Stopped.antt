@@ -7,7 +7,8 @@ use Rattle.dv_wire.specs.declared.fault.HubFault.TheVariants as hub
 use Rattle.docd.specs.Line.{IsLine}
 use Rattle.docd.specs.Output.{AreReplies, first_length}
 use Rattle.docd.specs.Script.{Does, Standing, open_fault}
-use Rattle.docd.specs.Stops.{EndsAt, OpensNone, StopsLine, failures_read_in, failures_written_in, number_in}
+use Rattle.docd.specs.Stops.{EndsAt, OpensNone, StopsLine, number_in, script_read_failed, script_write_failed}
+use Rattle.docd.specs.Streams.{failures_told}
 use Rattle.docd.specs.declared.said.Line.{Line}
 use Rattle.docd.specs.declared.script.ScriptFault.{ScriptFault}
 use Rattle.docd.specs.declared.script.ScriptFault.TheVariants.{BadLine, Read, TooManyReads, Write, NoMemory, Sessions}
@@ -56,7 +57,7 @@ ends_at NoMemory old meant number line new is (inr done) = (refl, inr (done.0, d
 ends_at Sessions old meant number line new is stops = (refl, (meant, is, stops))
 
 pub streams_still : {A : Type 0} (result : Result A ScriptFault) (old : Standing) (meant : Line) (new : World) → IfErr result (λ fault. StopsLine fault old meant new)
-    → (n : ℕ) → (failures_read_in result n ≡ n) × (failures_written_in result n ≡ n)
+    → (n : ℕ) → (failures_told script_read_failed result n ≡ n) × (failures_told script_write_failed result n ≡ n)
 streams_still (Ok done) old meant new stops n = (refl, refl)
 streams_still (Err (BadLine m)) old meant new stops n = absurd stops
 streams_still (Err Read) old meant new stops n = absurd stops

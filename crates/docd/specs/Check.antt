@@ -1,6 +1,5 @@
 -- The faults of a check.
-use Rattle.std.specs.Prelude.{ℕ, Result, Ok, Err}
-use Rattle.dv_wire.specs.Stream.{once_more}
+use Rattle.std.specs.Prelude.{Bool, true, false}
 use Rattle.docd.specs.declared.check.CheckFault.{CheckFault}
 use Rattle.docd.specs.declared.check.CheckFault.TheVariants as faults
 use Rattle.docd.specs.declared.file.FileFault.{FileFault}
@@ -12,20 +11,10 @@ read_fault Read = faults.Read
 read_fault TooLarge = faults.TooLarge
 read_fault NoMemory = faults.NoMemory
 
--- how often a reader has failed, behind a check: once more where that is told, and else as before
-abbrev pub failures_read_in : {A : Type 0} → Result A CheckFault → ℕ → ℕ
-failures_read_in (Ok done) failures = failures
-failures_read_in (Err faults.Read) failures = once_more failures
-failures_read_in (Err faults.Write) failures = failures
-failures_read_in (Err (faults.Document number at fault)) failures = failures
-failures_read_in (Err faults.TooLarge) failures = failures
-failures_read_in (Err faults.NoMemory) failures = failures
+abbrev pub check_read_failed : CheckFault → Bool
+check_read_failed faults.Read = true
+check_read_failed fault = false
 
--- and a writer
-abbrev pub failures_written_in : {A : Type 0} → Result A CheckFault → ℕ → ℕ
-failures_written_in (Ok done) failures = failures
-failures_written_in (Err faults.Read) failures = failures
-failures_written_in (Err faults.Write) failures = once_more failures
-failures_written_in (Err (faults.Document number at fault)) failures = failures
-failures_written_in (Err faults.TooLarge) failures = failures
-failures_written_in (Err faults.NoMemory) failures = failures
+abbrev pub check_write_failed : CheckFault → Bool
+check_write_failed faults.Write = true
+check_write_failed fault = false

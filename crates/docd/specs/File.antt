@@ -1,12 +1,11 @@
 -- Files of documents: their spellings, one behind the other.
-use Rattle.std.specs.Prelude.{◌≡◌, ℕ, ◌+◌, ◌<◌, List, ◌++◌, length, codes, Result, Ok, Err, Some}
+use Rattle.std.specs.Prelude.{◌≡◌, ℕ, ◌+◌, ◌<◌, List, ◌++◌, length, codes, Bool, true, false, Some}
 use Rattle.std.specs.Fmt.{decimal}
 use Rattle.std.specs.List.{AllByRecursion, flat_map}
 use Rattle.dv_bson.specs.Tree.{Field}
 use Rattle.dv_bson.specs.Spelling.{spelling, Spells, Fits}
 use Rattle.dv_bson.specs.Reading.{first_fault}
 use Rattle.dv_bson.specs.declared.fault.BsonFault.{BsonFault}
-use Rattle.dv_wire.specs.Stream.{once_more}
 use Rattle.docd.specs.declared.file.FileFault.{FileFault}
 use Rattle.docd.specs.declared.file.FileFault.TheVariants.{Read, TooLarge, NoMemory}
 
@@ -39,12 +38,9 @@ pub record FirstFault (bytes : List ℕ) (number at : ℕ) (fault : BsonFault) :
   pub more : 0 < length rest
   pub first : first_fault rest ≡ Some fault
 
--- how often a reader has failed, behind the reading of a file: once more where that is told, and else as before
-abbrev pub failures_read_in : {A : Type 0} → Result A FileFault → ℕ → ℕ
-failures_read_in (Ok done) failures = failures
-failures_read_in (Err Read) failures = once_more failures
-failures_read_in (Err TooLarge) failures = failures
-failures_read_in (Err NoMemory) failures = failures
+abbrev pub file_read_failed : FileFault → Bool
+file_read_failed Read = true
+file_read_failed fault = false
 
 -- what is printed for a file of so many documents
 abbrev pub ok_line : ℕ → List ℕ

@@ -1,10 +1,9 @@
 -- Loading the documents of a file, one after the other.
-use Rattle.std.specs.Prelude.{◌≡◌, ◌≢◌, ◌⊎◌, ⊤, ℕ, ◌+◌, ◌<◌, ℤ, pos, List, [], ◌∷◌, ◌++◌, length, Result, Ok, Err, Some}
+use Rattle.std.specs.Prelude.{◌≡◌, ◌≢◌, ◌⊎◌, ⊤, ℕ, ◌+◌, ◌<◌, ℤ, pos, List, [], ◌∷◌, ◌++◌, length, Bool, true, false, Result, Ok, Err, Some}
 use Rattle.dv_bson.specs.Tree.{Field}
 use Rattle.dv_bson.specs.Reading.{first_fault}
 use Rattle.dv_core.specs.Load.{IsCodeOf, loaded}
 use Rattle.dv_core.specs.State.{State}
-use Rattle.dv_wire.specs.Stream.{once_more}
 use Rattle.docd.specs.File.{Begins, Holds}
 use Rattle.docd.specs.declared.file.FileFault.{FileFault}
 use Rattle.docd.specs.declared.file.FileFault.TheVariants as file
@@ -17,14 +16,9 @@ read_fault file.Read = Read
 read_fault file.TooLarge = TooLarge
 read_fault file.NoMemory = NoMemory
 
--- how often a reader has failed, behind a load: once more where that is told, and else as before
-abbrev pub failures_read_in : {A : Type 0} → Result A LoadFault → ℕ → ℕ
-failures_read_in (Ok done) failures = failures
-failures_read_in (Err Read) failures = once_more failures
-failures_read_in (Err TooLarge) failures = failures
-failures_read_in (Err (Document number at fault)) failures = failures
-failures_read_in (Err (Refused number at code)) failures = failures
-failures_read_in (Err NoMemory) failures = failures
+abbrev pub load_read_failed : LoadFault → Bool
+load_read_failed Read = true
+load_read_failed fault = false
 
 -- documents are loaded under a namespace, one after the other, and this is left
 abbrev pub LoadsEach : List ℕ → List (List Field) → State → State → Type 0
@@ -61,7 +55,7 @@ IsWhy (Refused n a code) namespace state rest number at = (n ≡ number) × (a �
 IsWhy NoMemory namespace state rest number at = ⊤
 
 -- loading stops at the next document
-pub record Stops (file namespace : List ℕ) (old : State) (fault : LoadFault) (new : State) : Type 0 where
+pub record StopsLoading (file namespace : List ℕ) (old : State) (fault : LoadFault) (new : State) : Type 0 where
   pub documents : List (List Field)
   pub rest : List ℕ
   pub number : ℕ
@@ -76,6 +70,6 @@ abbrev pub LoadsFile : {A : Type 0} → List ℕ → List ℕ → State → Resu
 LoadsFile file namespace old (Ok done) new = (documents : List (List Field)) × Loads file namespace old documents [] new
 LoadsFile file namespace old (Err Read) new = new ≡ old
 LoadsFile file namespace old (Err TooLarge) new = (1073741824 < length file) × (new ≡ old)
-LoadsFile file namespace old (Err (Document number at fault)) new = Stops file namespace old (Document number at fault) new
-LoadsFile file namespace old (Err (Refused number at code)) new = Stops file namespace old (Refused number at code) new
-LoadsFile file namespace old (Err NoMemory) new = (new ≡ old) ⊎ Stops file namespace old NoMemory new
+LoadsFile file namespace old (Err (Document number at fault)) new = StopsLoading file namespace old (Document number at fault) new
+LoadsFile file namespace old (Err (Refused number at code)) new = StopsLoading file namespace old (Refused number at code) new
+LoadsFile file namespace old (Err NoMemory) new = (new ≡ old) ⊎ StopsLoading file namespace old NoMemory new

@@ -1,5 +1,5 @@
 -- Serving connections, one after the other.
-use Rattle.std.specs.Prelude.{◌≡◌, ℕ, ◌+◌, List, [], ◌∷◌, ◌++◌, length, codes, Option, Some, None, Result, Ok, Err, ⊤, IfSome}
+use Rattle.std.specs.Prelude.{◌≡◌, ℕ, ◌+◌, List, [], ◌∷◌, ◌++◌, length, codes, Bool, true, false, Option, Some, None, Result, Ok, Err, ⊤, IfSome}
 use Rattle.std.specs.Fmt.{decimal}
 use Rattle.dv_wire.specs.Fault.{close_number}
 use Rattle.dv_wire.specs.Schedule.{World}
@@ -7,7 +7,6 @@ use Rattle.dv_wire.specs.Service.{ComesTo}
 use Rattle.dv_wire.specs.declared.fault.CloseFault.{CloseFault}
 use Rattle.dv_wire.specs.declared.fault.RunFault.{RunFault}
 use Rattle.dv_wire.specs.declared.service.Done.{Done}
-use Rattle.dv_wire.specs.Stream.{once_more}
 use Rattle.docd.specs.declared.serve.ServeFault.{ServeFault}
 use Rattle.docd.specs.declared.serve.ServeFault.TheVariants.{Accept, Write}
 
@@ -83,14 +82,10 @@ pub record Served (count : ℕ) (coming_old coming_new : Option (List (List ℕ)
   pub close : Close closed_old connections closed_new
   pub each : ServesEach 1 connections old text new
 
--- how often a port has failed, behind so many connections: once more where that is told, and else as before
-abbrev pub failures_accepted_in : {A : Type 0} → Result A ServeFault → ℕ → ℕ
-failures_accepted_in (Ok done) failures = failures
-failures_accepted_in (Err Accept) failures = once_more failures
-failures_accepted_in (Err Write) failures = failures
+abbrev pub accept_failed : ServeFault → Bool
+accept_failed Accept = true
+accept_failed Write = false
 
--- and a writer
-abbrev pub failures_written_in : {A : Type 0} → Result A ServeFault → ℕ → ℕ
-failures_written_in (Ok done) failures = failures
-failures_written_in (Err Accept) failures = failures
-failures_written_in (Err Write) failures = once_more failures
+abbrev pub serve_write_failed : ServeFault → Bool
+serve_write_failed Accept = false
+serve_write_failed Write = true

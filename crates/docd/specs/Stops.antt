@@ -1,5 +1,5 @@
 -- Scripts that end before their last line.
-use Rattle.std.specs.Prelude.{◌≡◌, ◌⊎◌, ℕ, suc, List, [], ◌∷◌, ◌++◌, length, Option, Some, None, Result, Ok, Err, IfSome, slice_get}
+use Rattle.std.specs.Prelude.{◌≡◌, ◌⊎◌, ℕ, suc, List, [], ◌∷◌, ◌++◌, length, Bool, true, false, Option, Some, None, Result, Ok, Err, IfSome, slice_get}
 use Rattle.std.specs.Io.KnownBytes.{Appends, Consumes}
 use Rattle.std.specs.List.{slice_split}
 use Rattle.dv_wire.specs.Schedule.{World, Opens}
@@ -98,25 +98,13 @@ StopsBy Sessions old from to before after new = OfScript (λ script text. Stops 
 
 -- ---- readers and writers
 
--- how often a reader has failed, behind a script: once more where that is told, and else as before
-abbrev pub failures_read_in : {A : Type 0} → Result A ScriptFault → ℕ → ℕ
-failures_read_in (Ok done) failures = failures
-failures_read_in (Err (BadLine n)) failures = failures
-failures_read_in (Err Read) failures = once_more failures
-failures_read_in (Err TooManyReads) failures = failures
-failures_read_in (Err Write) failures = failures
-failures_read_in (Err NoMemory) failures = failures
-failures_read_in (Err Sessions) failures = failures
+abbrev pub script_read_failed : ScriptFault → Bool
+script_read_failed Read = true
+script_read_failed fault = false
 
--- and a writer
-abbrev pub failures_written_in : {A : Type 0} → Result A ScriptFault → ℕ → ℕ
-failures_written_in (Ok done) failures = failures
-failures_written_in (Err (BadLine n)) failures = failures
-failures_written_in (Err Read) failures = failures
-failures_written_in (Err TooManyReads) failures = failures
-failures_written_in (Err Write) failures = once_more failures
-failures_written_in (Err NoMemory) failures = failures
-failures_written_in (Err Sessions) failures = failures
+abbrev pub script_write_failed : ScriptFault → Bool
+script_write_failed Write = true
+script_write_failed fault = false
 
 -- a writer fails where that is told; behind another fault it may fail to hand on what it took, which isn't told
 abbrev pub FailsWriting : {A : Type 0} → Result A ScriptFault → ℕ → ℕ → Type 0

@@ -3,9 +3,9 @@
 ghost use Rattle.std.specs.Prelude.{◌≡◌, ◌≢◌, ◌⊎◌, ◌<◌, ◌≤◌, ℕ, List, Ok, Err, Some, length, IfErr, IfOk, IfSome, OnOk};
 ghost use Rattle.std.specs.Io.KnownBytes.{Appends, Keeps};
 ghost use Rattle.dv_bson.specs.Tree.{Field};
-ghost use Rattle.docd.specs.Check.{failures_read_in, failures_written_in};
+ghost use Rattle.docd.specs.Check.{check_read_failed, check_write_failed};
 ghost use Rattle.docd.specs.File.{FirstFault, Holds, ok_line};
-ghost use Rattle.docd.specs.Streams.{failures_behind};
+ghost use Rattle.docd.specs.Streams.{failures_behind, failures_told};
 ghost use Rattle.dv_bson.specs.declared.fault.BsonFault.{BsonFault};
 
 use crate::file::{FileFault, behind_document, read_file};
@@ -41,7 +41,7 @@ impl CheckFault {
     fn of_document(number: usize, at: usize, fault: BsonFault) -> CheckFault
         ensures memory { fault ≡ BsonFault.NoMemory → result ≡ CheckFault.NoMemory }
         ensures other { fault ≢ BsonFault.NoMemory → result ≡ CheckFault.Document number at fault }
-        ensures streams { (n : ℕ) → (failures_read_in {A = ℕ} (Err result) n ≡ n) × (failures_written_in {A = ℕ} (Err result) n ≡ n) }
+        ensures streams { (n : ℕ) → (failures_told {A = ℕ} check_read_failed (Err result) n ≡ n) × (failures_told {A = ℕ} check_write_failed (Err result) n ≡ n) }
         ensures small { result ≢ CheckFault.TooLarge }
         ensures read { result ≢ CheckFault.Write }
         ensures told { (n a : ℕ) (f : BsonFault) → result ≡ CheckFault.Document n a f → (n ≡ number) × (a ≡ at) × (f ≡ fault) }
@@ -84,8 +84,8 @@ pub fn check<R: ByteIn, W: TextOut>(
     ensures large { result ≡ Err CheckFault.TooLarge → IfSome (R.remaining reader.old) (λ file. 1073741824 < length file) }
     ensures tried { result ≡ Err CheckFault.Write → IfSome (R.remaining reader.old) (λ file. (documents : List (List Field)) × Holds documents file × (length file ≤ 1073741824)) }
     ensures unwritten { IfErr result (λ e. (e ≡ CheckFault.Write) ⊎ Keeps (W.contents writer.old) (W.contents writer.new)) }
-    ensures reader { R.failures reader.new ≡ failures_read_in result (R.failures reader.old) }
-    ensures writer { W.failures writer.new ≡ failures_written_in result (W.failures writer.old) }
+    ensures reader { R.failures reader.new ≡ failures_told check_read_failed result (R.failures reader.old) }
+    ensures writer { W.failures writer.new ≡ failures_told check_write_failed result (W.failures writer.old) }
 {
     let bytes = read_file(alloc, reader)?;
     let count = count(alloc, bytes.as_slice())?;
@@ -106,7 +106,7 @@ fn count(alloc: Global, bytes: &[u8]) -> Result<usize, CheckFault>
     ensures counted { IfOk result (λ n. (documents : List (List Field)) × Holds documents bytes.now × (n ≡ length documents)) }
     ensures only { (documents : List (List Field)) → Holds documents bytes.now → (result ≡ Ok (length documents)) ⊎ (result ≡ Err CheckFault.NoMemory) }
     ensures refused { (number at : ℕ) (fault : BsonFault) → result ≡ Err (CheckFault.Document number at fault) → FirstFault bytes.now number at fault }
-    ensures streams { (n : ℕ) → (failures_read_in result n ≡ n) × (failures_written_in result n ≡ n) }
+    ensures streams { (n : ℕ) → (failures_told check_read_failed result n ≡ n) × (failures_told check_write_failed result n ≡ n) }
     ensures small { result ≢ Err CheckFault.TooLarge }
     ensures read { result ≢ Err CheckFault.Write }
 {

@@ -1,6 +1,7 @@
 //! Why the program ends without having done all.
 
 ghost use Rattle.std.specs.Prelude.{◌≡◌, ◌≢◌};
+ghost use Rattle.docd.specs.Faults.{NamesCode, TellsLoad, fault_of_check};
 
 use crate::check::CheckFault;
 use crate::load::LoadFault;
@@ -70,7 +71,9 @@ pub enum DocdFault {
 
 impl DocdFault {
     /// Why a file is not `ok`.
-    pub fn of_check(file: String, fault: CheckFault) -> DocdFault {
+    pub fn of_check(file: String, fault: CheckFault) -> DocdFault
+        ensures { result ≡ fault_of_check file fault }
+    {
         match fault {
             CheckFault::Read => DocdFault::CannotRead { file },
             CheckFault::Write => DocdFault::Write,
@@ -86,7 +89,9 @@ impl DocdFault {
     }
 
     /// Why a file is not loaded.
-    pub fn of_load(file: String, fault: LoadFault) -> DocdFault {
+    pub fn of_load(file: String, fault: LoadFault) -> DocdFault
+        ensures { TellsLoad file fault result }
+    {
         match fault {
             LoadFault::Read => DocdFault::CannotRead { file },
             LoadFault::TooLarge => DocdFault::TooLarge { file },
@@ -108,7 +113,9 @@ impl DocdFault {
 }
 
 // The name of a code with which a document is refused.
-fn why_refused(code: i32) -> &'static str {
+fn why_refused(code: i32) -> &'static str
+    ensures { NamesCode code result.now }
+{
     match code {
         2 => "BadValue",
         901 => "TooLarge",
@@ -138,12 +145,21 @@ impl From<WordFault> for DocdFault {
 }
 
 impl From<CloseFault> for DocdFault {
+    ghost use Rattle.dv_wire.specs.Fault.{close_number};
+    ghost use Rattle.docd.specs.declared.fault.DocdFault.TheVariants.{Closed};
+
+    ghost from_gives = { λ fault e. e ≡ Closed (close_number fault) };
+
     fn from(fault: CloseFault) -> DocdFault {
         DocdFault::Closed(fault.number())
     }
 }
 
 impl From<RunFault> for DocdFault {
+    ghost use Rattle.docd.specs.Faults.{fault_of_run};
+
+    ghost from_gives = { λ fault e. e ≡ fault_of_run fault };
+
     fn from(fault: RunFault) -> DocdFault {
         match fault {
             RunFault::Read | RunFault::TooManyReads => DocdFault::Read,
@@ -155,6 +171,10 @@ impl From<RunFault> for DocdFault {
 }
 
 impl From<ServeFault> for DocdFault {
+    ghost use Rattle.docd.specs.Faults.{fault_of_serve};
+
+    ghost from_gives = { λ fault e. e ≡ fault_of_serve fault };
+
     fn from(fault: ServeFault) -> DocdFault {
         match fault {
             ServeFault::Accept => DocdFault::Serve,

@@ -3,7 +3,8 @@
 ghost use Rattle.std.specs.Prelude.{◌≡◌, ◌⊎◌, ◌<◌, ◌≤◌, ℕ, List, Err, Some, length, IfErr, IfOk, IfSome, MatchResult};
 ghost use Rattle.dv_bson.specs.Reading.{first_fault};
 ghost use Rattle.dv_bson.specs.Tree.{Field};
-ghost use Rattle.docd.specs.File.{Begins, failures_read_in};
+ghost use Rattle.docd.specs.File.{Begins, file_read_failed};
+ghost use Rattle.docd.specs.Streams.{failures_told};
 
 use crate::streams::piece;
 use dv_bson::{BsonFault, Document, check_document, read_document};
@@ -39,7 +40,7 @@ pub fn read_file<R: ByteIn>(alloc: Global, reader: &mut R) -> Result<Vec<u8>, Fi
     ensures whole { IfOk result (λ bytes. IfSome (R.remaining reader.old) (λ file. bytes.items ≡ file)) }
     ensures limit { IfOk result (λ bytes. length bytes.items ≤ 1073741824) }
     ensures large { result ≡ Err FileFault.TooLarge → IfSome (R.remaining reader.old) (λ file. 1073741824 < length file) }
-    ensures reader { R.failures reader.new ≡ failures_read_in result (R.failures reader.old) }
+    ensures reader { R.failures reader.new ≡ failures_told file_read_failed result (R.failures reader.old) }
 {
     let mut piece = piece(alloc)?;
     let mut bytes = Vec::new(alloc);

@@ -5,7 +5,8 @@ ghost use Rattle.dv_bson.specs.declared.fault.BsonFault.{BsonFault};
 ghost use Rattle.dv_bson.specs.Tree.{Field};
 ghost use Rattle.dv_core.specs.Load.{loaded};
 ghost use Rattle.docd.specs.File.{Begins};
-ghost use Rattle.docd.specs.Load.{IsWhy, LoadsFile, failures_read_in};
+ghost use Rattle.docd.specs.Load.{IsWhy, LoadsFile, load_read_failed};
+ghost use Rattle.docd.specs.Streams.{failures_told};
 
 use crate::file::{FileFault, first_document, read_file};
 use dv_bson::BsonFault;
@@ -49,7 +50,7 @@ impl LoadFault {
     fn of_document(number: usize, at: usize, fault: BsonFault) -> LoadFault
         ensures memory { fault ≡ BsonFault.NoMemory → result ≡ LoadFault.NoMemory }
         ensures other { fault ≢ BsonFault.NoMemory → result ≡ LoadFault.Document number at fault }
-        ensures reader { (n : ℕ) → failures_read_in {A = ℕ} (Err result) n ≡ n }
+        ensures reader { (n : ℕ) → failures_told {A = ℕ} load_read_failed (Err result) n ≡ n }
     {
         match fault {
             BsonFault::NoMemory => LoadFault::NoMemory,
@@ -61,7 +62,7 @@ impl LoadFault {
     fn of_code(number: usize, at: usize, code: i32) -> LoadFault
         ensures memory { code ≡ pos 900 → result ≡ LoadFault.NoMemory }
         ensures either { (result ≡ LoadFault.NoMemory) ⊎ ((result ≡ LoadFault.Refused number at code) × (code ≢ pos 900)) }
-        ensures reader { (n : ℕ) → failures_read_in {A = ℕ} (Err result) n ≡ n }
+        ensures reader { (n : ℕ) → failures_told {A = ℕ} load_read_failed (Err result) n ≡ n }
     {
         if code == WANT_OF_MEMORY {
             LoadFault::NoMemory
@@ -95,7 +96,7 @@ pub fn load_file<R: ByteIn>(
     reader: &mut R,
 ) -> Result<(), LoadFault>
     ensures loads { (file : List ℕ) × IfSome (R.remaining reader.old) (λ known. file ≡ known) × LoadsFile file namespace.now store.old result store.new }
-    ensures reader { R.failures reader.new ≡ failures_read_in result (R.failures reader.old) }
+    ensures reader { R.failures reader.new ≡ failures_told load_read_failed result (R.failures reader.old) }
 {
     let bytes = read_file(alloc, reader)?;
     load_documents(alloc, store, namespace, bytes.as_slice())
@@ -109,7 +110,7 @@ fn load_documents(
     bytes: &[u8],
 ) -> Result<(), LoadFault>
     ensures loads { LoadsFile bytes.now namespace.now store.old result store.new }
-    ensures reader { (n : ℕ) → failures_read_in result n ≡ n }
+    ensures reader { (n : ℕ) → failures_told load_read_failed result n ≡ n }
 {
     what_a_field_adds();
     let mut number = 1;
@@ -136,7 +137,7 @@ fn load_first<'a>(
     ensures loaded { IfOk result (λ behind. (document : List Field) × Begins bytes.now document behind.now × (loaded namespace.now document store.old ≡ Ok store.new)) }
     ensures kept { OnErr result (store.new ≡ store.old) }
     ensures why { IfErr result (λ fault. IsWhy fault namespace.now store.old bytes.now number at) }
-    ensures reader { (n : ℕ) → failures_read_in result n ≡ n }
+    ensures reader { (n : ℕ) → failures_told load_read_failed result n ≡ n }
 {
     match first_document(alloc, bytes) {
         Ok((document, behind)) => match store.load(namespace, document) {

@@ -3,8 +3,8 @@
 ghost use Rattle.std.specs.Prelude.{◌≡◌, ◌<◌, ◌≤◌, ◌+◌, ◌^◌, ◌↔◌, ◌⊎◌, ◌++◌, ◌∷◌, ℕ, List, [], length, replicate, string_bytes, suc, IfErr, IfOk, IfSome, IsTrue, MatchOption, OnOk};
 ghost use Rattle.std.specs.Io.KnownBytes.{Appends, Keeps};
 ghost use Rattle.docd.specs.Script.{Does, DoesLine, Finds, HasNoLf, Runs, Standing, begun, standing_of};
-ghost use Rattle.docd.specs.Stops.{Asks, EndsAt, FailsWriting, OfScript, OpensNone, StopsBy, StopsLine, failures_read_in, failures_written_in};
-ghost use Rattle.docd.specs.Streams.{failures_behind};
+ghost use Rattle.docd.specs.Stops.{Asks, EndsAt, FailsWriting, OfScript, OpensNone, StopsBy, StopsLine, script_read_failed, script_write_failed};
+ghost use Rattle.docd.specs.Streams.{failures_behind, failures_told};
 ghost use Rattle.docd.specs.Pieces.{StopsIn, Takes};
 
 use crate::line::{LONGEST_LINE, line};
@@ -85,7 +85,7 @@ pub fn script<R: ByteIn, W: TextOut>(
         × Appends (W.contents writer.old) (W.contents writer.new) said × Runs (begun hub.old) text said end × (end.hub ≡ hub.new))) }
     ensures stopped { IfErr result (λ fault. StopsBy fault (begun hub.old) (R.remaining reader.old) (R.remaining reader.new)
         (W.contents writer.old) (W.contents writer.new) hub.new) }
-    ensures reader { R.failures reader.new ≡ failures_read_in result (R.failures reader.old) }
+    ensures reader { R.failures reader.new ≡ failures_told script_read_failed result (R.failures reader.old) }
     ensures writer { FailsWriting result (W.failures writer.old) (W.failures writer.new) }
     ensures reads { Asks result (R.reads reader.old) (R.reads reader.new) }
 {
@@ -146,8 +146,8 @@ impl Progress {
             (R.remaining reader.old) (W.contents writer.old) (W.contents writer.new)) }
         ensures stopped { IfErr result (λ fault. StopsBy fault (standing_of self.old.sessions hub.old) (R.remaining reader.old) (R.remaining reader.new)
             (W.contents writer.old) (W.contents writer.new) hub.new) }
-        ensures reader { R.failures reader.new ≡ failures_read_in result (R.failures reader.old) }
-        ensures writer { W.failures writer.new ≡ failures_written_in result (W.failures writer.old) }
+        ensures reader { R.failures reader.new ≡ failures_told script_read_failed result (R.failures reader.old) }
+        ensures writer { W.failures writer.new ≡ failures_told script_write_failed result (W.failures writer.old) }
         ensures reads { Asks result (R.reads reader.old) (R.reads reader.new) }
     {
         let mut piece = piece(self.alloc)?;
@@ -181,8 +181,8 @@ impl Progress {
             × (self.new.number ≡ self.old.number + length takes.lines)) }
         ensures stopped { IfErr result (λ fault. (said : List ℕ) × Appends (W.contents writer.old) (W.contents writer.new) said
             × StopsIn fault (standing_of self.old.sessions hub.old) self.old.number self.old.line.items piece.now said hub.new) }
-        ensures reader { (n : ℕ) → failures_read_in result n ≡ n }
-        ensures writer { W.failures writer.new ≡ failures_written_in result (W.failures writer.old) }
+        ensures reader { (n : ℕ) → failures_told script_read_failed result n ≡ n }
+        ensures writer { W.failures writer.new ≡ failures_told script_write_failed result (W.failures writer.old) }
     {
         let mut rest = piece;
         'lines: while let Some((end, behind)) = line_end(rest) {
@@ -222,8 +222,8 @@ impl Progress {
             × DoesLine (standing_of self.old.sessions hub.old) self.old.line.items said (standing_of self.new.sessions hub.new)) }
         ensures stopped { IfErr result (λ fault. (part : List ℕ) × Appends (W.contents writer.old) (W.contents writer.new) part
             × EndsAt fault (standing_of self.old.sessions hub.old) self.old.number self.old.line.items part hub.new) }
-        ensures reader { (n : ℕ) → failures_read_in result n ≡ n }
-        ensures writer { W.failures writer.new ≡ failures_written_in result (W.failures writer.old) }
+        ensures reader { (n : ℕ) → failures_told script_read_failed result n ≡ n }
+        ensures writer { W.failures writer.new ≡ failures_told script_write_failed result (W.failures writer.old) }
     {
         let text = self.do_line(hub)?;
         give_all(writer, text.as_bytes()).map_err(|_| ScriptFault::Write)?;
@@ -238,7 +238,7 @@ impl Progress {
         ensures done { IfOk result (λ text.
             DoesLine (standing_of self.old.sessions hub.old) self.old.line.items (string_bytes text) (standing_of self.new.sessions hub.new)) }
         ensures stopped { IfErr result (λ fault. EndsAt fault (standing_of self.old.sessions hub.old) self.old.number self.old.line.items [] hub.new) }
-        ensures streams { (n : ℕ) → (failures_read_in result n ≡ n) × (failures_written_in result n ≡ n) }
+        ensures streams { (n : ℕ) → (failures_told script_read_failed result n ≡ n) × (failures_told script_write_failed result n ≡ n) }
     {
         match line(self.alloc, self.line.as_slice()) {
             Ok(Line::Skip) => Ok(String::new(self.alloc)),

@@ -3,8 +3,8 @@
 ghost use Rattle.std.specs.Prelude.{◌≡◌, ◌<◌, ◌+◌, ℕ, List, Err, IfErr, IfOk, OnErr, OnOk};
 ghost use Rattle.std.specs.Io.KnownBytes.{Appends};
 ghost use Rattle.dv_wire.specs.Stream.{MoreBy};
-ghost use Rattle.docd.specs.Serve.{Accepts, Closes, Connection, HasSession, Served, connection_line, failures_accepted_in, failures_written_in};
-ghost use Rattle.docd.specs.Streams.{failures_behind};
+ghost use Rattle.docd.specs.Serve.{Accepts, Closes, Connection, HasSession, Served, accept_failed, connection_line, serve_write_failed};
+ghost use Rattle.docd.specs.Streams.{failures_behind, failures_told};
 
 use crate::streams::{CountedReader, CountedWriter, TextOut, counted};
 use dv_wire::{ByteIn, ByteOut, Done, Failed, Hub, RunFault, run};
@@ -129,8 +129,8 @@ pub fn serve_on<L: Listener, W: TextOut>(
     ensures write { result ≡ Err ServeFault.Write → (count : ℕ) × (text : List ℕ) × (count < connections)
         × Served (count + 1) (L.coming listener.old) (L.coming listener.new) (L.closed listener.old) (L.closed listener.new) hub.old text hub.new
         × MoreBy count (W.flushes writer.old) (W.flushes writer.new) }
-    ensures listener { L.failures listener.new ≡ failures_accepted_in result (L.failures listener.old) }
-    ensures writer { W.failures writer.new ≡ failures_written_in result (W.failures writer.old) }
+    ensures listener { L.failures listener.new ≡ failures_told accept_failed result (L.failures listener.old) }
+    ensures writer { W.failures writer.new ≡ failures_told serve_write_failed result (W.failures writer.old) }
 {
     let mut number = 0;
     'connections: while number < connections {
