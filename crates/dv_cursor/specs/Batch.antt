@@ -1,5 +1,5 @@
 -- Batches of rows (MongoDB manual, "find", "getMore": batchSize). How many bytes a batch has at most is this server's own.
-use Rattle.std.specs.Prelude.{ℕ, ◌+◌, ◌&&◌, ◌||◌, Bool, List, [], ◌∷◌, ◌++◌, drop, length, nat_le, nat_lt, if◌then◌else◌}
+use Rattle.std.specs.Prelude.{ℕ, zero, suc, ◌+◌, ◌&&◌, ◌||◌, Bool, List, [], ◌∷◌, drop, take, length, nat_le, if◌then◌else◌}
 use Rattle.dv_bson.specs.Tree.{Field}
 use Rattle.dv_bson.specs.Spelling.{spelling}
 
@@ -12,18 +12,18 @@ total_size (row ∷ rows) = length (spelling row) + total_size rows
 abbrev pub batch_limit : ℕ
 batch_limit = 16777216
 
--- whether a row goes into a batch of at most `count` rows: while it has fewer, and is empty or stays within the limit
-abbrev pub takes : ℕ → List (List Field) → List Field → Bool
-takes count batch row = nat_lt (length batch) count && (nat_le (length batch) 0 || nat_le (total_size (batch ++ row ∷ [])) batch_limit)
+-- whether a batch of at most `count` rows can hold these: one row alone, or rows within the limit
+abbrev pub can_hold : ℕ → List (List Field) → Bool
+can_hold count rows = nat_le (length rows) count && (nat_le (length rows) 1 || nat_le (total_size rows) batch_limit)
 
--- the batch with the rows that go into it, in order, up to the first that doesn't
-abbrev pub filled : ℕ → List (List Field) → List (List Field) → List (List Field)
-filled count batch [] = batch
-filled count batch (row ∷ rows) = if takes count batch row then filled count (batch ++ row ∷ []) rows else batch
+-- the longest front of rows, of n at most, that it can hold
+abbrev pub longest_front : ℕ → ℕ → List (List Field) → List (List Field)
+longest_front count zero rows = []
+longest_front count (suc n) rows = if can_hold count (take (suc n) rows) then take (suc n) rows else longest_front count n rows
 
--- the batch of at most `count` rows
+-- the batch of at most `count` rows: the longest front that it can hold
 unfoldable pub batch : ℕ → List (List Field) → List (List Field)
-batch count rows = filled count [] rows
+batch count rows = longest_front count (length rows) rows
 
 -- the rows that are left behind it
 abbrev pub behind : ℕ → List (List Field) → List (List Field)

@@ -1,11 +1,11 @@
 //! The laws of batches and cursors, each the contract of a function that does nothing.
 
 ghost use Rattle.std.specs.FinMap as finite;
-ghost use Rattle.std.specs.Prelude.{◌≡◌, ◌≢◌, ◌++◌, ◌∷◌, ◌<◌, ◌==◌, ℕ, List, [], None, Some, false, if◌then◌else◌};
+ghost use Rattle.std.specs.Prelude.{◌≡◌, ◌≢◌, ◌++◌, ◌∷◌, ◌<◌, ◌≤◌, ◌==◌, ℕ, List, [], None, Some, false, length, take, if◌then◌else◌};
 ghost use Rattle.std.specs.List.Sorted.{IsStrictlySortedBy};
 ghost use Rattle.std.specs.Ordering.{nat_cmp};
 ghost use Rattle.dv_bson.specs.Tree.{Field};
-ghost use Rattle.dv_cursor.specs.Batch.{batch, behind, takes};
+ghost use Rattle.dv_cursor.specs.Batch.{batch, behind, can_hold};
 ghost use Rattle.dv_cursor.specs.Cursors.{Cursors, added, advanced, closed, cursor_behind, free_id, without_session};
 ghost use Rattle.dv_cursor.specs.Runs.{Event, IsWithin, behind_all, ids_given, is_place, joined};
 
@@ -14,11 +14,11 @@ pub fn a_batch_is_a_front()
     ensures { (count : ℕ) (rows : List (List Field)) → batch count rows ++ behind count rows ≡ rows }
 {}
 
-/// A batch has as many rows as go into it: no more than `count`, and where there is more than one no more bytes than
-/// the limit; the row behind it doesn't go into it, and where any may go into it, one does.
+/// A batch is within its bounds: no more rows than `count`, and where there is more than one no more bytes than the limit. No
+/// longer front is, and where any row may go into it, one does.
 pub fn a_batch_is_full()
     ensures within { (count : ℕ) (rows : List (List Field)) → IsWithin count (batch count rows) }
-    ensures full { (count : ℕ) (row : List Field) (rows rest : List (List Field)) → behind count rows ≡ row ∷ rest → takes count (batch count rows) row ≡ false }
+    ensures longest { (count n : ℕ) (rows : List (List Field)) → length (batch count rows) < n → n ≤ length rows → can_hold count (take n rows) ≡ false }
     ensures some { (count : ℕ) (row : List Field) (rows : List (List Field)) → 0 < count → batch count (row ∷ rows) ≢ [] }
 {}
 

@@ -1,5 +1,6 @@
 use Rattle.std.proofs.Common.{◌≡◌, ◌+◌, ◌++◌, min}
-use Rattle.dv_cursor.specs.Batch.{batch, batch_limit, filled, total_size}
+use Rattle.dv_cursor.specs.Batch.{batch, batch_limit, total_size}
+use Rattle.dv_cursor.proofs.Batches.{filled}
 use Rattle.dv_cursor.proofs.rows.Rows.batch.Given as goal
 
 -- what is taken, filled with the rows that are left, is the batch
