@@ -43,7 +43,7 @@ pub record CursorLaws : Type 0 where
   pub front : (count : ℕ) (rows : Rows) → batch count rows ++ behind count rows ≡ rows
 
 -- the cursor of a session under an id
-abbrev at : ℕ → ℕ → Cursors → Option Cursor
+abbrev pub at : ℕ → ℕ → Cursors → Option Cursor
 at session id cursors = finite.get cursors.kept (session, id)
 
 -- it is left as it is
@@ -74,6 +74,15 @@ record Moves (session id : ℕ) (before after : Cursors) (told : Rows) (last : B
 
 unmoved : (session id : ℕ) (before after : Cursors) → after ≡ before → Moves session id before after [] false
 unmoved session id before after same = record { does = inl (record { same = ap (at session id) same; none = refl; more = refl }); next = rw same (omega arith) }
+
+-- a write leaves cursors, and so does what changes what stands under namespaces
+pub write_cursors : (state : State) (b : Bool) (refusal : Refusal) (answer : Answer) → answer.state.cursors ≡ state.cursors → (answered state (if b then Err refusal else Ok answer)).state.cursors ≡ state.cursors
+write_cursors state true refusal answer same = refl
+write_cursors state false refusal answer same = same
+
+pub catalog_cursors : (state : State) (defined : Result (List Field × stored.State) Refusal) → (answered state (on_catalog state defined)).state.cursors ≡ state.cursors
+catalog_cursors state (Ok done) = refl
+catalog_cursors state (Err refusal) = refl
 
 module _ (laws : CursorLaws) (session id : ℕ) where
   -- ---- a cursor is added
@@ -210,14 +219,6 @@ module _ (laws : CursorLaws) (session id : ℕ) where
   gone_moves before after (inr gone, up) = record { does = inr (inl (record { gone = gone; none = refl; more = refl })); next = up }
 
   -- ---- every move
-
-  write_cursors : (state : State) (b : Bool) (refusal : Refusal) (answer : Answer) → answer.state.cursors ≡ state.cursors → (answered state (if b then Err refusal else Ok answer)).state.cursors ≡ state.cursors
-  write_cursors state true refusal answer same = refl
-  write_cursors state false refusal answer same = same
-
-  catalog_cursors : (state : State) (defined : Result (List Field × stored.State) Refusal) → (answered state (on_catalog state defined)).state.cursors ≡ state.cursors
-  catalog_cursors state (Ok done) = refl
-  catalog_cursors state (Err refusal) = refl
 
   command_moves : (state : State) (other : ℕ) (asked : Result Asked Refusal) → id < state.cursors.next
       → Moves session id state.cursors (answered state (asked >>= answer_to state other)).state.cursors (asked_rows session id other asked state) (asked_last session id other asked state)

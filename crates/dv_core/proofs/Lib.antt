@@ -16,6 +16,7 @@ mod Ordered
 mod Parts
 mod Viewed
 mod Spelled
+mod Shown
 mod Worked
 mod WorkedFinds
 mod WorkedViews

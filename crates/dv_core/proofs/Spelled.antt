@@ -50,7 +50,7 @@ use Rattle.dv_catalog.specs.ScanLaws.{all_scanned}
 use Rattle.dv_core.specs.Find.{are_too_large, found, gathered, kept, kept_under, left_behind, replied}
 use Rattle.dv_core.specs.Indexes.{explained_reply, form_asked, index_count, index_name}
 use Rattle.dv_core.specs.More.{gone_ids, id_behind, missing_ids, next_of, number_of, rows_asked, wanted, went_each}
-use Rattle.dv_core.specs.Sound.{AreShown, AreSoundViews, HasSpelling, IsNamed, IsTold, IsSound, IsSoundCommand, ShowsValid}
+use Rattle.dv_core.specs.Sound.{AreShown, AreSoundCursors, AreSoundViews, CanBeTold, HasSpelling, IsNamed, IsTold, IsSound, IsSoundCommand}
 use Rattle.dv_core.specs.Storable.{is_within_limits}
 use Rattle.dv_core.proofs.Spellings.{spelling-field, spelling-nil, spelling-long, length-int32, length-int64, length-string, sizes, array-bound}
 use Rattle.dv_core.proofs.Texts.{are_ascii, IsUtf8-ascii}
@@ -427,7 +427,7 @@ front_valid (row ∷ rows) others valid = (valid.0, front_valid rows others vali
 limited : (size depth : ℕ) → (not (nat_lt 16777216 size) && not (nat_lt 100 depth)) ≡ true → size ≤ 16777216
 limited size depth is = grind (arith, nat_tests)
 
-both_hold : (a b : Bool) → not (a && b) ≡ false → (a ≡ true) × (b ≡ true)
+pub both_hold : (a b : Bool) → not (a && b) ≡ false → (a ≡ true) × (b ≡ true)
 both_hold true true is = (refl, refl)
 both_hold true false is = absurd cc
 both_hold false b is = absurd cc
@@ -502,6 +502,10 @@ next_spelled laws session namespace named id count fits (Some rows) cursors show
     let many : ℕ = wanted count rows in
     is_told _ (rows_spelled (codes "nextBatch") next_name namespace named.0 named.1 (id_behind id (behind many rows)) (id_fits laws namespace named many rows shown.0 id (behind many rows) fits)
     (batch many rows) (batch_valid laws many rows shown.0) (batch_within laws many rows shown.1))
+
+asked_shown : (session : ℕ) (namespace : List ℕ) (id : ℤ) (state : State) → AreSoundCursors state → AreShown (rows_asked session namespace id state.cursors)
+asked_shown session namespace (pos id) state all = all session namespace id
+asked_shown session namespace (negsuc n) state all = tt
 
 -- ---- ids of cursors
 
@@ -667,45 +671,45 @@ explained_spelled (by_index name) n named =
     (omega (arith, spelling-field (codes "index", string name) docs, length-string name, named.1, docs_size n))
 
 module _ (asks : AsksSoundly) (counts : CountsAreValid) (laws : BatchLaws) (pipes : PipesStayValid) where
-  asked_spelled : (state : State) (session : ℕ) (asked : Asked) → IsSoundlyAsked asked → IsSound state → AreSoundViews state → ShowsValid state session asked → HasSpelling (answered state (answer_to state session asked)).reply
-  asked_spelled state session hello sound documents views shows = hello_spelled
-  asked_spelled state session ping sound documents views shows = ping_spelled
-  asked_spelled state session (insert i) sound documents views shows =
+  asked_spelled : (state : State) (session : ℕ) (asked : Asked) → IsSoundlyAsked asked → IsSound state → AreSoundViews state → AreSoundCursors state → CanBeTold state asked → HasSpelling (answered state (answer_to state session asked)).reply
+  asked_spelled state session hello sound documents views cursors told = hello_spelled
+  asked_spelled state session ping sound documents views cursors told = ping_spelled
+  asked_spelled state session (insert i) sound documents views cursors told =
       write_or_refusal state (is_view i.namespace state.catalog.views) (insert_write i) (carry_out (insert_write i) state.catalog.namespaces)
       (write_spelled (insert_write i) state.catalog.namespaces (omega (arith, length-map i.documents insert_one, sound.2)) (inserts_plain i.documents) (λ n changed es. errors_spelled counts n es))
-  asked_spelled state session (update u) sound documents views shows =
+  asked_spelled state session (update u) sound documents views cursors told =
       write_or_refusal state (is_view u.namespace state.catalog.views) (update_write u) (carry_out (update_write u) state.catalog.namespaces)
       (write_spelled (update_write u) state.catalog.namespaces (omega (arith, length-map u.entries update_one, sound.2)) (updates_plain u.entries) (update_spelled counts))
-  asked_spelled state session (delete d) sound documents views shows =
+  asked_spelled state session (delete d) sound documents views cursors told =
       write_or_refusal state (is_view d.namespace state.catalog.views) (delete_write d) (carry_out (delete_write d) state.catalog.namespaces)
       (write_spelled (delete_write d) state.catalog.namespaces (omega (arith, length-map d.entries delete_one, sound.2)) (deletes_plain d.entries) (λ n changed es. errors_spelled counts n es))
-  asked_spelled state session (find f) sound documents views shows =
+  asked_spelled state session (find f) sound documents views cursors told =
       let rows : List (List Field) = rows_of f.namespace state.catalog in
       let shown : List (List Field) = scan f.filter f.sort f.skip f.limit rows in
       cursors_spelled state (found session f state.catalog state.cursors)
       (first_spelled laws f.namespace sound f.batch_size shown (all_scanned (λ d. AreFields (fields_of d)) f.filter f.sort f.skip f.limit rows (rows_valid pipes state documents views f.namespace)) session (left_behind f.batch_size f.single_batch shown) state.cursors)
-  asked_spelled state session (aggregate a) sound documents views shows =
+  asked_spelled state session (aggregate a) sound documents views cursors told =
       cursors_spelled state (gathered session a state.catalog state.cursors) (gathered_spelled laws session a.namespace sound.0 a.batch_size (looks_into_view a.stages a.namespace state.catalog.views) _ state.cursors (gathered_valid pipes state documents views a.stages a.namespace sound.1))
-  asked_spelled state session (get_more g) sound documents views shows =
+  asked_spelled state session (get_more g) sound documents views cursors told =
       cursors_spelled state (next_of session g.namespace (number_of g.id) g.batch_size (rows_asked session g.namespace g.id state.cursors) state.cursors)
-      (next_spelled laws session g.namespace sound.0 (number_of g.id) g.batch_size (number_small g.id sound.1) (rows_asked session g.namespace g.id state.cursors) state.cursors shows)
-  asked_spelled state session (kill_cursors k) sound documents views shows =
+      (next_spelled laws session g.namespace sound.0 (number_of g.id) g.batch_size (number_small g.id sound.1) (rows_asked session g.namespace g.id state.cursors) state.cursors (asked_shown session g.namespace g.id state cursors))
+  asked_spelled state session (kill_cursors k) sound documents views cursors told =
       let went : List Bool = went_each session k.namespace k.ids state.cursors in
-      killed_spelled (length k.ids) (gone_ids k.ids went) (missing_ids k.ids went) shows (gone_numbers k.ids went sound.1) (missing_numbers k.ids went sound.1)
-  asked_spelled state session (create c) sound documents views shows =
+      killed_spelled (length k.ids) (gone_ids k.ids went) (missing_ids k.ids went) told (gone_numbers k.ids went sound.1) (missing_numbers k.ids went sound.1)
+  asked_spelled state session (create c) sound documents views cursors told =
       catalog_spelled state (λ left. reply_of []) (created c.namespace c.view state.catalog) (λ left. ping_spelled) (created_told (is_there c.namespace state.catalog) c.namespace c.view state.catalog)
-  asked_spelled state session (drop d) sound documents views shows =
+  asked_spelled state session (drop d) sound documents views cursors told =
       catalog_spelled state (λ left. drop_reply d.namespace) (dropped d.namespace state.catalog) (λ left. drop_spelled d.namespace sound) (dropped_told (is_collection d.namespace state.catalog.namespaces) (is_view d.namespace state.catalog.views) _ _)
-  asked_spelled state session (create_indexes c) sound documents views shows =
+  asked_spelled state session (create_indexes c) sound documents views cursors told =
       catalog_spelled state (λ left. create_indexes_reply (index_count c.namespace state.catalog) (index_count c.namespace left)) (indexes_created c.namespace (map form_asked c.indexes) state.catalog) (λ left. made_indexes_spelled counts _ _)
       (indexed_told c.namespace (map form_asked c.indexes) state.catalog)
-  asked_spelled state session (drop_indexes d) sound documents views shows =
+  asked_spelled state session (drop_indexes d) sound documents views cursors told =
       catalog_spelled state (λ left. drop_indexes_reply (index_count d.namespace state.catalog)) (indexes_dropped d.namespace d.index state.catalog) (λ left. dropped_indexes_spelled counts _) (unindexed_told d.namespace d.index state.catalog)
-  asked_spelled state session (explain e) sound documents views shows =
-      let told : Explained = explained e.find.namespace e.find.filter state.catalog in
-      explained_spelled told.way told.documents shows
+  asked_spelled state session (explain e) sound documents views cursors told =
+      let how : Explained = explained e.find.namespace e.find.filter state.catalog in
+      explained_spelled how.way how.documents told
 
-  pub replies_spelled : (state : State) (session : ℕ) (command : Command) (asked : Asked) → IsSoundCommand command → IsSound state → AreSoundViews state → ShowsValid state session asked → asked_by command ≡ Ok asked → HasSpelling (step state session command).reply
-  replies_spelled state session command asked valid documents views shows is =
+  pub replies_spelled : (state : State) (session : ℕ) (command : Command) (asked : Asked) → IsSoundCommand command → IsSound state → AreSoundViews state → AreSoundCursors state → CanBeTold state asked → asked_by command ≡ Ok asked → HasSpelling (step state session command).reply
+  replies_spelled state session command asked valid documents views cursors told is =
       let carried : (step state session command).reply ≡ (answered state (answer_to state session asked)).reply = ap (λ (r : Result Asked Refusal). (answered state (r >>= answer_to state session)).reply) is in
-      subst HasSpelling (sym carried) (asked_spelled state session asked (soundly_asked asks command asked valid is) documents views shows)
+      subst HasSpelling (sym carried) (asked_spelled state session asked (soundly_asked asks command asked valid is) documents views cursors told)

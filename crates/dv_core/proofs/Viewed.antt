@@ -137,17 +137,27 @@ module _ (pipes : PipesStayValid) (state : State) (sound : IsSound state) (views
 
 -- ---- a load
 
-alone_views : (old new : State) (namespace : List ℕ) (does : Result Effect Refusal) → (does >>= λ effect. Ok (left_by namespace old effect)) ≡ Ok new → new.catalog.views ≡ old.catalog.views
-alone_views old new namespace (Ok effect) is = let same : new ≡ left_by namespace old effect = cc in ap (λ (s : State). s.catalog.views) same
-alone_views old new namespace (Err refusal) is = absurd cc
+-- it leaves views and cursors
+pub record LeavesOthers (old new : State) : Type 0 where
+  pub views : new.catalog.views ≡ old.catalog.views
+  pub cursors : new.cursors ≡ old.cursors
 
-pub loaded_views : (old new : State) (text : List ℕ) (d : List Field) → loaded text d old ≡ Ok new → AreSoundViews old → AreSoundViews new
-loaded_views old new text d is all = subst Sound (sym (by_name (namespace_in text) is)) all
+alone_leaves : (old new : State) (namespace : List ℕ) (does : Result Effect Refusal) → (does >>= λ effect. Ok (left_by namespace old effect)) ≡ Ok new → LeavesOthers old new
+alone_leaves old new namespace (Ok effect) is =
+    let same : new ≡ left_by namespace old effect = cc in
+    record { views = ap (λ (s : State). s.catalog.views) same; cursors = ap (λ (s : State). s.cursors) same }
+alone_leaves old new namespace (Err refusal) is = absurd cc
+
+pub loaded_leaves : (old new : State) (text : List ℕ) (d : List Field) → loaded text d old ≡ Ok new → LeavesOthers old new
+loaded_leaves old new text d is = by_name (namespace_in text) is
   where
-    by_view : (namespace : List ℕ) (b : Bool) → (if b then Err OnView else (insert_one d (documents_of namespace old.catalog.namespaces) >>= λ effect. Ok (left_by namespace old effect))) ≡ Ok new → new.catalog.views ≡ old.catalog.views
+    by_view : (namespace : List ℕ) (b : Bool) → (if b then Err OnView else (insert_one d (documents_of namespace old.catalog.namespaces) >>= λ effect. Ok (left_by namespace old effect))) ≡ Ok new → LeavesOthers old new
     by_view namespace true e = absurd cc
-    by_view namespace false e = alone_views old new namespace (insert_one d (documents_of namespace old.catalog.namespaces)) e
+    by_view namespace false e = alone_leaves old new namespace (insert_one d (documents_of namespace old.catalog.namespaces)) e
 
-    by_name : (named : Result (List ℕ) Refusal) → (named >>= λ namespace. insert_alone namespace d old) ≡ Ok new → new.catalog.views ≡ old.catalog.views
+    by_name : (named : Result (List ℕ) Refusal) → (named >>= λ namespace. insert_alone namespace d old) ≡ Ok new → LeavesOthers old new
     by_name (Ok namespace) e = by_view namespace (is_view namespace old.catalog.views) e
     by_name (Err refusal) e = absurd cc
+
+pub loaded_views : (old new : State) (text : List ℕ) (d : List Field) → loaded text d old ≡ Ok new → AreSoundViews old → AreSoundViews new
+loaded_views old new text d is all = subst Sound (sym (loaded_leaves old new text d is).views) all

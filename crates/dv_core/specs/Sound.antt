@@ -11,10 +11,10 @@ use Rattle.dv_fields.specs.declared.refusal.Refusal.TheVariants.{InvalidBson}
 use Rattle.dv_catalog.specs.State.{documents_of, AreOrdered}
 use Rattle.dv_core.specs.State.{State}
 use Rattle.dv_catalog.specs.IndexMaking.{explained}
-use Rattle.dv_command.specs.Asked.{Asked, get_more, kill_cursors, explain}
+use Rattle.dv_command.specs.Asked.{Asked, kill_cursors, explain}
+use Rattle.dv_cursor.specs.Cursors.{rows_to_come}
 use Rattle.dv_core.specs.Find.{are_too_large}
 use Rattle.dv_core.specs.Indexes.{index_name}
-use Rattle.dv_core.specs.More.{rows_asked}
 use Rattle.dv_command.specs.Sound.{AreValid, IsNamespace, IsSoundPipeline}
 
 -- a document that is valid at each of its levels, and within the limits for what is read and stored
@@ -52,14 +52,17 @@ abbrev pub AreShown : Option (List (List Field)) → Type 0
 AreShown None = ⊤
 AreShown (Some rows) = AreValid rows × (are_too_large rows ≡ false)
 
+-- the rows that are still to come of each cursor can be shown
+abbrev pub AreSoundCursors : State → Type 0
+AreSoundCursors state = (session : ℕ) (namespace : List ℕ) (id : ℕ) → AreShown (rows_to_come session namespace id state.cursors)
+
 -- a name, where there is one, that can be told
 abbrev pub IsNamed : Option (List ℕ) → Type 0
 IsNamed None = ⊤
 IsNamed (Some name) = IsNamespace name
 
--- the rows of a cursor that are asked for can be shown, the ids that are told are no more than a document holds, and the index that is told of has a name that can be
-abbrev pub ShowsValid : State → ℕ → Asked → Type 0
-ShowsValid state session (get_more asked) = AreShown (rows_asked session asked.namespace asked.id state.cursors)
-ShowsValid state session (kill_cursors asked) = length asked.ids ≤ 10000000
-ShowsValid state session (explain asked) = IsNamed (index_name (explained asked.find.namespace asked.find.filter state.catalog).way)
-ShowsValid state session asked = ⊤
+-- the ids that are told are no more than a document holds, and the index that is told of has a name that can be
+abbrev pub CanBeTold : State → Asked → Type 0
+CanBeTold state (kill_cursors asked) = length asked.ids ≤ 10000000
+CanBeTold state (explain asked) = IsNamed (index_name (explained asked.find.namespace asked.find.filter state.catalog).way)
+CanBeTold state asked = ⊤

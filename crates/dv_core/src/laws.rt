@@ -16,7 +16,7 @@ ghost use Rattle.dv_core.specs.Examples as examples;
 ghost use Rattle.dv_core.specs.Find.{are_too_large, first_batch};
 ghost use Rattle.dv_core.specs.Load.{insert_alone, loaded, namespace_in};
 ghost use Rattle.dv_core.specs.Part.{IsPart};
-ghost use Rattle.dv_core.specs.Sound.{AreSoundViews, HasSpelling, IsSound, IsSoundCommand, IsSoundDocument, IsTold, ShowsValid};
+ghost use Rattle.dv_core.specs.Sound.{AreSoundCursors, AreSoundViews, CanBeTold, HasSpelling, IsSound, IsSoundCommand, IsSoundDocument, IsTold};
 ghost use Rattle.dv_catalog.specs.State.{Namespaces, IsOrdered, documents_of, is_view, rows_of};
 ghost use Rattle.dv_core.specs.State.{State, empty_state};
 ghost use Rattle.std.specs.Str.{bytes_eq};
@@ -113,11 +113,27 @@ pub fn views_stay_sound()
     dv_command::laws::what_is_asked_is_sound();
 }
 
-/// Replies can be written: that to a command that asks something, if the command's documents, the state and its views are
-/// sound, as the rows that stand under a namespace are valid then; and that to one that is refused. What is left to ask is
-/// that the rows of cursors are valid, that not too many cursors are ended at once, and that indexes have names.
+/// The rows that are still to come of each cursor can be shown in every state that is reached, if the documents that
+/// commands bring are sound: they are valid, and none is over the limits. So it is before the first command, and so after
+/// each command, each load and each end of a session.
+pub fn cursors_stay_sound()
+    ensures before { AreSoundCursors empty_state }
+    ensures after { (old new : State) (session : ℕ) (command : Command) (outcome : Outcome) → IsSoundCommand command → IsSound old → AreSoundViews old → AreSoundCursors old
+        → MemoryStep old session command outcome new → AreSoundCursors new }
+    ensures loaded { (old new : State) (namespace : List ℕ) (d : List Field) → loaded namespace d old ≡ Ok new → AreSoundCursors old → AreSoundCursors new }
+    ensures ended { (session : ℕ) (state : State) → AreSoundCursors state → AreSoundCursors (end_session session state) }
+{
+    dv_command::laws::what_is_asked_is_sound();
+    dv_cursor::laws::a_batch_is_a_front();
+    dv_cursor::laws::a_change_leaves_other_cursors();
+    dv_pipe::laws::what_comes_out_is_valid();
+}
+
+/// Replies can be written: that to a command that asks something, if the command's documents, the state, its views and its
+/// cursors are sound, as the rows that stand under a namespace are valid then; and that to one that is refused. What is left
+/// to ask is that not too many cursors are ended at once, and that indexes have names.
 pub fn replies_have_a_spelling()
-    ensures answered { (state : State) (session : ℕ) (command : Command) (asked : Asked) → IsSoundCommand command → IsSound state → AreSoundViews state → ShowsValid state session asked
+    ensures answered { (state : State) (session : ℕ) (command : Command) (asked : Asked) → IsSoundCommand command → IsSound state → AreSoundViews state → AreSoundCursors state → CanBeTold state asked
         → asked_by command ≡ Ok asked → HasSpelling (step state session command).reply }
     ensures rows { (state : State) → IsSound state → AreSoundViews state → (namespace : List ℕ) → AreValid (rows_of namespace state.catalog) }
     ensures refused { (refusal : Refusal) → IsTold refusal → HasSpelling (refusal_reply refusal) }
