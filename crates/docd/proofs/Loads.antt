@@ -4,7 +4,7 @@ use Rattle.std.proofs.lemmas.List.{length-replicate}
 use Rattle.dv_bson.specs.Tree.{Field}
 use Rattle.dv_core.specs.Load.{IsCodeOf, loaded}
 use Rattle.dv_core.specs.State.{State}
-use Rattle.docd.specs.File.{Begins, Holds, file_read_failed}
+use Rattle.docd.specs.File.{Begins, file_read_failed}
 use Rattle.docd.specs.Load.{IsWhy, Loads, LoadsEach, LoadsFile, load_read_failed, read_fault}
 use Rattle.docd.specs.Streams.{failures_told}
 use Rattle.docd.specs.declared.file.FileFault.{FileFault}

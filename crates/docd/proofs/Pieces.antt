@@ -1,16 +1,14 @@
 -- Scripts that come in pieces.
-use Rattle.std.proofs.Common.{◌≡◌, ℕ, suc, ◌+◌, ◌*◌, ◌^◌, ◌<◌, ◌≤◌, ◌⊎◌, inl, inr, Bool, true, false, List, [], ◌∷◌, ◌++◌, Option, length, refl, sym, ap, subst, ◌∙◌, append_assoc, append-nil, length-append, arith}
+use Rattle.std.proofs.Common.{◌≡◌, ℕ, suc, ◌+◌, ◌^◌, ◌<◌, ◌⊎◌, inl, inr, Bool, true, false, List, [], ◌∷◌, ◌++◌, Option, length, refl, sym, ap, subst, ◌∙◌, append_assoc, append-nil, length-append, arith}
 use Rattle.std.proofs.KnownBytes.{Appends-nil, Appends-trans}
 use Rattle.std.proofs.lemmas.List.Elements.{All-append, All-head, All-nil, All-tail}
 use Rattle.std.proofs.lemmas.List.Splits.{slice_split-cons_no, slice_split-cons_yes, slice_split_at}
 use Rattle.std.specs.Io.KnownBytes.{Appends}
 use Rattle.std.specs.List.{onto_first, slice_split}
 use Rattle.dv_wire.specs.Schedule.{World}
-use Rattle.docd.specs.Line.{IsLine}
 use Rattle.docd.specs.Pieces.{StopsIn, Takes}
 use Rattle.docd.specs.Script.{DoesLine, DoesLines, HasNoLf, IsBad, Standing, is_lf}
 use Rattle.docd.specs.Stops.{EndsAt}
-use Rattle.docd.specs.declared.said.Line.{Line}
 use Rattle.docd.specs.declared.script.ScriptFault.{ScriptFault}
 use Rattle.docd.specs.declared.script.ScriptFault.TheVariants.{BadLine, NoMemory}
 

@@ -1,5 +1,5 @@
 -- Lines that end a script.
-use Rattle.std.proofs.Common.{◌≡◌, ℕ, zero, suc, ◌<◌, ◌⊎◌, inl, inr, List, [], ◌∷◌, ◌++◌, Some, None, Result, Ok, Err, refl, sym, subst, length, take, drop, arith}
+use Rattle.std.proofs.Common.{◌≡◌, ℕ, zero, suc, ◌<◌, inl, inr, List, [], ◌∷◌, Some, None, Result, Ok, Err, refl, length, take, drop, arith}
 use Rattle.std.specs.Prelude.{IfErr, slice_get}
 use Rattle.dv_wire.specs.Schedule.{World, Opens}
 use Rattle.dv_wire.specs.declared.fault.HubFault.{HubFault}

@@ -7,7 +7,7 @@ use Rattle.dv_bson.specs.Spelling.{spelling, Spells, Fits}
 use Rattle.dv_bson.specs.Reading.{first_fault}
 use Rattle.dv_bson.specs.declared.fault.BsonFault.{BsonFault}
 use Rattle.docd.specs.declared.file.FileFault.{FileFault}
-use Rattle.docd.specs.declared.file.FileFault.TheVariants.{Read, TooLarge, NoMemory}
+use Rattle.docd.specs.declared.file.FileFault.TheVariants.{Read}
 
 -- a document that a file may hold: it has a spelling, and is within the limits
 abbrev pub IsStorable : List Field → Type 0

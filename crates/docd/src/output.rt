@@ -1,6 +1,6 @@
 //! What is written for a line of a script.
 
-ghost use Rattle.std.specs.Prelude.{◌≡◌, ◌<◌, ◌++◌, List, ℕ, length, take, drop, string_bytes, IfOk, OnOk};
+ghost use Rattle.std.specs.Prelude.{◌≡◌, ◌<◌, ◌++◌, List, ℕ, take, drop, string_bytes, IfOk, OnOk};
 ghost use Rattle.docd.specs.Output.{AreReplies, closed_line, end_line, fed_text, first_length, reply_line};
 
 use dv_wire::{CloseFault, Fed};

@@ -12,7 +12,7 @@ use Rattle.dv_views.specs.Views as views
 use Rattle.dv_catalog.specs.CatalogParts.{form_of, is_stale, is_stale_mark, is_stale_view, rows_kept, state_of}
 use Rattle.dv_catalog.specs.SourceParts.{AreFor}
 use Rattle.dv_catalog.specs.State as states
-use Rattle.dv_catalog.specs.State.{Namespaces, ViewForm, documents_of, lists_of, rows_at, rows_of}
+use Rattle.dv_catalog.specs.State.{Namespaces, ViewForm, documents_of, lists_of, rows_of}
 
 abbrev pub Agreeing : Type 0
 Agreeing = (stages : List Stage) (source : List ℕ) (lists others : Lists) → ((name : List ℕ) → is_read stages source name ≡ true → lists name ≡ others name) → evaluated stages source lists ≡ evaluated stages source others

@@ -1,3 +1,4 @@
+mod Lengths
 mod Sounding
 mod Names
 pub mod Errors

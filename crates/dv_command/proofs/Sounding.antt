@@ -1,11 +1,11 @@
 -- What a body with valid fields and valid lists beside it asks is sound.
-use Rattle.std.proofs.Common.{◌≡◌, ◌<◌, ◌≤◌, ◌&&◌, not, nat_lt, ℕ, ℤ, pos, negsuc, zero, suc, Bool, true, false, if◌then◌else◌, List, [], ◌∷◌, length, get_or, Option, Some, None, Result, Ok, Err, refl, ap, subst, arith}
+use Rattle.std.proofs.Common.{◌≡◌, ◌<◌, ◌≤◌, ◌&&◌, not, nat_lt, ℕ, ℤ, pos, negsuc, zero, suc, Bool, true, false, if◌then◌else◌, List, [], ◌∷◌, length, get_or, Option, Some, None, Result, Ok, Err, refl, sym, ap, subst, ◌∙◌, arith}
 use Rattle.std.proofs.lemmas.Bool.Decides.{nat_tests}
 use Rattle.std.proofs.lemmas.Str.{IsUtf8-append, IsUtf8-from_ascii}
 use Rattle.std.specs.Prelude.{codes, ⊤}
 use Rattle.std.specs.Str.{IsUtf8, bytes_eq}
 use Rattle.dv_bson.specs.Names.{value_under}
-use Rattle.dv_bson.specs.Spelling.{IsValue, AreFields, AreElements}
+use Rattle.dv_bson.specs.Spelling.{IsValue, AreFields, AreElements, payload, spelling}
 use Rattle.dv_bson.specs.Tree.{Tree, int32, int64, string, document, array, Fields, no_fields, field, Elements, no_elements, element, Field, fields_of, list_of_fields, elements_of, list_of_elements}
 use Rattle.dv_update.specs.Parsing as updates
 use Rattle.dv_pipe.specs.StageParsing as pipelines
@@ -22,7 +22,8 @@ use Rattle.dv_command.specs.Entries.{Updating, IndexAsked, index_of, key_path, c
 use Rattle.dv_fields.specs.Kinds as kinds
 use Rattle.dv_fields.specs.Namespaces.{database, database_in, namespace, dotted, is_database_name, is_collection_name, longest_namespace}
 use Rattle.dv_fields.specs.Refusals.{◌>>=◌, each, refused_by, pipeline_refusal, update_refusal}
-use Rattle.dv_command.specs.Sound.{AreValid, AreValidLists, AreIds, IsSoundIndex, AreSoundIndexes, IsNamespace, AreStatements, IsSoundPipeline, IsSoundView, IsSoundlyAsked, IsSoundUpdate}
+use Rattle.dv_command.specs.Sound.{AreValid, AreValidLists, AreIds, IsIndexName, AreIndexes, IsNamespace, AreStatements, IsSoundPipeline, IsSoundView, IsSoundlyAsked, IsSoundUpdate}
+use Rattle.dv_command.proofs.Lengths.{FieldsAdd, under_long, array_long}
 use Rattle.dv_fields.specs.declared.refusal.Refusal.{Refusal}
 use Rattle.dv_fields.specs.declared.refusal.Refusal.TheVariants.{BadValue, CommandNotFound, LimitReached}
 
@@ -187,7 +188,7 @@ index_name_short name t is = by_test (nat_lt 120 (length name)) refl is
     by_test true test e = absurd cc
     by_test false test e = grind (arith, nat_tests)
 
-index_valid : (entry : List Field) (index : IndexAsked) → AreFields (fields_of entry) → index_of entry ≡ Ok index → IsSoundIndex index
+index_valid : (entry : List Field) (index : IndexAsked) → AreFields (fields_of entry) → index_of entry ≡ Ok index → IsIndexName index.name
 index_valid entry index valid is =
     let looked = succeeds (check_fields kinds.entry index_table entry) _ index is in
     let key = succeeds (document_under (codes "key") entry) _ index looked.rest_is in
@@ -195,17 +196,17 @@ index_valid entry index valid is =
     let path = succeeds (key_path key.given) _ index name.rest_is in
     let short = succeeds (check_index_name name.given) _ index path.rest_is in
     let made : IndexAsked = record { name = name.given; path = path.given } in
-    subst IsSoundIndex {x = made} (ends made index short.rest_is) (
+    subst (λ (x : IndexAsked). IsIndexName x.name) {x = made} (ends made index short.rest_is) (
       text_valid (value_under (codes "name") entry) name.given (λ v under. under_valid (codes "name") entry v valid under) name.first_is,
       index_name_short name.given short.given short.first_is,
     )
 
-indexes_valid : (list : List (List Field)) (indexes : List IndexAsked) → AreValid list → each index_of list ≡ Ok indexes → AreSoundIndexes indexes
-indexes_valid [] indexes valid is = subst AreSoundIndexes (ends [] indexes is) tt
+indexes_valid : (list : List (List Field)) (indexes : List IndexAsked) → AreValid list → each index_of list ≡ Ok indexes → AreIndexes indexes
+indexes_valid [] indexes valid is = subst AreIndexes (ends [] indexes is) tt
 indexes_valid (entry ∷ list) indexes valid is =
     let first = succeeds (index_of entry) _ indexes is in
     let others = succeeds (each index_of list) _ indexes first.rest_is in
-    subst AreSoundIndexes (ends (first.given ∷ others.given) indexes others.rest_is) (index_valid entry first.given valid.0 first.first_is, indexes_valid list others.given valid.1 others.first_is)
+    subst AreIndexes (ends (first.given ∷ others.given) indexes others.rest_is) (index_valid entry first.given valid.0 first.first_is, indexes_valid list others.given valid.1 others.first_is)
 
 -- ---- pipelines and views
 
@@ -261,9 +262,26 @@ explained_valid (Ok fields) d valid is = by_test (bytes_eq (first_name fields) (
     by_test false e = absurd cc
 explained_valid (Err refusal) d valid is = absurd cc
 
+-- ---- how many there are
+
+each_long : {A B : Type 0} (f : A → Result B Refusal) (xs : List A) (ys : List B) → each f xs ≡ Ok ys → length ys ≡ length xs
+each_long f [] ys is = ap length (sym (ends [] ys is))
+each_long f (x ∷ xs) ys is =
+    let first = succeeds (f x) _ ys is in
+    let others = succeeds (each f xs) _ ys first.rest_is in
+    ap length (sym (ends (first.given ∷ others.given) ys others.rest_is)) ∙ ap suc (each_long f xs others.given others.first_is)
+
+list_long : (under : Option Tree) (list : List Tree) (most : ℕ) → ((v : Tree) → under ≡ Some v → length (payload v) ≤ most) → required array_in under ≡ Ok list → length list ≤ most
+list_long None list most long is = absurd cc
+list_long (Some (array vs)) list most long is = subst (λ (l : List Tree). length l ≤ most) (ends (list_of_elements vs) list is) (omega (arith, array_long vs, long (array vs) refl))
+list_long (Some v) list most long is = absurd cc
+
 -- ---- each command
 
-module _ (body : List Field) (lists : Lists) (valid : AreFields (fields_of body)) (beside : AreValidLists lists) where
+module _ (adds : FieldsAdd) (body : List Field) (lists : Lists) (valid : AreFields (fields_of body)) (beside : AreValidLists lists) where
+  abbrev IsAsked : Asked → Type 0
+  IsAsked asked = IsSoundlyAsked (length (spelling body)) asked
+
   valid_under : (name : List ℕ) (v : Tree) → value_under name body ≡ Some v → IsValue v
   valid_under name v under = under_valid name body v valid under
 
@@ -302,31 +320,31 @@ module _ (body : List Field) (lists : Lists) (valid : AreFields (fields_of body)
         count_valid documents.given few.given few.first_is,
       )
 
-  insert_sound : (a : Asked) → insert_of body lists ≡ Ok a → IsSoundlyAsked a
+  insert_sound : (a : Asked) → insert_of body lists ≡ Ok a → IsAsked a
   insert_sound a is =
       let s = succeeds (statements_of (codes "insert") (codes "documents") body lists) _ a is in
-      subst IsSoundlyAsked (ends (insert (record { namespace = s.given.namespace; documents = s.given.list; ordered = s.given.ordered })) a s.rest_is)
+      subst IsAsked (ends (insert (record { namespace = s.given.namespace; documents = s.given.list; ordered = s.given.ordered })) a s.rest_is)
       (statements_valid (codes "insert") (codes "documents") s.given s.first_is)
 
-  update_sound : (a : Asked) → update_of body lists ≡ Ok a → IsSoundlyAsked a
+  update_sound : (a : Asked) → update_of body lists ≡ Ok a → IsAsked a
   update_sound a is =
       let s = succeeds (statements_of (codes "update") (codes "updates") body lists) _ a is in
-      subst IsSoundlyAsked (ends (update (record { namespace = s.given.namespace; entries = s.given.list; ordered = s.given.ordered })) a s.rest_is)
+      subst IsAsked (ends (update (record { namespace = s.given.namespace; entries = s.given.list; ordered = s.given.ordered })) a s.rest_is)
       (statements_valid (codes "update") (codes "updates") s.given s.first_is)
 
-  delete_sound : (a : Asked) → delete_of body lists ≡ Ok a → IsSoundlyAsked a
+  delete_sound : (a : Asked) → delete_of body lists ≡ Ok a → IsAsked a
   delete_sound a is =
       let s = succeeds (statements_of (codes "delete") (codes "deletes") body lists) _ a is in
-      subst IsSoundlyAsked (ends (delete (record { namespace = s.given.namespace; entries = s.given.list; ordered = s.given.ordered })) a s.rest_is)
+      subst IsAsked (ends (delete (record { namespace = s.given.namespace; entries = s.given.list; ordered = s.given.ordered })) a s.rest_is)
       (statements_valid (codes "delete") (codes "deletes") s.given s.first_is)
 
-  find_sound : (a : Asked) → find_of body lists ≡ Ok a → IsSoundlyAsked a
+  find_sound : (a : Asked) → find_of body lists ≡ Ok a → IsAsked a
   find_sound a is =
       let db = succeeds (checked_database find_table body lists) _ a is in
       let asked = succeeds (find_in db.given body) _ a db.rest_is in
-      subst IsSoundlyAsked (ends (find asked.given) a asked.rest_is) (find_valid db.given body asked.given (checked_valid find_table db.given db.first_is) valid asked.first_is)
+      subst IsAsked (ends (find asked.given) a asked.rest_is) (find_valid db.given body asked.given (checked_valid find_table db.given db.first_is) valid asked.first_is)
 
-  aggregate_sound : (a : Asked) → aggregate_of body lists ≡ Ok a → IsSoundlyAsked a
+  aggregate_sound : (a : Asked) → aggregate_of body lists ≡ Ok a → IsAsked a
   aggregate_sound a is =
       let db = succeeds (checked_database aggregate_table body lists) _ a is in
       let collection = succeeds (text_under (codes "aggregate") body) _ a db.rest_is in
@@ -335,12 +353,12 @@ module _ (body : List Field) (lists : Lists) (valid : AreFields (fields_of body)
       let from = succeeds (namespace db.given collection.given) _ a batch_size.rest_is in
       let stages = succeeds (pipeline_of list.given) _ a from.rest_is in
       let asked : Asked = aggregate (record { namespace = from.given; stages = stages.given; batch_size = batch_size.given }) in
-      subst IsSoundlyAsked {x = asked} (ends asked a stages.rest_is) (
+      subst IsAsked {x = asked} (ends asked a stages.rest_is) (
         name_valid (codes "aggregate") db.given collection.given from.given (checked_valid aggregate_table db.given db.first_is) collection.first_is from.first_is,
         pipeline_valid list.given stages.given (list_valid (value_under (codes "pipeline") body) list.given (valid_under (codes "pipeline")) list.first_is) stages.first_is,
       )
 
-  get_more_sound : (a : Asked) → get_more_of body lists ≡ Ok a → IsSoundlyAsked a
+  get_more_sound : (a : Asked) → get_more_of body lists ≡ Ok a → IsAsked a
   get_more_sound a is =
       let db = succeeds (checked_database get_more_table body lists) _ a is in
       let id = succeeds (integer_under (codes "getMore") body) _ a db.rest_is in
@@ -348,12 +366,12 @@ module _ (body : List Field) (lists : Lists) (valid : AreFields (fields_of body)
       let batch_size = succeeds (natural_under (codes "batchSize") 0 body) _ a collection.rest_is in
       let from = succeeds (namespace db.given collection.given) _ a batch_size.rest_is in
       let asked : Asked = get_more (record { id = id.given; namespace = from.given; batch_size = batch_size.given }) in
-      subst IsSoundlyAsked {x = asked} (ends asked a from.rest_is) (
+      subst IsAsked {x = asked} (ends asked a from.rest_is) (
         name_valid (codes "collection") db.given collection.given from.given (checked_valid get_more_table db.given db.first_is) collection.first_is from.first_is,
         id_valid (value_under (codes "getMore") body) id.given (valid_under (codes "getMore")) id.first_is,
       )
 
-  kill_cursors_sound : (a : Asked) → kill_cursors_of body lists ≡ Ok a → IsSoundlyAsked a
+  kill_cursors_sound : (a : Asked) → kill_cursors_of body lists ≡ Ok a → IsAsked a
   kill_cursors_sound a is =
       let db = succeeds (checked_database kill_cursors_table body lists) _ a is in
       let collection = succeeds (text_under (codes "killCursors") body) _ a db.rest_is in
@@ -361,12 +379,13 @@ module _ (body : List Field) (lists : Lists) (valid : AreFields (fields_of body)
       let list = succeeds (array_under (codes "cursors") body) _ ids.given ids.first_is in
       let from = succeeds (namespace db.given collection.given) _ a ids.rest_is in
       let asked : Asked = kill_cursors (record { namespace = from.given; ids = ids.given }) in
-      subst IsSoundlyAsked {x = asked} (ends asked a from.rest_is) (
+      subst IsAsked {x = asked} (ends asked a from.rest_is) (
         name_valid (codes "killCursors") db.given collection.given from.given (checked_valid kill_cursors_table db.given db.first_is) collection.first_is from.first_is,
         integers_valid list.given ids.given (list_valid (value_under (codes "cursors") body) list.given (valid_under (codes "cursors")) list.first_is) list.rest_is,
+        omega (arith, each_long integer_in list.given ids.given list.rest_is, list_long (value_under (codes "cursors") body) list.given (length (spelling body)) (under_long adds (codes "cursors") body) list.first_is),
       )
 
-  create_sound : (a : Asked) → create_of body lists ≡ Ok a → IsSoundlyAsked a
+  create_sound : (a : Asked) → create_of body lists ≡ Ok a → IsAsked a
   create_sound a is =
       let db = succeeds (checked_database create_table body lists) _ a is in
       let collection = succeeds (text_under (codes "create") body) _ a db.rest_is in
@@ -375,21 +394,21 @@ module _ (body : List Field) (lists : Lists) (valid : AreFields (fields_of body)
       let view = succeeds (view_of db.given fields.given) _ a name.rest_is in
       let asked : Asked = create (record { namespace = name.given; view = view.given }) in
       let are_valid = fields_valid (value_under (codes "viewOn") body) (value_under (codes "pipeline") body) fields.given (valid_under (codes "viewOn")) (valid_under (codes "pipeline")) fields.first_is in
-      subst IsSoundlyAsked {x = asked} (ends asked a view.rest_is) (
+      subst IsAsked {x = asked} (ends asked a view.rest_is) (
         name_valid (codes "create") db.given collection.given name.given (checked_valid create_table db.given db.first_is) collection.first_is name.first_is,
         view_valid db.given fields.given view.given (checked_valid create_table db.given db.first_is) are_valid view.first_is,
       )
 
-  drop_sound : (a : Asked) → drop_of body lists ≡ Ok a → IsSoundlyAsked a
+  drop_sound : (a : Asked) → drop_of body lists ≡ Ok a → IsAsked a
   drop_sound a is =
       let db = succeeds (checked_database drop_table body lists) _ a is in
       let collection = succeeds (text_under (codes "drop") body) _ a db.rest_is in
       let name = succeeds (namespace db.given collection.given) _ a collection.rest_is in
       let asked : Asked = drop (record { namespace = name.given }) in
-      subst IsSoundlyAsked {x = asked} (ends asked a name.rest_is)
+      subst IsAsked {x = asked} (ends asked a name.rest_is)
       (name_valid (codes "drop") db.given collection.given name.given (checked_valid drop_table db.given db.first_is) collection.first_is name.first_is)
 
-  create_indexes_sound : (a : Asked) → create_indexes_of body lists ≡ Ok a → IsSoundlyAsked a
+  create_indexes_sound : (a : Asked) → create_indexes_of body lists ≡ Ok a → IsAsked a
   create_indexes_sound a is =
       let db = succeeds (checked_database create_indexes_table body lists) _ a is in
       let collection = succeeds (text_under (codes "createIndexes") body) _ a db.rest_is in
@@ -397,22 +416,22 @@ module _ (body : List Field) (lists : Lists) (valid : AreFields (fields_of body)
       let name = succeeds (namespace db.given collection.given) _ a list.rest_is in
       let indexes = succeeds (each index_of list.given) _ a name.rest_is in
       let asked : Asked = create_indexes (record { namespace = name.given; indexes = indexes.given }) in
-      subst IsSoundlyAsked {x = asked} (ends asked a indexes.rest_is) (
+      subst IsAsked {x = asked} (ends asked a indexes.rest_is) (
         name_valid (codes "createIndexes") db.given collection.given name.given (checked_valid create_indexes_table db.given db.first_is) collection.first_is name.first_is,
         indexes_valid list.given indexes.given (documents_valid (value_under (codes "indexes") body) list.given (valid_under (codes "indexes")) list.first_is) indexes.first_is,
       )
 
-  drop_indexes_sound : (a : Asked) → drop_indexes_of body lists ≡ Ok a → IsSoundlyAsked a
+  drop_indexes_sound : (a : Asked) → drop_indexes_of body lists ≡ Ok a → IsAsked a
   drop_indexes_sound a is =
       let db = succeeds (checked_database drop_indexes_table body lists) _ a is in
       let collection = succeeds (text_under (codes "dropIndexes") body) _ a db.rest_is in
       let index = succeeds (text_under (codes "index") body) _ a collection.rest_is in
       let name = succeeds (namespace db.given collection.given) _ a index.rest_is in
       let asked : Asked = drop_indexes (record { namespace = name.given; index = index.given }) in
-      subst IsSoundlyAsked {x = asked} (ends asked a name.rest_is)
+      subst IsAsked {x = asked} (ends asked a name.rest_is)
       (name_valid (codes "dropIndexes") db.given collection.given name.given (checked_valid drop_indexes_table db.given db.first_is) collection.first_is name.first_is)
 
-  explain_sound : (a : Asked) → explain_of body lists ≡ Ok a → IsSoundlyAsked a
+  explain_sound : (a : Asked) → explain_of body lists ≡ Ok a → IsAsked a
   explain_sound a is =
       let inside = succeeds (explained body) _ a is in
       let db = succeeds (database body) _ a inside.rest_is in
@@ -422,52 +441,52 @@ module _ (body : List Field) (lists : Lists) (valid : AreFields (fields_of body)
       let explained_fields =
       explained_valid (document_under (codes "explain") body) inside.given (λ e under. document_valid (value_under (codes "explain") body) e (valid_under (codes "explain")) under) inside.first_is in
       let made : Asked = explain (record { find = asked.given }) in
-      subst IsSoundlyAsked {x = made} (ends made a asked.rest_is) (find_valid db.given inside.given asked.given (database_sound db.given db.first_is) explained_fields asked.first_is)
+      subst IsAsked {x = made} (ends made a asked.rest_is) (find_valid db.given inside.given asked.given (database_sound db.given db.first_is) explained_fields asked.first_is)
 
-  hello_sound : (a : Asked) → hello_of body ≡ Ok a → IsSoundlyAsked a
-  hello_sound a is = subst IsSoundlyAsked (ends hello a (succeeds (database body) _ a is).rest_is) tt
+  hello_sound : (a : Asked) → hello_of body ≡ Ok a → IsAsked a
+  hello_sound a is = subst IsAsked (ends hello a (succeeds (database body) _ a is).rest_is) tt
 
-  ping_sound : (a : Asked) → ping_of body ≡ Ok a → IsSoundlyAsked a
-  ping_sound a is = subst IsSoundlyAsked (ends ping a (succeeds (database body) _ a is).rest_is) tt
+  ping_sound : (a : Asked) → ping_of body ≡ Ok a → IsAsked a
+  ping_sound a is = subst IsAsked (ends ping a (succeeds (database body) _ a is).rest_is) tt
 
   -- a command of this name, or one of the others
-  either : (b : Bool) (this others : Result Asked Refusal) (a : Asked) → (this ≡ Ok a → IsSoundlyAsked a) → (others ≡ Ok a → IsSoundlyAsked a) → (if b then this else others) ≡ Ok a → IsSoundlyAsked a
+  either : (b : Bool) (this others : Result Asked Refusal) (a : Asked) → (this ≡ Ok a → IsAsked a) → (others ≡ Ok a → IsAsked a) → (if b then this else others) ≡ Ok a → IsAsked a
   either true this others a one rest is = one is
   either false this others a one rest is = rest is
 
-  index_sound : (name : List ℕ) (a : Asked) → index_under name body lists ≡ Ok a → IsSoundlyAsked a
+  index_sound : (name : List ℕ) (a : Asked) → index_under name body lists ≡ Ok a → IsAsked a
   index_sound name a =
       either (bytes_eq name (codes "createIndexes")) (create_indexes_of body lists) _ a (create_indexes_sound a)
       (either (bytes_eq name (codes "dropIndexes")) (drop_indexes_of body lists) _ a (drop_indexes_sound a)
       (either (bytes_eq name (codes "explain")) (explain_of body lists) _ a (explain_sound a)
       (λ is. let none : Err CommandNotFound ≡ Ok a = is in absurd cc)))
 
-  catalog_sound : (name : List ℕ) (a : Asked) → catalog_under name body lists ≡ Ok a → IsSoundlyAsked a
+  catalog_sound : (name : List ℕ) (a : Asked) → catalog_under name body lists ≡ Ok a → IsAsked a
   catalog_sound name a =
       either (bytes_eq name (codes "create")) (create_of body lists) _ a (create_sound a)
       (either (bytes_eq name (codes "drop")) (drop_of body lists) _ a (drop_sound a)
       (index_sound name a))
 
-  write_sound : (name : List ℕ) (a : Asked) → write_under name body lists ≡ Ok a → IsSoundlyAsked a
+  write_sound : (name : List ℕ) (a : Asked) → write_under name body lists ≡ Ok a → IsAsked a
   write_sound name a =
       either (bytes_eq name (codes "insert")) (insert_of body lists) _ a (insert_sound a)
       (either (bytes_eq name (codes "update")) (update_of body lists) _ a (update_sound a)
       (either (bytes_eq name (codes "delete")) (delete_of body lists) _ a (delete_sound a)
       (catalog_sound name a)))
 
-  cursor_sound : (name : List ℕ) (a : Asked) → cursor_under name body lists ≡ Ok a → IsSoundlyAsked a
+  cursor_sound : (name : List ℕ) (a : Asked) → cursor_under name body lists ≡ Ok a → IsAsked a
   cursor_sound name a =
       either (bytes_eq name (codes "getMore")) (get_more_of body lists) _ a (get_more_sound a)
       (either (bytes_eq name (codes "killCursors")) (kill_cursors_of body lists) _ a (kill_cursors_sound a)
       (write_sound name a))
 
-  read_sound : (name : List ℕ) (a : Asked) → read_under name body lists ≡ Ok a → IsSoundlyAsked a
+  read_sound : (name : List ℕ) (a : Asked) → read_under name body lists ≡ Ok a → IsAsked a
   read_sound name a =
       either (bytes_eq name (codes "find")) (find_of body lists) _ a (find_sound a)
       (either (bytes_eq name (codes "aggregate")) (aggregate_of body lists) _ a (aggregate_sound a)
       (cursor_sound name a))
 
-  pub asked_sound : (name : List ℕ) (a : Asked) → asked_under name body lists ≡ Ok a → IsSoundlyAsked a
+  pub asked_sound : (name : List ℕ) (a : Asked) → asked_under name body lists ≡ Ok a → IsAsked a
   asked_sound name a =
       either (bytes_eq name (codes "hello")) (hello_of body) _ a (hello_sound a)
       (either (bytes_eq name (codes "ping")) (ping_of body) _ a (ping_sound a)

@@ -44,28 +44,29 @@ IsSoundView (Some view) = IsNamespace view.source × IsSoundPipeline view.stages
 abbrev pub AreIds : List ℤ → Type 0
 AreIds ids = AllByRecursion (λ id. IsValue (int64 id)) ids
 
--- a name in UTF-8, and not too long
-abbrev pub IsSoundIndex : IndexAsked → Type 0
-IsSoundIndex index = IsUtf8 index.name × (length index.name ≤ longest_index_name)
+-- the name of an index: in UTF-8, and not too long
+abbrev pub IsIndexName : List ℕ → Type 0
+IsIndexName name = IsUtf8 name × (length name ≤ longest_index_name)
 
-abbrev pub AreSoundIndexes : List IndexAsked → Type 0
-AreSoundIndexes indexes = AllByRecursion IsSoundIndex indexes
+abbrev pub AreIndexes : List IndexAsked → Type 0
+AreIndexes indexes = AllByRecursion (λ index. IsIndexName index.name) indexes
 
-abbrev pub IsSoundlyAsked : Asked → Type 0
-IsSoundlyAsked hello = ⊤
-IsSoundlyAsked ping = ⊤
-IsSoundlyAsked (insert asked) = AreStatements asked.namespace asked.documents
-IsSoundlyAsked (update asked) = AreStatements asked.namespace asked.entries
-IsSoundlyAsked (delete asked) = AreStatements asked.namespace asked.entries
-IsSoundlyAsked (find asked) = IsNamespace asked.namespace
-IsSoundlyAsked (aggregate asked) = IsNamespace asked.namespace × IsSoundPipeline asked.stages
-IsSoundlyAsked (get_more asked) = IsNamespace asked.namespace × IsValue (int64 asked.id)
-IsSoundlyAsked (kill_cursors asked) = IsNamespace asked.namespace × AreIds asked.ids
-IsSoundlyAsked (create asked) = IsNamespace asked.namespace × IsSoundView asked.view
-IsSoundlyAsked (drop asked) = IsNamespace asked.namespace
-IsSoundlyAsked (create_indexes asked) = IsNamespace asked.namespace × AreSoundIndexes asked.indexes
-IsSoundlyAsked (drop_indexes asked) = IsNamespace asked.namespace
-IsSoundlyAsked (explain asked) = IsNamespace asked.find.namespace
+-- what is asked by a body of so many bytes
+abbrev pub IsSoundlyAsked : ℕ → Asked → Type 0
+IsSoundlyAsked size hello = ⊤
+IsSoundlyAsked size ping = ⊤
+IsSoundlyAsked size (insert asked) = AreStatements asked.namespace asked.documents
+IsSoundlyAsked size (update asked) = AreStatements asked.namespace asked.entries
+IsSoundlyAsked size (delete asked) = AreStatements asked.namespace asked.entries
+IsSoundlyAsked size (find asked) = IsNamespace asked.namespace
+IsSoundlyAsked size (aggregate asked) = IsNamespace asked.namespace × IsSoundPipeline asked.stages
+IsSoundlyAsked size (get_more asked) = IsNamespace asked.namespace × IsValue (int64 asked.id)
+IsSoundlyAsked size (kill_cursors asked) = IsNamespace asked.namespace × AreIds asked.ids × (length asked.ids ≤ size)
+IsSoundlyAsked size (create asked) = IsNamespace asked.namespace × IsSoundView asked.view
+IsSoundlyAsked size (drop asked) = IsNamespace asked.namespace
+IsSoundlyAsked size (create_indexes asked) = IsNamespace asked.namespace × AreIndexes asked.indexes
+IsSoundlyAsked size (drop_indexes asked) = IsNamespace asked.namespace
+IsSoundlyAsked size (explain asked) = IsNamespace asked.find.namespace
 
 -- an update that a document with valid fields is
 pub record IsSoundUpdate (asked : Update) : Type 0 where

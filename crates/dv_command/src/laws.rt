@@ -1,7 +1,7 @@
 //! Laws of what commands ask and of replies, each the contract of a function that does nothing.
 
-ghost use Rattle.std.specs.Prelude.{◌≡◌, ℕ, List, Ok};
-ghost use Rattle.dv_bson.specs.Spelling.{AreFields, IsValue};
+ghost use Rattle.std.specs.Prelude.{◌≡◌, ℕ, List, Ok, length};
+ghost use Rattle.dv_bson.specs.Spelling.{AreFields, IsValue, spelling};
 ghost use Rattle.dv_bson.specs.Tree.{Field, fields_of};
 ghost use Rattle.dv_command.specs.Asked.{Asked, asked_under, command_name};
 ghost use Rattle.dv_command.specs.Lists.{Lists};
@@ -10,10 +10,13 @@ ghost use Rattle.dv_command.specs.Entries.{Updating, updating_of};
 ghost use Rattle.dv_command.specs.Sound.{AreValidLists, IsSoundlyAsked, IsSoundUpdate};
 
 /// What a command asks is sound where the fields of its body and the lists beside it are: the documents in its list, how
-/// many they are, the names of its collections and of its indexes, its pipeline, and the ids of its cursors.
+/// many they are, the names of its collections and of its indexes, its pipeline, and the ids of its cursors, of which there
+/// are no more than the body has bytes.
 pub fn what_is_asked_is_sound()
-    ensures { (body : List Field) (lists : Lists) (asked : Asked) → AreFields (fields_of body) → AreValidLists lists → asked_under (command_name body) body lists ≡ Ok asked → IsSoundlyAsked asked }
-{}
+    ensures { (body : List Field) (lists : Lists) (asked : Asked) → AreFields (fields_of body) → AreValidLists lists → asked_under (command_name body) body lists ≡ Ok asked → IsSoundlyAsked (length (spelling body)) asked }
+{
+    dv_bson::laws::what_a_field_adds();
+}
 
 /// The update that an entry asks is that of a document with valid fields, where the entry's fields are.
 pub fn the_update_of_an_entry_is_sound()

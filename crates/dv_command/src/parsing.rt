@@ -1,6 +1,5 @@
 //! Commands looked through: what they ask, or why they are refused.
 
-ghost use Rattle.std.specs.Prelude.{◌≡◌};
 ghost use Rattle.dv_command.specs.Asked as asking;
 ghost use Rattle.dv_command.specs.View.{asked_seen};
 ghost use Rattle.dv_fields.specs.Refusals.{UnlessWanting};

@@ -1,7 +1,7 @@
 -- What a sound command asks.
-use Rattle.std.proofs.Common.{◌≡◌, List, [], ◌∷◌, Ok}
+use Rattle.std.proofs.Common.{◌≡◌, ◌≤◌, ℕ, List, [], ◌∷◌, length, Ok, arith}
 use Rattle.std.specs.List.{AllByRecursion}
-use Rattle.dv_bson.specs.Spelling.{AreFields}
+use Rattle.dv_bson.specs.Spelling.{AreFields, spelling}
 use Rattle.dv_bson.specs.Tree.{Field, fields_of}
 use Rattle.dv_command.specs.Asked.{Asked, asked_by, asked_under, command_name}
 use Rattle.dv_command.specs.Lists.{Lists}
@@ -12,7 +12,7 @@ use Rattle.dv_core.specs.Sound.{IsSoundCommand, IsSoundDocument}
 
 -- what a body with valid fields asks is sound
 abbrev pub AsksSoundly : Type 0
-AsksSoundly = (body : List Field) (lists : Lists) (asked : Asked) → AreFields (fields_of body) → AreValidLists lists → asked_under (command_name body) body lists ≡ Ok asked → IsSoundlyAsked asked
+AsksSoundly = (body : List Field) (lists : Lists) (asked : Asked) → AreFields (fields_of body) → AreValidLists lists → asked_under (command_name body) body lists ≡ Ok asked → IsSoundlyAsked (length (spelling body)) asked
 
 pub documents_valid : (ds : List (List Field)) → AllByRecursion IsSoundDocument ds → AreValid ds
 documents_valid [] sound = tt
@@ -22,6 +22,15 @@ lists_valid : (lists : Lists) → AllByRecursion (λ list. AllByRecursion IsSoun
 lists_valid [] sound = tt
 lists_valid (list ∷ lists) sound = (documents_valid list.1 sound.0, lists_valid lists sound.1)
 
-pub soundly_asked : AsksSoundly → (command : Command) (asked : Asked) → IsSoundCommand command → asked_by command ≡ Ok asked → IsSoundlyAsked asked
+-- how many bytes a command's body has
+abbrev pub body_size : Command → ℕ
+body_size (Sections body lists) = length (spelling body)
+body_size (Invalid fault) = 0
+
+pub body_fits : (command : Command) → IsSoundCommand command → body_size command ≤ 16777216
+body_fits (Sections body lists) sound = sound.0.fits.size
+body_fits (Invalid fault) sound = omega arith
+
+pub soundly_asked : AsksSoundly → (command : Command) (asked : Asked) → IsSoundCommand command → asked_by command ≡ Ok asked → IsSoundlyAsked (body_size command) asked
 soundly_asked asks (Invalid fault) asked sound is = absurd cc
 soundly_asked asks (Sections body lists) asked sound is = asks body lists asked sound.0.valid (lists_valid lists sound.1) is

@@ -21,7 +21,7 @@ use Rattle.dv_cursor.specs.Batch.{batch}
 use Rattle.dv_cursor.specs.Cursors.{Cursors}
 use Rattle.dv_core.specs.Insert.{insert_write}
 use Rattle.dv_catalog.specs.IndexMaking.{indexes_created, indexes_dropped}
-use Rattle.dv_catalog.specs.State.{Namespaces, documents_of, is_view, rows_of}
+use Rattle.dv_catalog.specs.State.{Namespaces, documents_of, is_view}
 use Rattle.dv_catalog.specs.State as stored
 use Rattle.dv_core.specs.State.{State}
 use Rattle.dv_catalog.specs.Views.{aggregated, created, dropped}

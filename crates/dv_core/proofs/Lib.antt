@@ -14,6 +14,7 @@ mod Valid
 mod Asking
 mod Ordered
 mod Parts
+mod Named
 mod Viewed
 mod Spelled
 mod Shown

@@ -77,7 +77,7 @@ not_there : (a b : Bool) → (a || b) ≡ false → a ≡ false
 not_there true b e = absurd cc
 not_there false b e = refl
 
-views_only : (old new : State) (result : Result (List ViewForm) Refusal) → with_views old result ≡ Ok new → new.namespaces ≡ old.namespaces
+pub views_only : (old new : State) (result : Result (List ViewForm) Refusal) → with_views old result ≡ Ok new → new.namespaces ≡ old.namespaces
 views_only old new (Ok views) is = let same : new ≡ record old { views = views } = cc in ap (λ (s : State). s.namespaces) same
 views_only old new (Err refusal) is = absurd cc
 

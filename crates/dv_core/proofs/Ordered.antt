@@ -1,5 +1,5 @@
 -- The documents of each namespace stay in the order of their `_id`s, and sound.
-use Rattle.std.proofs.Common.{◌≡◌, ℕ, Bool, true, false, cond, ◌||◌, not, List, [], ◌∷◌, map, Option, Some, None, Result, Ok, Err, if◌then◌else◌, is_some, refl, sym, subst}
+use Rattle.std.proofs.Common.{◌≡◌, ℕ, Bool, true, false, cond, not, List, [], ◌∷◌, map, Option, Some, None, Result, Ok, Err, if◌then◌else◌, is_some, refl, sym, subst}
 use Rattle.std.specs.Prelude.{codes}
 use Rattle.std.specs.Cmp.Lexicographic.{slice_cmp}
 use Rattle.std.specs.FinMap as finite
@@ -27,7 +27,7 @@ use Rattle.dv_update.specs.Update as form
 use Rattle.dv_catalog.specs.Effects.{after}
 use Rattle.dv_core.specs.Update.{update_write}
 use Rattle.dv_core.specs.Insert.{insert_one, insert_write}
-use Rattle.dv_core.specs.Sound.{IsSoundDocument, AreSound, IsSound, IsSoundCommand}
+use Rattle.dv_core.specs.Sound.{IsSoundDocument, AreSound, AreSoundDocuments, IsSoundCommand}
 use Rattle.dv_core.specs.Load.{insert_alone, left_by, loaded, namespace_in}
 use Rattle.dv_catalog.specs.State.{documents_of, is_view, AreOrdered, IsOrdered}
 use Rattle.dv_core.specs.State.{State, empty_state}
@@ -55,7 +55,7 @@ none_sound = (none_ordered, tt)
 pub empty_ordered : IsOrdered empty_state.catalog
 empty_ordered namespace = subst AreOrdered (nothing_there namespace) none_ordered
 
-pub empty_sound : IsSound empty_state
+pub empty_sound : AreSoundDocuments empty_state
 empty_sound namespace = subst AreSound (nothing_there namespace) none_sound
 
 -- ---- what is stored begins with its `_id`
@@ -224,27 +224,27 @@ module _ (laws : CollectionLaws) where
         subst KeepsSound same (deletes_keep (λ namespace ds. AreSound ds) IsSoundChange changes_sound (λ k. tt) d.entries)
     writes_sound command sound what write asked is = absurd cc
 
-    pub steps_sound : (old new : State) (session : ℕ) (command : Command) (outcome : Outcome) → IsSoundCommand command → IsSound old → MemoryStep old session command outcome new → IsSound new
+    pub steps_sound : (old new : State) (session : ℕ) (command : Command) (outcome : Outcome) → IsSoundCommand command → AreSoundDocuments old → MemoryStep old session command outcome new → AreSoundDocuments new
     steps_sound old new session command outcome sound h steps = step_holds (λ namespace ds. AreSound ds) IsSoundChange changes_sound old new session command outcome (λ namespace. none_sound) (writes_sound command sound) h steps
 
   -- ---- and so after a load of a sound document
 
-  alone_sound : (old new : State) (namespace : List ℕ) (d : List Field) (does : Result Effect Refusal) → AllByRecursion IsSoundChange (changes_of does) → IsSound old → (does >>= λ effect. Ok (left_by namespace old effect)) ≡ Ok new → IsSound new
+  alone_sound : (old new : State) (namespace : List ℕ) (d : List Field) (does : Result Effect Refusal) → AllByRecursion IsSoundChange (changes_of does) → AreSoundDocuments old → (does >>= λ effect. Ok (left_by namespace old effect)) ≡ Ok new → AreSoundDocuments new
   alone_sound old new namespace d (Ok effect) good h is =
       let leaves : left_by namespace old effect ≡ new = cc in
-      subst IsSound leaves (apply_holds (λ namespace ds. AreSound ds) IsSoundChange changes_sound namespace effect.changes old.catalog.namespaces h good)
+      subst AreSoundDocuments leaves (apply_holds (λ namespace ds. AreSound ds) IsSoundChange changes_sound namespace effect.changes old.catalog.namespaces h good)
   alone_sound old new namespace d (Err refusal) good h is = absurd cc
 
-  loaded_in : (old new : State) (named : Result (List ℕ) Refusal) (d : List Field) → IsSoundDocument d → IsSound old → (named >>= λ namespace. insert_alone namespace d old) ≡ Ok new → IsSound new
+  loaded_in : (old new : State) (named : Result (List ℕ) Refusal) (d : List Field) → IsSoundDocument d → AreSoundDocuments old → (named >>= λ namespace. insert_alone namespace d old) ≡ Ok new → AreSoundDocuments new
   loaded_in old new (Err refusal) d sound h is = absurd cc
   loaded_in old new (Ok namespace) d sound h is = by_view (is_view namespace old.catalog.views) is
     where
       keeps : Keeps (λ namespace ds. AreSound ds) IsSoundChange changes_sound (insert_one d)
       keeps = (inserts_sound (d ∷ []) (sound.valid, tt)).0
 
-      by_view : (b : Bool) → (if b then Err OnView else (insert_one d (documents_of namespace old.catalog.namespaces) >>= λ effect. Ok (left_by namespace old effect))) ≡ Ok new → IsSound new
+      by_view : (b : Bool) → (if b then Err OnView else (insert_one d (documents_of namespace old.catalog.namespaces) >>= λ effect. Ok (left_by namespace old effect))) ≡ Ok new → AreSoundDocuments new
       by_view true is = absurd cc
       by_view false is = alone_sound old new namespace d _ (keeps.good namespace (documents_of namespace old.catalog.namespaces) (h namespace)) h is
 
-  pub loaded_sound : (old new : State) (text : List ℕ) (d : List Field) → IsSoundDocument d → IsSound old → loaded text d old ≡ Ok new → IsSound new
+  pub loaded_sound : (old new : State) (text : List ℕ) (d : List Field) → IsSoundDocument d → AreSoundDocuments old → loaded text d old ≡ Ok new → AreSoundDocuments new
   loaded_sound old new text d sound h is = loaded_in old new (namespace_in text) d sound h is

@@ -1,5 +1,5 @@
 -- How statements are refused: never for a fault in bytes.
-use Rattle.std.proofs.Common.{◌||◌, ◌&&◌, Bool, true, false, cond, ℤ, pos, negsuc, List, [], ◌∷◌, length, map, not, Option, Some, None, Result, Ok, Err, is_some}
+use Rattle.std.proofs.Common.{◌&&◌, Bool, true, false, cond, ℤ, pos, negsuc, List, [], ◌∷◌, length, map, not, Option, Some, None, Result, Ok, Err, is_some}
 use Rattle.std.specs.List.{AllByRecursion}
 use Rattle.std.specs.Prelude.{codes}
 use Rattle.std.specs.Str.{bytes_eq}

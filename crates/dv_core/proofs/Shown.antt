@@ -24,12 +24,12 @@ use Rattle.dv_core.specs.Find.{are_too_large, found, first_batch, gathered, kept
 use Rattle.dv_core.specs.Load.{loaded}
 use Rattle.dv_core.specs.More.{next_of, number_of, rows_asked, wanted, without, without_each}
 use Rattle.dv_core.specs.Runs.{carries, wants, state_behind}
-use Rattle.dv_core.specs.Sound.{AreShown, AreSoundCursors, AreSoundViews, IsSound, IsSoundCommand}
+use Rattle.dv_core.specs.Sound.{AreShown, AreSoundCursors, AreSoundDocuments, AreSoundViews, IsSoundCommand}
 use Rattle.dv_core.specs.State.{State, empty_state}
 use Rattle.dv_core.specs.Step.{answered, answer_to, on_cursors, end_session, MemoryStep}
 use Rattle.dv_core.specs.Storable.{is_within_limits}
 use Rattle.dv_core.specs.declared.outcome.Outcome.{Outcome}
-use Rattle.dv_core.proofs.Asking.{AsksSoundly, soundly_asked}
+use Rattle.dv_core.proofs.Asking.{AsksSoundly, body_size, soundly_asked}
 use Rattle.dv_core.proofs.Cursored.{CursorLaws, at, catalog_cursors, memory_moves, write_cursors}
 use Rattle.dv_core.proofs.Spelled.{both_hold}
 use Rattle.dv_core.proofs.Viewed.{PipesStayValid, gathered_valid, loaded_leaves, rows_valid}
@@ -143,36 +143,36 @@ module _ (laws : CursorLaws) where
 
   -- ---- each step
 
-  module _ (asks : AsksSoundly) (pipes : PipesStayValid) (old : State) (documents : IsSound old) (views : AreSoundViews old) (all : AreSoundCursors old) (session : ℕ) where
-    asked_shown : (asked : Asked) → IsSoundlyAsked asked → AreSoundCursors (answered old (answer_to old session asked)).state
-    asked_shown (find f) sound =
+  module _ (asks : AsksSoundly) (pipes : PipesStayValid) (old : State) (documents : AreSoundDocuments old) (views : AreSoundViews old) (all : AreSoundCursors old) (session : ℕ) where
+    asked_shown : (size : ℕ) (asked : Asked) → IsSoundlyAsked size asked → AreSoundCursors (answered old (answer_to old session asked)).state
+    asked_shown size (find f) sound =
         let rows : Rows = rows_of f.namespace old.catalog in
         left_by_command old (found session f old.catalog old.cursors) all
         (first_shown session f.namespace old.cursors all f.batch_size (scan f.filter f.sort f.skip f.limit rows)
         (all_scanned (λ d. AreFields (fields_of d)) f.filter f.sort f.skip f.limit rows (rows_valid pipes old documents views f.namespace)) f.single_batch)
-    asked_shown (aggregate a) sound =
+    asked_shown size (aggregate a) sound =
         left_by_command old (gathered session a old.catalog old.cursors) all
         (gathered_shown session a.namespace old.cursors all a.batch_size (looks_into_view a.stages a.namespace old.catalog.views) _ (gathered_valid pipes old documents views a.stages a.namespace sound.1))
-    asked_shown (get_more g) sound =
+    asked_shown size (get_more g) sound =
         left_by_command old (next_of session g.namespace (number_of g.id) g.batch_size (rows_asked session g.namespace g.id old.cursors) old.cursors) all
         (next_shown session g.namespace old.cursors all (number_of g.id) g.batch_size (rows_asked session g.namespace g.id old.cursors))
-    asked_shown (kill_cursors k) sound = without_shown session k.namespace k.ids old.cursors all
-    asked_shown (insert i) sound = same_shown old.cursors _ (write_cursors old _ _ _ refl) all
-    asked_shown (update u) sound = same_shown old.cursors _ (write_cursors old _ _ _ refl) all
-    asked_shown (delete d) sound = same_shown old.cursors _ (write_cursors old _ _ _ refl) all
-    asked_shown (create c) sound = same_shown old.cursors _ (catalog_cursors old _) all
-    asked_shown (drop d) sound = same_shown old.cursors _ (catalog_cursors old _) all
-    asked_shown (create_indexes c) sound = same_shown old.cursors _ (catalog_cursors old _) all
-    asked_shown (drop_indexes d) sound = same_shown old.cursors _ (catalog_cursors old _) all
-    asked_shown hello sound = all
-    asked_shown ping sound = all
-    asked_shown (explain e) sound = all
+    asked_shown size (kill_cursors k) sound = without_shown session k.namespace k.ids old.cursors all
+    asked_shown size (insert i) sound = same_shown old.cursors _ (write_cursors old _ _ _ refl) all
+    asked_shown size (update u) sound = same_shown old.cursors _ (write_cursors old _ _ _ refl) all
+    asked_shown size (delete d) sound = same_shown old.cursors _ (write_cursors old _ _ _ refl) all
+    asked_shown size (create c) sound = same_shown old.cursors _ (catalog_cursors old _) all
+    asked_shown size (drop d) sound = same_shown old.cursors _ (catalog_cursors old _) all
+    asked_shown size (create_indexes c) sound = same_shown old.cursors _ (catalog_cursors old _) all
+    asked_shown size (drop_indexes d) sound = same_shown old.cursors _ (catalog_cursors old _) all
+    asked_shown size hello sound = all
+    asked_shown size ping sound = all
+    asked_shown size (explain e) sound = all
 
     command_shown : (command : Command) → IsSoundCommand command → (asked : Result Asked Refusal) → asked_by command ≡ asked → AreSoundCursors (answered old (asked >>= answer_to old session)).state
-    command_shown command sound (Ok asked) is = asked_shown asked (soundly_asked asks command asked sound is)
+    command_shown command sound (Ok asked) is = asked_shown (body_size command) asked (soundly_asked asks command asked sound is)
     command_shown command sound (Err refusal) is = all
 
-  pub steps_shown : AsksSoundly → PipesStayValid → (old new : State) (session : ℕ) (command : Command) (outcome : Outcome) → IsSoundCommand command → IsSound old → AreSoundViews old → AreSoundCursors old
+  pub steps_shown : AsksSoundly → PipesStayValid → (old new : State) (session : ℕ) (command : Command) (outcome : Outcome) → IsSoundCommand command → AreSoundDocuments old → AreSoundViews old → AreSoundCursors old
       → MemoryStep old session command outcome new → AreSoundCursors new
   steps_shown asks pipes old new session command outcome sound documents views all steps = stay (memory_moves old new session command outcome steps)
     where

@@ -18,10 +18,11 @@ use Rattle.dv_bson.specs.declared.fault.BsonFault.TheVariants.{Truncated, BadLen
 use Rattle.dv_bson.specs.Names.{has_name, has_zero}
 use Rattle.dv_bson.specs.Spelling.{framed, element_spelling, counted, payload, spelling, IsValue, AreFields, AreElements, Spells}
 use Rattle.dv_bson.specs.Tree.{Tree, int32, int64, boolean, string, array, Field, fields_of, list_of_fields, elements_of}
-use Rattle.dv_command.specs.Asked.{Asked, ViewOn, hello, ping, insert, update, delete, find, aggregate, get_more, kill_cursors, create, drop, create_indexes, drop_indexes, explain, asked_by}
-use Rattle.dv_command.specs.Replies.{document_of, count, long_count, drop_reply, hello_reply, reply_of, refusal_reply, batch_reply, first_batch_reply, kill_cursors_reply, create_indexes_reply, drop_indexes_reply, write_error, update_reply, errors_field}
+use Rattle.dv_command.specs.Asked.{Asked, Delete, Insert, Update, ViewOn, hello, ping, insert, update, delete, find, aggregate, get_more, kill_cursors, create, drop, create_indexes, drop_indexes, explain, asked_by}
+use Rattle.dv_command.specs.Replies.{document_of, count, long_count, drop_reply, hello_reply, reply_of, refusal_reply, batch_reply, first_batch_reply, kill_cursors_reply, create_indexes_reply, drop_indexes_reply, cut_error, write_error, update_reply, errors_field}
 use Rattle.dv_fields.specs.Refusals.{code, code_name, message_of, ◌>>=◌}
 use Rattle.dv_command.specs.declared.command.Command.{Command}
+use Rattle.dv_core.specs.declared.outcome.Outcome.TheVariants.{Wanting}
 use Rattle.dv_fields.specs.declared.refusal.Refusal.{Refusal}
 use Rattle.dv_fields.specs.declared.refusal.Refusal.TheVariants.{BadValue, FailedToParse, TypeMismatch, InvalidBson, PathNotViable, ConflictingUpdateOperators, ImmutableField, CommandNotFound, DuplicateKey, WantOfMemory, TooLarge, LimitReached, NamespaceNotFound, IndexNotFound, CursorNotFound, NamespaceExists, OnView, ReadByView}
 use Rattle.dv_catalog.specs.Changes.{Effect}
@@ -30,7 +31,7 @@ use Rattle.dv_core.specs.Update.{update_one, update_write}
 use Rattle.dv_core.specs.Insert.{insert_one, insert_write}
 use Rattle.dv_catalog.specs.Scan.{scan}
 use Rattle.dv_catalog.specs.IndexMaking.{Explained, Way, over_view, by_index, over_all, explained, indexes_created, indexes_dropped, with_all as with_all_entries, with_entries, with_index, without_named, within_limit}
-use Rattle.dv_catalog.specs.State.{Namespaces, ViewForm, documents_of, indexes_of, is_collection, is_there, is_view, rows_of, view_named}
+use Rattle.dv_catalog.specs.State.{Namespaces, ViewForm, documents_of, indexes_of, is_collection, is_there, is_view, rows_of}
 use Rattle.dv_core.specs.State.{State}
 use Rattle.dv_cursor.specs.Batch.{batch, behind, total_size}
 use Rattle.dv_cursor.specs.Cursors.{Cursors, added, free_id}
@@ -40,17 +41,18 @@ use Rattle.dv_index.specs.Indexed.{is_dropped, without_index}
 use Rattle.dv_catalog.specs.State as states
 use Rattle.dv_catalog.specs.Views.{created, dropped, looks_into_view, made, with_view, with_views}
 use Rattle.dv_catalog.specs.Changes.{Statement}
-use Rattle.dv_core.specs.Statements.{Write, Written, nothing_written, is_due, with_result, with_next, with_all, carry_out}
-use Rattle.dv_core.specs.Step.{answered, write_answer, on_catalog, on_cursors, answer_to, step}
+use Rattle.dv_core.specs.Statements.{Write, Written, nothing_written, is_due, with_result, with_next, with_all, carry_out, IsCut}
+use Rattle.dv_core.specs.Step.{Answer, answered, write_answer, on_catalog, on_cursors, answer_to, step, write_of, Cut, MemoryStep, WriteCut}
 use Rattle.dv_command.specs.Sound.{AreValid, AreIds, IsNamespace, IsSoundlyAsked}
 use Rattle.dv_core.proofs.Viewed.{PipesStayValid, gathered_valid, rows_valid}
-use Rattle.dv_core.proofs.Asking.{AsksSoundly, soundly_asked}
+use Rattle.dv_core.proofs.Named.{IsNamed, explained_named}
+use Rattle.dv_core.proofs.Asking.{AsksSoundly, body_fits, body_size, soundly_asked}
 use Rattle.dv_core.proofs.Plain.{IsPlain, IsPlainly, IsPlainStatement, inserts_plain, updates_plain, deletes_plain}
 use Rattle.dv_catalog.specs.ScanLaws.{all_scanned}
 use Rattle.dv_core.specs.Find.{are_too_large, found, gathered, kept, kept_under, left_behind, replied}
 use Rattle.dv_core.specs.Indexes.{explained_reply, form_asked, index_count, index_name}
 use Rattle.dv_core.specs.More.{gone_ids, id_behind, missing_ids, next_of, number_of, rows_asked, wanted, went_each}
-use Rattle.dv_core.specs.Sound.{AreShown, AreSoundCursors, AreSoundViews, CanBeTold, HasSpelling, IsNamed, IsTold, IsSound, IsSoundCommand}
+use Rattle.dv_core.specs.Sound.{AreShown, AreSoundCursors, HasSpelling, IsTold, IsSound, IsSoundCommand}
 use Rattle.dv_core.specs.Storable.{is_within_limits}
 use Rattle.dv_core.proofs.Spellings.{spelling-field, spelling-nil, spelling-long, length-int32, length-int64, length-string, sizes, array-bound}
 use Rattle.dv_core.proofs.Texts.{are_ascii, IsUtf8-ascii}
@@ -127,7 +129,7 @@ module _ (name : List ℕ) (is_name : IsBatchName name) (namespace : List ℕ) (
       more_valid name rows after is_name.ascii is_name.whole (is_name.fresh id namespace) (documents_valid ds valid)
       (more_valid (codes "id") (int64 (pos id)) ((codes "ns", string namespace) ∷ []) refl refl refl (id_valid id fits) (more_valid (codes "ns") (string namespace) [] refl refl refl text tt))
 
-  rows_size : length (payload rows) ≤ 16777216 + 9 * 3355444 + 5
+  rows_size : length (payload rows) ≤ 16777216 + 10 * 3355444 + 5
   rows_size =
       let count : length (map document_of ds) ≤ 3355444 = omega (arith, documents_length ds, documents_count ds) in
       omega (arith, array-bound (map document_of ds) (omega arith), documents_size ds)
@@ -242,26 +244,40 @@ name_short ReadByView = ascii_short (codes "ReadByView") refl (omega arith)
 
 -- an error of a statement
 abbrev IsSmall : Tree → Type 0
-IsSmall e = IsValue e × (length (payload e) ≤ 120)
+IsSmall e = IsValue e × (length (payload e) ≤ 140)
 
-error_small : (place : ℕ) (refusal : Refusal) → place < 2 ^ 31 → IsPlain refusal → IsSmall (document_of (write_error place refusal))
-error_small place refusal within plain =
+-- what is told in it behind its message
+record IsBehind (behind : List Field) : Type 0 where
+  valid : AreFields (fields_of behind)
+  short : length (spelling behind) ≤ 19
+  index : has_name (codes "index") (list_of_fields (fields_of behind)) ≡ false
+  code : has_name (codes "code") (list_of_fields (fields_of behind)) ≡ false
+  message : has_name (codes "errmsg") (list_of_fields (fields_of behind)) ≡ false
+
+nothing_behind : IsBehind []
+nothing_behind = record { valid = tt; short = omega (arith, spelling-nil); index = refl; code = refl; message = refl }
+
+error_small : (place : ℕ) (refusal : Refusal) (behind : List Field) → place < 2 ^ 31 → IsPlain refusal → IsBehind behind → IsSmall (document_of (write_error place refusal ++ behind))
+error_small place refusal behind within plain is =
     let short = plain_short refusal plain in
-    let message : List Field = (codes "errmsg", string (message_of refusal)) ∷ [] in
-    let number : List Field = (codes "code", int32 (pos (code refusal))) ∷ message in (
-      more_valid (codes "index") (int32 (pos place)) number refl refl refl (number_valid place within)
-          (more_valid (codes "code") (int32 (pos (code refusal))) message refl refl refl (number_valid (code refusal) short.number) (more_valid (codes "errmsg") (string (message_of refusal)) [] refl refl refl short.text tt)),
-      omega (
-        arith,
-        spelling-field (codes "index", int32 (pos place)) number,
-        length-int32 (pos place),
-        spelling-field (codes "code", int32 (pos (code refusal))) message,
-        length-int32 (pos (code refusal)),
-        spelling-field (codes "errmsg", string (message_of refusal)) [],
-        length-string (message_of refusal),
-        short.few,
-        spelling-nil,
-      ),
+    let message : List Field = (codes "errmsg", string (message_of refusal)) ∷ behind in
+    let number : List Field = (codes "code", int32 (pos (code refusal))) ∷ message in
+    let size : length (spelling ((codes "index", int32 (pos place)) ∷ number)) ≤ 140 =
+    omega (
+      arith,
+      spelling-field (codes "index", int32 (pos place)) number,
+      length-int32 (pos place),
+      spelling-field (codes "code", int32 (pos (code refusal))) message,
+      length-int32 (pos (code refusal)),
+      spelling-field (codes "errmsg", string (message_of refusal)) behind,
+      length-string (message_of refusal),
+      short.few,
+      is.short,
+    ) in (
+      more_valid (codes "index") (int32 (pos place)) number refl refl is.index (number_valid place within)
+          (more_valid (codes "code") (int32 (pos (code refusal))) message refl refl is.code (number_valid (code refusal) short.number)
+          (more_valid (codes "errmsg") (string (message_of refusal)) behind refl refl is.message short.text is.valid)),
+      size,
     )
 
 -- what statements did so far, of which there are at most so many
@@ -280,7 +296,7 @@ module _ (namespace : List ℕ) (ordered : Bool) where
   few_result count w (Err refusal) within few plain = record {
     statements = omega (arith, few.statements);
     errors = omega (arith, few.errors, length-append w.errors (document_of (write_error w.statements refusal) ∷ []));
-    small = small-push w.errors _ few.small (error_small w.statements refusal (omega (arith, few.statements)) plain);
+    small = small-push w.errors _ few.small (error_small w.statements refusal [] (omega (arith, few.statements)) plain nothing_behind);
   }
 
   few_looked : (b : Bool) (count : ℕ) (one other : Written) → AreFew (suc count) one → AreFew count other → AreFew (suc count) (if b then one else other)
@@ -300,7 +316,7 @@ small_elements : (es : List Tree) → AllByRecursion IsSmall es → AreElements 
 small_elements [] all = tt
 small_elements (e ∷ es) all = (all.0.0, small_elements es all.1)
 
-small_sizes : (es : List Tree) → AllByRecursion IsSmall es → sizes es ≤ 120 * length es
+small_sizes : (es : List Tree) → AllByRecursion IsSmall es → sizes es ≤ 140 * length es
 small_sizes [] all = omega arith
 small_sizes (e ∷ es) all = omega (arith, all.0.1, small_sizes es all.1)
 
@@ -354,12 +370,58 @@ update_spelled counts n changed (e ∷ es) few all =
 abbrev IsSpelled : (ℕ → ℕ → List Tree → List Field) → Type 0
 IsSpelled reply = (n changed : ℕ) (es : List Tree) → length es ≤ 100000 → AllByRecursion IsSmall es → HasSpelling (reply n changed es)
 
-write_spelled : (write : Write) (old : Namespaces) → length write.statements ≤ 100000 → AllByRecursion IsPlainStatement write.statements → IsSpelled write.reply
-    → HasSpelling (write.reply (carry_out write old).n (carry_out write old).changed (carry_out write old).errors)
-write_spelled write old within plain reply =
-    let nothing : AreFew 0 (nothing_written old) = record { statements = omega arith; errors = omega arith; small = tt } in
-    let all = few_all write.namespace write.ordered 0 (nothing_written old) write.statements (omega arith) plain nothing in
-    reply (carry_out write old).n (carry_out write old).changed (carry_out write old).errors (omega (arith, all.errors)) all.small
+-- a write of so few statements, each refused plainly, whose reply has a spelling
+record IsTellable (write : Write) : Type 0 where
+  within : length write.statements ≤ 100000
+  plain : AllByRecursion IsPlainStatement write.statements
+  reply : IsSpelled write.reply
+
+few_written : (write : Write) (old : Namespaces) (statements : List Statement) → length statements ≤ 100000 → AllByRecursion IsPlainStatement statements
+    → AreFew (length statements) (with_all write.namespace write.ordered (nothing_written old) statements)
+few_written write old statements within plain =
+    let all = few_all write.namespace write.ordered 0 (nothing_written old) statements (omega (arith, within)) plain (record { statements = omega arith; errors = omega arith; small = tt }) in
+    record { statements = omega (arith, all.statements); errors = omega (arith, all.errors); small = all.small }
+
+write_spelled : (write : Write) (old : Namespaces) → IsTellable write → HasSpelling (write.reply (carry_out write old).n (carry_out write old).changed (carry_out write old).errors)
+write_spelled write old is =
+    let all = few_written write old write.statements is.within is.plain in
+    is.reply (carry_out write old).n (carry_out write old).changed (carry_out write old).errors (omega (arith, all.errors, is.within)) all.small
+
+front_all : {A : Type 0} (P : A → Type 0) (xs ys : List A) → AllByRecursion P (xs ++ ys) → AllByRecursion P xs
+front_all P [] ys all = tt
+front_all P (x ∷ xs) ys all = (all.0, front_all P xs ys all.1)
+
+done_behind : CountsAreValid → (changes : ℕ) → IsBehind ((codes "done", count changes) ∷ [])
+done_behind counts changes = record {
+  valid = more_valid (codes "done") (count changes) [] refl refl refl (counts changes) tt;
+  short = omega (arith, spelling-field (codes "done", count changes) [], count_size changes, spelling-nil);
+  index = refl;
+  code = refl;
+  message = refl;
+}
+
+-- one that is cut: the errors of the statements before, and that of the one that found no memory
+cut_spelled : CountsAreValid → (write : Write) (old : Namespaces) (left : Written) → IsTellable write → IsCut write old left → HasSpelling (write.reply left.n left.changed left.errors)
+cut_spelled counts write old left is c =
+    let so_far : Written = with_all write.namespace write.ordered (nothing_written old) c.before in
+    let many : length write.statements ≡ length c.before + suc (length c.behind) = rw (c.stands, length-append) refl in
+    let all : AreFew (length c.before) so_far =
+    few_written write old c.before (omega (arith, many, is.within)) (front_all IsPlainStatement c.before (c.statement ∷ c.behind) (subst (AllByRecursion IsPlainStatement) c.stands is.plain)) in
+    let error : Tree = document_of (cut_error so_far.statements c.made) in
+    let small : IsSmall error = error_small so_far.statements WantOfMemory ((codes "done", count c.made) ∷ []) (omega (arith, all.statements, many, is.within)) tt (done_behind counts c.made) in
+    subst (λ (w : Written). HasSpelling (write.reply w.n w.changed w.errors)) (sym c.left_so)
+    (is.reply so_far.n so_far.changed (so_far.errors ++ error ∷ []) (omega (arith, length-append so_far.errors (error ∷ []), all.errors, many, is.within)) (small-push so_far.errors error all.small small))
+
+-- the writes that are asked
+module _ (counts : CountsAreValid) where
+  insert_tellable : (i : Insert) → length i.documents ≤ 100000 → IsTellable (insert_write i)
+  insert_tellable i few = record { within = omega (arith, length-map i.documents insert_one, few); plain = inserts_plain i.documents; reply = λ n changed es. errors_spelled counts n es }
+
+  update_tellable : (u : Update) → length u.entries ≤ 100000 → IsTellable (update_write u)
+  update_tellable u few = record { within = omega (arith, length-map u.entries update_one, few); plain = updates_plain u.entries; reply = update_spelled counts }
+
+  delete_tellable : (d : Delete) → length d.entries ≤ 100000 → IsTellable (delete_write d)
+  delete_tellable d few = record { within = omega (arith, length-map d.entries delete_one, few); plain = deletes_plain d.entries; reply = λ n changed es. errors_spelled counts n es }
 
 -- ---- a greeting
 
@@ -420,10 +482,6 @@ pub record BatchLaws : Type 0 where
   pub front : (count : ℕ) (rows : List (List Field)) → batch count rows ++ behind count rows ≡ rows
   pub within : (count : ℕ) (rows : List (List Field)) → IsWithin count (batch count rows)
 
-front_valid : (rows others : List (List Field)) → AreValid (rows ++ others) → AreValid rows
-front_valid [] others valid = tt
-front_valid (row ∷ rows) others valid = (valid.0, front_valid rows others valid.1)
-
 limited : (size depth : ℕ) → (not (nat_lt 16777216 size) && not (nat_lt 100 depth)) ≡ true → size ≤ 16777216
 limited size depth is = grind (arith, nat_tests)
 
@@ -443,7 +501,7 @@ within_limit_by (row ∷ other ∷ rows) others fit (inl one) = absurd (omega ar
 
 module _ (laws : BatchLaws) (count : ℕ) (rows : List (List Field)) where
   batch_valid : AreValid rows → AreValid (batch count rows)
-  batch_valid valid = front_valid (batch count rows) (behind count rows) (subst AreValid (sym (laws.front count rows)) valid)
+  batch_valid valid = front_all (λ d. AreFields (fields_of d)) (batch count rows) (behind count rows) (subst AreValid (sym (laws.front count rows)) valid)
 
   batch_within : are_too_large rows ≡ false → total_size (batch count rows) ≤ 16777216
   batch_within fit = within_limit_by (batch count rows) (behind count rows) (subst (λ (rs : List (List Field)). are_too_large rs ≡ false) (sym (laws.front count rows)) fit) (laws.within count rows).1
@@ -533,7 +591,7 @@ missing_numbers (id ∷ ids) [] valid = record { valid = tt; few = omega arith; 
 missing_numbers (id ∷ ids) (true ∷ went) valid = number_less (length ids) (missing_ids ids went) (missing_numbers ids went valid.1)
 missing_numbers (id ∷ ids) (false ∷ went) valid = number_more (length ids) id (missing_ids ids went) valid.0 (missing_numbers ids went valid.1)
 
-killed_spelled : (most : ℕ) (gone missing : List Tree) → most ≤ 10000000 → AreNumbers most gone → AreNumbers most missing → HasSpelling (kill_cursors_reply gone missing)
+killed_spelled : (most : ℕ) (gone missing : List Tree) → most ≤ 16777216 → AreNumbers most gone → AreNumbers most missing → HasSpelling (kill_cursors_reply gone missing)
 killed_spelled most gone missing few all others =
     let more : List Field = (codes "cursorsNotFound", array (elements_of missing)) ∷ ok_fields in
     spelled ((codes "cursorsKilled", array (elements_of gone)) ∷ more)
@@ -671,45 +729,66 @@ explained_spelled (by_index name) n named =
     (omega (arith, spelling-field (codes "index", string name) docs, length-string name, named.1, docs_size n))
 
 module _ (asks : AsksSoundly) (counts : CountsAreValid) (laws : BatchLaws) (pipes : PipesStayValid) where
-  asked_spelled : (state : State) (session : ℕ) (asked : Asked) → IsSoundlyAsked asked → IsSound state → AreSoundViews state → AreSoundCursors state → CanBeTold state asked → HasSpelling (answered state (answer_to state session asked)).reply
-  asked_spelled state session hello sound documents views cursors told = hello_spelled
-  asked_spelled state session ping sound documents views cursors told = ping_spelled
-  asked_spelled state session (insert i) sound documents views cursors told =
+  asked_spelled : (state : State) (session size : ℕ) (asked : Asked) → size ≤ 16777216 → IsSoundlyAsked size asked → IsSound state → HasSpelling (answered state (answer_to state session asked)).reply
+  asked_spelled state session size hello fits sound all = hello_spelled
+  asked_spelled state session size ping fits sound all = ping_spelled
+  asked_spelled state session size (insert i) fits sound all =
       write_or_refusal state (is_view i.namespace state.catalog.views) (insert_write i) (carry_out (insert_write i) state.catalog.namespaces)
-      (write_spelled (insert_write i) state.catalog.namespaces (omega (arith, length-map i.documents insert_one, sound.2)) (inserts_plain i.documents) (λ n changed es. errors_spelled counts n es))
-  asked_spelled state session (update u) sound documents views cursors told =
+      (write_spelled (insert_write i) state.catalog.namespaces (insert_tellable counts i sound.2))
+  asked_spelled state session size (update u) fits sound all =
       write_or_refusal state (is_view u.namespace state.catalog.views) (update_write u) (carry_out (update_write u) state.catalog.namespaces)
-      (write_spelled (update_write u) state.catalog.namespaces (omega (arith, length-map u.entries update_one, sound.2)) (updates_plain u.entries) (update_spelled counts))
-  asked_spelled state session (delete d) sound documents views cursors told =
+      (write_spelled (update_write u) state.catalog.namespaces (update_tellable counts u sound.2))
+  asked_spelled state session size (delete d) fits sound all =
       write_or_refusal state (is_view d.namespace state.catalog.views) (delete_write d) (carry_out (delete_write d) state.catalog.namespaces)
-      (write_spelled (delete_write d) state.catalog.namespaces (omega (arith, length-map d.entries delete_one, sound.2)) (deletes_plain d.entries) (λ n changed es. errors_spelled counts n es))
-  asked_spelled state session (find f) sound documents views cursors told =
+      (write_spelled (delete_write d) state.catalog.namespaces (delete_tellable counts d sound.2))
+  asked_spelled state session size (find f) fits sound all =
       let rows : List (List Field) = rows_of f.namespace state.catalog in
       let shown : List (List Field) = scan f.filter f.sort f.skip f.limit rows in
       cursors_spelled state (found session f state.catalog state.cursors)
-      (first_spelled laws f.namespace sound f.batch_size shown (all_scanned (λ d. AreFields (fields_of d)) f.filter f.sort f.skip f.limit rows (rows_valid pipes state documents views f.namespace)) session (left_behind f.batch_size f.single_batch shown) state.cursors)
-  asked_spelled state session (aggregate a) sound documents views cursors told =
-      cursors_spelled state (gathered session a state.catalog state.cursors) (gathered_spelled laws session a.namespace sound.0 a.batch_size (looks_into_view a.stages a.namespace state.catalog.views) _ state.cursors (gathered_valid pipes state documents views a.stages a.namespace sound.1))
-  asked_spelled state session (get_more g) sound documents views cursors told =
+      (first_spelled laws f.namespace sound f.batch_size shown (all_scanned (λ d. AreFields (fields_of d)) f.filter f.sort f.skip f.limit rows (rows_valid pipes state all.documents all.views f.namespace)) session (left_behind f.batch_size f.single_batch shown) state.cursors)
+  asked_spelled state session size (aggregate a) fits sound all =
+      cursors_spelled state (gathered session a state.catalog state.cursors) (gathered_spelled laws session a.namespace sound.0 a.batch_size (looks_into_view a.stages a.namespace state.catalog.views) _ state.cursors (gathered_valid pipes state all.documents all.views a.stages a.namespace sound.1))
+  asked_spelled state session size (get_more g) fits sound all =
       cursors_spelled state (next_of session g.namespace (number_of g.id) g.batch_size (rows_asked session g.namespace g.id state.cursors) state.cursors)
-      (next_spelled laws session g.namespace sound.0 (number_of g.id) g.batch_size (number_small g.id sound.1) (rows_asked session g.namespace g.id state.cursors) state.cursors (asked_shown session g.namespace g.id state cursors))
-  asked_spelled state session (kill_cursors k) sound documents views cursors told =
+      (next_spelled laws session g.namespace sound.0 (number_of g.id) g.batch_size (number_small g.id sound.1) (rows_asked session g.namespace g.id state.cursors) state.cursors (asked_shown session g.namespace g.id state all.cursors))
+  asked_spelled state session size (kill_cursors k) fits sound all =
       let went : List Bool = went_each session k.namespace k.ids state.cursors in
-      killed_spelled (length k.ids) (gone_ids k.ids went) (missing_ids k.ids went) told (gone_numbers k.ids went sound.1) (missing_numbers k.ids went sound.1)
-  asked_spelled state session (create c) sound documents views cursors told =
+      killed_spelled (length k.ids) (gone_ids k.ids went) (missing_ids k.ids went) (omega (arith, sound.2, fits)) (gone_numbers k.ids went sound.1) (missing_numbers k.ids went sound.1)
+  asked_spelled state session size (create c) fits sound all =
       catalog_spelled state (λ left. reply_of []) (created c.namespace c.view state.catalog) (λ left. ping_spelled) (created_told (is_there c.namespace state.catalog) c.namespace c.view state.catalog)
-  asked_spelled state session (drop d) sound documents views cursors told =
+  asked_spelled state session size (drop d) fits sound all =
       catalog_spelled state (λ left. drop_reply d.namespace) (dropped d.namespace state.catalog) (λ left. drop_spelled d.namespace sound) (dropped_told (is_collection d.namespace state.catalog.namespaces) (is_view d.namespace state.catalog.views) _ _)
-  asked_spelled state session (create_indexes c) sound documents views cursors told =
+  asked_spelled state session size (create_indexes c) fits sound all =
       catalog_spelled state (λ left. create_indexes_reply (index_count c.namespace state.catalog) (index_count c.namespace left)) (indexes_created c.namespace (map form_asked c.indexes) state.catalog) (λ left. made_indexes_spelled counts _ _)
       (indexed_told c.namespace (map form_asked c.indexes) state.catalog)
-  asked_spelled state session (drop_indexes d) sound documents views cursors told =
+  asked_spelled state session size (drop_indexes d) fits sound all =
       catalog_spelled state (λ left. drop_indexes_reply (index_count d.namespace state.catalog)) (indexes_dropped d.namespace d.index state.catalog) (λ left. dropped_indexes_spelled counts _) (unindexed_told d.namespace d.index state.catalog)
-  asked_spelled state session (explain e) sound documents views cursors told =
+  asked_spelled state session size (explain e) fits sound all =
       let how : Explained = explained e.find.namespace e.find.filter state.catalog in
-      explained_spelled how.way how.documents told
+      explained_spelled how.way how.documents (explained_named e.find.namespace e.find.filter state all.indexes)
 
-  pub replies_spelled : (state : State) (session : ℕ) (command : Command) (asked : Asked) → IsSoundCommand command → IsSound state → AreSoundViews state → AreSoundCursors state → CanBeTold state asked → asked_by command ≡ Ok asked → HasSpelling (step state session command).reply
-  replies_spelled state session command asked valid documents views cursors told is =
+  pub replies_spelled : (state : State) (session : ℕ) (command : Command) (asked : Asked) → IsSoundCommand command → IsSound state → asked_by command ≡ Ok asked → HasSpelling (step state session command).reply
+  replies_spelled state session command asked sound all is =
       let carried : (step state session command).reply ≡ (answered state (answer_to state session asked)).reply = ap (λ (r : Result Asked Refusal). (answered state (r >>= answer_to state session)).reply) is in
-      subst HasSpelling (sym carried) (asked_spelled state session asked (soundly_asked asks command asked valid is) documents views cursors told)
+      subst HasSpelling (sym carried) (asked_spelled state session (body_size command) asked (body_fits command sound) (soundly_asked asks command asked sound is) all)
+
+-- ---- want of memory
+
+module _ (asks : AsksSoundly) (counts : CountsAreValid) where
+  -- the reply of a write that is cut
+  left_spelled : (old : State) (write : Write) (answer : Answer) → IsTellable write → WriteCut old (Some write) answer → HasSpelling answer.reply
+  left_spelled old write answer is (on, (left, is_cut, answers)) = subst (λ (a : Answer). HasSpelling a.reply) (sym answers) (cut_spelled counts write old.catalog.namespaces left is is_cut)
+
+  asked_cut_spelled : (old : State) (size : ℕ) (what : Asked) (answer : Answer) → IsSoundlyAsked size what → WriteCut old (write_of what) answer → HasSpelling answer.reply
+  asked_cut_spelled old size (insert i) answer sound cut = left_spelled old (insert_write i) answer (insert_tellable counts i sound.2) cut
+  asked_cut_spelled old size (update u) answer sound cut = left_spelled old (update_write u) answer (update_tellable counts u sound.2) cut
+  asked_cut_spelled old size (delete d) answer sound cut = left_spelled old (delete_write d) answer (delete_tellable counts d sound.2) cut
+  asked_cut_spelled old size what answer sound cut = absurd cut
+
+  any_cut_spelled : (old : State) (command : Command) (asked : Result Asked Refusal) (answer : Answer) → asked_by command ≡ asked → IsSoundCommand command → Cut old asked answer → HasSpelling answer.reply
+  any_cut_spelled old command (Ok what) answer is sound cut = asked_cut_spelled old (body_size command) what answer (soundly_asked asks command what sound is) cut
+  any_cut_spelled old command (Err refusal) answer is sound cut = absurd cut
+
+  pub wanting_spelled : (old new : State) (session : ℕ) (command : Command) (reply : List Field) → IsSoundCommand command → MemoryStep old session command (Wanting reply) new → HasSpelling reply
+  wanting_spelled old new session command reply sound (inl refused) = subst (λ (a : Answer). HasSpelling a.reply) (sym refused) (refusal_spelled WantOfMemory tt)
+  wanting_spelled old new session command reply sound (inr cut) = any_cut_spelled old command (asked_by command) (record { reply = reply; state = new }) refl sound cut

@@ -66,14 +66,14 @@ abbrev pub sizes : List Tree → ℕ
 sizes [] = 0
 sizes (v ∷ vs) = length (payload v) + sizes vs
 
-few : (i n : ℕ) → i + suc n ≤ 10000000 → i < 10 ^ 7
+few : (i n : ℕ) → i + suc n ≤ 100000000 → i < 10 ^ 8
 few i n h = omega arith
 
-elements-bound : (i : ℕ) (vs : List Tree) → i + length vs ≤ 10000000 → length (elements_spelling i (elements_of vs)) ≤ sizes vs + 9 * length vs
+elements-bound : (i : ℕ) (vs : List Tree) → i + length vs ≤ 100000000 → length (elements_spelling i (elements_of vs)) ≤ sizes vs + 10 * length vs
 elements-bound i [] h = omega (arith, elements-nil i)
 elements-bound i (v ∷ vs) h =
-    omega (arith, elements-more i v (elements_of vs), length-decimal-le 7 i (omega arith) (few i (length vs) h) (omega arith), elements-bound (suc i) vs (omega arith))
+    omega (arith, elements-more i v (elements_of vs), length-decimal-le 8 i (omega arith) (few i (length vs) h) (omega arith), elements-bound (suc i) vs (omega arith))
 
--- an array of fewer than ten million values
-pub array-bound : (vs : List Tree) → length vs ≤ 10000000 → length (payload (array (elements_of vs))) ≤ sizes vs + 9 * length vs + 5
+-- an array of a hundred million values at most
+pub array-bound : (vs : List Tree) → length vs ≤ 100000000 → length (payload (array (elements_of vs))) ≤ sizes vs + 10 * length vs + 5
 array-bound vs h = omega (arith, length-array (elements_of vs), elements-bound 0 vs (omega arith))

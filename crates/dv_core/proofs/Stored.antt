@@ -1,20 +1,15 @@
 -- A document with one of its fields in front.
-use Rattle.std.specs.Prelude.{◌≡◌, ℕ, ◌+◌, ◌≤◌, ◌<◌, ◌||◌, ◌&&◌, ◌↔◌, IsTrue, not, nat_lt, Bool, true, false, if◌then◌else◌, List, [], ◌∷◌, ◌++◌, length, map, drop, slice_get, slice_index_or, Option, Result, Ok, Err, Some, None, zero, suc, refl, codes}
+use Rattle.std.specs.Prelude.{◌≡◌, ℕ, ◌≤◌, ◌||◌, ◌&&◌, ◌↔◌, IsTrue, not, nat_lt, Bool, true, false, if◌then◌else◌, List, [], ◌∷◌, ◌++◌, length, drop, slice_get, Option, Result, Ok, Err, Some, None, zero, suc, refl, codes}
 use Rattle.std.specs.Str.{bytes_eq}
 use Rattle.std.proofs.Common.{ap, sym, ◌∙◌, subst, arith, append_assoc, drop_of_length-le}
 use Rattle.std.proofs.lemmas.List.{append-nil}
 use Rattle.std.proofs.lemmas.Bool.Decides.{nat_tests}
 use Rattle.std.proofs.lemmas.Slice.Eq.{bytes_eq-Decides}
-use Rattle.dv_bson.specs.declared.value.Value.{Value}
-use Rattle.dv_bson.specs.Tree.{Tree, document, array, Field, fields_of, elements_of}
+use Rattle.dv_bson.specs.Tree.{Tree, document, array, Field, fields_of}
 use Rattle.dv_bson.specs.Names.{value_under, has_name, has_zero, AreNamed}
 use Rattle.dv_bson.specs.Spelling.{spelling, fields_levels, levels, Fits}
-use Rattle.dv_bson.specs.View.{tree}
 use Rattle.dv_catalog.specs.StateLaws.{bytes_eq-symmetric}
-use Rattle.dv_core.proofs.Lists.{slice_get_seen, drop_item, drop_seen}
 use Rattle.dv_core.proofs.Spellings.{spelling-field}
-use Rattle.dv_bson.specs.Weight.{field_weighs_less, value_weighs_less}
-use Rattle.dv_bson.specs.Names.{begins_with_dollar}
 use Rattle.dv_fields.specs.declared.refusal.Refusal.{Refusal}
 use Rattle.dv_fields.specs.declared.refusal.Refusal.TheVariants.{TooLarge}
 use Rattle.dv_fields.specs.Refusals.{◌>>=◌}

@@ -1,9 +1,9 @@
 -- The stages of views stay sound, and so the rows that stand under each namespace are valid.
-use Rattle.std.proofs.Common.{◌≡◌, inl, inr, ◌||◌, not, ℕ, Bool, true, false, cond, if◌then◌else◌, List, [], ◌∷◌, ◌++◌, map, Option, Some, None, Result, Ok, Err, nat_lt, length, refl, sym, ap, subst}
+use Rattle.std.proofs.Common.{◌≡◌, inl, inr, ◌||◌, not, ℕ, Bool, true, false, cond, if◌then◌else◌, List, [], ◌∷◌, ◌++◌, map, Option, Some, None, Result, Ok, Err, nat_lt, length, refl, sym, ap, subst, ◌∙◌}
 use Rattle.std.specs.List.{AllByRecursion}
 use Rattle.dv_bson.specs.Spelling.{AreElements, AreFields}
 use Rattle.dv_bson.specs.Tree.{Tree, Field, elements_of, fields_of}
-use Rattle.dv_catalog.specs.State.{Namespaces, ViewForm, documents_of, has_name, is_collection, is_there, is_view, lists_of, rows_at, rows_of, view_named, with_documents, without_view}
+use Rattle.dv_catalog.specs.State.{Namespaces, ViewForm, documents_of, indexes_of, has_name, is_collection, is_there, is_view, lists_of, rows_at, rows_of, view_named, with_documents, without_view}
 use Rattle.dv_catalog.specs.Changes.{Effect}
 use Rattle.dv_catalog.specs.State as stored
 use Rattle.dv_catalog.specs.Views.{made, reads, reads_name, reads_view, view_limit, with_view, with_views}
@@ -13,13 +13,14 @@ use Rattle.dv_command.specs.declared.command.Command.{Command}
 use Rattle.dv_core.specs.Indexes.{form_asked}
 use Rattle.dv_core.specs.Insert.{insert_one}
 use Rattle.dv_core.specs.Load.{insert_alone, left_by, loaded, namespace_in}
-use Rattle.dv_core.specs.Sound.{AreSoundViews, IsSound, IsSoundCommand}
+use Rattle.dv_core.specs.Sound.{AreSoundDocuments, AreSoundIndexes, AreSoundViews, IsSoundCommand}
 use Rattle.dv_core.specs.State.{State}
 use Rattle.dv_core.specs.Step.{Answer, MemoryStep}
 use Rattle.dv_core.specs.declared.outcome.Outcome.{Outcome}
-use Rattle.dv_core.proofs.Asking.{AsksSoundly, documents_valid, soundly_asked}
+use Rattle.dv_core.proofs.Asking.{AsksSoundly, body_size, documents_valid, soundly_asked}
 use Rattle.dv_core.proofs.Changed.{Made, MayWrite, outcome_may}
 use Rattle.dv_core.proofs.Made.{created_so, dropped_so}
+use Rattle.dv_core.proofs.Named.{Named, apply_leaves}
 use Rattle.dv_fields.specs.Refusals.{◌>>=◌}
 use Rattle.dv_fields.specs.declared.refusal.Refusal.{Refusal}
 use Rattle.dv_fields.specs.declared.refusal.Refusal.TheVariants.{LimitReached, NamespaceExists, NamespaceNotFound, OnView, ReadByView}
@@ -84,16 +85,16 @@ module _ (old new : stored.State) (all : Sound old.views) where
 same_views : (old new : State) → new.catalog ≡ old.catalog → Sound old.catalog.views → Sound new.catalog.views
 same_views old new same all = subst (λ (s : stored.State). Sound s.views) (sym same) all
 
-made_views : (old new : State) (what : Asked) → IsSoundlyAsked what → Made old what new → Sound old.catalog.views → Sound new.catalog.views
-made_views old new (create c) asked made all = created_sound old.catalog new.catalog all c.namespace c.view (is_there c.namespace old.catalog) asked.1 made.0
-made_views old new (drop d) asked made all = dropped_sound old.catalog new.catalog all d.namespace _ (is_collection d.namespace old.catalog.namespaces) (is_view d.namespace old.catalog.views) made.0
-made_views old new (create_indexes c) asked made all = subst Sound (sym (created_so old.catalog new.catalog c.namespace (map form_asked c.indexes) made.0).views) all
-made_views old new (drop_indexes d) asked made all = subst Sound (sym (dropped_so old.catalog new.catalog d.namespace d.index made.0).views) all
-made_views old new (find f) asked made all = same_views old new made all
-made_views old new (aggregate a) asked made all = same_views old new made all
-made_views old new (get_more g) asked made all = same_views old new made all
-made_views old new (kill_cursors k) asked made all = same_views old new made all
-made_views old new what asked made all = absurd made
+made_views : (old new : State) (size : ℕ) (what : Asked) → IsSoundlyAsked size what → Made old what new → Sound old.catalog.views → Sound new.catalog.views
+made_views old new size (create c) asked made all = created_sound old.catalog new.catalog all c.namespace c.view (is_there c.namespace old.catalog) asked.1 made.0
+made_views old new size (drop d) asked made all = dropped_sound old.catalog new.catalog all d.namespace _ (is_collection d.namespace old.catalog.namespaces) (is_view d.namespace old.catalog.views) made.0
+made_views old new size (create_indexes c) asked made all = subst Sound (sym (created_so old.catalog new.catalog c.namespace (map form_asked c.indexes) made.0).views) all
+made_views old new size (drop_indexes d) asked made all = subst Sound (sym (dropped_so old.catalog new.catalog d.namespace d.index made.0).views) all
+made_views old new size (find f) asked made all = same_views old new made all
+made_views old new size (aggregate a) asked made all = same_views old new made all
+made_views old new size (get_more g) asked made all = same_views old new made all
+made_views old new size (kill_cursors k) asked made all = same_views old new made all
+made_views old new size what asked made all = absurd made
 
 pub steps_views : AsksSoundly → (old new : State) (session : ℕ) (command : Command) (outcome : Outcome) → IsSoundCommand command → AreSoundViews old → MemoryStep old session command outcome new → AreSoundViews new
 steps_views asks old new session command outcome sound all steps =
@@ -103,7 +104,7 @@ steps_views asks old new session command outcome sound all steps =
     stay : (answer : Answer) → MayWrite old (asked_by command) answer → AreSoundViews answer.state
     stay answer (inl same) = subst AreSoundViews (sym same) all
     stay answer (inr (inl w)) = subst (λ (a : Answer). AreSoundViews a.state) (sym w.answers) all
-    stay answer (inr (inr m)) = made_views old answer.state m.what (soundly_asked asks command m.what sound m.asks) m.made all
+    stay answer (inr (inr m)) = made_views old answer.state (body_size command) m.what (soundly_asked asks command m.what sound m.asks) m.made all
 
 -- ---- rows
 
@@ -124,7 +125,7 @@ named_sound : (namespace : List ℕ) (views : List ViewForm) → Sound views →
 named_sound namespace [] all = tt
 named_sound namespace (v ∷ views) all = first_sound (has_name namespace v) v (view_named namespace views) all.0 (named_sound namespace views all.1)
 
-module _ (pipes : PipesStayValid) (state : State) (sound : IsSound state) (views : AreSoundViews state) where
+module _ (pipes : PipesStayValid) (state : State) (sound : AreSoundDocuments state) (views : AreSoundViews state) where
   pub rows_valid : (namespace : List ℕ) → AreValid (rows_of namespace state.catalog)
   rows_valid namespace = of_view (view_named namespace state.catalog.views) (named_sound namespace state.catalog.views views)
     where
@@ -137,15 +138,20 @@ module _ (pipes : PipesStayValid) (state : State) (sound : IsSound state) (views
 
 -- ---- a load
 
--- it leaves views and cursors
+-- it leaves indexes, views and cursors
 pub record LeavesOthers (old new : State) : Type 0 where
+  pub indexes : (name : List ℕ) → indexes_of name new.catalog.namespaces ≡ indexes_of name old.catalog.namespaces
   pub views : new.catalog.views ≡ old.catalog.views
   pub cursors : new.cursors ≡ old.cursors
 
 alone_leaves : (old new : State) (namespace : List ℕ) (does : Result Effect Refusal) → (does >>= λ effect. Ok (left_by namespace old effect)) ≡ Ok new → LeavesOthers old new
 alone_leaves old new namespace (Ok effect) is =
     let same : new ≡ left_by namespace old effect = cc in
-    record { views = ap (λ (s : State). s.catalog.views) same; cursors = ap (λ (s : State). s.cursors) same }
+    record {
+      indexes = λ name. ap (λ (s : State). indexes_of name s.catalog.namespaces) same ∙ apply_leaves namespace effect.changes old.catalog.namespaces name;
+      views = ap (λ (s : State). s.catalog.views) same;
+      cursors = ap (λ (s : State). s.cursors) same;
+    }
 alone_leaves old new namespace (Err refusal) is = absurd cc
 
 pub loaded_leaves : (old new : State) (text : List ℕ) (d : List Field) → loaded text d old ≡ Ok new → LeavesOthers old new
@@ -158,6 +164,9 @@ loaded_leaves old new text d is = by_name (namespace_in text) is
     by_name : (named : Result (List ℕ) Refusal) → (named >>= λ namespace. insert_alone namespace d old) ≡ Ok new → LeavesOthers old new
     by_name (Ok namespace) e = by_view namespace (is_view namespace old.catalog.views) e
     by_name (Err refusal) e = absurd cc
+
+pub loaded_indexes : (old new : State) (text : List ℕ) (d : List Field) → loaded text d old ≡ Ok new → AreSoundIndexes old → AreSoundIndexes new
+loaded_indexes old new text d is all name = subst Named (sym ((loaded_leaves old new text d is).indexes name)) (all name)
 
 pub loaded_views : (old new : State) (text : List ℕ) (d : List Field) → loaded text d old ≡ Ok new → AreSoundViews old → AreSoundViews new
 loaded_views old new text d is all = subst Sound (sym (loaded_leaves old new text d is).views) all

@@ -14,7 +14,7 @@ use Rattle.dv_pipe.specs.StageParsing.{pipeline_of}
 use Rattle.dv_pipe.specs.Stages.{through}
 use Rattle.dv_sort.specs.Sorting.{stable}
 use Rattle.dv_catalog.specs.Scan.{scan}
-use Rattle.dv_catalog.specs.State.{Standing, Namespaces, collection, collection_of, documents_of, is_collection, is_view, with_documents, without_view}
+use Rattle.dv_catalog.specs.State.{Standing, Namespaces, collection, collection_of, documents_of, is_collection, is_view, without_view}
 use Rattle.dv_catalog.specs.State as stored
 use Rattle.dv_core.specs.State.{State, empty_state}
 use Rattle.dv_catalog.specs.StateLaws.{same_namespaces, get-insert, get-remove}

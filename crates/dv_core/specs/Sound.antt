@@ -1,5 +1,5 @@
 -- What holds of every state that is reached.
-use Rattle.std.specs.Prelude.{◌≡◌, ℕ, ◌<◌, ◌≤◌, ◌^◌, false, List, Option, Some, None, length, ⊤}
+use Rattle.std.specs.Prelude.{◌≡◌, ℕ, ◌<◌, ◌^◌, false, List, Option, Some, None, ⊤}
 use Rattle.std.specs.List.{AllByRecursion}
 use Rattle.dv_bson.specs.Tree.{Field, fields_of}
 use Rattle.dv_bson.specs.Spelling.{AreFields, Fits, Spells, spelling}
@@ -8,14 +8,11 @@ use Rattle.dv_command.specs.declared.command.Command.TheVariants.{Sections, Inva
 use Rattle.dv_bson.specs.declared.fault.BsonFault.TheVariants.{RefusedType}
 use Rattle.dv_fields.specs.declared.refusal.Refusal.{Refusal}
 use Rattle.dv_fields.specs.declared.refusal.Refusal.TheVariants.{InvalidBson}
-use Rattle.dv_catalog.specs.State.{documents_of, AreOrdered}
+use Rattle.dv_catalog.specs.State.{documents_of, indexes_of, AreOrdered}
 use Rattle.dv_core.specs.State.{State}
-use Rattle.dv_catalog.specs.IndexMaking.{explained}
-use Rattle.dv_command.specs.Asked.{Asked, kill_cursors, explain}
 use Rattle.dv_cursor.specs.Cursors.{rows_to_come}
 use Rattle.dv_core.specs.Find.{are_too_large}
-use Rattle.dv_core.specs.Indexes.{index_name}
-use Rattle.dv_command.specs.Sound.{AreValid, IsNamespace, IsSoundPipeline}
+use Rattle.dv_command.specs.Sound.{AreValid, IsIndexName, IsSoundPipeline}
 
 -- a document that is valid at each of its levels, and within the limits for what is read and stored
 pub record IsSoundDocument (d : List Field) : Type 0 where
@@ -26,12 +23,33 @@ pub record IsSoundDocument (d : List Field) : Type 0 where
 abbrev pub AreSound : List (List Field) → Type 0
 AreSound documents = AreOrdered documents × AllByRecursion IsSoundDocument documents
 
-abbrev pub IsSound : State → Type 0
-IsSound state = (namespace : List ℕ) → AreSound (documents_of namespace state.catalog.namespaces)
+-- the documents of each namespace are
+abbrev pub AreSoundDocuments : State → Type 0
+AreSoundDocuments state = (namespace : List ℕ) → AreSound (documents_of namespace state.catalog.namespaces)
+
+-- the indexes of each namespace have names that can be told
+abbrev pub AreSoundIndexes : State → Type 0
+AreSoundIndexes state = (namespace : List ℕ) → AllByRecursion (λ index. IsIndexName index.name) (indexes_of namespace state.catalog.namespaces)
 
 -- the stages of each view were read from valid values
 abbrev pub AreSoundViews : State → Type 0
 AreSoundViews state = AllByRecursion (λ v. IsSoundPipeline v.stages) state.catalog.views
+
+-- rows that can be shown: they are valid at each of their levels, and none is over the limits for documents
+abbrev pub AreShown : Option (List (List Field)) → Type 0
+AreShown None = ⊤
+AreShown (Some rows) = AreValid rows × (are_too_large rows ≡ false)
+
+-- the rows that are still to come of each cursor can be shown
+abbrev pub AreSoundCursors : State → Type 0
+AreSoundCursors state = (session : ℕ) (namespace : List ℕ) (id : ℕ) → AreShown (rows_to_come session namespace id state.cursors)
+
+-- all of these
+pub record IsSound (state : State) : Type 0 where
+  pub documents : AreSoundDocuments state
+  pub indexes : AreSoundIndexes state
+  pub views : AreSoundViews state
+  pub cursors : AreSoundCursors state
 
 -- the documents that a command brings are sound, as those that were read are
 abbrev pub IsSoundCommand : Command → Type 0
@@ -46,23 +64,3 @@ IsTold refusal = ⊤
 -- a document that can be written
 abbrev pub HasSpelling : List Field → Type 0
 HasSpelling d = Spells d (spelling d)
-
--- rows that can be shown: they are valid at each of their levels, and none is over the limits for documents
-abbrev pub AreShown : Option (List (List Field)) → Type 0
-AreShown None = ⊤
-AreShown (Some rows) = AreValid rows × (are_too_large rows ≡ false)
-
--- the rows that are still to come of each cursor can be shown
-abbrev pub AreSoundCursors : State → Type 0
-AreSoundCursors state = (session : ℕ) (namespace : List ℕ) (id : ℕ) → AreShown (rows_to_come session namespace id state.cursors)
-
--- a name, where there is one, that can be told
-abbrev pub IsNamed : Option (List ℕ) → Type 0
-IsNamed None = ⊤
-IsNamed (Some name) = IsNamespace name
-
--- the ids that are told are no more than a document holds, and the index that is told of has a name that can be
-abbrev pub CanBeTold : State → Asked → Type 0
-CanBeTold state (kill_cursors asked) = length asked.ids ≤ 10000000
-CanBeTold state (explain asked) = IsNamed (index_name (explained asked.find.namespace asked.find.filter state.catalog).way)
-CanBeTold state asked = ⊤

@@ -1,8 +1,8 @@
 -- Documents as they are stored. That `_id` is no array and stands in front, and the limits, are the MongoDB manual's ("Documents",
 -- "MongoDB Limits and Thresholds"); that `_id` has to be there, and which names are refused, are this server's own.
-use Rattle.std.specs.Prelude.{ℕ, false, ◌||◌, ◌&&◌, not, Bool, List, [], ◌∷◌, Option, Some, None, Result, Ok, Err, codes, nat_lt, length, if◌then◌else◌}
+use Rattle.std.specs.Prelude.{ℕ, ◌&&◌, not, Bool, List, [], ◌∷◌, Option, Some, None, Result, Ok, Err, codes, nat_lt, length, if◌then◌else◌}
 use Rattle.std.specs.Str.{bytes_eq}
-use Rattle.dv_bson.specs.Tree.{Tree, document, array, Fields, no_fields, field, Elements, no_elements, element, Field, fields_of}
+use Rattle.dv_bson.specs.Tree.{Tree, document, array, Field, fields_of}
 use Rattle.dv_bson.specs.Names.{value_under}
 use Rattle.dv_bson.specs.Spelling.{spelling, levels}
 use Rattle.dv_fields.specs.declared.refusal.Refusal.{Refusal}

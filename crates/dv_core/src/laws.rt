@@ -16,7 +16,7 @@ ghost use Rattle.dv_core.specs.Examples as examples;
 ghost use Rattle.dv_core.specs.Find.{are_too_large, first_batch};
 ghost use Rattle.dv_core.specs.Load.{insert_alone, loaded, namespace_in};
 ghost use Rattle.dv_core.specs.Part.{IsPart};
-ghost use Rattle.dv_core.specs.Sound.{AreSoundCursors, AreSoundViews, CanBeTold, HasSpelling, IsSound, IsSoundCommand, IsSoundDocument, IsTold};
+ghost use Rattle.dv_core.specs.Sound.{HasSpelling, IsSound, IsSoundCommand, IsSoundDocument, IsTold};
 ghost use Rattle.dv_catalog.specs.State.{Namespaces, IsOrdered, documents_of, is_view, rows_of};
 ghost use Rattle.dv_core.specs.State.{State, empty_state};
 ghost use Rattle.std.specs.Str.{bytes_eq};
@@ -81,13 +81,16 @@ pub fn documents_stay_in_order()
     dv_update::laws::the_id_stays();
 }
 
-/// Every state that is reached is sound, if the documents that commands bring, and those that are loaded, are: so it is
-/// before the first command, and so after each command and each load.
+/// Every state that is reached is sound, if the documents that commands bring, and those that are loaded, are: its documents,
+/// the names of its indexes, its views, which were asked by valid values, and its cursors, whose rows that are still to come
+/// are valid and none of them over the limits. So it is before the first command, and so after each command, each load and
+/// each end of a session.
 pub fn states_stay_sound()
     ensures before { IsSound empty_state }
     ensures after { (old new : State) (session : ℕ) (command : Command) (outcome : Outcome) → IsSoundCommand command → IsSound old
         → MemoryStep old session command outcome new → IsSound new }
     ensures loaded { (old new : State) (namespace : List ℕ) (d : List Field) → IsSoundDocument d → IsSound old → loaded namespace d old ≡ Ok new → IsSound new }
+    ensures ended { (session : ℕ) (state : State) → IsSound state → IsSound (end_session session state) }
 {
     dv_coll::laws::inserted_documents_ascend();
     dv_coll::laws::inserted_documents_begin_with_ids();
@@ -100,42 +103,18 @@ pub fn states_stay_sound()
     dv_update::laws::what_comes_out_is_valid();
     dv_command::laws::what_is_asked_is_sound();
     dv_command::laws::the_update_of_an_entry_is_sound();
-}
-
-/// The views of every state that is reached were asked by valid values, if the documents that commands bring are sound: so
-/// it is before the first command, and so after each command and each load.
-pub fn views_stay_sound()
-    ensures before { AreSoundViews empty_state }
-    ensures after { (old new : State) (session : ℕ) (command : Command) (outcome : Outcome) → IsSoundCommand command → AreSoundViews old
-        → MemoryStep old session command outcome new → AreSoundViews new }
-    ensures loaded { (old new : State) (namespace : List ℕ) (d : List Field) → loaded namespace d old ≡ Ok new → AreSoundViews old → AreSoundViews new }
-{
-    dv_command::laws::what_is_asked_is_sound();
-}
-
-/// The rows that are still to come of each cursor can be shown in every state that is reached, if the documents that
-/// commands bring are sound: they are valid, and none is over the limits. So it is before the first command, and so after
-/// each command, each load and each end of a session.
-pub fn cursors_stay_sound()
-    ensures before { AreSoundCursors empty_state }
-    ensures after { (old new : State) (session : ℕ) (command : Command) (outcome : Outcome) → IsSoundCommand command → IsSound old → AreSoundViews old → AreSoundCursors old
-        → MemoryStep old session command outcome new → AreSoundCursors new }
-    ensures loaded { (old new : State) (namespace : List ℕ) (d : List Field) → loaded namespace d old ≡ Ok new → AreSoundCursors old → AreSoundCursors new }
-    ensures ended { (session : ℕ) (state : State) → AreSoundCursors state → AreSoundCursors (end_session session state) }
-{
-    dv_command::laws::what_is_asked_is_sound();
     dv_cursor::laws::a_batch_is_a_front();
     dv_cursor::laws::a_change_leaves_other_cursors();
     dv_pipe::laws::what_comes_out_is_valid();
 }
 
-/// Replies can be written: that to a command that asks something, if the command's documents, the state, its views and its
-/// cursors are sound, as the rows that stand under a namespace are valid then; and that to one that is refused. What is left
-/// to ask is that not too many cursors are ended at once, and that indexes have names.
+/// Replies can be written: that to a command that asks something, if the command's documents and the state are sound, as the
+/// rows that stand under a namespace are valid then; that to one for which memory is wanting, be it cut among its
+/// statements; and that to one that is refused.
 pub fn replies_have_a_spelling()
-    ensures answered { (state : State) (session : ℕ) (command : Command) (asked : Asked) → IsSoundCommand command → IsSound state → AreSoundViews state → AreSoundCursors state → CanBeTold state asked
-        → asked_by command ≡ Ok asked → HasSpelling (step state session command).reply }
-    ensures rows { (state : State) → IsSound state → AreSoundViews state → (namespace : List ℕ) → AreValid (rows_of namespace state.catalog) }
+    ensures answered { (state : State) (session : ℕ) (command : Command) (asked : Asked) → IsSoundCommand command → IsSound state → asked_by command ≡ Ok asked → HasSpelling (step state session command).reply }
+    ensures wanting { (old new : State) (session : ℕ) (command : Command) (reply : List Field) → IsSoundCommand command → MemoryStep old session command (Wanting reply) new → HasSpelling reply }
+    ensures rows { (state : State) → IsSound state → (namespace : List ℕ) → AreValid (rows_of namespace state.catalog) }
     ensures refused { (refusal : Refusal) → IsTold refusal → HasSpelling (refusal_reply refusal) }
 {
     dv_command::laws::what_is_asked_is_sound();
@@ -176,8 +155,7 @@ pub fn a_cursors_batches_are_a_front()
 
 /// The end of a session leaves all but its cursors.
 pub fn the_end_of_a_session_leaves_documents()
-    ensures catalog { (session : ℕ) (state : State) → (end_session session state).catalog ≡ state.catalog }
-    ensures sound { (session : ℕ) (state : State) → IsSound state → IsSound (end_session session state) }
+    ensures { (session : ℕ) (state : State) → (end_session session state).catalog ≡ state.catalog }
 {}
 
 /// Loading a document is what an insert of that document alone does, in whichever session: it leaves the same state; where

@@ -1,5 +1,5 @@
 -- How often a reader was asked.
-use Rattle.std.proofs.Common.{◌≡◌, ℕ, ◌+◌, ◌^◌, ◌<◌, ◌≤◌, arith}
+use Rattle.std.proofs.Common.{ℕ, ◌+◌, ◌^◌, ◌<◌, ◌≤◌, arith}
 use Rattle.dv_wire.specs.Stream.{MoreBy}
 use Rattle.dv_wire.specs.Service.{AsksFew, most_reads}
 

@@ -4,7 +4,6 @@ use Rattle.dv_wire.specs.declared.fault.CloseFault.{CloseFault}
 use Rattle.dv_wire.specs.declared.fault.RunFault.{RunFault}
 use Rattle.dv_wire.specs.declared.fault.RunFault.TheVariants.{Read, Write, TooManyReads, Hub}
 use Rattle.dv_wire.specs.declared.hub.SessionId.{SessionId}
-use Rattle.dv_wire.specs.declared.service.Done.{Done}
 use Rattle.dv_wire.specs.declared.session.Counts.{Counts}
 use Rattle.dv_wire.specs.Message.{reading}
 use Rattle.dv_wire.specs.Schedule.{Run, World, Opens, conversation_of, end, unfinished_in}

@@ -10,7 +10,7 @@ use Rattle.dv_bson.specs.Reading.{◌>>=◌, document_at}
 use Rattle.dv_command.specs.declared.command.Command.{Command}
 use Rattle.dv_core.specs.declared.outcome.Outcome.{Outcome}
 use Rattle.dv_core.specs.State.{State}
-use Rattle.dv_core.specs.Step.{MemoryStep}
+use Rattle.dv_core.specs.Step.{MemoryStep, end_session}
 use Rattle.dv_core.specs.Sound.{IsSoundDocument, IsSound, IsSoundCommand}
 use Rattle.dv_wire.specs.declared.fault.CloseFault.TheVariants.{NoMemory}
 use Rattle.dv_wire.specs.declared.hub.Fed.{Fed}
@@ -106,7 +106,7 @@ abbrev StaysSound : Type 0
 StaysSound = (old new : State) (session : ℕ) (command : Command) (outcome : Outcome) → IsSoundCommand command → IsSound old → MemoryStep old session command outcome new → IsSound new
 
 record IsSoundRun (run : Run) : Type 0 where
-  documents : IsSound run.state
+  state : IsSound run.state
   keeps : KeepsBytes run.conversation
 
 abbrev IsSoundlyBrought : Brought → Type 0
@@ -166,14 +166,14 @@ module _ (reads : ReadsSound) (stays : StaysSound) where
 
   carries_sound : (session : ℕ) (old : State) (messages : List Message) (conversation : Conversation) (run : Run) → IsSound old → BringBytes messages → KeepsBytes conversation
       → CarriesOut session old messages conversation run → IsSoundRun run
-  carries_sound session old [] conversation run sound bring keeps h = subst IsSoundRun (sym h) (record { documents = sound; keeps = keeps })
+  carries_sound session old [] conversation run sound bring keeps h = subst IsSoundRun (sym h) (record { state = sound; keeps = keeps })
   carries_sound session old (message ∷ messages) conversation run sound bring keeps (outcome, mid, steps, follows) =
       let behind = stays old mid session (command_of message) outcome (command_sound message.sections bring.0) sound steps in
       elim (follows_cases (bytes_to message outcome) mid (CarriesOut session mid messages conversation) run follows) [
-        | inl shut ↦ subst IsSoundRun (sym shut) (record { documents = behind; keeps = tt })
+        | inl shut ↦ subst IsSoundRun (sym shut) (record { state = behind; keeps = tt })
         | inr a ↦
             let others = carries_sound session mid messages conversation a.others behind bring.1 keeps a.behind in
-            subst IsSoundRun (sym a.both) (record { documents = others.documents; keeps = others.keeps })
+            subst IsSoundRun (sym a.both) (record { state = others.state; keeps = others.keeps })
       ]
 
   takes_sound : (session : ℕ) (old : State) (s : Split) (run : Run) → IsSound old → IsByteSplit s → Takes session old s run → IsSoundRun run
@@ -183,7 +183,7 @@ module _ (reads : ReadsSound) (stays : StaysSound) where
 
   hears_sound : (session : ℕ) (old : State) (before : Conversation) (piece : List ℕ) (run : Run) → IsSound old → KeepsBytes before → IsBytes piece → Hears session old before piece run → IsSoundRun run
   hears_sound session old (reading kept) piece run sound keeps h hears = takes_sound session old (split (kept ++ piece)) run sound (split_bytes (kept ++ piece) (IsBytes-append kept piece keeps h)) hears
-  hears_sound session old (closed fault) piece run sound keeps h hears = subst IsSoundRun (sym hears) (record { documents = sound; keeps = tt })
+  hears_sound session old (closed fault) piece run sound keeps h hears = subst IsSoundRun (sym hears) (record { state = sound; keeps = tt })
 
 -- ---- worlds
 
@@ -213,22 +213,26 @@ conversation_keeps session (s ∷ ss) before keeping e =
     ]
 
 pub first_sound : (state : State) → IsSound state → IsSoundWorld (world_of state)
-first_sound state sound = record { documents = sound; keeping = tt }
+first_sound state sound = record { state = sound; keeping = tt }
 
 pub opened_sound : (old new : World) (id : SessionId) → IsSoundWorld old → Opens old (Ok id) new → IsSoundWorld new
 opened_sound old new id sound opens =
-    subst IsSoundWorld (sym opens.3) (record { documents = sound.documents; keeping = KeepBytes-append old.sessions (old.next, reading []) sound.keeping (λ i. omega arith) })
+    subst IsSoundWorld (sym opens.3) (record { state = sound.state; keeping = KeepBytes-append old.sessions (old.next, reading []) sound.keeping (λ i. omega arith) })
 
-pub ended_sound : (old : World) (session : ℕ) → IsSoundWorld old → IsSoundWorld (end session old)
-ended_sound old session sound = record { documents = sound.documents; keeping = KeepBytes-but session old.sessions sound.keeping }
+-- what the end of a session leaves
+abbrev pub EndsSound : Type 0
+EndsSound = (session : ℕ) (state : State) → IsSound state → IsSound (end_session session state)
+
+pub ended_sound : EndsSound → (old : World) (session : ℕ) → IsSoundWorld old → IsSoundWorld (end session old)
+ended_sound ends old session sound = record { state = ends session old.state sound.state; keeping = KeepBytes-but session old.sessions sound.keeping }
 
 module _ (stays : StaysSound) (reads : ReadsSound) (old new : World) (session : ℕ) (piece bytes : List ℕ) (answer : Fed) where
   fed_sound_by : (here : Option Conversation) → conversation_of session old.sessions ≡ here → IsSoundWorld old → IsBytes piece → Feeds old session piece bytes answer new → IsSoundWorld new
   fed_sound_by None e sound h feeds = let (answers, is, nothing) = rw e at feeds in subst IsSoundWorld (sym nothing.2) sound
   fed_sound_by (Some before) e sound h feeds =
       let (answers, is, (run, hears, are, told, world)) = rw e at feeds in
-      let behind = hears_sound reads stays session old.state before piece run sound.documents (conversation_keeps session old.sessions before sound.keeping e) h hears in
-      subst IsSoundWorld (sym world) (record { documents = behind.documents; keeping = KeepBytes-with session run.conversation old.sessions sound.keeping behind.keeps })
+      let behind = hears_sound reads stays session old.state before piece run sound.state (conversation_keeps session old.sessions before sound.keeping e) h hears in
+      subst IsSoundWorld (sym world) (record { state = behind.state; keeping = KeepBytes-with session run.conversation old.sessions sound.keeping behind.keeps })
 
   pub fed_sound : IsSoundWorld old → IsBytes piece → Feeds old session piece bytes answer new → IsSoundWorld new
   fed_sound = fed_sound_by (conversation_of session old.sessions) refl

@@ -1,5 +1,5 @@
 -- A session that reads and is answered, piece by piece.
-use Rattle.std.proofs.Common.{◌≡◌, ℕ, zero, suc, true, false, ◌+◌, ◌*◌, ◌^◌, ◌<◌, ◌≤◌, min, List, [], ◌∷◌, ◌++◌, length, take, Option, Some, None, Result, Ok, Err, refl, sym, ap, subst, ◌∙◌, append_assoc, arith, inl, inr}
+use Rattle.std.proofs.Common.{◌≡◌, ℕ, zero, suc, true, false, ◌+◌, ◌*◌, ◌^◌, ◌<◌, ◌≤◌, List, [], ◌∷◌, ◌++◌, length, take, Option, Some, None, Result, Ok, Err, refl, sym, ap, subst, ◌∙◌, append_assoc, arith, inl, inr}
 use Rattle.std.specs.List.{concat}
 use Rattle.std.specs.Prelude.{OnErr, OnOk}
 use Rattle.std.specs.Option.{is_some}
@@ -13,7 +13,7 @@ use Rattle.dv_wire.specs.declared.hub.Fed.{Fed}
 use Rattle.dv_wire.specs.declared.session.Counts.{Counts}
 use Rattle.dv_core.specs.State.{State}
 use Rattle.dv_wire.specs.Message.{Message, Front, unfinished, closing, whole, front, Conversation, reading, closed, Split, split}
-use Rattle.dv_wire.specs.Schedule.{Run, World, in_front, silence, bytes_of, bytes_to, CarriesOut, Takes, takes_all, takes_some, Hears, Comes, conversation_of, fed_of, with_conversation, world_behind}
+use Rattle.dv_wire.specs.Schedule.{Run, World, in_front, silence, bytes_of, bytes_to, CarriesOut, Takes, takes_all, takes_some, Hears, Comes, conversation_of, fed_of, world_behind}
 use Rattle.dv_wire.specs.Service.{closing_of, reply_count}
 use Rattle.dv_wire.specs.declared.fault.RunFault.TheVariants.{Read, Write, TooManyReads}
 use Rattle.dv_wire.specs.View.{Counted, Talks, TalksTo, closing_fed}

@@ -19,7 +19,7 @@ abbrev pub KeepsBytes : Conversation → Type 0
 KeepsBytes (reading kept) = IsBytes kept
 KeepsBytes (closed fault) = ⊤
 
--- its documents are sound, and its sessions keep bytes
+-- its state is sound, and its sessions keep bytes
 pub record IsSoundWorld (world : World) : Type 0 where
-  pub documents : IsSound world.state
+  pub state : IsSound world.state
   pub keeping : AllByRecursion (λ s. KeepsBytes s.1) world.sessions

@@ -125,8 +125,8 @@ pub fn only_open_sessions_change_documents()
         → Feeds old session piece bytes answer new → (bytes ≡ []) × (answer ≡ fed.Unknown) × (new ≡ old) }
 {}
 
-/// Worlds stay sound: so it is before the first session is opened, if the store's documents are sound, and so after each
-/// event, as what is read from bytes is sound.
+/// Worlds stay sound: so it is before the first session is opened, if the store is sound, and so after each event, as what
+/// is read from bytes is sound.
 pub fn worlds_stay_sound()
     ensures before { (state : State) → IsSound state → IsSoundWorld (world_of state) }
     ensures opened { (old new : World) (session : SessionId) → IsSoundWorld old → Opens old (Ok session) new → IsSoundWorld new }

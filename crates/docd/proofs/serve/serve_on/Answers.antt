@@ -1,4 +1,4 @@
-use Rattle.std.proofs.Common.{◌≡◌, ◌∙◌, ◌<◌, arith, refl, rules}
+use Rattle.std.proofs.Common.{◌≡◌, ◌∙◌, ◌<◌, refl, rules}
 use Rattle.docd.proofs.Served.{more_served, none_served, not_written}
 use Rattle.docd.proofs.serve.serve_on.Goals as goal
 

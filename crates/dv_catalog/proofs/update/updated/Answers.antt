@@ -1,5 +1,4 @@
-use Rattle.std.proofs.Common.{◌≡◌, ◌∙◌, List, Ok, ap, length, map, sym}
-use Rattle.dv_bson.specs.Tree.{Field}
+use Rattle.std.proofs.Common.{◌≡◌, ◌∙◌, Ok, ap, map, sym}
 use Rattle.dv_command.specs.View.{updating_seen}
 use Rattle.dv_pipe.specs.Sources.{referred}
 use Rattle.dv_update.specs.Outcome.{sole_name}

@@ -1,11 +1,12 @@
+use Rattle.dv_core.proofs.Cursored.{CursorLaws}
+use Rattle.dv_core.proofs.Named.{empty_named, steps_named}
 use Rattle.dv_core.proofs.Ordered.{CollectionLaws, UpdateLaws, empty_sound, loaded_sound, steps_sound}
+use Rattle.dv_core.proofs.Shown.{empty_shown, ended_shown, loaded_shown, steps_shown}
+use Rattle.dv_core.proofs.Viewed.{loaded_indexes, loaded_views, steps_views}
 use Rattle.dv_core.proofs.laws.states_stay_sound.Goals as goal
 
-pub returns-clause-before : goal.returns-clause-before
-returns-clause-before c = empty_sound
-
-pub returns-clause-after : goal.returns-clause-after
-returns-clause-after c =
+pub returns : goal.returns
+returns c =
     let laws : CollectionLaws = record {
       inserted_ascend = c.inserted_documents_ascend.ensures;
       inserted_ids = c.inserted_documents_begin_with_ids.ensures;
@@ -16,17 +17,22 @@ returns-clause-after c =
       replaced_ids = c.replaced_documents_begin_with_ids.ensures;
     } in
     let updates : UpdateLaws = record { of_entries = c.the_update_of_an_entry_is_sound.ensures; stays_valid = c.what_comes_out_is_valid.ensures; fits = c.what_comes_out_fits.ensures } in
-    steps_sound laws c.what_is_asked_is_sound.ensures updates
-
-pub returns-clause-loaded : goal.returns-clause-loaded
-returns-clause-loaded c =
-    let laws : CollectionLaws = record {
-      inserted_ascend = c.inserted_documents_ascend.ensures;
-      inserted_ids = c.inserted_documents_begin_with_ids.ensures;
-      removed_ascend = c.removed_documents_ascend.ensures;
-      removed_ids = c.removed_documents_begin_with_ids.ensures;
-      replaced_ascend = c.replaced_documents_ascend.ensures;
-      id_stays = c.the_id_stays.ensures;
-      replaced_ids = c.replaced_documents_begin_with_ids.ensures;
-    } in
-    loaded_sound laws
+    let changes = c.a_change_leaves_other_cursors.ensures in
+    let cursors : CursorLaws = record { added_at = changes.added; advanced_at = changes.advanced; closed_at = changes.closed; ended_at = changes.ended; next_stays = changes.next; front = c.a_batch_is_a_front.ensures } in
+    let asks = c.what_is_asked_is_sound.ensures in
+    record {
+      before = record { documents = empty_sound; indexes = empty_named; views = tt; cursors = empty_shown };
+      after = λ old new session command outcome sound all steps. record {
+        documents = steps_sound laws asks updates old new session command outcome sound all.documents steps;
+        indexes = steps_named asks old new session command outcome sound all.indexes steps;
+        views = steps_views asks old new session command outcome sound all.views steps;
+        cursors = steps_shown cursors asks c.what_comes_out_is_valid-2.ensures old new session command outcome sound all.documents all.views all.cursors steps;
+      };
+      loaded = λ old new namespace d sound all is. record {
+        documents = loaded_sound laws old new namespace d sound all.documents is;
+        indexes = loaded_indexes old new namespace d is all.indexes;
+        views = loaded_views old new namespace d is all.views;
+        cursors = loaded_shown old new namespace d is all.cursors;
+      };
+      ended = λ session state all. record { documents = all.documents; indexes = all.indexes; views = all.views; cursors = ended_shown cursors session state all.cursors };
+    }

@@ -11,4 +11,4 @@ pub returns-clause-fed : goal.returns-clause-fed
 returns-clause-fed c = fed_sound c.states_stay_sound.ensures.after (spelled_sound c.what_is_read_is_spelled.ensures)
 
 pub returns-clause-ended : goal.returns-clause-ended
-returns-clause-ended c = ended_sound
+returns-clause-ended c = ended_sound c.states_stay_sound.ensures.ended

@@ -1,14 +1,11 @@
-use Rattle.std.proofs.Common.{◌≡◌, ◌∙◌, ◌++◌, ◌+◌, ◌<◌, [], ℕ, List, Err, ap, append-nil, arith, drop, length, refl, rules, subst, sym, take}
-use Rattle.std.proofs.KnownBytes.{Appends-nil}
+use Rattle.std.proofs.Common.{◌≡◌, ◌∙◌, ◌++◌, ◌+◌, [], ℕ, List, Err, ap, append-nil, arith, drop, length, refl, rules, subst, take}
 use Rattle.std.proofs.lemmas.List.{drop_all, take_all, length-take-le}
 use Rattle.std.proofs.lemmas.Result.{err_from_is_err_and}
 use Rattle.std.specs.Io.KnownBytes.{Consumes}
 use Rattle.dv_wire.specs.Stream.{once_more}
 use Rattle.docd.specs.Pieces.{StopsIn, Takes}
 use Rattle.docd.specs.Script.{standing_of}
-use Rattle.docd.specs.Stops.{StopsBy}
-use Rattle.docd.specs.declared.script.ScriptFault.TheVariants.{Write}
-use Rattle.docd.proofs.Scripts.{asked, asked_most, asked_once_more, at_end, at_failure, at_limit, few_asked, last_stops, line_left, never_read, no_more, none_asked, not_flushed, nothing_read, numbers_left, one_more, read_more, read_stops}
+use Rattle.docd.proofs.Scripts.{asked, asked_most, asked_once_more, at_end, at_failure, at_limit, few_asked, last_stops, line_left, never_read, no_more, none_asked, not_flushed, nothing_read, one_more, read_more, read_stops}
 use Rattle.docd.proofs.script.Progress.read.Goals as goal
 
 -- what a read leaves in a piece of this length
