@@ -283,6 +283,3 @@ pub fn read_document_like(
 {
     Ok(outermost_of(alloc, Some(like), bytes)?)
 }
-
-#[cfg(test)]
-mod tests;
