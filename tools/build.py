@@ -1,9 +1,13 @@
 #!/usr/bin/python3
 """Builds docd: proves each crate that it stands on, lowest first, then docd itself, and links the program.
 
-It says which crate it is at and how long each took, runs crates side by side where none stands on another, and goes on
-where an interrupted build was, since each crate keeps its work in its folder `out`. What `rt` says is kept in
+It forecasts how long that takes, says which crate it is at, how long each took and what is left, and goes on where an
+interrupted build was, since each crate keeps its work in its folder `out`. What the prover says is kept in
 crates/docd/out/build.log. A fault is told in one line, and the exit status is then 1.
+
+Crates of which none stands on another are proved side by side, each with as many processors as memory allows: those with
+the longest chain of others behind them come first, and the others have what these leave. (The kit's `rt lib` would have
+each wait until no other works on a crate below it, so its own parts are called here.)
 
     python3 tools/build.py            builds
     python3 tools/build.py --look     only looks whether the kit is there and is the one that README.md names
@@ -18,11 +22,17 @@ import subprocess
 import sys
 import time
 
+from kit import know_stamps, part
+
 HERE = pathlib.Path(__file__).resolve().parent.parent
 PROGRAM = "docd"
 LOG = HERE / "crates" / PROGRAM / "out" / "build.log"
+FIGURES = HERE / "docs" / "GATE.md"
 A_CHECK = 3 << 30  # bytes of memory that one crate's check may take
-ALL_WORK = 2 << 30  # bytes that the crates' work takes on disk
+A_JOB = 3 << 29  # bytes that each further processor of a check may take
+ALL_WORK = 16 << 30  # bytes that the crates' work takes on disk
+SHARED = 1.25  # how much more processor time a check takes that several processors share
+ALONE = 0.4  # how much of its processor time a crate takes at least, however many processors share it
 
 
 class Fault(Exception):
@@ -52,36 +62,64 @@ def free_memory():
 
 
 def find_room():
-    """How many checks may run side by side, by the processors and the memory."""
+    """How many processors there are, and how many jobs may run side by side by the memory."""
     disk = shutil.disk_usage(HERE).free
     if disk < ALL_WORK and not (LOG.parent / PROGRAM).exists():
         raise Fault("the disk has %.1f GB left, and a first build keeps %d GB below crates/*/out: make room there" % (disk / 2**30, ALL_WORK >> 30))
     memory = free_memory()
     if memory < A_CHECK:
         raise Fault("%.1f GB of memory are free, and the build takes %d GB: end other programs, or take a machine with more" % (memory / 2**30, A_CHECK >> 30))
-    return max(1, min(len(os.sched_getaffinity(0)), memory // A_CHECK))
+    return len(os.sched_getaffinity(0)), memory // A_JOB
 
 
-def graph():
-    """The crates that docd stands on, each with those that it uses itself, and docd."""
-    listed = {}
-    for line in (HERE / "crates.txt").read_text().splitlines():
-        name, colon, used = line.partition("#")[0].partition(":")
-        if colon:
-            listed[name.split()[0]] = used.split()
-    needed, ahead = {}, [PROGRAM]
-    while ahead:
-        name = ahead.pop()
-        needed[name] = [used for used in listed[name] if used in listed]
-        ahead += [used for used in needed[name] if used not in needed]
-    return needed
+class Crates:
+    """The crates that docd stands on, and docd: what each uses, and what has to be done for it."""
+
+    def __init__(self, kit):
+        self.of_kit = {it.name: it for it in kit.crates_below(str(HERE))}
+        program = self.of_kit[PROGRAM]
+        know_stamps(kit, program.below())
+        self.names = [it.name for it in program.below()] + [PROGRAM]
+        seconds = {name: int(told) for name, told in re.findall(r"(?m)^\| `(\w+)` \|(?:[^|]*\|){3} *(\d+) *\|", FIGURES.read_text())}
+        usual = sorted(seconds.values())[len(seconds) // 2] if seconds else 300
+        self.seconds = {name: 0 if self.is_built(name) else seconds.get(name, usual) for name in self.names}
+
+    def is_built(self, name):
+        return name != PROGRAM and self.of_kit[name].is_built()
+
+    def below(self, name):
+        return {it.name for it in self.of_kit[name].below()}
+
+    def behind(self, name):
+        """The processor seconds of the longest chain of crates from this one on."""
+        above = [self.behind(it) for it in self.names if name in {dep.name for dep in self.of_kit[it].deps}]
+        return self.seconds[name] + max(above, default=0)
+
+    def forecast(self, left, processors):
+        """The seconds that these crates will take."""
+        work = sum(self.seconds[it] for it in left) * (SHARED if processors > 1 else 1) / processors
+        chain = max((self.behind(it) for it in left), default=0) * (ALONE if processors > 2 else 1)
+        return max(work, chain)
 
 
-def start(name, jobs, log):
-    """Begins to prove a crate. The program is linked too, and run on an empty script."""
-    verb = ["run", "--jobs", str(jobs), "--", "run", "--hex"] if name == PROGRAM else ["lib", "--jobs", str(jobs)]
-    return subprocess.Popen(["rt", *verb], cwd=HERE / "crates" / name, stdin=subprocess.DEVNULL, stdout=log, stderr=log,
-                            start_new_session=True)
+def start(name, jobs, idle_only, log):
+    """Begins to prove a crate, on processors that nothing else wants where that is asked for."""
+    # (a group of its own, and no session, among which Linux would share the processors evenly)
+    words = [sys.executable, __file__, "--crate", name, "--jobs", str(jobs)]
+    return subprocess.Popen((["nice"] if idle_only else []) + words, stdin=subprocess.DEVNULL, stdout=log, stderr=log, process_group=0)
+
+
+def prove(kit, name, jobs):
+    """Proves one crate. The program is linked too, and run on an empty script. The caller holds the locks of all."""
+    crate = next(it for it in kit.crates_below(str(HERE)) if it.name == name)
+    know_stamps(kit, crate.below())
+    os.chdir(crate.folder)
+    os.makedirs("out", exist_ok=True)
+    kit.guarded()
+    if name != PROGRAM:
+        return crate.build_rlib(["--jobs", str(jobs)], anew=False)
+    crate.held = []
+    return crate.run(["--jobs", str(jobs)], ["run", "--hex"], tests=False)
 
 
 def failure(name, status):
@@ -90,31 +128,44 @@ def failure(name, status):
     return Fault("building %s failed, and %s says why: its lines with 'error' or 'no proof' are those to read" % (name, LOG.relative_to(HERE)))
 
 
-def build():
-    crates, room = graph(), find_room()
+def minutes(seconds):
+    return "a minute" if seconds < 90 else "%d minutes" % round(seconds / 60)
+
+
+def build(kit):
+    crates, (processors, room) = Crates(kit), find_room()
     LOG.parent.mkdir(exist_ok=True)
-    tell("building: everything below the program is proved first, which takes some minutes where nothing is built yet")
-    done, running, begun = set(), {}, time.monotonic()
+    _held = kit.lock([*crates.of_kit[PROGRAM].below(), crates.of_kit[PROGRAM]])
+    done, running, begun = {it for it in crates.names if crates.is_built(it)}, {}, time.monotonic()
+    left = [it for it in crates.names if it not in done]
+    tell("building: %d crates are proved first, some %s with %d processors that have nothing else to do" % (
+        len(left), minutes(crates.forecast(left, processors)), processors))
     with open(LOG, "w") as log:
         try:
-            while len(done) < len(crates):
-                ready = [name for name in crates if name not in done and name not in running and done.issuperset(crates[name])]
-                for name in ready[:room - len(running)]:
-                    tell("%s, crate %d of %d .." % (name, len(done) + len(running) + 1, len(crates)))
-                    running[name] = start(name, max(1, room // min(len(ready), room)), log), time.monotonic()
+            while left or running:
+                ready = [it for it in left if crates.below(it) <= done and (it != PROGRAM or not running)]
+                for name in sorted(ready, key=crates.behind, reverse=True):
+                    taken = sum(jobs for _, _, jobs in running.values())
+                    jobs = min(processors, room - taken, 2 * processors - taken)
+                    if jobs < 1 and running:
+                        break
+                    left.remove(name)
+                    tell("%s, crate %d of %d .." % (name, len(done) + len(running) + 1, len(crates.names)))
+                    running[name] = start(name, max(1, jobs), bool(running), log), time.monotonic(), max(1, jobs)
                 time.sleep(0.2)
-                for name, (process, since) in list(running.items()):
+                for name, (process, since, _) in list(running.items()):
                     if process.poll() is not None:
                         del running[name]
                         if process.returncode:
                             raise failure(name, process.returncode)
                         done.add(name)
-                        tell("%s is proved: %d s" % (name, time.monotonic() - since))
+                        rest = crates.forecast([*left, *running], processors)
+                        tell("%s is proved: %d s%s" % (name, time.monotonic() - since, "; some %s are left" % minutes(rest) if rest else ""))
         finally:
             # What stopped here has not ended: its group has the prover too.
-            for process, _ in running.values():
+            for process, _, _ in running.values():
                 os.killpg(process.pid, signal.SIGINT)
-            for process, _ in running.values():
+            for process, _, _ in running.values():
                 process.wait()
     os.utime(LOG.parent / PROGRAM)
     tell("built in %d s" % (time.monotonic() - begun))
@@ -123,11 +174,15 @@ def build():
 def main():
     words = argparse.ArgumentParser(description=__doc__, formatter_class=argparse.RawDescriptionHelpFormatter)
     words.add_argument("--look", action="store_true", help="build nothing: only look whether the kit is there")
-    only_looks = words.parse_args().look
+    words.add_argument("--crate", help=argparse.SUPPRESS)
+    words.add_argument("--jobs", type=int, default=1, help=argparse.SUPPRESS)
+    given = words.parse_args()
     try:
         find_kit()
-        if not only_looks:
-            build()
+        if given.crate:
+            return prove(part("rtlib.py"), given.crate, given.jobs)
+        if not given.look:
+            build(part("rtlib.py"))
     except Fault as fault:
         tell(str(fault))
         return 1
