@@ -20,10 +20,12 @@ import time
 import bson
 from bson.int64 import Int64
 
-HERE = os.path.dirname(os.path.dirname(os.path.abspath(__file__)))
-DOCD = os.path.join(HERE, "crates", "docd", "out", "docd")
-HEADER = 21  # the bytes in front of a message's body
-LINE_BYTES = 65_000  # a script's line has at most 131,200 characters
+sys.path.append(os.path.join(os.path.dirname(os.path.abspath(__file__)), "..", "tools"))
+
+from model.messages import HEADER  # noqa: E402
+from program import DOCD, parsed  # noqa: E402
+from spelled import message, script_lines  # noqa: E402
+
 RUNS = 5
 ALL = 2**31 - 1  # as many rows in a first batch as its bytes let
 
@@ -40,15 +42,10 @@ def count_asked(description):
     global DOCD
     options = argparse.ArgumentParser(description=description, formatter_class=argparse.RawDescriptionHelpFormatter)
     options.add_argument("--count", type=int, default=100_000, help="how many documents")
-    options.add_argument("--program", default=DOCD)
-    given = options.parse_args()
+    given = parsed(options, "bench")
     DOCD = given.program
     check_tools()
     return given.count
-
-
-def message(body):
-    return struct.pack("<iiiiIB", 21 + len(body), 1, 0, 2013, 0, 0) + body
 
 
 def stream_of(commands):
@@ -58,7 +55,7 @@ def stream_of(commands):
 
 def lines(stream, size):
     """A hex script that brings the bytes, so many in a line."""
-    return "".join("0 %s\n" % stream[i:i + size].hex() for i in range(0, len(stream), size)).encode()
+    return b"".join(line + b"\n" for line in script_lines(0, stream, size))
 
 
 def replies_in(stream):

@@ -9,9 +9,10 @@ times hold the lines and their digits, which the same bytes in long lines tell o
 """
 import bson
 
-from measuring import LINE_BYTES, check_tools, heads, least, lines, message, row, seconds, seconds_of_script, stream_of
+from measuring import check_tools, heads, least, lines, row, seconds, seconds_of_script, stream_of
+from spelled import PIECE, message
 
-WAYS = ("lines of 65,000 bytes", LINE_BYTES), ("a byte a line", 1)
+WAYS = ("lines of 65,000 bytes", PIECE), ("a byte a line", 1)
 
 
 def decode(bodies):

@@ -27,7 +27,11 @@ from collections import namedtuple
 import bson
 
 import measuring
-from measuring import documents_to_find, ended_time, heads, in_turn, load, message, processor_time, row
+from measuring import documents_to_find, ended_time, heads, in_turn, load, processor_time, row
+from model.messages import HEADER
+from program import ROOT
+from served import free_port
+from spelled import message
 
 ALONE = 5_000  # requests that are sent one at a time
 ROUNDS = 3
@@ -126,17 +130,11 @@ def redis_size(taken):
     return end + 2 if taken[:1] != b"$" else end + 4 + int(taken[1:end])
 
 
-def free_port():
-    with socket.socket() as any_port:
-        any_port.bind(("127.0.0.1", 0))
-        return any_port.getsockname()[1]
-
-
 def served_docd():
     port = free_port()
     ping, pong = docd_message({"ping": 1}), bson.encode({"ok": 1})
     return Server([*shlex.split(measuring.DOCD), "serve", "--port", str(port), "--connections", "1"], port, docd_size, ping,
-                  struct.pack("<iiiiIB", measuring.HEADER + len(pong), 0, 1, 2013, 0, 0) + pong)
+                  struct.pack("<iiiiIB", HEADER + len(pong), 0, 1, 2013, 0, 0) + pong)
 
 
 def served_redis(folder):
@@ -169,7 +167,7 @@ def check_docd(replies, count):
     at = told = 0
     while at < len(replies):
         size = docd_size(replies[at:at + 4])
-        body = bson.decode(replies[at + measuring.HEADER:at + size])
+        body = bson.decode(replies[at + HEADER:at + size])
         is_done = body["ok"] == 1 and "writeErrors" not in body and body.get("n", 1) == 1
         if not is_done or "cursor" in body and not body["cursor"]["firstBatch"]:
             sys.exit("bench: docd answers %r" % body)
@@ -213,7 +211,7 @@ def print_served(documents):
 
 def visiting_program(folder):
     """The program of bench/visit.c, or None where libbson isn't installed."""
-    program, source = os.path.join(folder, "visit"), os.path.join(measuring.HERE, "bench", "visit.c")
+    program, source = os.path.join(folder, "visit"), os.path.join(ROOT, "bench", "visit.c")
     found = subprocess.run(["pkg-config", "--cflags", "--libs", "libbson-1.0"], capture_output=True, text=True)
     made = ["cc", "-O2", "-o", program, source, *found.stdout.split()]
     return program if subprocess.run(made, stderr=subprocess.DEVNULL).returncode == 0 else None

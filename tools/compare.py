@@ -8,10 +8,8 @@ another way than the model is cut down and printed with both answers, and the ex
 
     python3 tools/compare.py
     python3 tools/compare.py --seed 7 --count 10000 --program crates/docd/out/docd
-    python3 tools/compare.py --commands hello,find,delete
 """
 import argparse
-import os
 import random
 import struct
 import subprocess
@@ -19,12 +17,13 @@ import sys
 from collections import Counter
 
 import machine
-from model.values import ARRAY, BOOLEAN, BsonFault, DOCUMENT, INT32, INT64, MAX_KEY, MIN_KEY, NULL, TEXT, read_document, spelling
-from random_scripts import Maker, edges
+from making.edges import edges
+from model.messages import HEADER
+from model.values import ARRAY, BsonFault, DOCUMENT, read_document, spelling
+from notation import shown
+from program import parsed
+from random_scripts import Maker
 
-HERE = os.path.dirname(os.path.dirname(os.path.abspath(__file__)))
-DOCD = os.path.join(HERE, "crates", "docd", "out", "docd")
-HEADER = 21  # the bytes in front of a message's body
 MOST_TRIES = 3_000  # runs of docd that cutting a script down may take
 
 
@@ -114,22 +113,6 @@ def readable(line):
     return "" if fields is None else " " * 8 + shown((DOCUMENT, fields))[:4_000]
 
 
-WORDS = {NULL: "null", MIN_KEY: "MinKey", MAX_KEY: "MaxKey", INT32: "%d", INT64: "%dL"}
-
-
-def shown(value):
-    kind, held = value
-    if kind == DOCUMENT:
-        return "{%s}" % ", ".join("%s: %s" % (name.decode(errors="replace"), shown(one)) for name, one in held)
-    if kind == ARRAY:
-        return "[%s]" % ", ".join(map(shown, held))
-    if kind in WORDS:
-        return WORDS[kind] % (() if held is None else held)
-    if kind == BOOLEAN:
-        return "true" if held else "false"
-    return '"%s"' % held.decode() if kind == TEXT else "<%02x %s>" % (kind, held)
-
-
 def tell(program, lines):
     """Prints a script that docd and the model answer in two ways, and both answers."""
     for line in lines:
@@ -165,15 +148,10 @@ def main():
     options.add_argument("--seed", type=int, default=1)
     options.add_argument("--count", type=int, default=2_000, help="how many random scripts")
     options.add_argument("--start", type=int, default=0, help="the first one's number")
-    options.add_argument("--program", default=DOCD)
-    machine.add_commands(options)
-    given = options.parse_args()
-    machine.commands = given.commands
-    if not os.path.exists(given.program):
-        sys.exit("compare: build the program first, by running ./docd once")
+    given = parsed(options, "compare")
     messages, seen = 0, Counter()
     for place in range(given.start, given.start + given.count):
-        maker = Maker(random.Random("%d/%d" % (given.seed, place)), given.commands)
+        maker = Maker(random.Random("%d/%d" % (given.seed, place)))
         cut, plain = maker.script()
         said, wanted = answers(given.program, cut)
         if said != wanted:
@@ -182,7 +160,7 @@ def main():
             return 1
         messages += maker.messages
         count_replies(wanted[1], seen)
-    for place, lines in enumerate(edges(given.commands)):
+    for place, lines in enumerate(edges()):
         said, wanted = answers(given.program, lines)
         if said != wanted:
             print("compare: script %d at the limits differs:" % place)

@@ -1,28 +1,24 @@
 #!/usr/bin/python3
 """Checks the model of `tools/machine.py` against worked examples, whose answers were written by hand: those of
-tools/worked_examples.txt, one script for one store, and a few documents as bytes.
+tools/worked_examples.txt, and a few documents as bytes.
 
     python3 tools/machine_rows.py
 """
 import sys
 
 import machine
+from checking import status_of
 from model.values import BsonFault, read_document, spelling
 from notation import fields_of
-from worked_examples import examples
+from worked_examples import answers, scripts
 
 
 def check_examples(tell):
     """Each line of the table is answered as it says."""
-    model = machine.Machine()
-    for example in examples():
-        for place, documents in filter(None, (step.loaded for step in example.steps)):
-            for document in documents:
-                model.load(place, document)
-    for example in examples():
-        for step in example.steps:
-            said = [one.decode() for line in step.lines for one in model.line(line.encode())]
-            tell(said == step.prints, "%s\n    %s\n    %s" % (example.title, step.text or step.lines[0], "\n    ".join(said)))
+    for script in scripts():
+        for example, step, said in answers(machine.Machine(), script):
+            told = "%s\n    %s\n    %s" % (example.title, step.text or step.lines[0], "\n    ".join(said))
+            tell(said == step.prints, told)
 
 
 def check_bytes(tell):
@@ -35,20 +31,5 @@ def check_bytes(tell):
         tell(fault.args[0] == b"BadBool", "a boolean of 2: %r" % fault)
 
 
-def main():
-    machine.commands = set(machine.CHOICES)
-    right, wrong = [], []
-
-    def tell(is_right, text):
-        (right if is_right else wrong).append(text)
-        if not is_right:
-            print("machine_rows: " + text)
-
-    check_examples(tell)
-    check_bytes(tell)
-    print("%d right, %d wrong" % (len(right), len(wrong)))
-    return 1 if wrong else 0
-
-
 if __name__ == "__main__":
-    sys.exit(main())
+    sys.exit(status_of("machine_rows", check_examples, check_bytes))

@@ -2,9 +2,9 @@
 """Runs the examples of docs/MANUAL.md through docd and through the model of `tools/machine.py`, and compares the replies.
 
 Needs the built program (run ./docd once). In a fenced block a line `> COMMAND` is sent, of session 0, or of another one as
-`1> COMMAND`, and the line behind it is its reply; each heading begins with an empty store. A line `$ WORDS` is typed in a
-shell, and the lines behind it are what is printed; each heading begins with a folder that has `docd`, `tools` and
-`examples` and nothing else.
+`1> COMMAND`, and the line behind it is its reply; each heading begins with an empty store. These lines are read as
+`tools/lines.py` reads them, and the replies are what it prints. A line `$ WORDS` is typed in a shell, and the lines behind it
+are what is printed; each heading begins with a folder that has `docd`, `tools` and `examples` and nothing else.
 
     python3 tools/manual.py
 """
@@ -16,13 +16,11 @@ import sys
 import tempfile
 
 import machine
-from compare import DOCD, HERE, message_of, shown
-from model.values import DOCUMENT
-from notation import fields_of
-from random_scripts import lines_of_session
+from lines import lines_of_command, read
+from program import ROOT, parsed
 
-MANUAL = os.path.join(HERE, "docs", "MANUAL.md")
-COMMAND = re.compile(r"(\d*)> (.*)")
+MANUAL = os.path.join(ROOT, "docs", "MANUAL.md")
+COMMAND = re.compile(r"\d*> .*")
 
 
 def sections(text):
@@ -32,13 +30,14 @@ def sections(text):
 
 
 def examples_of(blocks):
-    """The sessions, commands and replies of some blocks, as texts."""
+    """The commands and replies of some blocks, as texts."""
     examples = []
     for block in blocks:
         lines = block.splitlines()
         for command, reply in zip(lines[::2], lines[1::2], strict=True):
-            session, asked = COMMAND.fullmatch(command).groups()
-            examples.append((int(session or 0), asked, reply))
+            if not COMMAND.fullmatch(command):
+                sys.exit("manual: no command, which begins with >: " + command)
+            examples.append((command, reply))
     return examples
 
 
@@ -48,17 +47,18 @@ def typed_of(blocks):
 
 
 def replies(output):
-    """The replies among printed lines, in the notation of the examples."""
-    return [shown((DOCUMENT, message_of(line)[1])) for line in output.splitlines()]
+    """The replies of printed lines, without their sessions."""
+    return [read(line).partition(" ")[2] for line in output.decode().splitlines()]
 
 
 def sent(program, examples):
     """For each example what was sent, what is written of it, and what docd and the model say."""
-    script = b"".join(line + b"\n" for session, asked, _ in examples for line in lines_of_session(session, fields_of(asked)))
+    lines = [line for number, (asked, _) in enumerate(examples, 1) for line in lines_of_command(number, asked, "t")]
+    script = "".join(line + "\n" for line in lines).encode()
     done = subprocess.run([program, "run", "--hex"], input=script, capture_output=True, timeout=60)
     said, modelled = replies(done.stdout), replies(machine.run(script)[0])
     said += ["nothing"] * (len(examples) - len(said))
-    for (_, asked, reply), by_docd, by_model in zip(examples, said, modelled, strict=True):
+    for (asked, reply), by_docd, by_model in zip(examples, said, modelled, strict=True):
         yield asked, reply, by_docd, by_model
 
 
@@ -67,7 +67,7 @@ def typed(program, examples):
     with tempfile.TemporaryDirectory() as folder:
         os.symlink(os.path.abspath(program), os.path.join(folder, "docd"))
         for name in "tools", "examples":
-            os.symlink(os.path.join(HERE, name), os.path.join(folder, name))
+            os.symlink(os.path.join(ROOT, name), os.path.join(folder, name))
         for words, written in examples:
             done = subprocess.run(["sh", "-c", words], cwd=folder, stdin=subprocess.DEVNULL, stdout=subprocess.PIPE,
                                   stderr=subprocess.STDOUT, timeout=60)
@@ -76,11 +76,7 @@ def typed(program, examples):
 
 def main():
     options = argparse.ArgumentParser(description=__doc__, formatter_class=argparse.RawDescriptionHelpFormatter)
-    options.add_argument("--program", default=DOCD)
-    given = options.parse_args()
-    if not os.path.exists(given.program):
-        sys.exit("manual: build the program first, by running ./docd once")
-    machine.commands = set(machine.CHOICES)
+    given = parsed(options, "manual")
     right, wrong = 0, 0
     with open(MANUAL, encoding="utf-8") as file:
         text = file.read()
@@ -93,7 +89,7 @@ def main():
                 right += 1
                 continue
             wrong += 1
-            print("manual: %s\n  > %s\n    written: %s" % (heading, asked, written))
+            print("manual: %s\n    %s\n    written: %s" % (heading, asked, written))
             for who, one in zip(("docd", "the model"), said):
                 print("    %s: %s" % (who, one))
     print("%d right, %d wrong" % (right, wrong))

@@ -14,24 +14,25 @@ first, second, .. request refused, until a run meets no refusal. What a run prin
 The finds of a later session show what stands then.
 
     python3 tools/refuse_allocations.py
-    python3 tools/refuse_allocations.py --commands hello,find,delete --program crates/docd/out/docd
     python3 tools/refuse_allocations.py --scripts "index,cursor"
 """
 import argparse
 import copy
 import os
-import struct
 import subprocess
 import sys
 import tempfile
 from collections import Counter, namedtuple
 
-import machine
+from extended_json import value_of
+from model import messages
+from model.commands import execute
 from model.refusals import WANT_OF_MEMORY, refused
-from model.values import ARRAY, BOOLEAN, DOCUMENT, INT32, TEXT, read_document, spelling
-
-HERE = os.path.dirname(os.path.dirname(os.path.abspath(__file__)))
-DOCD = os.path.join(HERE, "crates", "docd", "out", "docd")
+from model.store import Store
+from model.values import ARRAY, read_document, spelling
+from model.writes import NoSuchCut, WRITES
+from program import parsed
+from spelled import message, script_lines
 
 # Counts the requests, and refuses the one whose number REFUSE gives. At the end it says whether one was refused.
 SHIM = r"""
@@ -79,28 +80,17 @@ Message = namedtuple("Message", "session fields flags piece", defaults=(0, 0))
 End = namedtuple("End", "session")
 
 
-def value(plain):
-    if isinstance(plain, dict):
-        return DOCUMENT, [(name.encode(), value(inner)) for name, inner in plain.items()]
-    if isinstance(plain, list):
-        return ARRAY, [value(inner) for inner in plain]
-    if isinstance(plain, str):
-        return TEXT, plain.encode()
-    return (BOOLEAN if isinstance(plain, bool) else INT32), plain
-
-
-def body(message):
-    return spelling(value(message.fields)[1])
+def body(step):
+    _, fields = value_of(step.fields)
+    return spelling(fields)
 
 
 def lines(step):
     """A step's lines in the script."""
     if isinstance(step, End):
         return b"%d end\n" % step.session
-    data = body(step)
-    data = struct.pack("<iiiiIB", 21 + len(data), 7, 0, 2013, step.flags, 0) + data
-    size = step.piece or len(data)
-    return b"".join(b"%d %s\n" % (step.session, data[i:i + size].hex().encode()) for i in range(0, len(data), size))
+    data = message(body(step), 7, step.flags)
+    return b"".join(line + b"\n" for line in script_lines(step.session, data, step.piece or len(data)))
 
 
 def ping(**others):
@@ -176,6 +166,13 @@ AGAIN = [Message(0, {"createIndexes": "c", "indexes": [{"key": {"tags": 1}, "nam
 PING = Message(0, ping())
 NESTED = {"text": "t" * 40, "list": [1, "two", {"three": [True]}], "inner": {"a": {"b": {}}}, "_id": {"a": 1, "b": "x"}}
 MIXED = [{"_id": 1}, {"_id": 2}, {"_id": 3, "a.b": 1}, {"_id": 5, "x": ["five"]}, {"x": 6}, NESTED, {"_id": 4}]
+MOST_CHANGES = 10  # more than a statement of these scripts makes
+SOME = {"n": {"$lt": 6}, "tags": "all"}
+SORTED = {"find": "c", "filter": {"$or": [{"tags": {"$in": ["t2", "t4", "t9"]}}, {"in.a": {"$gte": 4}}]},
+          "sort": {"tags": -1, "n": 1}, "skip": 1, "limit": 2, "$db": "t"}
+EACH = {"q": SOME, "u": {"$set": {"x.y": "new"}, "$push": {"tags": "more"}, "$inc": {"n": 1}}, "multi": True}
+STAGES = [{"$match": {"n": {"$lt": 6}}}, {"$unwind": "$tags"}, {"$project": {"both": {"a": "$tags", "b": "$in.a"}}},
+          {"$sort": {"both": -1}}, {"$limit": 3}]
 SCRIPTS = {
     "pings": [PING] * 3 + [End(0), PING],
     "refusals": [Message(0, {"ping": 1}), Message(0, {"pong": 1, "$db": "t"}), Message(0, {"ping": 1, "$db": "a.b"})],
@@ -190,65 +187,55 @@ SCRIPTS = {
     "an insert in pieces": then(Message(0, insert("c", MIXED[3:4]), piece=7)),
     "forty inserts": then(Message(0, insert("d", [{"_id": 37 * i % 40, "n": i} for i in range(40)]))),
     "refused inserts": then(Message(0, insert("$c", [{"_id": 1}])), Message(0, {"insert": "c", "$db": "t"})),
-}
-MOST_CHANGES = 10  # more than a statement of these scripts makes
-SOME = {"n": {"$lt": 6}, "tags": "all"}
-SORTED = {"find": "c", "filter": {"$or": [{"tags": {"$in": ["t2", "t4", "t9"]}}, {"in.a": {"$gte": 4}}]},
-          "sort": {"tags": -1, "n": 1}, "skip": 1, "limit": 2, "$db": "t"}
-EACH = {"q": SOME, "u": {"$set": {"x.y": "new"}, "$push": {"tags": "more"}, "$inc": {"n": 1}}, "multi": True}
-STAGES = [{"$match": {"n": {"$lt": 6}}}, {"$unwind": "$tags"}, {"$project": {"both": {"a": "$tags", "b": "$in.a"}}},
-          {"$sort": {"both": -1}}, {"$limit": 3}]
-# The scripts that need more than pings, inserts and finds of all documents, by what they need.
-FURTHER = {
-    "find": {"a find with a sort": three(Message(0, SORTED)),
-             "a refused find": three(Message(0, {"find": "c", "filter": {"a": {"$in": 1}}, "$db": "t"}))},
-    "hello": {"a hello": [Message(0, {"hello": 1, "$db": "t"})]},
-    "delete": {"a delete of many": three(delete({"q": SOME, "limit": 0})),
-               "deletes": three(delete({"q": {"_id": 2}, "limit": 1}, {"q": {"n": {"$exists": True}}, "limit": 1},
-                                       {"q": {"$x": 1}, "limit": 0}, {"q": {}, "limit": 0}))},
-    "update": {"an update of many": three(update({**EACH, "q": {"n": {"$lt": 5}}})),
-               "updates": three(update({"q": {"_id": 2}, "u": {"a": [1, {"b": 2}]}}, EACH,
-                                       {"q": {}, "u": {"$pull": {"tags": "all"}}},
-                                       {"q": {"_id": 1}, "u": {"$unset": {"in": 1}}},
-                                       {"q": {}, "u": {"$inc": {"in": 1}}, "multi": True}))},
-    "aggregate": {"an aggregate": three(Message(0, {"aggregate": "c", "pipeline": STAGES, "cursor": {}, "$db": "t"}))},
-    "create": {"two views and an insert": viewed(Message(0, insert("c", [{"_id": 0, "n": 5, "tags": ["new"]}]))),
-               "two views and an update": viewed(update({"q": {"n": {"$gt": 4}}, "u": {"$inc": {"n": -2}}, "multi": True})),
-               "two views and a delete": viewed(delete({"q": {"n": {"$gt": 4}}, "limit": 0})),
-               "a collection and a view that is refused": viewed(Message(0, {"create": "d", "$db": "t"}),
-                                                                 Message(0, {"create": "v", "$db": "t"}))},
-    "drop": {"two views and a drop": viewed(Message(0, {"drop": "c", "$db": "t"}), Message(0, {"drop": "w", "$db": "t"})),
-             "a drop of what a view looks into": gathered(Message(0, {"drop": "d", "$db": "t"}), find("w"))},
-    "indexes": {"an insert under indexes": indexed(Message(0, insert("c", [{"_id": 9, "n": 5, "tags": ["new", "all"]}]))),
-                "an update under indexes": indexed(update({"q": {"n": {"$gt": 4}}, "u": {"$set": {"tags": [1, "all"]}}, "multi": True})),
-                "a delete under indexes": indexed(delete({"q": {"tags": "all"}, "limit": 0})),
-                "indexes that are dropped": indexed(Message(0, {"dropIndexes": "c", "index": "*", "$db": "t"})),
-                "arrays in arrays under indexes": indexed(
-                    Message(0, insert("c", [{"_id": 9, "n": [[1, 2], {"a": [3]}, 1, 1], "tags": []}])),
-                    update({"q": {"n": 1}, "u": {"$push": {"n": {"$each": [7, [1, 2]]}}}}), delete({"q": {"n": [1, 2]}, "limit": 1})),
-                "an index that is dropped and made again": indexed(
-                    Message(0, {"dropIndexes": "c", "index": "tags_1", "$db": "t"}), *AGAIN),
-                "a drop of an indexed collection": indexed(Message(0, {"drop": "c", "$db": "t"}), *AGAIN)},
-    "cursors": {"batches": three(Message(0, {"find": "c", "batchSize": 1, "$db": "t"}),
-                                 Message(0, {"getMore": 1, "collection": "c", "batchSize": 2, "$db": "t"}),
-                                 Message(0, {"getMore": 1, "collection": "c", "$db": "t"})),
-                "a cursor that is killed": three(Message(0, {"find": "c", "batchSize": 0, "$db": "t"}),
-                                                 Message(0, {"killCursors": "c", "cursors": [1, 9], "$db": "t"})),
-                "cursors of two sessions": three(
-                    find("c", batchSize=1), find("c", 2, batchSize=2), more(1, 2), more(2, 2), more(1, 0, batchSize=1),
-                    Message(2, {"killCursors": "c", "cursors": [1, 2], "$db": "t"}), End(2), more(1, 0)),
-                "cursors that are left": three(
-                    find("c", 2, batchSize=1), Message(0, insert("c", [{"_id": 0}])), more(1, 2, batchSize=1), End(2),
-                    find("c", batchSize=4), more(2, 0))},
-    "group": {"a group and a lookup under writes": gathered(
+    "a find with a sort": three(Message(0, SORTED)),
+    "a refused find": three(Message(0, {"find": "c", "filter": {"a": {"$in": 1}}, "$db": "t"})),
+    "a hello": [Message(0, {"hello": 1, "$db": "t"})],
+    "a delete of many": three(delete({"q": SOME, "limit": 0})),
+    "deletes": three(delete({"q": {"_id": 2}, "limit": 1}, {"q": {"n": {"$exists": True}}, "limit": 1},
+                            {"q": {"$x": 1}, "limit": 0}, {"q": {}, "limit": 0})),
+    "an update of many": three(update({**EACH, "q": {"n": {"$lt": 5}}})),
+    "updates": three(update({"q": {"_id": 2}, "u": {"a": [1, {"b": 2}]}}, EACH,
+                            {"q": {}, "u": {"$pull": {"tags": "all"}}},
+                            {"q": {"_id": 1}, "u": {"$unset": {"in": 1}}},
+                            {"q": {}, "u": {"$inc": {"in": 1}}, "multi": True})),
+    "an aggregate": three(Message(0, {"aggregate": "c", "pipeline": STAGES, "cursor": {}, "$db": "t"})),
+    "two views and an insert": viewed(Message(0, insert("c", [{"_id": 0, "n": 5, "tags": ["new"]}]))),
+    "two views and an update": viewed(update({"q": {"n": {"$gt": 4}}, "u": {"$inc": {"n": -2}}, "multi": True})),
+    "two views and a delete": viewed(delete({"q": {"n": {"$gt": 4}}, "limit": 0})),
+    "a collection and a view that is refused": viewed(Message(0, {"create": "d", "$db": "t"}),
+                                                      Message(0, {"create": "v", "$db": "t"})),
+    "two views and a drop": viewed(Message(0, {"drop": "c", "$db": "t"}), Message(0, {"drop": "w", "$db": "t"})),
+    "a drop of what a view looks into": gathered(Message(0, {"drop": "d", "$db": "t"}), find("w")),
+    "an insert under indexes": indexed(Message(0, insert("c", [{"_id": 9, "n": 5, "tags": ["new", "all"]}]))),
+    "an update under indexes": indexed(update({"q": {"n": {"$gt": 4}}, "u": {"$set": {"tags": [1, "all"]}}, "multi": True})),
+    "a delete under indexes": indexed(delete({"q": {"tags": "all"}, "limit": 0})),
+    "indexes that are dropped": indexed(Message(0, {"dropIndexes": "c", "index": "*", "$db": "t"})),
+    "arrays in arrays under indexes": indexed(
+        Message(0, insert("c", [{"_id": 9, "n": [[1, 2], {"a": [3]}, 1, 1], "tags": []}])),
+        update({"q": {"n": 1}, "u": {"$push": {"n": {"$each": [7, [1, 2]]}}}}), delete({"q": {"n": [1, 2]}, "limit": 1})),
+    "an index that is dropped and made again": indexed(
+        Message(0, {"dropIndexes": "c", "index": "tags_1", "$db": "t"}), *AGAIN),
+    "a drop of an indexed collection": indexed(Message(0, {"drop": "c", "$db": "t"}), *AGAIN),
+    "batches": three(Message(0, {"find": "c", "batchSize": 1, "$db": "t"}),
+                     Message(0, {"getMore": 1, "collection": "c", "batchSize": 2, "$db": "t"}),
+                     Message(0, {"getMore": 1, "collection": "c", "$db": "t"})),
+    "a cursor that is killed": three(Message(0, {"find": "c", "batchSize": 0, "$db": "t"}),
+                                     Message(0, {"killCursors": "c", "cursors": [1, 9], "$db": "t"})),
+    "cursors of two sessions": three(
+        find("c", batchSize=1), find("c", 2, batchSize=2), more(1, 2), more(2, 2), more(1, 0, batchSize=1),
+        Message(2, {"killCursors": "c", "cursors": [1, 2], "$db": "t"}), End(2), more(1, 0)),
+    "cursors that are left": three(
+        find("c", 2, batchSize=1), Message(0, insert("c", [{"_id": 0}])), more(1, 2, batchSize=1), End(2),
+        find("c", batchSize=4), more(2, 0)),
+    "a group and a lookup under writes": gathered(
         Message(0, insert("c", [{"_id": 9, "n": 5, "tags": ["new", "all"]}])), find("v"),
         update({"q": {}, "u": {"$inc": {"n": -1}}, "multi": True}), find("w"),
         Message(0, insert("d", [{"_id": 3, "x": 3}])), Message(0, {"delete": "d", "deletes": [{"q": {"_id": 5}, "limit": 1}], "$db": "t"}),
         find("w"), delete({"q": {"tags": "t1"}, "limit": 0})),
-              "groups": three(Message(0, {"aggregate": "c", "pipeline": [{"$unwind": "$tags"}, {"$group": {
-        "_id": "$tags", "n": {"$sum": "$n"}, "least": {"$min": "$in"}, "all": {"$push": "$n"}}}], "cursor": {}, "$db": "t"}))},
-    "lookup": {"a lookup": three(Message(0, {"aggregate": "c", "pipeline": [{"$lookup": {
-        "from": "c", "localField": "n", "foreignField": "_id", "as": "others"}}], "cursor": {}, "$db": "t"}))},
+    "groups": three(Message(0, {"aggregate": "c", "pipeline": [{"$unwind": "$tags"}, {"$group": {
+        "_id": "$tags", "n": {"$sum": "$n"}, "least": {"$min": "$in"}, "all": {"$push": "$n"}}}], "cursor": {}, "$db": "t"})),
+    "a lookup": three(Message(0, {"aggregate": "c", "pipeline": [{"$lookup": {
+        "from": "c", "localField": "n", "foreignField": "_id", "as": "others"}}], "cursor": {}, "$db": "t"})),
 }
 
 
@@ -264,13 +251,13 @@ def without_memory(store, data, session):
     """The ends that a command of a session may come to where memory is wanting: the reply, and the store then."""
     yield refused(WANT_OF_MEMORY), store
     fields = read_document(data)
-    list_name, _ = machine.WRITES.get(fields[0][0], (None, None))
+    list_name, _ = WRITES.get(fields[0][0], (None, None))
     for index in range(len(dict(fields).get(list_name, (ARRAY, []))[1])):
         for done in range(MOST_CHANGES):
             after = copy.deepcopy(store)
             try:
-                yield machine.execute(after, data, (index, done), session), after
-            except machine.NoSuchCut:
+                yield execute(after, data, (index, done), session), after
+            except NoSuchCut:
                 break
 
 
@@ -286,9 +273,9 @@ def fits(steps, said, store, is_cut, may_want=True):
     if isinstance(step, End):
         after.cursors.end(step.session)
         return said[:1] == [b"%d end 0" % step.session] and fits(rest, said[1:], after, is_cut, may_want)
-    reply, is_usual = machine.execute(after, body(step), session=step.session), True
+    reply, is_usual = execute(after, body(step), session=step.session), True
     for reply, after in [(reply, after), *(without_memory(store, body(step), step.session) if may_want else [])]:
-        line = [b"%d %s" % (step.session, machine.message(7, reply).hex().encode())] * (not step.flags & 2)
+        line = [b"%d %s" % (step.session, messages.message(7, reply).hex().encode())] * (not step.flags & 2)
         # Where no reply is sent, want of memory is told by the end of the session alone.
         is_told = is_usual or not step.flags & 2
         if is_told and said[:len(line)] == line and fits(rest, said[len(line):], after, is_cut, may_want and is_usual):
@@ -315,16 +302,8 @@ def kind(status, said, ample):
 
 def main():
     options = argparse.ArgumentParser(description=__doc__, formatter_class=argparse.RawDescriptionHelpFormatter)
-    options.add_argument("--program", default=DOCD)
     options.add_argument("--scripts", default="", help="words, joined by commas, of which the names of the scripts have one")
-    machine.add_commands(options)
-    given = options.parse_args()
-    machine.commands = given.commands
-    if not os.path.exists(given.program):
-        sys.exit("refuse: build the program first, by running ./docd once")
-    scripts = dict(SCRIPTS)
-    for name in sorted(given.commands & FURTHER.keys()):
-        scripts.update(FURTHER[name])
+    given = parsed(options, "refuse_allocations")
     bad = 0
     with tempfile.TemporaryDirectory() as folder:
         shim, token = os.path.join(folder, "shim.so"), os.path.join(folder, "token")
@@ -332,15 +311,15 @@ def main():
             source.write(SHIM)
         subprocess.run(["cc", "-shared", "-fPIC", "-O1", "-o", shim, source.name, "-ldl"], check=True)
         words = given.scripts.split(",")
-        for name, steps in ((name, steps) for name, steps in scripts.items() if any(word in name for word in words)):
+        for name, steps in ((name, steps) for name, steps in SCRIPTS.items() if any(word in name for word in words)):
             status, ample, _, _ = run(given.program, steps, shim, 0, token)
-            assert status == 0 and fits(steps, ample, machine.Store(), False, may_want=False), name
+            assert status == 0 and fits(steps, ample, Store(), False, may_want=False), name
             number, seen = 1, Counter()
             while True:
                 status, said, told, is_refused = run(given.program, steps, shim, number, token)
                 if not is_refused:
                     break
-                right = (status, told) in ((0, b""), (1, b"docd: no memory\n")) and fits(steps, said, machine.Store(), status == 1)
+                right = (status, told) in ((0, b""), (1, b"docd: no memory\n")) and fits(steps, said, Store(), status == 1)
                 if not right:
                     bad += 1
                     print("%s: request %d refused: status %d, %r, %r" % (name, number, status, told, said))

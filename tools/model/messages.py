@@ -16,10 +16,10 @@ def wanted(is_right):
         raise Closing(5)
 
 
-def take_message(stream, has_lists):
+def take_message(stream):
     """The length, requestID, flag bits and sections of the whole message in front of a stream, None where it isn't there
     yet. A section is its identifier, None for the body's, and the bytes of its documents. A closing fault is told as soon
-    as the bytes show it. Where lists aren't to be had, there is the body alone."""
+    as the bytes show it."""
     length = int32(stream, 0) if len(stream) >= 4 else None
     if length is not None and not 26 <= length <= 48_000_000:
         raise Closing(1)
@@ -33,7 +33,6 @@ def take_message(stream, has_lists):
     if length is None or len(stream) < length:
         return None
     sections = sections_of(stream[20:length])
-    wanted(has_lists or len(sections) == 1)
     return length, int32(stream, 4), flags, sections
 
 

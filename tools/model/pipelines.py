@@ -16,15 +16,15 @@ def wanted(is_right):
         raise Refusal(FAILED_TO_PARSE)
 
 
-def pipeline_of(stages, hidden=frozenset()):
-    """The stages' functions, and the collections' names that lookups read. Hidden stages aren't there yet."""
+def pipeline_of(stages):
+    """The stages' functions, and the collections' names that lookups read."""
     functions, names = [], []
     for place, (kind, held) in enumerate(stages):
         if place == MOST_STAGES:
             raise Refusal(LIMIT_REACHED)
         wanted(kind == DOCUMENT and len(held) == 1)
         name, operand = held[0]
-        wanted(name in STAGES and name not in hidden)
+        wanted(name in STAGES)
         functions.append(STAGES[name](operand))
         if name == b"$lookup":
             names.append(field_of(operand[1], b"from")[1])

@@ -14,6 +14,9 @@ NAMES = {
     LIMIT_REACHED: b"LimitReached", READ_BY_VIEW: b"ReadByView",
 }
 
+# How a reply ends that is no refusal.
+OK = b"ok", (INT32, 1)
+
 
 class Refusal(Exception):
     """A command or a statement is refused, with this code."""

@@ -141,6 +141,10 @@ def levels(kind, held):
     return 1 + max((levels(*value) for value in held), default=0) if kind == ARRAY else 0
 
 
+def fits(document):
+    return size(document) <= MOST_BYTES and levels(DOCUMENT, document) <= MOST_LEVELS
+
+
 # From low to high; both widths of integers are one class.
 CLASSES = [MIN_KEY, NULL, INT32, TEXT, DOCUMENT, ARRAY, BINARY, OBJECT_ID, BOOLEAN, DATETIME, TIMESTAMP, MAX_KEY]
 RANKS = {kind: rank for rank, kind in enumerate(CLASSES)} | {INT64: CLASSES.index(INT32)}

@@ -1,0 +1,17 @@
+"""What scripts share that check something against rows written by hand."""
+
+
+def status_of(who, *checks):
+    """Runs the checks, each of which is given a function that it tells whether something is right, and what it is. What is
+    wrong is printed, and how many are right and wrong; gives the exit status."""
+    right, wrong = [], []
+
+    def tell(is_right, text):
+        (right if is_right else wrong).append(text)
+        if not is_right:
+            print("%s: %s" % (who, text))
+
+    for check in checks:
+        check(tell)
+    print("%d right, %d wrong" % (len(right), len(wrong)))
+    return 1 if wrong else 0

@@ -1,0 +1,67 @@
+"""Scripts at the limits of sizes and counts."""
+from spelled import array, boolean, document, lines_of, number, text
+
+FIND = [(b"find", text(b"c"))]
+ALL = b"q", document([])
+
+
+def insert(documents, *others):
+    return [(b"insert", text(b"c")), (b"documents", array(documents)), *others]
+
+
+def sized(identity, size):
+    """A document of so many bytes."""
+    return document([(b"_id", number(identity)), (b"x", text(b"x" * (size - 22)))])
+
+
+def edges():
+    """Scripts at the limits: of a document, of the documents of an answer, of statements, of the longest line."""
+    def ping(size):
+        return [(b"ping", text(b"x" * (size - 27)))]
+
+    half = 8_388_608
+    yield lines_of(0, insert([sized(1, half)]), insert([sized(2, half)]), FIND, insert([sized(3, 23)]), FIND)
+    yield lines_of(0, ping(16_777_216), ping(16_777_217), FIND)
+    yield lines_of(0, insert([document([])] * 100_000, (b"ordered", boolean(False))))
+    yield lines_of(0, insert([document([])] * 100_001), FIND)
+    yield lines_of(0, insert([document([(b"_id", number(7 * i % 3_001))]) for i in range(3_000)]), FIND)
+    yield [b"#" * 131_200, b"0 2f", b"#" * 131_201]
+    yield from delete_edges()
+    yield from update_edges()
+
+
+def delete_edges():
+    many = insert([document([(b"_id", number(i))]) for i in range(1_000)])
+    for entry in ([], [ALL, (b"limit", number(1))]):
+        for count in (100_000, 100_001):
+            few = 3_000 if entry and count == 100_000 else count
+            yield lines_of(0, many, [(b"delete", text(b"c")), (b"deletes", array([document(entry)] * few)),
+                                     (b"ordered", boolean(bool(entry)))], FIND)
+
+
+def update_edges():
+    """At a document's size and levels, at an array's last slot, at 100,000 statements."""
+    def update(operator, path, operand):
+        return [(b"update", text(b"c")), (b"updates", array([document([ALL, (b"u", document([
+            (operator, document([(path, operand)]))]))])]))]
+
+    def find(path, operand):
+        return FIND + [(b"filter", document([(path, operand)]))]
+
+    full = 16_777_216
+    for size in (100, 101):
+        yield lines_of(0, insert([sized(1, full - 200)]), update(b"$set", b"y", text(b"x" * (size + 200 - 108))),
+                       find(b"y", document([(b"$exists", boolean(False))])))
+    for place in (100_000, 100_001):
+        path = b"a.%d" % place
+        yield lines_of(0, insert([document([(b"_id", number(1)), (b"a", array([number(1)]))])]), update(b"$set", path, number(2)),
+                       update(b"$inc", path + b"0.b", number(2)), update(b"$unset", b"a", number(2)),
+                       find(b"a", document([(b"$exists", boolean(True))])))
+    for levels in (98, 99, 100):
+        yield lines_of(0, insert([document([(b"_id", number(1))])]),
+                       update(b"$set", b".".join([b"d"] * levels), document([])), FIND)
+    for count in (3_000, 100_001):
+        change = document([(b"$inc", document([(b"n", number(1))]))])
+        entry = document([(b"q", document([(b"_id", number(1))])), (b"u", change)])
+        yield lines_of(0, insert([document([(b"_id", number(1))])]),
+                       [(b"update", text(b"c")), (b"updates", array([entry] * count))], FIND)

@@ -1,0 +1,66 @@
+"""What makes collections, views and indexes, and takes them away."""
+from model.indexes import ON_ID, entry_of, with_indexes
+from model.namespaces import joined, namespace
+from model.pipelines import pipeline_of
+from model.refusals import (BAD_VALUE, INDEX_NOT_FOUND, LIMIT_REACHED, NAMESPACE_EXISTS, NAMESPACE_NOT_FOUND, OK, ON_VIEW,
+                            READ_BY_VIEW, Refusal)
+from model.store import Collection, View
+from model.values import INT32, TEXT
+
+MOST_VIEWS = 1_000
+
+
+def create(store, database, fields):
+    place = namespace(database, fields[b"create"][1])
+    is_view, reads, functions = b"viewOn" in fields, [], []
+    if is_view:
+        reads = [namespace(database, fields[b"viewOn"][1])]
+        functions, names = pipeline_of(fields[b"pipeline"][1])
+        reads += [joined(database, name) for name in names]
+    if place in store.collections or place in store.views:
+        raise Refusal(NAMESPACE_EXISTS)
+    if not is_view:
+        store.collections[place] = Collection()
+        return [OK]
+    if any(name in store.views for name in reads):
+        raise Refusal(ON_VIEW)
+    if any(place in names for names in [reads, *(view.reads for view in store.views.values())]):
+        raise Refusal(READ_BY_VIEW)
+    if len(store.views) == MOST_VIEWS:
+        raise Refusal(LIMIT_REACHED)
+    store.views[place] = View(reads, functions)
+    return [OK]
+
+
+def drop(store, database, fields):
+    place = namespace(database, fields[b"drop"][1])
+    if store.collections.pop(place, None) is None and store.views.pop(place, None) is None:
+        raise Refusal(NAMESPACE_NOT_FOUND)
+    return [(b"ns", (TEXT, place)), OK]
+
+
+def create_indexes(store, database, fields):
+    place = namespace(database, fields[b"createIndexes"][1])
+    wanted = [entry_of(entry) for _, entry in fields[b"indexes"][1]]
+    if place in store.views:
+        raise Refusal(ON_VIEW)
+    old = store.collections[place].indexes if place in store.collections else [ON_ID]
+    new = with_indexes(old, wanted)
+    store.collections.setdefault(place, Collection()).indexes = new
+    return [(b"numIndexesBefore", (INT32, len(old))), (b"numIndexesAfter", (INT32, len(new))), OK]
+
+
+def drop_indexes(store, database, fields):
+    place, name = namespace(database, fields[b"dropIndexes"][1]), fields[b"index"][1]
+    if place in store.views:
+        raise Refusal(ON_VIEW)
+    if place not in store.collections:
+        raise Refusal(NAMESPACE_NOT_FOUND)
+    collection = store.collections[place]
+    old = collection.indexes
+    if name == ON_ID[0]:
+        raise Refusal(BAD_VALUE)
+    if name != b"*" and all(name != other for other, _ in old):
+        raise Refusal(INDEX_NOT_FOUND)
+    collection.indexes = [index for index in old if index == ON_ID or name not in (b"*", index[0])]
+    return [(b"nIndexesWas", (INT32, len(old))), OK]
