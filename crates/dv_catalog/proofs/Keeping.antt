@@ -6,7 +6,7 @@ use Rattle.std.specs.FinMap as finite
 use Rattle.std.specs.List.{AllByRecursion}
 use Rattle.std.specs.Str.{bytes_eq}
 use Rattle.dv_bson.specs.Tree.{Field}
-use Rattle.dv_flow.specs.declared.change.Change as flow
+use Rattle.dv_change.specs.declared.change.Change as flow
 use Rattle.dv_pipe.specs.Stages.{Lists}
 use Rattle.dv_views.specs.Changed.{AreAfterChange, AreMade, IsAfterChange, changed, with_changed}
 use Rattle.dv_views.specs.Views.{AreRight, View, Views}

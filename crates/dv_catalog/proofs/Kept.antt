@@ -6,7 +6,7 @@ use Rattle.dv_bson.specs.Tree.{Field}
 use Rattle.dv_coll.specs.Collection.{id_key}
 use Rattle.dv_command.specs.Asked.{ViewOn}
 use Rattle.dv_fields.specs.declared.refusal.Refusal.TheVariants.{NamespaceExists, NamespaceNotFound, WantOfMemory}
-use Rattle.dv_flow.specs.declared.change.Change as flow
+use Rattle.dv_change.specs.declared.change.Change as flow
 use Rattle.dv_pipe.specs.Sources as pipes
 use Rattle.dv_pipe.specs.Stages.{Lists, evaluated}
 use Rattle.dv_pipe.specs.declared.stage.Stage.{Stage}

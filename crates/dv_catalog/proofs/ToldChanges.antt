@@ -3,9 +3,9 @@ use Rattle.std.proofs.Common.{◌≡◌, List, [], ◌∷◌, ◌++◌, map, is_
 use Rattle.std.specs.List.{AllByRecursion}
 use Rattle.dv_bson.specs.Tree.{Field}
 use Rattle.dv_coll.specs.Collection.{HasId, IsAscending, found, id_key, inserted, removed, replaced}
-use Rattle.dv_flow.specs.declared.change.Change as flow
-use Rattle.dv_flow.specs.declared.change.Change.TheVariants.{Put, Gone}
-use Rattle.dv_flow.specs.declared.position.Part.TheVariants.{Up}
+use Rattle.dv_change.specs.declared.change.Change as flow
+use Rattle.dv_change.specs.declared.change.Change.TheVariants.{Put, Gone}
+use Rattle.dv_change.specs.declared.position.Part.TheVariants.{Up}
 use Rattle.dv_order.specs.Key.{KeyTree}
 use Rattle.dv_views.specs.Changed.{AreMade, AreMadeInTurn, IsMade, changed, own_position}
 use Rattle.dv_catalog.specs.Changes.{Change, put, gone, with_change, with_changes}

@@ -8,7 +8,7 @@ use Rattle.std.specs.Option.{option_map}
 use Rattle.dv_order.specs.Key.{KeyTree}
 use Rattle.dv_coll.specs.Collection.{AreStanding, HasId, IsAscending, found, has_key, id_key, inserted, replaced}
 use Rattle.dv_match.specs.Match.{matches}
-use Rattle.dv_update.specs.Same.{same_fields}
+use Rattle.dv_order.specs.Same.{same_fields}
 use Rattle.dv_catalog.specs.declared.effect.Updated.{Updated}
 use Rattle.dv_catalog.specs.EffectView.{ArePlaced, AreUpdatesOf, after_of}
 use Rattle.dv_catalog.proofs.Keys.{AreThere, all_there}

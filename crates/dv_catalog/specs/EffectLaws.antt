@@ -7,7 +7,7 @@ use Rattle.dv_coll.specs.Collection.{HasId, id_key}
 use Rattle.dv_match.specs.Filter.{Members}
 use Rattle.dv_match.specs.Match.{matches}
 use Rattle.dv_update.specs.Apply.{applied}
-use Rattle.dv_update.specs.Same.{same_fields}
+use Rattle.dv_order.specs.Same.{same_fields}
 use Rattle.dv_update.specs.Update as form
 use Rattle.dv_update.specs.declared.fault.UpdateFault.{UpdateFault}
 use Rattle.dv_fields.specs.Refusals.{◌>>=◌, refused_by, update_refusal}

@@ -3,7 +3,7 @@ use Rattle.std.specs.Prelude.{Bool, true, false, not, List, [], ◌∷◌, lengt
 use Rattle.dv_bson.specs.Tree.{Field, fields_of}
 use Rattle.dv_coll.specs.Collection.{id_key, found}
 use Rattle.dv_update.specs.Apply.{applied}
-use Rattle.dv_update.specs.Same.{same_fields}
+use Rattle.dv_order.specs.Same.{same_fields}
 use Rattle.dv_update.specs.Update as form
 use Rattle.dv_fields.specs.declared.refusal.Refusal.{Refusal}
 use Rattle.dv_fields.specs.declared.refusal.Refusal.TheVariants.{DuplicateKey}

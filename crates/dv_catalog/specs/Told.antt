@@ -1,8 +1,8 @@
 -- Changes of a collection as views are told of them.
 use Rattle.std.specs.Prelude.{[], ◌∷◌}
-use Rattle.dv_flow.specs.declared.change.Change as flow
-use Rattle.dv_flow.specs.declared.change.Change.TheVariants.{Put, Gone}
-use Rattle.dv_flow.specs.declared.position.Part.TheVariants.{Up}
+use Rattle.dv_change.specs.declared.change.Change as flow
+use Rattle.dv_change.specs.declared.change.Change.TheVariants.{Put, Gone}
+use Rattle.dv_change.specs.declared.position.Part.TheVariants.{Up}
 use Rattle.dv_coll.specs.Collection.{id_key}
 use Rattle.dv_catalog.specs.Changes.{Change, put, gone}
 

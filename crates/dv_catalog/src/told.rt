@@ -6,13 +6,13 @@ ghost use Rattle.dv_coll.specs.Collection.{HasId, id_key};
 ghost use Rattle.dv_catalog.specs.Changes as changing;
 ghost use Rattle.dv_catalog.specs.EffectView.{BeginsWithId, after_of, changes_seen};
 ghost use Rattle.dv_catalog.specs.Told as defined;
-ghost use Rattle.dv_flow.specs.declared.position.Part.TheVariants.{Up};
+ghost use Rattle.dv_change.specs.declared.position.Part.TheVariants.{Up};
 
 use crate::delete::key_of_id;
 use crate::effect::{Changes, Updated, Updates};
 use crate::rows::Rows;
 use dv_bson::{Document, NoMemory};
-use dv_flow::{Change, Part, Pos};
+use dv_change::{Change, Part, Pos};
 use dv_order::Key;
 use dv_update::Outcome;
 use std::alloc::Global;
@@ -112,5 +112,5 @@ fn place(alloc: Global, key: Key) -> Result<Pos, NoMemory>
 {
     let mut parts = Vec::with_capacity(alloc, 1)?;
     parts.push(Part::Up(key))?;
-    Ok(Pos::of(parts))
+    Pos::of(alloc, parts)
 }

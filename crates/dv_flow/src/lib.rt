@@ -1,10 +1,13 @@
-//! Changes of lists of rows.
+//! The simple stages of a pipeline, kept by changes. What they have in common stands in `dv_change`, without any stage, so that
+//! other stages can stand beside them.
 #![tactic(auto)]
 
-mod change;
-mod input;
-mod position;
+pub mod laws;
+mod matching;
+mod owing;
+mod project;
+mod taking;
 
-pub use change::Change;
-pub use input::Input;
-pub use position::{Part, Pos};
+pub use dv_change::{Chain, Change, Input, Part, Pos, Ticks, Turn};
+pub use matching::MatchTurn;
+pub use project::ProjectTurn;

@@ -1,6 +1,6 @@
 -- Worked examples: what $group and $lookup make of rows, the stage and the rows as they are written.
-use Rattle.std.specs.Prelude.{ℕ, pos, List, [], ◌∷◌, Result, Ok, Err, codes}
-use Rattle.dv_bson.specs.Tree.{Tree, int32, int64, string, document, array, null, Field, fields_of, elements_of}
+use Rattle.std.specs.Prelude.{ℕ, pos, true, List, [], ◌∷◌, Result, Ok, codes}
+use Rattle.dv_bson.specs.Tree.{Tree, int32, int64, string, document, array, boolean, null, Field, fields_of, elements_of}
 use Rattle.dv_row.specs.declared.fault.PipelineFault.{PipelineFault}
 use Rattle.dv_row.specs.Parsing.{◌>>=◌}
 use Rattle.dv_row.specs.Row.{Row}
@@ -38,6 +38,10 @@ group_rows =
 
 abbrev pub group_row : Tree → Tree → List Tree → Tree → Row
 group_row id least all sum = (codes "_id", id) ∷ (codes "lo", least) ∷ (codes "all", list all) ∷ (codes "s", sum) ∷ []
+
+-- "x", 3, true, [5]: values of four classes
+abbrev pub mixed : List Tree
+mixed = text (codes "x") ∷ int 3 ∷ boolean true ∷ list (int 5 ∷ []) ∷ []
 
 -- what a $group makes of rows
 abbrev pub after_group : Tree → List Row → Result (List Row) PipelineFault

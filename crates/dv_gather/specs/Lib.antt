@@ -1,3 +1,4 @@
+pub mod Counting
 pub mod Examples
 pub mod Extremes
 pub mod Gathering
@@ -8,6 +9,7 @@ pub mod Grouping
 pub mod Groups
 pub mod Joining
 pub mod KeySets
+pub mod Leading
 pub mod Lookups
 pub mod Places
 pub mod Sums

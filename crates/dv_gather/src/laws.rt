@@ -1,19 +1,24 @@
 //! What holds of groups, sums and lookups, each the contract of a function that does nothing.
 
-ghost use Rattle.std.specs.Prelude.{◌≡◌, ◌++◌, ◌∷◌, ◌<◌, ◌^◌, ◌-ℤ◌, ℤ, pos, List, [], filter, length, map, Ok, codes};
+ghost use Rattle.std.specs.Prelude.{◌≡◌, ◌++◌, ◌∷◌, ◌<◌, ◌^◌, ◌-ℤ◌, ℤ, pos, List, [], filter, length, map, Bool, true, Some, None, Ok, Err, codes};
+ghost use Rattle.std.specs.List.{list_all};
 ghost use Rattle.std.specs.List.Sorted.{IsStrictlySortedBy};
 ghost use Rattle.std.specs.Ordering.{is_eq};
-ghost use Rattle.dv_bson.specs.Tree.{Tree, int32, int64, array, null, no_elements};
+ghost use Rattle.std.specs.declared.cmp.Ordering.TheVariants.{Less, Greater};
+ghost use Rattle.dv_bson.specs.Tree.{Tree, int32, int64, array, boolean, null, no_elements, elements_of};
 ghost use Rattle.dv_bson.specs.Spelling.{IsValue};
 ghost use Rattle.dv_order.specs.Order.{order};
-ghost use Rattle.dv_row.specs.Expressions.{constant};
+ghost use Rattle.dv_row.specs.declared.fault.PipelineFault.TheVariants.{BadSpec};
+ghost use Rattle.dv_row.specs.Expressions.{Expression, constant, value_of};
 ghost use Rattle.dv_row.specs.Row.{Row};
 ghost use Rattle.dv_row.specs.Valid.{AreValid};
+ghost use Rattle.dv_gather.specs.Counting.{is_number};
 ghost use Rattle.dv_gather.specs.Examples as examples;
 ghost use Rattle.dv_gather.specs.GroupParsing.{group_in};
 ghost use Rattle.dv_gather.specs.declared.lookup.Lookup as lookups;
-ghost use Rattle.dv_gather.specs.Grouping.{Grouping, accumulated, grouped, values_over};
-ghost use Rattle.dv_gather.specs.Groups.{Keyed, keys_of};
+ghost use Rattle.dv_gather.specs.Grouping.{Grouping, accumulated, group_row, grouped, key_in, keyed, values_over};
+ghost use Rattle.dv_gather.specs.Groups.{Keyed, groups_of, keys_of};
+ghost use Rattle.dv_gather.specs.Leading.{IsLeader};
 ghost use Rattle.dv_gather.specs.Lookups.{looked_up, lookup_in, set_field};
 ghost use Rattle.dv_gather.specs.Sums.{sum_of};
 
@@ -26,10 +31,54 @@ pub fn each_row_is_in_one_group()
     ensures one { (before after : List Keyed) (row : Keyed) → length (filter (λ k. is_eq (order row.0 k)) (keys_of (before ++ row ∷ after))) ≡ 1 }
 {}
 
+/// A group is made of the rows whose key compares equal to the group's, in their order, and a group's key is the key of a row.
+#[tactic(auto, using(crate::proofs::Parted::groups_filter, crate::proofs::Parted::grouped_filter, crate::proofs::Parted::no_other_key))]
+pub fn groups_are_parted_by_their_keys()
+    ensures parted { (rows : List Keyed) → groups_of rows ≡ map (λ k. map (λ row. row.1) (filter (λ row. is_eq (order k row.0)) rows)) (keys_of rows) }
+    ensures grouped { (group : Grouping) (rows : List Row) → grouped group rows ≡ map (λ k. group_row group (filter (λ row. is_eq (order k (key_in group row))) rows)) (keys_of (map (keyed group) rows)) }
+    ensures no_other_key { (holds : Tree → Bool) (rows : List Keyed) → list_all (λ row. holds row.0) rows ≡ true → list_all holds (keys_of rows) ≡ true }
+{}
+
+/// A sum is that of the numbers among the values: no other value counts.
+#[tactic(auto, using(crate::proofs::Parted::sum_numbers))]
+pub fn only_numbers_count()
+    ensures { (vs : List Tree) → accumulated Accumulator.Sum vs ≡ accumulated Accumulator.Sum (filter is_number vs) }
+{}
+
+/// `$push` puts the value of each row behind those of the rows before it, and a row without a value counts nowhere.
+#[tactic(auto, using(crate::proofs::Parted::pushed_last, crate::proofs::Parted::missing_left_out))]
+pub fn values_are_pushed_in_order()
+    ensures pushed { (e : Expression) (rows : List Row) (row : Row) (v : Tree) → value_of e row ≡ Some v → accumulated Accumulator.Push (values_over e (rows ++ row ∷ [])) ≡ array (elements_of (values_over e rows ++ v ∷ [])) }
+    ensures left_out { (e : Expression) (rows : List Row) (row : Row) → value_of e row ≡ None → values_over e (rows ++ row ∷ []) ≡ values_over e rows }
+{}
+
+/// Values of four classes, "x", 3, true and [5]: each class counts for the least and the greatest, and numbers alone in a sum.
+#[tactic(auto, using(crate::proofs::Worked::mixed_least, crate::proofs::Worked::mixed_greatest, crate::proofs::Worked::mixed_sum))]
+pub fn values_of_four_classes()
+    ensures least { accumulated Accumulator.Min examples.mixed ≡ examples.int 3 }
+    ensures greatest { accumulated Accumulator.Max examples.mixed ≡ boolean true }
+    ensures sum { accumulated Accumulator.Sum examples.mixed ≡ examples.int 3 }
+{}
+
+/// A `$group` without `_id` is refused, and so is a `$lookup` with a member beside its four.
+#[tactic(auto, using(crate::proofs::Worked::no_key, crate::proofs::Worked::a_fifth_option))]
+pub fn forms_that_are_refused()
+    ensures no_key { group_in (examples.doc (examples.by (codes "n") (codes "$sum") (examples.int 1) ∷ [])) ≡ Err BadSpec }
+    ensures a_fifth_option { lookup_in (examples.doc ((codes "from", examples.text (codes "d")) ∷ (codes "localField", examples.text (codes "p")) ∷ (codes "foreignField", examples.text (codes "f")) ∷ (codes "as", examples.text (codes "o")) ∷ (codes "pipeline", examples.list []) ∷ [])) ≡ Err BadSpec }
+{}
+
 /// A sum of ones counts the rows.
 #[tactic(auto, using(crate::proofs::GatherLaws::ones_count))]
 pub fn a_sum_of_ones_counts()
     ensures { (rows : List Row) → length rows < 2 ^ 31 → accumulated Accumulator.Sum (values_over (constant (int32 (pos 1))) rows) ≡ int32 (pos (length rows)) }
+{}
+
+/// `$min` is the first of the least values and `$max` the first of the greatest, null left out; of null alone, or of nothing, it is
+/// null.
+#[tactic(auto, using(crate::proofs::Leaders::least_leads, crate::proofs::Leaders::greatest_leads))]
+pub fn extremes_lead()
+    ensures least { (vs : List Tree) → IsLeader Less vs (accumulated Accumulator.Min vs) }
+    ensures greatest { (vs : List Tree) → IsLeader Greater vs (accumulated Accumulator.Max vs) }
 {}
 
 /// An int64 and its opposite sum up to an int64 zero.

@@ -1,3 +1,3 @@
 pub mod Absent
-pub mod SameOrder
 pub mod Steps
+pub mod SameLeft

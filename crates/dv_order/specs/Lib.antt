@@ -3,3 +3,7 @@ pub mod Key
 pub mod TotalOrder
 pub mod KeyLaws
 pub mod Source
+pub mod SameOrder
+pub mod OwnKeys
+pub mod Same
+pub mod SameLaws

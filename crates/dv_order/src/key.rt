@@ -11,6 +11,7 @@ ghost use Rattle.dv_bson.specs.View.{tree};
 ghost use Rattle.dv_order.specs.Order.{canon};
 ghost use Rattle.dv_order.specs.Key.{first_value, key_at, key_class, key_order, no_element, value as key_of_tree};
 ghost use Rattle.dv_order.specs.KeyLaws.{key_order_total};
+ghost use Rattle.dv_order.specs.OwnKeys.{IsOwn};
 
 use crate::comparison::{class_of, compare};
 use dv_bson::{Document, NoMemory, Value};
@@ -105,6 +106,13 @@ impl Key {
         }
     }
 
+    /// That it is the key of some value, or the one that no value has. Does nothing.
+    pub fn is_own(&self)
+        ensures { IsOwn self.now }
+    {
+        let _element = self.element();
+    }
+
     /// The value whose key it is, where there is one.
     fn element(&self) -> Option<&Value>
         ensures { key_at (option_map (λ value. tree value.now) result) ≡ self.now }
@@ -120,7 +128,7 @@ impl Key {
     }
 
     /// Where the key stands among the classes of values.
-    #[tactic(auto, using(crate::proofs::SameOrder::class_of_canon))]
+    #[tactic(auto, using(crate::specs::SameOrder::class_of_canon))]
     fn class(&self) -> u8
         ensures { result ≡ key_class self.now }
     {
@@ -207,7 +215,7 @@ impl Ord for Key {
 
     ghost matches_eq = { λ x y. refl };
 
-    #[tactic(auto, using(crate::proofs::SameOrder::order_of_canon))]
+    #[tactic(auto, using(crate::specs::SameOrder::order_of_canon))]
     fn cmp(&self, other: &Key) -> Ordering {
         // Most keys are those of integers, and these are known at once.
         if let (Source::Element(Value::Int64(a)), Source::Element(Value::Int64(b))) = (

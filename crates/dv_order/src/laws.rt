@@ -5,7 +5,9 @@ ghost use Rattle.std.specs.declared.cmp.Ordering.TheVariants.{Less, Equal};
 ghost use Rattle.std.specs.Ordering.{ordering_reverse, is_ne};
 ghost use Rattle.dv_bson.specs.Tree.{Tree, int32, int64, string, document, array, boolean, binary, object_id, date, null, timestamp, min_key, max_key, fields_of, Fields, Elements, elements_of};
 ghost use Rattle.dv_order.specs.Order.{canon, class, order, below};
+ghost use Rattle.dv_bson.specs.Tree.{Field};
 ghost use Rattle.dv_order.specs.Key.{key_at, key_order, no_element, value};
+ghost use Rattle.dv_order.specs.Same.{is_same, same_fields};
 
 /// Any two values compare, and either way round alike.
 #[tactic(auto, using(crate::specs::TotalOrder::order_total))]
@@ -20,25 +22,32 @@ pub fn below_is_transitive()
 {}
 
 /// Two values stand beside each other exactly where they differ in the width of integers at most.
-#[tactic(auto, using(crate::proofs::SameOrder::equal_is_canon))]
+#[tactic(auto, using(crate::specs::SameOrder::equal_is_canon))]
 pub fn equal_is_same_but_for_widths()
     ensures { (v w : Tree) → (order v w ≡ Equal) ↔ (canon v ≡ canon w) }
 {}
 
 /// Keys stand as the values stand that they are made of.
-#[tactic(auto, using(crate::proofs::SameOrder::order_of_canon))]
+#[tactic(auto, using(crate::specs::SameOrder::order_of_canon))]
 pub fn keys_stand_as_their_values()
     ensures { (v w : Tree) → key_order (value (canon v)) (value (canon w)) ≡ order v w }
 {}
 
 /// Keys that stand beside each other are one: a key has nothing but what the order sees.
-#[tactic(auto, using(crate::proofs::SameOrder::same_key))]
+#[tactic(auto, using(crate::specs::SameOrder::same_key))]
 pub fn equal_keys_are_one()
     ensures { (v w : Option Tree) → key_order (key_at v) (key_at w) ≡ Equal → key_at v ≡ key_at w }
 {}
 
+/// Values are the same where each part is, and so are documents.
+#[tactic(auto, using(crate::specs::SameLaws::same_values, crate::specs::SameLaws::same_documents))]
+pub fn sameness_is_equality()
+    ensures values { (v w : Tree) → (is_same v w ≡ true) ↔ (v ≡ w) }
+    ensures documents { (d e : List Field) → (same_fields (fields_of d) (fields_of e) ≡ true) ↔ (d ≡ e) }
+{}
+
 /// A value of a lower class stands before each one of a higher class.
-#[tactic(auto, using(crate::proofs::SameOrder::lower_class))]
+#[tactic(auto, using(crate::specs::SameOrder::lower_class))]
 pub fn lower_classes_stand_first()
     ensures { (v w : Tree) → class v < class w → below v w }
 {}
@@ -74,6 +83,7 @@ pub fn examples_within_a_class()
     ensures integers_of_each_width { order (int32 (pos 5)) (int64 (pos 5)) ≡ Equal }
     ensures strings_by_bytes { below (string (codes "B")) (string (codes "a")) }
     ensures a_string_before_a_longer_one { below (string (codes "a")) (string (codes "ab")) }
+    ensures a_byte_before_a_length { below (string (codes "ab")) (string (codes "b")) }
     ensures a_class_before_a_name { below (document (fields_of ((codes "b", int32 (pos 1)) ∷ []))) (document (fields_of ((codes "a", string []) ∷ []))) }
     ensures a_name_before_a_value { below (document (fields_of ((codes "a", int32 (pos 2)) ∷ []))) (document (fields_of ((codes "b", int32 (pos 1)) ∷ []))) }
     ensures a_value_before_the_number_of_fields { below (document (fields_of ((codes "a", int32 (pos 1)) ∷ (codes "b", int32 (pos 2)) ∷ []))) (document (fields_of ((codes "a", int64 (pos 2)) ∷ []))) }

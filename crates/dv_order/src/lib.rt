@@ -4,6 +4,8 @@
 mod comparison;
 mod key;
 pub mod laws;
+mod same;
 
 pub use comparison::{compare, same_class};
 pub use key::{Key, key_of, replace_under_first};
+pub use same::{is_same, same_documents};

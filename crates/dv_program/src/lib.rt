@@ -14,6 +14,4 @@ pub mod script;
 pub mod serve;
 mod sessions;
 pub mod streams;
-#[cfg(test)]
-mod tests;
 pub mod words;

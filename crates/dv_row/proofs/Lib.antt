@@ -1,12 +1,16 @@
 pub mod Compared
+pub mod ComputedFields
 pub mod Conflicting
 pub mod Dollars
+pub mod ElementRows
 pub mod Items
 pub mod Left
 pub mod Members
 pub mod Ordered
 pub mod Same
+pub mod ShownFields
 pub mod Sound
 pub mod Standing
 pub mod Taken
 pub mod Unwound
+pub mod Worked

@@ -1,6 +1,7 @@
 pub mod AskedView
 pub mod Conflicts
 pub mod EachLaws
+pub mod Examples
 pub mod Expressions
 pub mod ExpressionCode
 pub mod ExpressionFalls
@@ -12,6 +13,7 @@ pub mod Projecting
 pub mod ProjectParsing
 pub mod Row
 pub mod RowValueView
+pub mod Shown
 pub mod Unwinding
 pub mod Valid
 pub mod ValidRows

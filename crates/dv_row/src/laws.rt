@@ -1,17 +1,26 @@
 //! What holds of what stages make of one row, each the contract of a function that does nothing.
 
-ghost use Rattle.std.specs.Prelude.{◌≡◌, Bool, Ok};
+ghost use Rattle.std.specs.Prelude.{◌≡◌, ◌≢◌, ◌⊎◌, ℕ, Bool, true, false, List, [], ◌∷◌, ◌++◌, ◌||◌, ◌&&◌, not, filter, map, Some, None, Ok, Err, codes};
+ghost use Rattle.std.specs.List.{AllByRecursion, list_any};
 ghost use Rattle.std.specs.Option.{IfSome};
+ghost use Rattle.dv_bson.specs.Names.{AreNamed, bare};
 ghost use Rattle.dv_bson.specs.Spelling.{IsValue};
-ghost use Rattle.dv_bson.specs.Tree.{Tree};
+ghost use Rattle.dv_bson.specs.Tree.{Tree, array, null, Elements, no_elements, element, list_of_elements};
+ghost use Rattle.dv_path.specs.Placing.{put};
+ghost use Rattle.dv_path.specs.Removing.{remove};
+ghost use Rattle.dv_row.specs.declared.fault.PipelineFault.TheVariants.{BadSpec};
+ghost use Rattle.dv_row.specs.Examples.{int, long, text, doc, list, shown};
 ghost use Rattle.dv_row.specs.declared.project.Project as projects;
+ghost use Rattle.dv_row.specs.declared.project.Project.TheVariants.{Exclude, Include};
 ghost use Rattle.dv_row.specs.declared.unwind.Unwind as unwinds;
 ghost use Rattle.dv_row.specs.ExpressionParsing.{expression_in};
-ghost use Rattle.dv_row.specs.Expressions.{Expression, value_of};
+ghost use Rattle.dv_row.specs.Expressions.{Expression, computed_of, nothing, value_of};
+ghost use Rattle.dv_row.specs.Parsing.{unwind_in, unwinding};
 ghost use Rattle.dv_row.specs.Projecting.{projected};
 ghost use Rattle.dv_row.specs.ProjectParsing.{project_in};
 ghost use Rattle.dv_row.specs.Row.{Row};
-ghost use Rattle.dv_row.specs.Unwinding.{unwound};
+ghost use Rattle.dv_row.specs.Shown.{begins, computed_fields, has_parts, is_met, is_named, names};
+ghost use Rattle.dv_row.specs.Unwinding.{reached, unwound};
 ghost use Rattle.dv_row.specs.Valid.{AreValid, IsValid};
 
 /// What comes of a valid row is valid, where what says so was read from a valid value.
@@ -20,4 +29,67 @@ pub fn what_comes_of_a_valid_row_is_valid()
     ensures values { (plain : Bool) (v : Tree) (e : Expression) (row : Row) → IsValue v → expression_in plain v ≡ Ok e → IsValid row → IfSome (value_of e row) IsValue }
     ensures projected { (v : Tree) (p : projects.Project) (row : Row) → IsValue v → project_in v ≡ Ok p → IsValid row → IsValid (projected p row) }
     ensures unwound { (u : unwinds.Unwind) (row : Row) → IsValid row → AreValid (unwound u row) }
+{}
+
+/// An `$unwind` gives a row for each element, in their order: the row with the element put in the array's place. Of a value
+/// that is no array it gives the row as it is.
+#[tactic(auto, using(crate::proofs::ElementRows::a_row_each, crate::proofs::ElementRows::the_row_itself))]
+pub fn each_element_has_its_row()
+    ensures elements { (u : unwinds.Unwind) (row : Row) (v : Tree) (vs : Elements) → reached u.path row ≡ Some (array (element v vs)) → map (put row u.path) (v ∷ list_of_elements vs) ≡ map Ok (unwound u row) }
+    ensures itself { (u : unwinds.Unwind) (row : Row) (v : Tree) → reached u.path row ≡ Some v → v ≢ null → ((vs : Elements) → v ≢ array vs) → unwound u row ≡ row ∷ [] }
+{}
+
+/// Nothing, null and an array of no elements give no row. Where such rows are preserved each gives one: as it is, or without
+/// the empty array; the others give what they gave.
+#[tactic(auto, using(crate::proofs::ElementRows::no_row, crate::proofs::ElementRows::preserved_row, crate::proofs::ElementRows::without_the_array, crate::proofs::ElementRows::no_more))]
+pub fn what_is_dropped_can_be_preserved()
+    ensures dropped { (path : List (List ℕ)) (row : Row) → (reached path row ≡ None) ⊎ (reached path row ≡ Some null) ⊎ (reached path row ≡ Some (array no_elements)) → unwound (unwinding path false) row ≡ [] }
+    ensures preserved { (path : List (List ℕ)) (row : Row) → (reached path row ≡ None) ⊎ (reached path row ≡ Some null) → unwound (unwinding path true) row ≡ row ∷ [] }
+    ensures without_the_array { (path : List (List ℕ)) (row : Row) → reached path row ≡ Some (array no_elements) → unwound (unwinding path true) row ≡ remove row path ∷ [] }
+    ensures no_more { (path : List (List ℕ)) (row first : Row) (rest : List Row) → unwound (unwinding path false) row ≡ first ∷ rest → unwound (unwinding path true) row ≡ first ∷ rest }
+{}
+
+/// Of a row's fields those that a path names stay, each as it is, and those that hold others where a path leads through them;
+/// nothing else stays, and the order is the row's.
+#[tactic(auto, using(crate::proofs::ShownFields::included_names, crate::proofs::ShownFields::included_kept))]
+pub fn included_fields_alone_stay()
+    ensures names { (paths : List (List (List ℕ))) (row : Row) → names (projected (Include paths nothing) row) ≡ names (filter (λ f. is_named paths f || is_met paths f && has_parts f.1) row) }
+    ensures kept { (paths : List (List (List ℕ))) (row : Row) → filter (is_named paths) (projected (Include paths nothing) row) ≡ filter (is_named paths) row }
+{}
+
+/// The fields that an excluded path names go, and no others; those that no path meets stay as they are, in the row's order.
+#[tactic(auto, using(crate::proofs::ShownFields::excluded_names, crate::proofs::ShownFields::excluded_kept))]
+pub fn excluded_fields_alone_go()
+    ensures names { (paths : List (List (List ℕ))) (row : Row) → names (projected (Exclude paths) row) ≡ names (filter (λ f. not (is_named paths f)) row) }
+    ensures kept { (paths : List (List (List ℕ))) (row : Row) → filter (λ f. not (is_met paths f)) (projected (Exclude paths) row) ≡ filter (λ f. not (is_met paths f)) row }
+{}
+
+/// Behind what is included stand the computed fields, in the stage's order, each with the value of its expression over the row;
+/// one without a value is left out. The names are apart, and no path begins with one of them.
+#[tactic(auto, using(crate::proofs::ComputedFields::computed_stand_last))]
+pub fn computed_fields_stand_last()
+    ensures { (paths : List (List (List ℕ))) (es : List (List ℕ × Expression)) (row : Row) → AreNamed (map (λ e. bare e.0) es) → AllByRecursion (λ e. list_any (begins e.0) paths ≡ false) es → projected (Include paths (computed_of es)) row ≡ projected (Include paths nothing) row ++ computed_fields es row }
+{}
+
+/// An array of which nothing is left stays; int64s are switches; `_id` stays in front, and what is computed stands last.
+#[tactic(auto, using(crate::proofs::Worked::arrays_stay, crate::proofs::Worked::a_long_on, crate::proofs::Worked::a_long_off, crate::proofs::Worked::computed_behind))]
+pub fn examples_of_showing()
+    ensures arrays_stay { shown ((codes "a.c", int 1) ∷ (codes "b.c", int 1) ∷ []) ((codes "_id", int 1) ∷ (codes "a", list (int 7 ∷ [])) ∷ (codes "b", list []) ∷ []) ≡ Ok ((codes "_id", int 1) ∷ (codes "a", list []) ∷ (codes "b", list []) ∷ []) }
+    ensures a_long_on { shown ((codes "a", long 1) ∷ []) ((codes "_id", int 1) ∷ (codes "a", int 5) ∷ (codes "b", int 6) ∷ []) ≡ Ok ((codes "_id", int 1) ∷ (codes "a", int 5) ∷ []) }
+    ensures a_long_off { shown ((codes "a", long 0) ∷ []) ((codes "_id", int 1) ∷ (codes "a", int 5) ∷ (codes "b", int 6) ∷ []) ≡ Ok ((codes "_id", int 1) ∷ (codes "b", int 6) ∷ []) }
+    ensures computed_behind { shown ((codes "x", text (codes "$b")) ∷ (codes "y", text (codes "$c")) ∷ (codes "a", int 1) ∷ []) ((codes "_id", int 1) ∷ (codes "a", int 5) ∷ (codes "b", int 6) ∷ []) ≡ Ok ((codes "_id", int 1) ∷ (codes "a", int 5) ∷ (codes "x", int 6) ∷ []) }
+{}
+
+/// Forms that are refused: a dollar sign with no path behind it, a switch inside a document, a field that is computed beside one
+/// that is excluded, a part of `_id`, null for a boolean.
+#[tactic(auto, using(crate::proofs::Worked::a_dollar_alone, crate::proofs::Worked::an_empty_component, crate::proofs::Worked::a_switch_inside, crate::proofs::Worked::computed_after_excluded, crate::proofs::Worked::excluded_after_computed, crate::proofs::Worked::a_part_of_id, crate::proofs::Worked::unwinding_a_dollar, crate::proofs::Worked::preserving_null))]
+pub fn forms_that_are_refused()
+    ensures a_dollar_alone { project_in (doc ((codes "x", text (codes "$")) ∷ [])) ≡ Err BadSpec }
+    ensures an_empty_component { project_in (doc ((codes "x", text (codes "$a..b")) ∷ [])) ≡ Err BadSpec }
+    ensures a_switch_inside { project_in (doc ((codes "x", doc ((codes "y", long 1) ∷ [])) ∷ [])) ≡ Err BadSpec }
+    ensures computed_after_excluded { project_in (doc ((codes "a", int 0) ∷ (codes "x", text (codes "$b")) ∷ [])) ≡ Err BadSpec }
+    ensures excluded_after_computed { project_in (doc ((codes "x", text (codes "$b")) ∷ (codes "a", int 0) ∷ [])) ≡ Err BadSpec }
+    ensures a_part_of_id { project_in (doc ((codes "_id.x", int 0) ∷ [])) ≡ Err BadSpec }
+    ensures unwinding_a_dollar { unwind_in (text (codes "$")) ≡ Err BadSpec }
+    ensures preserving_null { unwind_in (doc ((codes "path", text (codes "$a")) ∷ (codes "preserveNullAndEmptyArrays", null) ∷ [])) ≡ Err BadSpec }
 {}

@@ -1,50 +1,48 @@
 //! The candidates of a path, listed.
 
-use crate::sample::Sample::{Array, Doc, Int32};
-use crate::sample::{Sample, value_of};
-use dv_bson::{Document, Value};
+use crate::spelled::document;
+use dv_bson::Value;
 use dv_path::{Candidate, Path, leaves, whole};
-use std::alloc::Global;
-use std::test::*;
+use std::test::Fail;
 
-/// How many of them are missing.
-fn missing(candidates: &[Candidate<'_>]) -> usize {
-    candidates
-        .iter()
-        .filter(|candidate| matches!(candidate, Candidate::Missing))
-        .count()
+/// `{a: [{b: 1}, {b: 2}, {}]}`.
+const FOUND: &[u8] =
+    b"3\0\0\0\x04a\0+\0\0\0\x030\0\x0c\0\0\0\x10b\0\x01\0\0\0\0\x031\0\x0c\0\0\0\x10b\0\x02\0\0\0\0\x032\0\x05\0\0\0\0\0\0";
+
+/// A candidate's number, and -1 for a missing one.
+fn number(candidate: &Candidate<'_>) -> i32 {
+    match candidate {
+        Candidate::Found(Value::Int32(number)) => *number,
+        Candidate::Found(_) => 0,
+        Candidate::Missing => -1,
+    }
 }
-
-/// Whether one of them is 2.
-fn has_two(candidates: &[Candidate<'_>]) -> bool {
-    candidates.iter().any(|candidate| matches!(candidate, Candidate::Found(Value::Int32(2))))
-}
-
-/// How many candidates a path has in `{a: sample}` and how many of them are missing; how many leaves, and whether one is 2.
-fn counts(alloc: Global, text: &str, sample: &Sample) -> Result<(usize, usize, usize, bool), Fail> {
-    let mut document = Document::new(alloc);
-    document.push("a", value_of(alloc, sample)?)?;
-    let path = Path::parse(alloc, text)?;
-    let found = whole(alloc, &document, &path)?;
-    let leaves = leaves(alloc, &document, &path)?;
-    Ok((found.len(), missing(&found), leaves.len(), has_two(&leaves)))
-}
-
-const PAIR: Sample<'static> = Array(&[Doc(&["b"], &[Int32(1)]), Doc(&["b"], &[Int32(2)])]);
-
-/// A path, the value of the field `a`, and these counts.
-const CASES: &[(&str, Sample<'static>, (usize, usize, usize, bool))] = &[
-    ("a.b", PAIR, (2, 0, 2, true)),
-    ("a.0.b", PAIR, (3, 2, 3, false)),
-    ("a.b", Array(&[Int32(5)]), (0, 0, 0, false)),
-    ("a.b", Int32(2), (1, 1, 1, false)),
-    ("a", Array(&[Int32(1), Int32(2)]), (1, 0, 3, true)),
-];
 
 #[test]
-fn arrays_are_entered_and_picked(rt: HostRuntime) -> Result<(), Fail> {
-    for (text, sample, expected) in CASES {
-        assert_eq!(rt; counts(rt.alloc(), text, sample)?, *expected, "{text}");
-    }
+fn candidates_are_listed(rt: HostRuntime) -> Result<(), Fail> {
+    let alloc = rt.alloc();
+    let document = document(alloc, FOUND)?;
+    let path = Path::parse(alloc, "a.b")?;
+    let found: Vec<i32> = whole(alloc, &document, &path)?
+        .iter()
+        .map(number)
+        .collect(alloc)?;
+    assert_eq!(rt; found.as_slice(), [1, 2, -1].as_slice());
+    Ok(())
+}
+
+/// `{a: [1, 2]}`.
+const ARRAY: &[u8] = b"\x1b\0\0\0\x04a\0\x13\0\0\0\x100\0\x01\0\0\0\x101\0\x02\0\0\0\0\0";
+
+#[test]
+fn leaves_are_listed(rt: HostRuntime) -> Result<(), Fail> {
+    let alloc = rt.alloc();
+    let document = document(alloc, ARRAY)?;
+    let path = Path::parse(alloc, "a")?;
+    let found: Vec<i32> = leaves(alloc, &document, &path)?
+        .iter()
+        .map(number)
+        .collect(alloc)?;
+    assert_eq!(rt; found.as_slice(), [0, 1, 2].as_slice());
     Ok(())
 }

@@ -9,7 +9,6 @@ pub mod Placed
 pub mod PutThere
 pub mod Replacing
 pub mod SameLeft
-pub mod Sameness
 pub mod Sound
 pub mod Texts
 pub mod Valid

@@ -7,11 +7,11 @@ use Rattle.dv_bson.specs.declared.value.Value.{Value}
 use Rattle.dv_path.specs.Placing.{put}
 use Rattle.dv_path.specs.Slots.{slot, taken}
 use Rattle.dv_update.specs.Apply.{Path, told, is_beyond, set_at, is_pulled, left}
-use Rattle.dv_update.specs.Same.{is_same}
+use Rattle.dv_order.specs.Same.{is_same}
 use Rattle.dv_update.specs.Update.{Pulled}
 use Rattle.dv_update.specs.declared.fault.UpdateFault.TheVariants.{TooDeep}
 use Rattle.dv_update.proofs.PutThere.{put-again}
-use Rattle.dv_update.proofs.Sameness.{same-is}
+use Rattle.dv_order.specs.SameLaws.{same-is}
 
 -- where a value stands, none comes deeper than it
 pub put_taken : (d : List Field) (path : Path) (w v : Tree) → slot d path ≡ taken w → set_at path v d ≡ told (put d path v)

@@ -11,14 +11,14 @@ use Rattle.dv_path.specs.Slots.{slot, slot_of, taken}
 use Rattle.dv_update.specs.Apply.{Path, told, set_at, increased, edit_at, edited, checked, applied, is_id, leading_id, document_limit, level_limit}
 use Rattle.dv_update.specs.Outcome.{HasRoom, edit_under, sole_edit, sole_name, name_of, value_by}
 use Rattle.dv_update.specs.Parsing.{◌>>=◌}
-use Rattle.dv_update.specs.Same.{both_same, is_same, same_fields}
+use Rattle.dv_order.specs.Same.{both_same, is_same, same_fields}
 use Rattle.dv_update.specs.Update.{Operation, assign, take_away, increase, append, pull, Update, operators, replacement}
 use Rattle.dv_update.specs.declared.fault.UpdateFault.{UpdateFault}
 use Rattle.dv_update.specs.declared.fault.UpdateFault.TheVariants.{IdChanged, TooLarge, TooDeep}
 use Rattle.dv_update.proofs.Items.{fields_again}
 use Rattle.dv_update.proofs.Lawful.{same_documents}
 use Rattle.dv_update.proofs.Made.{put_taken}
-use Rattle.dv_update.proofs.Sameness.{same-itself, same-fields, fields-itself}
+use Rattle.dv_order.specs.SameLaws.{same-itself, same-fields, fields-itself}
 
 -- what dv_bson's law says of spellings
 abbrev pub FieldAdds : Type 0

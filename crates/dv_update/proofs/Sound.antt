@@ -23,7 +23,7 @@ use Rattle.dv_update.specs.Apply.{Path, told, is_beyond, set_at, integer, is_nar
 use Rattle.dv_path.specs.Names.{has_bad_name}
 use Rattle.dv_update.specs.Parsing.{◌>>=◌, operator_named, number_to_add, members, each_alone, values_to_push, condition, values_to_pull, operation_by, plain, edit_by, edits_by, edits_under, edits_in, has_conflict, placed, sorted, in_order, replacement_of, update_of}
 use Rattle.dv_update.specs.PathOrder.{path_order}
-use Rattle.dv_update.specs.Same.{both_same}
+use Rattle.dv_order.specs.Same.{both_same}
 use Rattle.dv_update.specs.Update.{Operation, assign, take_away, increase, append, pull, Pulled, Edit, Update, replacement, operators}
 use Rattle.dv_update.specs.declared.fault.UpdateFault.{UpdateFault}
 use Rattle.dv_update.specs.declared.fault.UpdateFault.TheVariants.{UnknownOperator, Conflict, Overflow, IdChanged, TooLarge, TooDeep, BadName}
@@ -31,7 +31,7 @@ use Rattle.dv_update.specs.declared.number.Number.{Number}
 use Rattle.dv_update.specs.declared.number.Number.TheVariants.{Int32, Int64}
 use Rattle.dv_update.specs.declared.operator.Operator.{Operator}
 use Rattle.dv_update.specs.declared.operator.Operator.TheVariants.{Set, Unset, Inc, Push, Pull}
-use Rattle.dv_update.proofs.Sameness.{and-left, and-right}
+use Rattle.dv_order.specs.SameLaws.{and-left, and-right}
 use Rattle.dv_update.proofs.Texts.{IsUtf8-parts}
 use Rattle.dv_update.proofs.Valid.{either, IsName, AreNames, AreValues, AreValid, IsThere, listed-fields, fields-valid, valid-fields, listed-elements, valid-elements, value_under-valid, slot-valid, put-valid, remove-valid, with_id-valid}
 

@@ -7,7 +7,6 @@ pub mod Outcome
 pub mod Parsing
 pub mod PathOrder
 pub mod PathOrderLaws
-pub mod Same
 pub mod Update
 pub mod UpdateCode
 pub mod UpdateView

@@ -7,7 +7,7 @@ use Rattle.dv_bson.specs.Tree.{Tree, document, Field, fields_of}
 use Rattle.dv_bson.specs.View.{tree}
 use Rattle.dv_path.specs.Slots.{taken}
 use Rattle.dv_update.specs.Apply.{Path, increased}
-use Rattle.dv_update.specs.Same.{same_fields}
+use Rattle.dv_order.specs.Same.{same_fields}
 use Rattle.dv_update.specs.Update.{Operation, assign, increase, Edit, Update, operators, replacement}
 use Rattle.dv_update.specs.declared.fault.UpdateFault.{UpdateFault}
 use Rattle.dv_update.specs.declared.fault.UpdateFault.TheVariants.{NotViable}

@@ -7,14 +7,14 @@ ghost use Rattle.dv_bson.specs.Spelling.{spelling};
 ghost use Rattle.dv_bson.specs.View.{tree};
 ghost use Rattle.dv_update.specs.Apply as defined;
 ghost use Rattle.dv_update.specs.Parsing.{Gives};
-ghost use Rattle.dv_update.specs.Same.{both_same};
+ghost use Rattle.dv_order.specs.Same.{both_same};
 ghost use Rattle.dv_update.specs.UpdateView.{update};
 
 use crate::edits::edited;
 use crate::fault::UpdateFault;
 use crate::form::Update;
-use crate::same::is_same;
 use dv_bson::{BsonFault, Document, NoMemory, Value, fits, size};
+use dv_order::is_same;
 use std::alloc::{AllocError, Global};
 
 /// The name of the field that a stored document begins with.

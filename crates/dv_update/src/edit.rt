@@ -12,9 +12,8 @@ ghost use Rattle.dv_update.specs.View.{operation, pulled as which};
 use crate::fault::UpdateFault;
 use crate::form::{Edit, Operation, Pulled};
 use crate::number::Number;
-use crate::same::is_same;
 use dv_bson::{Document, List, NoMemory, Value};
-use dv_order::compare;
+use dv_order::{compare, is_same};
 use dv_path::{Path, Slot, put_at, remove_at, slot_at};
 use std::alloc::Global;
 

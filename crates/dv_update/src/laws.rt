@@ -11,7 +11,7 @@ ghost use Rattle.dv_update.specs.Examples.{doc, int, list, long, one, outcome, s
 ghost use Rattle.dv_update.specs.Parsing.{conflicts, has_conflict, in_order, update_of};
 ghost use Rattle.dv_update.specs.PathOrder.{path_order};
 ghost use Rattle.dv_update.specs.Removals.{edited_removals_last};
-ghost use Rattle.dv_update.specs.Same.{both_same, is_same, same_fields};
+ghost use Rattle.dv_order.specs.Same.{both_same, is_same, same_fields};
 ghost use Rattle.dv_update.specs.Update.{Edit, Update};
 ghost use Rattle.dv_update.specs.declared.fault.UpdateFault.TheVariants.{BadName, BadOperand, Conflict, IdChanged, NotArray, NotNumber, NotViable, Overflow, TooDeep, TooLarge, UnknownOperator};
 

@@ -13,10 +13,8 @@ mod operator;
 mod order;
 mod outcome;
 mod parsing;
-mod same;
 
 pub use fault::UpdateFault;
 pub use form::{Edit, Edits, Operation, Pulled, Update};
 pub use number::Number;
 pub use outcome::Outcome;
-pub use same::{is_same, same_documents};

@@ -16,8 +16,8 @@ use crate::apply::{ID, MAX_DOCUMENT_LEN};
 use crate::edit::increased;
 use crate::fault::UpdateFault;
 use crate::form::{Operation, Update};
-use crate::same::{is_same, same_documents};
 use dv_bson::{Document, NoMemory, Value, fits, laws, size};
+use dv_order::{is_same, same_documents};
 use dv_path::Slot;
 use std::alloc::Global;
 

@@ -11,10 +11,10 @@ use Rattle.std.specs.declared.cmp.Ordering.TheVariants.{Less, Equal, Greater}
 use Rattle.dv_order.specs.Key.{KeyTree, key_order}
 use Rattle.dv_order.specs.KeyLaws.{key_order_total}
 use Rattle.dv_coll.specs.Collection.{IsAscending, id_key, has_key, found, inserted, removed, replaced}
-use Rattle.dv_flow.specs.declared.change.Change.TheVariants.{Put, Gone}
-use Rattle.dv_flow.specs.declared.position.Part.TheVariants.{Up}
-use Rattle.dv_flow.specs.Changes.{Positioned}
-use Rattle.dv_flow.specs.Positions.{pos_order}
+use Rattle.dv_change.specs.declared.change.Change.TheVariants.{Put, Gone}
+use Rattle.dv_change.specs.declared.position.Part.TheVariants.{Up}
+use Rattle.dv_change.specs.Changes.{Positioned}
+use Rattle.dv_change.specs.Positions.{pos_order}
 use Rattle.dv_pipe.specs.Sources.{Row}
 use Rattle.dv_views.specs.Changed.{changed, own_position, positioned}
 

@@ -9,11 +9,11 @@ use Rattle.std.specs.declared.cmp.Ordering.TheVariants.{Less, Equal, Greater}
 use Rattle.dv_bson.specs.Tree.{Tree}
 use Rattle.dv_order.specs.Key.{key_at, key_order}
 use Rattle.dv_coll.specs.Collection.{HasId, id_key}
-use Rattle.dv_flow.specs.declared.change.Change.{Change}
-use Rattle.dv_flow.specs.declared.change.Change.TheVariants.{Put, Gone}
-use Rattle.dv_flow.specs.declared.position.Part.TheVariants.{Up}
-use Rattle.dv_flow.specs.Changes.{Positioned, with_change, with_changes}
-use Rattle.dv_flow.specs.Positions.{PosTree, pos_order}
+use Rattle.dv_change.specs.declared.change.Change.{Change}
+use Rattle.dv_change.specs.declared.change.Change.TheVariants.{Put, Gone}
+use Rattle.dv_change.specs.declared.position.Part.TheVariants.{Up}
+use Rattle.dv_change.specs.Changes.{Positioned, with_change, with_changes}
+use Rattle.dv_change.specs.Positions.{PosTree, pos_order}
 use Rattle.dv_pipe.specs.Sources.{Row}
 use Rattle.dv_views.specs.Changed.{AreMade, AreMadeInTurn, IsMade, changed, own_position, positioned}
 use Rattle.dv_views.proofs.Made.{forgotten, one_part}

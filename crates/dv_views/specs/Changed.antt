@@ -3,11 +3,11 @@ use Rattle.std.specs.Prelude.{◌≡◌, ℕ, false, List, [], ◌∷◌, map, I
 use Rattle.std.specs.List.{AllByRecursion, AllZip}
 use Rattle.std.specs.Str.{bytes_eq}
 use Rattle.dv_coll.specs.Collection.{HasId, IsAscending, id_key, found}
-use Rattle.dv_flow.specs.declared.change.Change.{Change}
-use Rattle.dv_flow.specs.declared.change.Change.TheVariants.{Put, Gone}
-use Rattle.dv_flow.specs.declared.position.Part.TheVariants.{Up}
-use Rattle.dv_flow.specs.Changes.{Positioned, with_changes, forget}
-use Rattle.dv_flow.specs.Positions.{PosTree}
+use Rattle.dv_change.specs.declared.change.Change.{Change}
+use Rattle.dv_change.specs.declared.change.Change.TheVariants.{Put, Gone}
+use Rattle.dv_change.specs.declared.position.Part.TheVariants.{Up}
+use Rattle.dv_change.specs.Changes.{Positioned, with_changes, forget}
+use Rattle.dv_change.specs.Positions.{PosTree}
 use Rattle.dv_pipe.specs.Sources.{Row}
 use Rattle.dv_pipe.specs.Stages.{Lists}
 use Rattle.dv_views.specs.Views.{View, Views, stale, reads}

@@ -3,8 +3,8 @@
 ghost use Rattle.std.specs.Prelude.{◌≡◌, ◌≢◌, ◌++◌, ◌∷◌, [], ℕ, List, length, Some, None, true, codes, is_some, if◌then◌else◌};
 ghost use Rattle.std.specs.List.{AllByRecursion};
 ghost use Rattle.dv_coll.specs.Collection.{HasId, IsAscending, found, id_key, inserted, removed, replaced};
-ghost use Rattle.dv_flow.specs.declared.position.Part.TheVariants.{Up};
-ghost use Rattle.dv_flow.specs.declared.change.Change.TheVariants.{Put, Gone};
+ghost use Rattle.dv_change.specs.declared.position.Part.TheVariants.{Up};
+ghost use Rattle.dv_change.specs.declared.change.Change.TheVariants.{Put, Gone};
 ghost use Rattle.dv_order.specs.Key.{KeyTree};
 ghost use Rattle.dv_pipe.specs.Sources.{Row};
 ghost use Rattle.dv_pipe.specs.Stages.{Lists, evaluated};
@@ -13,7 +13,7 @@ ghost use Rattle.dv_views.specs.Changed.{AreMade, AreMadeInTurn, changed, own_po
 ghost use Rattle.dv_views.specs.Views.{AreRight, View, Views, fault_of_new, has_view, new_view, reads_name, refreshed, rows_shown, view_named, without};
 ghost use Rattle.dv_views.specs.declared.fault.ViewFault.TheVariants.{Exists, LimitReached, OnView, ReadByView};
 
-use dv_flow::Change;
+use dv_change::Change;
 
 /// A document that is put at its own position stands in place of the one that has an equal `_id`, where there is one,
 /// and else it comes in its place.

@@ -13,7 +13,7 @@ use crate::rows::Rows;
 use crate::state::ViewState;
 use crate::view::{Mark, View};
 use dv_bson::{NoMemory, Str};
-use dv_flow::Change;
+use dv_change::Change;
 use dv_pipe::{Pipeline, Sources, evaluate, laws};
 use indexmap::IndexMap;
 use std::alloc::Global;

@@ -1,0 +1,174 @@
+-- Turns that stay linked while changes go through them.
+use Rattle.std.proofs.Common.{◌≡◌, ◌∙◌, ap, sym, subst, refl, List, [], ◌∷◌, ◌+◌, ℕ, length, arith, ◌-◌}
+use Rattle.std.specs.Prelude.{Result, Ok, Err, OnOk, Bool, true, false, if◌then◌else◌, nat_lt}
+use Rattle.std.specs.List.{AllByRecursion}
+use Rattle.dv_change.specs.declared.change.Change.{Change}
+use Rattle.dv_change.specs.Changes.{IsExactChange, IsPositioned, Positioned, with_change, with_changes}
+use Rattle.dv_change.specs.Difference.{diff}
+use Rattle.dv_change.specs.DiffLaws.{apply-diff, exact-both, exact-diff, positioned-changes, with_changes-both}
+use Rattle.dv_change.specs.Linked.{IsLinked, first_left, forms_of, last_outs}
+use Rattle.dv_change.specs.declared.input.Input.{Input}
+use Rattle.dv_change.specs.declared.input.Input.TheVariants.{Left, Named}
+use Rattle.dv_change.specs.Inputs.{changed_at, left_after, others_after}
+use Rattle.dv_change.specs.Raised.{raised}
+use Rattle.dv_change.specs.RowLaws.{positioned-none}
+use Rattle.dv_change.specs.Work.{Form, forms_after, forms_named, handed, owed_by, pass, pass_in, pass_named, through, work, work_named}
+
+-- what holds where a call answers Ok
+pub ok-both : {A E : Type 0} {P Q R : Type 0} (r : Result A E) → OnOk r P → OnOk r Q → (P → Q → R) → OnOk r R
+ok-both (Ok a) p q f = f p q
+ok-both (Err e) p q f = tt
+
+pub ok-one : {A E : Type 0} {P R : Type 0} (r : Result A E) → OnOk r P → (P → R) → OnOk r R
+ok-one (Ok a) p f = f p
+ok-one (Err e) p f = tt
+
+pub raised-twice : (n a b : ℕ) → raised (raised n a) b ≡ raised n (a + b)
+raised-twice n a b = omega arith
+
+-- ---- what a stage hands on
+
+module _ (f : Positioned → Positioned) (keeps : (rows : Positioned) → IsPositioned rows → IsPositioned (f rows)) where
+  positioned-next : (rows : Positioned) (change : Change) → IsPositioned rows → IsExactChange change → IsPositioned (with_change rows change)
+  positioned-next rows change are exact = positioned-changes rows (change ∷ []) are (exact, tt)
+
+  pub exact-handed : (rows : Positioned) (changes : List Change) → IsPositioned rows → AllByRecursion IsExactChange changes → AllByRecursion IsExactChange (handed f rows changes)
+  exact-handed rows [] are exact = tt
+  exact-handed rows (change ∷ changes) are exact =
+      let next = positioned-next rows change are exact.0 in
+      exact-both (diff (f rows) (f (with_change rows change))) (handed f (with_change rows change) changes) (exact-diff (f rows) (f (with_change rows change)) (keeps rows are) (keeps (with_change rows change) next)) (exact-handed (with_change rows change) changes next exact.1)
+
+  -- what is handed on leads from what it made to what it makes
+  pub apply-handed : (rows : Positioned) (changes : List Change) → IsPositioned rows → AllByRecursion IsExactChange changes → with_changes (f rows) (handed f rows changes) ≡ f (with_changes rows changes)
+  apply-handed rows [] are exact = refl
+  apply-handed rows (change ∷ changes) are exact =
+      let next = positioned-next rows change are exact.0 in
+      with_changes-both (f rows) (diff (f rows) (f (with_change rows change))) (handed f (with_change rows change) changes)
+      ∙ ap (λ made. with_changes made (handed f (with_change rows change) changes)) (apply-diff (f rows) (f (with_change rows change)) (keeps rows are) (keeps (with_change rows change) next))
+      ∙ apply-handed (with_change rows change) changes next exact.1
+
+-- ---- turns
+
+module _ {T : Type 0} (left : T → Positioned) (others : T → List Positioned) (makes : T → List Positioned → Positioned → Positioned) (sound : T → Type 0) where
+  pub first-linked : (ts : List T) (rows : Positioned) → IsLinked left others makes sound ts rows → IsLinked left others makes sound ts (first_left left others makes sound ts)
+  first-linked [] rows l = tt
+  first-linked (t ∷ ts) rows l = (l.0, refl, l.2)
+
+  pub pass-first : (ts : List T) (rows : Positioned) (changes : List Change) → IsLinked left others makes sound ts rows → pass (forms_of left others makes sound ts) (first_left left others makes sound ts) changes ≡ pass (forms_of left others makes sound ts) rows changes
+  pass-first [] rows changes l = refl
+  pass-first (t ∷ ts) rows changes l = ap (λ r. pass (forms_of left others makes sound (t ∷ ts)) r changes) l.1
+
+  pub work-first : (ts : List T) (rows : Positioned) (changes : List Change) → IsLinked left others makes sound ts rows → work (forms_of left others makes sound ts) (first_left left others makes sound ts) changes ≡ work (forms_of left others makes sound ts) rows changes
+  work-first [] rows changes l = refl
+  work-first (t ∷ ts) rows changes l = ap (λ r. work (forms_of left others makes sound (t ∷ ts)) r changes) l.1
+
+  pub pass_named-first : (i : ℕ) (change : Change) (ts : List T) (rows : Positioned) → IsLinked left others makes sound ts rows → pass_named i change (forms_of left others makes sound ts) (first_left left others makes sound ts) ≡ pass_named i change (forms_of left others makes sound ts) rows
+  pass_named-first i change [] rows l = refl
+  pass_named-first i change (t ∷ ts) rows l = ap (λ r. pass_named i change (forms_of left others makes sound (t ∷ ts)) r) l.1
+
+  pub work_named-first : (i : ℕ) (change : Change) (ts : List T) (rows : Positioned) → IsLinked left others makes sound ts rows → work_named i change (forms_of left others makes sound ts) (first_left left others makes sound ts) ≡ work_named i change (forms_of left others makes sound ts) rows
+  work_named-first i change [] rows l = refl
+  work_named-first i change (t ∷ ts) rows l = ap (λ r. work_named i change (forms_of left others makes sound (t ∷ ts)) r) l.1
+
+  -- the same turns, behind what came of what they had taken in
+  pub relinked : (ts us : List T) (rows after : Positioned) (changes : List Change) → forms_of left others makes sound us ≡ forms_of left others makes sound ts → IsLinked left others makes sound ts rows → IsLinked left others makes sound us (with_changes (first_left left others makes sound ts) changes) → with_changes rows changes ≡ after → IsLinked left others makes sound us after
+  relinked ts [] rows after changes e l m is = tt
+  relinked [] (u ∷ us) rows after changes e l m is = absurd cc
+  relinked (t ∷ ts) (u ∷ us) rows after changes e l m is = (m.0, m.1 ∙ ap (λ r. with_changes r changes) l.1 ∙ is, m.2)
+
+  pub behind-linked : (ts : List T) (t : T) (us : List T) → ts ≡ t ∷ us → IsLinked left others makes sound ts (first_left left others makes sound ts) → sound t × IsLinked left others makes sound us (makes t (others t) (left t))
+  behind-linked ts t us e l =
+      let all = subst (λ (vs : List T). IsLinked left others makes sound vs (first_left left others makes sound vs)) e l in
+      (all.0, all.2)
+
+  pub more-ticks : (ts : List T) (t : T) (us : List T) (n first after : ℕ) (changes items : List Change) → ts ≡ t ∷ us → items ≡ handed (makes t (others t)) (left t) changes → IsLinked left others makes sound us (makes t (others t) (left t))
+      → first ≡ raised n (length changes + length (handed (makes t (others t)) (left t) changes))
+      → after ≡ raised first (work (forms_of left others makes sound us) (first_left left others makes sound us) items)
+      → after ≡ raised n (work (forms_of left others makes sound ts) (first_left left others makes sound ts) changes)
+  more-ticks ts t us n first after changes items e is l f a =
+      let out = handed (makes t (others t)) (left t) changes in
+      let behind = work (forms_of left others makes sound us) (makes t (others t) (left t)) out in
+      a ∙ (λ i. raised (f i) (work (forms_of left others makes sound us) (first_left left others makes sound us) (is i))) ∙ ap (raised (raised n (length changes + length out))) (work-first us (makes t (others t) (left t)) out l) ∙ raised-twice n (length changes + length out) behind
+      ∙ ap (λ (vs : List T). raised n (work (forms_of left others makes sound vs) (first_left left others makes sound vs) changes)) (sym e)
+
+  module _ (positioned : (t : T) → sound t → IsPositioned (left t) × AllByRecursion (λ rows. IsPositioned rows) (others t)) (ordered : (t : T) (named : List Positioned) (rows : Positioned) → IsPositioned rows → IsPositioned (makes t named rows)) where
+    pub fed-exact : (t : T) (changes : List Change) → sound t → AllByRecursion IsExactChange changes → AllByRecursion IsExactChange (handed (makes t (others t)) (left t) changes)
+    fed-exact t changes s exact = exact-handed (makes t (others t)) (ordered t (others t)) (left t) changes (positioned t s).0 exact
+
+    pub fed-linked : (t after : T) (ts us : List T) (changes items : List Change) → items ≡ handed (makes t (others t)) (left t) changes → sound t → AllByRecursion IsExactChange changes → makes after ≡ makes t → left after ≡ with_changes (left t) changes → others after ≡ others t
+        → IsLinked left others makes sound ts (makes t (others t) (left t)) → forms_of left others makes sound us ≡ forms_of left others makes sound ts
+        → IsLinked left others makes sound us (with_changes (first_left left others makes sound ts) items)
+        → IsLinked left others makes sound us (makes after (others after) (left after))
+    fed-linked t after ts us changes items e s exact m l o linked forms more =
+        relinked ts us (makes t (others t) (left t)) (makes after (others after) (left after)) items forms linked more
+        (ap (with_changes (makes t (others t) (left t))) e ∙ apply-handed (makes t (others t)) (ordered t (others t)) (left t) changes (positioned t s).0 exact ∙ (λ i. sym m i (sym o i) (sym l i)))
+
+    -- the rows before and after a change of an input
+    pub owed-exact : (t after : T) (input : Input) (change : Change) → sound t → sound after → makes after ≡ makes t → left after ≡ left_after input change (left t) → others after ≡ others_after input change (others t)
+        → AllByRecursion IsExactChange (owed_by input change (makes t) (others t) (left t))
+    owed-exact t after input change s z m l o =
+        let now : IsPositioned (makes t (others_after input change (others t)) (left_after input change (left t))) = ordered t _ _ (subst (λ (rows : Positioned). IsPositioned rows) l (positioned after z).0) in
+        exact-diff (makes t (others t) (left t)) (makes t (others_after input change (others t)) (left_after input change (left t))) (ordered t (others t) (left t) (positioned t s).0) now
+
+    pub owed-linked : (t after : T) (ts us : List T) (input : Input) (change : Change) (items : List Change) → items ≡ owed_by input change (makes t) (others t) (left t) → sound t → sound after → makes after ≡ makes t → left after ≡ left_after input change (left t) → others after ≡ others_after input change (others t)
+        → IsLinked left others makes sound ts (makes t (others t) (left t)) → forms_of left others makes sound us ≡ forms_of left others makes sound ts
+        → IsLinked left others makes sound us (with_changes (first_left left others makes sound ts) items)
+        → IsLinked left others makes sound us (makes after (others after) (left after))
+    owed-linked t after ts us input change items e s z m l o linked forms more =
+        let now : IsPositioned (makes t (others_after input change (others t)) (left_after input change (left t))) = ordered t _ _ (subst (λ (rows : Positioned). IsPositioned rows) l (positioned after z).0) in
+        relinked ts us (makes t (others t) (left t)) (makes after (others after) (left after)) items forms linked more
+        (ap (with_changes (makes t (others t) (left t))) e ∙ apply-diff (makes t (others t) (left t)) (makes t (others_after input change (others t)) (left_after input change (left t))) (ordered t (others t) (left t) (positioned t s).0) now ∙ (λ i. sym m i (sym o i) (sym l i)))
+
+    -- ---- what comes out leads from what the last one made to what it makes
+
+    pub fresh-linked : ((t : T) (named : List Positioned) → makes t named [] ≡ []) → (ts : List T) → AllByRecursion (λ t. sound t × (left t ≡ [])) ts → IsLinked left others makes sound ts []
+    fresh-linked empty [] all = tt
+    fresh-linked empty (t ∷ ts) all =
+        let none : makes t (others t) (left t) ≡ [] = ap (makes t (others t)) all.0.1 ∙ empty t (others t) in
+        (all.0.0, all.0.1, subst (λ (rows : Positioned). IsLinked left others makes sound ts rows) (sym none) (fresh-linked empty ts all.1))
+
+    pub outs-linked : (ts : List T) (rows : Positioned) → IsLinked left others makes sound ts rows → last_outs left others makes sound ts rows ≡ through (forms_of left others makes sound ts) rows
+    outs-linked [] rows l = refl
+    outs-linked (t ∷ ts) rows l = outs-linked ts (makes t (others t) (left t)) l.2 ∙ ap (λ r. through (forms_of left others makes sound ts) (makes t (others t) r)) l.1
+
+    leads-all : (ts : List T) (rows : Positioned) (changes : List Change) → IsPositioned rows → AllByRecursion IsExactChange changes → with_changes (through (forms_of left others makes sound ts) rows) (pass (forms_of left others makes sound ts) rows changes) ≡ through (forms_of left others makes sound ts) (with_changes rows changes)
+    leads-all [] rows changes are exact = refl
+    leads-all (t ∷ ts) rows changes are exact =
+        let f = makes t (others t) in
+        leads-all ts (f rows) (handed f rows changes) (ordered t (others t) rows are) (exact-handed f (ordered t (others t)) rows changes are exact)
+        ∙ ap (through (forms_of left others makes sound ts)) (apply-handed f (ordered t (others t)) rows changes are exact)
+
+    leads-named : (i : ℕ) (change : Change) (ts : List T) (rows : Positioned) → IsPositioned rows → with_changes (through (forms_of left others makes sound ts) rows) (pass_named i change (forms_of left others makes sound ts) rows) ≡ through (forms_named i change (forms_of left others makes sound ts)) rows
+    leads-named i change [] rows are = refl
+    leads-named i change (t ∷ ts) rows are = by (nat_lt i (length (others t))) (leads-named (i - length (others t)) change ts (makes t (others t) rows) (ordered t (others t) rows are))
+      where
+        by : (b : Bool) → with_changes (through (forms_of left others makes sound ts) (makes t (others t) rows)) (pass_named (i - length (others t)) change (forms_of left others makes sound ts) (makes t (others t) rows)) ≡ through (forms_named (i - length (others t)) change (forms_of left others makes sound ts)) (makes t (others t) rows)
+            → with_changes (through (forms_of left others makes sound ts) (makes t (others t) rows)) (if b then pass (forms_of left others makes sound ts) (makes t (others t) rows) (owed_by (Named i) change (makes t) (others t) rows) else pass_named (i - length (others t)) change (forms_of left others makes sound ts) (makes t (others t) rows))
+            ≡ through (if b then record { makes = makes t; named = changed_at i change (others t) } ∷ forms_of left others makes sound ts else record { makes = makes t; named = others t } ∷ forms_named (i - length (others t)) change (forms_of left others makes sound ts)) rows
+        by true rest =
+            let before = ordered t (others t) rows are in
+            let behind = ordered t (changed_at i change (others t)) rows are in
+            leads-all ts (makes t (others t) rows) (owed_by (Named i) change (makes t) (others t) rows) before (exact-diff (makes t (others t) rows) (makes t (changed_at i change (others t)) rows) before behind)
+            ∙ ap (through (forms_of left others makes sound ts)) (apply-diff (makes t (others t) rows) (makes t (changed_at i change (others t)) rows) before behind)
+        by false rest = rest
+
+    first-positioned : (ts : List T) → IsLinked left others makes sound ts (first_left left others makes sound ts) → IsPositioned (first_left left others makes sound ts)
+    first-positioned [] l = positioned-none
+    first-positioned (t ∷ ts) l = (positioned t l.0).0
+
+    pub leads : (ts : List T) (input : Input) (change : Change) → IsExactChange change → IsLinked left others makes sound ts (first_left left others makes sound ts)
+        → with_changes (through (forms_of left others makes sound ts) (first_left left others makes sound ts)) (pass_in input change (forms_of left others makes sound ts) (first_left left others makes sound ts))
+        ≡ through (forms_after input change (forms_of left others makes sound ts)) (left_after input change (first_left left others makes sound ts))
+    leads ts Left change exact l = leads-all ts (first_left left others makes sound ts) (change ∷ []) (first-positioned ts l) (exact, tt)
+    leads ts (Named i) change exact l = leads-named i change ts (first_left left others makes sound ts) (first-positioned ts l)
+
+    -- with the input known
+    pub outs-after : (us : List T) (before rows : Positioned) (input : Input) (change : Change) → left_after input change before ≡ rows → IsLinked left others makes sound us rows
+        → last_outs left others makes sound us (left_after input change before) ≡ through (forms_of left others makes sound us) (left_after input change before)
+    outs-after us before rows input change e l = outs-linked us (left_after input change before) (subst (λ (r : Positioned). IsLinked left others makes sound us r) (sym e) l)
+
+    pub leads-after : (ts us : List T) (input : Input) (change : Change) → IsExactChange change → IsLinked left others makes sound ts (first_left left others makes sound ts)
+        → forms_of left others makes sound us ≡ forms_after input change (forms_of left others makes sound ts)
+        → with_changes (through (forms_of left others makes sound ts) (first_left left others makes sound ts)) (pass_in input change (forms_of left others makes sound ts) (first_left left others makes sound ts))
+        ≡ through (forms_of left others makes sound us) (left_after input change (first_left left others makes sound ts))
+    leads-after ts us input change exact l forms = leads ts input change exact l ∙ ap (λ (fs : List Form). through fs (left_after input change (first_left left others makes sound ts))) (sym forms)

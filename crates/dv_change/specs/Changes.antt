@@ -1,0 +1,50 @@
+-- Lists of rows at positions, and what changes leave of them.
+use Rattle.std.specs.Prelude.{◌≡◌, ℕ, List, [], ◌∷◌, Option, fold, length}
+use Rattle.std.specs.BTreeMap.{insert_entry, is_at}
+use Rattle.std.specs.List.{AllByRecursion}
+use Rattle.std.specs.List.Sorted.{IsStrictlySortedBy}
+use Rattle.std.specs.Map.{keys_of, lookup, remove_entry, values_of}
+use Rattle.dv_bson.specs.Tree.{Field}
+use Rattle.dv_change.specs.declared.change.Change.{Change}
+use Rattle.dv_change.specs.declared.change.Change.TheVariants.{Put, Gone}
+use Rattle.dv_change.specs.Positions.{IsExact, PosTree, pos_order}
+
+-- rows, each at a position of its own; the positions ascend
+abbrev pub Positioned : Type 0
+Positioned = List (PosTree × List Field)
+
+-- the rows after a change: a put sets the row at its position, which stays or comes in its place; a gone one is taken out
+abbrev pub with_change : Positioned → Change → Positioned
+with_change rows (Put pos row) = insert_entry pos_order rows pos row
+with_change rows (Gone pos) = remove_entry (is_at (pos_order pos)) rows
+
+-- the rows after some changes, one after the other
+abbrev pub with_changes : Positioned → List Change → Positioned
+with_changes rows changes = fold with_change rows changes
+
+-- the rows without their positions
+abbrev pub forget : Positioned → List (List Field)
+forget rows = values_of rows
+
+-- the row at a position
+abbrev pub at : PosTree → Positioned → Option (List Field)
+at pos rows = lookup (is_at (pos_order pos)) rows
+
+-- the positions strictly ascend, and their keys are those of values, or the one that no value has
+pub record IsPositioned {V : Type 0} (rows : List (PosTree × V)) : Type 0 where
+  pub ascending : IsStrictlySortedBy pos_order (keys_of rows)
+  pub exact : AllByRecursion IsExact (keys_of rows)
+
+-- the positions have as many parts as each other
+abbrev pub HaveOneLength : Positioned → Type 0
+HaveOneLength rows = (n : ℕ) × AllByRecursion (λ pos. length pos ≡ n) (keys_of rows)
+
+-- rows in the order of their positions; of two at one position the first stays
+abbrev pub in_order : Positioned → Positioned
+in_order [] = []
+in_order (e ∷ es) = insert_entry pos_order (in_order es) e.0 e.1
+
+-- the keys of a change's position are those of values, or the one that no value has
+abbrev pub IsExactChange : Change → Type 0
+IsExactChange (Put pos row) = IsExact pos
+IsExactChange (Gone pos) = IsExact pos

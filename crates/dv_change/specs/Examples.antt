@@ -1,0 +1,35 @@
+-- Rows and stages of examples.
+use Rattle.std.specs.Prelude.{ℕ, pos, List, [], ◌∷◌, codes, take}
+use Rattle.dv_bson.specs.Tree.{Field, int32, int64}
+use Rattle.dv_change.specs.declared.position.Part.TheVariants.{At}
+use Rattle.dv_change.specs.Changes.{Positioned}
+use Rattle.dv_change.specs.Positions.{PosTree}
+use Rattle.dv_change.specs.Work.{Form}
+
+-- the position at a number
+abbrev pub place : ℕ → PosTree
+place n = At n ∷ []
+
+-- a row with one field, an int32
+abbrev pub row : ℕ → List Field
+row n = (codes "a", int32 (pos n)) ∷ []
+
+-- the same number as an int64
+abbrev pub wide_row : ℕ → List Field
+wide_row n = (codes "a", int64 (pos n)) ∷ []
+
+-- a stage that makes what comes to it
+abbrev pub as_it_comes : Form
+as_it_comes = record { makes = λ named rows. rows; named = [] }
+
+-- a stage that makes the first row of those that come to it
+abbrev pub first_alone : Form
+first_alone = record { makes = λ named rows. take 1 rows; named = [] }
+
+abbrev pub first_named : List Positioned → Positioned
+first_named [] = []
+first_named (rows ∷ others) = rows
+
+-- a stage that makes the rows of the list that it looks into
+abbrev pub looked_up : Positioned → Form
+looked_up rows = record { makes = λ named left. first_named named; named = rows ∷ [] }

@@ -1,0 +1,14 @@
+pub mod Positions
+pub mod PositionLaws
+pub mod Changes
+pub mod Difference
+pub mod DiffLaws
+pub mod Inputs
+pub mod Ordered
+pub mod Raised
+pub mod RowLaws
+pub mod Work
+pub mod Debts
+pub mod Linked
+pub mod OrderedView
+pub mod Examples

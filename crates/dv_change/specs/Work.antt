@@ -1,0 +1,84 @@
+-- What a change of an input makes of a pipeline: the changes that come out of it, and the work that it takes.
+use Rattle.std.specs.Prelude.{ℕ, ◌+◌, ◌-◌, List, [], ◌∷◌, ◌++◌, length, if◌then◌else◌, nat_lt, ◌<◌, ⊤}
+use Rattle.dv_change.specs.declared.change.Change.{Change}
+use Rattle.dv_change.specs.declared.input.Input.{Input}
+use Rattle.dv_change.specs.declared.input.Input.TheVariants.{Left, Named}
+use Rattle.dv_change.specs.Changes.{Positioned, with_change}
+use Rattle.dv_change.specs.Difference.{diff}
+use Rattle.dv_change.specs.Inputs.{changed_at, left_after, others_after}
+
+-- what a stage makes of the lists that it looks into and of its rows; and these lists
+pub record Form : Type 0 where
+  pub makes : List Positioned → Positioned → Positioned
+  pub named : List Positioned
+
+-- the rows of a stage
+abbrev pub rows_of : Form → Positioned → Positioned
+rows_of form rows = form.makes form.named rows
+
+-- the changes that lead from what a stage makes before a change of an input to what it makes after it
+abbrev pub owed_by : Input → Change → (List Positioned → Positioned → Positioned) → List Positioned → Positioned → List Change
+owed_by input change makes named rows = diff (makes named rows) (makes (others_after input change named) (left_after input change rows))
+
+abbrev pub owed : Input → Change → Form → Positioned → List Change
+owed input change form rows = owed_by input change form.makes form.named rows
+
+-- the changes that a stage hands on for changes of its rows, one after the other; it makes the one of the other
+abbrev pub handed : (Positioned → Positioned) → Positioned → List Change → List Change
+handed makes rows [] = []
+handed makes rows (change ∷ changes) = diff (makes rows) (makes (with_change rows change)) ++ handed makes (with_change rows change) changes
+
+-- the rows of the last stage
+abbrev pub through : List Form → Positioned → Positioned
+through [] rows = rows
+through (form ∷ forms) rows = through forms (rows_of form rows)
+
+-- what comes out of the last stage for changes of the rows that come to the first, one after the other
+abbrev pub pass : List Form → Positioned → List Change → List Change
+pass [] rows changes = changes
+pass (form ∷ forms) rows changes = pass forms (rows_of form rows) (handed (rows_of form) rows changes)
+
+-- the work for such changes: for each stage, 1 for each change that comes to it, and 1 for each that it hands on
+abbrev pub work : List Form → Positioned → List Change → ℕ
+work [] rows changes = 0
+work (form ∷ forms) rows changes = length changes + length (handed (rows_of form) rows changes) + work forms (rows_of form rows) (handed (rows_of form) rows changes)
+
+-- how many lists the stages look into
+abbrev pub named_in : List Form → ℕ
+named_in [] = 0
+named_in (form ∷ forms) = length form.named + named_in forms
+
+-- a list is there for the input
+abbrev pub HasAny : Input → List Form → Type 0
+HasAny Left forms = ⊤
+HasAny (Named i) forms = i < named_in forms
+
+-- the same for a change of a list that a stage looks into, where these lists are counted through all stages
+abbrev pub pass_named : ℕ → Change → List Form → Positioned → List Change
+pass_named i change [] rows = []
+pass_named i change (form ∷ forms) rows =
+    if nat_lt i (length form.named) then pass forms (rows_of form rows) (owed (Named i) change form rows) else pass_named (i - length form.named) change forms (rows_of form rows)
+
+abbrev pub work_named : ℕ → Change → List Form → Positioned → ℕ
+work_named i change [] rows = 0
+work_named i change (form ∷ forms) rows =
+    if nat_lt i (length form.named) then 1 + length (owed (Named i) change form rows) + work forms (rows_of form rows) (owed (Named i) change form rows) else work_named (i - length form.named) change forms (rows_of form rows)
+
+abbrev pub forms_named : ℕ → Change → List Form → List Form
+forms_named i change [] = []
+forms_named i change (form ∷ forms) = if nat_lt i (length form.named) then record { makes = form.makes; named = changed_at i change form.named } ∷ forms else form ∷ forms_named (i - length form.named) change forms
+
+-- what comes out of the last stage for a change of an input
+abbrev pub pass_in : Input → Change → List Form → Positioned → List Change
+pass_in Left change forms rows = pass forms rows (change ∷ [])
+pass_in (Named i) change forms rows = pass_named i change forms rows
+
+-- the work for a change of an input
+abbrev pub work_in : Input → Change → List Form → Positioned → ℕ
+work_in Left change forms rows = work forms rows (change ∷ [])
+work_in (Named i) change forms rows = work_named i change forms rows
+
+-- the stages, after a change of an input
+abbrev pub forms_after : Input → Change → List Form → List Form
+forms_after Left change forms = forms
+forms_after (Named i) change forms = forms_named i change forms

@@ -1,0 +1,185 @@
+//! Stages one behind the other.
+
+ghost use Rattle.std.specs.Prelude.{◌≡◌, ◌+◌, ◌<◌, ◌++◌, [], length, OnOk};
+ghost use Rattle.std.specs.List.{AllByRecursion};
+ghost use Rattle.dv_change.specs.Changes.{IsExactChange, with_changes};
+ghost use Rattle.dv_change.specs.Inputs.{left_after};
+ghost use Rattle.dv_change.specs.Linked.{IsLinked, first_left, forms_of, last_outs};
+ghost use Rattle.dv_change.specs.Raised.{raised};
+ghost use Rattle.dv_change.specs.Work as defined;
+ghost use Rattle.dv_change.specs.Work.{HasAny, forms_after, forms_named, named_in, pass, pass_in, pass_named, through, work, work_in, work_named};
+
+use crate::change::Change;
+use crate::input::Input;
+use crate::ticks::Ticks;
+use crate::turn::Turn;
+use dv_bson::NoMemory;
+use std::alloc::Global;
+use std::marker::Model;
+
+/// Turns one behind the other, each of which takes in what the one before it hands on.
+#[derive(Drop)]
+pub struct Chain<T: Turn + Drop> {
+    alloc: Global,
+    turns: Vec<T>,
+}
+
+impl<T: Turn + Drop> Model for Chain<T> {
+    ghost use Rattle.std.specs.Prelude.{List};
+
+    ghost Value = { List T };
+
+    ghost view = { λ c. c.turns.items };
+}
+
+impl<T: Turn + Drop> Chain<T> {
+    /// A chain of turns that have taken in nothing.
+    pub fn new(alloc: Global, turns: Vec<T>) -> Self
+        requires { AllByRecursion (λ t. T.sound t × (T.left t ≡ [])) turns.items }
+        ensures turns { result ≡ turns.items }
+        ensures linked { IsLinked T.left T.others T.makes T.sound result [] }
+    {
+        Chain { alloc, turns }
+    }
+
+    /// Takes in a change of an input, and puts what comes out of the last turn behind what is in `out`. The lists that turns
+    /// look into are counted from 0 through all of them. Fails where memory is wanting; then it is spent and may only be
+    /// dropped.
+    pub fn change(
+        &mut self,
+        input: Input,
+        change: Change,
+        ticks: &mut Ticks,
+        out: &mut Vec<Change>,
+    ) -> Result<(), NoMemory>
+        requires linked { IsLinked T.left T.others T.makes T.sound self.old (first_left T.left T.others T.makes T.sound self.old) }
+        requires input { HasAny input (forms_of T.left T.others T.makes T.sound self.old) }
+        ensures forms { OnOk result (forms_of T.left T.others T.makes T.sound self.new ≡ forms_after input change (forms_of T.left T.others T.makes T.sound self.old)) }
+        ensures linked { OnOk result (IsLinked T.left T.others T.makes T.sound self.new (left_after input change (first_left T.left T.others T.makes T.sound self.old))) }
+        ensures outs { OnOk result (last_outs T.left T.others T.makes T.sound self.new (left_after input change (first_left T.left T.others T.makes T.sound self.old)) ≡ through (forms_of T.left T.others T.makes T.sound self.new) (left_after input change (first_left T.left T.others T.makes T.sound self.old))) }
+        ensures leads { OnOk result (with_changes (through (forms_of T.left T.others T.makes T.sound self.old) (first_left T.left T.others T.makes T.sound self.old)) (pass_in input change (forms_of T.left T.others T.makes T.sound self.old) (first_left T.left T.others T.makes T.sound self.old)) ≡ through (forms_of T.left T.others T.makes T.sound self.new) (left_after input change (first_left T.left T.others T.makes T.sound self.old))) }
+        ensures out { OnOk result (out.new.items ≡ out.old.items ++ pass_in input change (forms_of T.left T.others T.makes T.sound self.old) (first_left T.left T.others T.makes T.sound self.old)) }
+        ensures ticks { OnOk result (ticks.new ≡ raised ticks.old (work_in input change (forms_of T.left T.others T.makes T.sound self.old) (first_left T.left T.others T.makes T.sound self.old))) }
+    {
+        feed_input(
+            self.alloc,
+            self.turns.as_mut_slice(),
+            input,
+            change,
+            ticks,
+            out,
+        )
+    }
+}
+
+/// Hands the change to the turn whose input it is of, and what it hands on to those behind it.
+fn feed_input<T: Turn>(
+    alloc: Global,
+    turns: &mut [T],
+    input: Input,
+    change: Change,
+    ticks: &mut Ticks,
+    out: &mut Vec<Change>,
+) -> Result<(), NoMemory>
+    requires linked { IsLinked T.left T.others T.makes T.sound turns.old (first_left T.left T.others T.makes T.sound turns.old) }
+    requires input { HasAny input (forms_of T.left T.others T.makes T.sound turns.old) }
+    ensures forms { OnOk result (forms_of T.left T.others T.makes T.sound turns.new ≡ forms_after input change (forms_of T.left T.others T.makes T.sound turns.old)) }
+    ensures linked { OnOk result (IsLinked T.left T.others T.makes T.sound turns.new (left_after input change (first_left T.left T.others T.makes T.sound turns.old))) }
+    ensures outs { OnOk result (last_outs T.left T.others T.makes T.sound turns.new (left_after input change (first_left T.left T.others T.makes T.sound turns.old)) ≡ through (forms_of T.left T.others T.makes T.sound turns.new) (left_after input change (first_left T.left T.others T.makes T.sound turns.old))) }
+    ensures leads { OnOk result (with_changes (through (forms_of T.left T.others T.makes T.sound turns.old) (first_left T.left T.others T.makes T.sound turns.old)) (pass_in input change (forms_of T.left T.others T.makes T.sound turns.old) (first_left T.left T.others T.makes T.sound turns.old)) ≡ through (forms_of T.left T.others T.makes T.sound turns.new) (left_after input change (first_left T.left T.others T.makes T.sound turns.old))) }
+    ensures out { OnOk result (out.new.items ≡ out.old.items ++ pass_in input change (forms_of T.left T.others T.makes T.sound turns.old) (first_left T.left T.others T.makes T.sound turns.old)) }
+    ensures ticks { OnOk result (ticks.new ≡ raised ticks.old (work_in input change (forms_of T.left T.others T.makes T.sound turns.old) (first_left T.left T.others T.makes T.sound turns.old))) }
+{
+    change.is_exact();
+    match input {
+        Input::Left => {
+            let mut changes = Vec::with_capacity(alloc, 1)?;
+            changes.push(change)?;
+            feed_all(alloc, turns, changes, ticks, out)
+        }
+        Input::Named(place) => feed_named(alloc, turns, place, change, ticks, out),
+    }
+}
+
+/// Hands the changes to the turn, one after the other.
+fn feed<T: Turn>(
+    turn: &mut T,
+    changes: Vec<Change>,
+    ticks: &mut Ticks,
+    out: &mut Vec<Change>,
+) -> Result<(), NoMemory>
+    requires { T.sound turn.old }
+    ensures sound { OnOk result (T.sound turn.new) }
+    ensures makes { OnOk result (T.makes turn.new ≡ T.makes turn.old) }
+    ensures left { OnOk result (T.left turn.new ≡ with_changes (T.left turn.old) changes.items) }
+    ensures others { OnOk result (T.others turn.new ≡ T.others turn.old) }
+    ensures out { OnOk result (out.new.items ≡ out.old.items ++ defined.handed (T.makes turn.old (T.others turn.old)) (T.left turn.old) changes.items) }
+    ensures ticks { OnOk result (ticks.new ≡ raised ticks.old (length changes.items + length (defined.handed (T.makes turn.old (T.others turn.old)) (T.left turn.old) changes.items))) }
+{
+    'changes: for change in changes {
+        turn.change(Input::Left, change, ticks, out)?;
+    }
+    Ok(())
+}
+
+/// Hands the changes to the first turn, and what it hands on to those behind it.
+fn feed_all<T: Turn>(
+    alloc: Global,
+    turns: &mut [T],
+    changes: Vec<Change>,
+    ticks: &mut Ticks,
+    out: &mut Vec<Change>,
+) -> Result<(), NoMemory>
+    requires linked { IsLinked T.left T.others T.makes T.sound turns.old (first_left T.left T.others T.makes T.sound turns.old) }
+    requires exact { AllByRecursion IsExactChange changes.items }
+    ensures forms { OnOk result (forms_of T.left T.others T.makes T.sound turns.new ≡ forms_of T.left T.others T.makes T.sound turns.old) }
+    ensures linked { OnOk result (IsLinked T.left T.others T.makes T.sound turns.new (with_changes (first_left T.left T.others T.makes T.sound turns.old) changes.items)) }
+    ensures out { OnOk result (out.new.items ≡ out.old.items ++ pass (forms_of T.left T.others T.makes T.sound turns.old) (first_left T.left T.others T.makes T.sound turns.old) changes.items) }
+    ensures ticks { OnOk result (ticks.new ≡ raised ticks.old (work (forms_of T.left T.others T.makes T.sound turns.old) (first_left T.left T.others T.makes T.sound turns.old) changes.items)) }
+{
+    let Some((first, behind)) = turns.split_first_mut() else {
+        return push_all(changes, out);
+    };
+    let mut handed = Vec::new(alloc);
+    feed(first, changes, ticks, &mut handed)?;
+    feed_all(alloc, behind, handed, ticks, out)
+}
+
+/// Hands the change to the turn that looks into the list, and what it hands on to those behind it.
+fn feed_named<T: Turn>(
+    alloc: Global,
+    turns: &mut [T],
+    place: usize,
+    change: Change,
+    ticks: &mut Ticks,
+    out: &mut Vec<Change>,
+) -> Result<(), NoMemory>
+    requires linked { IsLinked T.left T.others T.makes T.sound turns.old (first_left T.left T.others T.makes T.sound turns.old) }
+    requires input { place < named_in (forms_of T.left T.others T.makes T.sound turns.old) }
+    ensures forms { OnOk result (forms_of T.left T.others T.makes T.sound turns.new ≡ forms_named place change (forms_of T.left T.others T.makes T.sound turns.old)) }
+    ensures linked { OnOk result (IsLinked T.left T.others T.makes T.sound turns.new (first_left T.left T.others T.makes T.sound turns.old)) }
+    ensures out { OnOk result (out.new.items ≡ out.old.items ++ pass_named place change (forms_of T.left T.others T.makes T.sound turns.old) (first_left T.left T.others T.makes T.sound turns.old)) }
+    ensures ticks { OnOk result (ticks.new ≡ raised ticks.old (work_named place change (forms_of T.left T.others T.makes T.sound turns.old) (first_left T.left T.others T.makes T.sound turns.old))) }
+{
+    let Some((first, behind)) = turns.split_first_mut() else {
+        unreachable!()
+    };
+    let named = first.named();
+    if place < named {
+        let mut handed = Vec::new(alloc);
+        first.change(Input::Named(place), change, ticks, &mut handed)?;
+        feed_all(alloc, behind, handed, ticks, out)
+    } else {
+        feed_named(alloc, behind, place - named, change, ticks, out)
+    }
+}
+
+/// Puts the changes behind the others.
+fn push_all(changes: Vec<Change>, out: &mut Vec<Change>) -> Result<(), NoMemory>
+    ensures { OnOk result (out.new.items ≡ out.old.items ++ changes.items) }
+{
+    'changes: for change in changes {
+        out.push(change)?;
+    }
+    Ok(())
+}

@@ -1,0 +1,51 @@
+//! Changes of a list of rows at positions.
+
+ghost use Rattle.std.specs.Prelude.{◌≡◌, IfOk};
+ghost use Rattle.dv_change.specs.Changes.{IsExactChange};
+
+use crate::position::Pos;
+use dv_bson::{Document, NoMemory};
+
+/// What changed in a list of rows at positions.
+#[derive(Debug, Drop)]
+pub enum Change {
+    /// The row stands at the position from now on, in the place of the one that stood there, if any did.
+    Put {
+        /// The position.
+        pos: Pos,
+        /// The row.
+        row: Document,
+    },
+    /// No row stands at the position any more.
+    Gone {
+        /// The position.
+        pos: Pos,
+    },
+}
+
+impl Change {
+    /// A copy of its own, whose row shares its memory. Fails where memory is wanting.
+    pub fn try_clone(&self) -> Result<Self, NoMemory>
+        ensures { IfOk result (λ copy. copy ≡ self.now) }
+    {
+        match self {
+            Change::Put { pos, row } => Ok(Change::Put {
+                pos: pos.try_clone()?,
+                row: row.try_clone()?,
+            }),
+            Change::Gone { pos } => Ok(Change::Gone {
+                pos: pos.try_clone()?,
+            }),
+        }
+    }
+
+    /// That each key of its position is that of some value, or the one that no value has. Does nothing.
+    pub fn is_exact(&self)
+        ensures { IsExactChange self.now }
+    {
+        match self {
+            Change::Put { pos, .. } => pos.is_exact(),
+            Change::Gone { pos } => pos.is_exact(),
+        }
+    }
+}

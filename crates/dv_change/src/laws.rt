@@ -1,0 +1,60 @@
+//! What holds of positions, changes and work, each the contract of a function that does nothing.
+
+ghost use Rattle.std.specs.Prelude.{◌≡◌, ◌∷◌, [], List};
+ghost use Rattle.std.specs.declared.cmp.Ordering.TheVariants.{Equal};
+ghost use Rattle.std.specs.List.{AllByRecursion};
+ghost use Rattle.dv_change.specs.declared.change.Change.{Change};
+ghost use Rattle.dv_change.specs.declared.change.Change.TheVariants.{Gone, Put};
+ghost use Rattle.dv_change.specs.declared.input.Input.TheVariants.{Left, Named};
+ghost use Rattle.dv_change.specs.Changes.{IsExactChange, IsPositioned, Positioned, at, with_change, with_changes};
+ghost use Rattle.dv_change.specs.Difference.{diff};
+ghost use Rattle.dv_change.specs.Examples.{as_it_comes, first_alone, looked_up, place, row, wide_row};
+ghost use Rattle.dv_change.specs.Positions.{IsExact, PosTree, pos_order};
+ghost use Rattle.dv_change.specs.Raised.{raised};
+ghost use Rattle.dv_change.specs.Work.{pass_in, work_in};
+
+/// Positions that stand beside each other are one, where their keys are those of values.
+#[tactic(auto, using(crate::proofs::Lawful::lawful))]
+pub fn equal_positions_are_one()
+    ensures { (p q : PosTree) → IsExact p → IsExact q → pos_order p q ≡ Equal → p ≡ q }
+{}
+
+/// Rows stay in the order of their positions.
+pub fn changes_keep_rows_in_order()
+    ensures { (rows : Positioned) (changes : List Change) → IsPositioned rows → AllByRecursion IsExactChange changes → IsPositioned (with_changes rows changes) }
+{}
+
+/// Lists with the same row at each position are one.
+#[tactic(auto, using(crate::proofs::Lawful::lawful))]
+pub fn rows_are_known_by_their_positions()
+    ensures { (xs ys : Positioned) → IsPositioned xs → IsPositioned ys → ((q : PosTree) → at q xs ≡ at q ys) → xs ≡ ys }
+{}
+
+/// A difference leads from the one list of rows to the other one.
+#[tactic(auto, using(crate::proofs::Lawful::lawful))]
+pub fn a_difference_leads_from_old_to_new()
+    ensures { (old new : Positioned) → IsPositioned old → IsPositioned new → with_changes old (diff old new) ≡ new }
+{}
+
+/// What goes comes first, and what stays as it is isn't told.
+pub fn examples_of_differences()
+    ensures nothing { diff ((place 0, row 1) ∷ []) ((place 0, row 1) ∷ []) ≡ [] }
+    ensures each_kind { diff ((place 0, row 1) ∷ (place 1, row 2) ∷ (place 2, row 3) ∷ []) ((place 1, row 2) ∷ (place 2, row 4) ∷ (place 3, row 5) ∷ []) ≡ Gone (place 0) ∷ Put (place 2) (row 4) ∷ Put (place 3) (row 5) ∷ [] }
+    ensures another_width { diff ((place 0, row 1) ∷ []) ((place 0, wide_row 1) ∷ []) ≡ Put (place 0) (wide_row 1) ∷ [] }
+{}
+
+/// A count stays at its limit.
+pub fn examples_of_counts()
+    ensures below { raised 5 3 ≡ 8 }
+    ensures at_the_limit { raised 9223372036854775806 5 ≡ 9223372036854775807 }
+{}
+
+/// Each change between two stages counts twice: as it is handed on, and as it is taken in.
+pub fn examples_of_work()
+    ensures no_stage { pass_in Left (Gone (place 0)) [] [] ≡ Gone (place 0) ∷ [] }
+    ensures next_row { pass_in Left (Gone (place 0)) (as_it_comes ∷ first_alone ∷ []) ((place 0, row 1) ∷ (place 1, row 2) ∷ []) ≡ Gone (place 0) ∷ Put (place 1) (row 2) ∷ [] }
+    ensures work_for_next_row { work_in Left (Gone (place 0)) (as_it_comes ∷ first_alone ∷ []) ((place 0, row 1) ∷ (place 1, row 2) ∷ []) ≡ 5 }
+    ensures no_work_behind { work_in Left (Put (place 7) (row 9)) (as_it_comes ∷ first_alone ∷ []) ((place 0, row 1) ∷ (place 1, row 2) ∷ []) ≡ 3 }
+    ensures in_mid_chain { pass_in (Named 0) (Put (place 0) (row 3)) (as_it_comes ∷ looked_up [] ∷ first_alone ∷ []) [] ≡ Put (place 0) (row 3) ∷ [] }
+    ensures work_in_mid_chain { work_in (Named 0) (Put (place 0) (row 3)) (as_it_comes ∷ looked_up [] ∷ first_alone ∷ []) [] ≡ 4 }
+{}

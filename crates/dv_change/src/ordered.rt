@@ -1,0 +1,139 @@
+//! Values at positions.
+
+ghost use Rattle.std.specs.Prelude.{◌≡◌, ◌↔◌, List, [], IfOk, IsTrue, length, slice_get};
+ghost use Rattle.std.specs.Option.{option_map};
+ghost use Rattle.dv_change.specs.Ordered.{gone, put};
+
+use crate::position::Pos;
+use dv_bson::NoMemory;
+use std::alloc::Global;
+use std::cmp::Ordering;
+use std::collections::BTreeMap;
+use std::marker::Model;
+
+/// Values at positions, in their order. The first one stands beside the tree, which takes room for many as soon as it has one.
+#[derive(Drop)]
+pub struct Ordered<V> {
+    first: Option<(Pos, V)>,
+    others: BTreeMap<Pos, V>,
+}
+
+impl<V> Model for Ordered<V> {
+    ghost use Rattle.std.specs.Prelude.{List};
+    ghost use Rattle.dv_change.specs.Positions.{PosTree};
+
+    ghost Value = { List (PosTree × V) };
+
+    ghost use Rattle.std.specs.Coded.{codes};
+    ghost use Rattle.dv_order.specs.contracts.key.Key as keys;
+
+    ghost coded = { Prim.hlevel (codes, keys.the_row.coded) };
+
+    ghost use Rattle.dv_change.specs.OrderedView.{in_all, AreInOrder};
+
+    ghost view = { λ o. in_all o.first o.others.entries };
+
+    ghost invariant = { λ o. AreInOrder o.first o.others.entries };
+}
+
+impl<V: Drop> Ordered<V> {
+    /// No values, which take no memory.
+    pub fn new(alloc: Global) -> Self
+        ensures { result ≡ [] }
+    {
+        Ordered {
+            first: None,
+            others: BTreeMap::new(alloc),
+        }
+    }
+
+    /// The values with one more, which comes in the place of one that stands at its position. Fails where memory is wanting;
+    /// then all are dropped.
+    pub fn with(self, pos: Pos, value: V) -> Result<Self, NoMemory>
+        ensures { IfOk result (λ more. more ≡ put pos value self) }
+    {
+        pos.is_exact();
+        let Ordered { first, mut others } = self;
+        match first {
+            None => Ok(Ordered {
+                first: Some((pos, value)),
+                others,
+            }),
+            Some((at, there)) => match pos.cmp(&at) {
+                Ordering::Less => {
+                    others.insert(at, there)?;
+                    Ok(Ordered {
+                        first: Some((pos, value)),
+                        others,
+                    })
+                }
+                Ordering::Equal => Ok(Ordered {
+                    first: Some((at, value)),
+                    others,
+                }),
+                Ordering::Greater => {
+                    others.insert(pos, value)?;
+                    Ok(Ordered {
+                        first: Some((at, there)),
+                        others,
+                    })
+                }
+            },
+        }
+    }
+
+    /// The values without the one at the position, where one stands there.
+    pub fn without(self, pos: &Pos) -> Self
+        ensures { result ≡ gone pos.now self }
+    {
+        let Ordered { first, mut others } = self;
+        match first {
+            None => Ordered {
+                first: None,
+                others,
+            },
+            Some((at, there)) => {
+                if *pos == at {
+                    let next = others.pop_first();
+                    Ordered {
+                        first: next,
+                        others,
+                    }
+                } else {
+                    others.remove(pos);
+                    Ordered {
+                        first: Some((at, there)),
+                        others,
+                    }
+                }
+            }
+        }
+    }
+
+    /// The first value and its position.
+    pub fn first(&self) -> Option<(&Pos, &V)>
+        ensures { option_map (λ e. (e.0.now, e.1.now)) result ≡ slice_get self.now 0 }
+    {
+        match &self.first {
+            Some((pos, value)) => Some((pos, value)),
+            None => None,
+        }
+    }
+
+    /// How many there are.
+    pub fn len(&self) -> usize
+        ensures { result ≡ length self.now }
+    {
+        match &self.first {
+            Some(_) => self.others.len() + 1,
+            None => 0,
+        }
+    }
+
+    /// Whether there is none.
+    pub fn is_empty(&self) -> bool
+        ensures { IsTrue result ↔ (self.now ≡ []) }
+    {
+        self.first.is_none()
+    }
+}

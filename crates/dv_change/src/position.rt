@@ -1,0 +1,242 @@
+//! Positions of rows.
+
+ghost use Rattle.std.specs.Prelude.{◌≡◌, ◌++◌, ◌∷◌, [], IfOk, OnOk, refl};
+ghost use Rattle.std.specs.Cmp.{eq_by_cmp_equiv, partial_equiv_from_equiv, partial_order_from_total};
+ghost use Rattle.std.specs.Ordering.{as_partial_cmp, eq_by_cmp};
+ghost use Rattle.dv_change.specs.Positions.{IsExact, IsExactPart, kind, part_order, pos_order};
+ghost use Rattle.dv_change.specs.PositionLaws.{part_order_total, pos_order_total};
+
+use dv_bson::NoMemory;
+use dv_order::Key;
+use std::alloc::Global;
+use std::cmp::Ordering;
+use std::marker::Model;
+use std::mem::size_of;
+use std::rc::Rc;
+
+/// One part of a position.
+#[derive(Debug, Drop)]
+pub enum Part {
+    /// Under an ascending key.
+    Up(Key),
+    /// Under a descending key.
+    Down(Key),
+    /// At a number.
+    At(u64),
+}
+
+impl Part {
+    /// A copy of its own. Fails where memory is wanting.
+    pub fn try_clone(&self) -> Result<Self, NoMemory>
+        ensures { IfOk result (λ copy. copy ≡ self.now) }
+    {
+        match self {
+            Part::Up(key) => Ok(Part::Up(key.try_clone()?)),
+            Part::Down(key) => Ok(Part::Down(key.try_clone()?)),
+            Part::At(number) => Ok(Part::At(*number)),
+        }
+    }
+
+    /// That its key is that of some value, or the one that no value has. Does nothing.
+    pub fn is_exact(&self)
+        ensures { IsExactPart self.now }
+    {
+        match self {
+            Part::Up(key) => key.is_own(),
+            Part::Down(key) => key.is_own(),
+            Part::At(_) => {}
+        }
+    }
+
+    /// Where the part stands among the kinds of parts.
+    fn kind(&self) -> u8
+        ensures { result ≡ kind self.now }
+    {
+        match self {
+            Part::Up(_) => 0,
+            Part::Down(_) => 1,
+            Part::At(_) => 2,
+        }
+    }
+}
+
+impl PartialEq for Part {
+    ghost eq = { eq_by_cmp part_order };
+
+    ghost laws = { partial_equiv_from_equiv (eq_by_cmp_equiv part_order_total) };
+
+    fn eq(&self, other: &Part) -> bool {
+        self.cmp(other).is_eq()
+    }
+}
+
+impl Eq for Part {
+    ghost laws = { eq_by_cmp_equiv part_order_total };
+}
+
+impl PartialOrd for Part {
+    ghost partial_cmp = { as_partial_cmp part_order };
+
+    ghost laws = { partial_order_from_total part_order_total };
+
+    fn partial_cmp(&self, other: &Part) -> Option<Ordering> {
+        Some(self.cmp(other))
+    }
+}
+
+impl Ord for Part {
+    ghost cmp = { part_order };
+
+    ghost total = { part_order_total };
+
+    ghost matches_partial_cmp = { λ x y. refl };
+
+    ghost matches_eq = { λ x y. refl };
+
+    fn cmp(&self, other: &Part) -> Ordering {
+        match (self, other) {
+            (Part::Up(a), Part::Up(b)) => a.cmp(b),
+            (Part::Down(a), Part::Down(b)) => b.cmp(a),
+            (Part::At(a), Part::At(b)) => a.cmp(b),
+            _ => self.kind().cmp(&other.kind()),
+        }
+    }
+}
+
+/// Where a row stands among others: the first parts that differ decide, and else the one with fewer parts stands first.
+/// Copies share their parts.
+#[derive(Debug, Drop)]
+pub struct Pos {
+    parts: Rc<Vec<Part>>,
+}
+
+/// A word, whatever its parts take.
+const _: () = prove!(size_of::<Pos>() == 8);
+
+impl Model for Pos {
+    ghost use Rattle.std.specs.Prelude.{List};
+    ghost use Rattle.dv_change.specs.declared.position.Part.{Part};
+    ghost use Rattle.dv_change.specs.Positions.{IsExact};
+
+    ghost Value = { List Part };
+
+    ghost use Rattle.std.specs.Coded.{codes};
+    ghost use Rattle.dv_order.specs.contracts.key.Key as keys;
+
+    ghost coded = { Prim.hlevel (codes, keys.the_row.coded) };
+
+    ghost view = { λ p. p.parts.value.items };
+
+    ghost invariant = { λ p. IsExact p.parts.value.items };
+}
+
+impl Pos {
+    /// The position of these parts. Fails where memory is wanting.
+    pub fn of(alloc: Global, parts: Vec<Part>) -> Result<Self, NoMemory>
+        ensures { IfOk result (λ pos. pos ≡ parts.items) }
+    {
+        are_exact(parts.as_slice());
+        Ok(Pos {
+            parts: Rc::new(alloc, parts)?,
+        })
+    }
+
+    /// The parts. Takes no memory.
+    pub fn as_slice(&self) -> &[Part]
+        ensures { result.now ≡ self.now }
+    {
+        self.parts.as_slice()
+    }
+
+    /// That each key of its parts is that of some value, or the one that no value has. Does nothing.
+    pub fn is_exact(&self)
+        ensures { IsExact self.now }
+    {
+        let _ = &self.parts;
+    }
+
+    /// A copy that shares its memory. Fails where memory is wanting.
+    pub fn try_clone(&self) -> Result<Self, NoMemory>
+        ensures { IfOk result (λ copy. copy ≡ self.now) }
+    {
+        Ok(Pos {
+            parts: self.parts.clone()?,
+        })
+    }
+
+    /// The position with these parts in front. Fails where memory is wanting.
+    pub fn behind(&self, alloc: Global, parts: Vec<Part>) -> Result<Self, NoMemory>
+        ensures { IfOk result (λ pos. pos ≡ parts.items ++ self.now) }
+    {
+        let mut all = parts;
+        push_all(&mut all, self.as_slice())?;
+        Pos::of(alloc, all)
+    }
+
+    /// The position with one more part behind. Fails where memory is wanting.
+    pub fn with(&self, alloc: Global, part: Part) -> Result<Self, NoMemory>
+        ensures { IfOk result (λ pos. pos ≡ self.now ++ part ∷ []) }
+    {
+        let mut all = Vec::with_capacity(alloc, self.parts.len().saturating_add(1))?;
+        push_all(&mut all, self.as_slice())?;
+        all.push(part)?;
+        Pos::of(alloc, all)
+    }
+}
+
+/// That the keys of the parts are those of values, or the one that no value has. Changes nothing.
+fn are_exact(parts: &[Part])
+    ensures { IsExact parts.now }
+{
+    'parts: for part in parts {
+        part.is_exact();
+    }
+}
+
+/// Puts copies of the parts behind the others. Fails where memory is wanting.
+fn push_all(all: &mut Vec<Part>, parts: &[Part]) -> Result<(), NoMemory>
+    ensures { OnOk result (all.new.items ≡ all.old.items ++ parts.now) }
+{
+    'parts: for part in parts {
+        all.push(part.try_clone()?)?;
+    }
+    Ok(())
+}
+
+impl PartialEq for Pos {
+    ghost eq = { eq_by_cmp pos_order };
+
+    ghost laws = { partial_equiv_from_equiv (eq_by_cmp_equiv pos_order_total) };
+
+    fn eq(&self, other: &Pos) -> bool {
+        self.cmp(other).is_eq()
+    }
+}
+
+impl Eq for Pos {
+    ghost laws = { eq_by_cmp_equiv pos_order_total };
+}
+
+impl PartialOrd for Pos {
+    ghost partial_cmp = { as_partial_cmp pos_order };
+
+    ghost laws = { partial_order_from_total pos_order_total };
+
+    fn partial_cmp(&self, other: &Pos) -> Option<Ordering> {
+        Some(self.cmp(other))
+    }
+}
+
+impl Ord for Pos {
+    ghost cmp = { pos_order };
+
+    ghost total = { pos_order_total };
+
+    ghost matches_partial_cmp = { λ x y. refl };
+
+    ghost matches_eq = { λ x y. refl };
+
+    fn cmp(&self, other: &Pos) -> Ordering {
+        self.as_slice().cmp(other.as_slice())
+    }
+}

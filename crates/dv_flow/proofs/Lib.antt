@@ -1,0 +1,4 @@
+pub mod Differences
+pub mod Lawful
+pub mod Matches
+pub mod Shown

@@ -1,0 +1,48 @@
+//! How a stage takes in a change of its rows.
+
+ghost use Rattle.std.specs.Prelude.{◌≡◌, IfOk, OnOk};
+ghost use Rattle.dv_change.specs.Changes.{IsExactChange, IsPositioned, at, with_change};
+ghost use Rattle.dv_flow.specs.Owed.{place_of, row_in};
+
+use dv_bson::{Document, NoMemory};
+use dv_change::{Change, Pos};
+use std::collections::BTreeMap;
+
+/// What a change made of rows: where, which row stood there, and which one stands there now.
+#[derive(Debug, Drop)]
+pub(crate) struct Taken {
+    pub(crate) pos: Pos,
+    pub(crate) old: Option<Document>,
+    pub(crate) new: Option<Document>,
+}
+
+/// Takes a change into the rows. Fails where memory is wanting.
+pub(crate) fn take_in(rows: &mut BTreeMap<Pos, Document>, change: Change) -> Result<Taken, NoMemory>
+    requires { IsPositioned rows.old.entries }
+    ensures exact { IsExactChange change }
+    ensures rows { OnOk result (rows.new.entries ≡ with_change rows.old.entries change) }
+    ensures positioned { OnOk result (IsPositioned rows.new.entries) }
+    ensures pos { IfOk result (λ taken. taken.pos ≡ place_of change) }
+    ensures old { IfOk result (λ taken. taken.old ≡ at (place_of change) rows.old.entries) }
+    ensures new { IfOk result (λ taken. taken.new ≡ row_in change) }
+{
+    change.is_exact();
+    match change {
+        Change::Put { pos, row } => {
+            let old = rows.insert(pos.try_clone()?, row.try_clone()?)?;
+            Ok(Taken {
+                pos,
+                old,
+                new: Some(row),
+            })
+        }
+        Change::Gone { pos } => {
+            let old = rows.remove(&pos);
+            Ok(Taken {
+                pos,
+                old,
+                new: None,
+            })
+        }
+    }
+}

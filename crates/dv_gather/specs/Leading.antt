@@ -1,0 +1,20 @@
+-- Which value is the first of the least, or of the greatest, among values: said of any value, not how it is found.
+use Rattle.std.specs.Prelude.{◌≡◌, ◌≢◌, ◌⊎◌, List, ◌∷◌, ◌++◌}
+use Rattle.std.specs.List.{AllByRecursion}
+use Rattle.std.specs.declared.cmp.Ordering.{Ordering}
+use Rattle.dv_bson.specs.Tree.{Tree, null}
+use Rattle.dv_order.specs.Order.{order}
+
+-- a value among others that isn't null. It stands so (before, or behind) to each earlier value but null, and no later one but
+-- null stands so to it
+pub record Leads (so : Ordering) (vs : List Tree) (x : Tree) : Type 0 where
+  pub earlier : List Tree
+  pub later : List Tree
+  pub there : vs ≡ earlier ++ x ∷ later
+  pub some : x ≢ null
+  pub before : AllByRecursion (λ v. v ≢ null → order x v ≡ so) earlier
+  pub behind : AllByRecursion (λ v. v ≢ null → order v x ≢ so) later
+
+-- the value that leads, and null where there is none but null
+abbrev pub IsLeader : Ordering → List Tree → Tree → Type 0
+IsLeader so vs x = (x ≡ null) × AllByRecursion (λ v. v ≡ null) vs ⊎ Leads so vs x

@@ -1,0 +1,29 @@
+-- Two values are gone through side by side, so the weight of the first falls.
+use Rattle.std.proofs.Common.{◌+◌, ◌*◌, ◌≤◌, drop, map}
+use Rattle.std.specs.Cmp.Lexicographic.{pointwise}
+use Rattle.dv_bson.specs.Tree.{weight, fields_of, fields_weight, elements_of, elements_weight}
+use Rattle.dv_bson.specs.View.{tree}
+use Rattle.dv_order.specs.Same.{is_same}
+use Rattle.dv_order.proofs.SameLeft.{IsLeft, same_field}
+use Rattle.dv_order.proofs.same.+same.Given as goal
+
+abbrev pub decreases-is_same : goal.decreases-is_same
+decreases-is_same l = 2 * weight (tree l.a.now)
+
+abbrev pub decreases-same_documents : goal.decreases-same_documents
+decreases-same_documents l = 2 * fields_weight (fields_of l.a.now) + 1
+
+abbrev pub decreases-same_lists : goal.decreases-same_lists
+decreases-same_lists l = 2 * elements_weight (elements_of l.a.now) + 1
+
+abbrev pub invariant-same_documents-fields : goal.invariant-same_documents-fields
+invariant-same_documents-fields l =
+    let us = drop l.place l.a in
+    (fields_weight (fields_of us) ≤ fields_weight (fields_of l.a)) × IsLeft (pointwise same_field) l.a l.b us (drop l.place l.b)
+
+abbrev pub invariant-same_lists-elements : goal.invariant-same_lists-elements
+invariant-same_lists-elements l =
+    let us = map tree l.x-iterator.a.rest.now in
+    let vs = map tree l.x-iterator.b.rest.now in
+    (goal.iterator-same_lists-elements).can_next l.x-iterator × (goal.iterator-same_lists-elements).is_finite l.x-iterator
+    × (elements_weight (elements_of us) ≤ elements_weight (elements_of l.fn.a)) × IsLeft (pointwise is_same) l.fn.a l.fn.b us vs
