@@ -1,5 +1,5 @@
 -- Values at positions of which the first stands beside the others.
-use Rattle.std.proofs.Common.{◌≡◌, ◌∙◌, ap, sym, subst, refl, List, [], ◌∷◌, Option, None, Some, false, cond}
+use Rattle.std.proofs.Common.{◌≡◌, ◌∙◌, ap, sym, subst, refl, List, [], ◌∷◌, Option, None, Some, false, cond, drop, slice_get}
 use Rattle.std.specs.declared.cmp.Ordering.TheVariants.{Less, Greater}
 use Rattle.std.specs.Ordering.{is_eq, match_ordering}
 use Rattle.std.specs.BTreeMap.{insert_entry, is_at}
@@ -10,17 +10,22 @@ use Rattle.dv_change.specs.Changes.{IsPositioned}
 use Rattle.dv_change.specs.Ordered.{gone, put}
 use Rattle.dv_change.specs.OrderedView.{AreInOrder}
 use Rattle.dv_change.specs.Positions.{IsExact, PosTree, pos_order}
-use Rattle.dv_change.specs.RowLaws.{positioned-gone, positioned-none, positioned-put}
+use Rattle.dv_change.specs.RowLaws.{positioned-gone, positioned-none, positioned-put, put-front}
 
 module _ {V : Type 0} where
+  -- where there is no first one, there is none
+  pub nothing : (es : List (PosTree × V)) → slice_get es 0 ≡ None → es ≡ []
+  nothing [] e = refl
+  nothing (x ∷ es) e = absurd cc
+
+  -- where there is a first one, the others stand behind it
+  pub something : (es : List (PosTree × V)) (e : PosTree × V) → slice_get es 0 ≡ Some e → es ≡ e ∷ drop 1 es
+  something [] e is = absurd cc
+  something (x ∷ es) e is = let same : x ≡ e = cc in ap (λ y. y ∷ es) same
+
   -- one alone
   pub positioned-one : (p : PosTree) (v : V) (es : List (PosTree × V)) → es ≡ [] → IsExact p → IsPositioned ((p, v) ∷ es)
   positioned-one p v es none exact = rw none (positioned-put p v [] positioned-none exact)
-
-  -- what stands below all others is put in front of them
-  pub put-front : (p : PosTree) (v : V) (es : List (PosTree × V)) → AllByRecursion (λ q. pos_order p q ≡ Less) (keys_of es) → put p v es ≡ (p, v) ∷ es
-  put-front p v [] below = refl
-  put-front p v (e ∷ es) below = ap (λ r. match_ordering r ((p, v) ∷ e ∷ es) ((e.0, v) ∷ es) (e ∷ put p v es)) below.0
 
   first-below : (e : PosTree × V) (es : List (PosTree × V)) → IsPositioned (e ∷ es) → AllByRecursion (λ q. pos_order e.0 q ≡ Less) (keys_of es)
   unfolding IsStrictlySortedBy

@@ -1,3 +1,4 @@
 pub mod Linking
 pub mod Fronts
+pub mod Coming
 pub mod Lawful

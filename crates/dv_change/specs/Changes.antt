@@ -1,5 +1,5 @@
 -- Lists of rows at positions, and what changes leave of them.
-use Rattle.std.specs.Prelude.{◌≡◌, ℕ, List, [], ◌∷◌, Option, fold, length}
+use Rattle.std.specs.Prelude.{◌≡◌, ℕ, List, [], ◌∷◌, Option, None, Some, fold, length}
 use Rattle.std.specs.BTreeMap.{insert_entry, is_at}
 use Rattle.std.specs.List.{AllByRecursion}
 use Rattle.std.specs.List.Sorted.{IsStrictlySortedBy}
@@ -18,6 +18,16 @@ abbrev pub with_change : Positioned → Change → Positioned
 with_change rows (Put pos row) = insert_entry pos_order rows pos row
 with_change rows (Gone pos) = remove_entry (is_at (pos_order pos)) rows
 
+-- the position of a change
+abbrev pub place_of : Change → PosTree
+place_of (Put pos row) = pos
+place_of (Gone pos) = pos
+
+-- the row that stands there afterwards, where one does
+abbrev pub row_in : Change → Option (List Field)
+row_in (Put pos row) = Some row
+row_in (Gone pos) = None
+
 -- the rows after some changes, one after the other
 abbrev pub with_changes : Positioned → List Change → Positioned
 with_changes rows changes = fold with_change rows changes
@@ -29,6 +39,11 @@ forget rows = values_of rows
 -- the row at a position
 abbrev pub at : PosTree → Positioned → Option (List Field)
 at pos rows = lookup (is_at (pos_order pos)) rows
+
+-- the row at a position alone, where there is one
+abbrev pub alone : PosTree → Option (List Field) → Positioned
+alone pos None = []
+alone pos (Some row) = (pos, row) ∷ []
 
 -- the positions strictly ascend, and their keys are those of values, or the one that no value has
 pub record IsPositioned {V : Type 0} (rows : List (PosTree × V)) : Type 0 where

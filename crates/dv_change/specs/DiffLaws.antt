@@ -1,6 +1,6 @@
 -- A difference leads from the one list of rows to the other one.
 use Rattle.std.specs.Prelude.{◌≡◌, Bool, true, false, not, cond, List, [], ◌∷◌, ◌++◌, map, Option, Some, None, is_none, is_some, refl}
-use Rattle.std.proofs.Common.{ap, sym, ◌∙◌}
+use Rattle.std.proofs.Common.{ap, sym, ◌∙◌, ◌⊎◌, inl, inr}
 use Rattle.std.specs.declared.cmp.Ordering.TheVariants.{Less, Equal}
 use Rattle.std.specs.Ordering.{is_eq}
 use Rattle.std.specs.Cmp.{Equal-is}
@@ -14,15 +14,15 @@ use Rattle.dv_order.specs.SameLaws.{same_documents}
 use Rattle.dv_change.specs.declared.change.Change.{Change}
 use Rattle.dv_change.specs.declared.change.Change.TheVariants.{Put, Gone}
 use Rattle.dv_change.specs.Positions.{IsExact, PosTree, pos_order}
-use Rattle.dv_change.specs.Changes.{IsExactChange, IsPositioned, Positioned, at, with_change, with_changes}
+use Rattle.dv_change.specs.Changes.{IsExactChange, IsPositioned, Positioned, alone, at, place_of, row_in, with_change, with_changes}
 use Rattle.dv_change.specs.Difference.{diff, gones, puts, stands}
 use Rattle.dv_change.specs.Ordered.{found_at, gone, put}
-use Rattle.dv_change.specs.RowLaws.{at-gone, at-like, at-put, at_back, past, positioned-gone, positioned-put, positioned-tail, same_rows}
+use Rattle.dv_change.specs.RowLaws.{at-gone, at-like, at-put, at_back, past, positioned-gone, positioned-none, positioned-put, positioned-tail, same_rows}
 
 -- ---- lists that lose what fails a test
 
 module _ {V : Type 0} (f : PosTree × V → Bool) where
-  all-filter : (P : PosTree → Type 0) (es : List (PosTree × V)) → AllByRecursion P (keys_of es) → AllByRecursion P (keys_of (filter f es))
+  pub all-filter : (P : PosTree → Type 0) (es : List (PosTree × V)) → AllByRecursion P (keys_of es) → AllByRecursion P (keys_of (filter f es))
   all-filter P [] all = tt
   all-filter P (e ∷ es) all = by (f e) (all-filter P es all.1)
     where
@@ -72,7 +72,7 @@ abbrev all_come : Positioned → List Change
 all_come es = map (λ e. Put e.0 e.1) es
 
 -- the first, and where there is none, the second
-abbrev or_else : {A : Type 0} → Option A → Option A → Option A
+abbrev pub or_else : {A : Type 0} → Option A → Option A → Option A
 or_else None b = b
 or_else (Some a) b = Some a
 
@@ -122,6 +122,13 @@ pub exact-diff : (old new : Positioned) → IsPositioned old → IsPositioned ne
 exact-diff old new o n =
     exact-both (gones old new) (puts old new) (exact-go (filter (went new) old) (positioned-filter (went new) old o).exact) (exact-come (filter (differs old) new) (positioned-filter (differs old) new n).exact)
 
+-- what goes and what comes at a position
+at-went : (old new : Positioned) (q : PosTree) → IsPositioned old → at q (filter (went new) old) ≡ option_filter (λ v. is_none (at q new)) (at q old)
+at-went old new q o = at-filter (went new) q (λ v. is_none (at q new)) (λ p v e. ap is_none (sym (at-like q p e new))) old o
+
+at-differs : (old new : Positioned) (q : PosTree) → IsPositioned new → at q (filter (differs old) new) ≡ option_filter (λ v. not (stands (at q old) v)) (at q new)
+at-differs old new q n = at-filter (differs old) q (λ v. not (stands (at q old) v)) (λ p v e. ap (λ a. not (stands a v)) (sym (at-like q p e old))) new n
+
 pub with_changes-both : (rows : Positioned) (some others : List Change) → with_changes rows (some ++ others) ≡ with_changes (with_changes rows some) others
 with_changes-both rows [] others = refl
 with_changes-both rows (change ∷ some) others = with_changes-both (with_change rows change) some others
@@ -139,13 +146,79 @@ settled (Some d) (Some v) = by (same_fields (fields_of d) (fields_of v)) refl
 -- what comes of the first list by the changes to the second is the second
 pub apply-diff : (old new : Positioned) → IsPositioned old → IsPositioned new → with_changes old (diff old new) ≡ new
 apply-diff old new o n =
-    same_rows (with_changes old (diff old new)) new (positioned-changes old (diff old new) o (exact-diff old new o n)) n (λ q.
+    same_rows (with_changes old (diff old new)) new (positioned-changes old (diff old new) o (exact-diff old new o n)) n (λ q exact.
     let left = filter (went new) old in
     let came = filter (differs old) new in
-    let left_at : at q left ≡ option_filter (λ v. is_none (at q new)) (at q old) = at-filter (went new) q (λ v. is_none (at q new)) (λ p v e. ap is_none (sym (at-like q p e new))) old o in
-    let came_at : at q came ≡ option_filter (λ v. not (stands (at q old) v)) (at q new) = at-filter (differs old) q (λ v. not (stands (at q old) v)) (λ p v e. ap (λ a. not (stands a v)) (sym (at-like q p e old))) new n in
+    let left_at = at-went old new q o in
+    let came_at = at-differs old new q n in
     ap (at q) (with_changes-both old (all_go left) (all_come came))
     ∙ at-all_come q came (with_changes old (all_go left)) (positioned-filter (differs old) new n)
     ∙ ap (or_else (at q came)) (at-all_go q left old o)
     ∙ (λ i. or_else (came_at i) (cond (is_some (left_at i)) None (at q old)))
     ∙ settled (at q old) (at q new))
+
+-- ---- lists that differ in parts of them
+
+-- at a position the parts have what the lists have; or they have nothing there, and the lists have the same
+abbrev pub IsPartAt : (old new before after : Positioned) → PosTree → Type 0
+IsPartAt old new before after q = ((at q before ≡ at q old) × (at q after ≡ at q new)) ⊎ ((at q before ≡ None) × (at q after ≡ None) × (at q old ≡ at q new))
+
+none_went : (a : Option (List Field)) → option_filter (λ v. is_none a) a ≡ None
+none_went None = refl
+none_went (Some v) = refl
+
+none_differs : (a : Option (List Field)) → option_filter (λ v. not (stands a v)) a ≡ None
+none_differs None = refl
+none_differs (Some v) = by (same_fields (fields_of v) (fields_of v)) ((same_documents v v).1 refl)
+  where
+    by : (b : Bool) → b ≡ true → cond (not b) (Some v) None ≡ None
+    by true e = refl
+    by false e = cc
+
+module _ (old new before after : Positioned) where
+  went-there : (q : PosTree) → IsPartAt old new before after q → option_filter (λ v. is_none (at q new)) (at q old) ≡ option_filter (λ v. is_none (at q after)) (at q before)
+  went-there q (inl both) = λ i. option_filter (λ v. is_none (sym both.1 i)) (sym both.0 i)
+  went-there q (inr same) =
+      ap (option_filter (λ v. is_none (at q new))) same.2 ∙ none_went (at q new) ∙ sym (ap (option_filter (λ v. is_none (at q after))) same.0)
+
+  came-there : (q : PosTree) → IsPartAt old new before after q → option_filter (λ v. not (stands (at q old) v)) (at q new) ≡ option_filter (λ v. not (stands (at q before) v)) (at q after)
+  came-there q (inl both) = λ i. option_filter (λ v. not (stands (sym both.0 i) v)) (sym both.1 i)
+  came-there q (inr same) =
+      ap (option_filter (λ v. not (stands (at q old) v))) (sym same.2) ∙ none_differs (at q old) ∙ sym (ap (option_filter (λ v. not (stands (at q before) v))) same.1)
+
+  -- their difference is that of the parts
+  pub diff-parts : IsPositioned old → IsPositioned new → IsPositioned before → IsPositioned after → ((q : PosTree) → IsExact q → IsPartAt old new before after q) → diff old new ≡ diff before after
+  diff-parts o n b a parts =
+      let goes : filter (went new) old ≡ filter (went after) before =
+      same_rows (filter (went new) old) (filter (went after) before) (positioned-filter (went new) old o) (positioned-filter (went after) before b) (λ q exact.
+      at-went old new q o ∙ went-there q (parts q exact) ∙ sym (at-went before after q b)) in
+      let comes : filter (differs old) new ≡ filter (differs before) after =
+      same_rows (filter (differs old) new) (filter (differs before) after) (positioned-filter (differs old) new n) (positioned-filter (differs before) after a) (λ q exact.
+      at-differs old new q n ∙ came-there q (parts q exact) ∙ sym (at-differs before after q a)) in
+      λ i. all_go (goes i) ++ all_come (comes i)
+
+-- ---- rows after a change
+
+pub at-changed : (q : PosTree) (rows : Positioned) (change : Change) → IsPositioned rows → at q (with_change rows change) ≡ cond (is_eq (pos_order q (place_of change))) (row_in change) (at q rows)
+at-changed q rows (Put p r) are = at-put q p r rows
+at-changed q rows (Gone p) are = at-gone q p rows are.ascending ∙ ap (λ b. cond b None (at q rows)) (at_back p q)
+
+pub positioned-changed : (rows : Positioned) (change : Change) → IsPositioned rows → IsExactChange change → IsPositioned (with_change rows change)
+positioned-changed rows (Put p r) are exact = positioned-put p r rows are exact
+positioned-changed rows (Gone p) are exact = positioned-gone p rows are
+
+pub exact-place : (change : Change) → IsExactChange change → IsExact (place_of change)
+exact-place (Put p r) exact = exact
+exact-place (Gone p) exact = exact
+
+pub positioned-alone : (p : PosTree) (row : Option (List Field)) → IsExact p → IsPositioned (alone p row)
+positioned-alone p None exact = positioned-none
+positioned-alone p (Some v) exact = positioned-put p v [] positioned-none exact
+
+pub at-alone : (q p : PosTree) (row : Option (List Field)) → at q (alone p row) ≡ cond (is_eq (pos_order q p)) row None
+at-alone q p None = by (is_eq (pos_order q p))
+  where
+    by : (b : Bool) → at q [] ≡ cond b None None
+    by true = refl
+    by false = refl
+at-alone q p (Some v) = refl

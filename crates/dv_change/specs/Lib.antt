@@ -8,7 +8,6 @@ pub mod Ordered
 pub mod Raised
 pub mod RowLaws
 pub mod Work
-pub mod Debts
 pub mod Linked
 pub mod OrderedView
 pub mod Examples

@@ -23,7 +23,7 @@ use Rattle.dv_change.specs.Ordered.{found_at, gone, put}
 
 -- ---- exact positions
 
-both_Equal : (a b : Ordering) → ordering_then a b ≡ Equal → (a ≡ Equal) × (b ≡ Equal)
+pub both_Equal : (a b : Ordering) → ordering_then a b ≡ Equal → (a ≡ Equal) × (b ≡ Equal)
 both_Equal Less b e = cc
 both_Equal Equal b e = (refl, e)
 both_Equal Greater b e = cc
@@ -147,6 +147,11 @@ module _ {V : Type 0} where
   unfolding IsStrictlySortedBy
   positioned-tail e es are = record { ascending = are.ascending.1; exact = are.exact.1 }
 
+  -- what stands below all others is put in front of them
+  pub put-front : (p : PosTree) (v : V) (es : List (PosTree × V)) → AllByRecursion (λ q. pos_order p q ≡ Less) (keys_of es) → put p v es ≡ (p, v) ∷ es
+  put-front p v [] below = refl
+  put-front p v (e ∷ es) below = ap (λ r. match_ordering r ((p, v) ∷ e ∷ es) ((e.0, v) ∷ es) (e ∷ put p v es)) below.0
+
   -- ---- lists in which the same stands at each position
 
   own : (e : PosTree × V) (es : List (PosTree × V)) → found_at e.0 (e ∷ es) ≡ Some e.1
@@ -159,25 +164,26 @@ module _ {V : Type 0} where
   pub past : (p : PosTree) (e : PosTree × V) (es : List (PosTree × V)) → IsPositioned (e ∷ es) → is_eq (pos_order p e.0) ≡ true → found_at p es ≡ None
   past p e es are h = lookup-none (is_at (pos_order p)) es (none_past_head (eq_by_cmp_equiv pos_order_total) p e es (IsDistinct-from_sorted pos_order (keys_of (e ∷ es)) are.ascending) h)
 
-  pub same_rows : (xs ys : List (PosTree × V)) → IsPositioned xs → IsPositioned ys → ((q : PosTree) → found_at q xs ≡ found_at q ys) → xs ≡ ys
+  -- what stands at exact positions tells all
+  pub same_rows : (xs ys : List (PosTree × V)) → IsPositioned xs → IsPositioned ys → ((q : PosTree) → IsExact q → found_at q xs ≡ found_at q ys) → xs ≡ ys
   same_rows [] [] a b h = refl
-  same_rows [] (y ∷ ys) a b h = let o = own y ys in let e = h y.0 in cc
-  same_rows (x ∷ xs) [] a b h = let o = own x xs in let e = h x.0 in cc
+  same_rows [] (y ∷ ys) a b h = let o = own y ys in let e = h y.0 b.exact.0 in cc
+  same_rows (x ∷ xs) [] a b h = let o = own x xs in let e = h x.0 a.exact.0 in cc
   same_rows (x ∷ xs) (y ∷ ys) a b h = by (λ others. same_rows xs ys (positioned-tail x xs a) (positioned-tail y ys b) others) (pos_order x.0 y.0) refl
     where
-      by : (((q : PosTree) → found_at q xs ≡ found_at q ys) → xs ≡ ys) → (r : Ordering) → pos_order x.0 y.0 ≡ r → x ∷ xs ≡ y ∷ ys
-      by behind Less g = let o = own x xs in let e = h x.0 in let n = below x.0 y ys b g in cc
+      by : (((q : PosTree) → IsExact q → found_at q xs ≡ found_at q ys) → xs ≡ ys) → (r : Ordering) → pos_order x.0 y.0 ≡ r → x ∷ xs ≡ y ∷ ys
+      by behind Less g = let o = own x xs in let e = h x.0 a.exact.0 in let n = below x.0 y ys b g in cc
       by behind Greater g =
           let turned : pos_order y.0 x.0 ≡ Less = pos_order_total.antisymm y.0 x.0 ∙ ap ordering_reverse g in
-          let o = own y ys in let e = h y.0 in let n = below y.0 x xs a turned in cc
+          let o = own y ys in let e = h y.0 b.exact.0 in let n = below y.0 x xs a turned in cc
       by behind Equal g =
           let pos : x.0 ≡ y.0 = pos_exact x.0 y.0 a.exact.0 b.exact.0 g in
           let there : found_at x.0 (y ∷ ys) ≡ Some y.1 = lookup_head (is_at (pos_order x.0)) y ys (ap is_eq g) in
-          let o = own x xs in let e = h x.0 in
+          let o = own x xs in let e = h x.0 a.exact.0 in
           let row : x.1 ≡ y.1 = cc in
-          let rest : xs ≡ ys = behind (λ q. others q pos (is_eq (pos_order q x.0)) refl) in
+          let rest : xs ≡ ys = behind (λ q exact. others q exact pos (is_eq (pos_order q x.0)) refl) in
           λ i. (pos i, row i) ∷ rest i
         where
-          others : (q : PosTree) → x.0 ≡ y.0 → (t : Bool) → is_eq (pos_order q x.0) ≡ t → found_at q xs ≡ found_at q ys
-          others q pos true t = past q x xs a t ∙ sym (past q y ys b (ap (λ p. is_eq (pos_order q p)) (sym pos) ∙ t))
-          others q pos false t = sym (lookup_tail (is_at (pos_order q)) x xs t) ∙ h q ∙ lookup_tail (is_at (pos_order q)) y ys (ap (λ p. is_eq (pos_order q p)) (sym pos) ∙ t)
+          others : (q : PosTree) → IsExact q → x.0 ≡ y.0 → (t : Bool) → is_eq (pos_order q x.0) ≡ t → found_at q xs ≡ found_at q ys
+          others q exact pos true t = past q x xs a t ∙ sym (past q y ys b (ap (λ p. is_eq (pos_order q p)) (sym pos) ∙ t))
+          others q exact pos false t = sym (lookup_tail (is_at (pos_order q)) x xs t) ∙ h q exact ∙ lookup_tail (is_at (pos_order q)) y ys (ap (λ p. is_eq (pos_order q p)) (sym pos) ∙ t)

@@ -24,10 +24,10 @@ pub fn changes_keep_rows_in_order()
     ensures { (rows : Positioned) (changes : List Change) → IsPositioned rows → AllByRecursion IsExactChange changes → IsPositioned (with_changes rows changes) }
 {}
 
-/// Lists with the same row at each position are one.
+/// Lists with the same row at each exact position are one.
 #[tactic(auto, using(crate::proofs::Lawful::lawful))]
 pub fn rows_are_known_by_their_positions()
-    ensures { (xs ys : Positioned) → IsPositioned xs → IsPositioned ys → ((q : PosTree) → at q xs ≡ at q ys) → xs ≡ ys }
+    ensures { (xs ys : Positioned) → IsPositioned xs → IsPositioned ys → ((q : PosTree) → IsExact q → at q xs ≡ at q ys) → xs ≡ ys }
 {}
 
 /// A difference leads from the one list of rows to the other one.

@@ -3,19 +3,21 @@
 
 mod chain;
 mod change;
-mod debt;
+mod handing;
 mod input;
 pub mod laws;
 mod ordered;
 mod position;
+mod taking;
 mod ticks;
 mod turn;
 
 pub use chain::Chain;
 pub use change::Change;
-pub use debt::{Debt, came, settle};
+pub use handing::hand_on;
 pub use input::Input;
 pub use ordered::Ordered;
 pub use position::{Part, Pos};
+pub use taking::{Taken, take_in};
 pub use ticks::Ticks;
 pub use turn::Turn;

@@ -1,14 +1,15 @@
 //! Values at positions.
 
-ghost use Rattle.std.specs.Prelude.{◌≡◌, ◌↔◌, List, [], IfOk, IsTrue, length, slice_get};
+ghost use Rattle.std.specs.Prelude.{◌≡◌, ◌↔◌, List, [], IfOk, IsTrue, drop, length, slice_get};
 ghost use Rattle.std.specs.Option.{option_map};
-ghost use Rattle.dv_change.specs.Ordered.{gone, put};
+ghost use Rattle.dv_change.specs.Ordered.{found_at, gone, put};
 
 use crate::position::Pos;
 use dv_bson::NoMemory;
 use std::alloc::Global;
 use std::cmp::Ordering;
 use std::collections::BTreeMap;
+use std::collections::btree_map::Iter;
 use std::marker::Model;
 
 /// Values at positions, in their order. The first one stands beside the tree, which takes room for many as soon as it has one.
@@ -116,6 +117,29 @@ impl<V: Drop> Ordered<V> {
     {
         match &self.first {
             Some((pos, value)) => Some((pos, value)),
+            None => None,
+        }
+    }
+
+    /// The values behind the first one, each with its position, in their order.
+    pub fn others(&self) -> Iter<'_, Pos, V>
+        ensures { result ≡ drop 1 self.now }
+    {
+        self.others.iter()
+    }
+
+    /// The value at the position, where one stands there.
+    pub fn get(&self, pos: &Pos) -> Option<&V>
+        ensures { option_map (λ value. value.now) result ≡ found_at pos.now self.now }
+    {
+        match &self.first {
+            Some((at, value)) => {
+                if pos == at {
+                    Some(value)
+                } else {
+                    self.others.get(pos)
+                }
+            }
             None => None,
         }
     }

@@ -1,4 +1,7 @@
-pub mod Differences
+pub mod Bounds
+pub mod Owed
+pub mod Forgetting
 pub mod Lawful
-pub mod Matches
-pub mod Shown
+pub mod Onto
+pub mod Sorted
+pub mod Unwound

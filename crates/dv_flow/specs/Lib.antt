@@ -1,6 +1,10 @@
 pub use Rattle.dv_change.specs.Changes
 pub use Rattle.dv_change.specs.Positions
 pub mod Placed
-pub mod Owed
+pub mod Bounds
+pub mod Rows
+pub mod Gathered
 pub mod Matching
 pub mod Projecting
+pub mod Unwinding
+pub mod Sorting

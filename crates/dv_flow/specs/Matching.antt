@@ -1,47 +1,31 @@
--- A match stage that is kept by changes: what it has taken in, what it makes, and what holds of that.
-use Rattle.std.specs.Prelude.{◌≡◌, Bool, true, false, cond, List, [], ◌∷◌, filter, length, refl}
+-- The rows that match, by positions.
+use Rattle.std.specs.Prelude.{◌≡◌, Bool, true, false, cond, List, [], ◌∷◌, filter, length, Option, None, refl}
+use Rattle.std.proofs.Common.{ap, sym, ◌∙◌}
 use Rattle.std.specs.List.{AllByRecursion}
 use Rattle.std.specs.Map.{keys_of}
+use Rattle.std.specs.Ordering.{is_eq}
+use Rattle.std.specs.declared.cmp.Ordering.TheVariants.{Equal}
+use Rattle.std.proofs.lemmas.Map.Entries.{option_filter}
 use Rattle.dv_bson.specs.Tree.{Field}
+use Rattle.dv_match.specs.Filter.{Members}
 use Rattle.dv_match.specs.Match.{matches}
-use Rattle.dv_change.specs.Changes.{HaveOneLength, IsPositioned, Positioned}
-use Rattle.dv_change.specs.DiffLaws.{positioned-filter}
-use Rattle.dv_change.specs.Positions.{PosTree}
-use Rattle.dv_flow.specs.declared.matching.MatchTurn.{MatchTurn}
+use Rattle.dv_change.specs.Changes.{HaveOneLength, IsPositioned, Positioned, alone, at}
+use Rattle.dv_change.specs.DiffLaws.{all-filter, at-alone, at-filter, positioned-alone, positioned-filter}
+use Rattle.dv_change.specs.Positions.{IsExact, PosTree, pos_order}
+use Rattle.dv_change.specs.RowLaws.{at-like}
 use Rattle.dv_flow.specs.Placed.{matched_at}
 
--- the rows that it has taken in
-abbrev pub match_left : MatchTurn → Positioned
-match_left t = t.rows.entries
+at-matched : (form : Members) (q : PosTree) (rows : Positioned) → IsPositioned rows → at q (matched_at form rows) ≡ option_filter (matches form) (at q rows)
+at-matched form q rows are = at-filter (λ e. matches form e.1) q (matches form) (λ p v e. refl) rows are
 
--- it looks into no other list
-abbrev pub match_others : MatchTurn → List Positioned
-match_others t = []
+pub match_ordered : (form : Members) (rows : Positioned) → IsPositioned rows → IsPositioned (matched_at form rows)
+match_ordered form rows are = positioned-filter (λ e. matches form e.1) rows are
 
--- the rows that match
-abbrev pub match_makes : MatchTurn → List Positioned → Positioned → Positioned
-match_makes t named rows = matched_at t.filter rows
+pub match_even : (form : Members) (rows : Positioned) → IsPositioned rows → HaveOneLength rows → HaveOneLength (matched_at form rows)
+match_even form rows are one = (one.0, all-filter (λ e. matches form e.1) (λ pos. length pos ≡ one.0) rows one.1)
 
--- its rows stand at exact positions, in their order
-abbrev pub IsSoundMatch : MatchTurn → Type 0
-IsSoundMatch t = IsPositioned (match_left t)
-
-all-filter : (f : PosTree × List Field → Bool) (P : PosTree → Type 0) (es : Positioned) → AllByRecursion P (keys_of es) → AllByRecursion P (keys_of (filter f es))
-all-filter f P [] all = tt
-all-filter f P (e ∷ es) all = by (f e) (all-filter f P es all.1)
-  where
-    by : (b : Bool) → AllByRecursion P (keys_of (filter f es)) → AllByRecursion P (keys_of (cond b (e ∷ filter f es) (filter f es)))
-    by true rest = (all.0, rest)
-    by false rest = rest
-
-pub match_positioned : (t : MatchTurn) → IsSoundMatch t → IsPositioned (match_left t) × AllByRecursion (λ rows. IsPositioned rows) (match_others t)
-match_positioned t sound = (sound, tt)
-
-pub match_ordered : (t : MatchTurn) (named : List Positioned) (rows : Positioned) → IsPositioned rows → IsPositioned (match_makes t named rows)
-match_ordered t named rows are = positioned-filter (λ e. matches t.filter e.1) rows are
-
-pub match_even : (t : MatchTurn) (named : List Positioned) (rows : Positioned) → IsPositioned rows → HaveOneLength rows → HaveOneLength (match_makes t named rows)
-match_even t named rows are one = (one.0, all-filter (λ e. matches t.filter e.1) (λ pos. length pos ≡ one.0) rows one.1)
-
-pub match_empty : (t : MatchTurn) (named : List Positioned) → match_makes t named [] ≡ []
-match_empty t named = refl
+pub match_single : (form : Members) (rows : Positioned) (q p : PosTree) → IsPositioned rows → IsExact q → IsExact p → pos_order q p ≡ Equal → at q (matched_at form rows) ≡ at q (matched_at form (alone p (at p rows)))
+match_single form rows q p are x y e =
+    at-matched form q rows are
+    ∙ ap (option_filter (matches form)) (at-like q p e rows ∙ sym (ap (λ r. cond (is_eq r) (at p rows) None) e) ∙ sym (at-alone q p (at p rows)))
+    ∙ sym (at-matched form q (alone p (at p rows)) (positioned-alone p (at p rows) y))

@@ -1,10 +1,22 @@
 -- What the simple stages make of rows at positions: what they make of the rows, with a position beside each.
-use Rattle.std.specs.Prelude.{filter, map}
-use Rattle.dv_change.specs.Changes.{Positioned}
+use Rattle.std.specs.Prelude.{ℕ, suc, List, [], ◌∷◌, ◌++◌, filter, map, take}
+use Rattle.std.specs.List.{flat_map}
+use Rattle.dv_bson.specs.Tree.{Field}
+use Rattle.dv_order.specs.Key.{KeyTree}
+use Rattle.dv_path.specs.declared.direction.Direction.{Direction}
+use Rattle.dv_path.specs.declared.direction.Direction.TheVariants.{Ascending, Descending}
+use Rattle.dv_path.specs.SortKey.{sort_key}
+use Rattle.dv_path.specs.SortSpec as sorts
+use Rattle.dv_change.specs.declared.position.Part.{Part}
+use Rattle.dv_change.specs.declared.position.Part.TheVariants.{At, Down, Up}
+use Rattle.dv_change.specs.Changes.{Positioned, in_order}
+use Rattle.dv_change.specs.Positions.{PosTree}
 use Rattle.dv_match.specs.Filter.{Members}
 use Rattle.dv_match.specs.Match.{matches}
 use Rattle.dv_row.specs.declared.project.Project.{Project}
+use Rattle.dv_row.specs.declared.unwind.Unwind.{Unwind}
 use Rattle.dv_row.specs.Projecting.{projected}
+use Rattle.dv_row.specs.Unwinding.{unwound}
 
 -- the rows that match, each where it was
 abbrev pub matched_at : Members → Positioned → Positioned
@@ -13,3 +25,29 @@ matched_at form rows = filter (λ e. matches form e.1) rows
 -- each row as it is shown, where the row was
 abbrev pub shown_at : Project → Positioned → Positioned
 shown_at p rows = map (λ e. (e.0, projected p e.1)) rows
+
+-- rows behind a position, each at its number
+abbrev pub numbered : ℕ → PosTree → List (List Field) → Positioned
+numbered i pos [] = []
+numbered i pos (d ∷ ds) = (pos ++ At i ∷ [], d) ∷ numbered (suc i) pos ds
+
+-- the rows of each row, behind its position
+unfoldable pub unwound_at : Unwind → Positioned → Positioned
+unwound_at u rows = in_order (flat_map (λ e. numbered 0 e.0 (unwound u e.1)) rows)
+
+-- a sort key as a part of a position
+abbrev pub part_at : Direction → KeyTree → Part
+part_at Ascending k = Up k
+part_at Descending k = Down k
+
+-- where a sort places a row: its sort keys
+abbrev pub places_of : List sorts.Part → List Field → PosTree
+places_of parts d = map (λ p. part_at p.1 (sort_key d p.0 p.1)) parts
+
+-- each row at its sort keys, and behind them where it was
+unfoldable pub sorted_at : List sorts.Part → Positioned → Positioned
+sorted_at parts rows = in_order (map (λ e. (places_of parts e.1 ++ e.0, e.1)) rows)
+
+-- the first rows
+abbrev pub front_at : ℕ → Positioned → Positioned
+front_at count rows = take count rows

@@ -1,15 +1,21 @@
 //! What holds of stages at positions, each the contract of a function that does nothing: without the positions they are the stages
 //! of a pipeline, and a change of their rows changes few of the rows that they make.
 
-ghost use Rattle.std.specs.Prelude.{◌≡◌, ◌≤◌, filter, length, map};
+ghost use Rattle.std.specs.Prelude.{◌≡◌, ◌+◌, ◌≤◌, List, filter, length, map};
+ghost use Rattle.std.specs.List.{flat_map};
 ghost use Rattle.dv_match.specs.Filter.{Members};
 ghost use Rattle.dv_match.specs.Match.{matches};
 ghost use Rattle.dv_change.specs.declared.change.Change.{Change};
-ghost use Rattle.dv_change.specs.Changes.{IsExactChange, IsPositioned, Positioned, forget, with_change};
+ghost use Rattle.dv_change.specs.Changes.{HaveOneLength, IsExactChange, IsPositioned, Positioned, at, forget, place_of, row_in, with_change};
 ghost use Rattle.dv_change.specs.Difference.{diff};
+ghost use Rattle.dv_path.specs.SortSpec.{Part};
 ghost use Rattle.dv_row.specs.declared.project.Project.{Project};
+ghost use Rattle.dv_row.specs.declared.unwind.Unwind.{Unwind};
 ghost use Rattle.dv_row.specs.Projecting.{projected};
-ghost use Rattle.dv_flow.specs.Placed.{matched_at, shown_at};
+ghost use Rattle.dv_row.specs.Unwinding.{unwound};
+ghost use Rattle.dv_sort.specs.Sorting.{stable};
+ghost use Rattle.dv_flow.specs.Bounds.{rows_made};
+ghost use Rattle.dv_flow.specs.Placed.{matched_at, shown_at, sorted_at, unwound_at};
 
 /// Without positions, the rows that match are the filter of the rows.
 #[tactic(auto, using(crate::proofs::Lawful::lawful))]
@@ -33,4 +39,29 @@ pub fn shown_rows_are_each_row_as_it_is_shown()
 #[tactic(auto, using(crate::proofs::Lawful::lawful))]
 pub fn a_project_hands_on_one_change()
     ensures { (project : Project) (rows : Positioned) (change : Change) → IsPositioned rows → IsExactChange change → length (diff (shown_at project rows) (shown_at project (with_change rows change))) ≤ 1 }
+{}
+
+/// Of the rows of elements, a change of a row changes at most as many as are made of the row that stood there and of the one that
+/// stands there now.
+#[tactic(auto, using(crate::proofs::Lawful::lawful))]
+pub fn an_unwind_hands_on_the_rows_of_a_row()
+    ensures { (unwind : Unwind) (rows : Positioned) (change : Change) → IsPositioned rows → IsExactChange change → length (diff (unwound_at unwind rows) (unwound_at unwind (with_change rows change))) ≤ rows_made unwind (at (place_of change) rows) + rows_made unwind (row_in change) }
+{}
+
+/// Of the rows in order, a change of a row changes two at most: one goes, and one comes.
+#[tactic(auto, using(crate::proofs::Lawful::lawful))]
+pub fn a_sort_hands_on_two_changes()
+    ensures { (parts : List Part) (rows : Positioned) (change : Change) → IsPositioned rows → IsExactChange change → length (diff (sorted_at parts rows) (sorted_at parts (with_change rows change))) ≤ 2 }
+{}
+
+/// Without positions, the rows of elements are those of the rows.
+#[tactic(auto, using(crate::proofs::Lawful::lawful))]
+pub fn unwound_rows_are_the_rows_of_elements()
+    ensures { (unwind : Unwind) (rows : Positioned) → IsPositioned rows → HaveOneLength rows → forget (unwound_at unwind rows) ≡ flat_map (unwound unwind) (forget rows) }
+{}
+
+/// Without positions, rows in the order of a sort are the sorted rows.
+#[tactic(auto, using(crate::proofs::Lawful::lawful))]
+pub fn sorted_rows_are_the_rows_in_order()
+    ensures { (parts : List Part) (rows : Positioned) → IsPositioned rows → forget (sorted_at parts rows) ≡ stable parts (forget rows) }
 {}

@@ -2,12 +2,16 @@
 //! other stages can stand beside them.
 #![tactic(auto)]
 
+mod by_row;
 pub mod laws;
 mod matching;
-mod owing;
 mod project;
-mod taking;
+mod sort;
+mod unwind;
 
+pub use by_row::{ByRow, RowTurn};
 pub use dv_change::{Chain, Change, Input, Part, Pos, Ticks, Turn};
 pub use matching::MatchTurn;
 pub use project::ProjectTurn;
+pub use sort::SortTurn;
+pub use unwind::UnwindTurn;

@@ -1,23 +1,26 @@
 //! How a stage takes in a change of its rows.
 
 ghost use Rattle.std.specs.Prelude.{◌≡◌, IfOk, OnOk};
-ghost use Rattle.dv_change.specs.Changes.{IsExactChange, IsPositioned, at, with_change};
-ghost use Rattle.dv_flow.specs.Owed.{place_of, row_in};
+ghost use Rattle.dv_change.specs.Changes.{IsExactChange, IsPositioned, at, place_of, row_in, with_change};
 
+use crate::change::Change;
+use crate::position::Pos;
 use dv_bson::{Document, NoMemory};
-use dv_change::{Change, Pos};
 use std::collections::BTreeMap;
 
 /// What a change made of rows: where, which row stood there, and which one stands there now.
 #[derive(Debug, Drop)]
-pub(crate) struct Taken {
-    pub(crate) pos: Pos,
-    pub(crate) old: Option<Document>,
-    pub(crate) new: Option<Document>,
+pub struct Taken {
+    /// The position.
+    pub pos: Pos,
+    /// The row that stood there, if any did.
+    pub old: Option<Document>,
+    /// The row that stands there now, if any does.
+    pub new: Option<Document>,
 }
 
 /// Takes a change into the rows. Fails where memory is wanting.
-pub(crate) fn take_in(rows: &mut BTreeMap<Pos, Document>, change: Change) -> Result<Taken, NoMemory>
+pub fn take_in(rows: &mut BTreeMap<Pos, Document>, change: Change) -> Result<Taken, NoMemory>
     requires { IsPositioned rows.old.entries }
     ensures exact { IsExactChange change }
     ensures rows { OnOk result (rows.new.entries ≡ with_change rows.old.entries change) }

@@ -1,0 +1,56 @@
+-- What a stage that makes its rows of each row by itself owes for a change of its rows: what it makes of the changed row alone.
+use Rattle.std.specs.Prelude.{◌≡◌, Bool, true, false, cond, List, [], Option, None, refl}
+use Rattle.std.proofs.Common.{ap, sym, ◌∙◌, inl, inr}
+use Rattle.std.specs.declared.cmp.Ordering.TheVariants.{Equal}
+use Rattle.std.specs.Cmp.{Equal-is, tied_itself}
+use Rattle.std.specs.Ordering.{is_eq}
+use Rattle.dv_bson.specs.Tree.{Field}
+use Rattle.dv_change.specs.declared.change.Change.{Change}
+use Rattle.dv_change.specs.Changes.{IsExactChange, IsPositioned, Positioned, alone, at, place_of, row_in, with_change}
+use Rattle.dv_change.specs.Difference.{diff}
+use Rattle.dv_change.specs.DiffLaws.{IsPartAt, at-alone, at-changed, diff-parts, exact-place, positioned-alone, positioned-changed}
+use Rattle.dv_change.specs.PositionLaws.{pos_order_total}
+use Rattle.dv_change.specs.Positions.{IsExact, PosTree, pos_order}
+
+module _ (makes : Positioned → Positioned) (origin : PosTree → PosTree)
+    (ordered : (rows : Positioned) → IsPositioned rows → IsPositioned (makes rows))
+    (empty : makes [] ≡ [])
+    (exact : (q : PosTree) → IsExact q → IsExact (origin q))
+    (single : (rows : Positioned) (q p : PosTree) → IsPositioned rows → IsExact q → IsExact p → pos_order (origin q) p ≡ Equal → at q (makes rows) ≡ at q (makes (alone p (at p rows)))) where
+
+  -- what it makes of its own row
+  at-own : (rows : Positioned) (q : PosTree) → IsPositioned rows → IsExact q → at q (makes rows) ≡ at q (makes (alone (origin q) (at (origin q) rows)))
+  at-own rows q are x = single rows q (origin q) are x (exact q x) (tied_itself pos_order_total (origin q))
+
+  -- nothing of a row that isn't its own
+  at-other : (p : PosTree) (row : Option (List Field)) (q : PosTree) → IsExact p → IsExact q → is_eq (pos_order (origin q) p) ≡ false → at q (makes (alone p row)) ≡ None
+  at-other p row q px x other =
+      at-own (alone p row) q (positioned-alone p row px) x
+      ∙ ap (λ r. at q (makes (alone (origin q) r))) (at-alone (origin q) p row ∙ ap (λ b. cond b row None) other)
+      ∙ ap (at q) empty
+
+  module _ (rows : Positioned) (change : Change) (are : IsPositioned rows) (changes : IsExactChange change) where
+    after : IsPositioned (with_change rows change)
+    after = positioned-changed rows change are changes
+
+    part : (q : PosTree) (own : Bool) → IsExact q → is_eq (pos_order (origin q) (place_of change)) ≡ own
+        → IsPartAt (makes rows) (makes (with_change rows change)) (makes (alone (place_of change) (at (place_of change) rows))) (makes (alone (place_of change) (row_in change))) q
+    part q true x own =
+        let p = place_of change in
+        let place = exact-place change changes in
+        let beside = (Equal-is (pos_order (origin q) p)).0 own in
+        let there : at p (with_change rows change) ≡ row_in change = at-changed p rows change are ∙ ap (λ r. cond (is_eq r) (row_in change) (at p rows)) (tied_itself pos_order_total p) in
+        inl (sym (single rows q p are x place beside), sym (single (with_change rows change) q p after x place beside ∙ ap (λ r. at q (makes (alone p r))) there))
+    part q false x other =
+        let p = place_of change in
+        let place = exact-place change changes in
+        let same : at (origin q) (with_change rows change) ≡ at (origin q) rows = at-changed (origin q) rows change are ∙ ap (λ b. cond b (row_in change) (at (origin q) rows)) other in
+        inr (at-other p (at p rows) q place x other, at-other p (row_in change) q place x other,
+        at-own rows q are x ∙ ap (λ r. at q (makes (alone (origin q) r))) (sym same) ∙ sym (at-own (with_change rows change) q after x))
+
+    pub row-owed : diff (makes rows) (makes (with_change rows change)) ≡ diff (makes (alone (place_of change) (at (place_of change) rows))) (makes (alone (place_of change) (row_in change)))
+    row-owed =
+        let p = place_of change in
+        let place = exact-place change changes in
+        diff-parts (makes rows) (makes (with_change rows change)) (makes (alone p (at p rows))) (makes (alone p (row_in change))) (ordered rows are) (ordered (with_change rows change) after) (ordered (alone p (at p rows)) (positioned-alone p (at p rows) place)) (ordered (alone p (row_in change)) (positioned-alone p (row_in change) place)) (λ q x.
+        part q (is_eq (pos_order (origin q) p)) x refl)
