@@ -17,7 +17,6 @@ module _ (makes : Positioned → Positioned) (origin : PosTree → PosTree)
     (empty : makes [] ≡ [])
     (exact : (q : PosTree) → IsExact q → IsExact (origin q))
     (single : (rows : Positioned) (q p : PosTree) → IsPositioned rows → IsExact q → IsExact p → pos_order (origin q) p ≡ Equal → at q (makes rows) ≡ at q (makes (alone p (at p rows)))) where
-
   -- what it makes of its own row
   at-own : (rows : Positioned) (q : PosTree) → IsPositioned rows → IsExact q → at q (makes rows) ≡ at q (makes (alone (origin q) (at (origin q) rows)))
   at-own rows q are x = single rows q (origin q) are x (exact q x) (tied_itself pos_order_total (origin q))
@@ -45,8 +44,11 @@ module _ (makes : Positioned → Positioned) (origin : PosTree → PosTree)
         let p = place_of change in
         let place = exact-place change changes in
         let same : at (origin q) (with_change rows change) ≡ at (origin q) rows = at-changed (origin q) rows change are ∙ ap (λ b. cond b (row_in change) (at (origin q) rows)) other in
-        inr (at-other p (at p rows) q place x other, at-other p (row_in change) q place x other,
-        at-own rows q are x ∙ ap (λ r. at q (makes (alone (origin q) r))) (sym same) ∙ sym (at-own (with_change rows change) q after x))
+        inr (
+          at-other p (at p rows) q place x other,
+          at-other p (row_in change) q place x other,
+          at-own rows q are x ∙ ap (λ r. at q (makes (alone (origin q) r))) (sym same) ∙ sym (at-own (with_change rows change) q after x),
+        )
 
     pub row-owed : diff (makes rows) (makes (with_change rows change)) ≡ diff (makes (alone (place_of change) (at (place_of change) rows))) (makes (alone (place_of change) (row_in change)))
     row-owed =

@@ -8,3 +8,5 @@ pub mod Matching
 pub mod Projecting
 pub mod Unwinding
 pub mod Sorting
+pub mod Limiting
+pub mod Simple

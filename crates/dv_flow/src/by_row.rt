@@ -23,7 +23,7 @@ pub trait ByRow {
     /// A copy of its own. Fails where memory is wanting.
     fn try_clone(&self) -> Result<Self, NoMemory>
     where
-        Self: Sized
+        Self: Sized,
         ensures { IfOk result (λ copy. copy ≡ self.now) };
 
     /// What it makes of a row at a position. A row that it made before may lend its names. Fails where memory is wanting.
@@ -79,10 +79,7 @@ impl<S: ByRow> RowTurn<S> {
 
     /// Takes in a change of its rows. Gives what it made of the row that stood at its place, and what it makes of the one that
     /// stands there now.
-    fn take(
-        &mut self,
-        change: Change,
-    ) -> Result<(Ordered<Document>, Ordered<Document>), NoMemory>
+    fn take(&mut self, change: Change) -> Result<(Ordered<Document>, Ordered<Document>), NoMemory>
         requires { IsSoundRows self.old }
         ensures sound { OnOk result (IsSoundRows self.new) }
         ensures stage { OnOk result (self.new.stage ≡ self.old.stage) }
@@ -112,10 +109,7 @@ impl<S: ByRow> RowTurn<S> {
         ensures { IfOk result (λ rows. rows ≡ S.makes self.now.stage (alone pos.now row.now)) }
     {
         match row {
-            Some(row) => {
-                self.stage
-                    .rows_of(self.alloc, pos, row, self.last.as_ref())
-            }
+            Some(row) => { self.stage.rows_of(self.alloc, pos, row, self.last.as_ref()) }
             None => Ok(Ordered::new(self.alloc)),
         }
     }

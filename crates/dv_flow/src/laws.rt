@@ -1,7 +1,7 @@
 //! What holds of stages at positions, each the contract of a function that does nothing: without the positions they are the stages
 //! of a pipeline, and a change of their rows changes few of the rows that they make.
 
-ghost use Rattle.std.specs.Prelude.{◌≡◌, ◌+◌, ◌≤◌, List, filter, length, map};
+ghost use Rattle.std.specs.Prelude.{◌≡◌, ◌+◌, ◌≤◌, ℕ, List, filter, length, map, take};
 ghost use Rattle.std.specs.List.{flat_map};
 ghost use Rattle.dv_match.specs.Filter.{Members};
 ghost use Rattle.dv_match.specs.Match.{matches};
@@ -15,7 +15,7 @@ ghost use Rattle.dv_row.specs.Projecting.{projected};
 ghost use Rattle.dv_row.specs.Unwinding.{unwound};
 ghost use Rattle.dv_sort.specs.Sorting.{stable};
 ghost use Rattle.dv_flow.specs.Bounds.{rows_made};
-ghost use Rattle.dv_flow.specs.Placed.{matched_at, shown_at, sorted_at, unwound_at};
+ghost use Rattle.dv_flow.specs.Placed.{front_at, matched_at, shown_at, sorted_at, unwound_at};
 
 /// Without positions, the rows that match are the filter of the rows.
 #[tactic(auto, using(crate::proofs::Lawful::lawful))]
@@ -64,4 +64,16 @@ pub fn unwound_rows_are_the_rows_of_elements()
 #[tactic(auto, using(crate::proofs::Lawful::lawful))]
 pub fn sorted_rows_are_the_rows_in_order()
     ensures { (parts : List Part) (rows : Positioned) → IsPositioned rows → forget (sorted_at parts rows) ≡ stable parts (forget rows) }
+{}
+
+/// Without positions, the first rows are the first of the rows.
+#[tactic(auto, using(crate::proofs::Lawful::lawful))]
+pub fn first_rows_are_the_first_of_the_rows()
+    ensures { (count : ℕ) (rows : Positioned) → forget (front_at count rows) ≡ take count (forget rows) }
+{}
+
+/// Of the first rows, a change of a row changes two at most: one goes, and one comes.
+#[tactic(auto, using(crate::proofs::Lawful::lawful))]
+pub fn a_limit_hands_on_two_changes()
+    ensures { (count : ℕ) (rows : Positioned) (change : Change) → IsPositioned rows → IsExactChange change → length (diff (front_at count rows) (front_at count (with_change rows change))) ≤ 2 }
 {}

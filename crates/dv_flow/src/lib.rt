@@ -4,14 +4,18 @@
 
 mod by_row;
 pub mod laws;
+mod limit;
 mod matching;
 mod project;
+mod simple;
 mod sort;
 mod unwind;
 
 pub use by_row::{ByRow, RowTurn};
 pub use dv_change::{Chain, Change, Input, Part, Pos, Ticks, Turn};
+pub use limit::LimitTurn;
 pub use matching::MatchTurn;
 pub use project::ProjectTurn;
+pub use simple::SimpleTurn;
 pub use sort::SortTurn;
 pub use unwind::UnwindTurn;

@@ -1,0 +1,65 @@
+//! The simple stages together.
+
+ghost use Rattle.std.specs.Prelude.{[]};
+ghost use Rattle.dv_flow.specs.Simple.{IsSoundSimple, simple_empty, simple_even, simple_left, simple_makes, simple_ordered, simple_positioned};
+
+use crate::limit::LimitTurn;
+use crate::matching::MatchTurn;
+use crate::project::ProjectTurn;
+use crate::sort::SortTurn;
+use crate::unwind::UnwindTurn;
+use dv_bson::NoMemory;
+use dv_change::{Change, Input, Ticks, Turn};
+
+/// A stage of one of these kinds, kept by changes, so that they can stand in one chain.
+#[derive(Drop)]
+pub enum SimpleTurn {
+    /// `$match`.
+    Match(MatchTurn),
+    /// `$project`.
+    Project(ProjectTurn),
+    /// `$unwind`.
+    Unwind(UnwindTurn),
+    /// `$sort`.
+    Sort(SortTurn),
+    /// `$limit`.
+    Limit(LimitTurn),
+}
+
+impl Turn for SimpleTurn {
+    ghost left = { simple_left };
+
+    ghost others = { λ t. [] };
+
+    ghost makes = { simple_makes };
+
+    ghost sound = { IsSoundSimple };
+
+    ghost positioned = { simple_positioned };
+
+    ghost ordered = { simple_ordered };
+
+    ghost even = { simple_even };
+
+    ghost empty = { simple_empty };
+
+    fn named(&self) -> usize {
+        0
+    }
+
+    fn change(
+        &mut self,
+        input: Input,
+        change: Change,
+        ticks: &mut Ticks,
+        out: &mut Vec<Change>,
+    ) -> Result<(), NoMemory> {
+        match self {
+            SimpleTurn::Match(turn) => turn.change(input, change, ticks, out),
+            SimpleTurn::Project(turn) => turn.change(input, change, ticks, out),
+            SimpleTurn::Unwind(turn) => turn.change(input, change, ticks, out),
+            SimpleTurn::Sort(turn) => turn.change(input, change, ticks, out),
+            SimpleTurn::Limit(turn) => turn.change(input, change, ticks, out),
+        }
+    }
+}
