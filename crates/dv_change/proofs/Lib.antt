@@ -1,4 +1,5 @@
 pub mod Linking
 pub mod Fronts
 pub mod Coming
+pub mod Kept
 pub mod Lawful

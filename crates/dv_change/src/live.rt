@@ -1,0 +1,111 @@
+//! Rows that are kept by changes.
+
+ghost use Rattle.std.specs.Prelude.{◌≡◌, ◌↔◌, [], length, IfOk, IsTrue, OnOk};
+ghost use Rattle.std.specs.List.{AllByRecursion};
+ghost use Rattle.dv_change.specs.Changes.{Positioned, forget, with_change, with_changes};
+ghost use Rattle.dv_change.specs.Inputs.{left_after};
+ghost use Rattle.dv_change.specs.Linked.{HasTaken, IsLinked, first_left, forms_of};
+ghost use Rattle.dv_change.specs.Raised.{raised};
+ghost use Rattle.dv_change.specs.Work.{HasAny, forms_after, work_in};
+
+use crate::chain::Chain;
+use crate::change::Change;
+use crate::input::Input;
+use crate::position::Pos;
+use crate::ticks::Ticks;
+use crate::turn::Turn;
+use dv_bson::{Document, NoMemory};
+use std::alloc::Global;
+use std::collections::BTreeMap;
+use std::collections::btree_map::Values;
+
+/// The rows that come out of a chain of turns, and the count of the work that its changes took.
+#[derive(Drop)]
+pub struct Live<T: Turn + Drop> {
+    alloc: Global,
+    chain: Chain<T>,
+    rows: BTreeMap<Pos, Document>,
+    ticks: Ticks,
+}
+
+impl<T: Turn + Drop> Live<T> {
+    /// The rows of turns that have taken in nothing.
+    pub fn new(alloc: Global, turns: Vec<T>) -> Self
+        requires { AllByRecursion (λ t. T.sound t × (T.left t ≡ [])) turns.items }
+        ensures turns { result.chain ≡ turns.items }
+        ensures taken { HasTaken T.left T.others T.makes T.sound result.chain result.rows.entries [] }
+        ensures ticks { result.ticks ≡ 0 }
+    {
+        Live {
+            alloc,
+            chain: Chain::new(alloc, turns),
+            rows: BTreeMap::new(alloc),
+            ticks: Ticks::new(),
+        }
+    }
+
+    /// Takes in a change of an input. Fails where memory is wanting; then all is dropped.
+    pub fn take(self, input: Input, change: Change) -> Result<Self, NoMemory>
+        requires linked { IsLinked T.left T.others T.makes T.sound self.chain (first_left T.left T.others T.makes T.sound self.chain) }
+        requires input { HasAny input (forms_of T.left T.others T.makes T.sound self.chain) }
+        ensures forms { IfOk result (λ live. forms_of T.left T.others T.makes T.sound live.chain ≡ forms_after input change (forms_of T.left T.others T.makes T.sound self.chain)) }
+        ensures taken { IfOk result (λ live. (rows : Positioned) → HasTaken T.left T.others T.makes T.sound self.chain self.rows.entries rows → HasTaken T.left T.others T.makes T.sound live.chain live.rows.entries (left_after input change rows)) }
+        ensures ticks { IfOk result (λ live. (rows : Positioned) → HasTaken T.left T.others T.makes T.sound self.chain self.rows.entries rows → live.ticks ≡ raised self.ticks (work_in input change (forms_of T.left T.others T.makes T.sound self.chain) rows)) }
+    {
+        let mut live = self;
+        let mut out = Vec::new(live.alloc);
+        live.chain.change(input, change, &mut live.ticks, &mut out)?;
+        put_all(&mut live.rows, out)?;
+        Ok(live)
+    }
+
+    /// The rows, in the order of their positions.
+    pub fn rows(&self) -> Values<'_, Pos, Document>
+        ensures { result ≡ forget self.now.rows.entries }
+    {
+        self.rows.values()
+    }
+
+    /// How many rows there are.
+    pub fn len(&self) -> usize
+        ensures { result ≡ length self.now.rows.entries }
+    {
+        self.rows.len()
+    }
+
+    /// Whether there is no row.
+    pub fn is_empty(&self) -> bool
+        ensures { IsTrue result ↔ (self.now.rows.entries ≡ []) }
+    {
+        self.rows.is_empty()
+    }
+
+    /// The count of the work that its changes took: for each turn, 1 for each change that came to it and 1 for each that it
+    /// handed on.
+    pub fn ticks(&self) -> u64
+        ensures { result ≡ self.now.ticks }
+    {
+        self.ticks.count()
+    }
+}
+
+/// Carries the changes out, one after the other.
+fn put_all(rows: &mut BTreeMap<Pos, Document>, changes: Vec<Change>) -> Result<(), NoMemory>
+    ensures { OnOk result (rows.new.entries ≡ with_changes rows.old.entries changes.items) }
+{
+    'changes: for change in changes {
+        put(rows, change)?;
+    }
+    Ok(())
+}
+
+/// Carries the change out.
+fn put(rows: &mut BTreeMap<Pos, Document>, change: Change) -> Result<(), NoMemory>
+    ensures { OnOk result (rows.new.entries ≡ with_change rows.old.entries change) }
+{
+    match change {
+        Change::Put { pos, row } => drop(rows.insert(pos, row)?),
+        Change::Gone { pos } => drop(rows.remove(&pos)),
+    }
+    Ok(())
+}
