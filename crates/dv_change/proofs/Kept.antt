@@ -1,12 +1,12 @@
 -- Rows that are kept behind a chain, after a change of an input.
-use Rattle.std.proofs.Common.{◌≡◌, ◌∙◌, ap, sym, subst, refl, List, [], ◌∷◌, ℕ}
+use Rattle.std.proofs.Common.{◌≡◌, ◌∙◌, ap, sym, subst, refl, List, [], ◌∷◌}
 use Rattle.dv_change.specs.declared.change.Change.{Change}
 use Rattle.dv_change.specs.Changes.{Positioned, with_changes}
 use Rattle.dv_change.specs.declared.input.Input.{Input}
 use Rattle.dv_change.specs.declared.input.Input.TheVariants.{Left, Named}
 use Rattle.dv_change.specs.Inputs.{left_after}
 use Rattle.dv_change.specs.Linked.{HasTaken, IsLinked, first_left, forms_of}
-use Rattle.dv_change.specs.Work.{Form, forms_after, pass_in, through, work_in}
+use Rattle.dv_change.specs.Work.{forms_after, pass_in, through, work_in}
 
 module _ {T : Type 0} (left : T → Positioned) (others : T → List Positioned) (makes : T → List Positioned → Positioned → Positioned) (sound : T → Type 0) where
   -- without a turn the rows are those that come

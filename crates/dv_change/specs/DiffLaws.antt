@@ -112,10 +112,10 @@ pub exact-both : (some others : List Change) → AllByRecursion IsExactChange so
 exact-both [] others s o = o
 exact-both (change ∷ some) others s o = (s.0, exact-both some others s.1 o)
 
-abbrev went : Positioned → PosTree × List Field → Bool
+abbrev pub went : Positioned → PosTree × List Field → Bool
 went new e = is_none (at e.0 new)
 
-abbrev differs : Positioned → PosTree × List Field → Bool
+abbrev pub differs : Positioned → PosTree × List Field → Bool
 differs old e = not (stands (at e.0 old) e.1)
 
 pub exact-diff : (old new : Positioned) → IsPositioned old → IsPositioned new → AllByRecursion IsExactChange (diff old new)
@@ -123,10 +123,10 @@ exact-diff old new o n =
     exact-both (gones old new) (puts old new) (exact-go (filter (went new) old) (positioned-filter (went new) old o).exact) (exact-come (filter (differs old) new) (positioned-filter (differs old) new n).exact)
 
 -- what goes and what comes at a position
-at-went : (old new : Positioned) (q : PosTree) → IsPositioned old → at q (filter (went new) old) ≡ option_filter (λ v. is_none (at q new)) (at q old)
+pub at-went : (old new : Positioned) (q : PosTree) → IsPositioned old → at q (filter (went new) old) ≡ option_filter (λ v. is_none (at q new)) (at q old)
 at-went old new q o = at-filter (went new) q (λ v. is_none (at q new)) (λ p v e. ap is_none (sym (at-like q p e new))) old o
 
-at-differs : (old new : Positioned) (q : PosTree) → IsPositioned new → at q (filter (differs old) new) ≡ option_filter (λ v. not (stands (at q old) v)) (at q new)
+pub at-differs : (old new : Positioned) (q : PosTree) → IsPositioned new → at q (filter (differs old) new) ≡ option_filter (λ v. not (stands (at q old) v)) (at q new)
 at-differs old new q n = at-filter (differs old) q (λ v. not (stands (at q old) v)) (λ p v e. ap (λ a. not (stands a v)) (sym (at-like q p e old))) new n
 
 pub with_changes-both : (rows : Positioned) (some others : List Change) → with_changes rows (some ++ others) ≡ with_changes (with_changes rows some) others

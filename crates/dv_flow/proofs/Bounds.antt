@@ -1,6 +1,6 @@
 -- How many changes a stage that goes row by row hands on for one of its rows.
 use Rattle.std.specs.Prelude.{◌≡◌, ◌+◌, ◌≤◌, suc, ℕ, drop, Bool, true, false, not, cond, List, [], ◌∷◌, ◌++◌, length, map, filter, Option, None, Some, is_none, refl}
-use Rattle.std.proofs.Common.{ap, arith, sym, ◌∙◌}
+use Rattle.std.proofs.Common.{ap, arith}
 use Rattle.std.specs.Ordering.{is_eq, match_ordering}
 use Rattle.std.specs.Cmp.{tied_itself}
 use Rattle.std.specs.declared.cmp.Ordering.{Ordering}
@@ -16,7 +16,7 @@ use Rattle.dv_row.specs.Projecting.{projected}
 use Rattle.dv_row.specs.Unwinding.{unwound}
 use Rattle.dv_change.specs.declared.change.Change.{Change}
 use Rattle.dv_change.specs.declared.change.Change.TheVariants.{Gone, Put}
-use Rattle.dv_change.specs.Changes.{IsExactChange, IsPositioned, Positioned, alone, at, forget, in_order, place_of, row_in, with_change}
+use Rattle.dv_change.specs.Changes.{IsExactChange, IsPositioned, Positioned, alone, at, in_order, place_of, row_in, with_change}
 use Rattle.dv_change.specs.Difference.{diff, gones, puts, stands}
 use Rattle.dv_change.specs.Ordered.{put}
 use Rattle.dv_change.specs.PositionLaws.{pos_order_total}

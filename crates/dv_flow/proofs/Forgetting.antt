@@ -1,5 +1,5 @@
 -- Without positions the stages are those of a pipeline.
-use Rattle.std.specs.Prelude.{◌≡◌, Bool, true, false, cond, ◌∷◌, [], List, filter, map, refl}
+use Rattle.std.specs.Prelude.{◌≡◌, Bool, true, false, cond, ◌∷◌, [], filter, map, refl}
 use Rattle.std.proofs.Common.{ap}
 use Rattle.dv_match.specs.Filter.{Members}
 use Rattle.dv_match.specs.Match.{matches}

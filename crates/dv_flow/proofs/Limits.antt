@@ -1,14 +1,14 @@
 -- The first rows, kept by changes: what a change of the rows makes of them, and where the rows stand that come and go.
-use Rattle.std.specs.Prelude.{◌≡◌, ◌+◌, ◌-◌, ◌<◌, ◌≤◌, ℕ, suc, Bool, true, false, not, cond, ◌&&◌, ◌||◌, ◌↔◌, List, [], ◌∷◌, ◌++◌, length, map, filter, take, Option, None, Some, is_none, is_some, IsSome, OnOk, slice_get, ⊤, zero, refl}
-use Rattle.std.proofs.Common.{add-one, ap, append-nil, append_assoc, arith, inl, inr, sym, subst, take_at, Result, Ok, Err, ◌∙◌}
+use Rattle.std.specs.Prelude.{◌≡◌, ◌+◌, ◌-◌, ◌<◌, ◌≤◌, ℕ, suc, Bool, true, false, not, cond, ◌&&◌, ◌||◌, ◌↔◌, List, [], ◌∷◌, ◌++◌, length, filter, take, Option, None, Some, is_none, is_some, IsSome, OnOk, slice_get, ⊤, zero, refl}
+use Rattle.std.proofs.Common.{ap, append-nil, append_assoc, arith, inl, inr, sym, subst, take_at, Result, Ok, Err, ◌∙◌}
 use Rattle.std.proofs.lemmas.List.Elements.{recursion_from_All}
-use Rattle.std.proofs.lemmas.List.{length-append, length-map, length_push, nil_from_length, take-map}
+use Rattle.std.proofs.lemmas.List.{length-append, length-map, length_push, take-map}
 use Rattle.std.proofs.lemmas.Map.Entries.{option_filter}
+use Rattle.std.proofs.lemmas.Map.Keys.{sorted_head}
 use Rattle.std.specs.declared.cmp.Ordering.{Ordering}
 use Rattle.std.specs.declared.cmp.Ordering.TheVariants.{Less, Equal, Greater}
 use Rattle.std.specs.Cmp.{Equal-is, alike_right}
-use Rattle.std.specs.List.{All, AllByRecursion, list_all}
-use Rattle.std.specs.List.Sorted.{IsStrictlySortedBy}
+use Rattle.std.specs.List.{All, AllByRecursion}
 use Rattle.std.specs.Map.{keys_of}
 use Rattle.std.specs.Option.{option_map}
 use Rattle.std.specs.Ordering.{is_eq, is_gt, is_lt, match_ordering, ordering_reverse}
@@ -16,12 +16,12 @@ use Rattle.dv_bson.specs.Tree.{Field}
 use Rattle.dv_change.specs.declared.change.Change.{Change}
 use Rattle.dv_change.specs.declared.change.Change.TheVariants.{Gone, Put}
 use Rattle.dv_change.specs.Changes.{IsExactChange, IsPositioned, Positioned, at, forget, place_of, with_change}
-use Rattle.dv_change.specs.DiffLaws.{IsPartAt, at-filter, diff-parts, exact-place, or_else, positioned-changed, positioned-filter}
+use Rattle.dv_change.specs.DiffLaws.{IsPartAt, at-differs, at-went, diff-parts, exact-place, or_else, positioned-changed, positioned-filter}
 use Rattle.dv_change.specs.Difference.{diff, gones, puts, stands}
 use Rattle.dv_change.specs.Ordered.{gone, put}
 use Rattle.dv_change.specs.PositionLaws.{pos_order_total}
 use Rattle.dv_change.specs.Positions.{IsExact, PosTree, pos_order}
-use Rattle.dv_change.specs.RowLaws.{at-gone, at-like, at-put, at_back, positioned-gone, positioned-none, positioned-put, positioned-tail, same_rows}
+use Rattle.dv_change.specs.RowLaws.{at-gone, at-like, at-put, at_back, positioned-gone, positioned-none, positioned-put, positioned-tail, put-front, same_rows}
 use Rattle.dv_flow.specs.Limiting.{at_either, edge_of, is_past, last_place, limit_ordered, next_place, with_row}
 use Rattle.dv_flow.specs.Placed.{front_at}
 
@@ -196,18 +196,19 @@ cut-length (suc n) (x ∷ xs) ys e =
     let rest = cut-length n xs ys tail in
     (omega (arith, rest.0), λ h. ap suc (rest.1 h))
 
+-- so long a front is the front of all
 pub cut-full : (n : ℕ) (xs ys : Positioned) → length xs ≡ n → xs ≡ front_at n (xs ++ ys)
 cut-full n xs ys e = sym (take_at xs ys n e)
 
-pub cut-all : (n : ℕ) (xs ys : Positioned) → length xs ≤ n → length ys ≡ 0 → xs ≡ front_at n (xs ++ ys)
-cut-all n [] [] h e = sym (front-none n)
-cut-all zero (x ∷ xs) ys h e = absurd (omega arith)
-cut-all (suc n) (x ∷ xs) ys h e = ap (λ es. x ∷ es) (cut-all n xs ys (omega arith) e)
-cut-all n [] (y ∷ ys) h e = absurd (omega arith)
+cut-all : (n : ℕ) (xs : Positioned) → length xs ≤ n → xs ≡ front_at n (xs ++ [])
+cut-all zero [] h = refl
+cut-all zero (x ∷ xs) h = absurd (omega arith)
+cut-all (suc n) [] h = refl
+cut-all (suc n) (x ∷ xs) h = ap (λ es. x ∷ es) (cut-all n xs (omega arith))
 
--- with other rows behind it, where there are none but where there were some
+-- with other rows behind it, of which there are none where there were none
 pub cut-others : (n : ℕ) (xs ys zs : Positioned) → xs ≡ front_at n (xs ++ ys) → (0 < length zs → 0 < length ys) → xs ≡ front_at n (xs ++ zs)
-cut-others n xs ys [] e some = cut-all n xs [] (cut-length n xs ys e).0 refl
+cut-others n xs ys [] e some = cut-all n xs (cut-length n xs ys e).0
 cut-others n xs ys (z ∷ zs) e some = cut-full n xs (z ∷ zs) ((cut-length n xs ys e).1 (some (omega arith)))
 
 -- the first row behind the front
@@ -235,7 +236,7 @@ at-place i k v [] ys e = cc
 at-place zero k v (x ∷ xs) ys e = ap (option_map (λ e. e.0)) e
 at-place (suc i) k v (x ∷ xs) ys e = at-place i k v xs ys e
 
--- where it is, its last one is
+-- where it is full, its last one is
 pub last-is : (n : ℕ) (k : PosTree) (v : List Field) (xs ys : Positioned) → xs ≡ front_at n (xs ++ ys) → n ≤ length xs → slice_get xs (length xs - 1) ≡ Some (k, v) → last_place n (xs ++ ys) ≡ Some k
 last-is zero k v [] ys e h there = cc
 last-is zero k v (x ∷ xs) ys e h there = cc
@@ -244,6 +245,7 @@ last-is (suc n) k v xs ys e h there =
     let place : length xs - 1 ≡ n = omega (arith, most) in
     at-place n k v xs ys (ap (slice_get xs) (sym place) ∙ there)
 
+-- without a first or a last one there is none
 pub no-length : (xs : Positioned) → IsSome {T = ⊤} None ↔ (0 < length xs) → length xs ≡ 0
 no-length [] some = refl
 no-length (x ∷ xs) some = let e = some.1 (omega arith) in cc
@@ -269,8 +271,8 @@ all-but p k q above e = by (pos_order k q) refl e
         let second : pos_order k p ≡ Less = pos_order_total.antisymm k p ∙ ap ordering_reverse above in
         ap is_gt (pos_order_total.antisymm p q ∙ ap ordering_reverse (pos_order_total.trans q k p first second))
 
--- behind the last one is behind all
-pub past-last : (p k : PosTree) (xs : Positioned) → pos_order p k ≡ Greater → AllByRecursion (λ q. is_lt (pos_order k q) ≡ false) (keys_of xs) → is_past p xs ≡ true
+-- what stands behind the last one stands behind all
+past-last : (p k : PosTree) (xs : Positioned) → pos_order p k ≡ Greater → AllByRecursion (λ q. is_lt (pos_order k q) ≡ false) (keys_of xs) → is_past p xs ≡ true
 past-last p k [] above all = refl
 past-last p k (x ∷ xs) above all = ap (λ b. b && is_past p xs) (all-but p k x.0 above all.0) ∙ past-last p k xs above all.1
 
@@ -278,14 +280,14 @@ never : (b : Bool) → (b && false) ≡ false
 never true = refl
 never false = refl
 
-pub past-not : (p k : PosTree) (v : List Field) (i : ℕ) (xs : Positioned) → is_gt (pos_order p k) ≡ false → slice_get xs i ≡ Some (k, v) → is_past p xs ≡ false
+past-not : (p k : PosTree) (v : List Field) (i : ℕ) (xs : Positioned) → is_gt (pos_order p k) ≡ false → slice_get xs i ≡ Some (k, v) → is_past p xs ≡ false
 past-not p k v i [] below e = cc
 past-not p k v zero (x ∷ xs) below e =
     let same : x ≡ (k, v) = cc in
     ap (λ b. b && is_past p xs) (ap (λ e. is_gt (pos_order p e.0)) same ∙ below)
 past-not p k v (suc i) (x ∷ xs) below e = ap (λ b. is_gt (pos_order p x.0) && b) (past-not p k v i xs below e) ∙ never (is_gt (pos_order p x.0))
 
--- as the last one tells
+-- so the last one tells
 pub past-is : (p k : PosTree) (v : List Field) (i : ℕ) (xs : Positioned) → slice_get xs i ≡ Some (k, v) → All (λ q. is_lt (pos_order k q) ≡ false) (keys_of xs) → is_gt (pos_order p k) ≡ is_past p xs
 past-is p k v i xs there all = by (pos_order p k) refl
   where
@@ -294,9 +296,19 @@ past-is p k v i xs there all = by (pos_order p k) refl
     by Equal o = sym (past-not p k v i xs (ap is_gt o) there)
     by Greater o = sym (past-last p k xs o (recursion_from_All (λ q. is_lt (pos_order k q) ≡ false) (keys_of xs) all))
 
+-- no row is there
+past-apart : (p : PosTree) (xs : Positioned) → is_past p xs ≡ true → is_some (at p xs) ≡ false
+past-apart p [] past = refl
+past-apart p (x ∷ xs) past = by (pos_order p x.0) past (past-apart p xs)
+  where
+    by : (o : Ordering) → (is_gt o && is_past p xs) ≡ true → (is_past p xs ≡ true → is_some (at p xs) ≡ false) → is_some (cond (is_eq o) (Some x.1) (at p xs)) ≡ false
+    by Less past rest = cc
+    by Equal past rest = cc
+    by Greater past rest = rest past
+
 -- ---- rows that come
 
--- behind all of the front, it comes among the others
+-- behind all of the front, a row comes among the others
 pub put-past : (p : PosTree) (r : List Field) (xs ys : Positioned) → is_past p xs ≡ true → put p r (xs ++ ys) ≡ xs ++ put p r ys
 put-past p r [] ys past = refl
 put-past p r (x ∷ xs) ys past = by (pos_order p x.0) past (put-past p r xs ys)
@@ -306,16 +318,6 @@ put-past p r (x ∷ xs) ys past = by (pos_order p x.0) past (put-past p r xs ys)
     by Less past rest = cc
     by Equal past rest = cc
     by Greater past rest = ap (λ es. x ∷ es) (rest past)
-
--- no row stands where all are before
-past-apart : (p : PosTree) (xs : Positioned) → is_past p xs ≡ true → is_some (at p xs) ≡ false
-past-apart p [] past = refl
-past-apart p (x ∷ xs) past = by (pos_order p x.0) past (past-apart p xs)
-  where
-    by : (o : Ordering) → (is_gt o && is_past p xs) ≡ true → (is_past p xs ≡ true → is_some (at p xs) ≡ false) → is_some (cond (is_eq o) (Some x.1) (at p xs)) ≡ false
-    by Less past rest = cc
-    by Equal past rest = cc
-    by Greater past rest = rest past
 
 -- else in the front, where that isn't full or the row isn't behind all of it
 pub put-within : (n : ℕ) (p : PosTree) (r : List Field) (xs ys : Positioned) → xs ≡ front_at n (xs ++ ys) → (n ≤ length xs → is_past p xs ≡ false) → put p r xs ++ ys ≡ put p r (xs ++ ys)
@@ -368,14 +370,6 @@ nothing-owed n change xs ys are long past =
 
 -- ---- a row that moves from the one list to the other
 
-first-below : (e : PosTree × List Field) (rows : Positioned) → IsPositioned (e ∷ rows) → AllByRecursion (λ q. pos_order e.0 q ≡ Less) (keys_of rows)
-unfolding IsStrictlySortedBy
-first-below e rows are = are.ascending.0
-
-put-front : (p : PosTree) (r : List Field) (rows : Positioned) → AllByRecursion (λ q. pos_order p q ≡ Less) (keys_of rows) → put p r rows ≡ (p, r) ∷ rows
-put-front p r [] below = refl
-put-front p r (e ∷ rows) below = ap (λ o. match_ordering o ((p, r) ∷ e ∷ rows) ((e.0, r) ∷ rows) (e ∷ put p r rows)) below.0
-
 pub positioned-rest : (xs ys : Positioned) → IsPositioned (xs ++ ys) → IsPositioned ys
 positioned-rest [] ys are = are
 positioned-rest (x ∷ xs) ys are = positioned-rest xs ys (positioned-tail x (xs ++ ys) are)
@@ -387,7 +381,7 @@ one-of P (x ∷ xs) ys e all = one-of P xs ys e all.1
 put-last : (p : PosTree) (r : List Field) (xs ys : Positioned) → IsPositioned (xs ++ (p, r) ∷ ys) → put p r xs ≡ xs ++ (p, r) ∷ []
 put-last p r [] ys are = refl
 put-last p r (x ∷ xs) ys are =
-    let below : pos_order x.0 p ≡ Less = one-of (λ q. pos_order x.0 q ≡ Less) xs ys (p, r) (first-below x (xs ++ (p, r) ∷ ys) are) in
+    let below : pos_order x.0 p ≡ Less = one-of (λ q. pos_order x.0 q ≡ Less) xs ys (p, r) (sorted_head pos_order x.0 (keys_of (xs ++ (p, r) ∷ ys)) are.ascending) in
     let above : pos_order p x.0 ≡ Greater = pos_order_total.antisymm p x.0 ∙ ap ordering_reverse below in
     ap (λ o. match_ordering o ((p, r) ∷ x ∷ xs) ((x.0, r) ∷ xs) (x ∷ put p r xs)) above ∙ ap (λ es. x ∷ es) (put-last p r xs ys (positioned-tail x (xs ++ (p, r) ∷ ys) are))
 
@@ -397,7 +391,7 @@ module _ (p : PosTree) (r : List Field) where
   spilled xs ys front rest are x y =
       let whole : xs ++ ys ≡ front ++ (p, r) ∷ ys = ap (λ es. es ++ ys) x ∙ append_assoc front ((p, r) ∷ []) ys in
       let behind = positioned-rest front ((p, r) ∷ ys) (subst (λ (es : Positioned). IsPositioned es) whole are) in
-      ap (λ es. front ++ es) (y ∙ put-front p r ys (first-below (p, r) ys behind)) ∙ sym whole
+      ap (λ es. front ++ es) (y ∙ put-front p r ys (sorted_head pos_order p (keys_of ys) behind.ascending)) ∙ sym whole
 
   -- the first one of the others, to the front
   pub pulled : (xs ys front rest : Positioned) → IsPositioned (xs ++ ys) → ys ≡ (p, r) ∷ rest → front ≡ put p r xs → front ++ rest ≡ xs ++ ys
@@ -410,6 +404,7 @@ module _ (p : PosTree) (r : List Field) where
       let last = put-last p r xs rest (subst (λ (es : Positioned). IsPositioned (xs ++ es)) y are) in
       ap length (x ∙ last) ∙ length_push xs (p, r)
 
+-- a row that comes makes one more at most
 pub at-most-one : (b : Bool) → cond b 0 1 ≤ 1
 at-most-one true = omega arith
 at-most-one false = omega arith
@@ -431,12 +426,6 @@ went old new = filter (λ e. is_none (at e.0 new)) old
 
 abbrev came : Positioned → Positioned → Positioned
 came old new = filter (λ e. not (stands (at e.0 old) e.1)) new
-
-at-went : (old new : Positioned) (q : PosTree) → IsPositioned old → at q (went old new) ≡ option_filter (λ v. is_none (at q new)) (at q old)
-at-went old new q are = at-filter (λ e. is_none (at e.0 new)) q (λ v. is_none (at q new)) (λ p v e. ap is_none (sym (at-like q p e new))) old are
-
-at-came : (old new : Positioned) (q : PosTree) → IsPositioned new → at q (came old new) ≡ option_filter (λ v. not (stands (at q old) v)) (at q new)
-at-came old new q are = at-filter (λ e. not (stands (at e.0 old) e.1)) q (λ v. not (stands (at q old) v)) (λ p v e. ap (λ a. not (stands a v)) (sym (at-like q p e old))) new are
 
 diff-length : (old new : Positioned) → length (diff old new) ≡ length (went old new) + length (came old new)
 diff-length old new =
@@ -482,10 +471,10 @@ module _ (p : PosTree) (old new : Positioned) (o : IsPositioned old) (n : IsPosi
   came-others : came (gone p old) (gone p new) ≡ gone p (came old new)
   came-others =
       same_rows (came (gone p old) (gone p new)) (gone p (came old new)) (positioned-filter (λ e. not (stands (at e.0 (gone p old)) e.1)) (gone p new) (positioned-gone p new n)) (positioned-gone p (came old new) (positioned-filter (λ e. not (stands (at e.0 old) e.1)) new n)) (λ q exact.
-      at-came (gone p old) (gone p new) q (positioned-gone p new n)
+      at-differs (gone p old) (gone p new) q (positioned-gone p new n)
       ∙ (λ i. option_filter (λ v. not (stands (at-gone q p old o.ascending i) v)) (at-gone q p new n.ascending i))
       ∙ by (is_eq (pos_order p q)) (at q old) (at q new)
-      ∙ ap (cond (is_eq (pos_order p q)) None) (sym (at-came old new q n))
+      ∙ ap (cond (is_eq (pos_order p q)) None) (sym (at-differs old new q n))
       ∙ sym (at-gone q p (came old new) (positioned-filter (λ e. not (stands (at e.0 old) e.1)) new n).ascending))
     where
       by : (b : Bool) (x y : Option (List Field)) → option_filter (λ v. not (stands (cond b None x) v)) (cond b None y) ≡ cond b None (option_filter (λ v. not (stands x v)) y)
@@ -498,7 +487,7 @@ module _ (p : PosTree) (old new : Positioned) (o : IsPositioned old) (n : IsPosi
       let goes : length (went old new) ≡ cond (is_some (option_filter (λ v. is_none (at p new)) (at p old))) 1 0 + length (went (gone p old) (gone p new)) =
       gone-length p (went old new) ∙ (λ i. cond (is_some (at-went old new p o i)) 1 0 + length (sym went-others i)) in
       let comes : length (came old new) ≡ cond (is_some (option_filter (λ v. not (stands (at p old) v)) (at p new))) 1 0 + length (came (gone p old) (gone p new)) =
-      gone-length p (came old new) ∙ (λ i. cond (is_some (at-came old new p n i)) 1 0 + length (sym came-others i)) in
+      gone-length p (came old new) ∙ (λ i. cond (is_some (at-differs old new p n i)) 1 0 + length (sym came-others i)) in
       omega (arith, goes, comes, one-change (at p old) (at p new), diff-length old new, diff-length (gone p old) (gone p new))
 
   gone-alike : (q : PosTree) → (is_eq (pos_order q p) ≡ false → at q old ≡ at q new) → at q (gone p old) ≡ at q (gone p new)

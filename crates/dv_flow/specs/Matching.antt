@@ -1,12 +1,9 @@
 -- The rows that match, by positions.
-use Rattle.std.specs.Prelude.{◌≡◌, Bool, true, false, cond, List, [], ◌∷◌, filter, length, Option, None, refl}
+use Rattle.std.specs.Prelude.{◌≡◌, cond, length, None, refl}
 use Rattle.std.proofs.Common.{ap, sym, ◌∙◌}
-use Rattle.std.specs.List.{AllByRecursion}
-use Rattle.std.specs.Map.{keys_of}
 use Rattle.std.specs.Ordering.{is_eq}
 use Rattle.std.specs.declared.cmp.Ordering.TheVariants.{Equal}
 use Rattle.std.proofs.lemmas.Map.Entries.{option_filter}
-use Rattle.dv_bson.specs.Tree.{Field}
 use Rattle.dv_match.specs.Filter.{Members}
 use Rattle.dv_match.specs.Match.{matches}
 use Rattle.dv_change.specs.Changes.{HaveOneLength, IsPositioned, Positioned, alone, at}

@@ -1,5 +1,5 @@
 -- Rows as they are shown, by positions.
-use Rattle.std.specs.Prelude.{◌≡◌, Bool, true, false, cond, List, [], ◌∷◌, length, Option, None, Some, refl}
+use Rattle.std.specs.Prelude.{◌≡◌, Bool, true, false, cond, List, [], ◌∷◌, length, None, Some, refl}
 use Rattle.std.proofs.Common.{ap, subst, sym, ◌∙◌}
 use Rattle.std.specs.List.{AllByRecursion}
 use Rattle.std.specs.List.Sorted.{IsStrictlySortedBy}
@@ -7,7 +7,6 @@ use Rattle.std.specs.Map.{keys_of}
 use Rattle.std.specs.Option.{option_map}
 use Rattle.std.specs.Ordering.{is_eq}
 use Rattle.std.specs.declared.cmp.Ordering.TheVariants.{Equal}
-use Rattle.dv_bson.specs.Tree.{Field}
 use Rattle.dv_row.specs.declared.project.Project.{Project}
 use Rattle.dv_row.specs.Projecting.{projected}
 use Rattle.dv_change.specs.Changes.{HaveOneLength, IsPositioned, Positioned, alone, at}

@@ -1,5 +1,4 @@
 -- A stage that makes its rows of each row by itself, kept by changes: what it has taken in.
-use Rattle.std.specs.Prelude.{List}
 use Rattle.dv_change.specs.Changes.{IsPositioned, Positioned}
 use Rattle.dv_flow.specs.declared.by_row.RowTurn.{RowTurn}
 

@@ -5,7 +5,6 @@ use Rattle.std.specs.declared.cmp.Ordering.TheVariants.{Equal}
 use Rattle.std.specs.Cmp.{Equal-is}
 use Rattle.std.specs.Ordering.{is_eq}
 use Rattle.std.specs.List.{AllByRecursion, best_of, flat_map}
-use Rattle.std.specs.Map.{keys_of}
 use Rattle.dv_bson.specs.Tree.{Field, Tree, array, list_of_elements, null}
 use Rattle.dv_order.specs.Key.{KeyTree, key_at}
 use Rattle.dv_order.specs.OwnKeys.{IsOwn}
@@ -15,7 +14,6 @@ use Rattle.dv_path.specs.declared.direction.Direction.TheVariants.{Ascending, De
 use Rattle.dv_path.specs.SortKey as keys
 use Rattle.dv_path.specs.SortKey.{array_keys, earliest, sort_key, stands_first}
 use Rattle.dv_path.specs.SortSpec as sorts
-use Rattle.dv_change.specs.declared.position.Part.{Part}
 use Rattle.dv_change.specs.Changes.{HaveOneLength, IsPositioned, Positioned, alone, at, in_order}
 use Rattle.dv_change.specs.Positions.{IsExact, IsExactPart, PosTree, part_order, pos_order}
 use Rattle.dv_change.specs.RowLaws.{both_Equal}

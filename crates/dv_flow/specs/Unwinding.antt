@@ -1,5 +1,5 @@
 -- The rows of each row's elements, by positions.
-use Rattle.std.specs.Prelude.{◌≡◌, ℕ, suc, ◌+◌, Bool, true, false, List, [], ◌∷◌, ◌++◌, length, None, refl}
+use Rattle.std.specs.Prelude.{◌≡◌, ℕ, suc, Bool, true, false, List, [], ◌∷◌, ◌++◌, length, None, refl}
 use Rattle.std.proofs.Common.{ap, append-nil, sym, ◌∙◌}
 use Rattle.std.specs.declared.cmp.Ordering.TheVariants.{Equal}
 use Rattle.std.specs.Cmp.{Equal-is}
@@ -9,7 +9,6 @@ use Rattle.std.specs.Map.{keys_of}
 use Rattle.dv_bson.specs.Tree.{Field}
 use Rattle.dv_row.specs.declared.unwind.Unwind.{Unwind}
 use Rattle.dv_row.specs.Unwinding.{unwound}
-use Rattle.dv_change.specs.declared.position.Part.{Part}
 use Rattle.dv_change.specs.declared.position.Part.TheVariants.{At}
 use Rattle.dv_change.specs.Changes.{HaveOneLength, IsPositioned, Positioned, alone, at, in_order}
 use Rattle.dv_change.specs.Positions.{IsExact, PosTree, part_order, pos_order}

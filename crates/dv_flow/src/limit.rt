@@ -56,6 +56,7 @@ impl LimitTurn {
         change.is_exact();
         let pos = position_of(&change).try_clone()?;
         if self.is_behind(&pos) {
+            // Nothing that is shown changes.
             take_in(&mut self.rest, change)?;
             ticks.add(1);
             return Ok(());

@@ -1,5 +1,5 @@
 -- What comes out leads from the rows before to the rows after.
-use Rattle.std.proofs.Common.{rules, ◌≡◌, ◌∙◌, ap, subst}
+use Rattle.std.proofs.Common.{rules, ◌≡◌, subst}
 use Rattle.dv_change.specs.Changes.{Positioned, with_changes}
 use Rattle.dv_change.specs.Inputs.{left_after}
 use Rattle.dv_change.specs.Linked.{HasTaken, first_left, forms_of}
