@@ -1,4 +1,3 @@
 mod Lengths
 mod Sounding
-mod Names
 pub mod Errors

@@ -10,7 +10,11 @@ use Rattle.dv_bson.specs.Tree.{Tree, int32, int64, string, document, array, Fiel
 use Rattle.dv_update.specs.Parsing as updates
 use Rattle.dv_pipe.specs.StageParsing as pipelines
 use Rattle.dv_pipe.specs.declared.stage.Stage.{Stage}
-use Rattle.dv_command.specs.Asked.{Asked, Find, hello, ping, insert, update, delete, find, aggregate, get_more, kill_cursors, create, drop, create_indexes, drop_indexes, explain, asked_under, read_under, cursor_under, write_under, catalog_under, index_under, hello_of, ping_of, insert_of, update_of, delete_of, find_of, find_in, aggregate_of, cursor_size, first_batch_size, get_more_of, kill_cursors_of, create_of, drop_of, create_indexes_of, drop_indexes_of, explain_of, explained, explained_by, ViewOn, ViewFields, view_fields, view_fields_in, view_of, Statements, statements_of, looked_database, checked_database, check_count, statement_limit}
+use Rattle.dv_command.specs.Asked.{Asked, Find, hello, ping, write, find, aggregate, get_more, kill_cursors, create, drop, create_indexes, drop_indexes, explain, command_named, asked_as, asked_under, hello_of, ping_of, write_of, find_of, find_in, aggregate_of, cursor_size, first_batch_size, get_more_of, kill_cursors_of, create_of, drop_of, create_indexes_of, drop_indexes_of, explain_of, explained, explained_by, ViewOn, ViewFields, view_fields, view_fields_in, view_of, looked_database, checked_database, check_count, statement_limit}
+use Rattle.dv_command.specs.declared.asking.WriteKind.{WriteKind}
+use Rattle.dv_command.specs.declared.asking.WriteKind.TheVariants as writes
+use Rattle.dv_command.specs.declared.names.CommandName.{CommandName}
+use Rattle.dv_command.specs.declared.names.CommandName.TheVariants as names
 use Rattle.dv_fields.specs.Fields as reading
 use Rattle.dv_fields.specs.Fields.{Table, update_in, update_under, document_under, check_fields, first_name, text_in, document_in, array_in, integer_in, each_document, documents_in, required, text_under, array_under, boolean_under, integer_under, integers_under, natural_under}
 use Rattle.dv_command.specs.Tables.{updating_table, index_table, write_table, find_fields, find_table, aggregate_table, get_more_table, kill_cursors_table, create_table, drop_table, create_indexes_table, drop_indexes_table, explain_table}
@@ -22,7 +26,7 @@ use Rattle.dv_command.specs.Entries.{Updating, IndexAsked, index_of, key_path, c
 use Rattle.dv_fields.specs.Kinds as kinds
 use Rattle.dv_fields.specs.Namespaces.{database, database_in, namespace, dotted, is_database_name, is_collection_name, longest_namespace}
 use Rattle.dv_fields.specs.Refusals.{◌>>=◌, each, refused_by, pipeline_refusal, update_refusal}
-use Rattle.dv_command.specs.Sound.{AreValid, AreValidLists, AreIds, IsIndexName, AreIndexes, IsNamespace, AreStatements, IsSoundPipeline, IsSoundView, IsSoundlyAsked, IsSoundUpdate}
+use Rattle.dv_command.specs.Sound.{AreValid, AreValidLists, AreIds, IsIndexName, AreIndexes, IsNamespace, IsSoundPipeline, IsSoundView, IsSoundlyAsked, IsSoundUpdate}
 use Rattle.dv_command.proofs.Lengths.{FieldsAdd, under_long, array_long}
 use Rattle.dv_fields.specs.declared.refusal.Refusal.{Refusal}
 use Rattle.dv_fields.specs.declared.refusal.Refusal.TheVariants.{BadValue, CommandNotFound, LimitReached}
@@ -304,39 +308,21 @@ module _ (adds : FieldsAdd) (body : List Field) (lists : Lists) (valid : AreFiel
   name_valid command d c ns database_is collection_is is =
       namespace_valid d c ns database_is (text_valid (value_under command body) c (valid_under command) collection_is) is
 
-  statements_valid : (command list : List ℕ) (s : Statements) → statements_of command list body lists ≡ Ok s → AreStatements s.namespace s.list
-  statements_valid command list s is =
-      let db = succeeds (looked_database (write_table command list) body) _ s is in
-      let only = succeeds (check_only list lists) _ s db.rest_is in
-      let collection = succeeds (text_under command body) _ s only.rest_is in
-      let documents = succeeds (documents_under list body lists) _ s collection.rest_is in
-      let ordered = succeeds (boolean_under (codes "ordered") true body) _ s documents.rest_is in
-      let into = succeeds (namespace db.given collection.given) _ s ordered.rest_is in
-      let few = succeeds (check_count documents.given) _ s into.rest_is in
-      let P : Statements → Type 0 = λ t. AreStatements t.namespace t.list in
-      subst P (ends (record { namespace = into.given; list = documents.given; ordered = ordered.given }) s few.rest_is) (
+  write_sound : (kind : WriteKind) (command list : List ℕ) (a : Asked) → write_of kind command list body lists ≡ Ok a → IsAsked a
+  write_sound kind command list a is =
+      let db = succeeds (looked_database (write_table command list) body) _ a is in
+      let only = succeeds (check_only list lists) _ a db.rest_is in
+      let collection = succeeds (text_under command body) _ a only.rest_is in
+      let entries = succeeds (documents_under list body lists) _ a collection.rest_is in
+      let ordered = succeeds (boolean_under (codes "ordered") true body) _ a entries.rest_is in
+      let into = succeeds (namespace db.given collection.given) _ a ordered.rest_is in
+      let few = succeeds (check_count entries.given) _ a into.rest_is in
+      let asked : Asked = write (record { kind = kind; namespace = into.given; entries = entries.given; ordered = ordered.given }) in
+      subst IsAsked {x = asked} (ends asked a few.rest_is) (
         name_valid command db.given collection.given into.given (looked_valid (write_table command list) db.given db.first_is) collection.first_is into.first_is,
-        either_valid (value_under list body) (list_under list lists) documents.given (valid_under list) (λ es under. beside_valid list lists es beside under) documents.first_is,
-        count_valid documents.given few.given few.first_is,
+        either_valid (value_under list body) (list_under list lists) entries.given (valid_under list) (λ es under. beside_valid list lists es beside under) entries.first_is,
+        count_valid entries.given few.given few.first_is,
       )
-
-  insert_sound : (a : Asked) → insert_of body lists ≡ Ok a → IsAsked a
-  insert_sound a is =
-      let s = succeeds (statements_of (codes "insert") (codes "documents") body lists) _ a is in
-      subst IsAsked (ends (insert (record { namespace = s.given.namespace; documents = s.given.list; ordered = s.given.ordered })) a s.rest_is)
-      (statements_valid (codes "insert") (codes "documents") s.given s.first_is)
-
-  update_sound : (a : Asked) → update_of body lists ≡ Ok a → IsAsked a
-  update_sound a is =
-      let s = succeeds (statements_of (codes "update") (codes "updates") body lists) _ a is in
-      subst IsAsked (ends (update (record { namespace = s.given.namespace; entries = s.given.list; ordered = s.given.ordered })) a s.rest_is)
-      (statements_valid (codes "update") (codes "updates") s.given s.first_is)
-
-  delete_sound : (a : Asked) → delete_of body lists ≡ Ok a → IsAsked a
-  delete_sound a is =
-      let s = succeeds (statements_of (codes "delete") (codes "deletes") body lists) _ a is in
-      subst IsAsked (ends (delete (record { namespace = s.given.namespace; entries = s.given.list; ordered = s.given.ordered })) a s.rest_is)
-      (statements_valid (codes "delete") (codes "deletes") s.given s.first_is)
 
   find_sound : (a : Asked) → find_of body lists ≡ Ok a → IsAsked a
   find_sound a is =
@@ -449,48 +435,25 @@ module _ (adds : FieldsAdd) (body : List Field) (lists : Lists) (valid : AreFiel
   ping_sound : (a : Asked) → ping_of body ≡ Ok a → IsAsked a
   ping_sound a is = subst IsAsked (ends ping a (succeeds (database body) _ a is).rest_is) tt
 
-  -- a command of this name, or one of the others
-  either : (b : Bool) (this others : Result Asked Refusal) (a : Asked) → (this ≡ Ok a → IsAsked a) → (others ≡ Ok a → IsAsked a) → (if b then this else others) ≡ Ok a → IsAsked a
-  either true this others a one rest is = one is
-  either false this others a one rest is = rest is
-
-  index_sound : (name : List ℕ) (a : Asked) → index_under name body lists ≡ Ok a → IsAsked a
-  index_sound name a =
-      either (bytes_eq name (codes "createIndexes")) (create_indexes_of body lists) _ a (create_indexes_sound a)
-      (either (bytes_eq name (codes "dropIndexes")) (drop_indexes_of body lists) _ a (drop_indexes_sound a)
-      (either (bytes_eq name (codes "explain")) (explain_of body lists) _ a (explain_sound a)
-      (λ is. let none : Err CommandNotFound ≡ Ok a = is in absurd cc)))
-
-  catalog_sound : (name : List ℕ) (a : Asked) → catalog_under name body lists ≡ Ok a → IsAsked a
-  catalog_sound name a =
-      either (bytes_eq name (codes "create")) (create_of body lists) _ a (create_sound a)
-      (either (bytes_eq name (codes "drop")) (drop_of body lists) _ a (drop_sound a)
-      (index_sound name a))
-
-  write_sound : (name : List ℕ) (a : Asked) → write_under name body lists ≡ Ok a → IsAsked a
-  write_sound name a =
-      either (bytes_eq name (codes "insert")) (insert_of body lists) _ a (insert_sound a)
-      (either (bytes_eq name (codes "update")) (update_of body lists) _ a (update_sound a)
-      (either (bytes_eq name (codes "delete")) (delete_of body lists) _ a (delete_sound a)
-      (catalog_sound name a)))
-
-  cursor_sound : (name : List ℕ) (a : Asked) → cursor_under name body lists ≡ Ok a → IsAsked a
-  cursor_sound name a =
-      either (bytes_eq name (codes "getMore")) (get_more_of body lists) _ a (get_more_sound a)
-      (either (bytes_eq name (codes "killCursors")) (kill_cursors_of body lists) _ a (kill_cursors_sound a)
-      (write_sound name a))
-
-  read_sound : (name : List ℕ) (a : Asked) → read_under name body lists ≡ Ok a → IsAsked a
-  read_sound name a =
-      either (bytes_eq name (codes "find")) (find_of body lists) _ a (find_sound a)
-      (either (bytes_eq name (codes "aggregate")) (aggregate_of body lists) _ a (aggregate_sound a)
-      (cursor_sound name a))
+  named_sound : (name : Option CommandName) (a : Asked) → asked_as name body lists ≡ Ok a → IsAsked a
+  named_sound None a is = absurd cc
+  named_sound (Some names.Hello) a is = hello_sound a is
+  named_sound (Some names.Ping) a is = ping_sound a is
+  named_sound (Some names.Insert) a is = write_sound writes.Insert (codes "insert") (codes "documents") a is
+  named_sound (Some names.Update) a is = write_sound writes.Update (codes "update") (codes "updates") a is
+  named_sound (Some names.Delete) a is = write_sound writes.Delete (codes "delete") (codes "deletes") a is
+  named_sound (Some names.Find) a is = find_sound a is
+  named_sound (Some names.Aggregate) a is = aggregate_sound a is
+  named_sound (Some names.GetMore) a is = get_more_sound a is
+  named_sound (Some names.KillCursors) a is = kill_cursors_sound a is
+  named_sound (Some names.Create) a is = create_sound a is
+  named_sound (Some names.Drop) a is = drop_sound a is
+  named_sound (Some names.CreateIndexes) a is = create_indexes_sound a is
+  named_sound (Some names.DropIndexes) a is = drop_indexes_sound a is
+  named_sound (Some names.Explain) a is = explain_sound a is
 
   pub asked_sound : (name : List ℕ) (a : Asked) → asked_under name body lists ≡ Ok a → IsAsked a
-  asked_sound name a =
-      either (bytes_eq name (codes "hello")) (hello_of body) _ a (hello_sound a)
-      (either (bytes_eq name (codes "ping")) (ping_of body) _ a (ping_sound a)
-      (read_sound name a))
+  asked_sound name a is = named_sound (command_named name) a is
 
 -- ---- entries of updates
 

@@ -1,4 +1,4 @@
--- What commands ask (MongoDB manual, "Database Commands"). The order in which refusals are told is this server's own.
+-- What commands ask (MongoDB manual, "Database Commands"). Which commands there are, and in which order refusals are told, is this server's own.
 use Rattle.std.specs.Prelude.{ℕ, ℤ, Bool, true, false, List, Option, Some, None, Result, Ok, Err, codes, nat_lt, length, if◌then◌else◌, ⊤}
 use Rattle.std.specs.Str.{bytes_eq}
 use Rattle.dv_bson.specs.Names.{value_under}
@@ -15,25 +15,18 @@ use Rattle.dv_fields.specs.Fields.{Table, first_name, check_fields, text_in, arr
 use Rattle.dv_fields.specs.Namespaces.{database, namespace}
 use Rattle.dv_command.specs.declared.command.Command.{Command}
 use Rattle.dv_command.specs.declared.command.Command.TheVariants.{Sections, Invalid}
+use Rattle.dv_command.specs.declared.asking.WriteKind.{WriteKind}
+use Rattle.dv_command.specs.declared.asking.WriteKind.TheVariants as writes
+use Rattle.dv_command.specs.declared.names.CommandName.{CommandName}
+use Rattle.dv_command.specs.declared.names.CommandName.TheVariants as names
 use Rattle.dv_command.specs.Tables.{write_table, find_fields, find_table, aggregate_table, get_more_table, kill_cursors_table, create_table, drop_table, create_indexes_table, drop_indexes_table, explain_table}
 use Rattle.dv_command.specs.Lists.{Lists, check_none, check_only, documents_under}
 use Rattle.dv_command.specs.Forms.{filter_under, sort_under, pipeline_of}
 use Rattle.dv_command.specs.Entries.{IndexAsked, index_of}
 
--- these documents into this namespace, in order; whether the first that is refused ends the command
-pub record Insert : Type 0 where
-  pub namespace : List ℕ
-  pub documents : List (List Field)
-  pub ordered : Bool
-
--- what these entries say is updated in this namespace, in order; whether the first that is refused ends the command
-pub record Update : Type 0 where
-  pub namespace : List ℕ
-  pub entries : List (List Field)
-  pub ordered : Bool
-
--- what these entries say goes out of this namespace, in order; whether the first that is refused ends the command
-pub record Delete : Type 0 where
+-- what these entries say is inserted, updated or deleted in this namespace, in order; whether the first that is refused ends the command
+pub record Write : Type 0 where
+  pub kind : WriteKind
   pub namespace : List ℕ
   pub entries : List (List Field)
   pub ordered : Bool
@@ -97,9 +90,7 @@ pub record Explain : Type 0 where
 pub data Asked : Type 0 where
   hello : Asked
   ping : Asked
-  insert : Insert → Asked
-  update : Update → Asked
-  delete : Delete → Asked
+  write : Write → Asked
   find : Find → Asked
   aggregate : Aggregate → Asked
   get_more : GetMore → Asked
@@ -143,38 +134,17 @@ checked_database table body lists =
     check_none lists >>= λ _.
     Ok name
 
--- what a command of statements says: its namespace, its list, and whether the first statement that is refused ends it
-pub record Statements : Type 0 where
-  pub namespace : List ℕ
-  pub list : List (List Field)
-  pub ordered : Bool
-
--- by the names of the command and of its list
-abbrev pub statements_of : List ℕ → List ℕ → List Field → Lists → Result Statements Refusal
-statements_of command list body lists =
+-- a write, by the names of the command and of the list of its entries
+abbrev pub write_of : WriteKind → List ℕ → List ℕ → List Field → Lists → Result Asked Refusal
+write_of kind command list body lists =
     looked_database (write_table command list) body >>= λ database_name.
     check_only list lists >>= λ _.
     text_under command body >>= λ collection.
-    documents_under list body lists >>= λ statements.
+    documents_under list body lists >>= λ entries.
     boolean_under (codes "ordered") true body >>= λ ordered.
     namespace database_name collection >>= λ into.
-    check_count statements >>= λ _.
-    Ok (record { namespace = into; list = statements; ordered = ordered })
-
-abbrev pub insert_of : List Field → Lists → Result Asked Refusal
-insert_of body lists =
-    statements_of (codes "insert") (codes "documents") body lists >>= λ s.
-    Ok (insert (record { namespace = s.namespace; documents = s.list; ordered = s.ordered }))
-
-abbrev pub update_of : List Field → Lists → Result Asked Refusal
-update_of body lists =
-    statements_of (codes "update") (codes "updates") body lists >>= λ s.
-    Ok (update (record { namespace = s.namespace; entries = s.list; ordered = s.ordered }))
-
-abbrev pub delete_of : List Field → Lists → Result Asked Refusal
-delete_of body lists =
-    statements_of (codes "delete") (codes "deletes") body lists >>= λ s.
-    Ok (delete (record { namespace = s.namespace; entries = s.list; ordered = s.ordered }))
+    check_count entries >>= λ _.
+    Ok (write (record { kind = kind; namespace = into; entries = entries; ordered = ordered }))
 
 -- what a find of a database asks
 abbrev pub find_in : List ℕ → List Field → Result Find Refusal
@@ -307,48 +277,45 @@ explain_of body lists =
 abbrev pub command_name : List Field → List ℕ
 command_name body = first_name body
 
--- indexes
-abbrev pub index_under : List ℕ → List Field → Lists → Result Asked Refusal
-index_under name body lists =
-    if bytes_eq name (codes "createIndexes") then create_indexes_of body lists
-    else if bytes_eq name (codes "dropIndexes") then drop_indexes_of body lists
-    else if bytes_eq name (codes "explain") then explain_of body lists
-    else Err CommandNotFound
+-- the name of a command that a text is
+abbrev pub command_named : List ℕ → Option CommandName
+command_named text =
+    if bytes_eq text (codes "hello") then Some names.Hello
+    else if bytes_eq text (codes "ping") then Some names.Ping
+    else if bytes_eq text (codes "insert") then Some names.Insert
+    else if bytes_eq text (codes "update") then Some names.Update
+    else if bytes_eq text (codes "delete") then Some names.Delete
+    else if bytes_eq text (codes "find") then Some names.Find
+    else if bytes_eq text (codes "aggregate") then Some names.Aggregate
+    else if bytes_eq text (codes "getMore") then Some names.GetMore
+    else if bytes_eq text (codes "killCursors") then Some names.KillCursors
+    else if bytes_eq text (codes "create") then Some names.Create
+    else if bytes_eq text (codes "drop") then Some names.Drop
+    else if bytes_eq text (codes "createIndexes") then Some names.CreateIndexes
+    else if bytes_eq text (codes "dropIndexes") then Some names.DropIndexes
+    else if bytes_eq text (codes "explain") then Some names.Explain
+    else None
 
--- what stands under namespaces
-abbrev pub catalog_under : List ℕ → List Field → Lists → Result Asked Refusal
-catalog_under name body lists =
-    if bytes_eq name (codes "create") then create_of body lists
-    else if bytes_eq name (codes "drop") then drop_of body lists
-    else index_under name body lists
-
--- statements
-abbrev pub write_under : List ℕ → List Field → Lists → Result Asked Refusal
-write_under name body lists =
-    if bytes_eq name (codes "insert") then insert_of body lists
-    else if bytes_eq name (codes "update") then update_of body lists
-    else if bytes_eq name (codes "delete") then delete_of body lists
-    else catalog_under name body lists
-
--- cursors
-abbrev pub cursor_under : List ℕ → List Field → Lists → Result Asked Refusal
-cursor_under name body lists =
-    if bytes_eq name (codes "getMore") then get_more_of body lists
-    else if bytes_eq name (codes "killCursors") then kill_cursors_of body lists
-    else write_under name body lists
-
--- rows
-abbrev pub read_under : List ℕ → List Field → Lists → Result Asked Refusal
-read_under name body lists =
-    if bytes_eq name (codes "find") then find_of body lists
-    else if bytes_eq name (codes "aggregate") then aggregate_of body lists
-    else cursor_under name body lists
+-- what the command of this name asks; of another name there is none
+abbrev pub asked_as : Option CommandName → List Field → Lists → Result Asked Refusal
+asked_as None body lists = Err CommandNotFound
+asked_as (Some names.Hello) body lists = hello_of body
+asked_as (Some names.Ping) body lists = ping_of body
+asked_as (Some names.Insert) body lists = write_of writes.Insert (codes "insert") (codes "documents") body lists
+asked_as (Some names.Update) body lists = write_of writes.Update (codes "update") (codes "updates") body lists
+asked_as (Some names.Delete) body lists = write_of writes.Delete (codes "delete") (codes "deletes") body lists
+asked_as (Some names.Find) body lists = find_of body lists
+asked_as (Some names.Aggregate) body lists = aggregate_of body lists
+asked_as (Some names.GetMore) body lists = get_more_of body lists
+asked_as (Some names.KillCursors) body lists = kill_cursors_of body lists
+asked_as (Some names.Create) body lists = create_of body lists
+asked_as (Some names.Drop) body lists = drop_of body lists
+asked_as (Some names.CreateIndexes) body lists = create_indexes_of body lists
+asked_as (Some names.DropIndexes) body lists = drop_indexes_of body lists
+asked_as (Some names.Explain) body lists = explain_of body lists
 
 abbrev pub asked_under : List ℕ → List Field → Lists → Result Asked Refusal
-asked_under name body lists =
-    if bytes_eq name (codes "hello") then hello_of body
-    else if bytes_eq name (codes "ping") then ping_of body
-    else read_under name body lists
+asked_under name body lists = asked_as (command_named name) body lists
 
 -- what a command asks, or the first refusal
 abbrev pub asked_by : Command → Result Asked Refusal

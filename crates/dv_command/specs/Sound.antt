@@ -8,7 +8,7 @@ use Rattle.dv_update.specs.Update.{Update}
 use Rattle.dv_update.specs.Parsing as updates
 use Rattle.dv_pipe.specs.StageParsing.{pipeline_of}
 use Rattle.dv_pipe.specs.declared.stage.Stage.{Stage}
-use Rattle.dv_command.specs.Asked.{Asked, ViewOn, hello, ping, insert, update, delete, find, aggregate, get_more, kill_cursors, create, drop, create_indexes, drop_indexes, explain, statement_limit}
+use Rattle.dv_command.specs.Asked.{Asked, ViewOn, hello, ping, write, find, aggregate, get_more, kill_cursors, create, drop, create_indexes, drop_indexes, explain, statement_limit}
 use Rattle.dv_command.specs.Entries.{IndexAsked, longest_index_name}
 use Rattle.dv_command.specs.Lists.{Lists}
 use Rattle.dv_fields.specs.Namespaces.{longest_namespace}
@@ -24,10 +24,6 @@ AreValidLists lists = AllByRecursion (λ list. AreValid list.1) lists
 -- in UTF-8, and not too long
 abbrev pub IsNamespace : List ℕ → Type 0
 IsNamespace name = IsUtf8 name × (length name ≤ longest_namespace)
-
--- statements on a namespace: valid documents, as many as a command may have
-abbrev pub AreStatements : List ℕ → List (List Field) → Type 0
-AreStatements namespace statements = IsNamespace namespace × AreValid statements × (length statements ≤ statement_limit)
 
 -- stages that a list of valid values is
 pub record IsSoundPipeline (asked : List Stage) : Type 0 where
@@ -55,9 +51,7 @@ AreIndexes indexes = AllByRecursion (λ index. IsIndexName index.name) indexes
 abbrev pub IsSoundlyAsked : ℕ → Asked → Type 0
 IsSoundlyAsked size hello = ⊤
 IsSoundlyAsked size ping = ⊤
-IsSoundlyAsked size (insert asked) = AreStatements asked.namespace asked.documents
-IsSoundlyAsked size (update asked) = AreStatements asked.namespace asked.entries
-IsSoundlyAsked size (delete asked) = AreStatements asked.namespace asked.entries
+IsSoundlyAsked size (write asked) = IsNamespace asked.namespace × AreValid asked.entries × (length asked.entries ≤ statement_limit)
 IsSoundlyAsked size (find asked) = IsNamespace asked.namespace
 IsSoundlyAsked size (aggregate asked) = IsNamespace asked.namespace × IsSoundPipeline asked.stages
 IsSoundlyAsked size (get_more asked) = IsNamespace asked.namespace × IsValue (int64 asked.id)

@@ -3,15 +3,13 @@ use Rattle.std.specs.Prelude.{List, [], map, Option, Some, None}
 use Rattle.std.specs.Option.{option_map}
 use Rattle.std.specs.String.{string_bytes}
 use Rattle.dv_path.specs.SortSpec.{Part}
-use Rattle.dv_command.specs.Asked.{Asked, Statements, Insert, Update, Delete, Find, Aggregate, GetMore, KillCursors, ViewOn, ViewFields, Create, Drop, CreateIndexes, DropIndexes, Explain}
+use Rattle.dv_command.specs.Asked.{Asked, Write, Find, Aggregate, GetMore, KillCursors, ViewOn, ViewFields, Create, Drop, CreateIndexes, DropIndexes, Explain}
 use Rattle.dv_command.specs.Asked as asking
 use Rattle.dv_update.specs.UpdateView as updates
 use Rattle.dv_command.specs.Entries.{Deletion, Updating, IndexAsked}
 use Rattle.dv_command.specs.declared.asking.Asked as declared
-use Rattle.dv_command.specs.declared.asking.Asked.TheVariants.{Hello, Ping, Insert as Inserts, Update as Updates, Delete as Deletes, Find as Finds, Aggregate as Aggregates, GetMore as GetsMore, KillCursors as KillsCursors, Create as Creates, Drop as Drops, CreateIndexes as CreatesIndexes, DropIndexes as DropsIndexes, Explain as Explains}
-use Rattle.dv_command.specs.declared.asking.Insert as inserting
-use Rattle.dv_command.specs.declared.asking.Update as updating
-use Rattle.dv_command.specs.declared.asking.Delete as deleting
+use Rattle.dv_command.specs.declared.asking.Asked.TheVariants.{Hello, Ping, Write as Writes, Find as Finds, Aggregate as Aggregates, GetMore as GetsMore, KillCursors as KillsCursors, Create as Creates, Drop as Drops, CreateIndexes as CreatesIndexes, DropIndexes as DropsIndexes, Explain as Explains}
+use Rattle.dv_command.specs.declared.asking.Write as writing
 use Rattle.dv_command.specs.declared.asking.Find as finding
 use Rattle.dv_command.specs.declared.asking.Aggregate as aggregating
 use Rattle.dv_command.specs.declared.asking.GetMore as getting
@@ -26,24 +24,14 @@ use Rattle.dv_command.specs.declared.asking.DropIndexes as removing
 use Rattle.dv_command.specs.declared.asking.Explain as explaining
 use Rattle.dv_command.specs.declared.entries.Deletion as deletions
 use Rattle.dv_command.specs.declared.entries.Updating as updatings
-use Rattle.dv_command.specs.declared.asking.Statements as reading
 
 -- no sort has no paths
 abbrev pub sort_seen : Option (List Part) → List Part
 sort_seen None = []
 sort_seen (Some parts) = parts
 
-abbrev pub statements_seen : reading.Statements → Statements
-statements_seen s = record { namespace = string_bytes s.namespace; list = s.list; ordered = s.ordered }
-
-abbrev pub insert_seen : inserting.Insert → Insert
-insert_seen i = record { namespace = string_bytes i.namespace; documents = i.documents; ordered = i.ordered }
-
-abbrev pub update_seen : updating.Update → Update
-update_seen u = record { namespace = string_bytes u.namespace; entries = u.entries; ordered = u.ordered }
-
-abbrev pub delete_seen : deleting.Delete → Delete
-delete_seen d = record { namespace = string_bytes d.namespace; entries = d.entries; ordered = d.ordered }
+abbrev pub write_seen : writing.Write → Write
+write_seen w = record { kind = w.kind; namespace = string_bytes w.namespace; entries = w.entries; ordered = w.ordered }
 
 abbrev pub find_seen : finding.Find → Find
 find_seen f = record { namespace = string_bytes f.namespace; filter = f.filter; sort = sort_seen f.sort; skip = f.skip; limit = f.limit; batch_size = f.batch_size; single_batch = f.single_batch }
@@ -90,9 +78,7 @@ updating_seen u = record { filter = u.filter; update = updates.update u.update; 
 abbrev pub asked_seen : declared.Asked → Asked
 asked_seen Hello = asking.hello
 asked_seen Ping = asking.ping
-asked_seen (Inserts i) = asking.insert (insert_seen i)
-asked_seen (Updates u) = asking.update (update_seen u)
-asked_seen (Deletes d) = asking.delete (delete_seen d)
+asked_seen (Writes w) = asking.write (write_seen w)
 asked_seen (Finds f) = asking.find (find_seen f)
 asked_seen (Aggregates a) = asking.aggregate (aggregate_seen a)
 asked_seen (GetsMore g) = asking.get_more (get_more_seen g)

@@ -14,9 +14,7 @@ use dv_pipe::Pipeline;
 pub enum Asked<'a> {
     Hello,
     Ping,
-    Insert(Insert<'a>),
-    Update(Update<'a>),
-    Delete(Delete<'a>),
+    Write(Write<'a>),
     Find(Find),
     Aggregate(Aggregate),
     GetMore(GetMore),
@@ -28,20 +26,11 @@ pub enum Asked<'a> {
     Explain(Explain),
 }
 
-/// These documents into a namespace, in order.
+/// What entries say is inserted, updated or deleted in a namespace, in order. An entry of an insert is the document; one of
+/// an update is read by `updating_of` when its turn comes, and one of a delete by `deletion_of`.
 #[derive(Drop)]
-pub struct Insert<'a> {
-    pub namespace: String,
-    pub documents: Documents<'a>,
-    /// Whether the first document that is refused ends the command.
-    pub ordered: bool,
-    // As many as a command may have.
-    pub ghost few: { length documents ≤ statement_limit },
-}
-
-/// What these entries say is updated in a namespace, in order. Each is read by `updating_of` when its turn comes.
-#[derive(Drop)]
-pub struct Update<'a> {
+pub struct Write<'a> {
+    pub kind: WriteKind,
     pub namespace: String,
     pub entries: Documents<'a>,
     /// Whether the first entry that is refused ends the command.
@@ -50,15 +39,12 @@ pub struct Update<'a> {
     pub ghost few: { length entries ≤ statement_limit },
 }
 
-/// What these entries say goes out of a namespace, in order. Each is read by `deletion_of` when its turn comes.
-#[derive(Drop)]
-pub struct Delete<'a> {
-    pub namespace: String,
-    pub entries: Documents<'a>,
-    /// Whether the first entry that is refused ends the command.
-    pub ordered: bool,
-    // As many as a command may have.
-    pub ghost few: { length entries ≤ statement_limit },
+/// What a write does with its entries.
+#[derive(Clone, Copy, Debug, PartialEq, Eq)]
+pub enum WriteKind {
+    Insert,
+    Update,
+    Delete,
 }
 
 /// The documents of a namespace that match, in the order of a sort, or else of their `_id`s.
@@ -151,16 +137,6 @@ pub struct DropIndexes {
 #[derive(Drop)]
 pub struct Explain {
     pub find: Find,
-}
-
-/// What a command of statements says, whichever it is.
-pub(crate) struct Statements<'a> {
-    pub(crate) namespace: String,
-    pub(crate) list: Documents<'a>,
-    /// Whether the first statement that is refused ends the command.
-    pub(crate) ordered: bool,
-    // As many as a command may have.
-    ghost few: { length list ≤ statement_limit },
 }
 
 /// The fields of a command that asks for a view.

@@ -9,6 +9,7 @@ mod entries;
 mod forms;
 pub mod laws;
 mod lists;
+mod names;
 mod parsing;
 mod reads;
 pub mod replies;
@@ -17,8 +18,8 @@ mod rules;
 mod statements;
 
 pub use asking::{
-    Aggregate, Asked, Create, CreateIndexes, Delete, DropIndexes, DropNamespace, Explain, Find,
-    GetMore, IndexAsked, Insert, KillCursors, Update, ViewOn,
+    Aggregate, Asked, Create, CreateIndexes, DropIndexes, DropNamespace, Explain, Find, GetMore,
+    IndexAsked, KillCursors, ViewOn, Write, WriteKind,
 };
 pub use command::{Command, DocumentList, DocumentLists};
 pub use dv_fields::{Documents, Refusal, namespaces};

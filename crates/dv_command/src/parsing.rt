@@ -4,11 +4,12 @@ ghost use Rattle.dv_command.specs.Asked as asking;
 ghost use Rattle.dv_command.specs.View.{asked_seen};
 ghost use Rattle.dv_fields.specs.Refusals.{UnlessWanting};
 
-use crate::asking::Asked;
+use crate::asking::{Asked, WriteKind};
 use crate::catalog::{create_indexes_of, create_of, drop_indexes_of, drop_of};
 use crate::command::{Command, DocumentLists};
+use crate::names::{CommandName, command_named};
 use crate::reads::{aggregate_of, explain_of, find_of, get_more_of, kill_cursors_of};
-use crate::statements::{delete_of, insert_of, update_of};
+use crate::statements::write_of;
 use dv_bson::Document;
 use dv_fields::Refusal;
 use dv_fields::fields::first_name;
@@ -31,7 +32,7 @@ pub fn parse(alloc: Global, command: &Command) -> Result<Asked<'_>, Refusal>
     }
 }
 
-/// What the command of this name asks.
+/// What the command of this name asks. Refused with `CommandNotFound` where there is no such command.
 fn asked_under<'a>(
     alloc: Global,
     name: &str,
@@ -40,92 +41,31 @@ fn asked_under<'a>(
 ) -> Result<Asked<'a>, Refusal>
     ensures { UnlessWanting asked_seen (asking.asked_under name.now body.now lists.now) result }
 {
-    match name {
-        "hello" => hello_of(body),
-        "ping" => ping_of(body),
-        _ => read_under(alloc, name, body, lists),
-    }
-}
-
-/// What the command of this name asks, if it is one of rows, of cursors, of statements, or of what stands under namespaces.
-fn read_under<'a>(
-    alloc: Global,
-    name: &str,
-    body: &'a Document,
-    lists: &'a DocumentLists,
-) -> Result<Asked<'a>, Refusal>
-    ensures { UnlessWanting asked_seen (asking.read_under name.now body.now lists.now) result }
-{
-    match name {
-        "find" => find_of(alloc, body, lists),
-        "aggregate" => aggregate_of(alloc, body, lists),
-        _ => cursor_under(alloc, name, body, lists),
-    }
-}
-
-/// What the command of this name asks, if it is one of cursors, of statements, or of what stands under namespaces.
-fn cursor_under<'a>(
-    alloc: Global,
-    name: &str,
-    body: &'a Document,
-    lists: &'a DocumentLists,
-) -> Result<Asked<'a>, Refusal>
-    ensures { UnlessWanting asked_seen (asking.cursor_under name.now body.now lists.now) result }
-{
-    match name {
-        "getMore" => get_more_of(alloc, body, lists),
-        "killCursors" => kill_cursors_of(alloc, body, lists),
-        _ => write_under(alloc, name, body, lists),
-    }
-}
-
-/// What the command of this name asks, if it is one of statements or of what stands under namespaces.
-fn write_under<'a>(
-    alloc: Global,
-    name: &str,
-    body: &'a Document,
-    lists: &'a DocumentLists,
-) -> Result<Asked<'a>, Refusal>
-    ensures { UnlessWanting asked_seen (asking.write_under name.now body.now lists.now) result }
-{
-    match name {
-        "insert" => insert_of(alloc, body, lists),
-        "update" => update_of(alloc, body, lists),
-        "delete" => delete_of(alloc, body, lists),
-        _ => catalog_under(alloc, name, body, lists),
-    }
-}
-
-/// What the command of this name asks, if it is one of what stands under namespaces.
-fn catalog_under<'a>(
-    alloc: Global,
-    name: &str,
-    body: &'a Document,
-    lists: &'a DocumentLists,
-) -> Result<Asked<'a>, Refusal>
-    ensures { UnlessWanting asked_seen (asking.catalog_under name.now body.now lists.now) result }
-{
-    match name {
-        "create" => create_of(alloc, body, lists),
-        "drop" => drop_of(alloc, body, lists),
-        _ => index_under(alloc, name, body, lists),
-    }
-}
-
-/// What the command of this name asks, if it is one of indexes.
-fn index_under<'a>(
-    alloc: Global,
-    name: &str,
-    body: &'a Document,
-    lists: &'a DocumentLists,
-) -> Result<Asked<'a>, Refusal>
-    ensures { UnlessWanting asked_seen (asking.index_under name.now body.now lists.now) result }
-{
-    match name {
-        "createIndexes" => create_indexes_of(alloc, body, lists),
-        "dropIndexes" => drop_indexes_of(alloc, body, lists),
-        "explain" => explain_of(alloc, body, lists),
-        _ => Err(Refusal::CommandNotFound),
+    let Some(command) = command_named(name) else {
+        return Err(Refusal::CommandNotFound);
+    };
+    match command {
+        CommandName::Hello => hello_of(body),
+        CommandName::Ping => ping_of(body),
+        CommandName::Insert => write_of(
+            alloc,
+            WriteKind::Insert,
+            "insert",
+            "documents",
+            body,
+            lists,
+        ),
+        CommandName::Update => write_of(alloc, WriteKind::Update, "update", "updates", body, lists),
+        CommandName::Delete => write_of(alloc, WriteKind::Delete, "delete", "deletes", body, lists),
+        CommandName::Find => find_of(alloc, body, lists),
+        CommandName::Aggregate => aggregate_of(alloc, body, lists),
+        CommandName::GetMore => get_more_of(alloc, body, lists),
+        CommandName::KillCursors => kill_cursors_of(alloc, body, lists),
+        CommandName::Create => create_of(alloc, body, lists),
+        CommandName::Drop => drop_of(alloc, body, lists),
+        CommandName::CreateIndexes => create_indexes_of(alloc, body, lists),
+        CommandName::DropIndexes => drop_indexes_of(alloc, body, lists),
+        CommandName::Explain => explain_of(alloc, body, lists),
     }
 }
 

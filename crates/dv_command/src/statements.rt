@@ -1,10 +1,10 @@
 //! Commands of statements.
 
 ghost use Rattle.dv_command.specs.Asked as asking;
-ghost use Rattle.dv_command.specs.View.{asked_seen, statements_seen};
+ghost use Rattle.dv_command.specs.View.{asked_seen};
 ghost use Rattle.dv_fields.specs.Refusals.{UnlessWanting};
 
-use crate::asking::{Asked, Delete, Insert, Statements, Update};
+use crate::asking::{Asked, Write, WriteKind};
 use crate::checked::looked_database;
 use crate::command::DocumentLists;
 use crate::lists::{check_only, documents_under};
@@ -18,85 +18,30 @@ use std::alloc::Global;
 /// How many statements a command may have.
 const STATEMENT_LIMIT: usize = 100_000;
 
-/// What the command of this name says, whose statements stand in the list of that name.
-fn statements_of<'a>(
+/// What the write of this name asks, whose entries stand in the list of that name.
+pub(crate) fn write_of<'a>(
     alloc: Global,
+    kind: WriteKind,
     command: &'static str,
     list: &'static str,
     body: &'a Document,
     lists: &'a DocumentLists,
-) -> Result<Statements<'a>, Refusal>
-    ensures { UnlessWanting statements_seen (asking.statements_of command.now list.now body.now lists.now) result }
+) -> Result<Asked<'a>, Refusal>
+    ensures { UnlessWanting asked_seen (asking.write_of kind command.now list.now body.now lists.now) result }
 {
     let database = looked_database(&write_rules(command, list), body)?;
     check_only(list, lists)?;
     let collection = text_under(body, command)?;
-    let statements = documents_under(list, body, lists)?;
+    let entries = documents_under(list, body, lists)?;
     let ordered = boolean_under(body, "ordered", true)?;
     let namespace = namespace(alloc, database, collection)?;
-    if statements.len() > STATEMENT_LIMIT {
+    if entries.len() > STATEMENT_LIMIT {
         return Err(Refusal::LimitReached);
     }
-    Ok(Statements {
+    Ok(Asked::Write(Write {
+        kind,
         namespace,
-        list: statements,
-        ordered,
-    })
-}
-
-pub(crate) fn insert_of<'a>(
-    alloc: Global,
-    body: &'a Document,
-    lists: &'a DocumentLists,
-) -> Result<Asked<'a>, Refusal>
-    ensures { UnlessWanting asked_seen (asking.insert_of body.now lists.now) result }
-{
-    let Statements {
-        namespace,
-        list,
-        ordered,
-    } = statements_of(alloc, "insert", "documents", body, lists)?;
-    Ok(Asked::Insert(Insert {
-        namespace,
-        documents: list,
-        ordered,
-    }))
-}
-
-pub(crate) fn update_of<'a>(
-    alloc: Global,
-    body: &'a Document,
-    lists: &'a DocumentLists,
-) -> Result<Asked<'a>, Refusal>
-    ensures { UnlessWanting asked_seen (asking.update_of body.now lists.now) result }
-{
-    let Statements {
-        namespace,
-        list,
-        ordered,
-    } = statements_of(alloc, "update", "updates", body, lists)?;
-    Ok(Asked::Update(Update {
-        namespace,
-        entries: list,
-        ordered,
-    }))
-}
-
-pub(crate) fn delete_of<'a>(
-    alloc: Global,
-    body: &'a Document,
-    lists: &'a DocumentLists,
-) -> Result<Asked<'a>, Refusal>
-    ensures { UnlessWanting asked_seen (asking.delete_of body.now lists.now) result }
-{
-    let Statements {
-        namespace,
-        list,
-        ordered,
-    } = statements_of(alloc, "delete", "deletes", body, lists)?;
-    Ok(Asked::Delete(Delete {
-        namespace,
-        entries: list,
+        entries,
         ordered,
     }))
 }

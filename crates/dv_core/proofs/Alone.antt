@@ -7,8 +7,10 @@ use Rattle.dv_catalog.specs.Changes.{Effect, put}
 use Rattle.dv_catalog.specs.Effects.{put_new}
 use Rattle.dv_catalog.specs.State.{documents_of, is_view}
 use Rattle.dv_coll.specs.Collection.{found, id_key}
-use Rattle.dv_command.specs.Asked.{Asked, Insert, insert, asked_by}
+use Rattle.dv_command.specs.Asked.{Asked, asked_by}
+use Rattle.dv_command.specs.Asked as asking
 use Rattle.dv_command.specs.Replies.{document_of, refusal_reply, write_error, write_reply}
+use Rattle.dv_command.specs.declared.asking.WriteKind.TheVariants.{Insert}
 use Rattle.dv_command.specs.declared.command.Command.{Command}
 use Rattle.dv_path.specs.Names.{has_dot}
 use Rattle.dv_fields.specs.Namespaces.{is_collection_name, is_database_name, longest_namespace, namespace}
@@ -16,12 +18,12 @@ use Rattle.dv_fields.specs.Namespaces as names
 use Rattle.dv_fields.specs.Refusals.{◌>>=◌}
 use Rattle.dv_fields.specs.declared.refusal.Refusal.{Refusal}
 use Rattle.dv_fields.specs.declared.refusal.Refusal.TheVariants.{BadValue, DuplicateKey, OnView}
-use Rattle.dv_core.specs.Insert.{insert_one, insert_write}
 use Rattle.dv_core.specs.Load.{insert_alone, left_by, namespace_in}
 use Rattle.dv_core.specs.State.{State}
 use Rattle.dv_core.specs.Statements.{Write, nothing_written, with_result}
 use Rattle.dv_core.specs.Step.{Answer, answer_to, answered, carried_out, step, write_answer}
 use Rattle.dv_core.specs.Storable.{storable}
+use Rattle.dv_core.specs.Writes.{insert_one, write_by}
 
 -- ---- one statement
 
@@ -39,7 +41,7 @@ module _ (old : State) (namespace : List ℕ) (ordered : Bool) where
   alone_by b does = if b then Err OnView else (does >>= λ effect. Ok (left_by namespace old effect))
 
   abbrev write : Write
-  write = insert_write (record { namespace = namespace; documents = []; ordered = ordered })
+  write = write_by (record { kind = Insert; namespace = namespace; entries = []; ordered = ordered })
 
   abbrev answer_by : Bool → Result Effect Refusal → Answer
   answer_by b does = answered old (if b then Err OnView else Ok (write_answer old write (with_result namespace ordered (nothing_written old.catalog.namespaces) does)))
@@ -58,16 +60,16 @@ module _ (old : State) (namespace : List ℕ) (ordered : Bool) where
       let same : other ≡ refusal = cc in
       λ i. record { reply = write_reply 0 (document_of (write_error 0 (same i)) ∷ []); state = old }
 
-module _ (old : State) (session : ℕ) (command : Command) (asked : Insert) (d : List Field) (asks : asked_by command ≡ Ok (insert asked)) where
+module _ (old : State) (session : ℕ) (command : Command) (asked : asking.Write) (d : List Field) (asks : asked_by command ≡ Ok (asking.write asked)) where
   does : Result Effect Refusal
   does = insert_one d (documents_of asked.namespace old.catalog.namespaces)
 
-  carried : step old session command ≡ answered old (carried_out old (insert_write asked))
+  carried : step old session command ≡ answered old (carried_out old (write_by asked))
   carried = ap (λ (r : Result Asked Refusal). answered old (r >>= answer_to old session)) asks
 
-  module _ (alone : asked.documents ≡ d ∷ []) where
+  module _ (inserts : asked.kind ≡ Insert) (alone : asked.entries ≡ d ∷ []) where
     answers : step old session command ≡ answer_by old asked.namespace asked.ordered (is_view asked.namespace old.catalog.views) (insert_one d (documents_of asked.namespace old.catalog.namespaces))
-    answers = carried ∙ ap (λ (ds : List (List Field)). answered old (carried_out old (insert_write (record asked { documents = ds })))) alone
+    answers = carried ∙ (λ i. answered old (carried_out old (write_by (record asked { kind = inserts i; entries = alone i }))))
 
     pub load_stored : (new : State) → insert_alone asked.namespace d old ≡ Ok new → step old session command ≡ record { reply = write_reply 1 []; state = new }
     load_stored new is =

@@ -3,23 +3,23 @@ use Rattle.std.proofs.Common.{◌≡◌, ◌⊎◌, ◌≤◌, ℕ, Bool, true, 
 use Rattle.std.specs.Prelude.{codes}
 use Rattle.dv_bson.specs.Names.{value_under}
 use Rattle.dv_bson.specs.Tree.{Tree, Field, int32}
-use Rattle.dv_command.specs.Asked.{Asked, hello, ping, insert, update, delete, find, aggregate, get_more, kill_cursors, create, drop, create_indexes, drop_indexes, explain, asked_by}
+use Rattle.dv_command.specs.Asked.{Asked, hello, ping, find, aggregate, get_more, kill_cursors, create, drop, create_indexes, drop_indexes, explain, asked_by}
+use Rattle.dv_command.specs.Asked as asking
 use Rattle.dv_fields.specs.Refusals.{◌>>=◌}
 use Rattle.dv_command.specs.Replies.{reply_of, drop_reply, first_batch_reply, create_indexes_reply, drop_indexes_reply, document_of, count, errors_field}
 use Rattle.dv_fields.specs.declared.refusal.Refusal.TheVariants.{OnView, TooLarge}
+use Rattle.dv_command.specs.declared.asking.WriteKind.{WriteKind}
+use Rattle.dv_command.specs.declared.asking.WriteKind.TheVariants.{Insert, Update, Delete}
 use Rattle.dv_command.specs.declared.command.Command.{Command}
 use Rattle.dv_fields.specs.declared.refusal.Refusal.{Refusal}
 use Rattle.dv_core.specs.declared.outcome.Outcome.{Outcome}
 use Rattle.dv_core.specs.declared.outcome.Outcome.TheVariants.{Reply, Wanting, NoReply}
 use Rattle.dv_catalog.specs.Changes.{Effect}
-use Rattle.dv_core.specs.Delete.{delete_write}
-use Rattle.dv_core.specs.Update.{update_write}
 use Rattle.dv_core.specs.Find.{are_too_large, first_batch, kept, left_behind, replied, found, gathered}
 use Rattle.dv_core.specs.Indexes.{form_asked, index_count}
 use Rattle.dv_core.specs.More.{next_batch, next_of, number_of, rows_asked}
 use Rattle.dv_cursor.specs.Batch.{batch}
 use Rattle.dv_cursor.specs.Cursors.{Cursors}
-use Rattle.dv_core.specs.Insert.{insert_write}
 use Rattle.dv_catalog.specs.IndexMaking.{indexes_created, indexes_dropped}
 use Rattle.dv_catalog.specs.State.{Namespaces, documents_of, is_view}
 use Rattle.dv_catalog.specs.State as stored
@@ -28,6 +28,7 @@ use Rattle.dv_catalog.specs.Views.{aggregated, created, dropped}
 use Rattle.dv_catalog.specs.Changes.{Statement}
 use Rattle.dv_core.specs.Statements.{Write, Written, nothing_written, carry_out, with_all, with_next, with_result, is_due, IsCut}
 use Rattle.dv_core.specs.Step.{Answer, answered, write_answer, on_catalog, on_cursors, answer_to, step, write_of, makes, moves, WriteCut, Cut, Wants, MemoryStep}
+use Rattle.dv_core.specs.Writes.{reply_by, write_by}
 
 -- what a write did, be it cut
 abbrev pub Did : Write → State → Written → Type 0
@@ -123,9 +124,7 @@ step_may : (old : State) (session : ℕ) (asked : Result Asked Refusal) → MayW
 step_may old session (Err refusal) = inl refl
 step_may old session (Ok hello) = inl refl
 step_may old session (Ok ping) = inl refl
-step_may old session (Ok (insert i)) = carried_may old (insert i) (insert_write i) refl (is_view i.namespace old.catalog.views)
-step_may old session (Ok (update u)) = carried_may old (update u) (update_write u) refl (is_view u.namespace old.catalog.views)
-step_may old session (Ok (delete d)) = carried_may old (delete d) (delete_write d) refl (is_view d.namespace old.catalog.views)
+step_may old session (Ok (asking.write w)) = carried_may old (asking.write w) (write_by w) refl (is_view w.namespace old.catalog.views)
 step_may old session (Ok (find f)) = cursors_may old (find f) (found session f old.catalog old.cursors) (first_told f.namespace f.batch_size _ _) (λ done. refl)
 step_may old session (Ok (aggregate a)) = cursors_may old (aggregate a) (gathered session a old.catalog old.cursors) (gathered_told session a.namespace a.batch_size old.cursors (aggregated a.stages a.namespace old.catalog)) (λ done. refl)
 step_may old session (Ok (get_more g)) =
@@ -261,11 +260,14 @@ update_told : (errors : List Tree) (n changed : Tree) → told (reply_of ((codes
 update_told [] n changed = refl
 update_told (e ∷ es) n changed = refl
 
+reply_told : (kind : WriteKind) (n changed : ℕ) (errors : List Tree) → told (reply_by kind n changed errors) ≡ Some (int32 (pos 1))
+reply_told Insert n changed errors = errors_told errors (count n)
+reply_told Update n changed errors = update_told errors (count n) (count changed)
+reply_told Delete n changed errors = errors_told errors (count n)
+
 -- a write that is carried out says so
 write_told : (what : Asked) (write : Write) → write_of what ≡ Some write → (n changed : ℕ) (errors : List Tree) → told (write.reply n changed errors) ≡ Some (int32 (pos 1))
-write_told (insert i) write is n changed errors = let same : insert_write i ≡ write = cc in subst (λ (w : Write). told (w.reply n changed errors) ≡ Some (int32 (pos 1))) same (errors_told errors (count n))
-write_told (update u) write is n changed errors = let same : update_write u ≡ write = cc in subst (λ (w : Write). told (w.reply n changed errors) ≡ Some (int32 (pos 1))) same (update_told errors (count n) (count changed))
-write_told (delete d) write is n changed errors = let same : delete_write d ≡ write = cc in subst (λ (w : Write). told (w.reply n changed errors) ≡ Some (int32 (pos 1))) same (errors_told errors (count n))
+write_told (asking.write w) write is n changed errors = let same : write_by w ≡ write = cc in subst (λ (made : Write). told (made.reply n changed errors) ≡ Some (int32 (pos 1))) same (reply_told w.kind n changed errors)
 write_told what write is n changed errors = absurd cc
 
 refused_may : (old : State) (asked : Result Asked Refusal) (answer : Answer) → MayWrite old asked answer → told answer.reply ≡ Some (int32 (pos 0)) → answer.state ≡ old

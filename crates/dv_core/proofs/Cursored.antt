@@ -5,7 +5,8 @@ use Rattle.std.specs.FinMap as finite
 use lib.ListN.{drop as behind_first}
 use Rattle.std.specs.Str.{bytes_eq}
 use Rattle.dv_bson.specs.Tree.{Field}
-use Rattle.dv_command.specs.Asked.{Asked, Aggregate, Find, GetMore, hello, ping, insert, update, delete, find, aggregate, get_more, kill_cursors, create, drop, create_indexes, drop_indexes, explain, asked_by}
+use Rattle.dv_command.specs.Asked.{Asked, Aggregate, Find, GetMore, hello, ping, find, aggregate, get_more, kill_cursors, create, drop, create_indexes, drop_indexes, explain, asked_by}
+use Rattle.dv_command.specs.Asked as asking
 use Rattle.dv_command.specs.Replies.{document_of, first_batch_reply, next_batch_reply}
 use Rattle.dv_command.specs.declared.command.Command.{Command}
 use Rattle.dv_fields.specs.declared.refusal.Refusal.{Refusal}
@@ -225,9 +226,7 @@ module _ (laws : CursorLaws) (session id : ℕ) where
   command_moves state other (Err refusal) new = unmoved session id state.cursors state.cursors refl
   command_moves state other (Ok hello) new = unmoved session id state.cursors state.cursors refl
   command_moves state other (Ok ping) new = unmoved session id state.cursors state.cursors refl
-  command_moves state other (Ok (insert i)) new = unmoved session id state.cursors _ (write_cursors state _ _ _ refl)
-  command_moves state other (Ok (update u)) new = unmoved session id state.cursors _ (write_cursors state _ _ _ refl)
-  command_moves state other (Ok (delete d)) new = unmoved session id state.cursors _ (write_cursors state _ _ _ refl)
+  command_moves state other (Ok (asking.write w)) new = unmoved session id state.cursors _ (write_cursors state _ _ _ refl)
   command_moves state other (Ok (find f)) new = first_moves state f.namespace f.batch_size _ (kept other f.namespace _ state.cursors) (kept_moves other f.namespace _ state.cursors new)
   command_moves state other (Ok (aggregate a)) new = gathered_moves state other a.namespace a.batch_size (aggregated a.stages a.namespace state.catalog) new
   command_moves state other (Ok (get_more g)) new = more_moves state other g.namespace g.id g.batch_size (rows_asked other g.namespace g.id state.cursors) refl

@@ -17,16 +17,14 @@ use Rattle.dv_core.specs.declared.outcome.Outcome.{Outcome}
 use Rattle.dv_catalog.specs.Changes.{Change, put, gone, Effect, Statement, apply, with_change, with_changes, changes_of}
 use Rattle.dv_update.specs.Update as form
 use Rattle.dv_catalog.specs.Effects.{changed_by, delete_chosen, put_new, update_chosen}
-use Rattle.dv_core.specs.Delete.{delete_one}
 use Rattle.dv_catalog.specs.Scan.{matching}
-use Rattle.dv_core.specs.Update.{update_one}
-use Rattle.dv_core.specs.Insert.{insert_one}
 use Rattle.dv_catalog.specs.State.{Standing, Namespaces, Collection, collection_at, collection_of, documents_of, with_documents, collection}
 use Rattle.dv_core.specs.State.{State}
 use Rattle.dv_core.specs.Statements.{Write, Written, nothing_written, with_all, with_next, with_result, is_due}
 use Rattle.dv_core.specs.Step.{Answer, write_of, MemoryStep}
 use Rattle.dv_core.specs.Storable.{storable}
 use Rattle.dv_catalog.specs.StateLaws.{get-insert}
+use Rattle.dv_core.specs.Writes.{insert_one, update_one, delete_one}
 use Rattle.dv_core.proofs.Changed.{Did, outcome_may, Made, MayWrite}
 use Rattle.dv_core.proofs.Made.{made_documents}
 use Rattle.dv_catalog.specs.EffectLaws.{IsGoodAfter, chosen_good, matching_good, all_changed_good}

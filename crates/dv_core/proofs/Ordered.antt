@@ -11,22 +11,22 @@ use Rattle.dv_bson.specs.Spelling.{AreFields, Fits}
 use Rattle.dv_bson.specs.Tree.{Tree, array, Field, fields_of}
 use Rattle.dv_order.specs.Key.{KeyTree, key_order}
 use Rattle.dv_coll.specs.Collection.{HasId, IsAscending, found, has_key, id_key, inserted, removed, replaced}
-use Rattle.dv_command.specs.Asked.{Asked, insert, update, delete, asked_by}
+use Rattle.dv_command.specs.Asked.{Asked, asked_by}
+use Rattle.dv_command.specs.Asked as asking
 use Rattle.dv_fields.specs.Refusals.{◌>>=◌}
 use Rattle.dv_command.specs.Entries.{Updating, updating_of}
 use Rattle.dv_command.specs.Sound.{AreValid, IsSoundUpdate}
+use Rattle.dv_command.specs.declared.asking.WriteKind.{WriteKind}
+use Rattle.dv_command.specs.declared.asking.WriteKind.TheVariants.{Insert, Update, Delete}
 use Rattle.dv_command.specs.declared.command.Command.{Command}
 use Rattle.dv_fields.specs.declared.refusal.Refusal.{Refusal}
 use Rattle.dv_fields.specs.declared.refusal.Refusal.TheVariants.{BadValue, OnView, TooLarge}
 use Rattle.dv_core.specs.declared.outcome.Outcome.{Outcome}
 use Rattle.dv_catalog.specs.Changes.{Change, Effect, put, gone, with_change, changes_of}
-use Rattle.dv_core.specs.Delete.{delete_write}
 use Rattle.dv_update.specs.Apply.{applied}
 use Rattle.dv_update.specs.Parsing.{update_of}
 use Rattle.dv_update.specs.Update as form
 use Rattle.dv_catalog.specs.Effects.{after}
-use Rattle.dv_core.specs.Update.{update_write}
-use Rattle.dv_core.specs.Insert.{insert_one, insert_write}
 use Rattle.dv_core.specs.Sound.{IsSoundDocument, AreSound, AreSoundDocuments, IsSoundCommand}
 use Rattle.dv_core.specs.Load.{insert_alone, left_by, loaded, namespace_in}
 use Rattle.dv_catalog.specs.State.{documents_of, is_view, AreOrdered, IsOrdered}
@@ -35,6 +35,7 @@ use Rattle.dv_core.specs.Statements.{Write}
 use Rattle.dv_core.specs.Step.{write_of, MemoryStep}
 use Rattle.dv_path.specs.Names.{has_bad_name}
 use Rattle.dv_core.specs.Storable.{id_in, is_within_limits, storable, with_id_first, without_field}
+use Rattle.dv_core.specs.Writes.{insert_one, statement_of, write_by}
 use Rattle.dv_core.proofs.Asking.{AsksSoundly, soundly_asked}
 use Rattle.dv_catalog.specs.StateLaws.{documents_there}
 use Rattle.dv_core.proofs.Kept.{Keeps, apply_holds, insert_keeps, updates_keep, deletes_keep, step_holds}
@@ -139,13 +140,14 @@ module _ (laws : CollectionLaws) where
   asks_any [] = tt
   asks_any (entry ∷ entries) = ((λ updating is. tt), asks_any entries)
 
+  statements_order : (kind : WriteKind) (entries : List (List Field)) → AllByRecursion (Keeps (λ namespace ds. AreOrdered ds) BeginsWithId changes_order) (map (statement_of kind) entries)
+  statements_order Insert entries = inserts_order entries
+  statements_order Update entries =
+      updates_keep (λ namespace ds. AreOrdered ds) BeginsWithId changes_order (λ form. Unit {0}) (λ form any namespace ds ordered. afters_ids laws.id_stays form ds ordered.1) entries (asks_any entries)
+  statements_order Delete entries = deletes_keep (λ namespace ds. AreOrdered ds) BeginsWithId changes_order (λ k. tt) entries
+
   writes_order : (what : Asked) (write : Write) → write_of what ≡ Some write → KeepsOrder write
-  writes_order (insert i) write is = let same : insert_write i ≡ write = cc in subst KeepsOrder same (inserts_order i.documents)
-  writes_order (update u) write is =
-      let same : update_write u ≡ write = cc in
-      subst KeepsOrder same
-      (updates_keep (λ namespace ds. AreOrdered ds) BeginsWithId changes_order (λ form. Unit {0}) (λ form any namespace ds ordered. afters_ids laws.id_stays form ds ordered.1) u.entries (asks_any u.entries))
-  writes_order (delete d) write is = let same : delete_write d ≡ write = cc in subst KeepsOrder same (deletes_keep (λ namespace ds. AreOrdered ds) BeginsWithId changes_order (λ k. tt) d.entries)
+  writes_order (asking.write w) write is = let same : write_by w ≡ write = cc in subst KeepsOrder same (statements_order w.kind w.entries)
   writes_order what write is = absurd cc
 
   pub steps_ordered : (old new : State) (session : ℕ) (command : Command) (outcome : Outcome) → IsOrdered old.catalog → MemoryStep old session command outcome new → IsOrdered new.catalog
@@ -210,18 +212,16 @@ module _ (laws : CollectionLaws) where
     entries_sound [] valid = tt
     entries_sound (entry ∷ entries) valid = ((λ updating is. sound_laws.of_entries entry updating valid.0 is), entries_sound entries valid.1)
 
+    statements_sound : (kind : WriteKind) (entries : List (List Field)) → AreValid entries → AllByRecursion (Keeps (λ namespace ds. AreSound ds) IsSoundChange changes_sound) (map (statement_of kind) entries)
+    statements_sound Insert entries valid = inserts_sound entries valid
+    statements_sound Update entries valid =
+        updates_keep (λ namespace ds. AreSound ds) IsSoundChange changes_sound IsSoundUpdate (λ form asked namespace ds all. afters_sound form asked ds all.0.1 all.1) entries (entries_sound entries valid)
+    statements_sound Delete entries valid = deletes_keep (λ namespace ds. AreSound ds) IsSoundChange changes_sound (λ k. tt) entries
+
     writes_sound : (command : Command) → IsSoundCommand command → (what : Asked) (write : Write) → asked_by command ≡ Ok what → write_of what ≡ Some write → KeepsSound write
-    writes_sound command sound (insert i) write asked is =
-        let same : insert_write i ≡ write = cc in
-        subst KeepsSound same (inserts_sound i.documents (soundly_asked asks command (insert i) sound asked).1)
-    writes_sound command sound (update u) write asked is =
-        let same : update_write u ≡ write = cc in
-        subst KeepsSound same
-        (updates_keep (λ namespace ds. AreSound ds) IsSoundChange changes_sound IsSoundUpdate (λ form asked namespace ds all. afters_sound form asked ds all.0.1 all.1) u.entries
-        (entries_sound u.entries (soundly_asked asks command (update u) sound asked).1))
-    writes_sound command sound (delete d) write asked is =
-        let same : delete_write d ≡ write = cc in
-        subst KeepsSound same (deletes_keep (λ namespace ds. AreSound ds) IsSoundChange changes_sound (λ k. tt) d.entries)
+    writes_sound command sound (asking.write w) write asked is =
+        let same : write_by w ≡ write = cc in
+        subst KeepsSound same (statements_sound w.kind w.entries (soundly_asked asks command (asking.write w) sound asked).1)
     writes_sound command sound what write asked is = absurd cc
 
     pub steps_sound : (old new : State) (session : ℕ) (command : Command) (outcome : Outcome) → IsSoundCommand command → AreSoundDocuments old → MemoryStep old session command outcome new → AreSoundDocuments new

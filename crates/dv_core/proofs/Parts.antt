@@ -1,18 +1,21 @@
 -- A delete leaves a part of the documents.
-use Rattle.std.proofs.Common.{◌≡◌, ◌&&◌, not, ℕ, Bool, true, false, cond, List, [], ◌∷◌, Some, Ok, refl, ap, subst, ◌∙◌}
+use Rattle.std.proofs.Common.{◌≡◌, ◌&&◌, not, ℕ, Bool, true, false, cond, List, [], ◌∷◌, map, Some, Ok, refl, sym, ap, subst, ◌∙◌}
 use Rattle.std.specs.List.{AllByRecursion, filter}
 use Rattle.dv_bson.specs.Tree.{Field}
 use Rattle.dv_coll.specs.Collection.{has_key, removed}
-use Rattle.dv_command.specs.Asked.{Asked, Delete, delete, asked_by}
+use Rattle.dv_command.specs.Asked.{Asked, asked_by}
+use Rattle.dv_command.specs.Asked as asking
+use Rattle.dv_command.specs.declared.asking.WriteKind.{WriteKind}
+use Rattle.dv_command.specs.declared.asking.WriteKind.TheVariants.{Delete}
 use Rattle.dv_command.specs.declared.command.Command.{Command}
 use Rattle.dv_core.specs.declared.outcome.Outcome.{Outcome}
-use Rattle.dv_catalog.specs.Changes.{Change, put, gone, with_change}
-use Rattle.dv_core.specs.Delete.{delete_write}
+use Rattle.dv_catalog.specs.Changes.{Change, Statement, put, gone, with_change}
 use Rattle.dv_core.specs.Part.{IsPart}
 use Rattle.dv_catalog.specs.State.{documents_of}
 use Rattle.dv_core.specs.State.{State}
 use Rattle.dv_core.specs.Statements.{Write}
 use Rattle.dv_core.specs.Step.{write_of, MemoryStep}
+use Rattle.dv_core.specs.Writes.{statement_of, write_by}
 use Rattle.dv_core.proofs.Kept.{Keeps, deletes_keep, step_holds}
 
 abbrev IsGone : Change → Type 0
@@ -45,13 +48,19 @@ module _ (old : State) where
   goes namespace documents (gone k) (stays, is) good =
       ((λ d. stays d && not (has_key k d)), ap (removed k) is ∙ filter_both (λ d. not (has_key k d)) stays (documents_of namespace old.catalog.namespaces))
 
-  deletes_go : (asked : Delete) (what : Asked) (write : Write) → delete asked ≡ what → write_of what ≡ Some write → AllByRecursion (Keeps LeftOf IsGone goes) write.statements
-  deletes_go asked what write is writes =
-      let same : delete_write asked ≡ write = cc (ap write_of is, writes) in
-      subst (λ (w : Write). AllByRecursion (Keeps LeftOf IsGone goes) w.statements) same (deletes_keep LeftOf IsGone goes (λ k. tt) asked.entries)
+  abbrev Go : List Statement → Type 0
+  Go statements = AllByRecursion (Keeps LeftOf IsGone goes) statements
 
-  pub delete_leaves : (new : State) (session : ℕ) (command : Command) (asked : Delete) (outcome : Outcome) → asked_by command ≡ Ok (delete asked) → MemoryStep old session command outcome new → (namespace : List ℕ)
-      → IsPart (documents_of namespace new.catalog.namespaces) (documents_of namespace old.catalog.namespaces)
-  delete_leaves new session command asked outcome asks steps =
-      step_holds LeftOf IsGone goes old new session command outcome (λ namespace. ((λ d. false), filter_none (documents_of namespace old.catalog.namespaces))) (λ what write is writes. deletes_go asked what write (cc (asks, is)) writes)
+  deletes_go : (asked : asking.Write) (what : Asked) (write : Write) → asking.write asked ≡ what → asked.kind ≡ Delete → write_of what ≡ Some write → Go write.statements
+  deletes_go asked what write is deletes writes =
+      let same : write_by asked ≡ write = cc (ap write_of is, writes) in
+      let go : Go (map (statement_of asked.kind) asked.entries) =
+      subst (λ (kind : WriteKind). Go (map (statement_of kind) asked.entries)) (sym deletes) (deletes_keep LeftOf IsGone goes (λ k. tt) asked.entries) in
+      subst (λ (w : Write). Go w.statements) same go
+
+  pub delete_leaves : (new : State) (session : ℕ) (command : Command) (asked : asking.Write) (outcome : Outcome) → asked_by command ≡ Ok (asking.write asked) → asked.kind ≡ Delete → MemoryStep old session command outcome new
+      → (namespace : List ℕ) → IsPart (documents_of namespace new.catalog.namespaces) (documents_of namespace old.catalog.namespaces)
+  delete_leaves new session command asked outcome asks deletes steps =
+      step_holds LeftOf IsGone goes old new session command outcome (λ namespace. ((λ d. false), filter_none (documents_of namespace old.catalog.namespaces)))
+      (λ what write is writes. deletes_go asked what write (cc (asks, is)) deletes writes)
       (λ namespace. ((λ d. true), filter_whole (documents_of namespace old.catalog.namespaces))) steps

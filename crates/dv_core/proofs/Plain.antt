@@ -25,12 +25,10 @@ use Rattle.dv_command.specs.Forms.{filter_of, update_of, is_replacement}
 use Rattle.dv_command.specs.Entries.{Updating, deletion_of, updating_of, check_multi}
 use Rattle.dv_catalog.specs.Changes.{put, Effect, Statement}
 use Rattle.dv_catalog.specs.Effects.{after, all_or_first, changed_by, delete_chosen, put_new, update_chosen}
-use Rattle.dv_core.specs.Delete.{delete_one}
-use Rattle.dv_core.specs.Insert.{insert_one}
-use Rattle.dv_core.specs.Update.{update_one}
 use Rattle.dv_catalog.specs.Scan.{matching}
 use Rattle.dv_path.specs.Names.{has_bad_name}
 use Rattle.dv_core.specs.Storable.{without_field, id_in, is_within_limits, with_id_first, storable}
+use Rattle.dv_core.specs.Writes.{insert_one, update_one, delete_one}
 
 -- a refusal of a statement, which tells of no fault in bytes
 abbrev pub IsPlain : Refusal → Type 0

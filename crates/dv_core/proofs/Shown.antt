@@ -11,7 +11,8 @@ use Rattle.dv_catalog.specs.ScanLaws.{all_scanned}
 use Rattle.dv_catalog.specs.State as stored
 use Rattle.dv_catalog.specs.State.{rows_of}
 use Rattle.dv_catalog.specs.Views.{looks_into_view}
-use Rattle.dv_command.specs.Asked.{Asked, hello, ping, insert, update, delete, find, aggregate, get_more, kill_cursors, create, drop, create_indexes, drop_indexes, explain, asked_by}
+use Rattle.dv_command.specs.Asked.{Asked, hello, ping, find, aggregate, get_more, kill_cursors, create, drop, create_indexes, drop_indexes, explain, asked_by}
+use Rattle.dv_command.specs.Asked as asking
 use Rattle.dv_command.specs.Sound.{AreValid, IsSoundlyAsked}
 use Rattle.dv_command.specs.declared.command.Command.{Command}
 use Rattle.dv_cursor.specs.Batch.{batch}
@@ -157,9 +158,7 @@ module _ (laws : CursorLaws) where
         left_by_command old (next_of session g.namespace (number_of g.id) g.batch_size (rows_asked session g.namespace g.id old.cursors) old.cursors) all
         (next_shown session g.namespace old.cursors all (number_of g.id) g.batch_size (rows_asked session g.namespace g.id old.cursors))
     asked_shown size (kill_cursors k) sound = without_shown session k.namespace k.ids old.cursors all
-    asked_shown size (insert i) sound = same_shown old.cursors _ (write_cursors old _ _ _ refl) all
-    asked_shown size (update u) sound = same_shown old.cursors _ (write_cursors old _ _ _ refl) all
-    asked_shown size (delete d) sound = same_shown old.cursors _ (write_cursors old _ _ _ refl) all
+    asked_shown size (asking.write w) sound = same_shown old.cursors _ (write_cursors old _ _ _ refl) all
     asked_shown size (create c) sound = same_shown old.cursors _ (catalog_cursors old _) all
     asked_shown size (drop d) sound = same_shown old.cursors _ (catalog_cursors old _) all
     asked_shown size (create_indexes c) sound = same_shown old.cursors _ (catalog_cursors old _) all

@@ -18,17 +18,17 @@ use Rattle.dv_bson.specs.declared.fault.BsonFault.TheVariants.{Truncated, BadLen
 use Rattle.dv_bson.specs.Names.{has_name, has_zero}
 use Rattle.dv_bson.specs.Spelling.{framed, element_spelling, counted, payload, spelling, IsValue, AreFields, AreElements, Spells}
 use Rattle.dv_bson.specs.Tree.{Tree, int32, int64, boolean, string, array, Field, fields_of, list_of_fields, elements_of}
-use Rattle.dv_command.specs.Asked.{Asked, Delete, Insert, Update, ViewOn, hello, ping, insert, update, delete, find, aggregate, get_more, kill_cursors, create, drop, create_indexes, drop_indexes, explain, asked_by}
+use Rattle.dv_command.specs.Asked.{Asked, ViewOn, hello, ping, find, aggregate, get_more, kill_cursors, create, drop, create_indexes, drop_indexes, explain, asked_by}
+use Rattle.dv_command.specs.Asked as asking
 use Rattle.dv_command.specs.Replies.{document_of, count, long_count, drop_reply, hello_reply, reply_of, refusal_reply, batch_reply, first_batch_reply, kill_cursors_reply, create_indexes_reply, drop_indexes_reply, cut_error, write_error, update_reply, errors_field}
 use Rattle.dv_fields.specs.Refusals.{code, code_name, message_of, ◌>>=◌}
+use Rattle.dv_command.specs.declared.asking.WriteKind.{WriteKind}
+use Rattle.dv_command.specs.declared.asking.WriteKind.TheVariants.{Insert, Update, Delete}
 use Rattle.dv_command.specs.declared.command.Command.{Command}
 use Rattle.dv_core.specs.declared.outcome.Outcome.TheVariants.{Wanting}
 use Rattle.dv_fields.specs.declared.refusal.Refusal.{Refusal}
 use Rattle.dv_fields.specs.declared.refusal.Refusal.TheVariants.{BadValue, FailedToParse, TypeMismatch, InvalidBson, PathNotViable, ConflictingUpdateOperators, ImmutableField, CommandNotFound, DuplicateKey, WantOfMemory, TooLarge, LimitReached, NamespaceNotFound, IndexNotFound, CursorNotFound, NamespaceExists, OnView, ReadByView}
 use Rattle.dv_catalog.specs.Changes.{Effect}
-use Rattle.dv_core.specs.Delete.{delete_one, delete_write}
-use Rattle.dv_core.specs.Update.{update_one, update_write}
-use Rattle.dv_core.specs.Insert.{insert_one, insert_write}
 use Rattle.dv_catalog.specs.Scan.{scan}
 use Rattle.dv_catalog.specs.IndexMaking.{Explained, Way, over_view, by_index, over_all, explained, indexes_created, indexes_dropped, with_all as with_all_entries, with_entries, with_index, without_named, within_limit}
 use Rattle.dv_catalog.specs.State.{Namespaces, ViewForm, documents_of, indexes_of, is_collection, is_there, is_view, rows_of}
@@ -44,6 +44,7 @@ use Rattle.dv_catalog.specs.Changes.{Statement}
 use Rattle.dv_core.specs.Statements.{Write, Written, nothing_written, is_due, with_result, with_next, with_all, carry_out, IsCut}
 use Rattle.dv_core.specs.Step.{Answer, answered, write_answer, on_catalog, on_cursors, answer_to, step, write_of, Cut, MemoryStep, WriteCut}
 use Rattle.dv_command.specs.Sound.{AreValid, AreIds, IsNamespace, IsSoundlyAsked}
+use Rattle.dv_core.specs.Writes.{statement_of, reply_by, write_by}
 use Rattle.dv_core.proofs.Viewed.{PipesStayValid, gathered_valid, rows_valid}
 use Rattle.dv_core.proofs.Named.{IsNamed, explained_named}
 use Rattle.dv_core.proofs.Asking.{AsksSoundly, body_fits, body_size, soundly_asked}
@@ -412,16 +413,20 @@ cut_spelled counts write old left is c =
     subst (λ (w : Written). HasSpelling (write.reply w.n w.changed w.errors)) (sym c.left_so)
     (is.reply so_far.n so_far.changed (so_far.errors ++ error ∷ []) (omega (arith, length-append so_far.errors (error ∷ []), all.errors, many, is.within)) (small-push so_far.errors error all.small small))
 
+statements_plain : (kind : WriteKind) (entries : List (List Field)) → AllByRecursion IsPlainStatement (map (statement_of kind) entries)
+statements_plain Insert entries = inserts_plain entries
+statements_plain Update entries = updates_plain entries
+statements_plain Delete entries = deletes_plain entries
+
 -- the writes that are asked
 module _ (counts : CountsAreValid) where
-  insert_tellable : (i : Insert) → length i.documents ≤ 100000 → IsTellable (insert_write i)
-  insert_tellable i few = record { within = omega (arith, length-map i.documents insert_one, few); plain = inserts_plain i.documents; reply = λ n changed es. errors_spelled counts n es }
+  reply_spelled : (kind : WriteKind) → IsSpelled (reply_by kind)
+  reply_spelled Insert = λ n changed es. errors_spelled counts n es
+  reply_spelled Update = update_spelled counts
+  reply_spelled Delete = λ n changed es. errors_spelled counts n es
 
-  update_tellable : (u : Update) → length u.entries ≤ 100000 → IsTellable (update_write u)
-  update_tellable u few = record { within = omega (arith, length-map u.entries update_one, few); plain = updates_plain u.entries; reply = update_spelled counts }
-
-  delete_tellable : (d : Delete) → length d.entries ≤ 100000 → IsTellable (delete_write d)
-  delete_tellable d few = record { within = omega (arith, length-map d.entries delete_one, few); plain = deletes_plain d.entries; reply = λ n changed es. errors_spelled counts n es }
+  write_tellable : (w : asking.Write) → length w.entries ≤ 100000 → IsTellable (write_by w)
+  write_tellable w few = record { within = omega (arith, length-map w.entries (statement_of w.kind), few); plain = statements_plain w.kind w.entries; reply = reply_spelled w.kind }
 
 -- ---- a greeting
 
@@ -732,15 +737,9 @@ module _ (asks : AsksSoundly) (counts : CountsAreValid) (laws : BatchLaws) (pipe
   asked_spelled : (state : State) (session size : ℕ) (asked : Asked) → size ≤ 16777216 → IsSoundlyAsked size asked → IsSound state → HasSpelling (answered state (answer_to state session asked)).reply
   asked_spelled state session size hello fits sound all = hello_spelled
   asked_spelled state session size ping fits sound all = ping_spelled
-  asked_spelled state session size (insert i) fits sound all =
-      write_or_refusal state (is_view i.namespace state.catalog.views) (insert_write i) (carry_out (insert_write i) state.catalog.namespaces)
-      (write_spelled (insert_write i) state.catalog.namespaces (insert_tellable counts i sound.2))
-  asked_spelled state session size (update u) fits sound all =
-      write_or_refusal state (is_view u.namespace state.catalog.views) (update_write u) (carry_out (update_write u) state.catalog.namespaces)
-      (write_spelled (update_write u) state.catalog.namespaces (update_tellable counts u sound.2))
-  asked_spelled state session size (delete d) fits sound all =
-      write_or_refusal state (is_view d.namespace state.catalog.views) (delete_write d) (carry_out (delete_write d) state.catalog.namespaces)
-      (write_spelled (delete_write d) state.catalog.namespaces (delete_tellable counts d sound.2))
+  asked_spelled state session size (asking.write w) fits sound all =
+      write_or_refusal state (is_view w.namespace state.catalog.views) (write_by w) (carry_out (write_by w) state.catalog.namespaces)
+      (write_spelled (write_by w) state.catalog.namespaces (write_tellable counts w sound.2))
   asked_spelled state session size (find f) fits sound all =
       let rows : List (List Field) = rows_of f.namespace state.catalog in
       let shown : List (List Field) = scan f.filter f.sort f.skip f.limit rows in
@@ -780,9 +779,7 @@ module _ (asks : AsksSoundly) (counts : CountsAreValid) where
   left_spelled old write answer is (on, (left, is_cut, answers)) = subst (λ (a : Answer). HasSpelling a.reply) (sym answers) (cut_spelled counts write old.catalog.namespaces left is is_cut)
 
   asked_cut_spelled : (old : State) (size : ℕ) (what : Asked) (answer : Answer) → IsSoundlyAsked size what → WriteCut old (write_of what) answer → HasSpelling answer.reply
-  asked_cut_spelled old size (insert i) answer sound cut = left_spelled old (insert_write i) answer (insert_tellable counts i sound.2) cut
-  asked_cut_spelled old size (update u) answer sound cut = left_spelled old (update_write u) answer (update_tellable counts u sound.2) cut
-  asked_cut_spelled old size (delete d) answer sound cut = left_spelled old (delete_write d) answer (delete_tellable counts d sound.2) cut
+  asked_cut_spelled old size (asking.write w) answer sound cut = left_spelled old (write_by w) answer (write_tellable counts w sound.2) cut
   asked_cut_spelled old size what answer sound cut = absurd cut
 
   any_cut_spelled : (old : State) (command : Command) (asked : Result Asked Refusal) (answer : Answer) → asked_by command ≡ asked → IsSoundCommand command → Cut old asked answer → HasSpelling answer.reply

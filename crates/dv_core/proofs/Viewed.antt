@@ -11,12 +11,12 @@ use Rattle.dv_command.specs.Asked.{Asked, ViewOn, find, aggregate, get_more, kil
 use Rattle.dv_command.specs.Sound.{AreValid, IsSoundPipeline, IsSoundView, IsSoundlyAsked}
 use Rattle.dv_command.specs.declared.command.Command.{Command}
 use Rattle.dv_core.specs.Indexes.{form_asked}
-use Rattle.dv_core.specs.Insert.{insert_one}
 use Rattle.dv_core.specs.Load.{insert_alone, left_by, loaded, namespace_in}
 use Rattle.dv_core.specs.Sound.{AreSoundDocuments, AreSoundIndexes, AreSoundViews, IsSoundCommand}
 use Rattle.dv_core.specs.State.{State}
 use Rattle.dv_core.specs.Step.{Answer, MemoryStep}
 use Rattle.dv_core.specs.declared.outcome.Outcome.{Outcome}
+use Rattle.dv_core.specs.Writes.{insert_one}
 use Rattle.dv_core.proofs.Asking.{AsksSoundly, body_size, documents_valid, soundly_asked}
 use Rattle.dv_core.proofs.Changed.{Made, MayWrite, outcome_may}
 use Rattle.dv_core.proofs.Made.{created_so, dropped_so}

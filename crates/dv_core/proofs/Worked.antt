@@ -10,7 +10,8 @@ use Rattle.dv_match.specs.Filter.{no_members}
 use Rattle.dv_match.specs.Match.{matches}
 use Rattle.dv_match.specs.Parsing.{filter_in}
 use Rattle.dv_sort.specs.Sorting.{stable}
-use Rattle.dv_command.specs.Asked.{Insert}
+use Rattle.dv_command.specs.Asked as asking
+use Rattle.dv_command.specs.declared.asking.WriteKind.TheVariants.{Insert}
 use Rattle.dv_command.specs.Replies.{document_of, write_error, cut_error, reply_of, refusal_reply}
 use Rattle.dv_fields.specs.declared.refusal.Refusal.{Refusal}
 use Rattle.dv_fields.specs.declared.refusal.Refusal.TheVariants.{DuplicateKey, WantOfMemory}
@@ -18,7 +19,6 @@ use Rattle.dv_catalog.specs.Changes.{put, Effect, with_put}
 use Rattle.dv_core.specs.Examples.{only, one_field, number, holding, letters, InsertExamples, ReadExamples, RefusalExamples, WantExamples}
 use Rattle.dv_core.specs.Find.{first_batch}
 use Rattle.dv_cursor.specs.Batch.{batch}
-use Rattle.dv_core.specs.Insert.{insert_one, insert_write}
 use Rattle.dv_catalog.specs.Scan.{scan}
 use Rattle.dv_catalog.specs.State.{Collection, Standing, Namespaces, collection, collection_at, collection_of, documents_of, with_documents}
 use Rattle.dv_core.specs.State.{State, empty_state}
@@ -26,6 +26,7 @@ use Rattle.dv_catalog.specs.Changes.{Statement}
 use Rattle.dv_core.specs.Statements.{Written, nothing_written, is_due, with_result, with_next, with_all, cut, IsCut}
 use Rattle.dv_core.specs.Step.{Answer, answered, on_cursors, write_answer}
 use Rattle.dv_catalog.specs.StateLaws.{same_namespaces, documents_there}
+use Rattle.dv_core.specs.Writes.{insert_one, write_by}
 
 -- ---- what stands under t.c
 
@@ -109,8 +110,8 @@ put_third =
     ∙ ap (wrote 3 2 (duplicate ∷ [])) (put_twice (only 1 ∷ only 2 ∷ []) (only 2 ∷ []) empty_state.catalog.namespaces)
 
 -- an insert, whose reply is that of all inserts
-abbrev two : Insert
-two = record { namespace = t_c; documents = only 5 ∷ only 6 ∷ []; ordered = true }
+abbrev two : asking.Write
+two = record { kind = Insert; namespace = t_c; entries = only 5 ∷ only 6 ∷ []; ordered = true }
 
 -- ---- the examples
 
@@ -123,19 +124,19 @@ moved = (codes "_id", number 2) ∷ (codes "a", number 1) ∷ []
 pub inserts : InsertExamples
 unfolding framed element_spelling payload counted
 inserts = record {
-  first = λ session. ap (write_answer empty_state (insert_write two)) (puts t_c true nothing [] (nothing_in t_c) refl (only 5) (only 5) (only 5 ∷ []) refl refl);
+  first = λ session. ap (write_answer empty_state (write_by two)) (puts t_c true nothing [] (nothing_in t_c) refl (only 5) (only 5) (only 5 ∷ []) refl refl);
   equal = λ session.
-      ap (write_answer (holding (only 5 ∷ [])) (insert_write two))
+      ap (write_answer (holding (only 5 ∷ [])) (write_by two))
       (refuses t_c true (nothing_written (holding (only 5 ∷ [])).catalog.namespaces) (only 5 ∷ []) (put_there (only 5 ∷ []) empty_state.catalog.namespaces) refl ((codes "_id", int64 (pos 5)) ∷ []) DuplicateKey refl);
-  ordered = λ session. ap (write_answer empty_state (insert_write two)) (ap (after true (only 2 ∷ only 1 ∷ [])) (put_first true) ∙ ap (after true (only 1 ∷ [])) (put_again true));
-  unordered = λ session. ap (write_answer empty_state (insert_write two)) (ap (after false (only 2 ∷ only 1 ∷ [])) (put_first false) ∙ ap (after false (only 1 ∷ [])) (put_again false) ∙ put_third);
-  id_behind = λ session. ap (write_answer empty_state (insert_write two)) (puts t_c true nothing [] (nothing_in t_c) refl ((codes "a", number 1) ∷ (codes "_id", number 2) ∷ []) moved (moved ∷ []) refl refl);
+  ordered = λ session. ap (write_answer empty_state (write_by two)) (ap (after true (only 2 ∷ only 1 ∷ [])) (put_first true) ∙ ap (after true (only 1 ∷ [])) (put_again true));
+  unordered = λ session. ap (write_answer empty_state (write_by two)) (ap (after false (only 2 ∷ only 1 ∷ [])) (put_first false) ∙ ap (after false (only 1 ∷ [])) (put_again false) ∙ put_third);
+  id_behind = λ session. ap (write_answer empty_state (write_by two)) (puts t_c true nothing [] (nothing_in t_c) refl ((codes "a", number 1) ∷ (codes "_id", number 2) ∷ []) moved (moved ∷ []) refl refl);
   no_id = λ session. refl;
   unfit = λ session. refl;
-  elsewhere = λ session. ap (write_answer (holding (only 5 ∷ [])) (insert_write two)) (puts (codes "u.c") true (nothing_written (holding (only 5 ∷ [])).catalog.namespaces) [] other_there refl (only 5) (only 5) (only 5 ∷ []) refl refl);
+  elsewhere = λ session. ap (write_answer (holding (only 5 ∷ [])) (write_by two)) (puts (codes "u.c") true (nothing_written (holding (only 5 ∷ [])).catalog.namespaces) [] other_there refl (only 5) (only 5) (only 5 ∷ []) refl refl);
   dotted = λ session. refl;
   classes = λ session.
-      ap (write_answer empty_state (insert_write two))
+      ap (write_answer empty_state (write_by two))
       (ap (after true (only 1 ∷ [])) (puts t_c true nothing [] (nothing_in t_c) refl falsely falsely (falsely ∷ []) refl refl)
       ∙ puts t_c true (wrote 1 1 [] (holding (falsely ∷ [])).catalog.namespaces) (falsely ∷ []) (put_there (falsely ∷ []) empty_state.catalog.namespaces) refl (only 1) (only 1) (only 1 ∷ falsely ∷ []) refl refl
       ∙ ap (wrote 2 2 []) (put_twice (only 1 ∷ falsely ∷ []) (falsely ∷ []) empty_state.catalog.namespaces));
@@ -185,7 +186,7 @@ put_five = puts t_c true nothing [] (nothing_in t_c) refl (only 5) (only 5) (onl
 abbrev left : Written
 left = wrote 2 1 (document_of (cut_error 1 0) ∷ []) (holding (only 5 ∷ [])).catalog.namespaces
 
-cut_second : IsCut (insert_write two) empty_state.catalog.namespaces left
+cut_second : IsCut (write_by two) empty_state.catalog.namespaces left
 cut_second = record {
   before = insert_one (only 5) ∷ [];
   statement = insert_one (only 6);
@@ -201,6 +202,6 @@ pub wants : WantExamples
 wants = record {
   refused = λ state session command. inl refl;
   cut = λ session. inr (refl, (left, cut_second, refl));
-  untold = λ session. inr (write_answer empty_state (insert_write two) left, inr (refl, (left, cut_second, refl)), refl);
+  untold = λ session. inr (write_answer empty_state (write_by two) left, inr (refl, (left, cut_second, refl)), refl);
   pinged = λ state new session is. let replies : reply_of [] ≡ refusal_reply WantOfMemory = ap (λ (a : Answer). a.reply) is in cc;
 }

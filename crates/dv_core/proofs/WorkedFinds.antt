@@ -17,8 +17,8 @@ use Rattle.dv_match.specs.Match.{matches, matches_member, meets_all, meets}
 use Rattle.dv_match.specs.Parsing.{filter_in, conditions_in, operators_in, member_named, operator_named}
 use Rattle.dv_sort.specs.Sorting.{stable}
 use Rattle.dv_catalog.specs.Changes.{Change, gone, apply, with_changes}
-use Rattle.dv_command.specs.Asked.{Delete}
-use Rattle.dv_core.specs.Delete.{delete_one, delete_write}
+use Rattle.dv_command.specs.Asked as asking
+use Rattle.dv_command.specs.declared.asking.WriteKind.TheVariants.{Delete}
 use Rattle.dv_core.specs.Examples.{only, one_field, number, deletion, holding, three, bounded, nulls, keyed, DeleteExamples, FindExamples}
 use Rattle.dv_core.specs.Find.{first_batch}
 use Rattle.dv_cursor.specs.Batch.{batch}
@@ -28,6 +28,7 @@ use Rattle.dv_catalog.specs.State.{documents_of, with_documents}
 use Rattle.dv_core.specs.State.{empty_state}
 use Rattle.dv_core.specs.Statements.{nothing_written, with_next}
 use Rattle.dv_core.specs.Step.{answered, on_cursors, write_answer}
+use Rattle.dv_core.specs.Writes.{delete_one, write_by}
 use Rattle.dv_core.proofs.Worked.{t_c, nothing_in, put_there, put_twice, wrote, wrote_so, looked_at}
 
 -- one entry that takes documents out of c
@@ -46,16 +47,16 @@ abbrev goes : ℕ → Change
 goes id = gone (id_key (only id))
 
 -- a delete, whose reply is that of all deletes
-abbrev no_entries : Delete
-no_entries = record { namespace = t_c; entries = []; ordered = true }
+abbrev no_entries : asking.Write
+no_entries = record { kind = Delete; namespace = t_c; entries = []; ordered = true }
 
 pub deletes : DeleteExamples
 unfolding filter_in conditions_in operators_in member_named operator_named matches matches_member meets_all meets path_of index_of whole leaves
 deletes = record {
-  first = λ session. ap (write_answer (holding three) (delete_write no_entries)) (deletes_there three (only 2 ∷ only 3 ∷ []) (deletion [] 1) 1 (goes 1) [] refl refl refl);
-  greater = λ session. ap (write_answer (holding three) (delete_write no_entries)) (deletes_there three (only 1 ∷ []) (deletion (one_field (codes "_id") (document_of (one_field (codes "$gt") (number 1)))) 0) 2 (goes 2) (goes 3 ∷ []) refl refl refl);
-  all = λ session. ap (write_answer (holding three) (delete_write no_entries)) (deletes_there three [] (deletion [] 0) 3 (goes 1) (goes 2 ∷ goes 3 ∷ []) refl refl refl);
-  nothing = λ session. ap (write_answer empty_state (delete_write no_entries)) (looked_at t_c true (nothing_written empty_state.catalog.namespaces) [] (nothing_in t_c) refl (delete_one (deletion [] 0)) (Ok (record { matched = 0; changes = [] })) refl);
+  first = λ session. ap (write_answer (holding three) (write_by no_entries)) (deletes_there three (only 2 ∷ only 3 ∷ []) (deletion [] 1) 1 (goes 1) [] refl refl refl);
+  greater = λ session. ap (write_answer (holding three) (write_by no_entries)) (deletes_there three (only 1 ∷ []) (deletion (one_field (codes "_id") (document_of (one_field (codes "$gt") (number 1)))) 0) 2 (goes 2) (goes 3 ∷ []) refl refl refl);
+  all = λ session. ap (write_answer (holding three) (write_by no_entries)) (deletes_there three [] (deletion [] 0) 3 (goes 1) (goes 2 ∷ goes 3 ∷ []) refl refl refl);
+  nothing = λ session. ap (write_answer empty_state (write_by no_entries)) (looked_at t_c true (nothing_written empty_state.catalog.namespaces) [] (nothing_in t_c) refl (delete_one (deletion [] 0)) (Ok (record { matched = 0; changes = [] })) refl);
   no_limit = λ session. refl;
   two = λ session. refl;
 }

@@ -6,12 +6,12 @@ use Rattle.dv_bson.specs.Tree.{Field, int64}
 use Rattle.dv_catalog.specs.Changes.{Effect, put, with_put}
 use Rattle.dv_catalog.specs.State.{documents_of}
 use Rattle.dv_core.specs.Examples.{LoadExamples, number, only, holding, with_a, with_collection}
-use Rattle.dv_core.specs.Insert.{insert_one}
 use Rattle.dv_core.specs.Load.{left_by}
 use Rattle.dv_core.specs.State.{State, empty_state}
 use Rattle.dv_fields.specs.Refusals.{◌>>=◌}
 use Rattle.dv_fields.specs.declared.refusal.Refusal.{Refusal}
 use Rattle.dv_fields.specs.declared.refusal.Refusal.TheVariants.{DuplicateKey}
+use Rattle.dv_core.specs.Writes.{insert_one}
 use Rattle.dv_core.proofs.Worked.{t_c, nothing_in, put_there}
 
 module _ (old : State) (documents : List (List Field)) (are : documents_of t_c old.catalog.namespaces ≡ documents) (d : List Field) where

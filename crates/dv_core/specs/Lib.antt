@@ -1,9 +1,7 @@
 pub mod State
 pub mod Storable
 pub mod Statements
-pub mod Insert
-pub mod Delete
-pub mod Update
+pub mod Writes
 pub mod Find
 pub mod More
 pub mod Indexes
@@ -17,4 +15,3 @@ pub mod Examples
 pub mod StateCode
 pub mod StepParts
 pub mod WriteParts
-pub mod WritesView

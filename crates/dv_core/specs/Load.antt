@@ -4,7 +4,7 @@ use Rattle.std.specs.List.{after_first, before_first}
 use Rattle.dv_bson.specs.Tree.{Field}
 use Rattle.dv_catalog.specs.Changes.{Effect, apply}
 use Rattle.dv_catalog.specs.State.{documents_of, is_view}
-use Rattle.dv_core.specs.Insert.{insert_one}
+use Rattle.dv_core.specs.Writes.{insert_one}
 use Rattle.dv_core.specs.State.{State}
 use Rattle.dv_path.specs.Names.{has_dot}
 use Rattle.dv_fields.specs.Namespaces.{is_database_name, namespace}

@@ -4,7 +4,8 @@ use Rattle.dv_bson.specs.Tree.{Field}
 use Rattle.dv_command.specs.declared.command.Command.{Command}
 use Rattle.dv_fields.specs.declared.refusal.Refusal.{Refusal}
 use Rattle.dv_fields.specs.declared.refusal.Refusal.TheVariants.{OnView, WantOfMemory}
-use Rattle.dv_command.specs.Asked.{Asked, hello, ping, insert, update, delete, find, aggregate, get_more, kill_cursors, create, drop, create_indexes, drop_indexes, explain, asked_by}
+use Rattle.dv_command.specs.Asked.{Asked, hello, ping, find, aggregate, get_more, kill_cursors, create, drop, create_indexes, drop_indexes, explain, asked_by}
+use Rattle.dv_command.specs.Asked as asking
 use Rattle.dv_fields.specs.Refusals.{◌>>=◌}
 use Rattle.dv_command.specs.Replies.{reply_of, hello_reply, drop_reply, refusal_reply}
 use Rattle.dv_core.specs.declared.outcome.Outcome.{Outcome}
@@ -13,9 +14,7 @@ use Rattle.dv_catalog.specs.State.{is_view}
 use Rattle.dv_catalog.specs.State as stored
 use Rattle.dv_catalog.specs.Views.{created, dropped}
 use Rattle.dv_core.specs.Statements.{Write, Written, carry_out, IsCut}
-use Rattle.dv_core.specs.Insert.{insert_write}
-use Rattle.dv_core.specs.Update.{update_write}
-use Rattle.dv_core.specs.Delete.{delete_write}
+use Rattle.dv_core.specs.Writes.{write_by}
 use Rattle.dv_core.specs.Find.{found, gathered}
 use Rattle.dv_core.specs.Indexes.{find_explained, indexed, unindexed}
 use Rattle.dv_core.specs.More.{killed, next_batch}
@@ -58,9 +57,7 @@ replying reply made = made >>= λ left. Ok (reply, left)
 abbrev pub answer_to : State → ℕ → Asked → Result Answer Refusal
 answer_to state session hello = read_answer state (Ok hello_reply)
 answer_to state session ping = read_answer state (Ok (reply_of []))
-answer_to state session (insert asked) = carried_out state (insert_write asked)
-answer_to state session (update asked) = carried_out state (update_write asked)
-answer_to state session (delete asked) = carried_out state (delete_write asked)
+answer_to state session (asking.write asked) = carried_out state (write_by asked)
 answer_to state session (find asked) = on_cursors state (found session asked state.catalog state.cursors)
 answer_to state session (aggregate asked) = on_cursors state (gathered session asked state.catalog state.cursors)
 answer_to state session (get_more asked) = on_cursors state (next_batch session asked state.cursors)
@@ -84,9 +81,7 @@ step state session command = answered state (asked_by command >>= answer_to stat
 
 -- the write that a command is, if it is one
 abbrev pub write_of : Asked → Option Write
-write_of (insert asked) = Some (insert_write asked)
-write_of (update asked) = Some (update_write asked)
-write_of (delete asked) = Some (delete_write asked)
+write_of (asking.write asked) = Some (write_by asked)
 write_of asked = None
 
 -- whether a command makes something under a namespace, or takes it out

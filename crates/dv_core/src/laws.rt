@@ -4,9 +4,11 @@ ghost use Rattle.std.specs.Prelude.{◌≡◌, ◌≤◌, ◌↔◌, ◌⊎◌, 
 ghost use Rattle.dv_bson.specs.Names.{value_under};
 ghost use Rattle.dv_bson.specs.Spelling.{Fits};
 ghost use Rattle.dv_bson.specs.Tree.{Field, int32};
-ghost use Rattle.dv_command.specs.Asked.{Aggregate, Asked, Create, Delete, Drop, Find, GetMore, Insert, aggregate, create, delete, drop, find, get_more, insert, asked_by};
+ghost use Rattle.dv_command.specs.Asked.{Aggregate, Asked, Create, Drop, Find, GetMore, aggregate, create, drop, find, get_more, asked_by};
+ghost use Rattle.dv_command.specs.Asked as asking;
 ghost use Rattle.dv_command.specs.Replies.{document_of, next_batch_reply, refusal_reply, write_error, write_reply};
 ghost use Rattle.dv_command.specs.Sound.{AreValid};
+ghost use Rattle.dv_command.specs.declared.asking.WriteKind.TheVariants.{Insert, Delete};
 ghost use Rattle.dv_command.specs.declared.command.Command.{Command};
 ghost use Rattle.dv_fields.specs.declared.refusal.Refusal.{Refusal};
 ghost use Rattle.dv_fields.specs.declared.refusal.Refusal.TheVariants.{LimitReached, OnView, TooLarge};
@@ -61,7 +63,7 @@ pub fn only_writes_change_documents()
 
 /// A delete leaves some of the documents of each namespace, in their order, whatever it is answered.
 pub fn a_delete_leaves_a_part()
-    ensures { (old new : State) (session : ℕ) (command : Command) (asked : Delete) (outcome : Outcome) → asked_by command ≡ Ok (delete asked)
+    ensures { (old new : State) (session : ℕ) (command : Command) (asked : asking.Write) (outcome : Outcome) → asked_by command ≡ Ok (asking.write asked) → asked.kind ≡ Delete
         → MemoryStep old session command outcome new → (namespace : List ℕ) → IsPart (documents_of namespace new.catalog.namespaces) (documents_of namespace old.catalog.namespaces) }
 {}
 
@@ -162,12 +164,12 @@ pub fn the_end_of_a_session_leaves_documents()
 /// it is refused, an insert on a view is refused for that, and any other one tells of that error of its statement. The text
 /// that names a namespace is the namespace.
 pub fn a_load_is_an_insert_of_one_document()
-    ensures stored { (state new : State) (session : ℕ) (command : Command) (asked : Insert) (d : List Field) → asked_by command ≡ Ok (insert asked) → asked.documents ≡ d ∷ []
+    ensures stored { (state new : State) (session : ℕ) (command : Command) (asked : asking.Write) (d : List Field) → asked_by command ≡ Ok (asking.write asked) → asked.kind ≡ Insert → asked.entries ≡ d ∷ []
         → insert_alone asked.namespace d state ≡ Ok new → step state session command ≡ record { reply = write_reply 1 []; state = new } }
-    ensures refused { (state : State) (session : ℕ) (command : Command) (asked : Insert) (d : List Field) (refusal : Refusal) → asked_by command ≡ Ok (insert asked) → asked.documents ≡ d ∷ []
+    ensures refused { (state : State) (session : ℕ) (command : Command) (asked : asking.Write) (d : List Field) (refusal : Refusal) → asked_by command ≡ Ok (asking.write asked) → asked.kind ≡ Insert → asked.entries ≡ d ∷ []
         → is_view asked.namespace state.catalog.views ≡ false → insert_alone asked.namespace d state ≡ Err refusal
         → step state session command ≡ record { reply = write_reply 0 (document_of (write_error 0 refusal) ∷ []); state = state } }
-    ensures on_view { (state : State) (session : ℕ) (command : Command) (asked : Insert) (d : List Field) → asked_by command ≡ Ok (insert asked)
+    ensures on_view { (state : State) (session : ℕ) (command : Command) (asked : asking.Write) (d : List Field) → asked_by command ≡ Ok (asking.write asked)
         → is_view asked.namespace state.catalog.views ≡ true → (insert_alone asked.namespace d state ≡ Err OnView) × (step state session command ≡ record { reply = refusal_reply OnView; state = state }) }
     ensures named { (text namespace : List ℕ) → namespace_in text ≡ Ok namespace → namespace ≡ text }
 {}

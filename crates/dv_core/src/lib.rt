@@ -4,7 +4,6 @@
 mod answers;
 mod find;
 mod indexing;
-mod kind;
 pub mod laws;
 mod loading;
 mod more;

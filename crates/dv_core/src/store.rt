@@ -3,18 +3,17 @@
 use crate::answers::{hello, outcome_of, ping, refuse, told};
 use crate::find::{First, first_batch};
 use crate::indexing::{explained, new_indexes};
-use crate::kind::Kind;
 use crate::loading::namespace_in;
 use crate::more::{kill_all, next_batch};
 use crate::outcome::Outcome;
 use crate::storable::storable;
-use crate::writes::{Terms, write_all};
+use crate::writes::write_all;
 use dv_bson::Document;
 use dv_catalog::Catalog;
 use dv_command::replies::{create_indexes_reply, drop_indexes_reply, drop_reply, reply_of};
 use dv_command::{
-    Aggregate, Asked, Command, Create, CreateIndexes, Delete, Documents, DropIndexes,
-    DropNamespace, Explain, Find, GetMore, Insert, KillCursors, Refusal, ReplyNames, Update, parse,
+    Aggregate, Asked, Command, Create, CreateIndexes, DropIndexes, DropNamespace, Explain, Find,
+    GetMore, KillCursors, Refusal, ReplyNames, Write, parse,
 };
 use dv_cursor::Cursors;
 use std::alloc::Global;
@@ -44,27 +43,23 @@ impl Model for Store {
 }
 
 impl Store {
-    ghost use Rattle.std.specs.Prelude.{◌≡◌, ◌≤◌, [], length, Ok, IfErr, OnErr, OnOk};
+    ghost use Rattle.std.specs.Prelude.{◌≡◌, [], Ok, IfErr, OnErr, OnOk};
     ghost use Rattle.dv_bson.specs.declared.fault.BsonFault.TheVariants.{NoMemory};
     ghost use Rattle.dv_catalog.specs.Parts.{Leaves};
     ghost use Rattle.dv_catalog.specs.Views as views;
-    ghost use Rattle.dv_command.specs.Asked.{statement_limit};
     ghost use Rattle.dv_command.specs.declared.command.Command.TheVariants.{Invalid};
     ghost use Rattle.dv_fields.specs.Refusals.{UnlessWanting};
     ghost use Rattle.dv_command.specs.Replies as replies;
-    ghost use Rattle.dv_command.specs.View.{aggregate_seen, create_indexes_seen, create_seen, delete_seen, drop_indexes_seen, drop_seen, explain_seen, find_seen, get_more_seen, insert_seen, kill_cursors_seen, update_seen};
-    ghost use Rattle.dv_core.specs.Delete.{delete_write};
+    ghost use Rattle.dv_command.specs.View.{aggregate_seen, create_indexes_seen, create_seen, drop_indexes_seen, drop_seen, explain_seen, find_seen, get_more_seen, kill_cursors_seen, write_seen};
     ghost use Rattle.dv_core.specs.Find as finding;
     ghost use Rattle.dv_core.specs.Indexes as indexing;
     ghost use Rattle.dv_core.specs.More as more;
-    ghost use Rattle.dv_core.specs.Insert.{insert_write};
     ghost use Rattle.dv_core.specs.Load as loading;
     ghost use Rattle.dv_core.specs.State.{empty_state};
     ghost use Rattle.dv_core.specs.Step.{MemoryStep, TellsOfWant, end_session, replying};
     ghost use Rattle.dv_core.specs.StepParts.{Ends, Gives};
-    ghost use Rattle.dv_core.specs.Update.{update_write};
     ghost use Rattle.dv_core.specs.WriteParts.{WritesOn};
-    ghost use Rattle.dv_core.specs.WritesView.{write_seen};
+    ghost use Rattle.dv_core.specs.Writes.{write_by};
 
     /// A store without any collection.
     pub fn new(alloc: Global) -> Self
@@ -89,9 +84,7 @@ impl Store {
         match parse(self.alloc, command) {
             Ok(Asked::Hello) => outcome_of(self.alloc, hello(self.alloc)),
             Ok(Asked::Ping) => outcome_of(self.alloc, ping(self.alloc)),
-            Ok(Asked::Insert(insert)) => self.insert(insert),
-            Ok(Asked::Update(update)) => self.update(update),
-            Ok(Asked::Delete(delete)) => self.delete(delete),
+            Ok(Asked::Write(write)) => self.write(write),
             Ok(Asked::Find(find)) => outcome_of(self.alloc, self.find(session, find)),
             Ok(Asked::Aggregate(aggregate)) => {
                 outcome_of(self.alloc, self.aggregate(session, aggregate))
@@ -107,64 +100,15 @@ impl Store {
         }
     }
 
-    fn insert(&mut self, insert: Insert<'_>) -> Outcome
-        ensures { WritesOn (insert_write (insert_seen insert.entry)) self.old result self.new }
-    {
-        let Insert {
-            namespace,
-            documents,
-            ordered,
-        } = insert;
-        let terms = Terms {
-            kind: Kind::Insert,
-            namespace,
-            ordered,
-        };
-        self.write(&terms, documents)
-    }
-
-    fn update(&mut self, update: Update<'_>) -> Outcome
-        ensures { WritesOn (update_write (update_seen update.entry)) self.old result self.new }
-    {
-        let Update {
-            namespace,
-            entries,
-            ordered,
-        } = update;
-        let terms = Terms {
-            kind: Kind::Update,
-            namespace,
-            ordered,
-        };
-        self.write(&terms, entries)
-    }
-
-    fn delete(&mut self, delete: Delete<'_>) -> Outcome
-        ensures { WritesOn (delete_write (delete_seen delete.entry)) self.old result self.new }
-    {
-        let Delete {
-            namespace,
-            entries,
-            ordered,
-        } = delete;
-        let terms = Terms {
-            kind: Kind::Delete,
-            namespace,
-            ordered,
-        };
-        self.write(&terms, entries)
-    }
-
     /// Carries out a write, and rebuilds the views that it left stale.
-    fn write(&mut self, terms: &Terms, entries: Documents<'_>) -> Outcome
-        requires { length entries ≤ statement_limit }
-        ensures { WritesOn (write_seen terms.now entries.entry) self.old result self.new }
+    fn write(&mut self, write: Write<'_>) -> Outcome
+        ensures { WritesOn (write_by (write_seen write.entry)) self.old result self.new }
     {
-        if self.catalog.is_view(&terms.namespace) {
+        if self.catalog.is_view(&write.namespace) {
             return refuse(self.alloc, Refusal::OnView);
         }
         self.names.prepare(self.alloc);
-        let outcome = write_all(self.alloc, &self.names, &mut self.catalog, terms, entries);
+        let outcome = write_all(self.alloc, &self.names, &mut self.catalog, write);
         self.catalog.refresh();
         outcome
     }

@@ -1,49 +1,38 @@
 //! Writes: their statements one after the other.
 
-ghost use Rattle.std.specs.Prelude.{◌≡◌, ◌<◌, ◌≤◌, true, false, length, map};
+ghost use Rattle.std.specs.Prelude.{◌≡◌, ◌<◌, true, false, map};
 ghost use Rattle.std.specs.String.{string_bytes};
 ghost use Rattle.dv_bson.specs.View.{tree};
 ghost use Rattle.dv_command.specs.Asked.{statement_limit};
+ghost use Rattle.dv_command.specs.View.{write_seen};
 ghost use Rattle.dv_core.specs.Statements.{is_due};
 ghost use Rattle.dv_catalog.specs.Parts.{Makes};
 ghost use Rattle.dv_catalog.specs.State.{is_view};
 ghost use Rattle.dv_core.specs.WriteParts.{written_seen, outcome_of, NextStep, Writes};
-ghost use Rattle.dv_core.specs.WritesView.{statement_of, write_seen};
+ghost use Rattle.dv_core.specs.Writes.{statement_of, write_by};
 
-use crate::kind::Kind;
 use crate::next::Next;
 use crate::outcome::Outcome;
 use crate::storable::storable;
 use crate::written::Written;
 use dv_bson::{Document, NoMemory};
 use dv_catalog::{Catalog, Counted, Stopped};
-use dv_command::{Documents, ReplyNames, deletion_of, updating_of};
+use dv_command::{ReplyNames, Write, WriteKind, deletion_of, updating_of};
 use std::alloc::Global;
 
-/// A write but for its entries.
-#[derive(Drop)]
-pub(crate) struct Terms {
-    pub(crate) kind: Kind,
-    pub(crate) namespace: String,
-    /// Whether the first statement that is refused ends the command.
-    pub(crate) ordered: bool,
-}
-
-/// Carries out the statements one after the other. Where memory is wanting for one the command ends with it; where it
-/// is wanting for the reply, there is none.
+/// Carries out the statements of a write one after the other. Where memory is wanting for one the command ends with it;
+/// where it is wanting for the reply, there is none.
 pub(crate) fn write_all(
     alloc: Global,
     names: &ReplyNames,
     catalog: &mut Catalog,
-    terms: &Terms,
-    entries: Documents<'_>,
+    write: Write<'_>,
 ) -> Outcome
-    requires few { length entries ≤ statement_limit }
-    requires collection { is_view (string_bytes terms.now.namespace) catalog.old.views ≡ false }
-    ensures writes { Writes (write_seen terms.now entries.entry) catalog.old.namespaces result catalog.new.namespaces }
+    requires { is_view (string_bytes write.namespace) catalog.old.views ≡ false }
+    ensures writes { Writes (write_by (write_seen write.entry)) catalog.old.namespaces result catalog.new.namespaces }
     ensures views { catalog.new.views ≡ catalog.old.views }
 {
-    match write_each(alloc, names, catalog, terms, entries) {
+    match write_each(alloc, names, catalog, write) {
         Ok(outcome) => outcome,
         Err(_) => Outcome::NoReply,
     }
@@ -54,23 +43,35 @@ fn write_each(
     alloc: Global,
     names: &ReplyNames,
     catalog: &mut Catalog,
-    terms: &Terms,
-    entries: Documents<'_>,
+    write: Write<'_>,
 ) -> Result<Outcome, NoMemory>
-    requires few { length entries ≤ statement_limit }
-    requires collection { is_view (string_bytes terms.now.namespace) catalog.old.views ≡ false }
-    ensures writes { Writes (write_seen terms.now entries.entry) catalog.old.namespaces (outcome_of result) catalog.new.namespaces }
+    requires { is_view (string_bytes write.namespace) catalog.old.views ≡ false }
+    ensures writes { Writes (write_by (write_seen write.entry)) catalog.old.namespaces (outcome_of result) catalog.new.namespaces }
     ensures views { catalog.new.views ≡ catalog.old.views }
 {
+    let Write {
+        kind,
+        namespace,
+        entries,
+        ordered,
+    } = write;
     let mut written = Written::new(alloc);
     'entries: for entry in entries {
-        match write_next(alloc, catalog, terms, entry, &mut written)? {
+        match write_next(
+            alloc,
+            catalog,
+            kind,
+            &namespace,
+            ordered,
+            entry,
+            &mut written,
+        )? {
             Next::Due => {}
             Next::Ended => break,
-            Next::Cut => return Ok(Outcome::Wanting(written.reply(alloc, names, terms.kind)?)),
+            Next::Cut => return Ok(Outcome::Wanting(written.reply(alloc, names, kind)?)),
         }
     }
-    Ok(Outcome::Reply(written.reply(alloc, names, terms.kind)?))
+    Ok(Outcome::Reply(written.reply(alloc, names, kind)?))
 }
 
 /// Carries out the next statement, and notes what came of it. Answers what comes behind it; fails where memory is
@@ -78,22 +79,24 @@ fn write_each(
 fn write_next(
     alloc: Global,
     catalog: &mut Catalog,
-    terms: &Terms,
+    kind: WriteKind,
+    namespace: &str,
+    ordered: bool,
     entry: &Document,
     written: &mut Written,
 ) -> Result<Next, NoMemory>
     requires room { written.old.statements < statement_limit }
-    requires due { is_due terms.now.ordered (map tree written.old.errors.items) ≡ true }
-    requires collection { is_view (string_bytes terms.now.namespace) catalog.old.views ≡ false }
-    ensures step { NextStep (string_bytes terms.now.namespace) terms.now.ordered (written_seen written.old catalog.old.namespaces) (statement_of terms.now.kind entry.now) result (written_seen written.new catalog.new.namespaces) }
+    requires due { is_due ordered (map tree written.old.errors.items) ≡ true }
+    requires collection { is_view namespace.now catalog.old.views ≡ false }
+    ensures step { NextStep namespace.now ordered (written_seen written.old catalog.old.namespaces) (statement_of kind entry.now) result (written_seen written.new catalog.new.namespaces) }
     ensures views { catalog.new.views ≡ catalog.old.views }
 {
-    match write_one(alloc, catalog, terms, entry) {
+    match write_one(alloc, catalog, kind, namespace, entry) {
         Ok(counted) => {
             written.count(counted);
             Ok(Next::Due)
         }
-        Err(stopped) => written.note(alloc, terms.ordered, &stopped),
+        Err(stopped) => written.note(alloc, ordered, &stopped),
     }
 }
 
@@ -102,22 +105,23 @@ fn write_next(
 fn write_one(
     alloc: Global,
     catalog: &mut Catalog,
-    terms: &Terms,
+    kind: WriteKind,
+    namespace: &str,
     entry: &Document,
 ) -> Result<Counted, Stopped>
-    requires { is_view (string_bytes terms.now.namespace) catalog.old.views ≡ false }
-    ensures makes { Makes (λ counted. counted) (string_bytes terms.now.namespace) (statement_of terms.now.kind entry.now) catalog.old.namespaces result catalog.new.namespaces }
+    requires { is_view namespace.now catalog.old.views ≡ false }
+    ensures makes { Makes (λ counted. counted) namespace.now (statement_of kind entry.now) catalog.old.namespaces result catalog.new.namespaces }
     ensures views { catalog.new.views ≡ catalog.old.views }
 {
-    match terms.kind {
-        Kind::Insert => {
-            catalog.insert(&terms.namespace, storable(alloc, entry)?)?;
+    match kind {
+        WriteKind::Insert => {
+            catalog.insert(namespace, storable(alloc, entry)?)?;
             Ok(Counted {
                 matched: 1,
                 changed: 1,
             })
         }
-        Kind::Update => catalog.update(&terms.namespace, &updating_of(alloc, entry)?),
-        Kind::Delete => catalog.delete(&terms.namespace, &deletion_of(alloc, entry)?),
+        WriteKind::Update => catalog.update(namespace, &updating_of(alloc, entry)?),
+        WriteKind::Delete => catalog.delete(namespace, &deletion_of(alloc, entry)?),
     }
 }

@@ -2,12 +2,11 @@
 
 ghost use Rattle.std.specs.Prelude.{◌*◌, ◌≤◌, ◌^◌};
 
-use crate::kind::Kind;
 use crate::next::{Next, error_of, next_behind};
 use dv_bson::{Document, NoMemory, Value};
 use dv_catalog::{Counted, Stopped};
-use dv_command::ReplyNames;
 use dv_command::replies::{update_reply, write_reply};
+use dv_command::{ReplyNames, WriteKind};
 use std::alloc::Global;
 
 /// How many statements were looked at, how many documents those that were carried out are counted for, and the errors
@@ -29,7 +28,7 @@ impl Written {
     ghost use Rattle.dv_catalog.specs.State.{Namespaces};
     ghost use Rattle.dv_core.specs.Statements.{nothing_written};
     ghost use Rattle.dv_core.specs.WriteParts.{written_seen, with_counted, Notes};
-    ghost use Rattle.dv_core.specs.WritesView.{reply_by};
+    ghost use Rattle.dv_core.specs.Writes.{reply_by};
     ghost use Rattle.dv_bson.specs.View.{tree};
 
     /// No statement so far.
@@ -76,7 +75,7 @@ impl Written {
         self,
         alloc: Global,
         names: &ReplyNames,
-        kind: Kind,
+        kind: WriteKind,
     ) -> Result<Document, NoMemory>
         ensures { IfOk result (λ reply. reply ≡ reply_by kind self.n self.changed (map tree self.errors.items)) }
     {
@@ -87,8 +86,8 @@ impl Written {
             ..
         } = self;
         match kind {
-            Kind::Insert | Kind::Delete => write_reply(alloc, names, n, errors),
-            Kind::Update => update_reply(alloc, names, n, changed, errors),
+            WriteKind::Insert | WriteKind::Delete => write_reply(alloc, names, n, errors),
+            WriteKind::Update => update_reply(alloc, names, n, changed, errors),
         }
     }
 }

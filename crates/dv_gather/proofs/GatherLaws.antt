@@ -1,6 +1,6 @@
 -- Laws of groups, sums and lookups.
-use Rattle.std.proofs.Common.{◌≡◌, ◌∙◌, ap, sym, refl, Bool, true, false, not, ◌||◌, ◌&&◌, List, [], ◌∷◌, ◌++◌, ℕ, ℤ, pos, ◌+ℤ◌, ◌-ℤ◌, ◌<◌, ◌^◌, nat_lt, suc, filter, length, map, arith, Ok, if◌then◌else◌}
-use Rattle.std.specs.List.{list_any, AllByRecursion}
+use Rattle.std.proofs.Common.{◌≡◌, ◌∙◌, ap, sym, refl, true, false, not, ◌||◌, List, [], ◌∷◌, ◌++◌, ℕ, ℤ, pos, ◌+ℤ◌, ◌-ℤ◌, ◌<◌, ◌^◌, nat_lt, suc, filter, length, map, arith, Ok, if◌then◌else◌}
+use Rattle.std.specs.List.{list_any}
 use Rattle.std.specs.List.Sorted.{IsStrictlySortedBy}
 use Rattle.std.specs.Ordering.{is_eq}
 use Rattle.std.specs.declared.cmp.Ordering.{Ordering}
@@ -18,9 +18,9 @@ use Rattle.dv_gather.specs.Valid.{IsSoundGroup, IsSoundLookup, grouped-valid, gr
 use Rattle.dv_gather.specs.declared.lookup.Lookup as lookups
 use Rattle.dv_gather.specs.Grouping.{Grouping, grouped, values_over}
 use Rattle.dv_gather.specs.Groups.{Keyed, keys_of}
+use Rattle.dv_gather.specs.GroupLaws.{Above, above-same, any-equal, key_there, keys_ascend}
 use Rattle.dv_gather.specs.Lookups.{looked_up, lookup_in, set_field}
 use Rattle.dv_gather.specs.Sums.{total, is_int64, spelled, sum_of}
-use Rattle.dv_gather.proofs.Grouped.{Above, above-same, any-equal, key_there, keys_ascend}
 
 -- ---- keys
 

@@ -5,6 +5,7 @@ pub mod Placed
 pub mod Grouped
 pub mod GroupRows
 pub mod Totalled
+pub mod Bounded
 pub mod Leaders
 pub mod Parted
 pub mod GatherLaws

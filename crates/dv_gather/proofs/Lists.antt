@@ -1,9 +1,8 @@
 -- Tests of lists, and of keys, which compare equal either way round.
-use Rattle.std.proofs.Common.{◌≡◌, ℕ, zero, suc, ◌+◌, ◌<◌, List, [], ◌∷◌, length, map, take, get_or, refl, ap, sym, ◌∙◌, arith, Bool, true, false, cond, ◌||◌, ◌&&◌, add-one}
-use Rattle.std.specs.List.{list_any, flat_map}
+use Rattle.std.proofs.Common.{◌≡◌, List, [], ◌∷◌, refl, ap, sym, ◌∙◌, Bool, true, false, cond, ◌||◌}
+use Rattle.std.specs.List.{list_any}
 use Rattle.std.specs.Cmp.{eq_by_cmp_equiv}
 use Rattle.std.specs.Ordering.{is_eq}
-use Rattle.std.proofs.lemmas.List.Folds.{list_any-append}
 use Rattle.dv_order.specs.Key.{KeyTree, key_order}
 use Rattle.dv_order.specs.KeyLaws.{key_order_total}
 
@@ -20,37 +19,11 @@ pub or-assoc : (a b c : Bool) → (a || b) || c ≡ a || (b || c)
 or-assoc true b c = refl
 or-assoc false b c = refl
 
--- one of two, under a condition
-pub and-either : (was b a c : Bool) → (was || (b && a)) || (b && c) ≡ was || (b && (a || c))
-and-either was true a c = or-assoc was a c
-and-either was false a c = or-false (was || false)
-
-pub any-and : {X : Type 0} (b : Bool) (p : X → Bool) (xs : List X) → list_any (λ x. b && p x) xs ≡ b && list_any p xs
-any-and true p xs = refl
-any-and false p [] = refl
-any-and false p (x ∷ xs) = any-and false p xs
-
 pub cond-or : (b a : Bool) → cond b true a ≡ a || b
 cond-or true true = refl
 cond-or true false = refl
 cond-or false true = refl
 cond-or false false = refl
-
-pub any-one-more : {X : Type 0} (p : X → Bool) (xs : List X) (i : ℕ) (x : X) → i < length xs → x ≡ get_or xs i x → list_any p (take (i + 1) xs) ≡ list_any p (take i xs) || p x
-any-one-more p [] i x within is = absurd (omega arith)
-any-one-more p (y ∷ ys) zero x within is = or-false (p y) ∙ ap p (sym is)
-any-one-more p (y ∷ ys) (suc i) x within is =
-    let rest = rw add-one at (any-one-more p ys i x (omega arith) is) in
-    rw add-one (ap (λ b. p y || b) rest ∙ sym (or-assoc (p y) (list_any p (take i ys)) (p x)))
-
-pub any-map : {X Y : Type 0} (p : Y → Bool) (view : X → Y) (xs : List X) → list_any p (map view xs) ≡ list_any (λ x. p (view x)) xs
-any-map p view [] = refl
-any-map p view (x ∷ xs) = ap (λ b. p (view x) || b) (any-map p view xs)
-
--- a test of some item behind each of a list
-pub any-flat_map : {X Y : Type 0} (test : Y → Bool) (f : X → List Y) (xs : List X) → list_any test (flat_map f xs) ≡ list_any (λ x. list_any test (f x)) xs
-any-flat_map test f [] = refl
-any-flat_map test f (x ∷ xs) = list_any-append test (f x) (flat_map f xs) ∙ ap (λ b. list_any test (f x) || b) (any-flat_map test f xs)
 
 pub any-same : {X : Type 0} (p q : X → Bool) → ((x : X) → p x ≡ q x) → (xs : List X) → list_any p xs ≡ list_any q xs
 any-same p q same [] = refl
@@ -59,7 +32,3 @@ any-same p q same (x ∷ xs) = ap (λ b. b || list_any p xs) (same x) ∙ ap (λ
 -- whether keys are equal, either way round
 pub equal-back : (k l : KeyTree) → is_eq (key_order k l) ≡ is_eq (key_order l k)
 equal-back k l = (eq_by_cmp_equiv key_order_total).symm k l
-
-pub and-never : (was b : Bool) → was || (b && false) ≡ was
-and-never was true = or-false was
-and-never was false = or-false was

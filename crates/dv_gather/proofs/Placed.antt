@@ -12,6 +12,7 @@ use Rattle.std.specs.declared.cmp.Ordering.TheVariants.{Less}
 use Rattle.std.proofs.lemmas.Bool.Decides.{nat_tests}
 use Rattle.std.proofs.lemmas.Cmp.{ranked}
 use Rattle.std.proofs.lemmas.List.{take-map}
+use Rattle.std.proofs.lemmas.List.Folds.{list_any-append}
 use Rattle.std.proofs.lemmas.Option.{slice_get_read}
 use Rattle.dv_bson.specs.Tree.{Tree, Field}
 use Rattle.dv_bson.specs.Names.{has_name, with_value_under}
@@ -19,10 +20,11 @@ use Rattle.dv_row.specs.EachLaws.{drop-read}
 use Rattle.dv_order.specs.Order.{canon, order}
 use Rattle.dv_order.specs.Key.{KeyTree, value, key_order}
 use Rattle.dv_order.specs.KeyLaws.{key_order_total}
-use Rattle.dv_gather.specs.Joining.{as_value, joined_by, found_under, matches}
+use Rattle.dv_path.specs.LeafKeys.{leaf_values}
+use Rattle.dv_gather.specs.Joining.{as_value, joined_by, matches}
 use Rattle.dv_gather.specs.Lookups.{set_field}
 use Rattle.dv_row.specs.Expressions.{with_field}
-use Rattle.dv_gather.specs.KeySets.{AreKeysOf, is_key_of, is_some_key, any_key, referred}
+use Rattle.dv_gather.specs.KeySets.{AreKeysOf, any_key, referred}
 use Rattle.dv_gather.specs.Places.{ArePlaces, is_place, is_kept, is_under, is_found, passes_at, chosen, item_at, items_at}
 use Rattle.dv_gather.proofs.Lists.{or-false, or-assoc, cond-or, any-same, equal-back}
 use Rattle.dv_gather.proofs.Shared.{matches-by_keys}
@@ -154,11 +156,11 @@ module _ {A : Type 0} (k l : KeyTree) (old : BTreeMap KeyTree (Vec ℕ A)) where
   kept-is none i empty (Some ps) = refl
 
   -- a place more under a key
-  pub placed-one : (new : Option (Vec ℕ A)) (v : Tree) (w was none : Vec ℕ A) (place i : ℕ) → l ≡ value (canon v) → none.items ≡ [] → was ≡ unwrap_or (get key_order old l) none → is_place w.items i ≡ is_place was.items i || (place == i)
-      → new ≡ cond (is_eq (key_order l k)) (Some w) (get key_order old k) → is_kept new i ≡ is_under old k i || ((place == i) && is_key_of k v)
-  placed-one new v w was none place i is empty before added update =
+  pub placed-one : (new : Option (Vec ℕ A)) (w was none : Vec ℕ A) (place i : ℕ) → none.items ≡ [] → was ≡ unwrap_or (get key_order old l) none → w.items ≡ was.items ++ place ∷ [] → new ≡ cond (is_eq (key_order l k)) (Some w) (get key_order old k)
+      → is_kept new i ≡ is_under old k i || ((place == i) && is_eq (key_order k l))
+  placed-one new w was none place i empty before added update =
       ap (λ o. is_kept o i) update ∙ go (is_eq (key_order l k)) refl
-      ∙ ap (λ b. is_under old k i || ((place == i) && b)) (equal-back l k ∙ ap (λ m. is_eq (key_order k m)) is)
+      ∙ ap (λ b. is_under old k i || ((place == i) && b)) (equal-back l k)
     where
       and-true : (a : Bool) → a && true ≡ a
       and-true true = refl
@@ -170,7 +172,7 @@ module _ {A : Type 0} (k l : KeyTree) (old : BTreeMap KeyTree (Vec ℕ A)) where
 
       go : (b : Bool) → is_eq (key_order l k) ≡ b → is_kept (cond b (Some w) (get key_order old k)) i ≡ is_under old k i || ((place == i) && b)
       go true e =
-          added
+          ap (λ ps. is_place ps i) added ∙ list_any-append (λ p. p == i) was.items (place ∷ []) ∙ ap (λ b. is_place was.items i || b) (or-false (place == i))
           ∙ ap (λ b. b || (place == i)) (ap (λ (ps : Vec ℕ A). is_place ps.items i) before ∙ sym (kept-is none i empty (get key_order old l))
           ∙ ap (λ o. is_kept o i) (lookup-same (is_at (key_order l)) (is_at (key_order k)) (λ m. (eq_by_cmp_equiv key_order_total).congr l k m e) old.entries))
           ∙ ap (λ b. is_under old k i || b) (sym (and-true (place == i)))
@@ -180,7 +182,7 @@ module _ {A : Type 0} (k l : KeyTree) (old : BTreeMap KeyTree (Vec ℕ A)) where
 pub matches-by_places : {A : Type 0} (stands : (v w : Tree) → key_order (value (canon v)) (value (canon w)) ≡ order v w) (m : BTreeMap KeyTree (Vec ℕ A)) (keys : List KeyTree) (found : ℕ → Bool) (local foreign : List (List ℕ)) (d : List Field) (ds : List (List Field))
     → AreKeysOf keys (joined_by local d) → ((i : ℕ) → found i ≡ list_any (λ k. is_under m k i) keys) → ArePlaces m foreign ds → chosen found ds ≡ matches local foreign ds d
 matches-by_places stands m keys found local foreign d ds own under are =
-    let test = λ (f : List Field). any_key keys (found_under foreign f) in
+    let test = λ (f : List Field). any_key keys (leaf_values foreign f) in
     chosen-filter found test ds (λ i. under i ∙ any-same (λ k. is_under m k i) (λ k. passes_at (is_found foreign k) ds i) (λ k. are k i) keys ∙ any-passes (is_found foreign) keys ds i)
     ∙ matches-by_keys stands keys local foreign d ds own
 

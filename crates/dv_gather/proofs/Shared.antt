@@ -9,8 +9,9 @@ use Rattle.dv_bson.specs.Tree.{Tree, Field}
 use Rattle.dv_order.specs.Order.{canon, order}
 use Rattle.dv_order.specs.Key.{KeyTree, value, key_order}
 use Rattle.dv_order.specs.KeyLaws.{key_order_total}
-use Rattle.dv_gather.specs.Joining.{is_among, is_joined, joined_by, found_under, matches}
-use Rattle.dv_gather.specs.KeySets.{AreKeysOf, is_key_of, is_some_key, any_key}
+use Rattle.dv_path.specs.LeafKeys.{is_key_of, is_some_key, leaf_values}
+use Rattle.dv_gather.specs.Joining.{is_among, is_joined, joined_by, matches}
+use Rattle.dv_gather.specs.KeySets.{AreKeysOf, any_key}
 use Rattle.dv_gather.proofs.Lists.{same-truth, any-same}
 
 -- equal keys are those of the same values
@@ -69,8 +70,8 @@ module _ (stands : (v w : Tree) → key_order (value (canon v)) (value (canon w)
   filter-same p q h [] = refl
   filter-same p q h (x ∷ xs) = ap (λ b. if b then x ∷ filter p xs else filter p xs) (h x) ∙ ap (λ l. if q x then x ∷ l else l) (filter-same p q h xs)
 
-  pub matches-by_keys : (keys : List KeyTree) (local foreign : List (List ℕ)) (d : List Field) (ds : List (List Field)) → AreKeysOf keys (joined_by local d) → filter (λ f. any_key keys (found_under foreign f)) ds ≡ matches local foreign ds d
-  matches-by_keys keys local foreign d ds is = filter-same (λ f. any_key keys (found_under foreign f)) (is_joined local foreign d) (λ f. any-key_is keys (joined_by local d) (found_under foreign f) is) ds
+  pub matches-by_keys : (keys : List KeyTree) (local foreign : List (List ℕ)) (d : List Field) (ds : List (List Field)) → AreKeysOf keys (joined_by local d) → filter (λ f. any_key keys (leaf_values foreign f)) ds ≡ matches local foreign ds d
+  matches-by_keys keys local foreign d ds is = filter-same (λ f. any_key keys (leaf_values foreign f)) (is_joined local foreign d) (λ f. any-key_is keys (joined_by local d) (leaf_values foreign f) is) ds
 
 -- ---- loops
 

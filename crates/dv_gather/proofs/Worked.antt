@@ -3,6 +3,7 @@ use Rattle.std.proofs.Common.{◌≡◌, refl, true, [], ◌∷◌, Ok, Err, cod
 use Rattle.dv_bson.specs.Tree.{null, boolean}
 use Rattle.dv_path.specs.Candidates.{whole, leaves}
 use Rattle.dv_path.specs.Expression.{expr}
+use Rattle.dv_path.specs.LeafKeys.{leaf_values}
 use Rattle.dv_path.specs.Path.{path_of}
 use Rattle.dv_row.specs.ExpressionParsing.{expression_in}
 use Rattle.dv_row.specs.Expressions.{value_of}
@@ -12,7 +13,7 @@ use Rattle.dv_gather.specs.Grouping.{accumulated, grouped}
 use Rattle.dv_gather.specs.declared.accumulator.Accumulator.TheVariants.{Sum, Min, Max}
 use Rattle.dv_row.specs.declared.fault.PipelineFault.TheVariants.{BadSpec}
 use Rattle.dv_gather.specs.Groups.{groups_of}
-use Rattle.dv_gather.specs.Joining.{joined_by, found_under}
+use Rattle.dv_gather.specs.Joining.{joined_by}
 use Rattle.dv_gather.specs.Lookups.{lookup_in, looked_up}
 use Rattle.dv_gather.specs.Sums.{spelled}
 
@@ -23,7 +24,7 @@ rows_in_groups = refl
 -- {_id: 1} and {_id: 2, p: [1, 2]}
 pub rows_looked_up : after_lookup a_lookup (((codes "_id", int 1) ∷ []) ∷ ((codes "_id", int 2) ∷ (codes "p", list (int 1 ∷ int 2 ∷ [])) ∷ []) ∷ []) (seven ∷ eight ∷ nine ∷ [])
     ≡ Ok (((codes "_id", int 1) ∷ (codes "o", list (doc seven ∷ [])) ∷ []) ∷ ((codes "_id", int 2) ∷ (codes "p", list (int 1 ∷ int 2 ∷ [])) ∷ (codes "o", list (doc eight ∷ doc nine ∷ [])) ∷ []) ∷ [])
-unfolding lookup_in looked_up joined_by found_under whole leaves path_of
+unfolding lookup_in looked_up joined_by leaf_values whole leaves path_of
 rows_looked_up = refl
 
 -- {n: {$sum: 1}}

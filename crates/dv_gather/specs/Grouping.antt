@@ -1,8 +1,8 @@
 -- What $group makes of rows (MongoDB manual, "$group (aggregation)"). The order of the groups, and which row spells a key, is this
 -- server's own.
-use Rattle.std.specs.Prelude.{ℕ, List, [], ◌∷◌, Some, None, codes, map}
+use Rattle.std.specs.Prelude.{ℕ, List, [], ◌∷◌, Option, Some, None, codes, map}
 use Rattle.dv_bson.specs.Tree.{Tree, array, null, Field, elements_of}
-use Rattle.dv_path.specs.Candidates.{Candidate}
+use Rattle.dv_path.specs.Candidates.{Candidate, or_null}
 use Rattle.dv_row.specs.Expressions.{Expression, value_of, with_field}
 use Rattle.dv_row.specs.Row.{Row}
 use Rattle.dv_gather.specs.declared.extreme.Extreme.TheVariants.{Least, Greatest}
@@ -10,7 +10,6 @@ use Rattle.dv_gather.specs.declared.accumulator.Accumulator.{Accumulator}
 use Rattle.dv_gather.specs.declared.accumulator.Accumulator.TheVariants.{Sum, Min, Max, Push}
 use Rattle.dv_gather.specs.Extremes.{extreme_of}
 use Rattle.dv_gather.specs.Groups.{Keyed, groups_of}
-use Rattle.dv_gather.specs.Joining.{or_null}
 use Rattle.dv_gather.specs.Sums.{sum_of}
 
 -- a field of a group: what comes of the values of an expression
@@ -64,6 +63,11 @@ key_of_group g (d ∷ ds) = key_in g d
 -- the row of a group
 abbrev pub group_row : Grouping → List Row → Row
 group_row g ds = with_accumulated g.fields ds ((codes "_id", key_of_group g ds) ∷ [])
+
+-- the row of a group, where it has rows
+abbrev pub row_shown : Grouping → List Row → Option Row
+row_shown g [] = None
+row_shown g (d ∷ ds) = Some (group_row g (d ∷ ds))
 
 -- a row for each group of rows
 unfoldable pub grouped : Grouping → List Row → List Row

@@ -1,17 +1,13 @@
 -- Which documents a document is joined with (MongoDB manual, "$lookup (aggregation)"): those that have one of its values. That
 -- Missing counts as null on both sides, and that an array stands for its elements on the one side and for itself too on the
 -- other, is this server's own.
-use Rattle.std.specs.Prelude.{ℕ, Bool, List, [], ◌∷◌, Some, None, filter, map}
+use Rattle.std.specs.Prelude.{ℕ, Bool, List, [], ◌∷◌, Some, filter}
 use Rattle.std.specs.List.{flat_map, list_any}
 use Rattle.std.specs.Ordering.{is_eq}
-use Rattle.dv_bson.specs.Tree.{Tree, array, null, document, Field, fields_of, list_of_elements}
+use Rattle.dv_bson.specs.Tree.{Tree, array, document, Field, fields_of, list_of_elements}
 use Rattle.dv_order.specs.Order.{order}
-use Rattle.dv_path.specs.Candidates.{Candidate, whole, leaves}
-
--- a candidate's value, Missing counting as null
-abbrev pub or_null : Candidate → Tree
-or_null None = null
-or_null (Some v) = v
+use Rattle.dv_path.specs.Candidates.{Candidate, or_null, whole}
+use Rattle.dv_path.specs.LeafKeys.{leaf_values}
 
 -- the values that a candidate stands for on the local side: an array for its elements
 abbrev pub local_values : Candidate → List Tree
@@ -22,17 +18,13 @@ local_values c = or_null c ∷ []
 unfoldable pub joined_by : List (List ℕ) → List Field → List Tree
 joined_by path d = flat_map local_values (whole d path)
 
--- the values under which a document is found
-unfoldable pub found_under : List (List ℕ) → List Field → List Tree
-found_under path d = map or_null (leaves d path)
-
 -- whether a value compares equal to one of these
 abbrev pub is_among : List Tree → Tree → Bool
 is_among ws v = list_any (λ w. is_eq (order v w)) ws
 
--- whether a document is joined with another, by a local path and a foreign one
+-- whether a document is joined with another, by a local path and a foreign one: the other has one of its values as a leaf
 abbrev pub is_joined : List (List ℕ) → List (List ℕ) → List Field → List Field → Bool
-is_joined local foreign d f = list_any (is_among (found_under foreign f)) (joined_by local d)
+is_joined local foreign d f = list_any (is_among (leaf_values foreign f)) (joined_by local d)
 
 -- the documents that a document is joined with, in their order
 abbrev pub matches : List (List ℕ) → List (List ℕ) → List (List Field) → List Field → List (List Field)

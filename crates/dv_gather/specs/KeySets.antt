@@ -4,16 +4,8 @@ use Rattle.std.specs.List.{list_any}
 use Rattle.std.specs.Ordering.{is_eq}
 use denote.Ref.{Bor}
 use Rattle.dv_bson.specs.Tree.{Tree, Field}
-use Rattle.dv_order.specs.Order.{canon}
-use Rattle.dv_order.specs.Key.{KeyTree, value, key_order}
-
--- whether k is the key of a value
-abbrev pub is_key_of : KeyTree → Tree → Bool
-is_key_of k v = is_eq (key_order k (value (canon v)))
-
--- whether k is the key of one of these values
-abbrev pub is_some_key : KeyTree → List Tree → Bool
-is_some_key k vs = list_any (is_key_of k) vs
+use Rattle.dv_order.specs.Key.{KeyTree, key_order}
+use Rattle.dv_path.specs.LeafKeys.{is_some_key}
 
 -- keys are those of values: a key equals one of them exactly where it is that of a value
 abbrev pub AreKeysOf : List KeyTree → List Tree → Type 0

@@ -1,8 +1,10 @@
+pub mod Bounds
 pub mod Counting
 pub mod Examples
 pub mod Extremes
 pub mod Gathering
 pub mod GroupCode
+pub mod GroupLaws
 pub mod GroupParsing
 pub mod GroupView
 pub mod Grouping

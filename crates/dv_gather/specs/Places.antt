@@ -4,8 +4,8 @@ use Rattle.std.specs.List.{list_any}
 use Rattle.std.specs.BTreeMap.{BTreeMap, get}
 use Rattle.dv_bson.specs.Tree.{Tree, Field}
 use Rattle.dv_order.specs.Key.{KeyTree, key_order}
-use Rattle.dv_gather.specs.Joining.{as_value, found_under, matches}
-use Rattle.dv_gather.specs.KeySets.{is_some_key}
+use Rattle.dv_path.specs.LeafKeys.{is_some_key, leaf_values}
+use Rattle.dv_gather.specs.Joining.{as_value, matches}
 
 -- whether a place is one of these
 abbrev pub is_place : List ℕ → ℕ → Bool
@@ -27,7 +27,7 @@ passes_at p (x ∷ xs) (suc i) = passes_at p xs i
 
 -- whether a document is found under the value of a key
 abbrev pub is_found : List (List ℕ) → KeyTree → List Field → Bool
-is_found path k d = is_some_key k (found_under path d)
+is_found path k d = is_some_key k (leaf_values path d)
 
 -- under each key are the places of the documents that are found under it
 abbrev pub ArePlaces : {A : Type 0} → BTreeMap KeyTree (Vec ℕ A) → List (List ℕ) → List (List Field) → Type 0

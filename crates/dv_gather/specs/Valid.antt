@@ -15,7 +15,7 @@ use Rattle.dv_bson.specs.Names.{begins_with_dollar, has_name, has_zero, value_un
 use Rattle.dv_bson.specs.Spelling.{IsValue}
 use Rattle.dv_bson.specs.Tree.{Tree, int32, int64, string, array, document, null, Field, Fields, fields_of, list_of_fields, elements_of}
 use Rattle.dv_order.specs.Order.{order}
-use Rattle.dv_path.specs.Candidates.{Candidate}
+use Rattle.dv_path.specs.Candidates.{Candidate, or_null}
 use Rattle.dv_path.specs.Path.{path_of}
 use Rattle.dv_row.specs.declared.fault.PipelineFault.{PipelineFault}
 use Rattle.dv_row.specs.declared.fault.PipelineFault.TheVariants.{BadSpec}
@@ -34,7 +34,7 @@ use Rattle.dv_gather.specs.Extremes.{is_better, better, extreme_from}
 use Rattle.dv_gather.specs.GroupParsing.{accumulator_named, accumulation, alone, accumulation_in, field_in, key_form, grouping, group_of, group_in}
 use Rattle.dv_gather.specs.Grouping.{Accumulation, Grouping, key_in, keyed, with_present, values_over, accumulated, field_over, with_accumulated, key_of_group, group_row, grouped}
 use Rattle.dv_gather.specs.Groups.{Keyed, under, keys_of, groups_of}
-use Rattle.dv_gather.specs.Joining.{or_null, as_value, is_joined, matches}
+use Rattle.dv_gather.specs.Joining.{as_value, is_joined, matches}
 use Rattle.dv_gather.specs.Lookups.{set_field, found, joined_row, looked_up, text_in, text_option, collection_in, path_or_fault, target_in, from_option, field_option, as_option, looking, lookup_of, lookup_in}
 use Rattle.dv_gather.specs.Sums.{fits_32, fits_64, digits as spelled_out, total, is_int64, spelled, sum_of}
 

@@ -1,7 +1,8 @@
 //! Sums.
 
-ghost use Rattle.std.specs.Prelude.{◌≡◌, IfOk, OnOk, pos, true};
+ghost use Rattle.std.specs.Prelude.{◌≡◌, ℕ, suc, IfOk, pos, true};
 ghost use Rattle.dv_bson.specs.View.{tree};
+ghost use Rattle.dv_gather.specs.Bounds.{IsWithin, most};
 ghost use Rattle.dv_gather.specs.Sums as defined;
 ghost use Rattle.dv_gather.specs.Totals.{summed, with_value, finished};
 ghost use Rattle.dv_gather.specs.TotalView.{sum_seen};
@@ -29,17 +30,14 @@ impl Sum {
         }
     }
 
-    /// Adds the value, if it is a number. Fails where memory is wanting: so does a sum that 128 bits can't hold, for which
-    /// more than 2^64 numbers would be needed.
-    pub(crate) fn add(&mut self, value: &Value) -> Result<(), NoMemory>
-        ensures { OnOk result (sum_seen self.new ≡ with_value (tree value.now) (sum_seen self.old)) }
+    /// Adds the value, if it is a number.
+    pub(crate) fn add(&mut self, value: &Value)
+        requires { IsWithin most (sum_seen self.old) }
+        ensures sum { sum_seen self.new ≡ with_value (tree value.now) (sum_seen self.old) }
+        ensures within { (count : ℕ) → IsWithin count (sum_seen self.old) → IsWithin (suc count) (sum_seen self.new) }
     {
-        let Some(total) = self.total.checked_add(i128::from(addend(value))) else {
-            return Err(AllocError);
-        };
-        self.total = total;
+        self.total += i128::from(addend(value));
         self.narrow = self.narrow && !is_int64(value);
-        Ok(())
     }
 
     /// The sum as a value: an int32 where it fits and each number was one, 0 for none; else an int64 where it fits; else a

@@ -1,14 +1,16 @@
 //! `$group`.
 
-ghost use Rattle.std.specs.Prelude.{◌≡◌, [], map, IfOk, OnOk};
+ghost use Rattle.std.specs.Prelude.{◌≡◌, [], ℕ, suc, map, IfOk, OnOk};
 ghost use Rattle.dv_row.specs.ExpressionView.{expression};
 ghost use Rattle.dv_row.specs.RowValueView.{row_value};
+ghost use Rattle.dv_gather.specs.Bounds.{EachWithin, most};
 ghost use Rattle.dv_gather.specs.Grouping as defined;
+ghost use Rattle.dv_gather.specs.Grouping.{row_shown};
 ghost use Rattle.dv_gather.specs.GroupParsing.{grouping};
 ghost use Rattle.dv_gather.specs.GroupView.{accumulation};
 ghost use Rattle.dv_gather.specs.KeySets.{referred};
-ghost use Rattle.dv_gather.specs.Tallies.{finished_row, with_row_put, with_rows_put};
-ghost use Rattle.dv_gather.specs.TotalView.{tallies_seen};
+ghost use Rattle.dv_gather.specs.Tallies.{finished_row, with_row_put, with_rows, with_rows_put, without_rows};
+ghost use Rattle.dv_gather.specs.TotalView.{tallies_seen, tally_seen};
 
 use crate::accumulator::Accumulator;
 use crate::tally::Tally;
@@ -99,6 +101,35 @@ impl Group {
         self.finished(alloc, tallies)
     }
 
+    /// The row of the group of these rows, where there are any: its key is that of the first one. A row before it lends its
+    /// names. Fails where memory is wanting.
+    pub fn row_of(
+        &self,
+        alloc: Global,
+        rows: &[&Document],
+        before: Option<&Document>,
+    ) -> Result<Option<Document>, NoMemory>
+        ensures { IfOk result (λ row. row ≡ row_shown self.now (referred rows.now)) }
+    {
+        if rows.is_empty() {
+            return Ok(None);
+        }
+        let tally = self.tally(alloc, rows)?;
+        Ok(Some(tally.row(alloc, &self.fields, before)?))
+    }
+
+    /// What comes of the rows of one group.
+    fn tally(&self, alloc: Global, rows: &[&Document]) -> Result<Tally, NoMemory>
+        ensures { IfOk result (λ tally. tally_seen tally ≡ with_rows self.now (referred rows.now) without_rows) }
+    {
+        let mut tally = Tally::new(alloc);
+        'rows: for row in rows {
+            let key = self.key_in(alloc, row)?;
+            tally.add(alloc, key, self.fields(), row)?;
+        }
+        Ok(tally)
+    }
+
     /// The groups of the rows, by their keys.
     fn tallies(&self, alloc: Global, rows: &[&Document]) -> Result<BTreeMap<Key, Tally>, NoMemory>
         ensures { IfOk result (λ tallies. tallies_seen tallies.entries ≡ with_rows_put self.now (referred rows.now) []) }
@@ -117,7 +148,9 @@ impl Group {
         tallies: &mut BTreeMap<Key, Tally>,
         row: &Document,
     ) -> Result<(), NoMemory>
-        ensures { OnOk result (tallies_seen tallies.new.entries ≡ with_row_put self.now row.now (tallies_seen tallies.old.entries)) }
+        requires { EachWithin most (tallies_seen tallies.old.entries) }
+        ensures put { OnOk result (tallies_seen tallies.new.entries ≡ with_row_put self.now row.now (tallies_seen tallies.old.entries)) }
+        ensures within { OnOk result ((count : ℕ) → EachWithin count (tallies_seen tallies.old.entries) → EachWithin (suc count) (tallies_seen tallies.new.entries)) }
     {
         let key = self.key_in(alloc, row)?;
         let place = key_of(key.get())?;
@@ -125,8 +158,8 @@ impl Group {
         tally.add(alloc, key, self.fields(), row)
     }
 
-    /// The row's key.
-    fn key_in<'a>(&'a self, alloc: Global, row: &'a Document) -> Result<RowValue<'a>, NoMemory>
+    /// The row's key, null where it is missing. Fails where memory is wanting.
+    pub fn key_in<'a>(&'a self, alloc: Global, row: &'a Document) -> Result<RowValue<'a>, NoMemory>
         ensures { IfOk result (λ key. row_value key ≡ defined.key_in self.now row.now) }
     {
         match self.key.value_in(alloc, row)? {

@@ -1,50 +1,85 @@
 //! Documents joined with those that have one of their values.
 
-ghost use Rattle.std.specs.Prelude.{◌≡◌, ◌||◌, ℕ, map, slice_get, IfOk, IfSome, OnOk};
+ghost use Rattle.std.specs.Prelude.{◌≡◌, ◌&&◌, ◌||◌, ◌==◌, ℕ, map, slice_get, IfOk, IfSome, OnOk};
 ghost use Rattle.std.specs.List.{list_any};
 ghost use Rattle.std.specs.BTreeSet.{contains};
-ghost use Rattle.std.specs.Ordering.{nat_cmp};
+ghost use Rattle.std.specs.Ordering.{is_eq, nat_cmp};
+ghost use Rattle.dv_order.specs.Key.{KeyTree, key_order};
 ghost use Rattle.dv_gather.specs.Joining.{as_value};
 ghost use Rattle.dv_gather.specs.KeySets.{referred};
-ghost use Rattle.dv_gather.specs.Places.{AreMatches, ArePlaces, chosen, is_place, is_under, item_at};
+ghost use Rattle.dv_gather.specs.Places.{AreMatches, ArePlaces, chosen, is_found, is_place, is_under, item_at};
 
-use crate::keys::{local_keys, sole_key, with_document};
+use crate::keys::sole_key;
+use crate::lookup::Lookup;
 use dv_bson::{Document, List, NoMemory, Value};
 use dv_order::{Key, laws};
-use dv_path::Path;
 use std::alloc::Global;
 use std::collections::{BTreeMap, BTreeSet};
 
 /// The places of the documents, by the keys of the values under which they are found.
 pub(crate) fn places_of(
     alloc: Global,
+    lookup: &Lookup,
     documents: &[&Document],
-    path: &Path,
 ) -> Result<BTreeMap<Key, Vec<usize>>, NoMemory>
-    ensures { IfOk result (λ places. ArePlaces places path.now (referred documents.now)) }
+    ensures { IfOk result (λ places. ArePlaces places lookup.now.foreign (referred documents.now)) }
 {
     let mut places = BTreeMap::new(alloc);
     'documents: for (place, document) in documents.iter().enumerate() {
-        places = with_document(alloc, places, place, document, path)?;
+        add_place(alloc, lookup, document, place, &mut places)?;
     }
     Ok(places)
+}
+
+/// Puts the place of a document under each of the keys under which it is found.
+fn add_place(
+    alloc: Global,
+    lookup: &Lookup,
+    document: &Document,
+    place: usize,
+    places: &mut BTreeMap<Key, Vec<usize>>,
+) -> Result<(), NoMemory>
+    ensures { OnOk result ((k : KeyTree) (i : ℕ) → is_under places.new k i ≡ (is_under places.old k i || (place == i && is_found lookup.now.foreign k document.now))) }
+{
+    // Most documents have one key, and a set costs more than that.
+    if let Some(key) = sole_key(document, &lookup.foreign)? {
+        return add_under(alloc, key, place, places);
+    }
+    let keys = lookup.foreign_keys(alloc, document)?;
+    'keys: for key in keys {
+        add_under(alloc, key, place, places)?;
+    }
+    Ok(())
+}
+
+/// Puts a place under the key.
+fn add_under(
+    alloc: Global,
+    key: Key,
+    place: usize,
+    places: &mut BTreeMap<Key, Vec<usize>>,
+) -> Result<(), NoMemory>
+    ensures { OnOk result ((k : KeyTree) (i : ℕ) → is_under places.new k i ≡ (is_under places.old k i || (place == i && is_eq (key_order k key)))) }
+{
+    places.entry(key)?.or_insert(Vec::new(alloc)).push(place)?;
+    Ok(())
 }
 
 /// The documents that the row is joined with, in their order, each once, where their places are given.
 pub(crate) fn matches_of(
     alloc: Global,
+    lookup: &Lookup,
     row: &Document,
-    local: &Path,
     documents: &[&Document],
     places: &BTreeMap<Key, Vec<usize>>,
 ) -> Result<List, NoMemory>
-    ensures { IfOk result (AreMatches places.now local.now (referred documents.now) row.now) }
+    ensures { IfOk result (AreMatches places.now lookup.now.local (referred documents.now) row.now) }
 {
-    if let Some(list) = matches_of_one(alloc, row, local, documents, places)? {
+    if let Some(list) = matches_of_one(alloc, lookup, row, documents, places)? {
         return Ok(list);
     }
     laws::keys_stand_as_their_values();
-    let keys = local_keys(alloc, row, local)?;
+    let keys = lookup.local_keys(alloc, row)?;
     let found = places_under(alloc, places, &keys)?;
     documents_at(alloc, documents, &found)
 }
@@ -53,15 +88,15 @@ pub(crate) fn matches_of(
 /// `None`.
 fn matches_of_one(
     alloc: Global,
+    lookup: &Lookup,
     row: &Document,
-    local: &Path,
     documents: &[&Document],
     places: &BTreeMap<Key, Vec<usize>>,
 ) -> Result<Option<List>, NoMemory>
-    ensures { IfOk result (λ list. IfSome list (AreMatches places.now local.now (referred documents.now) row.now)) }
+    ensures { IfOk result (λ list. IfSome list (AreMatches places.now lookup.now.local (referred documents.now) row.now)) }
 {
     laws::keys_stand_as_their_values();
-    let Some(key) = sole_key(row, local)? else {
+    let Some(key) = sole_key(row, &lookup.local)? else {
         return Ok(None);
     };
     let Some(under) = places.get(&key) else {

@@ -25,7 +25,7 @@ ghost use Rattle.dv_gather.specs.Sums.{sum_of};
 use crate::accumulator::Accumulator;
 
 /// The keys of the groups ascend and are apart, and each row's key is one of them alone: so it is in one group.
-#[tactic(auto, using(crate::proofs::Grouped::keys_ascend, crate::proofs::GatherLaws::one_key))]
+#[tactic(auto, using(crate::specs::GroupLaws::keys_ascend, crate::proofs::GatherLaws::one_key))]
 pub fn each_row_is_in_one_group()
     ensures ascending { (rows : List Keyed) → IsStrictlySortedBy order (keys_of rows) }
     ensures one { (before after : List Keyed) (row : Keyed) → length (filter (λ k. is_eq (order row.0 k)) (keys_of (before ++ row ∷ after))) ≡ 1 }

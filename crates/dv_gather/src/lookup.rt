@@ -69,7 +69,7 @@ impl Lookup {
     ) -> Result<Join<'a>, NoMemory>
         ensures { IfOk result (λ join. join ≡ (self.now, referred documents.now)) }
     {
-        let places = places_of(alloc, documents, &self.foreign)?;
+        let places = places_of(alloc, self, documents)?;
         Ok(Join {
             lookup: self,
             documents,
@@ -103,9 +103,8 @@ impl<'a> Join<'a> {
     ) -> Result<Document, NoMemory>
         ensures { IfOk result (λ joined. joined ≡ defined.joined_row self.now.0 self.now.1 row.now) }
     {
-        let lookup = self.lookup;
-        let target = lookup.target.as_str();
-        let matches = matches_of(alloc, row, &lookup.local, self.documents, &self.places)?;
+        let target = self.lookup.target.as_str();
+        let matches = matches_of(alloc, self.lookup, row, self.documents, &self.places)?;
         let mut joined = copy_for(alloc, row, target, before)?;
         set_field(&mut joined, target, Value::Array(matches))?;
         Ok(joined)

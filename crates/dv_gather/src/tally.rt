@@ -1,8 +1,9 @@
 //! Groups so far.
 
-ghost use Rattle.std.specs.Prelude.{◌≡◌, map, IfOk, OnOk};
+ghost use Rattle.std.specs.Prelude.{◌≡◌, ℕ, suc, map, IfOk, OnOk};
 ghost use Rattle.dv_bson.specs.View.{tree};
 ghost use Rattle.dv_row.specs.RowValueView.{row_value};
+ghost use Rattle.dv_gather.specs.Bounds.{AreWithin, most};
 ghost use Rattle.dv_gather.specs.GroupView.{accumulation};
 ghost use Rattle.dv_gather.specs.Tallies as defined;
 ghost use Rattle.dv_gather.specs.TotalView.{keys_seen, tally_seen, total_seen};
@@ -40,7 +41,9 @@ impl Tally {
         fields: &[GroupField],
         row: &Document,
     ) -> Result<(), NoMemory>
-        ensures { OnOk result (tally_seen self.new ≡ defined.taken (map accumulation fields.now) row.now (defined.started (map accumulation fields.now) (row_value key.entry) (tally_seen self.old))) }
+        requires { AreWithin 0 most (tally_seen self.old).1 }
+        ensures tally { OnOk result (tally_seen self.new ≡ defined.taken (map accumulation fields.now) row.now (defined.started (map accumulation fields.now) (row_value key.entry) (tally_seen self.old))) }
+        ensures within { OnOk result ((count : ℕ) → AreWithin 0 count (tally_seen self.old).1 → AreWithin 0 (suc count) (tally_seen self.new).1) }
     {
         self.start(alloc, key, fields)?;
         self.add_values(alloc, fields, row)
@@ -70,7 +73,9 @@ impl Tally {
         fields: &[GroupField],
         row: &Document,
     ) -> Result<(), NoMemory>
-        ensures { OnOk result (tally_seen self.new ≡ defined.taken (map accumulation fields.now) row.now (tally_seen self.old)) }
+        requires { AreWithin 0 most (tally_seen self.old).1 }
+        ensures tally { OnOk result (tally_seen self.new ≡ defined.taken (map accumulation fields.now) row.now (tally_seen self.old)) }
+        ensures within { OnOk result ((count : ℕ) → AreWithin 0 count (tally_seen self.old).1 → AreWithin 0 (suc count) (tally_seen self.new).1) }
     {
         add_each(alloc, &mut self.totals, fields, row)
     }
@@ -108,7 +113,9 @@ fn add_each(
     fields: &[GroupField],
     row: &Document,
 ) -> Result<(), NoMemory>
-    ensures { OnOk result (map total_seen totals.new.items ≡ defined.with_values (map accumulation fields.now) row.now (map total_seen totals.old.items)) }
+    requires { AreWithin 0 most (map total_seen totals.old.items) }
+    ensures totals { OnOk result (map total_seen totals.new.items ≡ defined.with_values (map accumulation fields.now) row.now (map total_seen totals.old.items)) }
+    ensures within { OnOk result ((count : ℕ) → AreWithin 0 count (map total_seen totals.old.items) → AreWithin 0 (suc count) (map total_seen totals.new.items)) }
 {
     'fields: for (place, field) in fields.iter().enumerate() {
         if let Some(value) = field.expr.value_in(alloc, row)? {

@@ -1,8 +1,9 @@
 //! What has come of the values of a group's rows so far.
 
-ghost use Rattle.std.specs.Prelude.{◌≡◌, map, IfOk, OnOk};
+ghost use Rattle.std.specs.Prelude.{◌≡◌, ℕ, suc, map, IfOk, OnOk};
 ghost use Rattle.dv_bson.specs.View.{tree};
 ghost use Rattle.dv_row.specs.RowValueView.{row_value};
+ghost use Rattle.dv_gather.specs.Bounds.{AreWithin, IsWithin, most};
 ghost use Rattle.dv_gather.specs.Totals as defined;
 ghost use Rattle.dv_gather.specs.TotalView.{total_seen};
 
@@ -39,10 +40,12 @@ impl Total {
 
     /// Takes a value in behind the others. Fails where memory is wanting.
     pub(crate) fn add(&mut self, value: RowValue<'_>) -> Result<(), NoMemory>
-        ensures { OnOk result (total_seen self.new ≡ defined.with_value (row_value value.entry) (total_seen self.old)) }
+        requires { IsWithin most (total_seen self.old) }
+        ensures total { OnOk result (total_seen self.new ≡ defined.with_value (row_value value.entry) (total_seen self.old)) }
+        ensures within { OnOk result ((count : ℕ) → IsWithin count (total_seen self.old) → IsWithin (suc count) (total_seen self.new)) }
     {
         match self {
-            Total::Sum(sum) => sum.add(value.get())?,
+            Total::Sum(sum) => sum.add(value.get()),
             Total::Best(extreme, best) => {
                 if extreme.is_better(value.get(), best) {
                     *best = value.into_value()?;
@@ -71,7 +74,9 @@ pub(crate) fn add_at(
     place: usize,
     value: RowValue<'_>,
 ) -> Result<(), NoMemory>
-    ensures { OnOk result (map total_seen totals.new ≡ defined.with_value_at place (row_value value.entry) (map total_seen totals.old)) }
+    requires { AreWithin place most (map total_seen totals.old) }
+    ensures totals { OnOk result (map total_seen totals.new ≡ defined.with_value_at place (row_value value.entry) (map total_seen totals.old)) }
+    ensures within { OnOk result ((count : ℕ) → AreWithin place count (map total_seen totals.old) → AreWithin (suc place) count (map total_seen totals.new)) }
 {
     if place < totals.len() {
         totals[place].add(value)?;

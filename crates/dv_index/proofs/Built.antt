@@ -14,7 +14,7 @@ use Rattle.dv_coll.specs.Collection.{IsAscending, found, has_key, id_key, replac
 use Rattle.dv_index.specs.Change.{AreIndexesOf}
 use Rattle.dv_index.specs.Index.{IndexForm, IndexTree, BeginsWithId, form_of, id_form}
 use Rattle.dv_index.specs.Indexed.{IndexedTree, is_dropped, with_documents, with_indexes, without_index}
-use Rattle.dv_index.specs.Keys.{is_leaf_key}
+use Rattle.dv_path.specs.LeafKeys.{is_leaf_key}
 use Rattle.dv_index.specs.Pairs.{has_pair}
 use Rattle.dv_index.specs.Search.{IsIndexOf, is_key_under}
 use Rattle.dv_index.proofs.Lists.{or-false, equal-from}

@@ -1,5 +1,4 @@
 pub mod Lists
-pub mod Leaves
 pub mod Ends
 pub mod Entries
 pub mod Firsts

@@ -17,7 +17,8 @@ use Rattle.dv_bson.specs.declared.value.Value.{Value}
 use Rattle.dv_order.specs.Key.{KeyTree, key_order, value}
 use Rattle.dv_order.specs.Order.{canon}
 use Rattle.dv_order.specs.KeyLaws.{key_order_total}
-use Rattle.dv_index.specs.Keys.{has_key, is_key_of}
+use Rattle.dv_path.specs.LeafKeys.{is_key_of, is_some_key}
+use Rattle.dv_index.specs.Keys.{has_key}
 use Rattle.dv_index.proofs.Lists.{any-map, equal-from}
 
 abbrev pub now : Bor KeyTree → KeyTree
@@ -56,9 +57,9 @@ any-once p alike [] = refl
 any-once p alike (x ∷ xs) = any-from p alike x xs
 
 -- to stand among the keys of values is to be the key of one of them
-pub among-values : (k : KeyTree) (ids : List (Bor KeyTree)) (keys : List KeyTree) (vs : List Value) (ts : List Tree) → map now ids ≡ keys → keys ≡ map (λ v. value (canon (tree v))) vs → map tree vs ≡ ts → has_key k (map now ids) ≡ list_any (λ t. is_key_of t k) ts
+pub among-values : (k : KeyTree) (ids : List (Bor KeyTree)) (keys : List KeyTree) (vs : List Value) (ts : List Tree) → map now ids ≡ keys → keys ≡ map (λ v. value (canon (tree v))) vs → map tree vs ≡ ts → has_key k (map now ids) ≡ is_some_key k ts
 among-values k ids keys vs ts e f g =
-    ap (has_key k) (e ∙ f) ∙ any-map (λ l. is_eq (key_order k l)) (λ v. value (canon (tree v))) vs ∙ sym (any-map (λ t. is_key_of t k) tree vs) ∙ ap (list_any (λ t. is_key_of t k)) g
+    ap (has_key k) (e ∙ f) ∙ any-map (λ l. is_eq (key_order k l)) (λ v. value (canon (tree v))) vs ∙ sym (any-map (is_key_of k) tree vs) ∙ ap (is_some_key k) g
 
 module _ (xs sorted ys : List (Bor KeyTree)) (filtered : IsFiltered (DiffersFromLast lent-equal) [] sorted ys) where
   pub once-ascends : IsSorted lent-order sorted → IsStrictlySortedBy key_order (map now ys)

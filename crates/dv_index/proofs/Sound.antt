@@ -14,13 +14,13 @@ use Rattle.dv_order.specs.Order.{canon, class, order}
 use Rattle.dv_order.specs.Key.{KeyTree, value, key_order}
 use Rattle.dv_order.specs.KeyLaws.{key_order_total}
 use Rattle.dv_bson.specs.Names.{value_under}
-use Rattle.dv_path.specs.Candidates.{Candidate, candidates, whole, leaves, with_elements}
+use Rattle.dv_path.specs.Candidates.{Candidate, candidates, leaves, or_null, whole, with_elements}
+use Rattle.dv_path.specs.LeafKeys.{is_key_of, is_leaf_key, is_some_key, leaf_values}
 use Rattle.dv_match.specs.declared.range.Range.{Range}
 use Rattle.dv_match.specs.declared.range.Range.TheVariants.{Above, AtLeast, Below, AtMost}
 use Rattle.dv_match.specs.Filter.{Member, all_of, any_of, none_of, at_path, Members, no_members, more_members, Filters, no_filters, more_filters, Condition, equal, among, in_range, Conditions, no_conditions, more_conditions}
-use Rattle.dv_match.specs.Match.{or_null, stands, matches, matches_member, matches_all, meets_all, meets}
+use Rattle.dv_match.specs.Match.{stands, matches, matches_member, matches_all, meets_all, meets}
 use Rattle.dv_coll.specs.Collection.{HasId, IsAscending, IsNoArray, found, id_key}
-use Rattle.dv_index.specs.Keys.{is_key_of, is_some_key, is_leaf_key}
 use Rattle.dv_index.specs.Pairs.{has_pair}
 use Rattle.dv_index.specs.Index.{IndexTree}
 use Rattle.dv_index.specs.Choice.{is_point, is_bound, same_path, first_of, first_in, first_in_member, first_in_all, first_place, chosen}
@@ -186,7 +186,7 @@ module _ (law : (v w : Tree) → key_order (value (canon v)) (value (canon w)) �
 
   -- the key of some value is in the bounds, and among those of the candidates
   abbrev HasKey : Condition → List Candidate → Type 0
-  HasKey c xs = (v : Tree) × (covers c (value (canon v)) ≡ true) × (is_some_key (value (canon v)) xs ≡ true)
+  HasKey c xs = (v : Tree) × (covers c (value (canon v)) ≡ true) × (is_some_key (value (canon v)) (map or_null xs) ≡ true)
 
   some-key : (c : Condition) (xs : List Candidate) → list_any (is_within c) xs ≡ true → HasKey c xs
   some-key c [] e = absurd cc
@@ -195,27 +195,27 @@ module _ (law : (v w : Tree) → key_order (value (canon v)) (value (canon w)) �
       at : (b : Bool) → is_within c x ≡ b → b || list_any (is_within c) xs ≡ true → (list_any (is_within c) xs ≡ true → HasKey c xs) → HasKey c (x ∷ xs)
       at true f g rest =
           let k = value (canon (or_null x)) in
-          (or_null x, covers-within c x ∙ f, or_left (is_key_of (or_null x) k) (is_some_key k xs) (ap is_eq (tied_itself key_order_total k)))
-      at false f g rest = let r = rest g in let k = value (canon r.0) in (r.0, r.1, or_right (is_key_of (or_null x) k) (is_some_key k xs) r.2)
+          (or_null x, covers-within c x ∙ f, or_left (is_key_of k (or_null x)) (is_some_key k (map or_null xs)) (ap is_eq (tied_itself key_order_total k)))
+      at false f g rest = let r = rest g in let k = value (canon r.0) in (r.0, r.1, or_right (is_key_of k (or_null x)) (is_some_key k (map or_null xs)) r.2)
 
   leaf-key : (c : Condition) (path : List (List ℕ)) (d : List Field) → has_within c path d ≡ true → (v : Tree) × (covers c (value (canon v)) ≡ true) × (is_leaf_key (value (canon v)) path d ≡ true)
-  unfolding has_within is_leaf_key
+  unfolding has_within is_leaf_key leaf_values
   leaf-key c path d e = some-key c (leaves d path) e
 
   -- values whose keys are equal are one to the bounds
   module _ (same : (v w : Tree) → (order v w ≡ Equal) ↔ (canon v ≡ canon w)) where
-    some-within : (c : Condition) (v : Tree) → covers c (value (canon v)) ≡ true → (xs : List Candidate) → is_some_key (value (canon v)) xs ≡ true → list_any (is_within c) xs ≡ true
+    some-within : (c : Condition) (v : Tree) → covers c (value (canon v)) ≡ true → (xs : List Candidate) → is_some_key (value (canon v)) (map or_null xs) ≡ true → list_any (is_within c) xs ≡ true
     some-within c v h [] e = absurd cc
-    some-within c v h (x ∷ xs) e = at (is_key_of (or_null x) (value (canon v))) refl e (some-within c v h xs)
+    some-within c v h (x ∷ xs) e = at (is_key_of (value (canon v)) (or_null x)) refl e (some-within c v h xs)
       where
-        at : (b : Bool) → is_key_of (or_null x) (value (canon v)) ≡ b → b || is_some_key (value (canon v)) xs ≡ true → (is_some_key (value (canon v)) xs ≡ true → list_any (is_within c) xs ≡ true) → is_within c x || list_any (is_within c) xs ≡ true
+        at : (b : Bool) → is_key_of (value (canon v)) (or_null x) ≡ b → b || is_some_key (value (canon v)) (map or_null xs) ≡ true → (is_some_key (value (canon v)) (map or_null xs) ≡ true → list_any (is_within c) xs ≡ true) → is_within c x || list_any (is_within c) xs ≡ true
         at true f g rest =
             let one = (same v (or_null x)).0 (equal-from (order v (or_null x)) (ap is_eq (sym (law v (or_null x))) ∙ f)) in
             or_left (is_within c x) (list_any (is_within c) xs) (sym (covers-within c x) ∙ ap (λ w. covers c (value w)) (sym one) ∙ h)
         at false f g rest = or_right (is_within c x) (list_any (is_within c) xs) (rest g)
 
     pub by_keys : (c : Condition) (path : List (List ℕ)) (d : List Field) → (has_within c path d ≡ true) ↔ ((v : Tree) × (covers c (value (canon v)) ≡ true) × (is_leaf_key (value (canon v)) path d ≡ true))
-    unfolding has_within is_leaf_key
+    unfolding has_within is_leaf_key leaf_values
     by_keys c path d = (some-key c (leaves d path), λ k. some-within c k.0 k.1 (leaves d path) k.2)
 
   -- the keys of `_id`s that stand beside keys in the bounds are those of all documents that have a leaf there

@@ -4,12 +4,12 @@ use Rattle.std.specs.Prelude.{ℕ, Bool, List, [], ◌∷◌, Option, Result, Ok
 use Rattle.dv_bson.specs.Tree.{Tree, Field, fields_of}
 use Rattle.dv_order.specs.Order.{canon}
 use Rattle.dv_order.specs.Key.{value}
+use Rattle.dv_path.specs.LeafKeys.{is_leaf_key}
 use Rattle.dv_match.specs.declared.fault.FilterFault.{FilterFault}
 use Rattle.dv_match.specs.Examples.{int, list, one}
 use Rattle.dv_match.specs.Parsing.{◌>>=◌, filter_in}
 use Rattle.dv_index.specs.Index.{IndexForm, id_form}
 use Rattle.dv_index.specs.Indexed.{documents_covered, index_chosen}
-use Rattle.dv_index.specs.Keys.{is_leaf_key}
 
 -- whether the document has the key of the value under the path
 abbrev pub has_key_of : Tree → List (List ℕ) → List Field → Bool

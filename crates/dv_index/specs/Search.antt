@@ -3,17 +3,17 @@
 use Rattle.std.specs.Prelude.{◌≡◌, ℕ, ◌&&◌, ◌==◌, Bool, false, List, length, Option, None, Some}
 use Rattle.std.specs.List.{list_any, count_by, slice_get}
 use Rattle.std.specs.declared.cmp.Ordering.{Ordering}
-use Rattle.std.specs.Ordering.{is_eq, is_gt, is_ge, is_lt, is_le}
+use Rattle.std.specs.Ordering.{is_gt, is_ge, is_lt, is_le}
 use Rattle.dv_match.specs.declared.range.Range.{Range}
 use Rattle.dv_match.specs.declared.range.Range.TheVariants.{Above, AtLeast, Below, AtMost}
 use Rattle.dv_bson.specs.Tree.{Field}
 use Rattle.dv_order.specs.Order.{canon, class}
 use Rattle.dv_order.specs.Key.{KeyTree, value, key_class, key_order}
 use Rattle.dv_path.specs.Candidates.{Candidate, leaves}
+use Rattle.dv_path.specs.LeafKeys.{is_key_of, is_leaf_key, is_some_key}
 use Rattle.dv_match.specs.Filter.{Condition, equal, among, in_range}
 use Rattle.dv_match.specs.Match.{is_equal, is_among, is_in_range}
 use Rattle.dv_coll.specs.Collection.{found}
-use Rattle.dv_index.specs.Keys.{is_key_of, is_leaf_key}
 use Rattle.dv_index.specs.Pairs.{has_pair}
 use Rattle.dv_index.specs.Index.{IndexTree}
 
@@ -37,8 +37,8 @@ stands_so AtMost o = is_le o
 
 -- whether a key is in the bounds that a condition sets
 abbrev pub covers : Condition → KeyTree → Bool
-covers (equal v) k = is_key_of v k
-covers (among vs) k = list_any (λ v. is_key_of v k) vs
+covers (equal v) k = is_key_of k v
+covers (among vs) k = is_some_key k vs
 covers (in_range r v) k = key_class k == class v && stands_so r (key_order k (value (canon v)))
 covers condition k = false
 

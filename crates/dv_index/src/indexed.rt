@@ -10,7 +10,7 @@ ghost use Rattle.dv_coll.specs.Collection.{HasId, IsAscending, found, id_key, in
 ghost use Rattle.dv_match.specs.Match.{matches};
 ghost use Rattle.std.specs.Ordering.{is_eq};
 ghost use Rattle.dv_order.specs.Key.{KeyTree, key_order};
-ghost use Rattle.dv_index.specs.Keys.{is_leaf_key};
+ghost use Rattle.dv_path.specs.LeafKeys.{is_leaf_key};
 ghost use Rattle.dv_index.specs.Change.{AreIndexesOf, IsChangeOf, IsTaken, documents_after};
 ghost use Rattle.dv_index.specs.Index.{form_of, id_form};
 ghost use Rattle.dv_index.specs.View.{form_of_new, plan_seen};

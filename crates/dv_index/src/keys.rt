@@ -1,17 +1,13 @@
 //! The keys of a document under a path.
 
-ghost use Rattle.std.specs.Prelude.{◌≡◌, ◌||◌, not, [], IfOk, OnOk, Some, filter, map};
-ghost use Rattle.std.specs.List.{list_any};
-ghost use Rattle.std.specs.BTreeSet.{contains};
-ghost use Rattle.dv_order.specs.Key.{KeyTree, key_order};
-ghost use Rattle.dv_path.specs.Candidates.{with_elements};
-ghost use Rattle.dv_path.specs.View.{seen};
-ghost use Rattle.dv_bson.specs.View.{tree};
-ghost use Rattle.dv_index.specs.Keys.{has_key, is_key_of, is_leaf_key, is_some_key};
+ghost use Rattle.std.specs.Prelude.{◌≡◌, not, [], IfOk, filter, map};
+ghost use Rattle.dv_order.specs.Key.{KeyTree};
+ghost use Rattle.dv_path.specs.LeafKeys.{is_leaf_key};
+ghost use Rattle.dv_index.specs.Keys.{has_key};
 
-use dv_bson::{Document, List, NoMemory, Value};
-use dv_order::{Key, key_of};
-use dv_path::{Candidate, Path, fold_whole};
+use dv_bson::{Document, NoMemory};
+use dv_order::Key;
+use dv_path::{Path, leaf_keys};
 use std::alloc::Global;
 use std::collections::BTreeSet;
 use std::marker::Model;
@@ -58,43 +54,9 @@ impl Keys {
 pub fn keys_of(alloc: Global, path: &Path, document: &Document) -> Result<Keys, NoMemory>
     ensures { IfOk result (λ keys. (k : KeyTree) → has_key k keys ≡ is_leaf_key k path.now document.now) }
 {
-    let keys = fold_whole(document, path, BTreeSet::new(alloc), |keys, candidate| {
-        with_leaves(keys, candidate)
-    })?;
-    Ok(Keys { keys })
-}
-
-/// The keys with those of a candidate, and of its elements where it is an array.
-fn with_leaves(mut keys: BTreeSet<Key>, candidate: Candidate<'_>) -> Result<BTreeSet<Key>, NoMemory>
-    ensures { IfOk result (λ new. (k : KeyTree) → contains key_order new k ≡ (contains key_order keys k || is_some_key k (with_elements (seen candidate.entry)))) }
-{
-    let Candidate::Found(value) = candidate else {
-        add_key(&mut keys, &Value::Null)?;
-        return Ok(keys);
-    };
-    add_key(&mut keys, value)?;
-    if let Value::Array(list) = value {
-        add_elements(&mut keys, list)?;
-    }
-    Ok(keys)
-}
-
-/// Adds the keys of the list's values to a set. Where memory is wanting, some of them are added.
-pub(crate) fn add_elements(keys: &mut BTreeSet<Key>, list: &List) -> Result<(), NoMemory>
-    ensures { OnOk result ((k : KeyTree) → contains key_order keys.new k ≡ (contains key_order keys.old k || is_some_key k (map Some list.now))) }
-{
-    for element in list.as_slice() {
-        add_key(keys, element)?;
-    }
-    Ok(())
-}
-
-/// Adds the value's key to a set. Where memory is wanting, nothing changes.
-pub(crate) fn add_key(keys: &mut BTreeSet<Key>, value: &Value) -> Result<(), NoMemory>
-    ensures { OnOk result ((k : KeyTree) → contains key_order keys.new k ≡ (contains key_order keys.old k || is_key_of (tree value.now) k)) }
-{
-    let _ = keys.insert(key_of(value)?)?;
-    Ok(())
+    Ok(Keys {
+        keys: leaf_keys(alloc, document, path)?,
+    })
 }
 
 /// The keys that aren't among others. Fails where memory is wanting.

@@ -9,11 +9,11 @@ ghost use Rattle.dv_match.specs.Filter.{Condition, Members};
 ghost use Rattle.dv_match.specs.Match.{matches};
 ghost use Rattle.dv_order.specs.Key.{KeyTree, value};
 ghost use Rattle.dv_order.specs.Order.{canon};
+ghost use Rattle.dv_path.specs.LeafKeys.{is_leaf_key};
 ghost use Rattle.dv_index.specs.Choice.{chosen};
 ghost use Rattle.dv_index.specs.Examples.{covered_by, has_key_of, index_for, three_indexes};
 ghost use Rattle.dv_index.specs.Index.{IndexForm, IndexTree, id_form};
 ghost use Rattle.dv_index.specs.Indexed.{IndexedTree, documents_covered, without_index};
-ghost use Rattle.dv_index.specs.Keys.{is_leaf_key};
 ghost use Rattle.dv_index.specs.Pairs.{has_pair};
 ghost use Rattle.dv_index.specs.Search.{IsIndexOf, covers, has_within};
 
@@ -55,7 +55,7 @@ pub fn indexes_come_and_go()
 
 /// The keys of a document: those of what a path leads to, an array being one beside its elements, and null for what is
 /// missing.
-#[tactic(auto, unfolding(dv_path::specs::Path::index_of, dv_path::specs::Candidates::whole, dv_path::specs::Candidates::leaves, crate::specs::Keys::is_leaf_key))]
+#[tactic(auto, unfolding(dv_path::specs::Path::index_of, dv_path::specs::Candidates::whole, dv_path::specs::Candidates::leaves, dv_path::specs::LeafKeys::is_leaf_key, dv_path::specs::LeafKeys::leaf_values))]
 pub fn keys_by_example()
     ensures missing { has_key_of null (codes "a" ∷ []) [] ≡ true }
     ensures null_itself { has_key_of null (codes "a" ∷ []) (one (codes "a") null) ≡ true }

@@ -11,11 +11,11 @@ ghost use Rattle.dv_bson.specs.View.{tree};
 ghost use Rattle.dv_match.specs.Filter.{among, equal, in_range};
 ghost use Rattle.dv_order.specs.Key.{KeyTree, key_order, value as key_of_tree};
 ghost use Rattle.dv_order.specs.Order.{canon};
+ghost use Rattle.dv_path.specs.LeafKeys.{is_key_of, is_some_key};
 ghost use Rattle.dv_index.specs.Pairs.{has_pair};
 ghost use Rattle.dv_index.specs.Change.{AreIndexesOf, IsIndexAt};
 ghost use Rattle.dv_index.specs.Index.{id_form};
-ghost use Rattle.dv_index.specs.Keys.{has_key, is_key_of};
-ghost use Rattle.std.specs.List.{list_any};
+ghost use Rattle.dv_index.specs.Keys.{has_key};
 ghost use Rattle.dv_index.specs.Search.{IsIndexOf, covers, has_within};
 ghost use Rattle.dv_index.specs.View.{bounds_seen, plan_seen};
 
@@ -152,7 +152,7 @@ fn with_id<'c>(
     value: &Value,
     collection: &'c Collection,
 ) -> Result<Vec<&'c Document>, NoMemory>
-    ensures { IfOk result (λ found. map (λ d. d.now) found.items ≡ kept (λ d. is_key_of (tree value.now) (id_key d)) collection.now) }
+    ensures { IfOk result (λ found. map (λ d. d.now) found.items ≡ kept (λ d. is_key_of (id_key d) (tree value.now)) collection.now) }
 {
     let key = key_of(value)?;
     let mut found = Vec::new(alloc);
@@ -166,7 +166,7 @@ fn with_ids<'c>(
     values: &List,
     collection: &'c Collection,
 ) -> Result<Vec<&'c Document>, NoMemory>
-    ensures { IfOk result (λ found. map (λ d. d.now) found.items ≡ kept (λ d. list_any (λ v. is_key_of v (id_key d)) values.now) collection.now) }
+    ensures { IfOk result (λ found. map (λ d. d.now) found.items ≡ kept (λ d. is_some_key (id_key d) values.now) collection.now) }
 {
     let keys = keys_of_each(alloc, values.as_slice())?;
     let ids = lent(alloc, &keys)?;

@@ -1,9 +1,8 @@
 -- What a fold says that stops where a test passes, and lists of candidates built one by one.
-use Rattle.std.proofs.Common.{◌≡◌, ◌||◌, Bool, true, false, List, [], ◌∷◌, ◌++◌, map, Option, Some, None, slice_get, Result, Ok, Err, ℕ, zero, suc, ◌+◌, ◌<◌, ◌≤◌, length, take, drop, drop_of_length-le, get_or, refl, ap, sym, ◌∙◌, arith, add-one, append_assoc, append-nil, option_and_then}
+use Rattle.std.proofs.Common.{◌≡◌, Bool, true, false, List, [], ◌∷◌, ◌++◌, map, Option, Some, None, slice_get, Result, Ok, Err, ℕ, zero, suc, ◌+◌, ◌<◌, ◌≤◌, length, take, drop, drop_of_length-le, get_or, refl, ap, sym, ◌∙◌, arith, add-one, append_assoc, append-nil, option_and_then}
 use Rattle.std.specs.Result.{is_err}
 use Rattle.std.specs.List.{list_any, flat_map, filter_map, FoldsTo}
 use Rattle.std.proofs.lemmas.Bool.{or_left, or_right}
-use Rattle.std.proofs.lemmas.List.Folds.{list_any-append}
 use Rattle.std.proofs.lemmas.List.{map-append}
 use Rattle.std.proofs.lemmas.Grind.{flat_map-append}
 use Rattle.std.proofs.lemmas.List.Elements.{filter_map-append}
@@ -43,11 +42,6 @@ module _ {T X E : Type 0} {seen : X → Candidate} (call : T → X → Result T 
       let some = h.outcome in
       let last : test some.last ≡ true = ap test (sym some.stops.is) ∙ passes some.reached some.stops.at e some.stops.gives in
       sym (some.only test (any-right test some.taken (some.last ∷ []) (or_left (test some.last) false last))).passes
-
--- a test of some candidate behind each of a list
-pub any-flat_map : {X Y : Type 0} (test : Y → Bool) (f : X → List Y) (cs : List X) → list_any test (flat_map f cs) ≡ list_any (λ c. list_any test (f c)) cs
-any-flat_map test f [] = refl
-any-flat_map test f (c ∷ cs) = list_any-append test (f c) (flat_map f cs) ∙ ap (λ b. list_any test (f c) || b) (any-flat_map test f cs)
 
 take_one_more : {X : Type 0} (xs : List X) (i : ℕ) (x : X) → i < length xs → x ≡ get_or xs i x → take (i + 1) xs ≡ take i xs ++ x ∷ []
 take_one_more [] i x within is = absurd (omega arith)

@@ -16,7 +16,7 @@ use Rattle.dv_path.specs.declared.direction.Direction.TheVariants.{Ascending, De
 use Rattle.dv_path.specs.Candidates.{Candidate}
 use Rattle.dv_path.specs.Fold.{Takes, FoldsOver, Passes}
 use Rattle.dv_path.specs.SortKey.{array_keys, keys_of, stands_first, earliest, earlier_with}
-use Rattle.dv_path.proofs.Asked.{any-flat_map}
+use Rattle.dv_path.specs.GatheredKeys.{any-flat_map}
 
 -- what the order of keys says of each other, as its laws have it
 pub record Laws : Type 0 where

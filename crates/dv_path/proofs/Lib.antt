@@ -8,6 +8,7 @@ pub mod Reach
 pub mod SpecParts
 pub mod Walks
 pub mod Earliest
+pub mod KeySets
 pub mod Slotted
 pub mod Clear
 pub mod Fielded
@@ -19,3 +20,4 @@ pub mod Parting
 pub mod Together
 pub mod Grouped
 pub mod Taken
+pub mod Refused

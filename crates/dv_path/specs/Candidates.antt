@@ -1,13 +1,18 @@
 -- Where a path leads in a document: a list of candidates, each a value or Missing.
 use Rattle.std.specs.Prelude.{ℕ, List, [], ◌∷◌, ◌++◌, map, Option, Some, None, slice_get}
 use Rattle.std.specs.List.{flat_map}
-use Rattle.dv_bson.specs.Tree.{Tree, document, array, Field, fields_of, list_of_fields, list_of_elements}
+use Rattle.dv_bson.specs.Tree.{Tree, document, array, null, Field, fields_of, list_of_fields, list_of_elements}
 use Rattle.dv_bson.specs.Names.{value_under}
 use Rattle.dv_path.specs.Path.{index_of}
 
 -- a value, or `None`, which is Missing
 abbrev pub Candidate : Type 0
 Candidate = Option Tree
+
+-- a candidate's value, Missing counting as null
+abbrev pub or_null : Candidate → Tree
+or_null None = null
+or_null (Some v) = v
 
 -- what an element gives that is entered by a component: a document the value under that name, anything else nothing
 abbrev pub entered : List ℕ → Tree → List Candidate
@@ -39,6 +44,11 @@ candidates (name ∷ names) c = flat_map (candidates names) (step name c)
 -- the candidates of a path in a document
 unfoldable pub whole : List Field → List (List ℕ) → List Candidate
 whole fields path = candidates path (Some (document (fields_of fields)))
+
+-- the elements of an array, where the candidate is one
+abbrev pub array_in : Candidate → Option (List Tree)
+array_in (Some (array vs)) = Some (list_of_elements vs)
+array_in c = None
 
 -- a candidate, and behind an array its elements
 abbrev pub with_elements : Candidate → List Candidate

@@ -5,6 +5,8 @@ pub mod View
 pub mod Fold
 pub mod Fault
 pub mod Places
+pub mod LeafKeys
+pub mod GatheredKeys
 pub mod SortKey
 pub mod SortSpec
 pub mod Parts

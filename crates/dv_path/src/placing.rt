@@ -1,8 +1,9 @@
 //! Putting a value where a path leads.
 
-ghost use Rattle.std.specs.Prelude.{◌≡◌, ◌≤◌, ◌++◌, ◌∷◌, [], Some, length, map, false, IfOk, OnOk};
+ghost use Rattle.std.specs.Prelude.{◌≡◌, ◌≤◌, ◌++◌, ◌∷◌, [], Some, Err, length, map, false, IfOk, OnOk};
 ghost use Rattle.dv_bson.specs.Names.{has_name};
 ghost use Rattle.dv_bson.specs.View.{tree};
+ghost use Rattle.dv_path.specs.declared.fault.PathFault.{PathFault};
 ghost use Rattle.dv_path.specs.Path.{index_of};
 ghost use Rattle.dv_path.specs.Placing.{Gives, put, put_behind, put_element, put_field, with_element, with_field};
 
@@ -10,12 +11,13 @@ use crate::component::Component;
 use crate::exchange::{put_element_back, put_field_back, take_element, take_field};
 use crate::fault::PathFault;
 use crate::path::Path;
+use crate::refusing::refusal;
 use crate::walk::behind;
 use dv_bson::{BsonFault, Document, List, NoMemory, Value};
 use std::alloc::{AllocError, Global};
 
 /// The greatest place beyond the end of an array at which a value is put.
-const MOST_BEYOND: usize = 100_000;
+pub(crate) const MOST_BEYOND: usize = 100_000;
 
 /// The document with the value where the path leads.
 ///
@@ -23,7 +25,7 @@ const MOST_BEYOND: usize = 100_000;
 /// whatever the next component is. An array is entered by a whole number alone; nulls fill the places between its end and one
 /// beyond it. Refused with `NotViable` where another value is in the way, or an array and the component is no whole number;
 /// with `IndexTooLarge` where the place is beyond an array's end and over 100,000; and with `NoMemory`. What was moved in is
-/// then dropped.
+/// then dropped. The first two are told before memory is asked for.
 ///
 /// What is on the way is changed in place, but for fields that a copy shares, which are copied first. The stack that it takes
 /// grows with the levels of what is on the way, at most 100 in a document that is stored, and not with the path.
@@ -33,8 +35,12 @@ pub fn put_at(
     path: &Path,
     value: Value,
 ) -> Result<Document, PathFault>
-    ensures { Gives (λ changed. changed) result (put document path.now (tree value)) }
+    ensures put { Gives (λ changed. changed) result (put document path.now (tree value)) }
+    ensures refused { (fault : PathFault) → put document path.now (tree value) ≡ Err fault → result ≡ Err fault }
 {
+    if let Some(fault) = refusal(&document, path) {
+        return Err(fault);
+    }
     let components = path.components();
     put_into_document(alloc, document, &components[0], behind(components), value)
 }

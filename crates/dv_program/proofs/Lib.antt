@@ -5,6 +5,7 @@ mod Numbers
 mod Pairs
 mod Pieces
 mod Replies
+mod Scheduled
 mod Scripts
 mod Served
 mod Stopped

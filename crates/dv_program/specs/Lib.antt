@@ -1,4 +1,5 @@
 pub mod Check
+pub mod Events
 pub mod Faults
 pub mod File
 pub mod Line

@@ -5,6 +5,7 @@
 pub mod check;
 pub mod fault;
 mod file;
+pub mod laws;
 pub mod line;
 pub mod load;
 mod output;

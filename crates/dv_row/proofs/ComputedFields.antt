@@ -9,18 +9,11 @@ use Rattle.dv_bson.specs.Names.{has_name, bare, AreNamed}
 use Rattle.dv_path.specs.Candidates.{Candidate}
 use Rattle.dv_row.specs.declared.project.Project.TheVariants.{Include}
 use Rattle.dv_row.specs.Expressions.{Expression, nothing, computed_of, with_field, value_of, with_computed}
-use Rattle.dv_row.specs.Projecting.{behind, ends, left, left_inside, row_left, projected}
+use Rattle.dv_row.specs.Projecting.{behind, left, row_left, projected}
 use Rattle.dv_row.specs.Row.{Row}
 use Rattle.dv_row.specs.Shown.{begins, computed_fields}
 use Rattle.dv_row.proofs.Left.{bytes-eq_symmetric}
-use Rattle.dv_row.proofs.ShownFields.{Paths, in_front, is_led, led-are, chosen, left-none, left-cons}
-
-not-shown : (paths : Paths) (f : Field) → list_any (begins f.0) paths ≡ false → left true (behind f.0 paths) f.1 ≡ None
-not-shown paths f h = chosen true (behind f.0 paths) f.1 (left_inside true (behind f.0 paths) f.1) ∙ go (behind f.0 paths) (led-are f.0 paths)
-  where
-    go : (ps : Paths) → is_led ps ≡ list_any (begins f.0) paths → (if list_any ends ps then Some f.1 else if is_led ps then left_inside true (behind f.0 paths) f.1 else None) ≡ None
-    go [] is = refl
-    go (p ∷ ps) is = absurd (let same : true ≡ false = is ∙ h in cc)
+use Rattle.dv_row.proofs.ShownFields.{Paths, in_front, left-none, left-cons, not-led}
 
 unled : (n : List ℕ) (paths : Paths) → list_any (begins n) paths ≡ false → (d : Row) → has_name n (row_left true paths d) ≡ false
 unled n paths h [] = ap (has_name n) (left-none true paths)
@@ -31,7 +24,7 @@ unled n paths h (f ∷ d) = ap (has_name n) (left-cons true paths f d) ∙ go (b
     among (Some v) e rest = ap (λ b. b || has_name n (row_left true paths d)) e ∙ rest
 
     go : (b : Bool) → bytes_eq n f.0 ≡ b → has_name n (row_left true paths d) ≡ false → has_name n (in_front f.0 (left true (behind f.0 paths) f.1) (row_left true paths d)) ≡ false
-    go true e rest = ap (λ c. has_name n (in_front f.0 c (row_left true paths d))) (not-shown paths f (ap (λ m. list_any (begins m) paths) (sym ((bytes_eq-Decides n f.0).0 e)) ∙ h)) ∙ rest
+    go true e rest = ap (λ c. has_name n (in_front f.0 c (row_left true paths d))) (not-led true paths f (ap (λ m. list_any (begins m) paths) (sym ((bytes_eq-Decides n f.0).0 e)) ∙ h)) ∙ rest
     go false e rest = among (left true (behind f.0 paths) f.1) e rest
 
 abbrev Asks : Type 0

@@ -24,7 +24,7 @@ module _ (keeps : Bool) (paths : List (List (List ℕ))) where
   row-left_first name None d = refl
   row-left_first name (Some v) d = refl
 
-  row-left_append : (d e : List Field) → row_left keeps paths (d ++ e) ≡ row_left keeps paths d ++ row_left keeps paths e
+  pub row-left_append : (d e : List Field) → row_left keeps paths (d ++ e) ≡ row_left keeps paths d ++ row_left keeps paths e
   unfolding fields_left
   row-left_append [] e = refl
   row-left_append (f ∷ d) e =

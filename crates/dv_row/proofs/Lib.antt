@@ -3,8 +3,10 @@ pub mod ComputedFields
 pub mod Conflicting
 pub mod Dollars
 pub mod ElementRows
+pub mod Ids
 pub mod Items
 pub mod Left
+pub mod Levels
 pub mod Members
 pub mod Ordered
 pub mod Same

@@ -51,11 +51,19 @@ pub chosen : (keeps : Bool) (ps : Paths) (v : Tree) (inside : Candidate) → lef
 chosen keeps [] v inside = refl
 chosen keeps (path ∷ paths) v inside = refl
 
-left-of : (keeps : Bool) (paths : Paths) (f : Field) → left keeps (behind f.0 paths) f.1 ≡ (if is_named paths f then if_it keeps f.1 else if is_met paths f then left_inside keeps (behind f.0 paths) f.1 else if_it (not keeps) f.1)
+pub left-of : (keeps : Bool) (paths : Paths) (f : Field) → left keeps (behind f.0 paths) f.1 ≡ (if is_named paths f then if_it keeps f.1 else if is_met paths f then left_inside keeps (behind f.0 paths) f.1 else if_it (not keeps) f.1)
 left-of keeps paths f =
     chosen keeps (behind f.0 paths) f.1 (left_inside keeps (behind f.0 paths) f.1)
     ∙ ap (λ b. if b then if_it keeps f.1 else if is_led (behind f.0 paths) then left_inside keeps (behind f.0 paths) f.1 else if_it (not keeps) f.1) (ends-are f.0 paths)
     ∙ ap (λ b. if is_named paths f then if_it keeps f.1 else if b then left_inside keeps (behind f.0 paths) f.1 else if_it (not keeps) f.1) (led-are f.0 paths)
+
+-- one that no path begins with
+pub not-led : (keeps : Bool) (paths : Paths) (f : Field) → is_met paths f ≡ false → left keeps (behind f.0 paths) f.1 ≡ if_it (not keeps) f.1
+not-led keeps paths f h = chosen keeps (behind f.0 paths) f.1 (left_inside keeps (behind f.0 paths) f.1) ∙ go (behind f.0 paths) (led-are f.0 paths)
+  where
+    go : (ps : Paths) → is_led ps ≡ is_met paths f → (if list_any ends ps then if_it keeps f.1 else if is_led ps then left_inside keeps (behind f.0 paths) f.1 else if_it (not keeps) f.1) ≡ if_it (not keeps) f.1
+    go [] is = refl
+    go (p ∷ ps) is = absurd (let same : true ≡ false = is ∙ h in cc)
 
 inside-stays : (keeps : Bool) (ps : Paths) (v : Tree) → is_some (left_inside keeps ps v) ≡ (not keeps || has_parts v)
 unfolding left_inside
@@ -85,7 +93,7 @@ abbrev Same : (Field → Bool) → Bool → Paths → Type 0
 Same picked keeps paths = (d : Row) → filter picked (row_left keeps paths d) ≡ filter picked d
 
 -- where a test asks for a name alone, and those that pass stay as they are
-same-fields : (test : List ℕ → Bool) (keeps : Bool) (paths : Paths) → ((f : Field) → test f.0 ≡ true → left keeps (behind f.0 paths) f.1 ≡ Some f.1) → Same (λ f. test f.0) keeps paths
+pub same-fields : (test : List ℕ → Bool) (keeps : Bool) (paths : Paths) → ((f : Field) → test f.0 ≡ true → left keeps (behind f.0 paths) f.1 ≡ Some f.1) → Same (λ f. test f.0) keeps paths
 same-fields test keeps paths stays [] = ap (filter (λ f. test f.0)) (left-none keeps paths)
 same-fields test keeps paths stays (f ∷ d) = ap (filter (λ f. test f.0)) (left-cons keeps paths f d) ∙ go (test f.0) refl (same-fields test keeps paths stays d)
   where
@@ -127,9 +135,12 @@ module _ (paths : Paths) where
   unfolding projected with_computed
   included_names row = left-names (λ f. is_named paths f || is_met paths f && has_parts f.1) true paths included-stays row
 
+  pub named-stays : (f : Field) → is_named paths f ≡ true → left true (behind f.0 paths) f.1 ≡ Some f.1
+  named-stays f named = left-of true paths f ∙ ap (λ b. if b then Some f.1 else if is_met paths f then left_inside true (behind f.0 paths) f.1 else None) named
+
   pub included_kept : (row : Row) → filter (is_named paths) (projected (Include paths nothing) row) ≡ filter (is_named paths) row
   unfolding projected with_computed
-  included_kept row = same-fields (λ name. list_any (is_alone name) paths) true paths (λ f named. left-of true paths f ∙ ap (λ b. if b then Some f.1 else if is_met paths f then left_inside true (behind f.0 paths) f.1 else None) named) row
+  included_kept row = same-fields (λ name. list_any (is_alone name) paths) true paths named-stays row
 
   -- ---- paths that are left out
 
@@ -145,12 +156,12 @@ module _ (paths : Paths) where
   unfolding projected
   excluded_names row = left-names (λ f. not (is_named paths f)) false paths excluded-stays row
 
-  unmet : (f : Field) → not (list_any (begins f.0) paths) ≡ true → left false (behind f.0 paths) f.1 ≡ Some f.1
-  unmet f h = chosen false (behind f.0 paths) f.1 (left_inside false (behind f.0 paths) f.1) ∙ go (behind f.0 paths) (led-are f.0 paths)
+  unmet : (f : Field) → not (is_met paths f) ≡ true → left false (behind f.0 paths) f.1 ≡ Some f.1
+  unmet f h = not-led false paths f (turned (is_met paths f) h)
     where
-      go : (ps : Paths) → is_led ps ≡ list_any (begins f.0) paths → (if list_any ends ps then None else if is_led ps then left_inside false (behind f.0 paths) f.1 else Some f.1) ≡ Some f.1
-      go [] is = refl
-      go (p ∷ ps) is = absurd (let same : not true ≡ true = ap not is ∙ h in cc)
+      turned : (b : Bool) → not b ≡ true → b ≡ false
+      turned true h = absurd cc
+      turned false h = refl
 
   pub excluded_kept : (row : Row) → filter (λ f. not (is_met paths f)) (projected (Exclude paths) row) ≡ filter (λ f. not (is_met paths f)) row
   unfolding projected

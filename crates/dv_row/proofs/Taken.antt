@@ -65,13 +65,17 @@ whole (b ∷ bs) h = go (b == 46) h (whole bs)
     go true h rest = absurd cc
     go false h rest = ap (onto_first b) (rest h)
 
-undotted : (name : List ℕ) (p : Way) → has_dot name ≡ false → path_of name ≡ Some p → p ≡ name ∷ []
+-- the components of a path are the parts of its text
+pub parts-of : (name : List ℕ) (p : Way) → path_of name ≡ Some p → slice_split (λ b. b == 46) name ≡ p
 unfolding path_of
-undotted name p h e = sym (split (list_all is_component (slice_split (λ b. b == 46) name)) e) ∙ whole name h
+parts-of name p e = split (list_all is_component (slice_split (λ b. b == 46) name)) e
   where
     split : (b : Bool) → (if b then Some (slice_split (λ b. b == 46) name) else None) ≡ Some p → slice_split (λ b. b == 46) name ≡ p
     split true e = cc
     split false e = absurd cc
+
+pub undotted : (name : List ℕ) (p : Way) → has_dot name ≡ false → path_of name ≡ Some p → p ≡ name ∷ []
+undotted name p h e = sym (parts-of name p e) ∙ whole name h
 
 pub computed-taken : (name : List ℕ) (p : Way) (v : Tree) (asked : Asked) (e : Expression) → path_of name ≡ Some p → has_dot name ≡ false → expression_in false v ≡ Ok e → excludes asked ≡ false → (after : Asked) → after ≡ with_computation name e asked → IsTaken (with_switch None name p v asked) asked p after
 computed-taken name p v asked e leads plain parsed h after is = rw is (record {

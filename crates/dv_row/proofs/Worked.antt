@@ -1,6 +1,6 @@
 -- Worked examples, computed from the definitions alone.
 use Rattle.std.proofs.Common.{◌≡◌, refl, [], ◌∷◌, Ok, Err, codes}
-use Rattle.dv_bson.specs.Tree.{null}
+use Rattle.dv_bson.specs.Tree.{Tree, null}
 use Rattle.dv_path.specs.Expression.{expr}
 use Rattle.dv_path.specs.Path.{path_of}
 use Rattle.dv_row.specs.declared.fault.PipelineFault.TheVariants.{BadSpec}
@@ -27,6 +27,26 @@ a_long_off = refl
 pub computed_behind : shown ((codes "x", text (codes "$b")) ∷ (codes "y", text (codes "$c")) ∷ (codes "a", int 1) ∷ []) ((codes "_id", int 1) ∷ (codes "a", int 5) ∷ (codes "b", int 6) ∷ []) ≡ Ok ((codes "_id", int 1) ∷ (codes "a", int 5) ∷ (codes "x", int 6) ∷ [])
 unfolding project_in projected left_inside fields_left elements_left with_computed value_of expr path_of expression_in
 computed_behind = refl
+
+pub id_stays_included : (id a b : Tree) → shown ((codes "a", int 1) ∷ []) ((codes "_id", id) ∷ (codes "a", a) ∷ (codes "b", b) ∷ []) ≡ Ok ((codes "_id", id) ∷ (codes "a", a) ∷ [])
+unfolding project_in projected left_inside fields_left elements_left with_computed path_of expression_in
+id_stays_included id a b = refl
+
+pub id_stays_excluded : (id a b : Tree) → shown ((codes "a", int 0) ∷ []) ((codes "_id", id) ∷ (codes "a", a) ∷ (codes "b", b) ∷ []) ≡ Ok ((codes "_id", id) ∷ (codes "b", b) ∷ [])
+unfolding project_in projected left_inside fields_left elements_left with_computed path_of expression_in
+id_stays_excluded id a b = refl
+
+pub id_goes_alone : (id a b : Tree) → shown ((codes "_id", int 0) ∷ []) ((codes "_id", id) ∷ (codes "a", a) ∷ (codes "b", b) ∷ []) ≡ Ok ((codes "a", a) ∷ (codes "b", b) ∷ [])
+unfolding project_in projected left_inside fields_left elements_left with_computed path_of expression_in
+id_goes_alone id a b = refl
+
+pub id_goes_included : (id a b : Tree) → shown ((codes "a", int 1) ∷ (codes "_id", int 0) ∷ []) ((codes "_id", id) ∷ (codes "a", a) ∷ (codes "b", b) ∷ []) ≡ Ok ((codes "a", a) ∷ [])
+unfolding project_in projected left_inside fields_left elements_left with_computed path_of expression_in
+id_goes_included id a b = refl
+
+pub id_goes_excluded : (id a b : Tree) → shown ((codes "a", int 0) ∷ (codes "_id", int 0) ∷ []) ((codes "_id", id) ∷ (codes "a", a) ∷ (codes "b", b) ∷ []) ≡ Ok ((codes "b", b) ∷ [])
+unfolding project_in projected left_inside fields_left elements_left with_computed path_of expression_in
+id_goes_excluded id a b = refl
 
 pub a_dollar_alone : project_in (doc ((codes "x", text (codes "$")) ∷ [])) ≡ Err BadSpec
 unfolding project_in expression_in path_of

@@ -1,9 +1,10 @@
--- What a $project shows of a row, field by field at the top level.
-use Rattle.std.specs.Prelude.{ℕ, Bool, true, false, List, [], ◌∷◌, map}
-use Rattle.std.specs.List.{list_any, filter_map}
+-- What a $project shows of a row, field by field at the top level, and level by level.
+use Rattle.std.specs.Prelude.{◌≡◌, ℕ, Bool, true, false, List, [], ◌∷◌, ◌++◌, map}
+use Rattle.std.specs.List.{AllByRecursion, list_any, filter_map}
 use Rattle.std.specs.Option.{option_map}
 use Rattle.std.specs.Str.{bytes_eq}
-use Rattle.dv_bson.specs.Tree.{Tree, document, array, Field}
+use Rattle.dv_bson.specs.Names.{has_name}
+use Rattle.dv_bson.specs.Tree.{Tree, document, array, Field, fields_of}
 use Rattle.dv_row.specs.Expressions.{Expression, value_of}
 use Rattle.dv_row.specs.Row.{Row}
 
@@ -38,3 +39,28 @@ names fs = map (λ f. f.0) fs
 -- a field for each expression that has a value
 abbrev pub computed_fields : List (List ℕ × Expression) → Row → List Field
 computed_fields es d = filter_map (λ e. option_map (λ v. (e.0, v)) (value_of e.1 d)) es
+
+-- ---- documents inside others
+
+-- what stands around a document inside another one: its name, and the fields in front of it and behind it
+pub record Level : Type 0 where
+  pub front : Row
+  pub name : List ℕ
+  pub back : Row
+
+-- a document at such levels, the outermost first
+abbrev pub within : List Level → Row → Row
+within [] d = d
+within (l ∷ ls) d = l.front ++ (l.name, document (fields_of (within ls d))) ∷ l.back
+
+-- the names that lead to it
+abbrev pub way_through : List Level → List (List ℕ)
+way_through ls = map (λ l. l.name) ls
+
+-- a level without its other fields
+abbrev pub bare_level : Level → Level
+bare_level l = record { front = []; name = l.name; back = [] }
+
+-- at each level no other field has the document's name
+abbrev pub AreApart : List Level → Type 0
+AreApart ls = AllByRecursion (λ l. (has_name l.name l.front ≡ false) × (has_name l.name l.back ≡ false)) ls

@@ -3,9 +3,10 @@
 ghost use Rattle.std.specs.Prelude.{◌≡◌, ◌≢◌, ◌⊎◌, ℕ, Bool, true, false, List, [], ◌∷◌, ◌++◌, ◌||◌, ◌&&◌, not, filter, map, Some, None, Ok, Err, codes};
 ghost use Rattle.std.specs.List.{AllByRecursion, list_any};
 ghost use Rattle.std.specs.Option.{IfSome};
-ghost use Rattle.dv_bson.specs.Names.{AreNamed, bare};
+ghost use Rattle.std.specs.Str.{bytes_eq};
+ghost use Rattle.dv_bson.specs.Names.{AreNamed, bare, has_name};
 ghost use Rattle.dv_bson.specs.Spelling.{IsValue};
-ghost use Rattle.dv_bson.specs.Tree.{Tree, array, null, Elements, no_elements, element, list_of_elements};
+ghost use Rattle.dv_bson.specs.Tree.{Tree, array, document, null, Elements, no_elements, element, list_of_elements, Field, fields_of};
 ghost use Rattle.dv_path.specs.Placing.{put};
 ghost use Rattle.dv_path.specs.Removing.{remove};
 ghost use Rattle.dv_row.specs.declared.fault.PipelineFault.TheVariants.{BadSpec};
@@ -16,10 +17,10 @@ ghost use Rattle.dv_row.specs.declared.unwind.Unwind as unwinds;
 ghost use Rattle.dv_row.specs.ExpressionParsing.{expression_in};
 ghost use Rattle.dv_row.specs.Expressions.{Expression, computed_of, nothing, value_of};
 ghost use Rattle.dv_row.specs.Parsing.{unwind_in, unwinding};
-ghost use Rattle.dv_row.specs.Projecting.{projected};
+ghost use Rattle.dv_row.specs.Projecting.{behind, projected};
 ghost use Rattle.dv_row.specs.ProjectParsing.{project_in};
 ghost use Rattle.dv_row.specs.Row.{Row};
-ghost use Rattle.dv_row.specs.Shown.{begins, computed_fields, has_parts, is_met, is_named, names};
+ghost use Rattle.dv_row.specs.Shown.{AreApart, Level, bare_level, begins, computed_fields, has_parts, is_alone, is_met, is_named, names, way_through, within};
 ghost use Rattle.dv_row.specs.Unwinding.{reached, unwound};
 ghost use Rattle.dv_row.specs.Valid.{AreValid, IsValid};
 
@@ -62,6 +63,52 @@ pub fn included_fields_alone_stay()
 pub fn excluded_fields_alone_go()
     ensures names { (paths : List (List (List ℕ))) (row : Row) → names (projected (Exclude paths) row) ≡ names (filter (λ f. not (is_named paths f)) row) }
     ensures kept { (paths : List (List (List ℕ))) (row : Row) → filter (λ f. not (is_met paths f)) (projected (Exclude paths) row) ≡ filter (λ f. not (is_met paths f)) row }
+{}
+
+/// A field that no excluded path begins with stays as it is, where it stands, whatever becomes of the others.
+#[tactic(auto, using(crate::proofs::Levels::excluded_stays))]
+pub fn other_fields_stay_where_they_stand()
+    ensures { (paths : List (List (List ℕ))) (front back : Row) (f : Field) → is_met paths f ≡ false → projected (Exclude paths) (front ++ f ∷ back) ≡ projected (Exclude paths) front ++ f ∷ projected (Exclude paths) back }
+{}
+
+/// Each field is shown by itself. A document that paths lead into, and none of them is, is shown as a row is, by what is left of
+/// these paths; so it is with a document in it, at each level.
+#[tactic(auto, using(crate::proofs::Levels::included_apart, crate::proofs::Levels::excluded_apart, crate::proofs::Levels::included_inside, crate::proofs::Levels::excluded_inside))]
+pub fn documents_are_shown_as_rows()
+    ensures included_apart { (paths : List (List (List ℕ))) (front back : Row) → projected (Include paths nothing) (front ++ back) ≡ projected (Include paths nothing) front ++ projected (Include paths nothing) back }
+    ensures excluded_apart { (paths : List (List (List ℕ))) (front back : Row) → projected (Exclude paths) (front ++ back) ≡ projected (Exclude paths) front ++ projected (Exclude paths) back }
+    ensures included_inside { (paths : List (List (List ℕ))) (name : List ℕ) (d : Row) → list_any (is_alone name) paths ≡ false → list_any (begins name) paths ≡ true
+        → projected (Include paths nothing) ((name, document (fields_of d)) ∷ []) ≡ (name, document (fields_of (projected (Include (behind name paths) nothing) d))) ∷ [] }
+    ensures excluded_inside { (paths : List (List (List ℕ))) (name : List ℕ) (d : Row) → list_any (is_alone name) paths ≡ false → list_any (begins name) paths ≡ true
+        → projected (Exclude paths) ((name, document (fields_of d)) ∷ []) ≡ (name, document (fields_of (projected (Exclude (behind name paths)) d))) ∷ [] }
+{}
+
+/// However deep a document lies, an included path that leads through its levels keeps at each of them that document alone, and in
+/// it what the rest of the path keeps; an excluded one takes out what its rest takes out there, and nothing else at any level. No
+/// other field of a level has the name that the path has there.
+#[tactic(auto, using(crate::proofs::Levels::included_deep, crate::proofs::Levels::excluded_deep))]
+pub fn paths_lead_through_levels()
+    ensures included { (levels : List Level) (name : List ℕ) (rest : List (List ℕ)) (d : Row) → AreApart levels
+        → projected (Include ((way_through levels ++ name ∷ rest) ∷ []) nothing) (within levels d) ≡ within (map bare_level levels) (projected (Include ((name ∷ rest) ∷ []) nothing) d) }
+    ensures excluded { (levels : List Level) (name : List ℕ) (rest : List (List ℕ)) (d : Row) → AreApart levels
+        → projected (Exclude ((way_through levels ++ name ∷ rest) ∷ [])) (within levels d) ≡ within levels (projected (Exclude ((name ∷ rest) ∷ [])) d) }
+{}
+
+/// Where a stage says nothing of `_id`, that stays as it is, beside what is included or computed and beside what is excluded.
+#[tactic(auto, using(crate::proofs::Ids::unasked_id_stays))]
+pub fn an_id_that_is_not_asked_for_stays()
+    ensures { (members row : List Field) (p : projects.Project) → project_in (document (fields_of members)) ≡ Ok p → has_name (codes "_id") members ≡ false
+        → filter (λ f. bytes_eq f.0 (codes "_id")) (projected p row) ≡ filter (λ f. bytes_eq f.0 (codes "_id")) row }
+{}
+
+/// `_id` goes where it is excluded, be it alone, beside what is included, or beside what is excluded, and only there.
+#[tactic(auto, using(crate::proofs::Worked::id_stays_included, crate::proofs::Worked::id_stays_excluded, crate::proofs::Worked::id_goes_alone, crate::proofs::Worked::id_goes_included, crate::proofs::Worked::id_goes_excluded))]
+pub fn examples_of_ids()
+    ensures stays_beside_included { (id a b : Tree) → shown ((codes "a", int 1) ∷ []) ((codes "_id", id) ∷ (codes "a", a) ∷ (codes "b", b) ∷ []) ≡ Ok ((codes "_id", id) ∷ (codes "a", a) ∷ []) }
+    ensures stays_beside_excluded { (id a b : Tree) → shown ((codes "a", int 0) ∷ []) ((codes "_id", id) ∷ (codes "a", a) ∷ (codes "b", b) ∷ []) ≡ Ok ((codes "_id", id) ∷ (codes "b", b) ∷ []) }
+    ensures goes_alone { (id a b : Tree) → shown ((codes "_id", int 0) ∷ []) ((codes "_id", id) ∷ (codes "a", a) ∷ (codes "b", b) ∷ []) ≡ Ok ((codes "a", a) ∷ (codes "b", b) ∷ []) }
+    ensures goes_beside_included { (id a b : Tree) → shown ((codes "a", int 1) ∷ (codes "_id", int 0) ∷ []) ((codes "_id", id) ∷ (codes "a", a) ∷ (codes "b", b) ∷ []) ≡ Ok ((codes "a", a) ∷ []) }
+    ensures goes_beside_excluded { (id a b : Tree) → shown ((codes "a", int 0) ∷ (codes "_id", int 0) ∷ []) ((codes "_id", id) ∷ (codes "a", a) ∷ (codes "b", b) ∷ []) ≡ Ok ((codes "b", b) ∷ []) }
 {}
 
 /// Behind what is included stand the computed fields, in the stage's order, each with the value of its expression over the row;

@@ -1,17 +1,19 @@
 //! Updates from documents.
 
-ghost use Rattle.std.specs.Prelude.{◌≡◌, map};
+ghost use Rattle.std.specs.Prelude.{◌≡◌, Err, true, false, map};
 ghost use Rattle.std.specs.List.{list_any};
 ghost use Rattle.dv_bson.specs.Names.{begins_with_dollar};
 ghost use Rattle.dv_bson.specs.Tree.{fields_of};
 ghost use Rattle.dv_bson.specs.View.{tree};
 ghost use Rattle.dv_match.specs.Parsing as filters;
+ghost use Rattle.dv_path.specs.Names as names;
 ghost use Rattle.dv_path.specs.Path.{path_of};
 ghost use Rattle.dv_update.specs.Collected.{behind};
 ghost use Rattle.dv_update.specs.Parsing as defined;
 ghost use Rattle.dv_update.specs.Parsing.{Gives};
 ghost use Rattle.dv_update.specs.UpdateView.{update};
 ghost use Rattle.dv_update.specs.View.{edit};
+ghost use Rattle.dv_update.specs.declared.fault.UpdateFault.TheVariants.{BadName};
 
 use crate::fault::UpdateFault;
 use crate::form::{Edit, Update};
@@ -31,9 +33,11 @@ impl Update {
     /// (`UnknownOperator`) with an array (`BadOperand`); `$pull` a document that is a condition as in `$elemMatch`
     /// (`BadOperand`), or any other value to be equal to. Of two paths none equals or begins the other (`Conflict`). Any
     /// other document is a replacement: no name begins with `$` at the top level, and none holds a dot at any level
-    /// (`BadName`). Fails with `NoMemory` where memory is wanting. Takes time n log n in the number of paths.
+    /// (`BadName`, whether there is memory or not). Fails with `NoMemory` where memory is wanting. Takes time n log n in the
+    /// number of paths.
     pub fn parse(alloc: Global, document: &Document) -> Result<Update, UpdateFault>
-        ensures { Gives update result (defined.update_of document.now) }
+        ensures update { Gives update result (defined.update_of document.now) }
+        ensures bad_name { filters.lists_operators (fields_of document.now) ≡ false → names.has_bad_name document.now ≡ true → result ≡ Err BadName }
     {
         if lists_operators(document) {
             let edits = edits_in(alloc, document)?;

@@ -21,5 +21,6 @@ mod Worked
 mod Talks
 mod Ran
 mod Written
+mod Plain
 pub mod Plays
 pub mod Orders

@@ -14,7 +14,7 @@ use Rattle.dv_wire.proofs.Replies.{plain_carries}
 
 -- ---- one message after the other
 
-plain_conversation : (session : ℕ) (state : State) (messages : List Message) (conversation : Conversation) → (plain_messages session state messages conversation).conversation ≡ conversation
+pub plain_conversation : (session : ℕ) (state : State) (messages : List Message) (conversation : Conversation) → (plain_messages session state messages conversation).conversation ≡ conversation
 unfolding plain_messages
 plain_conversation session state [] conversation = refl
 plain_conversation session state (message ∷ messages) conversation = plain_conversation session (step state session (command_of message)).state messages conversation

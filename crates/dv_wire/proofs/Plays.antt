@@ -1,5 +1,5 @@
 -- Schedules: one event more, and a piece of a session's bytes as two.
-use Rattle.std.proofs.Common.{◌≡◌, ℕ, zero, suc, ◌+◌, ◌<◌, Some, Ok, List, [], ◌∷◌, ◌++◌, length, get_or, take, refl, sym, ap, subst, arith}
+use Rattle.std.proofs.Common.{◌≡◌, ℕ, zero, suc, ◌+◌, ◌<◌, Some, Ok, List, [], ◌∷◌, ◌++◌, length, get_or, take, refl, sym, ap, subst, ◌∙◌, arith}
 use Rattle.dv_wire.specs.declared.events.Event.{Event}
 use Rattle.dv_wire.specs.declared.events.Event.TheVariants as events
 use Rattle.dv_wire.specs.declared.events.Said.{Said}
@@ -21,12 +21,23 @@ taken (event ∷ events) (suc i) item lt is =
     let one : suc i + 1 ≡ suc (i + 1) = omega arith in
     rw one (ap (λ (es : List Event). event ∷ es) (taken events i item (omega arith) is))
 
+-- ---- one schedule, and then another
+
+pub plays_joined : (old mid new : World) (first second : List Event) (one two : List Said) → Plays old first one mid → Plays mid second two new → Plays old (first ++ second) (one ++ two) new
+plays_joined old mid new [] second one two (nothing, same) behind = rw nothing (subst (λ (w : World). Plays w second two new) same behind)
+plays_joined old mid new (event ∷ first) second one two (said_first, others, between, is, here, rest) behind =
+    rw is (said_first, others ++ two, between, refl, here, plays_joined between mid new first second others two rest behind)
+
+pub plays_parted : (old new : World) (first second : List Event) (all : List Said) → Plays old (first ++ second) all new
+    → (one : List Said) × (two : List Said) × (mid : World) × (all ≡ one ++ two) × Plays old first one mid × Plays mid second two new
+plays_parted old new [] second all plays = ([], all, old, refl, (refl, refl), plays)
+plays_parted old new (event ∷ first) second all (said_first, others, between, is, here, rest) =
+    let (one, two, mid, both, before, behind) = plays_parted between new first second others rest in
+    (said_first ∷ one, two, mid, is ∙ ap (λ (ss : List Said). said_first ∷ ss) both, (said_first, one, between, refl, here, before), behind)
+
 pub plays_more : (old mid new : World) (events : List Event) (all : List Said) (event : Event) (last : Said) → Plays old events all mid → Happens mid event last new
     → Plays old (events ++ event ∷ []) (all ++ last ∷ []) new
-plays_more old mid new [] all event last (nothing, same) happens =
-    rw nothing (last, [], new, refl, subst (λ (w : World). Happens w event last new) same happens, (refl, refl))
-plays_more old mid new (next ∷ events) all event last (first, others, between, is, here, behind) happens =
-    rw is (first, others ++ last ∷ [], between, refl, here, plays_more between mid new events others event last behind happens)
+plays_more old mid new events all event last plays happens = plays_joined old mid new events (event ∷ []) all (last ∷ []) plays (last, [], new, refl, happens, (refl, refl))
 
 -- ---- a piece as two
 

@@ -5,6 +5,7 @@ pub mod Commands
 pub mod Schedule
 pub mod Playing
 pub mod Order
+pub mod Wants
 pub mod Stream
 pub mod Service
 pub mod Sound

@@ -1,6 +1,7 @@
 //! What holds of streams and of sessions, however their bytes come.
 
 ghost use Rattle.std.specs.Prelude.{◌≡◌, ◌≢◌, ◌↔◌, ℕ, suc, true, List, [], ◌∷◌, ◌++◌, Some, None, Result, Ok, Err, length};
+ghost use Rattle.std.specs.List.{AllByRecursion};
 ghost use Rattle.dv_bson.specs.Spelling.{IsBytes};
 ghost use Rattle.dv_core.specs.Sound.{IsSound};
 ghost use Rattle.dv_core.specs.State.{State};
@@ -22,6 +23,7 @@ ghost use Rattle.dv_wire.specs.Playing.{ComesInTwo, Plays};
 ghost use Rattle.dv_wire.specs.Commands.{command_of};
 ghost use Rattle.dv_wire.specs.Schedule.{Run, CarriesOut, bytes_of, unanswered, World, world_of, conversation_of, Opens, Feeds, FeedsAll, end, fed_of, plain_run, stream_of, unfinished_in, world_behind};
 ghost use Rattle.dv_wire.specs.Service.{IsSession};
+ghost use Rattle.dv_wire.specs.Wants.{SaysWant};
 
 /// A stream of which more comes splits as before, and then as its rest with what comes; behind a fault nothing does.
 pub fn splitting_goes_on()
@@ -50,6 +52,14 @@ pub fn a_piece_may_come_in_two()
         ↔ ComesInTwo old before session piece more after answers told bytes behind new }
 {}
 
+/// A schedule in two parts is a schedule: what may be said of the first, and behind it of the second, is what may be said of
+/// both as one, and nothing else. So the calls that a program makes one after the other are one play of all their events.
+pub fn schedules_may_be_joined()
+    ensures { (old new : World) (first second : List Event) (all : List Said)
+        → Plays old (first ++ second) all new
+        ↔ ((one : List Said) × (two : List Said) × (mid : World) × (all ≡ one ++ two) × Plays old first one mid × Plays mid second two new) }
+{}
+
 /// A whole session is a schedule: it is opened, its bytes come, and it ends. What is said of its bytes and of its end is
 /// what its messages come to.
 pub fn a_whole_session_is_a_schedule()
@@ -70,6 +80,17 @@ pub fn only_the_order_counts()
         → ((plain_play world one).world.state ≡ (plain_play world two).world.state)
         × ((session : ℕ) → answers session one (plain_play world one).said ≡ answers session two (plain_play world two).said) }
     ensures allowed { (world : World) (all : List Event) → Plays world all (plain_play world all).said (plain_play world all).world }
+{}
+
+/// A play without want of memory is the plain one: where nothing that is said tells of it, as no session is refused or closed for
+/// it and no reply tells of it, all is said that the plain run says, and nothing else, and the world that is left is the plain
+/// run's. So the state, and what is answered to each session, are those of the machine that takes one message after the other.
+pub fn a_play_without_want_of_memory_is_the_plain_one()
+    ensures plain { (old new : World) (all : List Event) (told : List Said) → Plays old all told new → AllByRecursion (λ s. SaysWant s → ⊥) told
+        → (told ≡ (plain_play old all).said) × (new ≡ (plain_play old all).world) }
+    ensures order { (old new : World) (all : List Event) (told : List Said) → Plays old all told new → AllByRecursion (λ s. SaysWant s → ⊥) told
+        → (new.state ≡ state_behind old.state (order old.next old.sessions all))
+        × ((session : ℕ) → answers session all told ≡ replies_behind session old.state (order old.next old.sessions all)) }
 {}
 
 /// The plain run is allowed: whatever the pieces are, a session that is open may answer what the steps of its messages

@@ -1,16 +1,17 @@
-use Rattle.dv_bson.specs.Tree.{null}
-use Rattle.dv_bson.specs.View.{tree}
+use Rattle.dv_path.specs.Candidates.{or_null}
 use Rattle.dv_path.specs.View.{seen}
-use Rattle.dv_gather.proofs.Gathered.{key-alone, value-found, value-missing}
+use Rattle.dv_gather.specs.Joining.{joined_by}
+use Rattle.dv_path.specs.LeafKeys.{leaf_values}
+use Rattle.dv_gather.proofs.Gathered.{joined-alone, found-alone, key-alone}
 use Rattle.dv_gather.proofs.keys.sole_key.Goals as goal
 
-pub returns-in_default-candidate : goal.returns-in_default-candidate
-returns-in_default-candidate c =
-    let found = c.in-Some.candidate in
-    key-alone c.in_ok-key_of.field-0 c.args.path.now c.args.document.now (seen found) null c.in-Some.ensures.sole (value-missing found c.in_default-candidate.not-Found) c.in_ok-key_of.ensures
-
-pub returns-in_ok-key_of-in_default-value : goal.returns-in_ok-key_of-in_default-value
-returns-in_ok-key_of-in_default-value c =
-    let found = c.in-Some.candidate in
-    let v = c.in-Found.value in
-    key-alone c.in_ok-key_of-in_default-value.field-0 c.args.path.now c.args.document.now (seen found) (tree v.now) c.in-Some.ensures.sole (value-found found v c.in-Found.is c.in_default-value.not-Array) c.in_ok-key_of-in_default-value.ensures
+pub returns-in_ok-candidate_key-in-None : goal.returns-in_ok-candidate_key-in-None
+returns-in_ok-candidate_key-in-None c =
+    let path = c.args.path.now in
+    let d = c.args.document.now in
+    let one = seen c.in-Some.candidate in
+    let key = c.in_ok-candidate_key-in-None.field-0 in
+    record {
+      local = key-alone key (or_null one) (joined_by path d) (joined-alone path d one c.in-Some.ensures.sole c.in-None.ensures) c.in_ok-candidate_key-in-None.ensures;
+      foreign = key-alone key (or_null one) (leaf_values path d) (found-alone path d one c.in-Some.ensures.sole c.in-None.ensures) c.in_ok-candidate_key-in-None.ensures;
+    }

@@ -3,7 +3,8 @@ use Rattle.std.proofs.lemmas.Result.{on_ok_weaker}
 use Rattle.std.specs.Ordering.{is_eq}
 use Rattle.dv_coll.specs.Collection.{id_key}
 use Rattle.dv_order.specs.Key.{key_order}
-use Rattle.dv_index.specs.Keys.{has_key, is_leaf_key}
+use Rattle.dv_path.specs.LeafKeys.{is_leaf_key}
+use Rattle.dv_index.specs.Keys.{has_key}
 use Rattle.dv_index.specs.Pairs.{has_pair}
 use Rattle.dv_index.proofs.indexed.add_keys.Goals as goal
 

@@ -3,7 +3,7 @@ use Rattle.std.specs.List.{AllByRecursion}
 use Rattle.std.specs.Ordering.{is_eq}
 use Rattle.dv_coll.specs.Collection.{HasId, id_key}
 use Rattle.dv_order.specs.Key.{key_order}
-use Rattle.dv_index.specs.Keys.{is_leaf_key}
+use Rattle.dv_path.specs.LeafKeys.{is_leaf_key}
 use Rattle.dv_index.specs.Pairs.{has_pair}
 use Rattle.dv_index.proofs.Built.{some-has, some-has-found}
 use Rattle.dv_index.proofs.Lists.{or-assoc, or-false}

@@ -1,7 +1,7 @@
 use Rattle.std.proofs.Common.{◌∙◌, sym, rules}
 use Rattle.std.specs.List.{list_any}
 use Rattle.dv_path.specs.Candidates.{whole, leaves, with_elements}
-use Rattle.dv_path.proofs.Asked.{any-flat_map}
+use Rattle.dv_path.specs.GatheredKeys.{any-flat_map}
 use Rattle.dv_path.proofs.any.any_leaf.Goals as goal
 
 pub returns : goal.returns

@@ -1,35 +1,22 @@
 use Rattle.std.proofs.Common.{[], Ok, refl}
 use Rattle.dv_catalog.specs.Views.{created, dropped}
-use Rattle.dv_command.specs.Asked.{insert, update, delete, find, aggregate, get_more, kill_cursors, create, drop, create_indexes, drop_indexes, explain}
+use Rattle.dv_command.specs.Asked.{find, aggregate, get_more, kill_cursors, create, drop, create_indexes, drop_indexes, explain}
+use Rattle.dv_command.specs.Asked as asking
 use Rattle.dv_command.specs.Replies.{reply_of, drop_reply}
-use Rattle.dv_command.specs.View.{aggregate_seen, create_indexes_seen, create_seen, delete_seen, drop_indexes_seen, drop_seen, explain_seen, find_seen, get_more_seen, insert_seen, kill_cursors_seen, update_seen}
-use Rattle.dv_core.specs.Delete.{delete_write}
+use Rattle.dv_command.specs.View.{aggregate_seen, create_indexes_seen, create_seen, drop_indexes_seen, drop_seen, explain_seen, find_seen, get_more_seen, kill_cursors_seen, write_seen}
 use Rattle.dv_core.specs.Find.{found, gathered}
 use Rattle.dv_core.specs.Indexes.{find_explained, indexed, unindexed}
-use Rattle.dv_core.specs.Insert.{insert_write}
 use Rattle.dv_core.specs.More.{killed, next_batch}
 use Rattle.dv_core.specs.Step.{replying}
-use Rattle.dv_core.specs.Update.{update_write}
+use Rattle.dv_core.specs.Writes.{write_by}
 use Rattle.dv_core.proofs.Steps.{write_steps, read_steps, catalog_steps, cursor_steps, gives_ends, refusal_steps}
 use Rattle.dv_core.proofs.store.Store.execute.Goals as goal
 
-pub returns-in-Ok-Insert-clause-step : goal.returns-in-Ok-Insert-clause-step
-returns-in-Ok-Insert-clause-step c =
-    let asks = rw c.in-Ok-Insert.field-0-is at c.in-Ok-Insert.ensures in
-    let i = insert_seen c.in-Ok-Insert.insert in
-    write_steps c.args.self.now c.args.session c.args.command.now (insert i) asks c.insert.new.self (insert_write i) c.insert.result refl refl c.insert.ensures
-
-pub returns-in-Ok-Update-clause-step : goal.returns-in-Ok-Update-clause-step
-returns-in-Ok-Update-clause-step c =
-    let asks = rw c.in-Ok-Update.field-0-is at c.in-Ok-Update.ensures in
-    let u = update_seen c.in-Ok-Update.update in
-    write_steps c.args.self.now c.args.session c.args.command.now (update u) asks c.update.new.self (update_write u) c.update.result refl refl c.update.ensures
-
-pub returns-in-Ok-Delete-clause-step : goal.returns-in-Ok-Delete-clause-step
-returns-in-Ok-Delete-clause-step c =
-    let asks = rw c.in-Ok-Delete.field-0-is at c.in-Ok-Delete.ensures in
-    let d = delete_seen c.in-Ok-Delete.delete in
-    write_steps c.args.self.now c.args.session c.args.command.now (delete d) asks c.delete.new.self (delete_write d) c.delete.result refl refl c.delete.ensures
+pub returns-in-Ok-Write-clause-step : goal.returns-in-Ok-Write-clause-step
+returns-in-Ok-Write-clause-step c =
+    let asks = rw c.in-Ok-Write.field-0-is at c.in-Ok-Write.ensures in
+    let w = write_seen c.in-Ok-Write.write in
+    write_steps c.args.self.now c.args.session c.args.command.now (asking.write w) asks c.write.new.self (write_by w) c.write.result refl refl c.write.ensures
 
 pub returns-in-Err-clause-step : goal.returns-in-Err-clause-step
 returns-in-Err-clause-step c = refusal_steps c.args.self.now c.args.session c.args.command.now c.in-Err.refusal c.refuse.result c.in-Err.ensures c.refuse.ensures

@@ -2,14 +2,27 @@ use Rattle.std.proofs.Common.{◌∙◌, ap, map, rules}
 use Rattle.dv_order.specs.Order.{canon}
 use Rattle.dv_order.specs.Key.{value}
 use Rattle.dv_row.specs.RowValueView.{row_value}
+use Rattle.dv_gather.specs.Bounds.{most}
 use Rattle.dv_gather.specs.GroupView.{accumulation}
+use Rattle.dv_gather.proofs.Bounded.{found-within, put-within}
 use Rattle.dv_gather.proofs.Totalled.{tally-put, on-ok}
 use Rattle.dv_gather.proofs.group.Group.put.Goals as goal
 
-pub returns : goal.returns
-returns c =
+pub add-requires : goal.add-requires
+add-requires c =
+    found-within most c.args.tallies.now.entries c.in_ok-place.place c.new.result c.or_insert-tally.result.now _ c.new.ensures c.or_insert-tally.ensures.value c.in_ok-tallies.ensures.value c.requires
+
+pub returns-clause-put : goal.returns-clause-put
+returns-clause-put c =
     let written = c.in_ok-tallies.ensures.update.1 c.add.new.self in
     let is = c.in_ok-place.ensures ∙ ap (λ v. value (canon v)) (c.get.ensures ∙ c.in_ok-key.ensures) in
     on-ok (λ added. tally-put c.args.self.now c.args.row.now c.in_ok-place.place c.args.tallies.now.entries _ c.new.result c.or_insert-tally.result.now c.add.new.self (map accumulation c.fields.result.now) (row_value c.in_ok-key.key) _ added c.fields.ensures c.in_ok-key.ensures is c.new.ensures
     c.or_insert-tally.ensures.value c.in_ok-tallies.ensures.value (search (rules, written)))
-    c.add.result c.add.ensures
+    c.add.result c.add.ensures.tally
+
+pub returns-clause-within : goal.returns-clause-within
+returns-clause-within c =
+    let written = c.in_ok-tallies.ensures.update.1 c.add.new.self in
+    on-ok (λ added count h. put-within count c.args.tallies.now.entries _ c.in_ok-place.place c.add.new.self (search (rules, written)) h
+    (added count (found-within count c.args.tallies.now.entries c.in_ok-place.place c.new.result c.or_insert-tally.result.now _ c.new.ensures c.or_insert-tally.ensures.value c.in_ok-tallies.ensures.value h)))
+    c.add.result c.add.ensures.within

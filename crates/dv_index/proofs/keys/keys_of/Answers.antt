@@ -1,8 +1,0 @@
-use Rattle.std.proofs.Common.{rules}
-use Rattle.dv_path.specs.View.{seen}
-use Rattle.dv_index.proofs.Leaves.{folded-keys}
-use Rattle.dv_index.proofs.keys.keys_of.Goals as goal
-
-pub returns : goal.returns
-returns c = λ k.
-    folded-keys seen _ (λ t x u h. search (rules, h.1, h)) c.args.path.now c.args.document.now c.new.result c.in_ok-keys.keys c.new.ensures.empty c.in_ok-keys.ensures.outcome k

@@ -1,0 +1,8 @@
+use Rattle.dv_wire.proofs.Plain.{plays_ordered, plays_plain}
+use Rattle.dv_wire.proofs.laws.a_play_without_want_of_memory_is_the_plain_one.Goals as goal
+
+pub returns-clause-plain : goal.returns-clause-plain
+returns-clause-plain c = plays_plain
+
+pub returns-clause-order : goal.returns-clause-order
+returns-clause-order c = plays_ordered
