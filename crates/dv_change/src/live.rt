@@ -34,6 +34,7 @@ impl<T: Turn + Drop> Live<T> {
         requires { AllByRecursion (λ t. T.sound t × (T.left t ≡ [])) turns.items }
         ensures turns { result.chain ≡ turns.items }
         ensures taken { HasTaken T.left T.others T.makes T.sound result.chain result.rows.entries [] }
+        ensures linked { IsLinked T.left T.others T.makes T.sound result.chain (first_left T.left T.others T.makes T.sound result.chain) }
         ensures ticks { result.ticks ≡ 0 }
     {
         Live {
@@ -49,6 +50,7 @@ impl<T: Turn + Drop> Live<T> {
         requires linked { IsLinked T.left T.others T.makes T.sound self.chain (first_left T.left T.others T.makes T.sound self.chain) }
         requires input { HasAny input (forms_of T.left T.others T.makes T.sound self.chain) }
         ensures forms { IfOk result (λ live. forms_of T.left T.others T.makes T.sound live.chain ≡ forms_after input change (forms_of T.left T.others T.makes T.sound self.chain)) }
+        ensures linked { IfOk result (λ live. IsLinked T.left T.others T.makes T.sound live.chain (first_left T.left T.others T.makes T.sound live.chain)) }
         ensures taken { IfOk result (λ live. (rows : Positioned) → HasTaken T.left T.others T.makes T.sound self.chain self.rows.entries rows → HasTaken T.left T.others T.makes T.sound live.chain live.rows.entries (left_after input change rows)) }
         ensures ticks { IfOk result (λ live. (rows : Positioned) → HasTaken T.left T.others T.makes T.sound self.chain self.rows.entries rows → live.ticks ≡ raised self.ticks (work_in input change (forms_of T.left T.others T.makes T.sound self.chain) rows)) }
     {

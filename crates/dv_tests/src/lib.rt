@@ -19,3 +19,5 @@ mod program;
 mod sizes;
 #[cfg(test)]
 mod spelled;
+#[cfg(test)]
+mod turns;

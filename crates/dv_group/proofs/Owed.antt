@@ -1,0 +1,283 @@
+-- What is owed for a change of a row: what changes of the rows of its two groups.
+use Rattle.std.specs.Prelude.{◌≡◌, ◌||◌, Bool, true, false, cond, [], ◌∷◌, Option, None, Some, Result, Ok, Err, OnOk, refl}
+use Rattle.std.proofs.Common.{ap, sym, ◌∙◌, inl, inr}
+use Rattle.std.specs.declared.cmp.Ordering.{Ordering}
+use Rattle.std.specs.declared.cmp.Ordering.TheVariants.{Less, Equal, Greater}
+use Rattle.std.specs.Cmp.{Equal-is}
+use Rattle.std.specs.List.{AllByRecursion}
+use Rattle.std.specs.Map.{keys_of}
+use Rattle.std.specs.Option.{option_map}
+use Rattle.std.specs.Ordering.{is_eq, ordering_then}
+use Rattle.std.proofs.lemmas.Map.Entries.{option_filter}
+use Rattle.dv_order.specs.Key.{KeyTree, key_order}
+use Rattle.dv_row.specs.Row.{Row}
+use Rattle.dv_change.specs.declared.change.Change.{Change}
+use Rattle.dv_change.specs.declared.position.Part.TheVariants.{Up, Down, At}
+use Rattle.dv_change.specs.Changes.{IsExactChange, IsPositioned, Positioned, at, forget, place_of, row_in, with_change}
+use Rattle.dv_change.specs.Difference.{diff}
+use Rattle.dv_change.specs.DiffLaws.{IsPartAt, at-changed, at-filter, diff-parts, exact-place, or_else, positioned-changed, positioned-filter}
+use Rattle.dv_change.specs.Ordered.{gone}
+use Rattle.dv_change.specs.Positions.{IsExact, PosTree, pos_order}
+use Rattle.dv_change.specs.RowLaws.{all-put, at-gone, at-like, at-put, at_back, positioned-gone, positioned-none, positioned-put, same_rows}
+use Rattle.dv_gather.specs.Grouping.{Grouping, row_shown}
+use Rattle.dv_group.specs.Grouped.{IsKeyPlace, at-grouped, beside, group_ordered, grouped-places, one-part}
+use Rattle.dv_group.specs.Members.{AreMembers, Kept, has_key, is_key, members, moved, put_some, row_key, rows_with, shown_of, with_shown}
+use Rattle.dv_group.specs.Placed.{grouped_at}
+
+-- ---- a row more, where there is one
+
+at-put_some : (q p : PosTree) (r : Option Row) (rows : Positioned) → at q (put_some p r rows) ≡ cond (is_eq (pos_order q p)) (or_else r (at q rows)) (at q rows)
+at-put_some q p None rows = by (is_eq (pos_order q p))
+  where
+    by : (b : Bool) → at q rows ≡ cond b (at q rows) (at q rows)
+    by true = refl
+    by false = refl
+at-put_some q p (Some d) rows = at-put q p d rows
+
+positioned-put_some : (p : PosTree) (r : Option Row) (rows : Positioned) → IsPositioned rows → IsExact p → IsPositioned (put_some p r rows)
+positioned-put_some p None rows are x = are
+positioned-put_some p (Some d) rows are x = positioned-put p d rows are x
+
+pub all-put_some : (P : PosTree → Type 0) (p : PosTree) (r : Option Row) (rows : Positioned) → AllByRecursion P (keys_of rows) → P p → AllByRecursion P (keys_of (put_some p r rows))
+all-put_some P p None rows all here = all
+all-put_some P p (Some d) rows all here = all-put P p d rows all here
+
+-- ---- positions that aren't a key alone
+
+nowhere : (q : PosTree) → ((k : KeyTree) → is_eq (pos_order q (Up k ∷ [])) ≡ false) → (rows : Positioned) → AllByRecursion IsKeyPlace (keys_of rows) → at q rows ≡ None
+nowhere q apart [] all = refl
+nowhere q apart (e ∷ rows) all = ap (λ b. cond b (Some e.1) (at q rows)) (ap (λ p. is_eq (pos_order q p)) all.0.1 ∙ apart all.0.0) ∙ nowhere q apart rows all.1
+
+longer : (o : Ordering) → is_eq (ordering_then o Greater) ≡ false
+longer Less = refl
+longer Equal = refl
+longer Greater = refl
+
+-- ---- what goes and what comes
+
+nothing-else : (a : Option Row) → or_else a None ≡ a
+nothing-else None = refl
+nothing-else (Some d) = refl
+
+none-left : (b : Bool) (m : Option Row) → (b ≡ false → m ≡ None) → cond b None m ≡ None
+none-left true m none = refl
+none-left false m none = none refl
+
+either-same : (b : Bool) (m : Option Row) → cond b m m ≡ m
+either-same true m = refl
+either-same false m = refl
+
+-- what passes is taken out where it stood, and put in where it comes
+settled : (h : Row → Bool) (b c here : Bool) (old new there : Option Row) → (b ≡ false → option_filter h old ≡ None) → (c ≡ false → option_filter h new ≡ None) → (c ≡ true → option_filter h new ≡ new) → (here ≡ true → there ≡ old)
+    → (left : Option Row) → left ≡ cond b (cond here None (option_filter h there)) (option_filter h there) → cond c (cond here (or_else new left) left) left ≡ option_filter h (cond here new there)
+settled h b c true old new there goes none stays same left is =
+    let out : left ≡ None = is ∙ none-left b (option_filter h there) (λ e. ap (option_filter h) (same refl) ∙ goes e) in
+    ap (λ l. cond c (or_else new l) l) out ∙ comes c none stays
+  where
+    comes : (c : Bool) → (c ≡ false → option_filter h new ≡ None) → (c ≡ true → option_filter h new ≡ new) → cond c (or_else new None) None ≡ option_filter h new
+    comes true none stays = nothing-else new ∙ sym (stays refl)
+    comes false none stays = sym (none refl)
+settled h b c false old new there goes none stays same left is = either-same c left ∙ is ∙ either-same b (option_filter h there)
+
+module _ (g : Grouping) where
+  rows_with-alike : (k l : KeyTree) → key_order k l ≡ Equal → (rows : Positioned) → rows_with g k rows ≡ rows_with g l rows
+  rows_with-alike k l e [] = refl
+  rows_with-alike k l e (r ∷ rows) = λ i. cond (beside k l (row_key g r.1) e i) (r ∷ rows_with-alike k l e rows i) (rows_with-alike k l e rows i)
+
+  -- ---- the rows of the groups of two keys
+
+  shown-positioned : (under : KeyTree → Positioned) (key : Option Row) (rows : Positioned) → IsPositioned rows → IsPositioned (with_shown g under (option_map (row_key g) key) rows)
+  shown-positioned under None rows are = are
+  shown-positioned under (Some d) rows are = positioned-put_some (Up (row_key g d) ∷ []) (row_shown g (forget (under (row_key g d)))) rows are (record { of = Some _; is = refl }, tt)
+
+  shown-places : (under : KeyTree → Positioned) (key : Option KeyTree) (rows : Positioned) → AllByRecursion IsKeyPlace (keys_of rows) → AllByRecursion IsKeyPlace (keys_of (with_shown g under key rows))
+  shown-places under None rows all = all
+  shown-places under (Some k) rows all = all-put_some IsKeyPlace (Up k ∷ []) (row_shown g (forget (under k))) rows all (k, refl)
+
+  module _ (under : KeyTree → Positioned) (rows : Positioned) (kept : AreMembers g under rows) (k : KeyTree) where
+    abbrev shown : Option Row
+    shown = row_shown g (forget (rows_with g k rows))
+
+    with_shown-at : (key : Option KeyTree) (others : Positioned) → at (Up k ∷ []) (with_shown g under key others) ≡ cond (is_key k key) (or_else shown (at (Up k ∷ []) others)) (at (Up k ∷ []) others)
+    with_shown-at None others = refl
+    with_shown-at (Some l) others =
+        at-put_some (Up k ∷ []) (Up l ∷ []) (row_shown g (forget (under l))) others
+        ∙ ap (λ b. cond b (or_else (row_shown g (forget (under l))) (at (Up k ∷ []) others)) (at (Up k ∷ []) others)) (one-part (key_order k l))
+        ∙ by (is_eq (key_order k l)) refl
+      where
+        by : (b : Bool) → is_eq (key_order k l) ≡ b → cond b (or_else (row_shown g (forget (under l))) (at (Up k ∷ []) others)) (at (Up k ∷ []) others) ≡ cond b (or_else shown (at (Up k ∷ []) others)) (at (Up k ∷ []) others)
+        by true here = ap (λ ms. or_else (row_shown g (forget ms)) (at (Up k ∷ []) others)) (kept l ∙ sym (rows_with-alike k l ((Equal-is (key_order k l)).0 here) rows))
+        by false here = refl
+
+    one-shown : (b c : Bool) (r : Option Row) → cond c (or_else r (cond b (or_else r None) None)) (cond b (or_else r None) None) ≡ cond (b || c) r None
+    one-shown true true None = refl
+    one-shown true true (Some d) = refl
+    one-shown true false None = refl
+    one-shown true false (Some d) = refl
+    one-shown false true None = refl
+    one-shown false true (Some d) = refl
+    one-shown false false r = refl
+
+    shown-at : (key other : Option KeyTree) → at (Up k ∷ []) (shown_of g under key other) ≡ cond (is_key k key || is_key k other) shown None
+    shown-at key other =
+        with_shown-at other (with_shown g under key [])
+        ∙ ap (λ a. cond (is_key k other) (or_else shown a) a) (with_shown-at key [])
+        ∙ one-shown (is_key k key) (is_key k other) shown
+
+  -- ---- a change of a row
+
+  without-key : (k : KeyTree) (r : Option Row) → is_key k (option_map (row_key g) r) ≡ false → option_filter (has_key g k) r ≡ None
+  without-key k None other = refl
+  without-key k (Some d) other = ap (λ b. cond b (Some d) None) other
+
+  with-key : (k : KeyTree) (r : Option Row) → is_key k (option_map (row_key g) r) ≡ true → option_filter (has_key g k) r ≡ r
+  with-key k None own = refl
+  with-key k (Some d) own = ap (λ b. cond b (Some d) None) own
+
+  module _ (rows : Positioned) (change : Change) (are : IsPositioned rows) (exact : IsExactChange change) where
+    abbrev after : Positioned
+    after = with_change rows change
+
+    abbrev pos : PosTree
+    pos = place_of change
+
+    abbrev key : Option KeyTree
+    key = option_map (row_key g) (at pos rows)
+
+    abbrev other : Option KeyTree
+    other = option_map (row_key g) (row_in change)
+
+    changed : IsPositioned after
+    changed = positioned-changed rows change are exact
+
+    -- the rows with a key after it
+    at-with : (k : KeyTree) (q : PosTree) (es : Positioned) → IsPositioned es → at q (rows_with g k es) ≡ option_filter (has_key g k) (at q es)
+    at-with k q es these = at-filter (λ e. has_key g k e.1) q (has_key g k) (λ p v e. refl) es these
+
+    either : {A : Type 0} (P : A → Type 0) (b : Bool) (x y : A) → P x → P y → P (cond b x y)
+    either P true x y p q = p
+    either P false x y p q = q
+
+    module _ (k : KeyTree) where
+      abbrev have : Positioned
+      have = rows_with g k rows
+
+      abbrev left : Positioned
+      left = cond (is_key k key) (gone pos have) have
+
+      abbrev now : Positioned
+      now = cond (is_key k other) (put_some pos (row_in change) left) left
+
+      are-have : IsPositioned have
+      are-have = positioned-filter (λ e. has_key g k e.1) rows are
+
+      are-left : IsPositioned left
+      are-left = either (λ (es : Positioned). IsPositioned es) (is_key k key) (gone pos have) have (positioned-gone pos have are-have) are-have
+
+      are-now : IsPositioned now
+      are-now = either (λ (es : Positioned). IsPositioned es) (is_key k other) (put_some pos (row_in change) left) left (positioned-put_some pos (row_in change) left are-left (exact-place change exact)) are-left
+
+      at-either : (q : PosTree) (b : Bool) (es fs : Positioned) → at q (cond b es fs) ≡ cond b (at q es) (at q fs)
+      at-either q true es fs = refl
+      at-either q false es fs = refl
+
+      at-left : (q : PosTree) → at q left ≡ cond (is_key k key) (cond (is_eq (pos_order q pos)) None (option_filter (has_key g k) (at q rows))) (option_filter (has_key g k) (at q rows))
+      at-left q =
+          let there = at-with k q rows are in
+          at-either q (is_key k key) (gone pos have) have
+          ∙ ap (λ a. cond (is_key k key) a (at q have)) (at-gone q pos have are-have.ascending)
+          ∙ (λ i. cond (is_key k key) (cond (at_back pos q i) None (there i)) (there i))
+
+      at-now : (q : PosTree) → at q now ≡ at q (rows_with g k after)
+      at-now q =
+          at-either q (is_key k other) (put_some pos (row_in change) left) left
+          ∙ ap (λ a. cond (is_key k other) a (at q left)) (at-put_some q pos (row_in change) left)
+          ∙ settled (has_key g k) (is_key k key) (is_key k other) (is_eq (pos_order q pos)) (at pos rows) (row_in change) (at q rows) (without-key k (at pos rows)) (without-key k (row_in change)) (with-key k (row_in change)) (λ here. at-like q pos ((Equal-is (pos_order q pos)).0 here) rows) (at q left) (at-left q)
+          ∙ sym (at-with k q after changed ∙ ap (option_filter (has_key g k)) (at-changed q rows change are))
+
+      now-is : now ≡ rows_with g k after
+      now-is = same_rows now (rows_with g k after) are-now (positioned-filter (λ e. has_key g k e.1) after changed) (λ q x. at-now q)
+
+      stays : is_key k key || is_key k other ≡ false → rows_with g k after ≡ have
+      stays apart = sym now-is ∙ by (is_key k key) (is_key k other) apart
+        where
+          by : (b c : Bool) → b || c ≡ false → cond c (put_some pos (row_in change) (cond b (gone pos have) have)) (cond b (gone pos have) have) ≡ have
+          by true c apart = cc
+          by false true apart = cc
+          by false false apart = refl
+
+    -- the groups have their rows after it
+    pub still-members : (was is : KeyTree → Positioned) → AreMembers g was rows → ((k : KeyTree) → is k ≡ moved pos key other (row_in change) k (was k)) → AreMembers g is after
+    still-members was is kept are-moved k = are-moved k ∙ ap (moved pos key other (row_in change) k) (kept k) ∙ now-is k
+
+    module _ (was is : KeyTree → Positioned) (kept : AreMembers g was rows) (still : AreMembers g is after) where
+      abbrev before_rows : Positioned
+      before_rows = shown_of g was key other
+
+      abbrev after_rows : Positioned
+      after_rows = shown_of g is key other
+
+      pub shown-are : (under : KeyTree → Positioned) → IsPositioned (shown_of g under key other)
+      shown-are under = shown-positioned under (row_in change) (with_shown g under key []) (shown-positioned under (at pos rows) [] positioned-none)
+
+      places : (under : KeyTree → Positioned) → AllByRecursion IsKeyPlace (keys_of (shown_of g under key other))
+      places under = shown-places under other (with_shown g under key []) (shown-places under key [] tt)
+
+      elsewhere : (q : PosTree) → ((k : KeyTree) → is_eq (pos_order q (Up k ∷ [])) ≡ false) → IsPartAt (grouped_at g rows) (grouped_at g after) before_rows after_rows q
+      elsewhere q apart = inr (nowhere q apart before_rows (places was), nowhere q apart after_rows (places is), nowhere q apart (grouped_at g rows) (grouped-places g rows) ∙ sym (nowhere q apart (grouped_at g after) (grouped-places g after)))
+
+      part : (q : PosTree) → IsPartAt (grouped_at g rows) (grouped_at g after) before_rows after_rows q
+      part [] = elsewhere [] (λ k. refl)
+      part (Down l ∷ q) = elsewhere (Down l ∷ q) (λ k. refl)
+      part (At n ∷ q) = elsewhere (At n ∷ q) (λ k. refl)
+      part (Up l ∷ a ∷ q) = elsewhere (Up l ∷ a ∷ q) (λ k. longer (key_order l k))
+      part (Up k ∷ []) = by (is_key k key || is_key k other) refl
+        where
+          by : (b : Bool) → is_key k key || is_key k other ≡ b → IsPartAt (grouped_at g rows) (grouped_at g after) before_rows after_rows (Up k ∷ [])
+          by true own = inl (
+            shown-at was rows kept k key other ∙ ap (λ b. cond b (row_shown g (forget (rows_with g k rows))) None) own ∙ sym (at-grouped g rows k),
+            shown-at is after still k key other ∙ ap (λ b. cond b (row_shown g (forget (rows_with g k after))) None) own ∙ sym (at-grouped g after k),
+          )
+          by false apart = inr (
+            shown-at was rows kept k key other ∙ ap (λ b. cond b (row_shown g (forget (rows_with g k rows))) None) apart,
+            shown-at is after still k key other ∙ ap (λ b. cond b (row_shown g (forget (rows_with g k after))) None) apart,
+            at-grouped g rows k ∙ ap (λ ds. row_shown g (forget ds)) (sym (stays k apart)) ∙ sym (at-grouped g after k),
+          )
+
+      pub group-owed : diff (grouped_at g rows) (grouped_at g after) ≡ diff before_rows after_rows
+      group-owed = diff-parts (grouped_at g rows) (grouped_at g after) before_rows after_rows (group_ordered g rows are) (group_ordered g after changed) (shown-are was) (shown-are is) (λ q x. part q)
+
+  -- ---- the same in memory: the key of the row that went, and of the one that came, and the groups before and after
+
+  module _ (rows : Positioned) (change : Change) (are : IsPositioned rows) (exact : IsExactChange change) (kept still : Kept) (pos : PosTree) (old new : Option Row) (key other : Option KeyTree)
+      (pos-is : pos ≡ place_of change) (old-is : old ≡ at (place_of change) rows) (new-is : new ≡ row_in change) (key-is : key ≡ option_map (row_key g) old) (other-is : other ≡ option_map (row_key g) new)
+      (are-kept : AreMembers g (λ k. members k kept) rows)
+      (is-moved : (k : KeyTree) → members k still ≡ moved pos key other new k (members k kept)) where
+    own-key : key ≡ option_map (row_key g) (at (place_of change) rows)
+    own-key = key-is ∙ ap (option_map (row_key g)) old-is
+
+    own-other : other ≡ option_map (row_key g) (row_in change)
+    own-other = other-is ∙ ap (option_map (row_key g)) new-is
+
+    are-still : AreMembers g (λ k. members k still) (with_change rows change)
+    are-still =
+        still-members rows change are exact (λ k. members k kept) (λ k. members k still) are-kept
+        (λ k. is-moved k ∙ (λ i. moved (pos-is i) (own-key i) (own-other i) (new-is i) k (members k kept)))
+
+    -- it is sound after it
+    pub taken-sound : (h : Grouping) (left : Positioned) → h ≡ g → left ≡ with_change rows change → IsPositioned left × AreMembers h (λ k. members k still) left
+    taken-sound h left same here = (rw here (positioned-changed rows change are exact), λ k. are-still k ∙ (λ i. rows_with (sym same i) k (sym here i)))
+
+    pub taken-owed : diff (shown_of g (λ k. members k kept) key other) (shown_of g (λ k. members k still) key other) ≡ diff (grouped_at g rows) (grouped_at g (with_change rows change))
+    taken-owed =
+        (λ i. diff (shown_of g (λ k. members k kept) (own-key i) (own-other i)) (shown_of g (λ k. members k still) (own-key i) (own-other i)))
+        ∙ sym (group-owed rows change are exact (λ k. members k kept) (λ k. members k still) are-kept are-still)
+
+-- where all goes well
+pub both-ok : {A E P Q R : Type 0} (r : Result A E) → OnOk r P → OnOk r Q → (P → Q → R) → OnOk r R
+both-ok (Ok a) p q f = f p q
+both-ok (Err e) p q f = tt
+
+pub three-ok : {A E P Q R S : Type 0} (r : Result A E) → OnOk r P → OnOk r Q → OnOk r R → (P → Q → R → S) → OnOk r S
+three-ok (Ok a) p q s f = f p q s
+three-ok (Err e) p q s f = tt

@@ -1,0 +1,71 @@
+-- What stands under each key, where rows under one key change.
+use Rattle.std.specs.Prelude.{◌≡◌, Bool, true, false, cond, List, [], ◌∷◌, Option, None, Some, slice_get, refl}
+use Rattle.std.proofs.Common.{ap, sym, ◌∙◌}
+use Rattle.std.specs.declared.cmp.Ordering.TheVariants.{Equal}
+use Rattle.std.specs.BTreeMap.{is_at}
+use Rattle.std.specs.Cmp.{Equal-is, eq_by_cmp_equiv}
+use Rattle.std.specs.Map.{lookup}
+use Rattle.std.specs.Option.{unwrap_or}
+use Rattle.std.specs.Ordering.{is_eq, match_ordering, ordering_reverse, ordering_then}
+use Rattle.dv_order.specs.Key.{KeyTree, key_order}
+use Rattle.dv_order.specs.KeyLaws.{key_order_total}
+use Rattle.dv_row.specs.Row.{Row}
+use Rattle.dv_change.specs.declared.position.Part.TheVariants.{Up}
+use Rattle.dv_change.specs.Changes.{Positioned, forget}
+use Rattle.dv_gather.specs.Grouping.{Grouping, row_shown}
+use Rattle.dv_group.specs.Grouped.{beside}
+use Rattle.dv_group.specs.Members.{Kept, are_one, members, put_some, shown_of, with_shown}
+
+back : (k l : KeyTree) → is_eq (key_order k l) ≡ is_eq (key_order l k)
+back k l = (eq_by_cmp_equiv key_order_total).symm k l
+
+-- under equal keys stands the same
+pub members-alike : (k l : KeyTree) → key_order k l ≡ Equal → (es : Kept) → members k es ≡ members l es
+members-alike k l e es = ap (λ o. unwrap_or o []) (found es)
+  where
+    found : (es : Kept) → lookup (is_at (key_order k)) es ≡ lookup (is_at (key_order l)) es
+    found [] = refl
+    found (x ∷ es) = λ i. cond (beside k l x.0 e i) (Some x.1) (found es i)
+
+-- where there is no first one, there is none
+pub none-first : {A : Type 0} (xs : List A) → slice_get xs 0 ≡ None → xs ≡ []
+none-first [] e = refl
+none-first (x ∷ xs) e = absurd cc
+
+module _ (es fs : Kept) (key : KeyTree) where
+  -- one key's rows become others
+  pub changed-under : (change : Positioned → Positioned) (new : Option Positioned) → unwrap_or new [] ≡ change (members key es) → ((k : KeyTree) → lookup (is_at (key_order k)) fs ≡ cond (is_at (key_order key) k) new (lookup (is_at (key_order k)) es))
+      → (k : KeyTree) → members k fs ≡ cond (is_eq (key_order k key)) (change (members k es)) (members k es)
+  changed-under change new is written k = ap (λ o. unwrap_or o []) (written k ∙ ap (λ b. cond b new (lookup (is_at (key_order k)) es)) (back key k)) ∙ by (is_eq (key_order k key)) refl
+    where
+      by : (b : Bool) → is_eq (key_order k key) ≡ b → unwrap_or (cond b new (lookup (is_at (key_order k)) es)) [] ≡ cond b (change (members k es)) (members k es)
+      by true here = is ∙ ap change (sym (members-alike k key ((Equal-is (key_order k key)).0 here) es))
+      by false here = refl
+
+cond-over : {A : Type 0} (b : Bool) (x y z : A) → cond b x (cond b y z) ≡ cond b x z
+cond-over true x y z = refl
+cond-over false x y z = refl
+
+-- rows come in the place of those that were taken out
+pub put-back : (es ms fs : Kept) (key own : KeyTree) (new : Positioned) → own ≡ key
+    → ((k : KeyTree) → lookup (is_at (key_order k)) ms ≡ cond (is_at (key_order key) k) None (lookup (is_at (key_order k)) es))
+    → ((k : KeyTree) → lookup (is_at (key_order k)) fs ≡ cond (is_at (key_order own) k) (Some new) (lookup (is_at (key_order k)) ms))
+    → (k : KeyTree) → lookup (is_at (key_order k)) fs ≡ cond (is_at (key_order key) k) (Some new) (lookup (is_at (key_order k)) es)
+put-back es ms fs key own new same out come k =
+    come k ∙ (λ i. cond (is_at (key_order (same i)) k) (Some new) (out k i))
+    ∙ cond-over (is_at (key_order key) k) (Some new) None (lookup (is_at (key_order k)) es)
+
+-- the row of the group of a key comes once, where another key is equal
+pub shown-once : (g : Grouping) (es : Kept) (key other : Option KeyTree) → are_one key other ≡ true → with_shown g (λ k. members k es) key [] ≡ shown_of g (λ k. members k es) key other
+shown-once g es None other one = cc
+shown-once g es (Some k) None one = cc
+shown-once g es (Some k) (Some l) one =
+    let beside_l : key_order k l ≡ Equal = (Equal-is (key_order k l)).0 one in
+    by (row_shown g (forget (members k es))) (order_back k l beside_l) ∙ ap (λ rows. put_some (Up l ∷ []) (row_shown g (forget rows)) (put_some (Up k ∷ []) (row_shown g (forget (members k es))) [])) (members-alike k l beside_l es)
+  where
+    order_back : (k l : KeyTree) → key_order k l ≡ Equal → key_order l k ≡ Equal
+    order_back k l e = key_order_total.antisymm l k ∙ ap ordering_reverse e
+
+    by : (r : Option Row) → key_order l k ≡ Equal → put_some (Up k ∷ []) r [] ≡ put_some (Up l ∷ []) r (put_some (Up k ∷ []) r [])
+    by None e = refl
+    by (Some d) e = ap (λ o. match_ordering (ordering_then o Equal) ((Up l ∷ [], d) ∷ (Up k ∷ [], d) ∷ []) ((Up k ∷ [], d) ∷ []) ((Up k ∷ [], d) ∷ (Up l ∷ [], d) ∷ [])) (sym e)

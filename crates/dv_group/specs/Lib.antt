@@ -1,0 +1,4 @@
+pub mod Placed
+pub mod Members
+pub mod Turned
+pub mod Grouped

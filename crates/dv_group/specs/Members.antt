@@ -1,0 +1,66 @@
+-- Rows by their keys, and the rows of the groups of some keys: words of bodies.
+use Rattle.std.specs.Prelude.{◌≡◌, Bool, false, List, [], ◌∷◌, Option, Some, None, cond, filter}
+use Rattle.std.specs.Option.{unwrap_or}
+use Rattle.std.specs.Ordering.{is_eq}
+use Rattle.std.specs.Map.{lookup}
+use Rattle.std.specs.BTreeMap.{is_at}
+use Rattle.dv_order.specs.Order.{canon}
+use Rattle.dv_order.specs.Key.{KeyTree, key_order, value}
+use Rattle.dv_row.specs.Row.{Row}
+use Rattle.dv_change.specs.declared.position.Part.TheVariants.{Up}
+use Rattle.dv_change.specs.Changes.{Positioned, forget}
+use Rattle.dv_change.specs.Ordered.{gone, put}
+use Rattle.dv_change.specs.Positions.{PosTree}
+use Rattle.dv_gather.specs.Grouping.{Grouping, key_in, row_shown}
+
+-- the key of a row
+abbrev pub row_key : Grouping → Row → KeyTree
+row_key g d = value (canon (key_in g d))
+
+-- whether a row has a key
+abbrev pub has_key : Grouping → KeyTree → Row → Bool
+has_key g k d = is_eq (key_order k (row_key g d))
+
+-- the rows that have a key
+abbrev pub rows_with : Grouping → KeyTree → Positioned → Positioned
+rows_with g k rows = filter (λ e. has_key g k e.1) rows
+
+-- rows under keys
+abbrev pub Kept : Type 0
+Kept = List (KeyTree × Positioned)
+
+-- the rows under a key
+abbrev pub members : KeyTree → Kept → Positioned
+members k es = unwrap_or (lookup (is_at (key_order k)) es) []
+
+-- under each key stand the rows that have it
+abbrev pub AreMembers : Grouping → (KeyTree → Positioned) → Positioned → Type 0
+AreMembers g under rows = (k : KeyTree) → under k ≡ rows_with g k rows
+
+-- whether there is a key, and it is equal to k
+abbrev pub is_key : KeyTree → Option KeyTree → Bool
+is_key k None = false
+is_key k (Some l) = is_eq (key_order k l)
+
+-- whether there are two keys, and they are equal
+abbrev pub are_one : Option KeyTree → Option KeyTree → Bool
+are_one None other = false
+are_one (Some k) other = is_key k other
+
+-- rows with one more, where there is one
+abbrev pub put_some : PosTree → Option Row → Positioned → Positioned
+put_some pos None rows = rows
+put_some pos (Some d) rows = put pos d rows
+
+-- rows with that of the group of a key, where there is a key and the group has rows; under keys stand these
+abbrev pub with_shown : Grouping → (KeyTree → Positioned) → Option KeyTree → Positioned → Positioned
+with_shown g under None rows = rows
+with_shown g under (Some k) rows = put_some (Up k ∷ []) (row_shown g (forget (under k))) rows
+
+-- the rows of the groups of two keys
+abbrev pub shown_of : Grouping → (KeyTree → Positioned) → Option KeyTree → Option KeyTree → Positioned
+shown_of g under key other = with_shown g under other (with_shown g under key [])
+
+-- what stands under k, where a row goes from a position under one key, and one comes to it under another
+abbrev pub moved : PosTree → Option KeyTree → Option KeyTree → Option Row → KeyTree → Positioned → Positioned
+moved pos key other new k rows = cond (is_key k other) (put_some pos new (cond (is_key k key) (gone pos rows) rows)) (cond (is_key k key) (gone pos rows) rows)

@@ -1,0 +1,22 @@
+//! What holds of the rows of groups at positions, each the contract of a function that does nothing: without the positions they are
+//! those of `$group`, and a change of a row changes few of them.
+
+ghost use Rattle.std.specs.Prelude.{◌≡◌, ◌≤◌, length};
+ghost use Rattle.dv_change.specs.declared.change.Change.{Change};
+ghost use Rattle.dv_change.specs.Changes.{IsExactChange, IsPositioned, Positioned, forget, with_change};
+ghost use Rattle.dv_change.specs.Difference.{diff};
+ghost use Rattle.dv_gather.specs.Grouping.{Grouping, grouped};
+ghost use Rattle.dv_group.specs.Placed.{grouped_at};
+
+/// Without positions, the rows of groups are those of `$group`.
+#[tactic(auto, using(crate::proofs::Lawful::lawful))]
+pub fn grouped_rows_are_the_rows_of_groups()
+    ensures { (group : Grouping) (rows : Positioned) → forget (grouped_at group rows) ≡ grouped group (forget rows) }
+{}
+
+/// Of the rows of groups, a change of a row changes two at most: that of the group that it leaves, and that of the one to which it
+/// comes.
+#[tactic(auto, using(crate::proofs::Lawful::lawful))]
+pub fn a_group_hands_on_two_changes()
+    ensures { (group : Grouping) (rows : Positioned) (change : Change) → IsPositioned rows → IsExactChange change → length (diff (grouped_at group rows) (grouped_at group (with_change rows change))) ≤ 2 }
+{}
