@@ -1,8 +1,10 @@
 //! Stages that are kept by changes: what they hand on, and what they count.
 
 use crate::spelled::document;
-use dv_bson::{Str, Value};
-use dv_change::{Chain, Change, Input, Ordered, Part, Pos, Taken, Ticks, Turn, hand_on, take_in};
+use dv_bson::{Document, Str, Value};
+use dv_change::{
+    Chain, Change, Input, Live, Ordered, Part, Pos, Taken, Ticks, Turn, hand_on, take_in,
+};
 use dv_flow::{LimitTurn, MatchTurn, ProjectTurn, SimpleTurn, SortTurn, UnwindTurn};
 use dv_match::Filter;
 use dv_path::SortSpec;
@@ -202,5 +204,78 @@ fn a_chain_counts_what_its_turns_hand_on(rt: HostRuntime) -> Result<(), Fail> {
     let told: Vec<Told> = out.iter().map(told).collect(alloc)?;
     assert_eq!(rt; told.as_slice(), [(0, Some(1))].as_slice());
     assert_eq!(rt; ticks.count(), 6);
+    Ok(())
+}
+
+/// The row `{k: k, a: a}` is put at the number.
+fn put_row(alloc: Global, number: u64, k: i32, a: i32) -> Result<Change, Fail> {
+    let mut row = Document::new(alloc);
+    row.push("k", Value::Int32(k))?;
+    row.push("a", Value::Int32(a))?;
+    let pos = place(alloc, number)?;
+    Ok(Change::Put { pos, row })
+}
+
+/// The sort `{a: direction}`.
+fn sort_by_a(alloc: Global, direction: i32) -> Result<SortSpec, Fail> {
+    let mut by = Document::new(alloc);
+    by.push("a", Value::Int32(direction))?;
+    match SortSpec::parse(alloc, &by)? {
+        Some(spec) => Ok(spec),
+        None => Err(Fail::from("a sort")),
+    }
+}
+
+/// The numbers under `a` in the rows.
+fn numbers(alloc: Global, live: &Live<SimpleTurn>) -> Result<Vec<i32>, Fail> {
+    let mut found = Vec::new(alloc);
+    for row in live.rows() {
+        if let Some(Value::Int32(number)) = row.get("a") {
+            found.push(*number)?;
+        }
+    }
+    Ok(found)
+}
+
+#[test]
+fn rows_are_kept_behind_a_match_a_sort_and_a_limit(rt: HostRuntime) -> Result<(), Fail> {
+    let alloc = rt.alloc();
+    let filter = Filter::parse(alloc, &document(alloc, b"\x0c\0\0\0\x10k\0\x01\0\0\0\0")?)?;
+    let matching = MatchTurn::new(alloc, &filter)?;
+    let sort = SortTurn::new(alloc, &sort_by_a(alloc, -1)?)?;
+    let mut turns = Vec::new(alloc);
+    turns.push(SimpleTurn::Match(matching))?;
+    turns.push(SimpleTurn::Sort(sort))?;
+    turns.push(SimpleTurn::Limit(LimitTurn::new(alloc, 2)))?;
+    let live = Live::new(alloc, turns);
+    let live = live.take(Input::Left, put_row(alloc, 1, 1, 1)?)?;
+    assert_eq!(rt; live.ticks(), 6);
+    let live = live.take(Input::Left, put_row(alloc, 2, 1, 2)?)?;
+    assert_eq!(rt; live.ticks(), 12);
+    let live = live.take(Input::Left, put_row(alloc, 3, 1, 3)?)?;
+    assert_eq!(rt; live.ticks(), 19);
+    let live = live.take(Input::Left, put_row(alloc, 4, 0, 4)?)?;
+    assert_eq!(rt; live.ticks(), 20);
+    let live = live.take(Input::Left, put_row(alloc, 3, 1, 0)?)?;
+    assert_eq!(rt; live.ticks(), 29);
+    assert_eq!(rt; numbers(alloc, &live)?.as_slice(), [2, 1].as_slice());
+    Ok(())
+}
+
+#[test]
+fn a_row_comes_back_behind_a_sort_and_a_limit(rt: HostRuntime) -> Result<(), Fail> {
+    let alloc = rt.alloc();
+    let sort = SortTurn::new(alloc, &sort_by_a(alloc, 1)?)?;
+    let mut turns = Vec::new(alloc);
+    turns.push(SimpleTurn::Sort(sort))?;
+    turns.push(SimpleTurn::Limit(LimitTurn::new(alloc, 2)))?;
+    let live = Live::new(alloc, turns);
+    let live = live.take(Input::Left, put_row(alloc, 1, 1, 10)?)?;
+    let live = live.take(Input::Left, put_row(alloc, 2, 1, 20)?)?;
+    let live = live.take(Input::Left, put_row(alloc, 3, 1, 30)?)?;
+    assert_eq!(rt; live.ticks(), 11);
+    let live = live.take(Input::Left, put_row(alloc, 1, 1, 15)?)?;
+    assert_eq!(rt; live.ticks(), 20);
+    assert_eq!(rt; numbers(alloc, &live)?.as_slice(), [15, 20].as_slice());
     Ok(())
 }

@@ -3,15 +3,16 @@ use Rattle.std.proofs.Common.{◌≡◌, ℕ, ◌⊎◌, Bool, true, false, List
 use Rattle.std.specs.List.{AllByRecursion, concat}
 use Rattle.std.proofs.lemmas.Bool.{and_from, and_left, and_right}
 use Rattle.dv_bson.specs.Tree.{Tree, Field}
-use Rattle.dv_command.specs.Asked.{Asked, insert, update, delete, asked_by}
+use Rattle.dv_command.specs.Asked as asking
+use Rattle.dv_command.specs.Asked.{Asked, asked_by}
 use Rattle.dv_command.specs.Replies.{update_reply, write_reply}
+use Rattle.dv_command.specs.declared.asking.WriteKind.{WriteKind}
+use Rattle.dv_command.specs.declared.asking.WriteKind.TheVariants.{Insert, Update, Delete}
 use Rattle.dv_command.specs.declared.command.Command.{Command}
-use Rattle.dv_core.specs.Insert.{insert_write}
-use Rattle.dv_core.specs.Update.{update_write}
-use Rattle.dv_core.specs.Delete.{delete_write}
 use Rattle.dv_core.specs.State.{State}
 use Rattle.dv_core.specs.Statements.{IsCut, Write, Written, nothing_written, with_all}
 use Rattle.dv_core.specs.Step.{Answer, Cut, MemoryStep, Wants, step}
+use Rattle.dv_core.specs.Writes.{reply_by, write_by}
 use Rattle.dv_core.specs.declared.outcome.Outcome.{Outcome}
 use Rattle.dv_core.specs.declared.outcome.Outcome.TheVariants.{NoReply, Reply, Wanting}
 use Rattle.dv_fields.specs.declared.refusal.Refusal.{Refusal}
@@ -39,17 +40,16 @@ errors_of old write left is =
     let so_far = with_all write.namespace write.ordered (nothing_written old.catalog.namespaces) is.before in
     (so_far.errors, so_far.statements, is.made, ap (λ (w : Written). w.errors) is.left_so)
 
+told_by : (kind : WriteKind) (n changed : ℕ) (reply : List Field) (errors cut : List Tree) → reply ≡ reply_by kind n changed errors → errors ≡ cut → (reply ≡ write_reply n cut) ⊎ (reply ≡ update_reply n changed cut)
+told_by Insert n changed reply errors cut is e = inl (is ∙ ap (write_reply n) e)
+told_by Update n changed reply errors cut is e = inr (is ∙ ap (update_reply n changed) e)
+told_by Delete n changed reply errors cut is e = inl (is ∙ ap (write_reply n) e)
+
 reply_of_cut : (old new : State) (asked : Result Asked Refusal) (reply : List Field) → Cut old asked (record { reply = reply; state = new }) → IsReplyOfWant reply
 reply_of_cut old new (Err refusal) reply cut = absurd cut
-reply_of_cut old new (Ok (insert asked)) reply (plain, (left, is_cut, is)) =
-    let e = errors_of old (insert_write asked) left is_cut in
-    inr (e.0, e.1, e.2, left.n, left.changed, inl (ap (λ (a : Answer). a.reply) is ∙ ap (write_reply left.n) e.3))
-reply_of_cut old new (Ok (update asked)) reply (plain, (left, is_cut, is)) =
-    let e = errors_of old (update_write asked) left is_cut in
-    inr (e.0, e.1, e.2, left.n, left.changed, inr (ap (λ (a : Answer). a.reply) is ∙ ap (update_reply left.n left.changed) e.3))
-reply_of_cut old new (Ok (delete asked)) reply (plain, (left, is_cut, is)) =
-    let e = errors_of old (delete_write asked) left is_cut in
-    inr (e.0, e.1, e.2, left.n, left.changed, inl (ap (λ (a : Answer). a.reply) is ∙ ap (write_reply left.n) e.3))
+reply_of_cut old new (Ok (asking.write asked)) reply (plain, (left, is_cut, is)) =
+    let e = errors_of old (write_by asked) left is_cut in
+    inr (e.0, e.1, e.2, left.n, left.changed, told_by asked.kind left.n left.changed reply left.errors (with_cut e.0 e.1 e.2) (ap (λ (a : Answer). a.reply) is) e.3)
 reply_of_cut old new (Ok asked) reply cut = absurd cut
 
 reply_of_want : (old new : State) (command : Command) (reply : List Field) → Wants old command (record { reply = reply; state = new }) → IsReplyOfWant reply

@@ -1,0 +1,112 @@
+-- Rows under keys: what a change of them makes of an index, and the rows under some of the keys.
+use Rattle.std.specs.Prelude.{◌≡◌, Bool, true, false, ◌||◌, cond, List, [], ◌∷◌, filter, Option, Some, None, refl}
+use Rattle.std.proofs.Common.{ap, sym, ◌∙◌}
+use Rattle.std.proofs.lemmas.List.Elements.{filter_agree}
+use Rattle.std.proofs.lemmas.Map.Keys.{sorted_head}
+use Rattle.std.specs.declared.cmp.Ordering.TheVariants.{Less}
+use Rattle.std.specs.BTreeMap.{is_at}
+use Rattle.std.specs.Cmp.{Equal-is, eq_by_cmp_equiv}
+use Rattle.std.specs.List.{AllByRecursion, list_any}
+use Rattle.std.specs.List.Sorted.{IsStrictlySortedBy}
+use Rattle.std.specs.Map.{lookup}
+use Rattle.std.specs.Option.{unwrap_or}
+use Rattle.std.specs.Ordering.{is_eq}
+use Rattle.dv_bson.specs.Tree.{Field}
+use Rattle.dv_order.specs.Key.{KeyTree, key_order}
+use Rattle.dv_order.specs.KeyLaws.{key_order_total}
+use Rattle.dv_change.specs.declared.change.Change.{Change}
+use Rattle.dv_change.specs.Changes.{IsExactChange, IsPositioned, Positioned, at, place_of, row_in, with_change}
+use Rattle.dv_change.specs.Positions.{PosTree}
+use Rattle.dv_join.specs.declared.index.Index.{Index}
+use Rattle.dv_join.specs.Indexed.{IsIndexOf, has_any, moved, under}
+use Rattle.dv_join.specs.Listed.{with_all}
+use Rattle.dv_join.specs.Turning.{if_any}
+use Rattle.dv_join.proofs.Rows.{passing-changed, with_all-passing}
+
+-- ---- keys
+
+-- whether a key is one of these
+abbrev pub is_one_of : List KeyTree → KeyTree → Bool
+is_one_of keys k = list_any (λ m. is_eq (key_order k m)) keys
+
+-- a key that is the first of ascending ones isn't among the others
+pub none-again : (k m : KeyTree) (ms : List KeyTree) → IsStrictlySortedBy key_order (m ∷ ms) → is_eq (key_order k m) ≡ true → is_one_of ms k ≡ false
+none-again k m ms sorted same = none-below ms (sorted_head key_order m ms sorted)
+  where
+    none-below : (ns : List KeyTree) → AllByRecursion (λ n. key_order m n ≡ Less) ns → is_one_of ns k ≡ false
+    none-below [] all = refl
+    none-below (n ∷ ns) all =
+        let below : key_order k n ≡ Less = key_order_total.congr k m n ((Equal-is (key_order k m)).0 same) ∙ all.0 in
+        ap (λ r. is_eq r || is_one_of ns k) below ∙ none-below ns all.1
+
+-- what is changed under one key more
+pub one-key : {A : Type 0} (f : A → A) (old new : A) (here rest : Bool) → new ≡ cond here (f old) old → (here ≡ true → rest ≡ false) → cond rest (f new) new ≡ cond (here || rest) (f old) old
+one-key f old new true rest e never = ap (λ b. cond b (f new) new) (never refl) ∙ e
+one-key f old new false rest e never = ap (λ a. cond rest (f a) a) e
+
+-- under equal keys stands the same
+pub under-like : (k l : KeyTree) (index : Index) → is_eq (key_order k l) ≡ true → under k index ≡ under l index
+under-like k l index same = ap (λ o. unwrap_or o []) (there index.under.entries)
+  where
+    there : (es : List (KeyTree × Positioned)) → lookup (is_at (key_order k)) es ≡ lookup (is_at (key_order l)) es
+    there [] = refl
+    there (e ∷ es) = λ i. cond ((eq_by_cmp_equiv key_order_total).congr k l e.0 same i) (Some e.1) (there es i)
+
+pub key-back : (k l : KeyTree) → is_eq (key_order k l) ≡ is_eq (key_order l k)
+key-back k l = (eq_by_cmp_equiv key_order_total).symm k l
+
+-- ---- one key
+
+pub under-put : {A : Type 0} (b : Bool) (v : A) (o : Option A) (none : A) → unwrap_or (cond b (Some v) o) none ≡ cond b v (unwrap_or o none)
+under-put true v o none = refl
+under-put false v o none = refl
+
+pub under-gone : {A : Type 0} (b : Bool) (o : Option A) (none : A) → unwrap_or (cond b None o) none ≡ cond b none (unwrap_or o none)
+under-gone true o none = refl
+under-gone false o none = refl
+
+-- what stands under a key was taken out, and nothing is left of it
+pub set-none : (f : Positioned → Positioned) (b : Bool) (old own taken : Positioned) → (b ≡ true → old ≡ own) → taken ≡ cond b [] old → f own ≡ [] → taken ≡ cond b (f old) old
+set-none f true old own taken like e none = e ∙ sym none ∙ sym (ap f (like refl))
+set-none f false old own taken like e none = e
+
+-- something is left of it
+pub set-some : (f : Positioned → Positioned) (b : Bool) (old own taken new : Positioned) → (b ≡ true → old ≡ own) → taken ≡ cond b [] old → new ≡ cond b (f own) taken → new ≡ cond b (f old) old
+set-some f true old own taken new like e put = put ∙ sym (ap f (like refl))
+set-some f false old own taken new like e put = put ∙ e
+
+-- ---- a change
+
+pub index-changed : (has : KeyTree → List Field → Bool) (rows : Positioned) (change : Change) (before after : Index) (pos : PosTree) (old new : Option (List Field)) (had now : KeyTree → Bool)
+    → IsPositioned rows → IsExactChange change → pos ≡ place_of change → old ≡ at (place_of change) rows → new ≡ row_in change
+    → ((k : KeyTree) → had k ≡ if_any (has k) old) → ((k : KeyTree) → now k ≡ if_any (has k) new)
+    → ((k : KeyTree) → under k after ≡ moved pos (had k) new (now k) (under k before))
+    → IsIndexOf has rows before → IsIndexOf has (with_change rows change) after
+index-changed has rows change before after pos old new had now are exact place went came had-is now-is exchanged is = λ k.
+    let had-it : had k ≡ if_any (has k) (at (place_of change) rows) = had-is k ∙ ap (if_any (has k)) went in
+    let has-it : now k ≡ if_any (has k) (row_in change) = now-is k ∙ ap (if_any (has k)) came in
+    exchanged k ∙ (λ i. moved (place i) (had-it i) (came i) (has-it i) (is k i)) ∙ sym (passing-changed (has k) rows change are exact)
+
+-- ---- the rows under some keys
+
+-- rows with all those under each of the keys
+abbrev pub all_under : (KeyTree → Positioned) → List KeyTree → Positioned → Positioned
+all_under f [] es = es
+all_under f (k ∷ ks) es = all_under f ks (with_all es (f k))
+
+or-false : (a : Bool) → a ≡ a || false
+or-false true = refl
+or-false false = refl
+
+or-assoc : (a b c : Bool) → (a || b) || c ≡ a || (b || c)
+or-assoc true b c = refl
+or-assoc false b c = refl
+
+pub all_under-passing : (has : KeyTree → List Field → Bool) (rows : Positioned) (f : KeyTree → Positioned) → IsPositioned rows → ((k : KeyTree) → f k ≡ filter (λ e. has k e.1) rows) → (ks : List KeyTree) (test : List Field → Bool)
+    → all_under f ks (filter (λ e. test e.1) rows) ≡ filter (λ e. test e.1 || has_any has ks e.1) rows
+all_under-passing has rows f are is [] test = filter_agree (λ e. test e.1) (λ e. test e.1 || false) (λ e. or-false (test e.1)) rows
+all_under-passing has rows f are is (k ∷ ks) test =
+    ap (λ es. all_under f ks (with_all (filter (λ e. test e.1) rows) es)) (is k)
+    ∙ ap (all_under f ks) (with_all-passing test (has k) rows are)
+    ∙ all_under-passing has rows f are is ks (λ d. test d || has k d)
+    ∙ filter_agree (λ e. (test e.1 || has k e.1) || has_any has ks e.1) (λ e. test e.1 || (has k e.1 || has_any has ks e.1)) (λ e. or-assoc (test e.1) (has k e.1) (has_any has ks e.1)) rows

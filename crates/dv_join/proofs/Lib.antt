@@ -1,0 +1,6 @@
+pub mod Rows
+pub mod Indexes
+pub mod Sharing
+pub mod Owed
+pub mod Bounds
+pub mod Lawful

@@ -1,0 +1,105 @@
+-- A row and a document that it is joined with share a key; so what is found by keys is all that a row is joined with.
+use Rattle.std.specs.Prelude.{◌≡◌, Bool, true, false, ◌||◌, List, [], ◌∷◌, filter, map, Option, Some, None, refl}
+use Rattle.std.proofs.Common.{ap, sym, ◌∙◌}
+use Rattle.std.specs.Cmp.{eq_by_cmp_equiv}
+use Rattle.std.specs.List.{list_any}
+use Rattle.std.specs.Ordering.{is_eq}
+use Rattle.dv_bson.specs.Tree.{Field, Tree, array, elements_of}
+use Rattle.dv_order.specs.Order.{canon, order}
+use Rattle.dv_order.specs.Key.{KeyTree, key_order, value}
+use Rattle.dv_order.specs.KeyLaws.{key_order_total}
+use Rattle.dv_order.specs.SameOrder.{order_of_canon}
+use Rattle.dv_path.specs.LeafKeys.{is_key_of, is_some_key, leaf_values}
+use Rattle.dv_gather.specs.declared.lookup.Lookup.{Lookup}
+use Rattle.dv_gather.specs.Joining.{as_value, is_among, is_joined, joined_by}
+use Rattle.dv_gather.specs.Lookups.{joined_row, set_field}
+use Rattle.dv_change.specs.Changes.{Positioned, forget}
+use Rattle.dv_join.specs.Indexed.{has_any}
+use Rattle.dv_join.specs.Turning.{has_foreign, has_local, if_any}
+use Rattle.dv_join.proofs.Indexes.{is_one_of}
+use Rattle.dv_join.proofs.Rows.{filter-through, forget-filter}
+
+-- an item that passes
+record Passing {X : Type 0} (p : X → Bool) (xs : List X) : Type 0 where
+  one : X
+  passes : p one ≡ true
+  among : (q : X → Bool) → q one ≡ true → list_any q xs ≡ true
+
+or-left : (a b : Bool) → a ≡ true → a || b ≡ true
+or-left true b e = refl
+or-left false b e = cc
+
+or-right : (a b : Bool) → b ≡ true → a || b ≡ true
+or-right true b e = refl
+or-right false b e = e
+
+passing : {X : Type 0} (p : X → Bool) (xs : List X) → list_any p xs ≡ true → Passing p xs
+passing p [] e = absurd (let same : false ≡ true = e in cc)
+passing {X = X} p (x ∷ xs) e = by (p x) refl (passing p xs)
+  where
+    by : (b : Bool) → p x ≡ b → (list_any p xs ≡ true → Passing p xs) → Passing p (x ∷ xs)
+    by true is rest = record { one = x; passes = is; among = λ q h. or-left (q x) (list_any q xs) h }
+    by false is rest =
+        let there : Passing p xs = rest (ap (λ b. b || list_any p xs) (sym is) ∙ e) in
+        record { one = there.one; passes = there.passes; among = λ q h. or-right (q x) (list_any q xs) (there.among q h) }
+
+any-same : {X : Type 0} (p q : X → Bool) → ((x : X) → p x ≡ q x) → (xs : List X) → list_any p xs ≡ list_any q xs
+any-same p q same [] = refl
+any-same p q same (x ∷ xs) = λ i. same x i || any-same p q same xs i
+
+-- equal keys are those of the same values
+alike : (k l : KeyTree) (vs : List Tree) → is_eq (key_order k l) ≡ true → is_some_key k vs ≡ is_some_key l vs
+alike k l vs e = any-same (is_key_of k) (is_key_of l) (λ v. (eq_by_cmp_equiv key_order_total).congr k l (value (canon v)) e) vs
+
+-- the key of some value on both sides
+record Shared (vs ws : List Tree) : Type 0 where
+  key : KeyTree
+  here : is_some_key key vs ≡ true
+  there : is_some_key key ws ≡ true
+
+shared : (vs ws : List Tree) → list_any (is_among ws) vs ≡ true → Shared vs ws
+shared vs ws e =
+    let v : Passing (is_among ws) vs = passing (is_among ws) vs e in
+    let k = value (canon v.one) in
+    record {
+      key = k;
+      here = v.among (is_key_of k) ((eq_by_cmp_equiv key_order_total).refl k);
+      there = any-same (is_key_of k) (λ w. is_eq (order v.one w)) (λ w. ap is_eq (order_of_canon v.one w)) ws ∙ v.passes;
+    }
+
+-- of the keys of the one side some is a key of the other
+by-keys : (keys : List KeyTree) (vs ws : List Tree) (k : KeyTree) → ((k : KeyTree) → is_one_of keys k ≡ is_some_key k vs) → is_some_key k vs ≡ true → is_some_key k ws ≡ true → list_any (λ m. is_some_key m ws) keys ≡ true
+by-keys keys vs ws k own here there =
+    let m : Passing (λ m. is_eq (key_order k m)) keys = passing (λ m. is_eq (key_order k m)) keys (own k ∙ here) in
+    m.among (λ m. is_some_key m ws) (sym (alike k m.one ws m.passes) ∙ there)
+
+module _ (l : Lookup) (d f : List Field) (keys : List KeyTree) (joined : is_joined l.local l.foreign d f ≡ true) where
+  pub found-by-local : ((k : KeyTree) → is_one_of keys k ≡ has_local l k d) → has_any (has_foreign l) keys f ≡ true
+  found-by-local own =
+      let s : Shared (joined_by l.local d) (leaf_values l.foreign f) = shared (joined_by l.local d) (leaf_values l.foreign f) joined in
+      by-keys keys (joined_by l.local d) (leaf_values l.foreign f) s.key own s.here s.there
+
+  pub found-by-foreign : ((k : KeyTree) → is_one_of keys k ≡ has_foreign l k f) → has_any (has_local l) keys d ≡ true
+  found-by-foreign own =
+      let s : Shared (joined_by l.local d) (leaf_values l.foreign f) = shared (joined_by l.local d) (leaf_values l.foreign f) joined in
+      by-keys keys (leaf_values l.foreign f) (joined_by l.local d) s.key own s.there s.here
+
+-- without a key of a document a row isn't joined with it
+pub not-joined : (l : Lookup) (d : List Field) (document : Option (List Field)) (keys : List KeyTree) → ((k : KeyTree) → is_one_of keys k ≡ if_any (has_foreign l k) document) → has_any (has_local l) keys d ≡ false → if_any (is_joined l.local l.foreign d) document ≡ false
+not-joined l d None keys own none = refl
+not-joined l d (Some f) keys own none = by (is_joined l.local l.foreign d f) refl
+  where
+    by : (b : Bool) → is_joined l.local l.foreign d f ≡ b → b ≡ false
+    by false e = refl
+    by true e = absurd (let same : false ≡ true = sym none ∙ found-by-foreign l d f keys e own in cc)
+
+-- rows are the same that are joined with the same documents
+pub same-joined : (l : Lookup) (d : List Field) (some others : Positioned) → filter (λ e. is_joined l.local l.foreign d e.1) some ≡ filter (λ e. is_joined l.local l.foreign d e.1) others → joined_row l (forget some) d ≡ joined_row l (forget others) d
+same-joined l d some others same =
+    let test = is_joined l.local l.foreign d in
+    ap (λ fs. set_field l.target (array (elements_of (map as_value fs))) d) (sym (forget-filter test some) ∙ ap forget same ∙ forget-filter test others)
+
+-- what is found by the keys of a row is all that it is joined with
+pub joined-found : (l : Lookup) (d : List Field) (documents : Positioned) (keys : List KeyTree) → ((k : KeyTree) → is_one_of keys k ≡ has_local l k d) → joined_row l (forget (filter (λ e. has_any (has_foreign l) keys e.1) documents)) d ≡ joined_row l (forget documents) d
+joined-found l d documents keys own =
+    same-joined l d (filter (λ e. has_any (has_foreign l) keys e.1) documents) documents (filter-through (λ e. is_joined l.local l.foreign d e.1) (λ e. has_any (has_foreign l) keys e.1) (λ e joined. found-by-local l d e.1 keys joined own) documents)

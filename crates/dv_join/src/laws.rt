@@ -1,0 +1,29 @@
+//! What holds of look-ups at positions, each the contract of a function that does nothing: without the positions they are those of
+//! a pipeline, and a change of either side changes few of the rows that they make.
+
+ghost use Rattle.std.specs.Prelude.{◌≡◌, ◌≤◌, length};
+ghost use Rattle.dv_change.specs.declared.change.Change.{Change};
+ghost use Rattle.dv_change.specs.Changes.{IsExactChange, IsPositioned, Positioned, at, forget, place_of, row_in, with_change};
+ghost use Rattle.dv_change.specs.Difference.{diff};
+ghost use Rattle.dv_gather.specs.declared.lookup.Lookup.{Lookup};
+ghost use Rattle.dv_gather.specs.Lookups.{looked_up};
+ghost use Rattle.dv_join.specs.Bounds.{rows_touched};
+ghost use Rattle.dv_join.specs.Placed.{looked_up_at};
+
+/// Without positions, the rows with what they are joined with are those of a `$lookup` of the rows.
+#[tactic(auto, using(crate::proofs::Lawful::lawful))]
+pub fn joined_rows_are_the_rows_looked_up()
+    ensures { (lookup : Lookup) (rows foreign : Positioned) → forget (looked_up_at lookup rows foreign) ≡ looked_up lookup (forget rows) (forget foreign) }
+{}
+
+/// A change of a row changes one at most of the rows that are made.
+#[tactic(auto, using(crate::proofs::Lawful::lawful))]
+pub fn a_change_of_a_row_hands_on_one_change()
+    ensures { (lookup : Lookup) (rows foreign : Positioned) (change : Change) → IsPositioned rows → IsExactChange change → length (diff (looked_up_at lookup rows foreign) (looked_up_at lookup (with_change rows change) foreign)) ≤ 1 }
+{}
+
+/// A change of a document changes at most as many as there are rows that share a value with the one that stood there or with the
+/// one that stands there now.
+pub fn a_change_of_a_document_hands_on_the_rows_that_share_a_value()
+    ensures { (lookup : Lookup) (rows foreign : Positioned) (change : Change) → IsPositioned rows → IsPositioned foreign → IsExactChange change → length (diff (looked_up_at lookup rows foreign) (looked_up_at lookup rows (with_change foreign change))) ≤ rows_touched lookup (at (place_of change) foreign) (row_in change) rows }
+{}

@@ -1,0 +1,10 @@
+//! `$lookup`, kept by changes of both its sides.
+#![tactic(auto)]
+
+mod index;
+mod joining;
+pub mod laws;
+mod lookup;
+
+pub use dv_change::{Chain, Change, Input, Part, Pos, Ticks, Turn};
+pub use lookup::LookupTurn;
