@@ -11,12 +11,12 @@ abbrev pub place : ℕ → PosTree
 place n = At n ∷ []
 
 -- a row with one field, an int32
-abbrev pub row : ℕ → List Field
-row n = (codes "a", int32 (pos n)) ∷ []
+abbrev pub number : ℕ → List Field
+number n = (codes "a", int32 (pos n)) ∷ []
 
 -- the same number as an int64
-abbrev pub wide_row : ℕ → List Field
-wide_row n = (codes "a", int64 (pos n)) ∷ []
+abbrev pub wide_number : ℕ → List Field
+wide_number n = (codes "a", int64 (pos n)) ∷ []
 
 -- a stage that makes what comes to it
 abbrev pub as_it_comes : Form
