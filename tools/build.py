@@ -44,13 +44,13 @@ def tell(text):
 
 
 def find_kit():
-    """Looks whether `rt` is there, and is of the kit that README.md names."""
-    wanted = re.search(r"`rt version` prints `([^`]+)`", (HERE / "README.md").read_text())[1]
+    """Looks whether `rt` is there, and has the logic that README.md names: kits of one logic prove the same."""
+    wanted = re.search(r"`rt version` prints `[^`]*(logic [^`]+)`", (HERE / "README.md").read_text())[1]
     if not shutil.which("rt"):
-        raise Fault("no command `rt` is found: put the folder bin of the Rattle kit on the PATH (its `rt version` prints %s)" % wanted)
+        raise Fault("no command `rt` is found: put the folder bin of the Rattle kit on the PATH (its `rt version` ends in %s)" % wanted)
     said = subprocess.run(["rt", "version"], capture_output=True, text=True).stdout.strip()
-    if said != wanted:
-        raise Fault("another kit is installed: `rt version` prints %s, and it has to be %s" % (said or "nothing", wanted))
+    if not said.endswith(wanted):
+        raise Fault("another kit is installed: `rt version` prints %s, and has to end in %s" % (said or "nothing", wanted))
 
 
 def free_memory():
