@@ -30,7 +30,7 @@ shown_by name vs None is rows shown = let none : rows_shown name vs ≡ None = r
 shown_by name vs (Some v) is rows shown = named_is_there name vs v is
 
 live_is_shown : (mark : Mark) → is_stale_mark mark ≡ false → kept_rows mark ≡ None → ⊥
-live_is_shown (live rows) fresh none = cc
+live_is_shown (live kept) fresh none = cc
 live_is_shown stale fresh none = cc
 
 none_by : (name : List ℕ) (vs : Views) (there : Option View) → view_named name vs ≡ there → is_stale name vs ≡ false → rows_shown name vs ≡ None → has_view name vs ≡ false

@@ -24,7 +24,7 @@ use Rattle.dv_catalog.proofs.Deleted.{NoLongerFound, all_go, all_go_placed}
 use Rattle.dv_catalog.proofs.Keeping.{AreTold, MadeAsTold, StaysRight, UnreadIsNoMatter, all_able, kept_after, kept_same_documents, view_forms}
 use Rattle.dv_catalog.proofs.Keys.{before_ascending}
 use Rattle.dv_catalog.proofs.Making.{aggregates, form, kept_new, less_state, new_state, no_fault, result_of, same_state, view_fault, which_fault}
-use Rattle.dv_catalog.proofs.Refreshed.{Agreeing, over_sources, rows_shown_are}
+use Rattle.dv_catalog.proofs.Refreshed.{Agreeing, KeptAgreeing, over_sources, rows_shown_are}
 
 pub neither : (a b : Bool) → a || b ≡ false → (a ≡ false) × (b ≡ false)
 neither true b is = absurd cc
@@ -33,7 +33,7 @@ neither false b is = (refl, is)
 -- ---- a new view
 
 module _ (name source : List ℕ) (stages : List Stage) (namespaces : Namespaces) (vs : Views) (none : is_there name (state_of namespaces vs) ≡ false) where
-  pub view_kept : Agreeing → ((all : Lists) (ws : Views) → AreRight all ws → AreRight all (ws ++ new_view name source stages all ∷ [])) → (rows : List (List Field)) (sources : List pipes.Source) → rows ≡ documents_of source namespaces
+  pub view_kept : KeptAgreeing → ((all : Lists) (ws : Views) → AreRight all ws → AreRight all (ws ++ new_view name source stages all ∷ [])) → (rows : List (List Field)) (sources : List pipes.Source) → rows ≡ documents_of source namespaces
       → AreFor stages source rows namespaces sources → IsKept namespaces vs → IsKept namespaces (vs ++ new_view name source stages (pipes.lists_of sources) ∷ [])
   view_kept agree law rows sources are listed kept =
       let over = over_sources agree stages source namespaces sources (subst (λ (ds : List (List Field)). AreFor stages source ds namespaces sources) are listed) in

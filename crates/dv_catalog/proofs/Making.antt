@@ -9,7 +9,7 @@ use Rattle.dv_fields.specs.declared.refusal.Refusal.{Refusal}
 use Rattle.dv_fields.specs.declared.refusal.Refusal.TheVariants.{OnView, ReadByView, LimitReached, WantOfMemory}
 use Rattle.dv_pipe.specs.Stages.{Lists, evaluated, is_named, is_read, looked_into}
 use Rattle.dv_pipe.specs.declared.stage.Stage.{Stage}
-use Rattle.dv_views.specs.Views.{AreRight, IsRefusedFor, View, Views, fault_of_new, new_view, without}
+use Rattle.dv_views.specs.Views.{AreRight, IsRefusedFor, View, Views, fault_of_new, kept_anew, new_view, without}
 use Rattle.dv_views.specs.Views as views
 use Rattle.dv_views.specs.declared.fault.ViewFault.{ViewFault}
 use Rattle.dv_views.specs.declared.fault.ViewFault.TheVariants as faults
@@ -67,7 +67,7 @@ module _ (name source : List ℕ) (stages : List Stage) (vs : Views) where
       by_name rest true e = inl refl
       by_name rest false e = rest e
 
-  pub kept_new : (namespaces : Namespaces) (lists : Lists) → evaluated stages source lists ≡ evaluated stages source (lists_of namespaces)
+  pub kept_new : (namespaces : Namespaces) (lists : Lists) → kept_anew stages source lists ≡ kept_anew stages source (lists_of namespaces)
       → ((all : Lists) (ws : Views) → AreRight all ws → AreRight all (ws ++ new_view name source stages all ∷ [])) → is_collection name namespaces ≡ false → IsKept namespaces vs → IsKept namespaces (vs ++ new_view name source stages lists ∷ [])
   kept_new namespaces lists same law none kept =
       let views_are : new_view name source stages lists ≡ new_view name source stages (lists_of namespaces) = λ i. record { name = name; source = source; stages = stages; mark = views.live (same i) } in

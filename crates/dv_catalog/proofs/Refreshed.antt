@@ -7,7 +7,8 @@ use Rattle.std.specs.Str.{bytes_eq}
 use Rattle.dv_pipe.specs.Sources as pipes
 use Rattle.dv_pipe.specs.Stages.{Lists, evaluated, is_read}
 use Rattle.dv_pipe.specs.declared.stage.Stage.{Stage}
-use Rattle.dv_views.specs.Views.{AreNamedApart, AreRight, IsRight, Mark, View, Views, has_name, live, made_anew, mark_anew, refreshed, rows_of_view, stale, view_named}
+use Rattle.dv_views.specs.Placed.{places_of}
+use Rattle.dv_views.specs.Views.{AreNamedApart, AreRight, IsRight, Kept, Mark, View, Views, has_name, kept_anew, live, made_anew, mark_anew, refreshed, rows_of_view, stale, taken_from, view_named}
 use Rattle.dv_views.specs.Views as views
 use Rattle.dv_catalog.specs.CatalogParts.{form_of, is_stale, is_stale_mark, is_stale_view, rows_kept, state_of}
 use Rattle.dv_catalog.specs.SourceParts.{AreFor}
@@ -16,6 +17,10 @@ use Rattle.dv_catalog.specs.State.{Namespaces, ViewForm, documents_of, lists_of,
 
 abbrev pub Agreeing : Type 0
 Agreeing = (stages : List Stage) (source : List ℕ) (lists others : Lists) → ((name : List ℕ) → is_read stages source name ≡ true → lists name ≡ others name) → evaluated stages source lists ≡ evaluated stages source others
+
+-- what dv_views's law says of what is kept
+abbrev pub KeptAgreeing : Type 0
+KeptAgreeing = (stages : List Stage) (source : List ℕ) (lists others : Lists) → ((name : List ℕ) → is_read stages source name ≡ true → lists name ≡ others name) → kept_anew stages source lists ≡ kept_anew stages source others
 
 -- ---- the view of a name is the only one
 
@@ -46,15 +51,19 @@ module _ (P : View → Type 0) (name : List ℕ) where
 
 -- ---- one made anew
 
-anew_right : (lists others : Lists) (v : View) (m : Mark) → v.mark ≡ m → rows_of_view v lists ≡ rows_of_view v others → views.AreKept m (rows_of_view v others) → views.AreKept (mark_anew v lists m) (rows_of_view v others)
-anew_right lists others v (live rows) is same right = right
-anew_right lists others v stale is same right = same
+abbrev IsAgreed : Lists → Lists → View → Type 0
+IsAgreed lists others v = kept_anew v.stages v.source lists ≡ kept_anew v.stages v.source others
 
-refreshed_one : (lists others : Lists) (v : View) (b : Bool) → (b ≡ true → rows_of_view v lists ≡ rows_of_view v others) → IsRight others v → IsRight others (if b then made_anew lists v else v)
-refreshed_one lists others v true same right = anew_right lists others v v.mark refl (same refl) right
+anew_right : (lists others : Lists) (v : View) (m : Mark) → IsAgreed lists others v → views.AreKept m (taken_from v.stages v.source (places_of others)) (rows_of_view v others)
+    → views.AreKept (mark_anew v.stages v.source lists m) (taken_from v.stages v.source (places_of others)) (rows_of_view v others)
+anew_right lists others v (live kept) same right = right
+anew_right lists others v stale same right = (ap (λ (k : Kept). k.taken) same, ap (λ (k : Kept). k.rows) same)
+
+refreshed_one : (lists others : Lists) (v : View) (b : Bool) → (b ≡ true → IsAgreed lists others v) → IsRight others v → IsRight others (if b then made_anew lists v else v)
+refreshed_one lists others v true same right = anew_right lists others v v.mark (same refl) right
 refreshed_one lists others v false same right = right
 
-pub refreshed_right : (name : List ℕ) (lists others : Lists) (vs : Views) → AllByRecursion (λ v. has_name name v ≡ true → rows_of_view v lists ≡ rows_of_view v others) vs → AreRight others vs → AreRight others (refreshed name lists vs)
+pub refreshed_right : (name : List ℕ) (lists others : Lists) (vs : Views) → AllByRecursion (λ v. has_name name v ≡ true → IsAgreed lists others v) vs → AreRight others vs → AreRight others (refreshed name lists vs)
 refreshed_right name lists others [] same right = tt
 refreshed_right name lists others (v ∷ vs) same right = (refreshed_one lists others v (has_name name v) same.0 right.0, refreshed_right name lists others vs same.1 right.1)
 
@@ -66,8 +75,8 @@ pub refreshed_forms : (name : List ℕ) (lists : Lists) (vs : Views) → map for
 refreshed_forms name lists [] = refl
 refreshed_forms name lists (v ∷ vs) = λ i. form_anew lists v (has_name name v) i ∷ refreshed_forms name lists vs i
 
-anew_live : (lists : Lists) (v : View) (m : Mark) → is_stale_mark (mark_anew v lists m) ≡ false
-anew_live lists v (live rows) = refl
+anew_live : (lists : Lists) (v : View) (m : Mark) → is_stale_mark (mark_anew v.stages v.source lists m) ≡ false
+anew_live lists v (live kept) = refl
 anew_live lists v stale = refl
 
 pub refreshed_fresh : (name : List ℕ) (lists : Lists) (vs : Views) → is_stale name (refreshed name lists vs) ≡ false
@@ -84,11 +93,11 @@ own_rows : (b : Bool) (source name : List ℕ) (namespaces : Namespaces) → byt
 own_rows true source name namespaces e = ap (λ (n : List ℕ). documents_of n namespaces) (is_same source name e)
 own_rows false source name namespaces e = refl
 
-pub over_sources : Agreeing → (stages : List Stage) (source : List ℕ) (namespaces : Namespaces) (sources : List pipes.Source) → AreFor stages source (documents_of source namespaces) namespaces sources
-    → evaluated stages source (pipes.lists_of sources) ≡ evaluated stages source (lists_of namespaces)
+pub over_sources : KeptAgreeing → (stages : List Stage) (source : List ℕ) (namespaces : Namespaces) (sources : List pipes.Source) → AreFor stages source (documents_of source namespaces) namespaces sources
+    → kept_anew stages source (pipes.lists_of sources) ≡ kept_anew stages source (lists_of namespaces)
 over_sources agree stages source namespaces sources are = agree stages source (pipes.lists_of sources) (lists_of namespaces) (λ name read. are name read ∙ own_rows (bytes_eq source name) source name namespaces refl)
 
-module _ (agree : Agreeing) (namespaces : Namespaces) (sources : List pipes.Source) (name source : List ℕ) (stages : List Stage) (vs : Views) where
+module _ (agree : KeptAgreeing) (namespaces : Namespaces) (sources : List pipes.Source) (name source : List ℕ) (stages : List Stage) (vs : Views) where
   is_form : (there : Option View) → Some source ≡ option_map (λ v. v.source) there → Some stages ≡ option_map (λ v. v.stages) there → (v : View) → there ≡ Some v → (source ≡ v.source) × (stages ≡ v.stages)
   is_form None s t v is = absurd cc
   is_form (Some w) s t v is =
@@ -102,11 +111,11 @@ module _ (agree : Agreeing) (namespaces : Namespaces) (sources : List pipes.Sour
   refresh_right apart s t are right =
       let over = over_sources agree stages source namespaces sources are in
       refreshed_right name (pipes.lists_of sources) (lists_of namespaces) vs
-      (all_named (λ v. rows_of_view v (pipes.lists_of sources) ≡ rows_of_view v (lists_of namespaces)) name vs (view_named name vs) apart refl
+      (all_named (λ v. IsAgreed (pipes.lists_of sources) (lists_of namespaces) v) name vs (view_named name vs) apart refl
       (λ v is.
       let same = is_form (view_named name vs) s t v is in
-      subst (λ (p : List Stage). evaluated p v.source (pipes.lists_of sources) ≡ evaluated p v.source (lists_of namespaces)) same.1
-      (subst (λ (n : List ℕ). evaluated stages n (pipes.lists_of sources) ≡ evaluated stages n (lists_of namespaces)) same.0 over)))
+      subst (λ (p : List Stage). kept_anew p v.source (pipes.lists_of sources) ≡ kept_anew p v.source (lists_of namespaces)) same.1
+      (subst (λ (n : List ℕ). kept_anew stages n (pipes.lists_of sources) ≡ kept_anew stages n (lists_of namespaces)) same.0 over)))
       right
 
 -- ---- what stands under a name
@@ -127,9 +136,9 @@ right_named name lists (w ∷ vs) right v is = by_name (right_named name lists v
     by_name rest true is = let same : w ≡ v = cc in subst (IsRight lists) same right.0
     by_name rest false is = rest is
 
-shown : (name : List ℕ) (namespaces : Namespaces) (v : View) (m : Mark) → v.mark ≡ m → is_stale_mark m ≡ false → views.AreKept m (rows_of_view v (lists_of namespaces))
+shown : (name : List ℕ) (namespaces : Namespaces) (v : View) (m : Mark) → v.mark ≡ m → is_stale_mark m ≡ false → views.AreKept m (taken_from v.stages v.source (places_of (lists_of namespaces))) (rows_of_view v (lists_of namespaces))
     → views.kept_rows m ≡ Some (evaluated v.stages v.source (lists_of namespaces))
-shown name namespaces v (live rows) is fresh right = ap Some right
+shown name namespaces v (live kept) is fresh right = ap Some right.1
 shown name namespaces v stale is fresh right = absurd cc
 
 pub rows_shown_are : (name : List ℕ) (namespaces : Namespaces) (vs : Views) → AreRight (lists_of namespaces) vs → is_stale name vs ≡ false → rows_kept name namespaces vs ≡ rows_of name (state_of namespaces vs)

@@ -1,7 +1,8 @@
 -- The lists of a pipeline, one after the other.
 use Rattle.std.proofs.Common.{◌≡◌, ◌⊎◌, inl, inr, ◌||◌, ℕ, Bool, true, false, if◌then◌else◌, List, [], ◌∷◌, ◌++◌, Option, Some, None, refl, sym, ap, subst, ◌∙◌}
 use Rattle.std.proofs.lemmas.Slice.Eq.{bytes_eq-Decides}
-use Rattle.std.specs.List.{list_any}
+use Rattle.std.specs.List.{AllByRecursion, list_any}
+use Rattle.std.specs.List.Sorted.{IsStrictlySortedBy}
 use Rattle.std.specs.Option.{option_map}
 use Rattle.std.specs.Str.{bytes_eq}
 use Rattle.dv_bson.specs.Tree.{Field}
@@ -9,7 +10,7 @@ use Rattle.dv_pipe.specs.Sources.{Source, rows_under}
 use Rattle.dv_pipe.specs.Stages.{beside, from_of, is_named, is_read, looked_into}
 use Rattle.dv_pipe.specs.declared.stage.Stage.{Stage}
 use Rattle.dv_catalog.specs.SourceParts.{with_rows}
-use Rattle.dv_catalog.specs.State.{Namespaces, ViewForm, documents_of, is_view}
+use Rattle.dv_catalog.specs.State.{AreOrdered, Namespaces, ViewForm, documents_of, is_view}
 use Rattle.dv_catalog.specs.Views.{is_view_at, looks_into_view}
 
 abbrev pub is_among : List ℕ → List Source → Bool
@@ -70,6 +71,7 @@ module _ (name m : List ℕ) (rows : List (List Field)) where
 module _ (stages : List Stage) (source : List ℕ) (rows : List (List Field)) (namespaces : Namespaces) where
   -- the lists so far, and the stages that are still to be looked at
   pub record AreListed (sources : List Source) (rest : List Stage) : Type 0 where
+    pub ordered : AreOrdered rows → AllByRecursion (λ s. AreOrdered s.1) sources
     pub first : is_among source sources ≡ true
     pub right : (name : List ℕ) → is_among name sources ≡ true → rows_under name sources ≡ with_rows source rows namespaces name
     pub all : (name : List ℕ) → is_read stages source name ≡ true → (is_among name sources ≡ true) ⊎ (look_into rest source name ≡ true)
@@ -80,6 +82,7 @@ module _ (stages : List Stage) (source : List ℕ) (rows : List (List Field)) (n
   -- a stage that looks into nothing
   pub listed_same : (sources : List Source) (s : Stage) (rest : List Stage) → AreListed sources (s ∷ rest) → None ≡ from_of s → AreListed sources rest
   listed_same sources s rest listed none = record {
+    ordered = listed.ordered;
     first = listed.first;
     right = listed.right;
     all = λ name read. either name (listed.all name read);
@@ -117,8 +120,13 @@ module _ (stages : List Stage) (source : List ℕ) (rows : List (List Field)) (n
     more_all name true c e (inr is) = inl (among_new name m (documents_of m namespaces) sources e)
     more_all name false c e (inr is) = inr is
 
-    pub listed_more : (collection : List ℕ) → Some collection ≡ from_of s → m ≡ beside source collection → AreListed more rest
-    listed_more collection from is = record {
+    all_ordered : (ss : List Source) → AllByRecursion (λ s. AreOrdered s.1) ss → AreOrdered (documents_of m namespaces) → AllByRecursion (λ s. AreOrdered s.1) (ss ++ (m, documents_of m namespaces) ∷ [])
+    all_ordered [] all one = (one, tt)
+    all_ordered (s ∷ ss) all one = (all.0, all_ordered ss all.1 one)
+
+    pub listed_more : (collection : List ℕ) → Some collection ≡ from_of s → m ≡ beside source collection → AreOrdered (documents_of m namespaces) → AreListed more rest
+    listed_more collection from is order = record {
+      ordered = λ own. all_ordered sources (listed.ordered own) order;
       first = among_more source m (documents_of m namespaces) sources listed.first;
       right = more_right;
       all = λ name read. more_all name (bytes_eq name m) (look_into rest source name) refl (named name (listed.all name read));
@@ -129,6 +137,20 @@ module _ (stages : List Stage) (source : List ℕ) (rows : List (List Field)) (n
         named name (inr e) =
             inr (subst (λ (n : List ℕ). bytes_eq name n || look_into rest source name ≡ true) (sym is)
             (subst (λ (f : Option (List ℕ)). is_named name (option_map (beside source) f) || look_into rest source name ≡ true) (sym from) e))
+
+-- ---- lists in order
+
+none_ordered : AreOrdered []
+unfolding IsStrictlySortedBy
+none_ordered = (tt, tt)
+
+pub ordered_under : (name : List ℕ) (sources : List Source) → AllByRecursion (λ s. AreOrdered s.1) sources → AreOrdered (rows_under name sources)
+ordered_under name [] all = none_ordered
+ordered_under name (s ∷ ss) all = by_name (bytes_eq name s.0) (ordered_under name ss all.1)
+  where
+    by_name : (b : Bool) → AreOrdered (rows_under name ss) → AreOrdered (if b then s.1 else rows_under name ss)
+    by_name true rest = all.0
+    by_name false rest = rest
 
 -- ---- whether a stage looks into a view, one after the other
 

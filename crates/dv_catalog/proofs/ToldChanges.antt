@@ -7,7 +7,8 @@ use Rattle.dv_change.specs.declared.change.Change as flow
 use Rattle.dv_change.specs.declared.change.Change.TheVariants.{Put, Gone}
 use Rattle.dv_change.specs.declared.position.Part.TheVariants.{Up}
 use Rattle.dv_order.specs.Key.{KeyTree}
-use Rattle.dv_views.specs.Changed.{AreMade, AreMadeInTurn, IsMade, changed, own_position}
+use Rattle.dv_views.specs.Changed.{AreMade, AreMadeInTurn, IsMade, changed}
+use Rattle.dv_views.specs.Placed.{own_position}
 use Rattle.dv_catalog.specs.Changes.{Change, put, gone, with_change, with_changes}
 use Rattle.dv_catalog.specs.EffectView.{AreAble, BeginsWithId, IsAble}
 use Rattle.dv_catalog.specs.State.{AreOrdered}

@@ -14,7 +14,7 @@ abbrev pub form_of : views.View → ViewForm
 form_of v = record { name = v.name; source = v.source; stages = v.stages }
 
 abbrev pub is_stale_mark : views.Mark → Bool
-is_stale_mark (views.live rows) = false
+is_stale_mark (views.live kept) = false
 is_stale_mark views.stale = true
 
 abbrev pub is_stale_view : Option views.View → Bool

@@ -283,7 +283,7 @@ impl Catalog {
         ensures { Leaves (making.made namespace.now (Some (view_on_seen view)) self.old) self.old result self.new }
     {
         let ViewOn { source, pipeline } = view;
-        dv_pipe::laws::what_is_not_read_does_not_matter();
+        dv_views::laws::what_is_not_read_is_not_kept();
         dv_views::laws::a_new_view_leaves_views_right();
         let rows = references(self.alloc, self.collections.rows(&source))?;
         let sources = sources_of(self.alloc, &self.collections, &pipeline, &source, rows)?;

@@ -17,7 +17,8 @@ use dv_bson::{Document, NoMemory};
 use dv_coll::laws;
 use dv_command::Deletion;
 use dv_index::IndexedCollection;
-use dv_order::{Key, key_of};
+use dv_order::Key;
+use dv_views::key_of_id;
 use std::alloc::Global;
 
 /// What a deletion does to the documents of a collection. Fails where memory is wanting.
@@ -52,17 +53,6 @@ fn keys_of(alloc: Global, documents: &[&Document]) -> Result<Vec<Key>, NoMemory>
         keys.push(key_of_id(document)?)?;
     }
     Ok(keys)
-}
-
-/// The key of the document's `_id`. Fails where memory is wanting.
-pub(crate) fn key_of_id(document: &Document) -> Result<Key, NoMemory>
-    requires { HasId document.now }
-    ensures { IfOk result (λ key. key ≡ id_key document.now) }
-{
-    let Some((_, id)) = document.entry(0) else {
-        unreachable!()
-    };
-    key_of(id)
 }
 
 /// Takes out the documents under the keys, until memory is wanting, and answers how many were taken out.

@@ -1,15 +1,16 @@
 //! The lists that a pipeline reads.
 
 ghost use Rattle.std.specs.Prelude.{◌≡◌, IfOk};
-ghost use Rattle.std.specs.String.{string_bytes};
+ghost use Rattle.std.specs.List.{AllByRecursion};
 ghost use Rattle.dv_pipe.specs.Sources.{referred};
-ghost use Rattle.dv_pipe.specs.Stages as defined;
 ghost use Rattle.dv_catalog.specs.SourceParts.{AreFor};
+ghost use Rattle.dv_catalog.specs.State.{AreOrdered};
 
 use crate::collections::Collections;
 use crate::rows::Rows;
 use dv_bson::{Document, NoMemory};
 use dv_pipe::{Pipeline, Sources};
+use dv_views::beside;
 use std::alloc::Global;
 
 /// The lists that a pipeline over `source` reads, where these are the rows of `source`, and others are those of
@@ -21,7 +22,8 @@ pub(crate) fn sources_of<'a>(
     source: &str,
     rows: Vec<&'a Document>,
 ) -> Result<Sources<'a>, NoMemory>
-    ensures { IfOk result (λ sources. AreFor pipeline.now source.now (referred rows.entry.items) collections.now sources) }
+    ensures lists { IfOk result (λ sources. AreFor pipeline.now source.now (referred rows.entry.items) collections.now sources) }
+    ensures ordered { IfOk result (λ sources. AreOrdered (referred rows.entry.items) → AllByRecursion (λ list. AreOrdered list.1) sources) }
 {
     let mut sources = Sources::new(alloc);
     sources.add(source, rows)?;
@@ -44,18 +46,4 @@ pub(crate) fn references<'a>(alloc: Global, rows: Rows<'a>) -> Result<Vec<&'a Do
         references.push(row)?;
     }
     Ok(references)
-}
-
-/// The namespace of the collection in the database of `source`. Fails where memory is wanting.
-pub(crate) fn beside(alloc: Global, source: &str, collection: &str) -> Result<String, NoMemory>
-    ensures { IfOk result (λ namespace. string_bytes namespace ≡ defined.beside source.now collection.now) }
-{
-    let database = match source.split_once('.') {
-        Some((database, _)) => database,
-        None => source,
-    };
-    let mut namespace = String::from_str(alloc, database)?;
-    namespace.push('.')?;
-    namespace.push_str(collection)?;
-    Ok(namespace)
 }

@@ -6,15 +6,14 @@ ghost use Rattle.dv_coll.specs.Collection.{HasId, id_key};
 ghost use Rattle.dv_catalog.specs.Changes as changing;
 ghost use Rattle.dv_catalog.specs.EffectView.{BeginsWithId, after_of, changes_seen};
 ghost use Rattle.dv_catalog.specs.Told as defined;
-ghost use Rattle.dv_change.specs.declared.position.Part.TheVariants.{Up};
 
-use crate::delete::key_of_id;
 use crate::effect::{Changes, Updated, Updates};
 use crate::rows::Rows;
 use dv_bson::{Document, NoMemory};
-use dv_change::{Change, Part, Pos};
+use dv_change::Change;
 use dv_order::Key;
 use dv_update::Outcome;
+use dv_views::{document_gone, document_put, key_of_id};
 use std::alloc::Global;
 
 /// The changes as they are told to views. Fails where memory is wanting.
@@ -35,7 +34,7 @@ fn all_put(alloc: Global, updates: &Updates) -> Result<Vec<Change>, NoMemory>
     let mut all = Vec::with_capacity(alloc, updates.each.len())?;
     'documents: for document in &updates.each {
         let after = whole_after(updates.name.as_str(), document)?;
-        all.push(put(alloc, &after)?)?;
+        all.push(document_put(alloc, &after)?)?;
     }
     Ok(all)
 }
@@ -60,7 +59,7 @@ fn all_gone(alloc: Global, keys: &[Key]) -> Result<Vec<Change>, NoMemory>
 {
     let mut all = Vec::with_capacity(alloc, keys.len())?;
     'keys: for key in keys {
-        all.push(gone(alloc, key.try_clone()?)?)?;
+        all.push(document_gone(alloc, key.try_clone()?)?)?;
     }
     Ok(all)
 }
@@ -72,7 +71,7 @@ pub(crate) fn each_gone(alloc: Global, documents: Rows<'_>) -> Result<Vec<Change
 {
     let mut all = Vec::new(alloc);
     'documents: for document in documents {
-        all.push(gone(alloc, key_of_id(document)?)?)?;
+        all.push(document_gone(alloc, key_of_id(document)?)?)?;
     }
     Ok(all)
 }
@@ -83,34 +82,6 @@ pub(crate) fn one_put(alloc: Global, document: &Document) -> Result<Vec<Change>,
     ensures { IfOk result (λ all. all.items ≡ defined.told (changing.put document.now) ∷ []) }
 {
     let mut all = Vec::with_capacity(alloc, 1)?;
-    all.push(put(alloc, document)?)?;
+    all.push(document_put(alloc, document)?)?;
     Ok(all)
-}
-
-/// The document, which is shared, put at its place.
-fn put(alloc: Global, document: &Document) -> Result<Change, NoMemory>
-    requires { HasId document.now }
-    ensures { IfOk result (λ change. change ≡ defined.told (changing.put document.now)) }
-{
-    Ok(Change::Put {
-        pos: place(alloc, key_of_id(document)?)?,
-        row: document.try_clone()?,
-    })
-}
-
-fn gone(alloc: Global, key: Key) -> Result<Change, NoMemory>
-    ensures { IfOk result (λ change. change ≡ defined.told (changing.gone key)) }
-{
-    Ok(Change::Gone {
-        pos: place(alloc, key)?,
-    })
-}
-
-/// The position under a key.
-fn place(alloc: Global, key: Key) -> Result<Pos, NoMemory>
-    ensures { IfOk result (λ pos. pos ≡ Up key ∷ []) }
-{
-    let mut parts = Vec::with_capacity(alloc, 1)?;
-    parts.push(Part::Up(key))?;
-    Pos::of(alloc, parts)
 }

@@ -17,13 +17,13 @@ ghost use Rattle.dv_update.specs.Parsing.{Gives};
 ghost use Rattle.dv_update.specs.UpdateView as seen;
 
 use crate::chosen::chosen;
-use crate::delete::key_of_id;
 use crate::effect::{Changes, Effect, Updated, Updates};
 use dv_bson::{Document, NoMemory, Str};
 use dv_coll::laws;
 use dv_command::{Refusal, Updating};
 use dv_index::IndexedCollection;
 use dv_update::{Outcome, Update, UpdateFault};
+use dv_views::key_of_id;
 use std::alloc::Global;
 
 /// What an updating does to the documents of a collection: where they are wanted whole, each as a whole document. Refused as

@@ -8,10 +8,10 @@ ghost use Rattle.dv_catalog.specs.Views as making;
 
 use crate::collections::Collections;
 use crate::rows::Rows;
-use crate::sources::{beside, references, sources_of};
+use crate::sources::{references, sources_of};
 use dv_bson::NoMemory;
 use dv_pipe::Pipeline;
-use dv_views::{Registry, ViewState};
+use dv_views::{Registry, ViewState, beside};
 use std::alloc::Global;
 
 /// Rebuilds the view of this name where it is stale. Fails where memory is wanting; then it stays so.
@@ -25,7 +25,7 @@ pub(crate) fn refresh(
     ensures forms { map form_of registry.new ≡ map form_of registry.old }
     ensures fresh { OnOk result (is_stale name.now registry.new ≡ false) }
 {
-    dv_pipe::laws::what_is_not_read_does_not_matter();
+    dv_views::laws::what_is_not_read_is_not_kept();
     // Most stores have no view.
     if registry.len() == 0 || !matches!(registry.state(name), Some(ViewState::Stale)) {
         return Ok(());

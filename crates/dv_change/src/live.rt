@@ -61,6 +61,17 @@ impl<T: Turn + Drop> Live<T> {
         Ok(live)
     }
 
+    /// The same rows, with nothing counted.
+    pub fn counted_anew(self) -> Self
+        ensures chain { result.chain ≡ self.chain }
+        ensures rows { result.rows.entries ≡ self.rows.entries }
+        ensures ticks { result.ticks ≡ 0 }
+    {
+        let mut live = self;
+        live.ticks = Ticks::new();
+        live
+    }
+
     /// The rows, in the order of their positions.
     pub fn rows(&self) -> Values<'_, Pos, Document>
         ensures { result ≡ forget self.now.rows.entries }

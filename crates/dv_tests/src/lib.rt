@@ -21,3 +21,5 @@ mod sizes;
 mod spelled;
 #[cfg(test)]
 mod turns;
+#[cfg(test)]
+mod views;

@@ -19,7 +19,7 @@ fn place(alloc: Global, number: u64) -> Result<Pos, Fail> {
 }
 
 /// The row is put at the number.
-fn put(alloc: Global, number: u64, row: &[u8]) -> Result<Change, Fail> {
+pub(crate) fn put(alloc: Global, number: u64, row: &[u8]) -> Result<Change, Fail> {
     let (pos, row) = (place(alloc, number)?, document(alloc, row)?);
     Ok(Change::Put { pos, row })
 }

@@ -1,6 +1,12 @@
 pub mod Made
 pub mod Turns
+pub mod Scratch
 pub mod Right
+pub mod Behind
+pub mod Rolling
+pub mod Filling
+pub mod Anew
 pub mod Entries
+pub mod WellKept
 pub mod Marked
 pub mod Limit

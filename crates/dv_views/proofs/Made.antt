@@ -16,7 +16,8 @@ use Rattle.dv_change.specs.declared.position.Part.TheVariants.{Up}
 use Rattle.dv_change.specs.Changes.{Positioned}
 use Rattle.dv_change.specs.Positions.{pos_order}
 use Rattle.dv_pipe.specs.Sources.{Row}
-use Rattle.dv_views.specs.Changed.{changed, own_position, positioned}
+use Rattle.dv_views.specs.Changed.{changed}
+use Rattle.dv_views.specs.Placed.{own_position, positioned}
 
 -- no document of the list has the key
 abbrev AreApart : KeyTree → List Row → Type 0

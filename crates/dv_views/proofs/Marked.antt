@@ -1,62 +1,60 @@
--- Views of which some of the first are after a change.
+-- Views of which some of the first have taken in a change.
 use Rattle.std.proofs.Common.{◌≡◌, ℕ, zero, suc, ◌+◌, ◌≤◌, List, [], ◌∷◌, map, length, Some, slice_get, refl, ap, sym, subst, ◌∙◌, arith}
-use Rattle.std.specs.List.{IsDistinct}
+use Rattle.std.specs.List.{AllByRecursion, IsDistinct}
 use Rattle.std.specs.Map.{values_of}
 use Rattle.std.specs.Str.{bytes_eq}
 use Rattle.std.specs.String.{string_bytes}
 use Rattle.indexmap.specs.IndexMap.{set_value_at}
-use Rattle.dv_views.specs.declared.view.View as form
-use Rattle.dv_views.specs.Seen.{seen, view_seen}
-use Rattle.dv_views.specs.Views.{AreNamedApart, Views, after_change}
+use Rattle.dv_change.specs.declared.change.Change.{Change}
+use Rattle.dv_views.specs.Seen.{AreTakenBy, IsTakenBy, seen}
+use Rattle.dv_views.specs.Views.{AreNamedApart, Body, View, Views, named}
 use Rattle.dv_views.proofs.Entries.{Entries, views}
 
-module _ (namespace : List ℕ) where
-  -- the first n views after the change, and the others as they are
-  abbrev pub first_after : ℕ → Views → Views
-  first_after zero vs = vs
-  first_after (suc n) [] = []
-  first_after (suc n) (v ∷ vs) = after_change namespace v ∷ first_after n vs
+module _ (namespace : List ℕ) (c : Change) where
+  -- the first n of the views have taken in the change, and the others are as they were
+  abbrev pub HaveTaken : ℕ → Views → Views → Type 0
+  HaveTaken zero vs ws = ws ≡ vs
+  HaveTaken (suc n) [] ws = ws ≡ []
+  HaveTaken (suc n) (v ∷ vs) [] = ⊥
+  HaveTaken (suc n) (v ∷ vs) (w ∷ ws) = IsTakenBy namespace c v w × HaveTaken n vs ws
 
-  -- the views, the one at a place after the change
-  abbrev at_place : ℕ → Views → Views
-  at_place n [] = []
-  at_place zero (v ∷ vs) = after_change namespace v ∷ vs
-  at_place (suc n) (v ∷ vs) = v ∷ at_place n vs
-
-  one-more : (n : ℕ) (vs : Views) → at_place n (first_after n vs) ≡ first_after (suc n) vs
-  one-more zero [] = refl
-  one-more zero (v ∷ vs) = refl
-  one-more (suc n) [] = refl
-  one-more (suc n) (v ∷ vs) = ap (λ us. after_change namespace v ∷ us) (one-more n vs)
-
-  module _ {Y : Type 0} (old new : form.View) (noted : (name : List ℕ) → view_seen name new ≡ after_change namespace (view_seen name old)) where
-    set-seen : (n : ℕ) (es : Entries Y) → slice_get (values_of es) n ≡ Some old → views (set_value_at es n new) ≡ at_place n (views es)
-    set-seen n [] e = absurd cc
-    set-seen zero (e ∷ es) there =
+  module _ {Y : Type 0} (old new : Body) (taken : (name : List ℕ) → IsTakenBy namespace c (named name old) (named name new)) where
+    next : (n : ℕ) (es : Entries Y) (before : Views) → HaveTaken n before (views es) → slice_get (values_of es) n ≡ Some old → HaveTaken (suc n) before (views (set_value_at es n new))
+    next zero [] before e there = absurd cc
+    next zero (e ∷ es) [] is there = absurd cc
+    next zero (e ∷ es) (v ∷ vs) is there =
         let was : e.1 ≡ old = cc in
-        ap (λ v. v ∷ views es) (noted (string_bytes e.0) ∙ ap (λ w. after_change namespace (view_seen (string_bytes e.0) w)) (sym was))
-    set-seen (suc n) (e ∷ es) there = ap (λ vs. seen e ∷ vs) (set-seen n es there)
+        let same : seen e ≡ v = cc in
+        let rest : views es ≡ vs = cc in
+        (subst (λ (u : View). IsTakenBy namespace c u (named (string_bytes e.0) new)) (ap (named (string_bytes e.0)) (sym was) ∙ same) (taken (string_bytes e.0)), rest)
+    next (suc n) [] before h there = absurd cc
+    next (suc n) (e ∷ es) [] h there = absurd cc
+    next (suc n) (e ∷ es) (v ∷ vs) h there = (h.0, next n es vs h.1 there)
 
-    pub noted_next : (n : ℕ) (es : Entries Y) (before : Views) → views es ≡ first_after n before → slice_get (values_of es) n ≡ Some old → views (set_value_at es n new) ≡ first_after (n + 1) before
-    noted_next n es before e there =
+    pub taken_next : (n : ℕ) (es : Entries Y) (before : Views) → HaveTaken n before (views es) → slice_get (values_of es) n ≡ Some old → HaveTaken (n + 1) before (views (set_value_at es n new))
+    taken_next n es before h there =
         let more : suc n ≡ n + 1 = omega arith in
-        set-seen n es there ∙ ap (at_place n) e ∙ one-more n before ∙ ap (λ m. first_after m before) more
+        subst (λ (m : ℕ). HaveTaken m before (views (set_value_at es n new))) more (next n es before h there)
 
-  all-after : (vs : Views) → first_after (length vs) vs ≡ map (after_change namespace) vs
-  all-after [] = refl
-  all-after (v ∷ vs) = ap (λ us. after_change namespace v ∷ us) (all-after vs)
+  all-taken : (vs ws : Views) → HaveTaken (length vs) vs ws → AreTakenBy namespace c vs ws
+  all-taken [] ws h = subst (λ (us : Views). AreTakenBy namespace c [] us) (sym h) tt
+  all-taken (v ∷ vs) [] h = h
+  all-taken (v ∷ vs) (w ∷ ws) h = (h.0, all-taken vs ws h.1)
 
-  pub all_after : (n end : ℕ) (vs : Views) → length vs ≡ end → n ≤ end → end ≤ n → first_after n vs ≡ map (after_change namespace) vs
-  all_after n end vs all within stop =
+  pub all_taken : (n end : ℕ) (vs ws : Views) → length vs ≡ end → n ≤ end → end ≤ n → HaveTaken n vs ws → AreTakenBy namespace c vs ws
+  all_taken n end vs ws all within stop h =
       let is : n ≡ length vs = omega arith in
-      ap (λ m. first_after m vs) is ∙ all-after vs
+      all-taken vs ws (subst (λ (m : ℕ). HaveTaken m vs ws) is h)
 
-  names-after : (vs : Views) → map (λ v. v.name) (map (after_change namespace) vs) ≡ map (λ v. v.name) vs
-  names-after [] = refl
-  names-after (v ∷ vs) = ap (λ ns. v.name ∷ ns) (names-after vs)
+  -- names stay apart
+  names-taken : (vs ws : Views) → AreTakenBy namespace c vs ws → map (λ v. v.name) ws ≡ map (λ v. v.name) vs
+  names-taken [] [] h = refl
+  names-taken [] (w ∷ ws) h = absurd h
+  names-taken (v ∷ vs) [] h = absurd h
+  names-taken (v ∷ vs) (w ∷ ws) h = λ i. h.0.name i ∷ names-taken vs ws h.1 i
 
-  pub apart_after : (vs : Views) → AreNamedApart vs → AreNamedApart (map (after_change namespace) vs)
-  apart_after vs apart = subst (IsDistinct bytes_eq) (sym (names-after vs)) apart
+  pub apart_taken : (vs ws : Views) → AreTakenBy namespace c vs ws → AreNamedApart vs → AreNamedApart ws
+  apart_taken vs ws h apart = subst (λ (names : List (List ℕ)). IsDistinct bytes_eq names) (sym (names-taken vs ws h)) apart
 
 pub length_views : {Y : Type 0} (es : Entries Y) → length (views es) ≡ length es
 length_views [] = refl

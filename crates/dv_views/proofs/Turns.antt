@@ -15,7 +15,8 @@ use Rattle.dv_change.specs.declared.position.Part.TheVariants.{Up}
 use Rattle.dv_change.specs.Changes.{Positioned, with_change, with_changes}
 use Rattle.dv_change.specs.Positions.{PosTree, pos_order}
 use Rattle.dv_pipe.specs.Sources.{Row}
-use Rattle.dv_views.specs.Changed.{AreMade, AreMadeInTurn, IsMade, changed, own_position, positioned}
+use Rattle.dv_views.specs.Changed.{AreMade, AreMadeInTurn, IsMade, changed}
+use Rattle.dv_views.specs.Placed.{own_position, positioned}
 use Rattle.dv_views.proofs.Made.{forgotten, one_part}
 
 -- what dv_order's law says of keys
@@ -30,7 +31,7 @@ same-position one (f ∷ fs) (g ∷ gs) h k equal = ap (λ l. Up l ∷ []) (one 
 -- ---- the rows keep their own positions
 
 -- each row stands at its own position
-abbrev AreOwn : Positioned → Type 0
+abbrev pub AreOwn : Positioned → Type 0
 AreOwn rows = rows ≡ positioned (values_of rows)
 
 own : (ds : List Row) → AreOwn (positioned ds)
@@ -82,15 +83,15 @@ module _ (p : PosTree) where
 
 -- ---- one change and then others
 
-one-own : EqualKeysAreOne → (c : Change) (ds : List Row) → AllByRecursion HasId ds → IsMade c ds → AreOwn (with_change (positioned ds) c)
+pub one-own : EqualKeysAreOne → (c : Change) (ds : List Row) → AllByRecursion HasId ds → IsMade c ds → AreOwn (with_change (positioned ds) c)
 one-own one (Put p d) ds all made = subst (λ q. AreOwn (insert_entry pos_order (positioned ds) q d)) (sym made.1) (put-own one d made.0 ds all)
 one-own one (Gone p) ds all made = gone-own p ds
 
-one-identified : EqualKeysAreOne → (c : Change) (ds : List Row) → AllByRecursion HasId ds → IsMade c ds → AllByRecursion HasId (changed (c ∷ []) ds)
+pub one-identified : EqualKeysAreOne → (c : Change) (ds : List Row) → AllByRecursion HasId ds → IsMade c ds → AllByRecursion HasId (changed (c ∷ []) ds)
 one-identified one (Put p d) ds all made = subst (λ q. AllByRecursion HasId (values_of (insert_entry pos_order (positioned ds) q d))) (sym made.1) (put-identified one d made.0 ds all)
 one-identified one (Gone p) ds all made = gone-identified p ds all
 
-first-change : EqualKeysAreOne → (c : Change) (cs : List Change) (ds : List Row) → AllByRecursion HasId ds → IsMade c ds → changed (c ∷ cs) ds ≡ changed cs (changed (c ∷ []) ds)
+pub first-change : EqualKeysAreOne → (c : Change) (cs : List Change) (ds : List Row) → AllByRecursion HasId ds → IsMade c ds → changed (c ∷ cs) ds ≡ changed cs (changed (c ∷ []) ds)
 first-change one c cs ds all made = ap (λ rows. values_of (with_changes rows cs)) (one-own one c ds all made)
 
 pub changed_parts : EqualKeysAreOne → (first second : List Change) (ds : List Row) → AllByRecursion HasId ds → AreMadeInTurn first ds → changed (first ++ second) ds ≡ changed second (changed first ds)

@@ -1,23 +1,16 @@
 -- What changes of a collection make of its documents, and what they may make of views.
-use Rattle.std.specs.Prelude.{◌≡◌, ℕ, false, List, [], ◌∷◌, map, IsSome, if◌then◌else◌, ⊤}
+use Rattle.std.specs.Prelude.{◌≡◌, ℕ, false, List, [], ◌∷◌, IsSome, if◌then◌else◌, ⊤}
 use Rattle.std.specs.List.{AllByRecursion, AllZip}
 use Rattle.std.specs.Str.{bytes_eq}
-use Rattle.dv_coll.specs.Collection.{HasId, IsAscending, id_key, found}
+use Rattle.dv_coll.specs.Collection.{HasId, IsAscending, found}
 use Rattle.dv_change.specs.declared.change.Change.{Change}
 use Rattle.dv_change.specs.declared.change.Change.TheVariants.{Put, Gone}
 use Rattle.dv_change.specs.declared.position.Part.TheVariants.{Up}
-use Rattle.dv_change.specs.Changes.{Positioned, with_changes, forget}
-use Rattle.dv_change.specs.Positions.{PosTree}
+use Rattle.dv_change.specs.Changes.{with_changes, forget}
 use Rattle.dv_pipe.specs.Sources.{Row}
 use Rattle.dv_pipe.specs.Stages.{Lists}
+use Rattle.dv_views.specs.Placed.{own_position, positioned}
 use Rattle.dv_views.specs.Views.{View, Views, stale, reads}
-
--- where a document stands in its collection: under the key of its `_id`
-abbrev pub own_position : Row → PosTree
-own_position d = Up (id_key d) ∷ []
-
-abbrev pub positioned : List Row → Positioned
-positioned documents = map (λ d. (own_position d, d)) documents
 
 -- a collection's documents after changes
 abbrev pub changed : List Change → List Row → List Row

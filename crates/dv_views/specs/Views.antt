@@ -1,18 +1,34 @@
 -- Views: pipelines over namespaces, each under a name of its own and with the rows that it keeps, in creation order.
-use Rattle.std.specs.Prelude.{◌≡◌, ℕ, ◌||◌, Bool, not, List, map, filter, length, nat_lt, Option, Some, None, Err, if◌then◌else◌, IfErr, ⊤}
+use Rattle.std.specs.Prelude.{◌≡◌, ℕ, ◌||◌, Bool, true, not, List, map, filter, length, nat_lt, Option, Some, None, Err, if◌then◌else◌, IfErr, ⊤}
 use Rattle.std.specs.List.{AllByRecursion, IsDistinct, find, list_any}
 use Rattle.std.specs.Option.{option_and_then}
 use Rattle.std.specs.Str.{bytes_eq}
 use Rattle.std.specs.declared.result.Result.{Result}
+use Rattle.dv_change.specs.Changes.{Positioned}
+use Rattle.dv_coll.specs.Collection.{HasId, IsAscending}
 use Rattle.dv_pipe.specs.declared.stage.Stage.{Stage}
 use Rattle.dv_pipe.specs.Sources.{Row}
 use Rattle.dv_pipe.specs.Stages.{Lists, evaluated, is_read}
+use Rattle.dv_views.specs.Placed.{Places, lookups_of, places_of}
 use Rattle.dv_views.specs.declared.fault.ViewFault.{ViewFault}
+use Rattle.dv_views.specs.declared.state.ViewState.{ViewState}
+use Rattle.dv_views.specs.declared.state.ViewState.TheVariants as states
 use Rattle.dv_views.specs.declared.fault.ViewFault.TheVariants.{Exists, ReadByView, OnView, LimitReached, NoMemory}
 
--- what a view keeps: its rows, or nothing, where memory was wanting
+-- what a view has taken in: the rows of its source, and those of each list that its stages look into, in their order
+pub record Taken : Type 0 where
+  pub left : Positioned
+  pub named : List Positioned
+
+-- what a live view keeps: this, its rows, and the count of the work that its changes took
+pub record Kept : Type 0 where
+  pub taken : Taken
+  pub rows : List Row
+  pub ticks : ℕ
+
+-- a view is live, or has nothing, where memory was wanting
 pub data Mark : Type 0 where
-  live : List Row → Mark
+  live : Kept → Mark
   stale : Mark
 
 pub record View : Type 0 where
@@ -24,18 +40,31 @@ pub record View : Type 0 where
 abbrev pub Views : Type 0
 Views = List View
 
+-- a view but for its name
+pub record Body : Type 0 where
+  pub source : List ℕ
+  pub stages : List Stage
+  pub mark : Mark
+
+abbrev pub named : List ℕ → Body → View
+named name b = record { name = name; source = b.source; stages = b.stages; mark = b.mark }
+
 -- the rows of a view's pipeline from scratch
 abbrev pub rows_of_view : View → Lists → List Row
 rows_of_view v lists = evaluated v.stages v.source lists
 
--- the rows that are kept, if any are, are these
-abbrev pub AreKept : Mark → List Row → Type 0
-AreKept (live kept) rows = kept ≡ rows
-AreKept stale rows = ⊤
+-- what stages over a source read at places
+abbrev pub taken_from : List Stage → List ℕ → Places → Taken
+taken_from stages source places = record { left = places source; named = map places (lookups_of stages source) }
 
--- a live view has the rows of its pipeline from scratch
+-- what is kept, if anything is, are these rows, made of what was taken in
+abbrev pub AreKept : Mark → Taken → List Row → Type 0
+AreKept (live kept) taken rows = (kept.taken ≡ taken) × (kept.rows ≡ rows)
+AreKept stale taken rows = ⊤
+
+-- a live view has the rows of its pipeline from scratch, and has taken in what it reads as it stands
 abbrev pub IsRight : Lists → View → Type 0
-IsRight lists v = AreKept v.mark (rows_of_view v lists)
+IsRight lists v = AreKept v.mark (taken_from v.stages v.source (places_of lists)) (rows_of_view v lists)
 
 abbrev pub AreRight : Lists → Views → Type 0
 AreRight lists views = AllByRecursion (IsRight lists) views
@@ -59,7 +88,7 @@ without name views = filter (λ v. not (has_name name v)) views
 
 -- the rows that a mark shows
 abbrev pub kept_rows : Mark → Option (List Row)
-kept_rows (live rows) = Some rows
+kept_rows (live kept) = Some kept.rows
 kept_rows stale = None
 
 -- the rows that the view of this name keeps
@@ -96,22 +125,48 @@ abbrev pub IsRefusedFor : {T : Type 0} → Option ViewFault → Result T ViewFau
 IsRefusedFor (Some fault) result = result ≡ Err fault
 IsRefusedFor None result = IfErr result (λ fault. fault ≡ NoMemory)
 
--- the view after what stands under a namespace changed: without its rows, where it reads them
-abbrev pub after_change : List ℕ → View → View
-after_change namespace v = record { name = v.name; source = v.source; stages = v.stages; mark = if reads v namespace then stale else v.mark }
+-- how many rows a mark shows; none where it is stale
+abbrev pub rows_in : Mark → ℕ
+rows_in (live kept) = length kept.rows
+rows_in stale = 0
+
+-- whether a mark is live
+abbrev pub state_of : Mark → ViewState
+state_of (live kept) = states.Live
+state_of stale = states.Stale
+
+-- the count of the work that the changes of a view took since it was made; 0 where it is stale
+abbrev pub ticks_in : Mark → ℕ
+ticks_in (live kept) = kept.ticks
+ticks_in stale = 0
 
 -- ---- views made anew
 
-abbrev pub new_view : List ℕ → List ℕ → List Stage → Lists → View
-new_view name source stages lists = record { name = name; source = source; stages = stages; mark = live (evaluated stages source lists) }
+-- what stages over a source keep as they are made: nothing is counted yet
+abbrev pub kept_anew : List Stage → List ℕ → Lists → Kept
+kept_anew stages source lists = record { taken = taken_from stages source (places_of lists); rows = evaluated stages source lists; ticks = 0 }
 
-abbrev pub mark_anew : View → Lists → Mark → Mark
-mark_anew v lists stale = live (rows_of_view v lists)
-mark_anew v lists (live rows) = live rows
+abbrev pub new_body : List ℕ → List Stage → Lists → Body
+new_body source stages lists = record { source = source; stages = stages; mark = live (kept_anew stages source lists) }
+
+abbrev pub new_view : List ℕ → List ℕ → List Stage → Lists → View
+new_view name source stages lists = named name (new_body source stages lists)
+
+abbrev pub mark_anew : List Stage → List ℕ → Lists → Mark → Mark
+mark_anew stages source lists stale = live (kept_anew stages source lists)
+mark_anew stages source lists (live kept) = live kept
+
+-- documents that begin with an `_id` of their own, in the order of these
+abbrev pub AreInOrder : List Row → Type 0
+AreInOrder documents = IsAscending documents × AllByRecursion HasId documents
+
+-- each list that a pipeline over a source reads is such
+abbrev pub AreReadable : List Stage → List ℕ → Lists → Type 0
+AreReadable stages source lists = (name : List ℕ) → is_read stages source name ≡ true → AreInOrder (lists name)
 
 -- the view, with its rows where it has none
 abbrev pub made_anew : Lists → View → View
-made_anew lists v = record { name = v.name; source = v.source; stages = v.stages; mark = mark_anew v lists v.mark }
+made_anew lists v = record { name = v.name; source = v.source; stages = v.stages; mark = mark_anew v.stages v.source lists v.mark }
 
 -- the views, with the one of this name made anew where it is stale
 abbrev pub refreshed : List ℕ → Lists → Views → Views

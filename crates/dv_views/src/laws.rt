@@ -7,10 +7,13 @@ ghost use Rattle.dv_change.specs.declared.position.Part.TheVariants.{Up};
 ghost use Rattle.dv_change.specs.declared.change.Change.TheVariants.{Put, Gone};
 ghost use Rattle.dv_order.specs.Key.{KeyTree};
 ghost use Rattle.dv_pipe.specs.Sources.{Row};
-ghost use Rattle.dv_pipe.specs.Stages.{Lists, evaluated};
+ghost use Rattle.dv_pipe.specs.Stages.{Lists, evaluated, is_read};
 ghost use Rattle.dv_pipe.specs.declared.stage.Stage.{Stage};
-ghost use Rattle.dv_views.specs.Changed.{AreMade, AreMadeInTurn, changed, own_position};
-ghost use Rattle.dv_views.specs.Views.{AreRight, View, Views, fault_of_new, has_view, new_view, reads_name, refreshed, rows_shown, view_named, without};
+ghost use Rattle.dv_views.specs.Changed.{AreMade, AreMadeInTurn, changed};
+ghost use Rattle.dv_change.specs.Changes.{IsPositioned};
+ghost use Rattle.dv_views.specs.Counted.{rows_made};
+ghost use Rattle.dv_views.specs.Placed.{own_position, places_of};
+ghost use Rattle.dv_views.specs.Views.{AreRight, View, Views, fault_of_new, has_view, kept_anew, new_view, reads_name, refreshed, rows_shown, taken_from, view_named, without};
 ghost use Rattle.dv_views.specs.declared.fault.ViewFault.TheVariants.{Exists, LimitReached, OnView, ReadByView};
 
 use dv_change::Change;
@@ -43,10 +46,32 @@ pub fn changes_follow_on()
     dv_order::laws::equal_keys_are_one();
 }
 
+/// What stages make at positions, of lists that stand at the positions of their documents, are the rows of the pipeline from
+/// scratch: so what a live view keeps by changes is what it would have if it were made anew.
+pub fn kept_rows_are_those_from_scratch()
+    ensures { (stages : List Stage) (source : List ℕ) (lists : Lists) → IsPositioned (places_of lists source) → rows_made stages (taken_from stages source (places_of lists)) ≡ evaluated stages source lists }
+{
+    dv_flow::laws::matched_rows_are_the_filter();
+    dv_flow::laws::shown_rows_are_each_row_as_it_is_shown();
+    dv_flow::laws::unwound_rows_are_the_rows_of_elements();
+    dv_flow::laws::sorted_rows_are_the_rows_in_order();
+    dv_flow::laws::first_rows_are_the_first_of_the_rows();
+    dv_group::laws::grouped_rows_are_the_rows_of_groups();
+    dv_join::laws::joined_rows_are_the_rows_looked_up();
+}
+
 /// Views that are right over some lists are right over others that are the same wherever a view reads.
 #[tactic(auto, using(crate::proofs::Right::right_over_others))]
 pub fn what_is_not_read_does_not_matter()
     ensures { (views : Views) (lists others : Lists) → ((name : List ℕ) → reads_name views name ≡ true → lists name ≡ others name) → AreRight lists views → AreRight others views }
+{
+    dv_pipe::laws::what_is_not_read_does_not_matter();
+}
+
+/// What a view keeps as it is made is the same over lists that are the same wherever its pipeline reads.
+#[tactic(auto, using(crate::proofs::Right::kept_over_others))]
+pub fn what_is_not_read_is_not_kept()
+    ensures { (stages : List Stage) (source : List ℕ) (lists others : Lists) → ((name : List ℕ) → is_read stages source name ≡ true → lists name ≡ others name) → kept_anew stages source lists ≡ kept_anew stages source others }
 {
     dv_pipe::laws::what_is_not_read_does_not_matter();
 }

@@ -1,14 +1,22 @@
-//! Views: pipelines under names of their own, with the rows that each keeps.
+//! Views: pipelines under names of their own, each with rows that are kept by changes of what it reads, or, where a stage is
+//! a `$group`, made anew behind them.
 #![tactic(auto)]
 
 mod fault;
+mod keeping;
 pub mod laws;
+mod lookups;
+mod places;
 mod registry;
+mod remade;
 mod rows;
 mod state;
+mod turner;
 mod view;
 
 pub use fault::ViewFault;
+pub use lookups::beside;
+pub use places::{document_gone, document_put, key_of_id};
 pub use registry::Registry;
 pub use rows::Rows;
 pub use state::ViewState;

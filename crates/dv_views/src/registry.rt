@@ -1,20 +1,23 @@
 //! The views by their names.
 
-ghost use Rattle.std.specs.Prelude.{◌≡◌, ◌++◌, ◌∷◌, [], false, length, slice_get, OnOk, OnErr};
+ghost use Rattle.std.specs.Prelude.{◌≡◌, ◌++◌, ◌∷◌, [], false, length, slice_get, Some, OnOk, OnErr};
 ghost use Rattle.std.specs.Option.{option_copied, option_map};
 ghost use Rattle.dv_pipe.specs.Sources.{lists_of};
 ghost use Rattle.dv_pipe.specs.Stages.{Lists};
 ghost use Rattle.dv_views.specs.Changed.{AreAfterChange, AreMade, with_changed};
-ghost use Rattle.dv_views.specs.Seen.{state_of, view_seen};
-ghost use Rattle.dv_views.specs.Views.{AreNamedApart, AreRight, IsRefusedFor, fault_of_new, has_view, new_view, reads_name, reads_view, refreshed, rows_shown, view_named, without};
+ghost use Rattle.dv_views.specs.Counted.{AreCounted};
+ghost use Rattle.dv_views.specs.Seen.{AreTakenBy};
+ghost use Rattle.dv_views.specs.Views as defined;
+ghost use Rattle.dv_views.specs.Views.{AreNamedApart, AreReadable, AreRight, IsRefusedFor, fault_of_new, has_view, named, new_view, reads_name, reads_view, refreshed, rows_in, rows_shown, state_of, ticks_in, view_named, without};
 
 use crate::fault::ViewFault;
+use crate::laws;
 use crate::rows::Rows;
 use crate::state::ViewState;
-use crate::view::{Mark, View};
-use dv_bson::{NoMemory, Str};
+use crate::view::View;
+use dv_bson::NoMemory;
 use dv_change::Change;
-use dv_pipe::{Pipeline, Sources, evaluate, laws};
+use dv_pipe::{Pipeline, Sources};
 use indexmap::IndexMap;
 use std::alloc::Global;
 use std::marker::Model;
@@ -32,17 +35,17 @@ pub struct Registry {
 impl Model for Registry {
     ghost use Rattle.std.specs.Prelude.{map};
     ghost use Rattle.dv_views.specs.Code.{coded_views};
-    ghost use Rattle.dv_views.specs.Views.{Views, AreNamedApart};
+    ghost use Rattle.dv_views.specs.Views.{Views};
 
     ghost Value = { Views };
 
     ghost coded = { coded_views };
 
-    ghost use Rattle.dv_views.specs.Seen.{seen};
+    ghost use Rattle.dv_views.specs.Seen.{IsSoundRegistry, seen};
 
     ghost view = { λ r. map seen r.views.entries };
 
-    ghost invariant = { λ r. AreNamedApart (map seen r.views.entries) };
+    ghost invariant = { λ r. IsSoundRegistry (map seen r.views.entries) };
 }
 
 impl Registry {
@@ -85,7 +88,7 @@ impl Registry {
         ensures { option_copied result ≡ option_map (λ v. v.source) (view_named name.now self.now) }
     {
         let view = self.view(name)?;
-        Some(view.source.as_str())
+        Some(view.source())
     }
 
     /// The pipeline of the view of this name. None where there is no such view. Takes no memory.
@@ -93,7 +96,7 @@ impl Registry {
         ensures { option_copied result ≡ option_map (λ v. v.stages) (view_named name.now self.now) }
     {
         let view = self.view(name)?;
-        Some(&view.pipeline)
+        Some(view.pipeline())
     }
 
     /// Whether the view of this name has its rows. None where there is no such view. Takes no memory.
@@ -113,9 +116,27 @@ impl Registry {
         view.rows()
     }
 
+    /// How many rows the view of this name keeps: none where it is stale. None where there is no such view. Takes no memory.
+    pub fn row_count(&self, name: &str) -> Option<usize>
+        ensures { result ≡ option_map (λ v. rows_in v.mark) (view_named name.now self.now) }
+    {
+        let view = self.view(name)?;
+        Some(view.row_count())
+    }
+
+    /// The count of the work that changes of what it reads took since the view of this name was made: for each stage, 1 for
+    /// each change that came to it, and 1 for each that it handed on. It stays at 9,223,372,036,854,775,807, and is 0 where the
+    /// view is stale or has a `$group`. None where there is no such view. Takes no memory.
+    pub fn ticks(&self, name: &str) -> Option<u64>
+        ensures { result ≡ option_map (λ v. ticks_in v.mark) (view_named name.now self.now) }
+    {
+        let view = self.view(name)?;
+        Some(view.ticks())
+    }
+
     /// The view of this name, where there is one.
     fn view(&self, name: &str) -> Option<&View>
-        ensures { option_map (λ view. view_seen name.now view.now) result ≡ view_named name.now self.now }
+        ensures { option_map (λ view. named name.now view.now) result ≡ view_named name.now self.now }
     {
         self.views.get(name)
     }
@@ -174,6 +195,7 @@ impl Registry {
         pipeline: Pipeline,
         sources: &Sources<'_>,
     ) -> Result<(), ViewFault>
+        requires { AreReadable pipeline source.now (lists_of sources.now) }
         ensures fault { IsRefusedFor (fault_of_new self.old name.now source.now pipeline) result }
         ensures ok { OnOk result (self.new ≡ self.old ++ new_view name.now source.now pipeline (lists_of sources.now) ∷ []) }
         ensures err { OnErr result (self.new ≡ self.old) }
@@ -192,16 +214,12 @@ impl Registry {
         pipeline: Pipeline,
         sources: &Sources<'_>,
     ) -> Result<(), NoMemory>
-        requires { has_view name.now self.old ≡ false }
+        requires new { has_view name.now self.old ≡ false }
+        requires read { AreReadable pipeline source.now (lists_of sources.now) }
         ensures ok { OnOk result (self.new ≡ self.old ++ new_view name.now source.now pipeline (lists_of sources.now) ∷ []) }
         ensures err { OnErr result (self.new ≡ self.old) }
     {
-        let rows = evaluate(self.alloc, &pipeline, source, sources)?;
-        let view = View {
-            source: Str::of(String::from_str(self.alloc, source)?),
-            pipeline,
-            mark: Mark::Live(rows),
-        };
+        let view = View::new(self.alloc, source, pipeline, sources)?;
         let name = String::from_str(self.alloc, name)?;
         self.views.insert(name, view)?;
         Ok(())
@@ -215,16 +233,30 @@ impl Registry {
         self.views.shift_remove(name).is_some()
     }
 
-    /// Carries changes that were made to the documents under the namespace on to the views. A view that reads it may
-    /// become stale; then its rows are dropped. Takes no memory.
+    /// Carries changes that were made to the documents under the namespace on to the views that read it: each change goes to
+    /// each view in creation order, and there to the source first and then to each list that a stage looks into. A view counts
+    /// the work that this takes. One that finds no memory drops what it keeps and is stale, which takes none; so does one with
+    /// a `$group`, whose rows are made anew.
     pub fn apply(&mut self, namespace: &str, changes: &[Change])
         ensures right { (lists : Lists) → AreMade changes.now (lists namespace.now) → AreRight lists self.old → AreRight (with_changed namespace.now changes.now lists) self.new }
         ensures others { AreAfterChange namespace.now self.old self.new }
+        ensures counted { AreCounted namespace.now changes.now self.old self.new }
     {
-        laws::what_is_not_read_does_not_matter();
+        laws::kept_rows_are_those_from_scratch();
+        dv_order::laws::equal_keys_are_one();
+        'changes: for change in changes {
+            self.take(namespace, change);
+        }
+        let _ = &self.views;
+    }
+
+    /// Hands a change on to each view, in creation order.
+    fn take(&mut self, namespace: &str, change: &Change)
+        ensures { AreTakenBy namespace.now change.now self.old self.new }
+    {
         'views: for place in 0..self.views.len() {
             let view = &mut self.views[place];
-            view.drop_rows_of(namespace);
+            view.take(namespace, change);
         }
     }
 
@@ -232,6 +264,7 @@ impl Registry {
     /// where it is stale. At another name, and at a view that has its rows, nothing is done. Fails where memory is
     /// wanting; then nothing is changed.
     pub fn refresh(&mut self, name: &str, sources: &Sources<'_>) -> Result<(), NoMemory>
+        requires { (v : defined.View) → view_named name.now self.old ≡ Some v → AreReadable v.stages v.source (lists_of sources.now) }
         ensures ok { OnOk result (self.new ≡ refreshed name.now (lists_of sources.now) self.old) }
         ensures err { OnErr result (self.new ≡ self.old) }
     {

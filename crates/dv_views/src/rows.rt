@@ -2,15 +2,28 @@
 
 ghost use Rattle.std.specs.Prelude.{◌≡◌};
 ghost use Rattle.std.specs.Iterator.{YieldsFirstRef, item_count};
+ghost use Rattle.dv_change.specs.Changes.{forget};
 
+use crate::turner::Turner;
 use dv_bson::Document;
+use dv_change::{Live, Pos};
+use std::collections::btree_map::Values;
 use std::marker::Model;
 use std::slice;
+
+/// Where the rows of a view stand.
+#[derive(Debug, Drop)]
+enum Origin<'a> {
+    /// Where they are kept by changes.
+    Kept(Values<'a, Pos, Document>),
+    /// Where they were made anew.
+    Made(slice::Iter<'a, Document>),
+}
 
 /// Rows of a view that are still to come, in order.
 #[derive(Debug, Drop)]
 pub struct Rows<'a> {
-    rows: slice::Iter<'a, Document>,
+    origin: Origin<'a>,
 }
 
 impl<'a> Model for Rows<'a> {
@@ -22,17 +35,28 @@ impl<'a> Model for Rows<'a> {
 
     ghost coded = { coded_rows };
 
-    ghost use Rattle.std.specs.Slice.Iter.{iter_rest};
+    ghost use Rattle.dv_views.specs.RowsView.{rows_in_order};
 
-    ghost view = { λ r. iter_rest r.rows };
+    ghost view = { λ r. rows_in_order r.origin };
 }
 
 impl<'a> Rows<'a> {
+    /// The rows that are kept by changes.
+    pub(crate) fn of_kept(live: &'a Live<Turner>) -> Self
+        ensures { result ≡ forget live.now.rows.entries }
+    {
+        Rows {
+            origin: Origin::Kept(live.rows()),
+        }
+    }
+
     /// These rows.
-    pub(crate) fn of(rows: &'a [Document]) -> Self
+    pub(crate) fn of_made(rows: &'a [Document]) -> Self
         ensures { result ≡ rows.now }
     {
-        Rows { rows: rows.iter() }
+        Rows {
+            origin: Origin::Made(rows.iter()),
+        }
     }
 }
 
@@ -44,6 +68,9 @@ impl<'a> Iterator for Rows<'a> {
     ghost remaining = { item_count (λ r. r) };
 
     fn next(&mut self) -> Option<&'a Document> {
-        self.rows.next()
+        match &mut self.origin {
+            Origin::Kept(rows) => rows.next(),
+            Origin::Made(rows) => rows.next(),
+        }
     }
 }

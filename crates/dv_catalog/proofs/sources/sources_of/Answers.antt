@@ -21,7 +21,7 @@ stages-preserved c =
     elim c.match-foreign.branch [
       | in-Some+in_ok-namespace+in_ok-rows+in_ok-add-2 w ↦
           let m = string_bytes w.in_ok-namespace.namespace in
-          let more = listed_more stages source rows collections c.stages.sources c.stage-item.result rest here m w.in-Some.collection.now w.in-Some.ensures w.in_ok-namespace.ensures in
+          let more = listed_more stages source rows collections c.stages.sources c.stage-item.result rest here m w.in-Some.collection.now w.in-Some.ensures w.in_ok-namespace.ensures (rw w.deref.ensures at w.rows.ensures.ordered) in
           let documents : referred w.in_ok-rows.rows.items ≡ documents_of m collections = w.in_ok-rows.ensures ∙ rw w.deref.ensures at w.rows.ensures.documents in
           let added = rw (w.deref-in-Some.ensures, documents) at w.in_ok-add-2.ensures.ok in
           rw (w.sources-is, added) more

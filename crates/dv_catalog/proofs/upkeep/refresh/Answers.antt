@@ -1,9 +1,10 @@
-use Rattle.std.proofs.Common.{◌≡◌, map, refl}
+use Rattle.std.proofs.Common.{◌≡◌, map, refl, subst, sym, ◌∙◌}
 use Rattle.dv_pipe.specs.Sources as pipes
 use Rattle.dv_views.specs.Views as views
 use Rattle.dv_catalog.specs.CatalogParts.{form_of}
 use Rattle.dv_catalog.specs.SourceParts.{AreFor}
-use Rattle.dv_catalog.specs.State.{documents_of, lists_of}
+use Rattle.dv_catalog.specs.State.{AreOrdered, documents_of, lists_of}
+use Rattle.dv_catalog.proofs.Sourced.{ordered_under}
 use Rattle.dv_catalog.proofs.Refreshed.{anew_or_same, fresh_if_done, refresh_right, refreshed_forms, refreshed_fresh}
 use Rattle.dv_catalog.proofs.upkeep.refresh.Goals as goal
 
@@ -12,9 +13,9 @@ returns-clause-right c = λ right.
     let namespaces = c.args.collections.now in
     let source = c.in-Some-Some.source.now in
     let stages = c.in-Some-Some.pipeline.now in
-    let are : AreFor stages source (documents_of source namespaces) namespaces c.in_ok-sources.sources = rw (c.in_ok-rows.ensures, c.rows.ensures.documents) at c.in_ok-sources.ensures in
+    let are : AreFor stages source (documents_of source namespaces) namespaces c.in_ok-sources.sources = rw (c.in_ok-rows.ensures, c.rows.ensures.documents) at c.in_ok-sources.ensures.lists in
     anew_or_same (views.AreRight (lists_of namespaces)) c.refresh.result c.refresh.new.self (views.refreshed c.args.name.now (pipes.lists_of c.in_ok-sources.sources) c.args.registry.now) c.args.registry.now c.refresh.ensures.ok c.refresh.ensures.err
-    (refresh_right c.what_is_not_read_does_not_matter.ensures namespaces c.in_ok-sources.sources c.args.name.now source stages c.args.registry.now c.len.ensures.named_apart c.in-Some-Some.ensures c.in-Some-Some.ensures' are right) right
+    (refresh_right c.what_is_not_read_is_not_kept.ensures namespaces c.in_ok-sources.sources c.args.name.now source stages c.args.registry.now c.len.ensures.named_apart c.in-Some-Some.ensures c.in-Some-Some.ensures' are right) right
 
 pub returns-clause-forms : goal.returns-clause-forms
 returns-clause-forms c =
@@ -27,3 +28,8 @@ returns-clause-fresh c =
     let old = c.args.registry.now in
     fresh_if_done c.args.name.now c.refresh.result c.refresh.new.self (views.refreshed c.args.name.now (pipes.lists_of c.in_ok-sources.sources) old) c.refresh.ensures.ok
     (refreshed_fresh c.args.name.now (pipes.lists_of c.in_ok-sources.sources) old)
+
+pub refresh-requires : goal.refresh-requires
+refresh-requires c = λ v named name read.
+    let ordered = subst (λ rows. AreOrdered rows) (sym (c.in_ok-rows.ensures ∙ c.rows.ensures.documents)) c.rows.ensures.ordered in
+    ordered_under name c.in_ok-sources.sources (c.in_ok-sources.ensures.ordered ordered)

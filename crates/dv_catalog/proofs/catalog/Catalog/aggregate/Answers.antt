@@ -21,6 +21,6 @@ returns-clause-rows c =
     let fresh =
     rows_fresh source collections before after (c.refresh.ensures.right c.self.invariant.right) c.refresh.ensures.forms (subst (λ (n : List ℕ). is_stale n after ≡ false) c.deref-2.ensures c.in_ok-refresh.ensures.fresh) in
     let rows = c.in_ok-rows.ensures ∙ c.rows_in.ensures ∙ ap (λ (n : List ℕ). rows_kept n collections after) c.deref-3.ensures ∙ fresh in
-    let listed : AreFor stages source found collections sources = subst (λ (n : List ℕ). AreFor stages n found collections sources) c.deref-4.ensures c.in_ok-sources.ensures in
+    let listed : AreFor stages source found collections sources = subst (λ (n : List ℕ). AreFor stages n found collections sources) c.deref-4.ensures c.in_ok-sources.ensures.lists in
     let given = c.in_ok-evaluate.ensures ∙ ap (λ (n : List ℕ). evaluated stages n (lists_of sources)) c.deref-5.ensures in
     rw (← c.self.view_is) (aggregated_rows c.what_is_not_read_does_not_matter.ensures stages source collections before found sources none rows listed ∙ ap Ok (sym given))

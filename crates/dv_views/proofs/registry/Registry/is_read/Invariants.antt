@@ -6,6 +6,6 @@ use Rattle.dv_views.proofs.registry.Registry.is_read.Given as goal
 
 abbrev pub invariant-views : goal.invariant-views
 invariant-views l =
-    (list_any (λ w. is_read w.pipeline w.source l.namespace) l.view-iterator ≡ reads_name l.fn.self l.fn.namespace) ×
+    (list_any (λ w. is_read w.stages w.source l.namespace) l.view-iterator ≡ reads_name l.fn.self l.fn.namespace) ×
     (goal.iterator-views).can_next l.view-iterator ×
     (goal.iterator-views).is_finite l.view-iterator

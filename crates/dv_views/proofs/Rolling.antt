@@ -1,0 +1,289 @@
+-- Rows that are kept by changes: turners that are the stages stay so, and keep what they are defined to keep.
+use Rattle.std.proofs.Common.{◌≡◌, ◌&&◌, get_or, ◌+◌, ◌-◌, ◌<◌, ◌≤◌, ℕ, zero, suc, Bool, true, false, if◌then◌else◌, List, [], ◌∷◌, ◌++◌, map, length, take, drop, Option, Some, None, refl, ap, sym, subst, ◌∙◌, arith, append-nil}
+use Rattle.std.specs.Prelude.{IfOk, Result, Ok, Err, nat_lt}
+use Rattle.std.proofs.lemmas.Bool.{le-ltb, lt-ltb, ltb-false, ltb-true}
+use Rattle.std.specs.List.{AllByRecursion, AllZip, flat_map}
+use Rattle.std.specs.Option.{option_map}
+use Rattle.dv_change.specs.declared.change.Change.{Change}
+use Rattle.dv_change.specs.declared.input.Input.{Input}
+use Rattle.dv_change.specs.declared.input.Input.TheVariants.{Left, Named}
+use Rattle.dv_change.specs.declared.live.Live.{Live}
+use Rattle.dv_change.specs.Changes.{IsExactChange, IsPositioned, Positioned, forget, with_change, with_changes}
+use Rattle.dv_change.specs.Inputs.{HasInput, changed_at, left_after, others_after}
+use Rattle.dv_change.specs.Linked.{HasTaken, IsLinked, first_left, forms_of}
+use Rattle.dv_change.specs.Raised.{raised}
+use Rattle.dv_change.specs.Work.{Form, HasAny, forms_after, forms_named, named_in, through, work_in}
+use Rattle.dv_pipe.specs.declared.stage.Stage.{Stage}
+use Rattle.dv_pipe.specs.Sources.{Row}
+use Rattle.dv_pipe.specs.Stages.{beside, from_of}
+use Rattle.dv_views.specs.declared.turner.Turner.{Turner}
+use Rattle.dv_views.specs.Anew.{all_follow, follows}
+use Rattle.dv_views.specs.Counted.{kept_after, rows_made, taken_after, work_of}
+use Rattle.dv_views.specs.Keeping.{IsSoundLive, kept_seen, left_of, lists_of_all, named_of}
+use Rattle.dv_views.specs.Placed.{forms, listed, lists_in, lookups_of, stage_at, with_name}
+use Rattle.dv_views.specs.Turning.{AreFresh, IsFresh, IsSoundTurner, empty_lists, turner_left, turner_makes, turner_others}
+use Rattle.dv_views.specs.Views.{Kept, Taken}
+
+abbrev forms_in : List Turner → List Form
+forms_in ts = forms_of turner_left turner_others turner_makes IsSoundTurner ts
+
+abbrev AreLinked : List Turner → Positioned → Type 0
+AreLinked ts rows = IsLinked turner_left turner_others turner_makes IsSoundTurner ts rows
+
+abbrev HaveTaken : List Turner → Positioned → Positioned → Type 0
+HaveTaken ts out rows = HasTaken turner_left turner_others turner_makes IsSoundTurner ts out rows
+
+-- ---- the lists of stages
+
+none-below : (i : ℕ) → nat_lt i 0 ≡ false
+none-below i = le-ltb i 0 (omega arith)
+
+less-none : (i : ℕ) → i - 0 ≡ i
+less-none i = omega arith
+
+-- a change of one of the lists
+forms-changed : (i : ℕ) (c : Change) (ss : List Stage) (named : List Positioned) → forms_named i c (forms ss named) ≡ forms ss (changed_at i c named)
+forms-changed i c [] named = refl
+forms-changed i c (s ∷ ss) named = by (from_of s) i named (λ j others. forms-changed j c ss others)
+  where
+    by : (o : Option (List ℕ)) (i : ℕ) (named : List Positioned) → ((j : ℕ) (others : List Positioned) → forms_named j c (forms ss others) ≡ forms ss (changed_at j c others))
+        → (if nat_lt i (length (take (listed o) named)) then record { makes = stage_at s; named = changed_at i c (take (listed o) named) } ∷ forms ss (drop (listed o) named)
+        else record { makes = stage_at s; named = take (listed o) named } ∷ forms_named (i - length (take (listed o) named)) c (forms ss (drop (listed o) named)))
+        ≡ record { makes = stage_at s; named = take (listed o) (changed_at i c named) } ∷ forms ss (drop (listed o) (changed_at i c named))
+    by None i named rest = rw (none-below i, less-none i) (ap (λ (fs : List Form). record { makes = stage_at s; named = [] } ∷ fs) (rest i named))
+    by (Some collection) i [] rest = rw (none-below i, less-none i) (ap (λ (fs : List Form). record { makes = stage_at s; named = [] } ∷ fs) (rest i []))
+    by (Some collection) zero (n ∷ ns) rest = refl
+    by (Some collection) (suc i) (n ∷ ns) rest =
+        let past : nat_lt (suc i) 1 ≡ false = le-ltb (suc i) 1 (omega arith) in
+        let back : suc i - 1 ≡ i = omega arith in
+        rw (past, back) (ap (λ (fs : List Form). record { makes = stage_at s; named = n ∷ [] } ∷ fs) (rest i ns))
+
+forms-after : (input : Input) (c : Change) (ss : List Stage) (named : List Positioned) → forms_after input c (forms ss named) ≡ forms ss (others_after input c named)
+forms-after Left c ss named = refl
+forms-after (Named i) c ss named = forms-changed i c ss named
+
+-- each list is looked into
+named-count : (ss : List Stage) (named : List Positioned) → length named ≡ lists_of_all ss → named_in (forms ss named) ≡ length named
+named-count [] named e = sym e
+named-count (s ∷ ss) named e = by (from_of s) named e (named-count ss)
+  where
+    by : (o : Option (List ℕ)) (named : List Positioned) → length named ≡ listed o + lists_of_all ss → ((others : List Positioned) → length others ≡ lists_of_all ss → named_in (forms ss others) ≡ length others)
+        → length (take (listed o) named) + named_in (forms ss (drop (listed o) named)) ≡ length named
+    by None named e rest = let same : length named ≡ lists_of_all ss = omega (arith, e) in let all = rest named same in omega (arith, all)
+    by (Some collection) [] e rest = let no : 0 ≡ 1 + lists_of_all ss = e in absurd (omega arith)
+    by (Some collection) (n ∷ ns) e rest =
+        let more : suc (length ns) ≡ 1 + lists_of_all ss = e in
+        let same : length ns ≡ lists_of_all ss = omega arith in
+        let all = rest ns same in
+        let goal : 1 + named_in (forms ss ns) ≡ suc (length ns) = omega (arith, all) in
+        goal
+
+pub has_any : (input : Input) (ss : List Stage) (named : List Positioned) → length named ≡ lists_of_all ss → HasInput input named → HasAny input (forms ss named)
+has_any Left ss named e h = tt
+has_any (Named i) ss named e h = let all = named-count ss named e in omega (arith, all)
+
+same-length : (i : ℕ) (c : Change) (named : List Positioned) → length (changed_at i c named) ≡ length named
+same-length i c [] = refl
+same-length zero c (n ∷ ns) = refl
+same-length (suc i) c (n ∷ ns) = ap suc (same-length i c ns)
+
+pub same_count : (input : Input) (c : Change) (named : List Positioned) → length (others_after input c named) ≡ length named
+same_count Left c named = refl
+same_count (Named i) c named = same-length i c named
+
+-- as many as the stages look into
+pub lookups_count : (ss : List Stage) (source : List ℕ) → length (lookups_of ss source) ≡ lists_of_all ss
+lookups_count [] source = refl
+lookups_count (s ∷ ss) source = by (from_of s) (lookups_count ss source)
+  where
+    by : (o : Option (List ℕ)) → length (lookups_of ss source) ≡ lists_of_all ss → length (with_name (option_map (beside source) o) (lookups_of ss source)) ≡ listed o + lists_of_all ss
+    by None rest = omega (arith, rest)
+    by (Some collection) rest = let goal : suc (length (lookups_of ss source)) ≡ 1 + lists_of_all ss = omega (arith, rest) in goal
+
+-- ---- the lists of turners
+
+abbrev lists_of : List Form → List Positioned
+lists_of fs = flat_map (λ f. f.named) fs
+
+turners-lists : (ts : List Turner) → lists_of (forms_in ts) ≡ named_of ts
+turners-lists [] = refl
+turners-lists (t ∷ ts) = ap (λ (ns : List Positioned). turner_others t ++ ns) (turners-lists ts)
+
+changed-left : (i : ℕ) (c : Change) (xs ys : List Positioned) → i < length xs → changed_at i c xs ++ ys ≡ changed_at i c (xs ++ ys)
+changed-left i c [] ys h = let no : i < 0 = h in absurd (omega arith)
+changed-left zero c (x ∷ xs) ys h = refl
+changed-left (suc i) c (x ∷ xs) ys h = let more : suc i < suc (length xs) = h in ap (λ (zs : List Positioned). x ∷ zs) (changed-left i c xs ys (omega arith))
+
+changed-right : (i : ℕ) (c : Change) (xs ys : List Positioned) → length xs ≤ i → xs ++ changed_at (i - length xs) c ys ≡ changed_at i c (xs ++ ys)
+changed-right i c [] ys h = ap (λ n. changed_at n c ys) (less-none i)
+changed-right zero c (x ∷ xs) ys h = let no : suc (length xs) ≤ 0 = h in absurd (omega arith)
+changed-right (suc i) c (x ∷ xs) ys h =
+    let more : suc (length xs) ≤ suc i = h in
+    let back : suc i - suc (length xs) ≡ i - length xs = omega arith in
+    ap (λ n. x ∷ (xs ++ changed_at n c ys)) back ∙ ap (λ (zs : List Positioned). x ∷ zs) (changed-right i c xs ys (omega arith))
+
+lists-changed : (i : ℕ) (c : Change) (fs : List Form) → lists_of (forms_named i c fs) ≡ changed_at i c (lists_of fs)
+lists-changed i c [] = refl
+lists-changed i c (f ∷ fs) = by (nat_lt i (length f.named)) refl (lists-changed (i - length f.named) c fs)
+  where
+    by : (b : Bool) → nat_lt i (length f.named) ≡ b → lists_of (forms_named (i - length f.named) c fs) ≡ changed_at (i - length f.named) c (lists_of fs)
+        → lists_of (if b then record { makes = f.makes; named = changed_at i c f.named } ∷ fs else f ∷ forms_named (i - length f.named) c fs) ≡ changed_at i c (f.named ++ lists_of fs)
+    by true is rest = changed-left i c f.named (lists_of fs) (ltb-true i (length f.named) is)
+    by false is rest = ap (λ (ns : List Positioned). f.named ++ ns) rest ∙ changed-right i c f.named (lists_of fs) (ltb-false i (length f.named) is)
+
+lists-after : (input : Input) (c : Change) (fs : List Form) → lists_of (forms_after input c fs) ≡ others_after input c (lists_of fs)
+lists-after Left c fs = refl
+lists-after (Named i) c fs = lists-changed i c fs
+
+-- ---- what was taken in
+
+left-is : (ts : List Turner) (out rows : Positioned) → HaveTaken ts out rows → left_of ts out ≡ rows
+left-is [] out rows h = h.1
+left-is (t ∷ ts) out rows h = h.0.1
+
+pub linked_first : (ts : List Turner) (out rows : Positioned) → HaveTaken ts out rows → AreLinked ts (first_left turner_left turner_others turner_makes IsSoundTurner ts)
+linked_first [] out rows h = tt
+linked_first (t ∷ ts) out rows h = (h.0.0, refl, h.0.2)
+
+-- what dv_change's law says of rows
+abbrev pub StayPositioned : Type 0
+StayPositioned = (rows : Positioned) (changes : List Change) → IsPositioned rows → AllByRecursion IsExactChange changes → IsPositioned (with_changes rows changes)
+
+positioned-after : StayPositioned → (input : Input) (c : Change) (rows : Positioned) → IsExactChange c → IsPositioned rows → IsPositioned (left_after input c rows)
+positioned-after stay Left c rows exact are = stay rows (c ∷ []) are (exact, tt)
+positioned-after stay (Named i) c rows exact are = are
+
+abbrev left_in : Live Turner → Positioned
+left_in live = left_of live.chain live.rows.entries
+
+-- rows that are kept are those that the stages make of what was taken in
+pub rows_are_made : (stages : List Stage) (live : Live Turner) → IsSoundLive stages live → (kept_seen live).rows ≡ rows_made stages (kept_seen live).taken
+rows_are_made stages live sound = ap forget (sound.taken.1 ∙ ap (λ (fs : List Form). through fs (left_in live)) sound.forms)
+
+module _ (stay : StayPositioned) (stages : List Stage) (before after : Live Turner) (input : Input) (c : Change) (exact : IsExactChange c) (sound : IsSoundLive stages before)
+    (forms_now : forms_in after.chain ≡ forms_after input c (forms_in before.chain))
+    (taken_now : (rows : Positioned) → HaveTaken before.chain before.rows.entries rows → HaveTaken after.chain after.rows.entries (left_after input c rows))
+    (ticks_now : (rows : Positioned) → HaveTaken before.chain before.rows.entries rows → after.ticks ≡ raised before.ticks (work_in input c (forms_in before.chain) rows)) where
+  taken : HaveTaken after.chain after.rows.entries (left_after input c (left_in before))
+  taken = taken_now (left_in before) sound.taken
+
+  left : left_in after ≡ left_after input c (left_in before)
+  left = left-is after.chain after.rows.entries (left_after input c (left_in before)) taken
+
+  named : named_of after.chain ≡ others_after input c (named_of before.chain)
+  named = sym (turners-lists after.chain) ∙ ap lists_of forms_now ∙ lists-after input c (forms_in before.chain) ∙ ap (others_after input c) (turners-lists before.chain)
+
+  forms-now : forms_in after.chain ≡ forms stages (others_after input c (named_of before.chain))
+  forms-now = forms_now ∙ ap (forms_after input c) sound.forms ∙ forms-after input c stages (named_of before.chain)
+
+  pub sound_after : IsSoundLive stages after
+  sound_after = record {
+    forms = forms-now ∙ ap (forms stages) (sym named);
+    taken = subst (HaveTaken after.chain after.rows.entries) (sym left) taken;
+    positioned = subst (λ (rows : Positioned). IsPositioned rows) (sym left) (positioned-after stay input c (left_in before) exact sound.positioned);
+    count = ap length named ∙ same_count input c (named_of before.chain) ∙ sound.count;
+  }
+
+  taken-after : (kept_seen after).taken ≡ taken_after input c (kept_seen before).taken
+  taken-after = λ i. record { left = left i; named = named i }
+
+  rows-after : (kept_seen after).rows ≡ rows_made stages (taken_after input c (kept_seen before).taken)
+  rows-after = ap forget (taken.1 ∙ ap (λ (fs : List Form). through fs (left_after input c (left_in before))) forms-now)
+
+  ticks-after : after.ticks ≡ raised before.ticks (work_of stages input c (kept_seen before).taken)
+  ticks-after = ticks_now (left_in before) sound.taken ∙ ap (λ (fs : List Form). raised before.ticks (work_in input c fs (left_in before))) sound.forms
+
+  pub kept_is : kept_seen after ≡ kept_after stages c (kept_seen before) input
+  kept_is = λ i. record { taken = taken-after i; rows = rows-after i; ticks = ticks-after i }
+
+-- ---- the same of what a call answers
+
+module _ (stay : StayPositioned) (stages : List Stage) (before : Live Turner) (input : Input) (c d : Change) (same : d ≡ c) (exact : IsExactChange c) (sound : IsSoundLive stages before) where
+  abbrev FormsNow : Live Turner → Change → Type 0
+  FormsNow after e = forms_in after.chain ≡ forms_after input e (forms_in before.chain)
+
+  abbrev TakenNow : Live Turner → Change → Type 0
+  TakenNow after e = (rows : Positioned) → HaveTaken before.chain before.rows.entries rows → HaveTaken after.chain after.rows.entries (left_after input e rows)
+
+  abbrev TicksNow : Live Turner → Change → Type 0
+  TicksNow after e = (rows : Positioned) → HaveTaken before.chain before.rows.entries rows → after.ticks ≡ raised before.ticks (work_in input e (forms_in before.chain) rows)
+
+  pub result_sound : {E : Type 0} (r : Result (Live Turner) E) → IfOk r (λ (after : Live Turner). FormsNow after d) → IfOk r (λ (after : Live Turner). TakenNow after d) → IfOk r (λ (after : Live Turner). TicksNow after d) → IfOk r (λ after. IsSoundLive stages after)
+  result_sound (Ok after) formed took ticked = sound_after stay stages before after input c exact sound (subst (FormsNow after) same formed) (subst (TakenNow after) same took) (subst (TicksNow after) same ticked)
+  result_sound (Err e) formed took ticked = tt
+
+  pub result_kept : {E : Type 0} (r : Result (Live Turner) E) → IfOk r (λ (after : Live Turner). FormsNow after d) → IfOk r (λ (after : Live Turner). TakenNow after d) → IfOk r (λ (after : Live Turner). TicksNow after d) → IfOk r (λ after. kept_seen after ≡ kept_after stages c (kept_seen before) input)
+  result_kept (Ok after) formed took ticked = kept_is stay stages before after input c exact sound (subst (FormsNow after) same formed) (subst (TakenNow after) same took) (subst (TicksNow after) same ticked)
+  result_kept (Err e) formed took ticked = tt
+
+-- ---- turners that have taken in nothing
+
+fresh-lists : (o : Option (List ℕ)) (xs rest : List Positioned) → xs ≡ empty_lists (listed o) → (take (listed o) (xs ++ rest) ≡ xs) × (drop (listed o) (xs ++ rest) ≡ rest)
+fresh-lists None [] rest e = (refl, refl)
+fresh-lists None (x ∷ xs) rest e = absurd cc
+fresh-lists (Some collection) [] rest e = absurd cc
+fresh-lists (Some collection) (x ∷ []) rest e = (refl, refl)
+fresh-lists (Some collection) (x ∷ y ∷ xs) rest e = absurd cc
+
+fresh-forms : (ss : List Stage) (ts : List Turner) → AreFresh ss ts → forms_in ts ≡ forms ss (named_of ts)
+fresh-forms [] [] fresh = refl
+fresh-forms [] (t ∷ ts) fresh = absurd fresh
+fresh-forms (s ∷ ss) [] fresh = absurd fresh
+fresh-forms (s ∷ ss) (t ∷ ts) fresh =
+    let lists = fresh-lists (from_of s) (turner_others t) (named_of ts) fresh.0.others in
+    λ i. record { makes = fresh.0.makes i; named = sym lists.0 i } ∷ (fresh-forms ss ts fresh.1 ∙ ap (forms ss) (sym lists.1)) i
+
+both-lengths : (m n : ℕ) → empty_lists m ++ empty_lists n ≡ empty_lists (m + n)
+both-lengths zero n = ap empty_lists (sym (zero-plus n))
+  where
+    zero-plus : (n : ℕ) → 0 + n ≡ n
+    zero-plus n = omega arith
+both-lengths (suc m) n = ap (λ (ls : List Positioned). [] ∷ ls) (both-lengths m n) ∙ ap empty_lists (more m n)
+  where
+    more : (m n : ℕ) → suc (m + n) ≡ suc m + n
+    more m n = omega arith
+
+pub fresh_named : (ss : List Stage) (ts : List Turner) → AreFresh ss ts → named_of ts ≡ empty_lists (lists_of_all ss)
+fresh_named [] [] fresh = refl
+fresh_named [] (t ∷ ts) fresh = absurd fresh
+fresh_named (s ∷ ss) [] fresh = absurd fresh
+fresh_named (s ∷ ss) (t ∷ ts) fresh = (λ i. fresh.0.others i ++ fresh_named ss ts fresh.1 i) ∙ both-lengths (lists_in s) (lists_of_all ss)
+
+empty-count : (n : ℕ) → length (empty_lists n) ≡ n
+empty-count zero = refl
+empty-count (suc n) = ap suc (empty-count n)
+
+pub fresh_more : (ss : List Stage) (ts : List Turner) (s : Stage) (t : Turner) → AreFresh ss ts → IsFresh s t → AreFresh (ss ++ s ∷ []) (ts ++ t ∷ [])
+fresh_more [] [] s t all one = (one, tt)
+fresh_more [] (u ∷ ts) s t all one = absurd all
+fresh_more (r ∷ ss) [] s t all one = absurd all
+fresh_more (r ∷ ss) (u ∷ ts) s t all one = (all.0, fresh_more ss ts s t all.1 one)
+
+pub fresh_turners : (ss : List Stage) (ts : List Turner) → AreFresh ss ts → AllByRecursion (λ t. IsSoundTurner t × (turner_left t ≡ [])) ts
+fresh_turners [] [] fresh = tt
+fresh_turners [] (t ∷ ts) fresh = absurd fresh
+fresh_turners (s ∷ ss) [] fresh = absurd fresh
+fresh_turners (s ∷ ss) (t ∷ ts) fresh = ((fresh.0.sound, fresh.0.left), fresh_turners ss ts fresh.1)
+
+module _ (none : IsPositioned {V = Row} []) (ss : List Stage) (live : Live Turner) (fresh : AreFresh ss live.chain) (taken : HaveTaken live.chain live.rows.entries []) where
+  pub left_fresh : left_in live ≡ []
+  left_fresh = left-is live.chain live.rows.entries [] taken
+
+  pub sound_fresh : IsSoundLive ss live
+  sound_fresh = record {
+    forms = fresh-forms ss live.chain fresh;
+    taken = subst (HaveTaken live.chain live.rows.entries) (sym left_fresh) taken;
+    positioned = subst (λ (rows : Positioned). IsPositioned rows) (sym left_fresh) none;
+    count = ap length (fresh_named ss live.chain fresh) ∙ empty-count (lists_of_all ss);
+  }
+
+-- ---- stages that are kept by changes
+
+both-follow : (a b : Bool) → a && b ≡ true → (a ≡ true) × (b ≡ true)
+both-follow true b e = (refl, e)
+both-follow false b e = absurd cc
+
+pub follows_at : (ss : List Stage) (i : ℕ) (d : Stage) → all_follow ss ≡ true → i < length ss → follows (get_or ss i d) ≡ true
+follows_at [] i d all within = let no : i < 0 = within in absurd (omega arith)
+follows_at (s ∷ ss) zero d all within = (both-follow (follows s) (all_follow ss) all).0
+follows_at (s ∷ ss) (suc i) d all within = let more : suc i < suc (length ss) = within in follows_at ss i d (both-follow (follows s) (all_follow ss) all).1 (omega arith)

@@ -1,0 +1,113 @@
+-- What stages make at positions is, without these, what they make.
+use Rattle.std.proofs.Common.{◌≡◌, ℕ, List, [], ◌∷◌, map, length, take, drop, Option, Some, None, refl, ap, sym, subst, ◌∙◌}
+use Rattle.std.specs.Prelude.{filter}
+use Rattle.std.specs.List.{AllByRecursion, flat_map}
+use Rattle.std.specs.Map.{keys_of}
+use Rattle.std.specs.Option.{option_map}
+use Rattle.dv_change.specs.Changes.{HaveOneLength, IsPositioned, Positioned, forget}
+use Rattle.dv_change.specs.Positions.{PosTree}
+use Rattle.dv_change.specs.Work as work
+use Rattle.dv_flow.specs.Limiting.{limit_even, limit_ordered}
+use Rattle.dv_flow.specs.Matching.{match_even, match_ordered}
+use Rattle.dv_flow.specs.Placed.{front_at, matched_at, shown_at, sorted_at, unwound_at}
+use Rattle.dv_flow.specs.Projecting.{project_even, project_ordered}
+use Rattle.dv_flow.specs.Sorting.{sort_even, sort_ordered}
+use Rattle.dv_flow.specs.Unwinding.{unwind_even, unwind_ordered}
+use Rattle.dv_gather.specs.declared.lookup.Lookup as lookups
+use Rattle.dv_gather.specs.Grouping.{Grouping, grouped}
+use Rattle.dv_gather.specs.Lookups.{looked_up}
+use Rattle.dv_group.specs.Grouped.{group_even, group_ordered}
+use Rattle.dv_group.specs.Placed.{grouped_at}
+use Rattle.dv_join.specs.Placed.{looked_up_at, looked_up_even, looked_up_ordered}
+use Rattle.dv_join.specs.Turning.{first_of}
+use Rattle.dv_match.specs.Filter.{Members}
+use Rattle.dv_match.specs.Match.{matches}
+use Rattle.dv_path.specs.SortSpec as sorts
+use Rattle.dv_pipe.specs.declared.stage.Stage.{Stage}
+use Rattle.dv_pipe.specs.declared.stage.Stage.TheVariants.{Match, Project, Unwind, Sort, Limit, Group, Lookup}
+use Rattle.dv_pipe.specs.Sources.{Row}
+use Rattle.dv_pipe.specs.Stages as pipes
+use Rattle.dv_pipe.specs.Stages.{Lists, beside, evaluated, foreign_of, from_of, looked_into, rows_at, stage}
+use Rattle.dv_row.specs.declared.project.Project as projects
+use Rattle.dv_row.specs.declared.unwind.Unwind as unwinds
+use Rattle.dv_row.specs.Projecting.{projected}
+use Rattle.dv_row.specs.Unwinding.{unwound}
+use Rattle.dv_sort.specs.Sorting.{stable}
+use Rattle.dv_views.specs.Counted.{rows_made}
+use Rattle.dv_views.specs.Placed.{forms, listed, lists_in, lookups_of, own_position, places_of, positioned, stage_at, with_name}
+use Rattle.dv_views.specs.Views.{taken_from}
+use Rattle.dv_views.proofs.Made.{forgotten}
+
+-- what the crates of the stages say
+pub record StageLaws : Type 0 where
+  pub matched : (form : Members) (rows : Positioned) → forget (matched_at form rows) ≡ filter (matches form) (forget rows)
+  pub shown : (project : projects.Project) (rows : Positioned) → forget (shown_at project rows) ≡ map (projected project) (forget rows)
+  pub unwinds : (unwind : unwinds.Unwind) (rows : Positioned) → IsPositioned rows → HaveOneLength rows → forget (unwound_at unwind rows) ≡ flat_map (unwound unwind) (forget rows)
+  pub sorted : (parts : List sorts.Part) (rows : Positioned) → IsPositioned rows → forget (sorted_at parts rows) ≡ stable parts (forget rows)
+  pub first : (count : ℕ) (rows : Positioned) → forget (front_at count rows) ≡ take count (forget rows)
+  pub groups : (group : Grouping) (rows : Positioned) → forget (grouped_at group rows) ≡ grouped group (forget rows)
+  pub joined : (lookup : lookups.Lookup) (rows foreign : Positioned) → forget (looked_up_at lookup rows foreign) ≡ looked_up lookup (forget rows) (forget foreign)
+
+-- ---- one stage
+
+ordered_stage : (s : Stage) (named : List Positioned) (rows : Positioned) → IsPositioned rows → IsPositioned (stage_at s named rows)
+unfolding stage_at
+ordered_stage (Match form) named rows are = match_ordered form rows are
+ordered_stage (Project p) named rows are = project_ordered p rows are
+ordered_stage (Unwind u) named rows are = unwind_ordered u rows are
+ordered_stage (Sort parts) named rows are = sort_ordered parts rows are
+ordered_stage (Limit count) named rows are = limit_ordered count rows are
+ordered_stage (Group g) named rows are = group_ordered g rows are
+ordered_stage (Lookup l) named rows are = looked_up_ordered l (first_of named) rows are
+
+even_stage : (s : Stage) (named : List Positioned) (rows : Positioned) → IsPositioned rows → HaveOneLength rows → HaveOneLength (stage_at s named rows)
+unfolding stage_at
+even_stage (Match form) named rows are one = match_even form rows are one
+even_stage (Project p) named rows are one = project_even p rows are one
+even_stage (Unwind u) named rows are one = unwind_even u rows are one
+even_stage (Sort parts) named rows are one = sort_even parts rows are one
+even_stage (Limit count) named rows are one = limit_even count rows one
+even_stage (Group g) named rows are one = group_even g rows are one
+even_stage (Lookup l) named rows are one = looked_up_even l (first_of named) rows one
+
+-- ---- the lists that stages look into
+
+own_list : (lists : Lists) (source : List ℕ) (o : Option (List ℕ)) (names : List (List ℕ)) → forget (first_of (take (listed o) (map (places_of lists) (with_name (option_map (beside source) o) names)))) ≡ rows_at (option_map (beside source) o) lists
+own_list lists source None names = refl
+own_list lists source (Some collection) names = forgotten (lists (beside source collection))
+
+other_lists : (lists : Lists) (source : List ℕ) (o : Option (List ℕ)) (names : List (List ℕ)) → drop (listed o) (map (places_of lists) (with_name (option_map (beside source) o) names)) ≡ map (places_of lists) names
+other_lists lists source None names = refl
+other_lists lists source (Some collection) names = refl
+
+module _ (laws : StageLaws) where
+  forget_stage : (s : Stage) (named : List Positioned) (rows : Positioned) → IsPositioned rows → HaveOneLength rows → forget (stage_at s named rows) ≡ stage s (forget rows) (forget (first_of named))
+  unfolding stage_at stage
+  forget_stage (Match form) named rows are one = laws.matched form rows
+  forget_stage (Project p) named rows are one = laws.shown p rows
+  forget_stage (Unwind u) named rows are one = laws.unwinds u rows are one
+  forget_stage (Sort parts) named rows are one = laws.sorted parts rows are
+  forget_stage (Limit count) named rows are one = laws.first count rows
+  forget_stage (Group g) named rows are one = laws.groups g rows
+  forget_stage (Lookup l) named rows are one = laws.joined l rows (first_of named)
+
+  -- ---- all stages
+
+  forget_through : (ss : List Stage) (source : List ℕ) (lists : Lists) (rows : Positioned) → IsPositioned rows → HaveOneLength rows
+      → forget (work.through (forms ss (map (places_of lists) (lookups_of ss source))) rows) ≡ pipes.through ss source lists (forget rows)
+  unfolding pipes.through
+  forget_through [] source lists rows are one = refl
+  forget_through (s ∷ ss) source lists rows are one =
+      let named = map (places_of lists) (with_name (looked_into s source) (lookups_of ss source)) in
+      let own = take (lists_in s) named in
+      ap (λ (others : List Positioned). forget (work.through (forms ss others) (stage_at s own rows))) (other_lists lists source (from_of s) (lookups_of ss source))
+      ∙ forget_through ss source lists (stage_at s own rows) (ordered_stage s own rows are) (even_stage s own rows are one)
+      ∙ ap (pipes.through ss source lists) (forget_stage s own rows are one ∙ ap (stage s (forget rows)) (own_list lists source (from_of s) (lookups_of ss source)))
+
+  one_length : (ds : List Row) → AllByRecursion (λ (pos : PosTree). length pos ≡ 1) (keys_of (positioned ds))
+  one_length [] = tt
+  one_length (d ∷ ds) = (refl, one_length ds)
+
+  pub from_scratch : (stages : List Stage) (source : List ℕ) (lists : Lists) → IsPositioned (places_of lists source) → rows_made stages (taken_from stages source (places_of lists)) ≡ evaluated stages source lists
+  from_scratch stages source lists are =
+      forget_through stages source lists (places_of lists source) are (1, one_length (lists source)) ∙ ap (pipes.through stages source lists) (forgotten (lists source))

@@ -1,0 +1,16 @@
+use Rattle.std.proofs.Common.{◌≡◌, drop}
+use Rattle.std.specs.List.{AllByRecursion}
+use Rattle.dv_change.specs.Inputs.{HasInput}
+use Rattle.dv_coll.specs.Collection.{HasId}
+use Rattle.dv_pipe.specs.Sources.{referred}
+use Rattle.dv_views.specs.Filled.{documents_in}
+use Rattle.dv_views.specs.Keeping.{IsSoundLive, kept_seen}
+use Rattle.dv_views.proofs.keeping.filled.Given as goal
+
+abbrev pub invariant-documents : goal.invariant-documents
+invariant-documents l = record {
+  sound : IsSoundLive l.pipeline l.live;
+  input : HasInput l.input (kept_seen l.live).taken.named;
+  identified : AllByRecursion HasId (referred (drop l.document-index l.documents));
+  taken : documents_in l.input (kept_seen l.live).taken (referred (drop l.document-index l.documents)) ≡ documents_in l.input (kept_seen l.fn.live).taken (referred l.documents);
+}

@@ -1,0 +1,39 @@
+-- What rows that are kept by changes stand for.
+use Rattle.std.specs.Prelude.{◌≡◌, ℕ, ◌+◌, List, [], ◌∷◌, length}
+use Rattle.std.specs.List.{flat_map}
+use Rattle.dv_change.specs.declared.live.Live.{Live}
+use Rattle.dv_change.specs.Changes.{IsPositioned, Positioned, forget}
+use Rattle.dv_change.specs.Linked.{HasTaken, forms_of}
+use Rattle.dv_pipe.specs.declared.stage.Stage.{Stage}
+use Rattle.dv_views.specs.declared.turner.Turner.{Turner}
+use Rattle.dv_views.specs.Placed.{forms, lists_in}
+use Rattle.dv_views.specs.Turning.{IsSoundTurner, turner_left, turner_makes, turner_others}
+use Rattle.dv_views.specs.Views.{Kept}
+
+-- the rows that came to turners; where there is none, those that come out
+abbrev pub left_of : List Turner → Positioned → Positioned
+left_of [] rows = rows
+left_of (t ∷ ts) rows = turner_left t
+
+-- the rows of all lists that turners look into
+abbrev pub named_of : List Turner → List Positioned
+named_of turners = flat_map turner_others turners
+
+abbrev pub kept_seen : Live Turner → Kept
+kept_seen live = record {
+  taken = record { left = left_of live.chain live.rows.entries; named = named_of live.chain };
+  rows = forget live.rows.entries;
+  ticks = live.ticks;
+}
+
+-- how many lists stages look into
+abbrev pub lists_of_all : List Stage → ℕ
+lists_of_all [] = 0
+lists_of_all (s ∷ ss) = lists_in s + lists_of_all ss
+
+-- its turners are the stages, linked to each other, and have as many lists as these look into; the rows are those that come out
+pub record IsSoundLive (stages : List Stage) (live : Live Turner) : Type 0 where
+  pub forms : forms_of turner_left turner_others turner_makes IsSoundTurner live.chain ≡ forms stages (named_of live.chain)
+  pub taken : HasTaken turner_left turner_others turner_makes IsSoundTurner live.chain live.rows.entries (left_of live.chain live.rows.entries)
+  pub positioned : IsPositioned (left_of live.chain live.rows.entries)
+  pub count : length (named_of live.chain) ≡ lists_of_all stages
