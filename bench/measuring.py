@@ -39,13 +39,18 @@ def check_tools():
 
 def count_asked(description):
     """How many documents the words ask for, 100,000 by default; they may name the program too."""
-    global DOCD
     options = argparse.ArgumentParser(description=description, formatter_class=argparse.RawDescriptionHelpFormatter)
     options.add_argument("--count", type=int, default=100_000, help="how many documents")
+    return asked(options).count
+
+
+def asked(options):
+    """What the words ask for. They may name the program too, which all measurements then take."""
+    global DOCD
     given = parsed(options, "bench")
     DOCD = given.program
     check_tools()
-    return given.count
+    return given
 
 
 def stream_of(commands):

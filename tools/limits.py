@@ -24,6 +24,7 @@ import cases.filters
 import cases.updates
 import cases.pipelines
 import cases.counts
+import cases.views
 from cases.commands import CASES, DATABASE
 from cases.messages import sessions
 from model.values import read_document

@@ -28,11 +28,10 @@ class Maker(Commands):
         super().__init__(rng)
         self.messages = 0
 
-    def first(self):
-        """An insert of some documents, so that something is there."""
+    def first(self, name=b"c"):
+        """An insert of some documents into a collection, so that something is there."""
         documents = array(self.document() for _ in range(self.rng.randint(3, 15)))
-        return self.carried_out(message(spelled([
-            (b"insert", text(b"c")), (b"documents", documents), (b"ordered", boolean(False)), (b"$db", text(b"t"))])))
+        return self.asked([(b"insert", text(name)), (b"documents", documents), (b"ordered", boolean(False))])
 
     def carried_out(self, data):
         """The same message, which the model's store has carried out."""
@@ -43,6 +42,25 @@ class Maker(Commands):
         except messages.Closing:
             pass
         return data
+
+    def views(self):
+        """Views of what is there, in some scripts, and another collection into which they may look."""
+        names = [b"v", b"w", b"x"][:self.rng.choice([0, 1, 2, 3])]
+        return ([self.first(b"d")] if names else []) + [self.asked(self.view(name)) for name in names]
+
+    def shown(self):
+        """Finds of all rows of the views that are there."""
+        names = [place.partition(b".")[2] for place in self.store.views if place.startswith(b"t.")]
+        return [self.asked([(b"find", text(name))]) for name in names]
+
+    def written(self):
+        """A write, and finds of all rows of the views in front of it and behind it."""
+        write = self.rng.choice([self.insert, self.update_command, self.delete])
+        return [*self.shown(), self.asked(write()), *self.shown()]
+
+    def asked(self, fields):
+        """The message of a command, which the model's store has carried out."""
+        return self.carried_out(message(spelled([*fields, (b"$db", text(b"t"))])))
 
     def message(self):
         self.messages += 1
@@ -114,9 +132,11 @@ class Maker(Commands):
     def run(self, number):
         """The lines of one session, cut anywhere, and a message in each."""
         self.session = object()
-        made = [] if self.made else [self.first()]
-        made += [self.message() for _ in range(self.rng.randint(1, 25))]
-        made.append(message(spelled([(b"find", text(b"c")), (b"$db", text(b"t"))])))  # shows what stands in the end
+        made = [] if self.made else [self.first(), *self.views()]
+        for _ in range(self.rng.randint(1, 25)):
+            made.append(self.message())
+            made += self.written() if self.often(0.1) else []
+        made += [self.asked([(b"find", text(b"c"))]), *self.shown()]  # what stands in the end
         ends = [b"%d end" % number] * self.often(0.97)
         return tuple([self.line(number, piece[at:at + PIECE]) for piece in pieces for at in range(0, len(piece), PIECE)] + ends
                      for pieces in (self.pieces(made), made))

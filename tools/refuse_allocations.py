@@ -11,7 +11,8 @@ first, second, .. request refused, until a run meets no refusal. What a run prin
   made, fewer than all, and what the statements before it did stands;
 - a session is closed with 6: its last command has come to any of these ends, or to its usual one.
 
-The finds of a later session show what stands then.
+The finds of a later session show what stands then. A view that finds no memory for a change shows nothing of that: it is made
+anew before it is read.
 
     python3 tools/refuse_allocations.py
     python3 tools/refuse_allocations.py --scripts "index,cursor"
@@ -139,6 +140,13 @@ def gathered(*commands):
                  Message(0, insert("d", [{"_id": 5, "x": "five"}, {"_id": 4, "x": ["four"]}])), *commands)
 
 
+def itself(*commands):
+    """Commands under two views, one that looks into its own collection, and one of the first elements in order."""
+    looked = {"from": "c", "localField": "n", "foreignField": "_id", "as": "o"}
+    return under({"v": [{"$lookup": looked}],
+                  "w": [{"$unwind": "$tags"}, {"$sort": {"tags": 1, "n": -1}}, {"$limit": 2}]}, *commands)
+
+
 def indexed(*commands):
     """Commands on a collection with two indexes, and what a scan and finds by each of them show afterwards."""
     there = [{"_id": place, "n": 7 - place, "tags": ["t%d" % place, "all"]} for place in range(1, 4)]
@@ -205,6 +213,10 @@ SCRIPTS = {
     "a collection and a view that is refused": viewed(Message(0, {"create": "d", "$db": "t"}),
                                                       Message(0, {"create": "v", "$db": "t"})),
     "two views and a drop": viewed(Message(0, {"drop": "c", "$db": "t"}), Message(0, {"drop": "w", "$db": "t"})),
+    "a view of a collection joined with itself, and an insert": itself(Message(0, insert("c", [{"_id": 5, "n": 1, "tags": ["t2"]}]))),
+    "a view of a collection joined with itself, and writes": itself(
+        update({"q": {"_id": {"$gt": 1}}, "u": {"$inc": {"n": -2}, "$push": {"tags": "all"}}, "multi": True}), find("v"),
+        delete({"q": {"_id": 3}, "limit": 1}), find("w")),
     "a drop of what a view looks into": gathered(Message(0, {"drop": "d", "$db": "t"}), find("w")),
     "an insert under indexes": indexed(Message(0, insert("c", [{"_id": 9, "n": 5, "tags": ["new", "all"]}]))),
     "an update under indexes": indexed(update({"q": {"n": {"$gt": 4}}, "u": {"$set": {"tags": [1, "all"]}}, "multi": True})),

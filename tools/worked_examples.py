@@ -38,6 +38,7 @@ TITLE = re.compile(r"([a-z_0-9]+)(, left out of the gate)?: .*")
 EACH = re.compile(r"each of (.*?) as @ in (.*)")
 REPEATED = re.compile(r"([0-9]+) times (.*)")
 TIMES = re.compile(r"\(([0-9]+) times ([^()]*)\)")
+NUMBER = re.compile(r"#(?:%([0-9]+))?")
 FOR_EACH = re.compile(r"\(each of ((?:[^()]|\([^()]*\))*?) as @: ([^()]*)\)")
 BYTES = re.compile(r"([0-9]+|every session) (end|(?:bytes )?[0-9A-Fa-f][0-9A-Fa-f |]*)")
 PRINTED = re.compile(r"=> (\d+) (?:(end \d+|closed \d)|([0-9a-f ]+))")
@@ -64,6 +65,10 @@ def command_of(written):
     """The fields of a command, without its database."""
     if written.startswith("{"):
         return fields_of(written)
+    if written.startswith("change "):
+        identity, update = values(written.partition(" ")[2])
+        entry = document((b"q", document((b"_id", identity))), (b"u", update))
+        return [(b"update", text("c")), (b"updates", (ARRAY, [entry]))]
     word, name, rest = SHORT.fullmatch(written).groups()
     on, given = text(name or "c"), values(rest or "")
     if word == "view":
@@ -217,10 +222,11 @@ def lines_of(line):
 
 
 def repeated(found):
-    """A text so many times, with the number of each in place of a number sign."""
+    """A text so many times, with the number of each in place of a number sign, or what it leaves where it is divided."""
     if "#" not in found[2]:
         return found[2] * int(found[1])
-    return "".join(found[2].replace("#", str(number + 1)) for number in range(int(found[1])))
+    return "".join(NUMBER.sub(lambda sign: str(number % int(sign[1]) if sign[1] else number), found[2])
+                   for number in range(1, int(found[1]) + 1))
 
 
 def said_of_each(found):

@@ -1,6 +1,6 @@
 """Random commands, good ones and ones with faults."""
-from making.pipelines import Pipelines
 from making.values import distinct
+from making.views import Views
 from model.paths import whole
 from model.values import DOCUMENT
 from spelled import NOTHING, array, boolean, document, number, text
@@ -8,7 +8,7 @@ from spelled import NOTHING, array, boolean, document, number, text
 IGNORED = [b"lsid", b"comment", b"$readPreference", b"maxTimeMS"]
 
 
-class Commands(Pipelines):
+class Commands(Views):
     """Makes commands of the database `t`. Some are of a session: its cursors are those that they ask for mostly."""
 
     def __init__(self, rng):
@@ -135,6 +135,8 @@ class Commands(Pipelines):
         return fields + [(b"cursor", document([(b"x", number(1))]))] * self.often(0.01)
 
     def create(self):
+        if self.often(0.3):
+            return self.view(self.rng.choice([b"v", b"w"]))
         name = text(self.rng.choice([b"v", b"v", b"w", b"c", b"d"])) if self.often(0.9) else self.collection()
         others = [(b"viewOn", self.collection()), (b"pipeline", self.pipeline())] * self.often(0.9)
         return [(b"create", name)] + (others if self.often(0.95) else others[:1])

@@ -14,14 +14,14 @@ class Values:
     """Makes values and documents."""
 
     def __init__(self, rng):
-        self.rng, self.store, self.made = rng, Store(), []
+        self.rng, self.store, self.made, self.along = rng, Store(), [], None
         self.reach = rng.choice([10, 40, 500])  # the greatest of the usual numbers
 
     @property
     def documents(self):
-        """Those along which paths are walked: what is stored, or was made for that."""
+        """Those along which paths are walked: rows where these are given, what is stored, or was made for that."""
         collection = self.store.collections.get(b"t.c")
-        return collection and collection.documents or self.made
+        return self.along or collection and collection.documents or self.made
 
     def often(self, share):
         return self.rng.random() < share

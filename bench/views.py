@@ -1,0 +1,238 @@
+#!/usr/bin/python3
+"""What a write and a read of a view cost, by how many rows it is over, beside what one would take instead.
+
+Needs what bench/measuring.py says. For each view of bench/view_cases.py, over 1,000, 10,000 and 100,000 documents: an update of one
+document by its `_id`, one in a message, without the view and with it; and a find of the first 101 rows of the view. In the
+same run, on the same values: SQLite in process, where triggers keep a table by hand, or an index a sort; the same rows anew,
+by an aggregate of docd and by a query of SQLite; and PostgreSQL's REFRESH MATERIALIZED VIEW, where its server is installed
+(`apt-get install postgresql`). Behind the largest size stand the bytes that the view keeps for a document of its collection.
+
+A view is kept by changes, but one with a `$group` is made anew behind each write. So that one has fewer writes in a run.
+
+All times are processor time, the least of some runs in turn; docd's hold the reading of its messages and the writing of
+its replies, SQLite's the making of the statement and of Python's rows, PostgreSQL's that of its own process.
+
+    /usr/bin/python3 bench/views.py
+    /usr/bin/python3 bench/views.py --rows 1000,10000 --only "group,sort" --program crates/docd/out/docd
+"""
+import argparse
+import os
+import random
+import signal
+import sqlite3
+import sys
+import time
+from collections import namedtuple
+
+import measuring
+from measuring import heads, in_turn, inserts, load, row
+from memory import resident
+from picture import Line, drawn
+from refreshing import Postgres
+from view_cases import CASES, COLUMNS, SHOWN, as_json, is_made_anew, rows_of
+
+READS = 200  # in a run
+LARGEST = 200_000  # documents that a run goes through, about, in which rows are made anew
+CREATE = "CREATE TABLE %s (%s)"
+PICTURE = os.path.join(os.path.dirname(os.path.abspath(__file__)), "views.svg")
+
+# What was measured of a view over so many documents: seconds of a write without the view, and with it; of a read; of the same rows
+# anew; and of a REFRESH, None where there is no PostgreSQL. Of each a pair: docd's and SQLite's.
+Measured = namedtuple("Measured", "case count bare write read anew refresh")
+
+
+class Docd:
+    """A running docd with the documents of a case, and with its view where that is wanted."""
+
+    def __init__(self, case, count, has_view=False):
+        self.case, self.docd = case, measuring.Docd()
+        self.insert("c", case.documents(count))
+        self.insert("d", case.foreign(count))
+        if has_view:
+            self.make()
+
+    def insert(self, collection, documents):
+        self.answered(*({**one, "insert": collection} for one in inserts(documents)))
+
+    def answered(self, *commands):
+        replies = self.docd.ask(*commands)
+        for reply in replies:
+            if reply["ok"] != 1 or "writeErrors" in reply:
+                sys.exit("bench: %s: docd refuses: %r" % (self.case.name, reply))
+        return replies
+
+    def make(self):
+        self.answered({"create": "v", "viewOn": "c", "pipeline": self.case.stages})
+
+    def writes(self, changes):
+        """An action that makes the next of these lists of changes, each time."""
+        streams = iter([measuring.stream_of([self.update(*one) for one in some]) for some in changes])
+        return lambda: self.docd.send(next(streams), len(changes[0]))
+
+    def update(self, identity, fields):
+        return {"update": self.case.changed, "updates": [{"q": {"_id": identity}, "u": {"$set": fields}}]}
+
+    def find(self):
+        return {"find": "v", "limit": SHOWN}
+
+    def aggregate(self):
+        return {"aggregate": "c", "pipeline": [*self.case.stages, {"$limit": SHOWN}], "cursor": {}}
+
+    def asks(self, command, times):
+        stream = measuring.stream_of([command] * times)
+        return lambda: self.docd.send(stream, times)
+
+    def rows(self, command):
+        reply, = self.answered(command)
+        return reply["cursor"]["firstBatch"]
+
+
+class Sqlite:
+    """SQLite in process with the rows of a case."""
+
+    def __init__(self, case, count):
+        self.case, self.base = case, sqlite3.connect(":memory:")
+        for collection, documents in (("c", case.documents(count)), ("d", case.foreign(count))):
+            columns = COLUMNS[collection]
+            self.base.execute(CREATE % (collection, ", ".join(["id INTEGER PRIMARY KEY", *columns[1:]])))
+            marks = ", ".join("?" * len(columns))
+            self.base.executemany("INSERT INTO %s VALUES (%s)" % (collection, marks), rows_of(documents, collection, as_json))
+        self.base.execute("CREATE INDEX by_code ON d (code)")
+        self.base.commit()
+
+    def make(self):
+        for statement in self.case.kept:
+            self.base.execute(statement)
+        self.base.commit()
+
+    def writes(self, changes):
+        lists = iter([[self.update(*one) for one in some] for some in changes])
+
+        def write():
+            for statement, values in next(lists):
+                self.base.execute(statement, values)
+            self.base.commit()
+        return write
+
+    def update(self, identity, fields):
+        (field, value), = fields.items()
+        column, _, place = field.partition(".")
+        new = "json_set(%s, '$[%s]', ?)" % (column, place) if place else "?"
+        return "UPDATE %s SET %s = %s WHERE id = ?" % (self.case.changed, column, new), (value, identity)
+
+    def rows(self, query):
+        return self.base.execute(query).fetchmany(SHOWN)
+
+    def asks(self, query, times):
+        def ask():
+            for _ in range(times):
+                self.rows(query)
+        return ask
+
+
+class Changes:
+    """Changes of a case's documents, which are of so many: of each a document's number and what is set."""
+
+    def __init__(self, case, count):
+        self.case, self.rng = case, random.Random(count)
+        self.rows = len(case.documents(count))
+        self.changed = len(case.foreign(count)) if case.changed == "d" else self.rows
+
+    def lists(self, writes):
+        """Lists of so many changes, one for each run."""
+        return [[self.one() for _ in range(writes)] for _ in range(measuring.RUNS)]
+
+    def one(self):
+        return self.rng.randrange(self.changed), self.case.change(self.rng, self.rows)
+
+
+def each(times, *timed):
+    """The least seconds of one of so many in each action."""
+    return [spent / times for spent in in_turn(*timed)]
+
+
+def written(docd, base, lists):
+    """The least seconds of a write, of docd and of SQLite."""
+    return each(len(lists[0]), (docd.writes(lists), docd.docd.clock), (base.writes(lists), time.thread_time))
+
+
+def measured(case, count, writes, postgres):
+    """What is measured of a case."""
+    times = max(1, LARGEST // count)
+    docd, base, changes = Docd(case, count), Sqlite(case, count), Changes(case, count)
+    clock = docd.docd.clock
+    bare = written(docd, base, changes.lists(writes))
+    anew = each(times, (docd.asks(docd.aggregate(), times), clock), (base.asks(case.query[0], times), time.thread_time))
+    docd.make()
+    base.make()
+    write = written(docd, base, changes.lists(min(writes, times) if is_made_anew(case) else writes))
+    read = each(READS, (docd.asks(docd.find(), READS), clock), (base.asks(case.read, READS), time.thread_time))
+    check(docd, base)
+    docd.docd.close()
+    return Measured(case, count, bare, write, read, anew, postgres and postgres.refreshed(case, count))
+
+
+def check(docd, base):
+    """That a view has the rows that its stages make anew, and so has what SQLite keeps."""
+    kept, anew = docd.rows(docd.find()), docd.rows(docd.aggregate())
+    if kept != anew:
+        sys.exit("bench: %s: the view doesn't show what its stages make anew" % docd.case.name)
+    others = [sorted(base.base.execute(query).fetchall()) for query in (docd.case.read, docd.case.query[0])]
+    if others[0] != others[1] or min(SHOWN, len(others[0])) != len(kept):
+        sys.exit("bench: %s: SQLite keeps other rows" % docd.case.name)
+
+
+def kept_bytes(case, count):
+    """The bytes that a view keeps for a document."""
+    taken = []
+    for has_view in (False, True):
+        docd = Docd(case, count, has_view)
+        docd.docd.ask({"ping": 1})
+        taken.append(resident(docd.docd.process))
+        docd.docd.close()
+    return (taken[1] - taken[0]) / len(case.documents(count))
+
+
+def microseconds(seconds):
+    return "-" if seconds is None else "%.1f" % (1e6 * seconds) if seconds < 1e-3 else "%.0f" % (1e6 * seconds)
+
+
+def tell(it, bytes_kept):
+    told = [it.bare[0], *it.write, *it.read, *it.anew, it.refresh]
+    row(it.case.name, "%d" % it.count, *map(microseconds, told), "-" if bytes_kept is None else "%.0f" % bytes_kept)
+
+
+def lines_of(found):
+    """The lines of a case's picture, each with its points."""
+    counts = [it.count for it in found]
+    lines = [("a write", [it.write[0] for it in found]), ("a read", [it.read[0] for it in found]),
+             ("its rows anew", [it.anew[0] for it in found]), ("REFRESH", [it.refresh for it in found])]
+    return [Line(name, list(zip(counts, [1e6 * one for one in seconds]))) for name, seconds in lines if None not in seconds]
+
+
+def main():
+    options = argparse.ArgumentParser(description=__doc__, formatter_class=argparse.RawDescriptionHelpFormatter)
+    options.add_argument("--rows", default="1000,10000,100000", help="over how many documents, joined by commas")
+    options.add_argument("--only", default="", help="words, joined by commas, of which the names of the views have one")
+    options.add_argument("--writes", type=int, default=1_000, help="how many writes a run has at most")
+    options.add_argument("--picture", default=PICTURE, help="where the picture is written")
+    given = measuring.asked(options)
+    sizes, words = [int(one) for one in given.rows.split(",")], given.only.split(",")
+    chosen, found = [case for case in CASES if any(word in case.name for word in words)], {}
+    signal.signal(signal.SIGTERM, lambda *_: sys.exit("bench: ended"))  # so that the server of PostgreSQL ends too
+    with Postgres() as postgres:
+        print(postgres.told if postgres.told else "PostgreSQL has refreshed its views.")
+        print(load() + "\n")
+        heads("a view, microseconds", "documents", "a write without it", "a write", "SQLite", "a read", "SQLite", "anew: docd",
+              "SQLite", "PostgreSQL: REFRESH", "bytes kept for a document")
+        for case in chosen:
+            for count in sizes:
+                it = measured(case, count, given.writes, None if postgres.told else postgres)
+                found.setdefault(case.name, []).append(it)
+                tell(it, kept_bytes(case, count) if count == max(sizes) else None)
+    with open(given.picture, "w", encoding="utf-8") as file:
+        file.write(drawn({name: lines_of(some) for name, some in found.items()}))
+
+
+if __name__ == "__main__":
+    main()
