@@ -123,7 +123,8 @@ def kept_matches():
     names = "(SELECT json_group_array(name) FROM d WHERE d.code = %s)"
     left = "UPDATE v SET code = new.code, names = %s WHERE id = new.id" % (names % "new.code")
     foreign = "UPDATE v SET names = %s WHERE id IN (SELECT id FROM c WHERE code IN (old.code, new.code))" % (names % "v.code")
-    return ["CREATE TABLE v (id INTEGER PRIMARY KEY, code INTEGER, names TEXT)", "INSERT INTO v " + MATCHES[0],
+    # Both columns `code` are without a type, or else the index isn't used.
+    return ["CREATE TABLE v (id INTEGER PRIMARY KEY, code, names TEXT)", "INSERT INTO v " + MATCHES[0],
             "CREATE INDEX c_by_code ON c (code)", trigger("c", [left]), trigger("d", [foreign])], "SELECT * FROM v"
 
 
