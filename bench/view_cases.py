@@ -15,8 +15,9 @@ MOST = 1_000_000  # of an amount
 COLUMNS = {"c": "id few tens code amount name items".split(), "d": "id code name".split()}
 
 # A view: its name, the documents of `c` and of `d` of a size, its stages, what a change sets of a document, which
-# collection that is in, the query, and how SQLite keeps it: the statements that make it so and the one that reads it.
-Case = namedtuple("Case", "name documents foreign stages change changed query kept read")
+# collection that is in, whether it is the one with the least amount, the query, and how SQLite keeps it: the statements that
+# make it so and the one that reads it.
+Case = namedtuple("Case", "name documents foreign stages change changed least query kept read")
 
 
 def plain(count):
@@ -53,6 +54,10 @@ def amount(rng, count):
     return {"amount": rng.randrange(MOST)}
 
 
+def greater_amount(rng, count):
+    return {"amount": MOST + rng.randrange(MOST)}
+
+
 def item(rng, count):
     return {"items.%d" % rng.randrange(PART): rng.randrange(MOST)}
 
@@ -65,8 +70,8 @@ def name(rng, count):
     return {"name": "new %d" % rng.randrange(10**9)}
 
 
-def grouped(field):
-    return [{"$group": {"_id": "$" + field, "n": {"$sum": 1}, "total": {"$sum": "$amount"}, "least": {"$min": "$amount"}}}]
+def grouped(key):
+    return [{"$group": {"_id": key, "n": {"$sum": 1}, "total": {"$sum": "$amount"}, "least": {"$min": "$amount"}}}]
 
 
 LOOKUP = [{"$lookup": {"from": "d", "localField": "code", "foreignField": "code", "as": "o"}},
@@ -75,7 +80,8 @@ LOOKUP = [{"$lookup": {"from": "d", "localField": "code", "foreignField": "code"
 # The queries, where they are the same in both dialects.
 RICH = "SELECT id, amount, name FROM c WHERE amount >= %d" % (MOST // 2)
 TOP = "SELECT id, amount, name FROM c ORDER BY amount DESC, id LIMIT 10"
-GROUPED = "SELECT %s AS id, count(*) AS n, sum(amount) AS total, min(amount) AS least FROM c GROUP BY %s"
+ALL_GROUPED = "SELECT %s AS id, count(*) AS n, sum(amount) AS total, min(amount) AS least FROM c"
+GROUPED = ALL_GROUPED + " GROUP BY %s"
 # A pair of SQLite's and PostgreSQL's.
 ELEMENTS = ("SELECT c.id, e.key AS place, e.value AS item FROM c, json_each(c.items) AS e",
             "SELECT c.id, e.place, e.item FROM c, unnest(c.items) WITH ORDINALITY AS e (item, place)")
@@ -103,13 +109,16 @@ def kept_rows(query, insert, on_key="id"):
             trigger("c", ["DELETE FROM v WHERE id = old.id", "INSERT INTO v " + insert])], "SELECT * FROM v"
 
 
-def kept_groups(field):
+def kept_sums(query, indexed, of_group, group):
     # The least amount of a group is looked up in an index where it may have gone.
-    update = ("UPDATE v SET total = total - old.amount + new.amount, least = (SELECT min(amount) FROM c WHERE %s = new.%s) "
-              "WHERE id = new.%s" % (field, field, field))
+    update = ("UPDATE v SET total = total - old.amount + new.amount, least = (SELECT min(amount) FROM c%s) WHERE id = %s"
+              % (of_group, group))
     return ["CREATE TABLE v (id INTEGER PRIMARY KEY, n INTEGER, total INTEGER, least INTEGER)",
-            "INSERT INTO v " + GROUPED % (field, field), "CREATE INDEX by_field ON c (%s, amount)" % field,
-            trigger("c", [update])], "SELECT * FROM v"
+            "INSERT INTO v " + query, "CREATE INDEX by_field ON c (%s)" % indexed, trigger("c", [update])], "SELECT * FROM v"
+
+
+def kept_groups(field):
+    return kept_sums(GROUPED % (field, field), field + ", amount", " WHERE %s = new.%s" % (field, field), "new." + field)
 
 
 def kept_pushed():
@@ -128,8 +137,8 @@ def kept_matches():
             "CREATE INDEX c_by_code ON c (code)", trigger("c", [left]), trigger("d", [foreign])], "SELECT * FROM v"
 
 
-def case(title, stages, query, kept, change=amount, documents=plain, foreign=nothing, changed="c"):
-    return Case(title, documents, foreign, stages, change, changed, query, *kept)
+def case(title, stages, query, kept, change=amount, documents=plain, foreign=nothing, changed="c", least=False):
+    return Case(title, documents, foreign, stages, change, changed, least, query, *kept)
 
 
 def lookups(title, documents, foreign):
@@ -144,17 +153,14 @@ CASES = [
          kept_rows(ELEMENTS[0], "SELECT new.id, key, value FROM json_each(new.items)"), item, with_items),
     case("a sort with limit 10", [{"$sort": {"amount": -1}}, {"$limit": 10}, {"$project": {"amount": 1, "name": 1}}], both(TOP),
          (["CREATE INDEX by_amount ON c (amount DESC, id)"], TOP)),
-    case("a group of 100 rows", grouped("few"), both(GROUPED % ("few", "few")), kept_groups("few")),
-    case("a group of one row", grouped("code"), both(GROUPED % ("code", "code")), kept_groups("code")),
+    case("a group of 100 rows", grouped("$few"), both(GROUPED % ("few", "few")), kept_groups("few")),
+    case("a group of one row", grouped("$code"), both(GROUPED % ("code", "code")), kept_groups("code")),
+    case("a group of all rows, the least changed", grouped(None), both(ALL_GROUPED % "0"),
+         kept_sums(ALL_GROUPED % "0", "amount", "", "0"), greater_amount, least=True),
     case("a `$push` of ten", [{"$group": {"_id": "$tens", "amounts": {"$push": "$amount"}}}], PUSHED, kept_pushed()),
     *lookups("a lookup of one", plain, one_each),
     *lookups("a lookup of ten", a_part, ten_each),
 ]
-
-
-def is_made_anew(case):
-    """Whether a change isn't taken in, since one of the stages is a group."""
-    return any("$group" in stage for stage in case.stages)
 
 
 def rows_of(documents, collection, spelled):

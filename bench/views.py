@@ -7,8 +7,6 @@ same run, on the same values: SQLite in process, where triggers keep a table by 
 by an aggregate of docd and by a query of SQLite; and PostgreSQL's REFRESH MATERIALIZED VIEW, where its server is installed
 (`apt-get install postgresql`). Behind the largest size stand the bytes that the view keeps for a document of its collection.
 
-A view is kept by changes, but one with a `$group` is made anew behind each write. So that one has fewer writes in a run.
-
 All times are processor time, the least of some runs in turn; docd's hold the reading of its messages and the writing of
 its replies, SQLite's the making of the statement and of Python's rows, PostgreSQL's that of its own process.
 
@@ -16,6 +14,7 @@ its replies, SQLite's the making of the statement and of Python's rows, PostgreS
     /usr/bin/python3 bench/views.py --rows 1000,10000 --only "group,sort" --program crates/docd/out/docd
 """
 import argparse
+import itertools
 import os
 import random
 import signal
@@ -29,7 +28,7 @@ from measuring import heads, in_turn, inserts, load, row
 from memory import resident
 from picture import Line, drawn
 from refreshing import Postgres
-from view_cases import CASES, COLUMNS, SHOWN, as_json, is_made_anew, rows_of
+from view_cases import CASES, COLUMNS, SHOWN, as_json, rows_of
 
 READS = 200  # in a run
 LARGEST = 200_000  # documents that a run goes through, about, in which rows are made anew
@@ -135,15 +134,19 @@ class Changes:
 
     def __init__(self, case, count):
         self.case, self.rng = case, random.Random(count)
-        self.rows = len(case.documents(count))
+        documents = case.documents(count)
+        self.rows = len(documents)
         self.changed = len(case.foreign(count)) if case.changed == "d" else self.rows
+        by_amount = sorted(documents, key=lambda one: one["amount"])
+        self.least = itertools.cycle(one["_id"] for one in by_amount)
 
     def lists(self, writes):
         """Lists of so many changes, one for each run."""
         return [[self.one() for _ in range(writes)] for _ in range(measuring.RUNS)]
 
     def one(self):
-        return self.rng.randrange(self.changed), self.case.change(self.rng, self.rows)
+        chosen = next(self.least) if self.case.least else self.rng.randrange(self.changed)
+        return chosen, self.case.change(self.rng, self.rows)
 
 
 def each(times, *timed):
@@ -165,7 +168,7 @@ def measured(case, count, writes, postgres):
     anew = each(times, (docd.asks(docd.aggregate(), times), clock), (base.asks(case.query[0], times), time.thread_time))
     docd.make()
     base.make()
-    write = written(docd, base, changes.lists(min(writes, times) if is_made_anew(case) else writes))
+    write = written(docd, base, changes.lists(writes))
     read = each(READS, (docd.asks(docd.find(), READS), clock), (base.asks(case.read, READS), time.thread_time))
     check(docd, base)
     docd.docd.close()

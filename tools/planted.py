@@ -122,8 +122,8 @@ def try_crate(engine, crate, edits, alone, jobs):
             if edit.path in said:
                 print(f"{crate.name}/{edit.path.stem}: refused, together with others: it is not proved {said[edit.path]}", flush=True)
                 continue
-            refused, told = engine.must_fail(crate, str(edit.path), ["--jobs", str(jobs)], kept)
-            failed += not refused
+            outcome, told = engine.must_fail(crate, str(edit.path), ["--jobs", str(jobs)], kept)
+            failed += outcome not in (engine.REFUSED, engine.AT_LIMIT)
             print(told.removeprefix("must-fail ").replace(".edit:", ":", 1), flush=True)
     return failed
 

@@ -1,7 +1,4 @@
-"""The largest views, and what one change of what they read makes the most of.
-
-A view with a group is made anew behind each write, so few writes come behind it.
-"""
+"""The largest views, and what one change of what they read makes the most of."""
 from cases.commands import IDENTITY, ONE, case, command, find, plain, put, put_bytes, stage, update
 from cases.counts import view
 from cases.pipelines import lookup

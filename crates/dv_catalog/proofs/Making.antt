@@ -7,7 +7,7 @@ use Rattle.std.specs.Str.{bytes_eq}
 use Rattle.dv_bson.specs.Tree.{Field}
 use Rattle.dv_fields.specs.declared.refusal.Refusal.{Refusal}
 use Rattle.dv_fields.specs.declared.refusal.Refusal.TheVariants.{OnView, ReadByView, LimitReached, WantOfMemory}
-use Rattle.dv_pipe.specs.Stages.{Lists, evaluated, is_named, is_read, looked_into}
+use Rattle.dv_pipe.specs.Stages.{Lists, is_named, is_read, looked_into}
 use Rattle.dv_pipe.specs.declared.stage.Stage.{Stage}
 use Rattle.dv_views.specs.Views.{AreRight, IsRefusedFor, View, Views, fault_of_new, kept_anew, new_view, without}
 use Rattle.dv_views.specs.Views as views

@@ -2,7 +2,6 @@
 use Rattle.std.proofs.Common.{◌≡◌, ◌⊎◌, inl, inr, ◌||◌, ℕ, Bool, true, false, if◌then◌else◌, List, [], ◌∷◌, ◌++◌, Option, Some, None, refl, sym, ap, subst, ◌∙◌}
 use Rattle.std.proofs.lemmas.Slice.Eq.{bytes_eq-Decides}
 use Rattle.std.specs.List.{AllByRecursion, list_any}
-use Rattle.std.specs.List.Sorted.{IsStrictlySortedBy}
 use Rattle.std.specs.Option.{option_map}
 use Rattle.std.specs.Str.{bytes_eq}
 use Rattle.dv_bson.specs.Tree.{Field}
@@ -12,6 +11,7 @@ use Rattle.dv_pipe.specs.declared.stage.Stage.{Stage}
 use Rattle.dv_catalog.specs.SourceParts.{with_rows}
 use Rattle.dv_catalog.specs.State.{AreOrdered, Namespaces, ViewForm, documents_of, is_view}
 use Rattle.dv_catalog.specs.Views.{is_view_at, looks_into_view}
+use Rattle.dv_catalog.proofs.Keys.{none_ordered}
 
 abbrev pub is_among : List ℕ → List Source → Bool
 is_among name [] = false
@@ -139,10 +139,6 @@ module _ (stages : List Stage) (source : List ℕ) (rows : List (List Field)) (n
             (subst (λ (f : Option (List ℕ)). is_named name (option_map (beside source) f) || look_into rest source name ≡ true) (sym from) e))
 
 -- ---- lists in order
-
-none_ordered : AreOrdered []
-unfolding IsStrictlySortedBy
-none_ordered = (tt, tt)
 
 pub ordered_under : (name : List ℕ) (sources : List Source) → AllByRecursion (λ s. AreOrdered s.1) sources → AreOrdered (rows_under name sources)
 ordered_under name [] all = none_ordered

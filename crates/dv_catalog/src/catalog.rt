@@ -16,7 +16,7 @@ use crate::sources::{references, sources_of};
 use crate::stopped::Stopped;
 use crate::told::{each_gone, one_put, told};
 use crate::update::updated;
-use crate::upkeep::{looks_into_view, refresh, refresh_all, rows_in};
+use crate::upkeep::{looks_into_view, refresh, rows_in};
 use dv_bson::{Document, NoMemory};
 use dv_command::{Aggregate, Create, Deletion, Find, Refusal, Updating, ViewOn};
 use dv_index::NewIndex;
@@ -189,14 +189,6 @@ impl Catalog {
         told.truncate(done);
         self.views.apply(namespace, &told);
         Ok(done)
-    }
-
-    /// Rebuilds the views that are stale, in the order in which they were made; one for which memory is wanting stays
-    /// so.
-    pub fn refresh(&mut self)
-        ensures { self.new ≡ self.old }
-    {
-        refresh_all(self.alloc, &self.collections, &mut self.views);
     }
 
     /// The rows under a namespace that a find is for, in its order. A stale view is rebuilt first. Fails where memory is

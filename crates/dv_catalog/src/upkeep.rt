@@ -38,37 +38,6 @@ pub(crate) fn refresh(
     registry.refresh(name, &sources)
 }
 
-/// Rebuilds the views that are stale, in the order in which they were made; one for which memory is wanting stays so.
-pub(crate) fn refresh_all(alloc: Global, collections: &Collections, registry: &mut Registry)
-    ensures right { views.AreRight (lists_of collections.now) registry.old → views.AreRight (lists_of collections.now) registry.new }
-    ensures forms { map form_of registry.new ≡ map form_of registry.old }
-{
-    'places: for place in 0..registry.len() {
-        // A view for which memory is wanting is rebuilt when it is read.
-        let _ = refresh_at(alloc, collections, registry, place);
-    }
-}
-
-/// Rebuilds the view at a place where it is stale. Fails where memory is wanting; then it stays so.
-fn refresh_at(
-    alloc: Global,
-    collections: &Collections,
-    registry: &mut Registry,
-    place: usize,
-) -> Result<(), NoMemory>
-    ensures right { views.AreRight (lists_of collections.now) registry.old → views.AreRight (lists_of collections.now) registry.new }
-    ensures forms { map form_of registry.new ≡ map form_of registry.old }
-{
-    let Some(name) = registry.name(place) else {
-        return Ok(());
-    };
-    if !matches!(registry.state(name), Some(ViewState::Stale)) {
-        return Ok(());
-    }
-    let name = String::from_str(alloc, name)?;
-    refresh(alloc, collections, registry, &name)
-}
-
 /// The rows that stand under a namespace; those of a stale view aren't there.
 pub(crate) fn rows_in<'a>(
     collections: &'a Collections,

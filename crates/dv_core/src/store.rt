@@ -100,7 +100,7 @@ impl Store {
         }
     }
 
-    /// Carries out a write, and rebuilds the views that it left stale.
+    /// Carries out a write.
     fn write(&mut self, write: Write<'_>) -> Outcome
         ensures { WritesOn (write_by (write_seen write.entry)) self.old result self.new }
     {
@@ -108,9 +108,7 @@ impl Store {
             return refuse(self.alloc, Refusal::OnView);
         }
         self.names.prepare(self.alloc);
-        let outcome = write_all(self.alloc, &self.names, &mut self.catalog, write);
-        self.catalog.refresh();
-        outcome
+        write_all(self.alloc, &self.names, &mut self.catalog, write)
     }
 
     fn find(&mut self, session: u32, find: Find) -> Result<Document, Refusal>
@@ -188,7 +186,6 @@ impl Store {
         let told = String::from_str(self.alloc, &namespace)?;
         let reply = drop_reply(self.alloc, told)?;
         self.catalog.remove(&namespace)?;
-        self.catalog.refresh();
         Ok(reply)
     }
 
@@ -243,8 +240,7 @@ impl Store {
         }
     }
 
-    /// Inserts a document into the collection of the namespace that a text is, and rebuilds the views that it left stale.
-    /// Refused as `load` is; then nothing is changed.
+    /// Inserts a document into the collection of the namespace that a text is. Refused as `load` is; then nothing is changed.
     fn insert_alone(&mut self, text: &str, document: &Document) -> Result<(), Refusal>
         ensures { Leaves (loading.loaded text.now document.now self.old) self.old result self.new }
     {
@@ -256,7 +252,6 @@ impl Store {
         if let Err(stopped) = self.catalog.insert(&namespace, stored) {
             return Err(stopped.refusal);
         }
-        self.catalog.refresh();
         Ok(())
     }
 

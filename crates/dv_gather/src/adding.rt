@@ -45,12 +45,12 @@ impl Sum {
     pub(crate) fn value(&self, alloc: Global) -> Result<Value, NoMemory>
         ensures { IfOk result (λ sum. tree sum ≡ finished (sum_seen self.now)) }
     {
-        spelled(alloc, self.narrow, self.total)
+        sum_value(alloc, self.narrow, self.total)
     }
 }
 
-/// What the value adds to a sum.
-fn addend(value: &Value) -> i64
+/// What the value adds to a sum: a number adds itself, any other value nothing. Takes no memory.
+pub fn addend(value: &Value) -> i64
     ensures { result ≡ defined.addend (tree value.now) }
 {
     match value {
@@ -60,7 +60,8 @@ fn addend(value: &Value) -> i64
     }
 }
 
-fn is_int64(value: &Value) -> bool
+/// Whether the value is an int64. Takes no memory.
+pub fn is_int64(value: &Value) -> bool
     ensures { result ≡ defined.is_int64 (tree value.now) }
 {
     match value {
@@ -69,9 +70,10 @@ fn is_int64(value: &Value) -> bool
     }
 }
 
-/// A sum as a value, an int32 where it may be.
+/// A sum as a value: an int32 where it fits and `narrow` says that none of its numbers was an int64; else an int64 where it fits;
+/// else a document with its decimal digits under `$sum128`. Fails where memory is wanting.
 #[tactic(auto, unfolding(crate::specs::Sums::spelled))]
-fn spelled(alloc: Global, narrow: bool, total: i128) -> Result<Value, NoMemory>
+pub fn sum_value(alloc: Global, narrow: bool, total: i128) -> Result<Value, NoMemory>
     ensures { IfOk result (λ sum. tree sum ≡ defined.spelled narrow total) }
 {
     if narrow {

@@ -15,5 +15,6 @@ mod tally;
 mod total;
 
 pub use accumulator::Accumulator;
+pub use adding::{addend, is_int64, sum_value};
 pub use group::{Group, GroupField};
 pub use lookup::{Join, Lookup};

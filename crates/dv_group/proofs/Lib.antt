@@ -3,3 +3,8 @@ pub mod Owed
 pub mod Bounds
 pub mod Forgetting
 pub mod Lawful
+pub mod SumsKept
+pub mod Ranking
+pub mod Following
+pub mod Places
+pub mod Bundled

@@ -278,6 +278,6 @@ pub both-ok : {A E P Q R : Type 0} (r : Result A E) → OnOk r P → OnOk r Q �
 both-ok (Ok a) p q f = f p q
 both-ok (Err e) p q f = tt
 
-pub three-ok : {A E P Q R S : Type 0} (r : Result A E) → OnOk r P → OnOk r Q → OnOk r R → (P → Q → R → S) → OnOk r S
-three-ok (Ok a) p q s f = f p q s
-three-ok (Err e) p q s f = tt
+pub four-ok : {A E P Q R S U : Type 0} (r : Result A E) → OnOk r P → OnOk r Q → OnOk r R → OnOk r S → (P → Q → R → S → U) → OnOk r U
+four-ok (Ok a) p q r s f = f p q r s
+four-ok (Err e) p q r s f = tt

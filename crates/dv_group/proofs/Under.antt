@@ -1,11 +1,11 @@
 -- What stands under each key, where rows under one key change.
 use Rattle.std.specs.Prelude.{◌≡◌, Bool, true, false, cond, List, [], ◌∷◌, Option, None, Some, slice_get, refl}
-use Rattle.std.proofs.Common.{ap, sym, ◌∙◌}
-use Rattle.std.specs.declared.cmp.Ordering.TheVariants.{Equal}
-use Rattle.std.specs.BTreeMap.{is_at}
+use Rattle.std.proofs.Common.{ap, subst, sym, ◌∙◌}
+use Rattle.std.specs.declared.cmp.Ordering.{Ordering}
+use Rattle.std.specs.declared.cmp.Ordering.TheVariants.{Less, Equal, Greater}
+use Rattle.std.specs.BTreeMap.{insert_entry, is_at}
 use Rattle.std.specs.Cmp.{Equal-is, eq_by_cmp_equiv}
-use Rattle.std.specs.Map.{lookup}
-use Rattle.std.specs.Option.{unwrap_or}
+use Rattle.std.specs.Map.{lookup, remove_entry}
 use Rattle.std.specs.Ordering.{is_eq, match_ordering, ordering_reverse, ordering_then}
 use Rattle.dv_order.specs.Key.{KeyTree, key_order}
 use Rattle.dv_order.specs.KeyLaws.{key_order_total}
@@ -13,15 +13,17 @@ use Rattle.dv_row.specs.Row.{Row}
 use Rattle.dv_change.specs.declared.position.Part.TheVariants.{Up}
 use Rattle.dv_change.specs.Changes.{Positioned, forget}
 use Rattle.dv_gather.specs.Grouping.{Grouping, row_shown}
+use Rattle.dv_group.specs.declared.bundle.Bundle.{Bundle}
 use Rattle.dv_group.specs.Grouped.{beside}
-use Rattle.dv_group.specs.Members.{Kept, are_one, members, put_some, shown_of, with_shown}
+use Rattle.dv_group.specs.Room.{IsBundle}
+use Rattle.dv_group.specs.Members.{AreBundles, Kept, are_one, members, put_some, rows_in, shown_of, with_shown}
 
 back : (k l : KeyTree) → is_eq (key_order k l) ≡ is_eq (key_order l k)
 back k l = (eq_by_cmp_equiv key_order_total).symm k l
 
 -- under equal keys stands the same
 pub members-alike : (k l : KeyTree) → key_order k l ≡ Equal → (es : Kept) → members k es ≡ members l es
-members-alike k l e es = ap (λ o. unwrap_or o []) (found es)
+members-alike k l e es = ap rows_in (found es)
   where
     found : (es : Kept) → lookup (is_at (key_order k)) es ≡ lookup (is_at (key_order l)) es
     found [] = refl
@@ -34,11 +36,11 @@ none-first (x ∷ xs) e = absurd cc
 
 module _ (es fs : Kept) (key : KeyTree) where
   -- one key's rows become others
-  pub changed-under : (change : Positioned → Positioned) (new : Option Positioned) → unwrap_or new [] ≡ change (members key es) → ((k : KeyTree) → lookup (is_at (key_order k)) fs ≡ cond (is_at (key_order key) k) new (lookup (is_at (key_order k)) es))
+  pub changed-under : (change : Positioned → Positioned) (new : Option Bundle) → rows_in new ≡ change (members key es) → ((k : KeyTree) → lookup (is_at (key_order k)) fs ≡ cond (is_at (key_order key) k) new (lookup (is_at (key_order k)) es))
       → (k : KeyTree) → members k fs ≡ cond (is_eq (key_order k key)) (change (members k es)) (members k es)
-  changed-under change new is written k = ap (λ o. unwrap_or o []) (written k ∙ ap (λ b. cond b new (lookup (is_at (key_order k)) es)) (back key k)) ∙ by (is_eq (key_order k key)) refl
+  changed-under change new is written k = ap rows_in (written k ∙ ap (λ b. cond b new (lookup (is_at (key_order k)) es)) (back key k)) ∙ by (is_eq (key_order k key)) refl
     where
-      by : (b : Bool) → is_eq (key_order k key) ≡ b → unwrap_or (cond b new (lookup (is_at (key_order k)) es)) [] ≡ cond b (change (members k es)) (members k es)
+      by : (b : Bool) → is_eq (key_order k key) ≡ b → rows_in (cond b new (lookup (is_at (key_order k)) es)) ≡ cond b (change (members k es)) (members k es)
       by true here = is ∙ ap change (sym (members-alike k key ((Equal-is (key_order k key)).0 here) es))
       by false here = refl
 
@@ -47,7 +49,7 @@ cond-over true x y z = refl
 cond-over false x y z = refl
 
 -- rows come in the place of those that were taken out
-pub put-back : (es ms fs : Kept) (key own : KeyTree) (new : Positioned) → own ≡ key
+pub put-back : (es ms fs : Kept) (key own : KeyTree) (new : Bundle) → own ≡ key
     → ((k : KeyTree) → lookup (is_at (key_order k)) ms ≡ cond (is_at (key_order key) k) None (lookup (is_at (key_order k)) es))
     → ((k : KeyTree) → lookup (is_at (key_order k)) fs ≡ cond (is_at (key_order own) k) (Some new) (lookup (is_at (key_order k)) ms))
     → (k : KeyTree) → lookup (is_at (key_order k)) fs ≡ cond (is_at (key_order key) k) (Some new) (lookup (is_at (key_order k)) es)
@@ -69,3 +71,40 @@ shown-once g es (Some k) (Some l) one =
     by : (r : Option Row) → key_order l k ≡ Equal → put_some (Up k ∷ []) r [] ≡ put_some (Up l ∷ []) r (put_some (Up k ∷ []) r [])
     by None e = refl
     by (Some d) e = ap (λ o. match_ordering (ordering_then o Equal) ((Up l ∷ [], d) ∷ (Up k ∷ [], d) ∷ []) ((Up k ∷ [], d) ∷ []) ((Up k ∷ [], d) ∷ (Up l ∷ [], d) ∷ [])) (sym e)
+
+-- ---- sound groups
+
+module _ (g : Grouping) where
+  abbrev SoundEntry : KeyTree × Bundle → Type 0
+  SoundEntry e = IsBundle g.fields e.1
+
+  with-entry : (k : KeyTree) (b : Bundle) (es : Kept) → IsBundle g.fields b → AreBundles g es → AreBundles g (insert_entry key_order es k b)
+  with-entry k b [] sound all = (sound, tt)
+  with-entry k b (e ∷ es) sound all = by (key_order k e.0) (with-entry k b es sound all.1)
+    where
+      by : (r : Ordering) → AreBundles g (insert_entry key_order es k b) → AreBundles g (match_ordering r ((k, b) ∷ e ∷ es) ((e.0, b) ∷ es) (e ∷ insert_entry key_order es k b))
+      by Less rest = (sound, all)
+      by Equal rest = (sound, all.1)
+      by Greater rest = (all.0, rest)
+
+  pub bundles-put : (k : KeyTree) (b : Bundle) (es fs : Kept) → fs ≡ insert_entry key_order es k b → IsBundle g.fields b → AreBundles g es → AreBundles g fs
+  bundles-put k b es fs is sound all = subst (AreBundles g) (sym is) (with-entry k b es sound all)
+
+  without-entry : (k : KeyTree) (es : Kept) → AreBundles g es → AreBundles g (remove_entry (is_at (key_order k)) es)
+  without-entry k [] all = tt
+  without-entry k (e ∷ es) all = by (is_eq (key_order k e.0)) (without-entry k es all.1)
+    where
+      by : (b : Bool) → AreBundles g (remove_entry (is_at (key_order k)) es) → AreBundles g (cond b es (e ∷ remove_entry (is_at (key_order k)) es))
+      by true rest = all.1
+      by false rest = (all.0, rest)
+
+  pub bundles-left : (k : KeyTree) (es fs : Kept) → fs ≡ remove_entry (is_at (key_order k)) es → AreBundles g es → AreBundles g fs
+  bundles-left k es fs is all = subst (AreBundles g) (sym is) (without-entry k es all)
+
+  pub bundle-there : (k : KeyTree) (b : Bundle) (es : Kept) → lookup (is_at (key_order k)) es ≡ Some b → AreBundles g es → IsBundle g.fields b
+  bundle-there k b [] there all = cc
+  bundle-there k b (e ∷ es) there all = by (is_eq (key_order k e.0)) there (λ there. bundle-there k b es there all.1)
+    where
+      by : (c : Bool) → cond c (Some e.1) (lookup (is_at (key_order k)) es) ≡ Some b → (lookup (is_at (key_order k)) es ≡ Some b → IsBundle g.fields b) → IsBundle g.fields b
+      by true there rest = let same : e.1 ≡ b = cc in subst (λ (c : Bundle). IsBundle g.fields c) same all.0
+      by false there rest = rest there

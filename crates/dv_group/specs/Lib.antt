@@ -2,3 +2,6 @@ pub mod Placed
 pub mod Members
 pub mod Turned
 pub mod Grouped
+pub mod Running
+pub mod RunningView
+pub mod Room

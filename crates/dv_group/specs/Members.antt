@@ -1,6 +1,6 @@
 -- Rows by their keys, and the rows of the groups of some keys: words of bodies.
 use Rattle.std.specs.Prelude.{◌≡◌, Bool, false, List, [], ◌∷◌, Option, Some, None, cond, filter}
-use Rattle.std.specs.Option.{unwrap_or}
+use Rattle.std.specs.List.{AllByRecursion}
 use Rattle.std.specs.Ordering.{is_eq}
 use Rattle.std.specs.Map.{lookup}
 use Rattle.std.specs.BTreeMap.{is_at}
@@ -12,6 +12,8 @@ use Rattle.dv_change.specs.Changes.{Positioned, forget}
 use Rattle.dv_change.specs.Ordered.{gone, put}
 use Rattle.dv_change.specs.Positions.{PosTree}
 use Rattle.dv_gather.specs.Grouping.{Grouping, key_in, row_shown}
+use Rattle.dv_group.specs.declared.bundle.Bundle.{Bundle}
+use Rattle.dv_group.specs.Room.{IsBundle}
 
 -- the key of a row
 abbrev pub row_key : Grouping → Row → KeyTree
@@ -25,13 +27,22 @@ has_key g k d = is_eq (key_order k (row_key g d))
 abbrev pub rows_with : Grouping → KeyTree → Positioned → Positioned
 rows_with g k rows = filter (λ e. has_key g k e.1) rows
 
--- rows under keys
+-- groups under keys
 abbrev pub Kept : Type 0
-Kept = List (KeyTree × Positioned)
+Kept = List (KeyTree × Bundle)
+
+-- the rows of a group, where there is one
+abbrev pub rows_in : Option Bundle → Positioned
+rows_in None = []
+rows_in (Some b) = b.members
 
 -- the rows under a key
 abbrev pub members : KeyTree → Kept → Positioned
-members k es = unwrap_or (lookup (is_at (key_order k)) es) []
+members k es = rows_in (lookup (is_at (key_order k)) es)
+
+-- each group is sound
+abbrev pub AreBundles : Grouping → Kept → Type 0
+AreBundles g es = AllByRecursion (λ e. IsBundle g.fields e.1) es
 
 -- under each key stand the rows that have it
 abbrev pub AreMembers : Grouping → (KeyTree → Positioned) → Positioned → Type 0

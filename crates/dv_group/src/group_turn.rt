@@ -9,12 +9,12 @@ ghost use Rattle.dv_change.specs.Raised.{raised};
 ghost use Rattle.dv_gather.specs.Grouping.{row_shown};
 ghost use Rattle.dv_group.specs.Grouped.{group_empty, group_even, group_ordered};
 ghost use Rattle.dv_group.specs.Members as defined;
-ghost use Rattle.dv_group.specs.Members.{members, moved, row_key, shown_of};
+ghost use Rattle.dv_group.specs.Members.{AreBundles, members, moved, row_key, shown_of};
 ghost use Rattle.dv_order.specs.Key.{KeyTree};
 ghost use Rattle.dv_group.specs.Placed.{grouped_at};
 ghost use Rattle.dv_group.specs.Turned.{IsSoundGroups, rows_left};
 
-use crate::groups::{Groups, are_one, documents, move_row};
+use crate::groups::{Groups, are_one, move_row};
 use dv_bson::{Document, NoMemory};
 use dv_change::{Change, Input, Ordered, Part, Pos, Taken, Ticks, Turn, hand_on, take_in};
 use dv_gather::Group;
@@ -22,8 +22,8 @@ use dv_order::{Key, key_of};
 use std::alloc::Global;
 use std::collections::BTreeMap;
 
-/// The groups of rows, each a row at its key, kept by changes. Looks at the groups of the changed row alone, and at each row of
-/// these.
+/// The groups of rows, each a row at its key, kept by changes. Looks at the groups of the changed row alone, and of these at the
+/// row that comes or goes, the first one and the one with the least or greatest value; where there is a `$push`, at each row.
 #[derive(Drop)]
 pub struct GroupTurn {
     alloc: Global,
@@ -81,14 +81,24 @@ impl GroupTurn {
         ticks: &mut Ticks,
         out: &mut Vec<Change>,
     ) -> Result<(), NoMemory>
+        requires { AreBundles self.old.group self.old.groups.entries }
         ensures rows { OnOk result (self.new.rows.entries ≡ self.old.rows.entries) }
         ensures group { OnOk result (self.new.group ≡ self.old.group) }
         ensures groups { OnOk result ((k : KeyTree) → members k self.new.groups.entries ≡ moved pos key.now other.now new k (members k self.old.groups.entries)) }
+        ensures sound { OnOk result (AreBundles self.new.group self.new.groups.entries) }
         ensures out { OnOk result (out.new.items ≡ out.old.items ++ diff (shown_of self.old.group (λ k. members k self.old.groups.entries) key.now other.now) (shown_of self.old.group (λ k. members k self.new.groups.entries) key.now other.now)) }
         ensures ticks { OnOk result (ticks.new ≡ raised ticks.old (1 + length (diff (shown_of self.old.group (λ k. members k self.old.groups.entries) key.now other.now) (shown_of self.old.group (λ k. members k self.new.groups.entries) key.now other.now)))) }
     {
         let before = self.shown(key, other)?;
-        move_row(self.alloc, &mut self.groups, pos, key, other, new)?;
+        move_row(
+            self.alloc,
+            &self.group,
+            &mut self.groups,
+            pos,
+            key,
+            other,
+            new,
+        )?;
         self.tell(&before, key, other, ticks, out)
     }
 
@@ -101,6 +111,7 @@ impl GroupTurn {
         ticks: &mut Ticks,
         out: &mut Vec<Change>,
     ) -> Result<(), NoMemory>
+        requires { AreBundles self.old.group self.old.groups.entries }
         ensures rows { self.new.rows.entries ≡ self.old.rows.entries }
         ensures group { self.new.group ≡ self.old.group }
         ensures groups { self.new.groups.entries ≡ self.old.groups.entries }
@@ -127,6 +138,7 @@ impl GroupTurn {
 
     /// The rows of the groups of two keys.
     fn shown(&self, key: &Option<Key>, other: &Option<Key>) -> Result<Ordered<Document>, NoMemory>
+        requires { AreBundles self.now.group self.now.groups.entries }
         ensures { IfOk result (λ rows. rows ≡ shown_of self.now.group (λ k. members k self.now.groups.entries) key.now other.now) }
     {
         let rows = self.with_shown(Ordered::new(self.alloc), key)?;
@@ -142,6 +154,7 @@ impl GroupTurn {
         rows: Ordered<Document>,
         key: &Option<Key>,
     ) -> Result<Ordered<Document>, NoMemory>
+        requires { AreBundles self.now.group self.now.groups.entries }
         ensures { IfOk result (λ more. more ≡ defined.with_shown self.now.group (λ k. members k self.now.groups.entries) key.now rows) }
     {
         let Some(key) = key else {
@@ -155,14 +168,13 @@ impl GroupTurn {
 
     /// The row of the group of the key, where it has rows.
     fn row_of(&self, key: &Key) -> Result<Option<Document>, NoMemory>
+        requires { AreBundles self.now.group self.now.groups.entries }
         ensures { IfOk result (λ row. row ≡ row_shown self.now.group (forget (members key.now self.now.groups.entries))) }
     {
-        let Some(rows) = self.groups.get(key) else {
-            return Ok(None);
-        };
-        let rows = documents(self.alloc, rows)?;
-        self.group
-            .row_of(self.alloc, rows.as_slice(), self.last.as_ref())
+        match self.groups.get(key) {
+            Some(bundle) => bundle.row(self.alloc, &self.group, self.last.as_ref()),
+            None => Ok(None),
+        }
     }
 
     /// Keeps the row of a group, where there is one, so that it lends its names.

@@ -8,85 +8,114 @@ ghost use Rattle.dv_change.specs.Ordered.{gone, put};
 ghost use Rattle.dv_gather.specs.KeySets.{referred};
 ghost use Rattle.dv_order.specs.Key.{KeyTree, key_order};
 ghost use Rattle.dv_group.specs.Members as defined;
-ghost use Rattle.dv_group.specs.Members.{is_key, members, moved, put_some};
+ghost use Rattle.dv_group.specs.Members.{AreBundles, is_key, members, moved, put_some};
+ghost use Rattle.dv_group.specs.Room.{IsBundle};
 
+use crate::bundle::Bundle;
 use dv_bson::{Document, NoMemory};
 use dv_change::{Ordered, Pos};
+use dv_gather::Group;
 use dv_order::Key;
 use std::alloc::Global;
 use std::collections::BTreeMap;
 
-/// The rows of each group, by their positions.
-pub(crate) type Groups = BTreeMap<Key, Ordered<Document>>;
+/// The groups, by their keys.
+pub(crate) type Groups = BTreeMap<Key, Bundle>;
 
 /// Takes what stands at the position out of the group of the one key, and puts the row there into that of the other one, where
 /// there are keys and a row. Fails where memory is wanting.
 pub(crate) fn move_row(
     alloc: Global,
+    group: &Group,
     groups: &mut Groups,
     pos: Pos,
     key: &Option<Key>,
     other: &Option<Key>,
     new: Option<Document>,
 ) -> Result<(), NoMemory>
-    ensures { OnOk result ((k : KeyTree) → members k groups.new.entries ≡ moved pos key.now other.now new k (members k groups.old.entries)) }
+    requires { AreBundles group.now groups.old.entries }
+    ensures rows { OnOk result ((k : KeyTree) → members k groups.new.entries ≡ moved pos key.now other.now new k (members k groups.old.entries)) }
+    ensures sound { OnOk result (AreBundles group.now groups.new.entries) }
 {
-    take_out(alloc, groups, key, &pos)?;
-    put_in(alloc, groups, other, pos, new)
+    take_out(alloc, group, groups, key, &pos)?;
+    put_in(alloc, group, groups, other, pos, new)
 }
 
 /// Takes what stands at the position out of the group of the key, where there is a key.
 fn take_out(
     alloc: Global,
+    group: &Group,
     groups: &mut Groups,
     key: &Option<Key>,
     pos: &Pos,
 ) -> Result<(), NoMemory>
-    ensures { OnOk result ((k : KeyTree) → members k groups.new.entries ≡ cond (is_key k key.now) (gone pos.now (members k groups.old.entries)) (members k groups.old.entries)) }
+    requires { AreBundles group.now groups.old.entries }
+    ensures rows { OnOk result ((k : KeyTree) → members k groups.new.entries ≡ cond (is_key k key.now) (gone pos.now (members k groups.old.entries)) (members k groups.old.entries)) }
+    ensures sound { OnOk result (AreBundles group.now groups.new.entries) }
 {
     match key {
-        Some(key) => take_from(alloc, groups, key, pos),
+        Some(key) => take_from(alloc, group, groups, key, pos),
         None => Ok(()),
     }
 }
 
 /// Takes what stands at the position out of the group of the key. A group without rows goes.
-fn take_from(alloc: Global, groups: &mut Groups, key: &Key, pos: &Pos) -> Result<(), NoMemory>
-    ensures { OnOk result ((k : KeyTree) → members k groups.new.entries ≡ cond (is_key k (Some key.now)) (gone pos.now (members k groups.old.entries)) (members k groups.old.entries)) }
+fn take_from(
+    alloc: Global,
+    group: &Group,
+    groups: &mut Groups,
+    key: &Key,
+    pos: &Pos,
+) -> Result<(), NoMemory>
+    requires { AreBundles group.now groups.old.entries }
+    ensures rows { OnOk result ((k : KeyTree) → members k groups.new.entries ≡ cond (is_key k (Some key.now)) (gone pos.now (members k groups.old.entries)) (members k groups.old.entries)) }
+    ensures sound { OnOk result (AreBundles group.now groups.new.entries) }
 {
-    let left = rows_of(alloc, groups, key).without(pos);
+    let bundle = bundle_of(alloc, group, groups, key)?;
+    let left = bundle.without(alloc, group, pos)?;
     if !left.is_empty() {
         groups.insert(key.try_clone()?, left)?;
     }
     Ok(())
 }
 
-/// Takes the rows of the group of the key out.
-fn rows_of(alloc: Global, groups: &mut Groups, key: &Key) -> Ordered<Document>
-    ensures rows { result ≡ members key.now groups.old.entries }
-    ensures others { (k : KeyTree) → lookup (is_at (key_order k)) groups.new.entries ≡ cond (is_at (key_order key.now) k) None (lookup (is_at (key_order k)) groups.old.entries) }
+/// Takes the group of the key out, or one without rows. Fails where memory is wanting.
+fn bundle_of(
+    alloc: Global,
+    group: &Group,
+    groups: &mut Groups,
+    key: &Key,
+) -> Result<Bundle, NoMemory>
+    requires { AreBundles group.now groups.old.entries }
+    ensures rows { IfOk result (λ bundle. bundle.members ≡ members key.now groups.old.entries) }
+    ensures sound { IfOk result (λ bundle. IsBundle group.now.fields bundle) }
+    ensures left { OnOk result (AreBundles group.now groups.new.entries) }
+    ensures others { OnOk result ((k : KeyTree) → lookup (is_at (key_order k)) groups.new.entries ≡ cond (is_at (key_order key.now) k) None (lookup (is_at (key_order k)) groups.old.entries)) }
 {
     match groups.remove(key) {
-        Some(rows) => rows,
-        None => Ordered::new(alloc),
+        Some(bundle) => Ok(bundle),
+        None => Bundle::new(alloc, group),
     }
 }
 
 /// Puts the row at the position into the group of the key, where there are a row and a key.
 fn put_in(
     alloc: Global,
+    group: &Group,
     groups: &mut Groups,
     key: &Option<Key>,
     pos: Pos,
     row: Option<Document>,
 ) -> Result<(), NoMemory>
-    ensures { OnOk result ((k : KeyTree) → members k groups.new.entries ≡ cond (is_key k key.now) (put_some pos row (members k groups.old.entries)) (members k groups.old.entries)) }
+    requires { AreBundles group.now groups.old.entries }
+    ensures rows { OnOk result ((k : KeyTree) → members k groups.new.entries ≡ cond (is_key k key.now) (put_some pos row (members k groups.old.entries)) (members k groups.old.entries)) }
+    ensures sound { OnOk result (AreBundles group.now groups.new.entries) }
 {
     let Some(key) = key else {
         return Ok(());
     };
     match row {
-        Some(row) => put_under(alloc, groups, key, pos, row),
+        Some(row) => put_under(alloc, group, groups, key, pos, row),
         None => Ok(()),
     }
 }
@@ -94,15 +123,19 @@ fn put_in(
 /// Puts the row at the position into the group of the key.
 fn put_under(
     alloc: Global,
+    group: &Group,
     groups: &mut Groups,
     key: &Key,
     pos: Pos,
     row: Document,
 ) -> Result<(), NoMemory>
-    ensures { OnOk result ((k : KeyTree) → members k groups.new.entries ≡ cond (is_key k (Some key.now)) (put pos row (members k groups.old.entries)) (members k groups.old.entries)) }
+    requires { AreBundles group.now groups.old.entries }
+    ensures rows { OnOk result ((k : KeyTree) → members k groups.new.entries ≡ cond (is_key k (Some key.now)) (put pos row (members k groups.old.entries)) (members k groups.old.entries)) }
+    ensures sound { OnOk result (AreBundles group.now groups.new.entries) }
 {
-    let rows = rows_of(alloc, groups, key).with(pos, row)?;
-    groups.insert(key.try_clone()?, rows)?;
+    let bundle = bundle_of(alloc, group, groups, key)?;
+    let more = bundle.with(alloc, group, pos, row)?;
+    groups.insert(key.try_clone()?, more)?;
     Ok(())
 }
 

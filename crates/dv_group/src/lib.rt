@@ -1,8 +1,11 @@
 //! `$group`, kept by changes.
 #![tactic(auto)]
 
+mod bundle;
 mod group_turn;
 mod groups;
 pub mod laws;
+mod running;
+mod summing;
 
 pub use group_turn::GroupTurn;

@@ -24,6 +24,12 @@ pub(crate) fn put(alloc: Global, number: u64, row: &[u8]) -> Result<Change, Fail
     Ok(Change::Put { pos, row })
 }
 
+/// The row at the number goes.
+pub(crate) fn gone(alloc: Global, number: u64) -> Result<Change, Fail> {
+    let pos = place(alloc, number)?;
+    Ok(Change::Gone { pos })
+}
+
 /// What a change tells: the number that its position ends with, and the one under `a` in the row that it puts there.
 type Told = (u64, Option<i32>);
 
@@ -181,8 +187,7 @@ fn a_limit_pulls_in_the_next_row(rt: HostRuntime) -> Result<(), Fail> {
     turn.change(Input::Left, put(alloc, 20, ROWS[1])?, &mut ticks, &mut out)?;
     turn.change(Input::Left, put(alloc, 30, ROWS[2])?, &mut ticks, &mut out)?;
     assert_eq!(rt; ticks.count(), 5);
-    let pos = place(alloc, 10)?;
-    turn.change(Input::Left, Change::Gone { pos }, &mut ticks, &mut out)?;
+    turn.change(Input::Left, gone(alloc, 10)?, &mut ticks, &mut out)?;
     assert_eq!(rt; ticks.count(), 8);
     let told: Vec<Told> = out.iter().map(told).collect(alloc)?;
     assert_eq!(rt;

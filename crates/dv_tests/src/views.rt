@@ -1,7 +1,8 @@
 //! Views that are kept: their rows behind changes, and what they count.
 
 use crate::spelled::{array_in, document};
-use crate::turns::put;
+use crate::turns::{gone, put};
+use dv_bson::Value;
 use dv_pipe::{Pipeline, Sources};
 use dv_views::{Registry, ViewState};
 use std::alloc::Global;
@@ -50,20 +51,62 @@ fn a_view_counts_what_its_changes_take(rt: HostRuntime) -> Result<(), Fail> {
     Ok(())
 }
 
+/// `{k: 1, v: 5}`, `{k: 1, v: 5L}`, `{k: 1, v: 3}` and `{k: 2, v: 5L}`.
+const GROUPED: [&[u8]; 4] = [
+    b"\x13\0\0\0\x10k\0\x01\0\0\0\x10v\0\x05\0\0\0\0",
+    b"\x17\0\0\0\x10k\0\x01\0\0\0\x12v\0\x05\0\0\0\0\0\0\0\0",
+    b"\x13\0\0\0\x10k\0\x01\0\0\0\x10v\0\x03\0\0\0\0",
+    b"\x17\0\0\0\x10k\0\x02\0\0\0\x12v\0\x05\0\0\0\0\0\0\0\0",
+];
+
+/// The int64s under `lo` in the rows of the view.
+fn lows(alloc: Global, views: &Registry) -> Result<Vec<i64>, Fail> {
+    let mut found = Vec::new(alloc);
+    let Some(rows) = views.rows("t.v") else {
+        return Ok(found);
+    };
+    for row in rows {
+        if let Some(Value::Int64(number)) = row.get("lo") {
+            found.push(*number)?;
+        }
+    }
+    Ok(found)
+}
+
+// By each change that comes, and each group whose row it changes.
 #[test]
-fn a_view_with_a_group_is_made_anew_behind_a_change(rt: HostRuntime) -> Result<(), Fail> {
+fn a_group_follows_the_rows_that_come_and_go(rt: HostRuntime) -> Result<(), Fail> {
     let alloc = rt.alloc();
-    // {p: [{$group: {_id: null}}]}
+    // {p: [{$group: {_id: "$k", lo: {$min: "$v"}}}]}
     let mut views = registry(
         alloc,
-        b"'\0\0\0\x04p\0\x1f\0\0\0\x030\0\x17\0\0\0\x03$group\0\x0a\0\0\0\x0a_id\0\0\0\0\0",
+        b"D\0\0\0\x04p\0<\0\0\0\x030\x004\0\0\0\x03$group\0'\0\0\0\x02_id\0\x03\0\0\0$k\0\x03lo\0\x12\0\0\0\x02$min\0\x03\0\0\0$v\0\0\0\0\0\0",
     )?;
-    views.apply("t.c", &[put(alloc, 0, SEVEN)?]);
-    assert_eq!(rt; views.state("t.v"), Some(ViewState::Stale));
+    let changes = [
+        put(alloc, 1, GROUPED[0])?,
+        put(alloc, 2, GROUPED[1])?,
+        put(alloc, 3, GROUPED[2])?,
+        gone(alloc, 3)?,
+        gone(alloc, 1)?,
+        put(alloc, 2, GROUPED[3])?,
+    ];
+    let mut counts = Vec::new(alloc);
+    for place in 0..changes.len() {
+        views.apply("t.c", &changes[place..place + 1]);
+        counts.push(views.ticks("t.v"))?;
+    }
     assert_eq!(rt;
-        (views.row_count("t.v"), views.ticks("t.v")),
-        (Some(0), Some(0))
+        counts.as_slice(),
+        [Some(2), Some(3), Some(5), Some(7), Some(9), Some(12)].as_slice()
     );
+    assert_eq!(rt; lows(alloc, &views)?.as_slice(), [5].as_slice());
+    Ok(())
+}
+
+#[test]
+fn a_view_that_is_taken_out_is_gone(rt: HostRuntime) -> Result<(), Fail> {
+    let alloc = rt.alloc();
+    let mut views = registry(alloc, b"\x0d\0\0\0\x04p\0\x05\0\0\0\0\0")?;
     views.refresh("t.v", &Sources::new(alloc))?;
     assert_eq!(rt; views.state("t.v"), Some(ViewState::Live));
     assert!(rt; views.remove("t.v"));

@@ -1,8 +1,7 @@
 -- Rows that are made anew, by putting in what they are made of.
-use Rattle.std.proofs.Common.{◌≡◌, ◌||◌, ℕ, Bool, true, false, List, [], ◌∷◌, map, length, Option, Some, None, refl, ap, sym, subst, ◌∙◌}
+use Rattle.std.proofs.Common.{◌≡◌, ℕ, true, List, [], ◌∷◌, map, Option, Some, None, refl, ap, sym, subst, ◌∙◌}
 use Rattle.std.specs.List.{AllByRecursion, list_any}
 use Rattle.std.specs.Str.{bytes_eq}
-use Rattle.std.proofs.lemmas.Slice.Eq.{bytes_eq-Decides}
 use Rattle.std.specs.List.Sorted.{IsStrictlySortedBy}
 use Rattle.std.specs.Map.{keys_of}
 use Rattle.std.specs.Prelude.{pos}
@@ -13,21 +12,20 @@ use Rattle.dv_order.specs.OwnKeys.{IsOwn}
 use Rattle.dv_coll.specs.Collection.{IsAscending, id_key}
 use Rattle.dv_change.specs.Positions.{IsExact, pos_order}
 use Rattle.dv_pipe.specs.Sources.{Row}
+use Rattle.dv_views.specs.Seen.{IsWellKept}
+use Rattle.dv_views.proofs.Made.{one_part}
 use Rattle.dv_change.specs.declared.input.Input.TheVariants.{Left}
 use Rattle.dv_change.specs.declared.live.Live.{Live}
-use Rattle.dv_change.specs.Changes.{IsPositioned, Positioned, forget}
-use Rattle.dv_change.specs.Linked.{HasTaken, forms_of}
+use Rattle.dv_change.specs.Changes.{IsPositioned, forget}
 use Rattle.dv_pipe.specs.Stages.{Lists, is_named, looked_into}
 use Rattle.dv_pipe.specs.declared.stage.Stage.{Stage}
 use Rattle.dv_views.specs.declared.turner.Turner.{Turner}
 use Rattle.dv_views.specs.Counted.{rows_made}
 use Rattle.dv_views.specs.Filled.{documents_in, lists_in_turn}
 use Rattle.dv_views.specs.Keeping.{IsSoundLive, kept_seen, left_of, lists_of_all, named_of}
-use Rattle.dv_views.specs.Placed.{forms, lookups_of, own_position, places_of, positioned, with_name}
-use Rattle.dv_views.specs.Seen.{IsWellKept}
-use Rattle.dv_views.specs.Turning.{IsSoundTurner, empty_lists, turner_left, turner_makes, turner_others}
+use Rattle.dv_views.specs.Placed.{lookups_of, own_position, places_of, positioned, with_name}
+use Rattle.dv_views.specs.Turning.{empty_lists}
 use Rattle.dv_views.specs.Views.{AreInOrder, AreReadable, Kept, Taken, kept_anew, live, taken_from}
-use Rattle.dv_views.proofs.Made.{one_part}
 use Rattle.dv_views.proofs.Behind.{FromScratch}
 use Rattle.dv_views.proofs.Filling.{all_filled, source_filled}
 use Rattle.dv_views.proofs.Right.{itself, or-left, or-right}
@@ -50,21 +48,6 @@ names-read source lists (s ∷ ss) read =
 
 pub lookups_read : (stages : List Stage) (source : List ℕ) (lists : Lists) → AreReadable stages source lists → AllByRecursion (λ name. AreInOrder (lists name)) (lookups_of stages source)
 lookups_read stages source lists read = names-read source lists stages (λ name h. read name (or-right (bytes_eq source name) (list_any (λ s. is_named name (looked_into s source)) stages) h))
-
--- the same turners and rows
-pub sound_same : (stages : List Stage) (a b : Live Turner) → b.chain ≡ a.chain → b.rows.entries ≡ a.rows.entries → IsSoundLive stages a → IsSoundLive stages b
-sound_same stages a b chain rows sound = record {
-  forms = subst (λ (ts : List Turner). Forms ts) (sym chain) sound.forms;
-  taken = subst (λ (es : Positioned). Taken-by b.chain es) (sym rows) (subst (λ (ts : List Turner). Taken-by ts a.rows.entries) (sym chain) sound.taken);
-  positioned = subst (λ (es : Positioned). IsPositioned (left_of b.chain es)) (sym rows) (subst (λ (ts : List Turner). IsPositioned (left_of ts a.rows.entries)) (sym chain) sound.positioned);
-  count = subst (λ (ts : List Turner). length (named_of ts) ≡ lists_of_all stages) (sym chain) sound.count;
-}
-  where
-    Forms : List Turner → Type 0
-    Forms ts = forms_of turner_left turner_others turner_makes IsSoundTurner ts ≡ forms stages (named_of ts)
-
-    Taken-by : List Turner → Positioned → Type 0
-    Taken-by ts es = HasTaken turner_left turner_others turner_makes IsSoundTurner ts es (left_of ts es)
 
 module _ (scratch : FromScratch) (stages : List Stage) (source : List ℕ) (lists : Lists) (read : AreReadable stages source lists) where
   all-taken : (fresh some : Taken) → fresh ≡ record { left = []; named = empty_lists (lists_of_all stages) } → some ≡ lists_in_turn 0 (lookups_of stages source) lists fresh → documents_in Left some (lists source) ≡ taken_from stages source (places_of lists)

@@ -2,7 +2,6 @@
 use Rattle.std.proofs.Common.{◌≡◌, ◌⊎◌, inl, inr, ◌||◌, ℕ, zero, suc, Bool, true, false, if◌then◌else◌, List, [], ◌∷◌, ◌++◌, map, length, fold, Option, Some, None, refl, ap, sym, subst, ◌∙◌, append_assoc}
 use Rattle.std.proofs.lemmas.List.Sums.{fold-append}
 use Rattle.std.specs.List.{AllByRecursion, AllZip, list_any}
-use Rattle.std.specs.Map.{values_of}
 use Rattle.std.specs.Str.{bytes_eq}
 use Rattle.std.proofs.lemmas.Slice.Eq.{bytes_eq-Decides}
 use Rattle.dv_change.specs.declared.change.Change.{Change}
@@ -11,16 +10,27 @@ use Rattle.dv_change.specs.declared.input.Input.TheVariants.{Left, Named}
 use Rattle.dv_change.specs.Changes.{IsPositioned, Positioned, with_change}
 use Rattle.dv_change.specs.Inputs.{changed_at}
 use Rattle.dv_coll.specs.Collection.{HasId}
-use Rattle.dv_pipe.specs.Sources.{Row}
 use Rattle.dv_pipe.specs.Stages.{Lists, evaluated, is_named, is_read, looked_into}
 use Rattle.dv_pipe.specs.declared.stage.Stage.{Stage}
 use Rattle.dv_views.specs.Changed.{AreAfterChange, AreMade, AreMadeInTurn, IsAfterChange, IsMade, changed, with_changed}
 use Rattle.dv_views.specs.Counted.{AreCounted, IsCounted, IsMarked, inputs_at, kept_after, kept_behind, kept_through, list_inputs, rows_made, taken_after}
 use Rattle.dv_views.specs.Placed.{Places, lookups_of, places_of, positioned, with_name}
 use Rattle.dv_views.specs.Seen.{IsTakenBy, IsWellKept}
-use Rattle.dv_views.specs.Views.{AreKept, AreRight, IsRight, Kept, Mark, Taken, View, Views, live, reads, rows_of_view, stale, taken_from}
+use Rattle.dv_views.specs.Views.{AreKept, AreRight, Kept, Mark, Taken, View, Views, live, reads, rows_of_view, stale, taken_from}
 use Rattle.dv_views.proofs.Made.{forgotten}
 use Rattle.dv_views.proofs.Turns.{EqualKeysAreOne, first-change, one-identified, one-own}
+
+-- ---- one list among others
+
+pub changed_mid : (i : ℕ) (c : Change) (front back : List Positioned) (rows : Positioned) → i ≡ length front → changed_at i c (front ++ rows ∷ back) ≡ front ++ with_change rows c ∷ back
+changed_mid i c [] back rows e = ap (λ n. changed_at n c (rows ∷ back)) e
+changed_mid zero c (x ∷ front) back rows e = absurd cc
+changed_mid (suc i) c (x ∷ front) back rows e = ap (λ ys. x ∷ ys) (changed_mid i c front back rows cc)
+
+pub longer : (i : ℕ) (front : List Positioned) (rows : Positioned) → i ≡ length front → suc i ≡ length (front ++ rows ∷ [])
+longer i [] rows e = ap suc e
+longer zero (x ∷ front) rows e = absurd cc
+longer (suc i) (x ∷ front) rows e = ap suc (longer i front rows cc)
 
 -- ---- one change of what stands under a namespace
 
@@ -31,17 +41,6 @@ changed_places namespace c places name = if bytes_eq namespace name then with_ch
 module _ (namespace : List ℕ) (c : Change) (places : Places) where
   abbrev after : Places
   after = changed_places namespace c places
-
-  -- one list among others
-  changed-mid : (i : ℕ) (front back : List Positioned) (rows : Positioned) → i ≡ length front → changed_at i c (front ++ rows ∷ back) ≡ front ++ with_change rows c ∷ back
-  changed-mid i [] back rows e = ap (λ n. changed_at n c (rows ∷ back)) e
-  changed-mid zero (x ∷ front) back rows e = absurd cc
-  changed-mid (suc i) (x ∷ front) back rows e = ap (λ ys. x ∷ ys) (changed-mid i front back rows cc)
-
-  longer : (i : ℕ) (front : List Positioned) (rows : Positioned) → i ≡ length front → suc i ≡ length (front ++ rows ∷ [])
-  longer i [] rows e = ap suc e
-  longer zero (x ∷ front) rows e = absurd cc
-  longer (suc i) (x ∷ front) rows e = ap suc (longer i front rows cc)
 
   abbrev taken_by : Taken → List Input → Taken
   taken_by t inputs = fold (λ t input. taken_after input c t) t inputs
@@ -61,7 +60,7 @@ module _ (namespace : List ℕ) (c : Change) (places : Places) where
           → taken_by (record { left = left; named = front ++ places name ∷ map places names }) (if b then Named i ∷ list_inputs (suc i) names namespace else list_inputs (suc i) names namespace)
           ≡ record { left = left; named = front ++ after name ∷ map after names }
       by true is step =
-          ap (λ (ls : List Positioned). taken_by (record { left = left; named = ls }) (list_inputs (suc i) names namespace)) (changed-mid i front (map places names) (places name) e)
+          ap (λ (ls : List Positioned). taken_by (record { left = left; named = ls }) (list_inputs (suc i) names namespace)) (changed_mid i c front (map places names) (places name) e)
           ∙ step (with_change (places name) c)
           ∙ ap (λ (b : Bool). record { left = left; named = front ++ (if b then with_change (places name) c else places name) ∷ map after names }) (sym is)
       by false is step = step (places name) ∙ ap (λ (b : Bool). record { left = left; named = front ++ (if b then with_change (places name) c else places name) ∷ map after names }) (sym is)

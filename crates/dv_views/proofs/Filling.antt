@@ -1,24 +1,24 @@
 -- Documents put into empty lists, one after the other, stand there at their positions.
-use Rattle.std.proofs.Common.{◌≡◌, ℕ, zero, suc, List, [], ◌∷◌, ◌++◌, map, length, fold, refl, ap, sym, subst, ◌∙◌, append_assoc, append-nil}
+use Rattle.std.proofs.Common.{◌≡◌, ℕ, suc, List, [], ◌∷◌, ◌++◌, map, length, fold, refl, ap, sym, subst, ◌∙◌, append_assoc, append-nil}
 use Rattle.std.specs.BTreeMap.{insert_entry}
 use Rattle.std.specs.List.{AllByRecursion}
 use Rattle.std.specs.List.Sorted.{IsStrictlySortedBy}
 use Rattle.std.specs.Ordering.{match_ordering, ordering_reverse}
-use Rattle.std.specs.declared.cmp.Ordering.TheVariants.{Less, Equal, Greater}
+use Rattle.std.specs.declared.cmp.Ordering.TheVariants.{Less, Greater}
 use Rattle.dv_order.specs.Key.{key_order}
 use Rattle.dv_order.specs.KeyLaws.{key_order_total}
 use Rattle.dv_coll.specs.Collection.{IsAscending, id_key}
 use Rattle.dv_change.specs.declared.change.Change.TheVariants.{Put}
 use Rattle.dv_change.specs.declared.input.Input.TheVariants.{Left, Named}
 use Rattle.dv_change.specs.Changes.{Positioned, with_change}
-use Rattle.dv_change.specs.Inputs.{changed_at}
 use Rattle.dv_change.specs.Positions.{pos_order}
 use Rattle.dv_pipe.specs.Sources.{Row}
 use Rattle.dv_pipe.specs.Stages.{Lists}
 use Rattle.dv_views.specs.Filled.{documents_in, lists_in_turn}
 use Rattle.dv_views.specs.Placed.{own_position, places_of, positioned}
 use Rattle.dv_views.specs.Turning.{empty_lists}
-use Rattle.dv_views.specs.Views.{AreInOrder, Taken}
+use Rattle.dv_views.specs.Views.{AreInOrder}
+use Rattle.dv_views.proofs.Behind.{changed_mid, longer}
 use Rattle.dv_views.proofs.Made.{one_part}
 
 -- each document of the list is below the other one
@@ -64,21 +64,11 @@ source_filled es named ascending = left-filled es [] named ∙ ap (λ (rows : Po
 
 -- ---- the other lists
 
-list-changed : (i : ℕ) (d : Row) (front back : List Positioned) (rows : Positioned) → i ≡ length front → changed_at i (Put (own_position d) d) (front ++ rows ∷ back) ≡ front ++ put_in rows d ∷ back
-list-changed i d [] back rows e = ap (λ n. changed_at n (Put (own_position d) d) (rows ∷ back)) e
-list-changed zero d (x ∷ front) back rows e = absurd cc
-list-changed (suc i) d (x ∷ front) back rows e = ap (λ (ys : List Positioned). x ∷ ys) (list-changed i d front back rows cc)
-
 list-filled : (i : ℕ) (es : List Row) (left rows : Positioned) (front back : List Positioned) → i ≡ length front
     → documents_in (Named i) (record { left = left; named = front ++ rows ∷ back }) es ≡ record { left = left; named = front ++ fold put_in rows es ∷ back }
 list-filled i [] left rows front back e = refl
 list-filled i (d ∷ es) left rows front back e =
-    ap (λ (ns : List Positioned). documents_in (Named i) (record { left = left; named = ns }) es) (list-changed i d front back rows e) ∙ list-filled i es left (put_in rows d) front back e
-
-longer : (i : ℕ) (front : List Positioned) (rows : Positioned) → i ≡ length front → suc i ≡ length (front ++ rows ∷ [])
-longer i [] rows e = ap suc e
-longer zero (x ∷ front) rows e = absurd cc
-longer (suc i) (x ∷ front) rows e = ap suc (longer i front rows cc)
+    ap (λ (ns : List Positioned). documents_in (Named i) (record { left = left; named = ns }) es) (changed_mid i (Put (own_position d) d) front back rows e) ∙ list-filled i es left (put_in rows d) front back e
 
 lists-filled : (i : ℕ) (names : List (List ℕ)) (lists : Lists) (left : Positioned) (front : List Positioned) → i ≡ length front → AllByRecursion (λ name. AreInOrder (lists name)) names
     → lists_in_turn i names lists (record { left = left; named = front ++ empty_lists (length names) }) ≡ record { left = left; named = front ++ map (places_of lists) names }

@@ -1,14 +1,14 @@
 -- Rows that are kept by changes: turners that are the stages stay so, and keep what they are defined to keep.
-use Rattle.std.proofs.Common.{◌≡◌, ◌&&◌, get_or, ◌+◌, ◌-◌, ◌<◌, ◌≤◌, ℕ, zero, suc, Bool, true, false, if◌then◌else◌, List, [], ◌∷◌, ◌++◌, map, length, take, drop, Option, Some, None, refl, ap, sym, subst, ◌∙◌, arith, append-nil}
+use Rattle.std.proofs.Common.{◌≡◌, ◌+◌, ◌-◌, ◌<◌, ◌≤◌, ℕ, zero, suc, Bool, true, false, if◌then◌else◌, List, [], ◌∷◌, ◌++◌, length, take, drop, Option, Some, None, refl, ap, sym, subst, ◌∙◌, arith}
 use Rattle.std.specs.Prelude.{IfOk, Result, Ok, Err, nat_lt}
-use Rattle.std.proofs.lemmas.Bool.{le-ltb, lt-ltb, ltb-false, ltb-true}
-use Rattle.std.specs.List.{AllByRecursion, AllZip, flat_map}
+use Rattle.std.proofs.lemmas.Bool.{le-ltb, ltb-false, ltb-true}
+use Rattle.std.specs.List.{AllByRecursion, flat_map}
 use Rattle.std.specs.Option.{option_map}
 use Rattle.dv_change.specs.declared.change.Change.{Change}
 use Rattle.dv_change.specs.declared.input.Input.{Input}
 use Rattle.dv_change.specs.declared.input.Input.TheVariants.{Left, Named}
 use Rattle.dv_change.specs.declared.live.Live.{Live}
-use Rattle.dv_change.specs.Changes.{IsExactChange, IsPositioned, Positioned, forget, with_change, with_changes}
+use Rattle.dv_change.specs.Changes.{IsExactChange, IsPositioned, Positioned, forget, with_changes}
 use Rattle.dv_change.specs.Inputs.{HasInput, changed_at, left_after, others_after}
 use Rattle.dv_change.specs.Linked.{HasTaken, IsLinked, first_left, forms_of}
 use Rattle.dv_change.specs.Raised.{raised}
@@ -17,12 +17,10 @@ use Rattle.dv_pipe.specs.declared.stage.Stage.{Stage}
 use Rattle.dv_pipe.specs.Sources.{Row}
 use Rattle.dv_pipe.specs.Stages.{beside, from_of}
 use Rattle.dv_views.specs.declared.turner.Turner.{Turner}
-use Rattle.dv_views.specs.Anew.{all_follow, follows}
 use Rattle.dv_views.specs.Counted.{kept_after, rows_made, taken_after, work_of}
 use Rattle.dv_views.specs.Keeping.{IsSoundLive, kept_seen, left_of, lists_of_all, named_of}
 use Rattle.dv_views.specs.Placed.{forms, listed, lists_in, lookups_of, stage_at, with_name}
 use Rattle.dv_views.specs.Turning.{AreFresh, IsFresh, IsSoundTurner, empty_lists, turner_left, turner_makes, turner_others}
-use Rattle.dv_views.specs.Views.{Kept, Taken}
 
 abbrev forms_in : List Turner → List Form
 forms_in ts = forms_of turner_left turner_others turner_makes IsSoundTurner ts
@@ -276,14 +274,3 @@ module _ (none : IsPositioned {V = Row} []) (ss : List Stage) (live : Live Turne
     positioned = subst (λ (rows : Positioned). IsPositioned rows) (sym left_fresh) none;
     count = ap length (fresh_named ss live.chain fresh) ∙ empty-count (lists_of_all ss);
   }
-
--- ---- stages that are kept by changes
-
-both-follow : (a b : Bool) → a && b ≡ true → (a ≡ true) × (b ≡ true)
-both-follow true b e = (refl, e)
-both-follow false b e = absurd cc
-
-pub follows_at : (ss : List Stage) (i : ℕ) (d : Stage) → all_follow ss ≡ true → i < length ss → follows (get_or ss i d) ≡ true
-follows_at [] i d all within = let no : i < 0 = within in absurd (omega arith)
-follows_at (s ∷ ss) zero d all within = (both-follow (follows s) (all_follow ss) all).0
-follows_at (s ∷ ss) (suc i) d all within = let more : suc i < suc (length ss) = within in follows_at ss i d (both-follow (follows s) (all_follow ss) all).1 (omega arith)

@@ -1,5 +1,5 @@
 -- What stages make at positions is, without these, what they make.
-use Rattle.std.proofs.Common.{◌≡◌, ℕ, List, [], ◌∷◌, map, length, take, drop, Option, Some, None, refl, ap, sym, subst, ◌∙◌}
+use Rattle.std.proofs.Common.{◌≡◌, ℕ, List, [], ◌∷◌, map, length, take, drop, Option, Some, None, refl, ap, ◌∙◌}
 use Rattle.std.specs.Prelude.{filter}
 use Rattle.std.specs.List.{AllByRecursion, flat_map}
 use Rattle.std.specs.Map.{keys_of}
@@ -27,14 +27,14 @@ use Rattle.dv_pipe.specs.declared.stage.Stage.{Stage}
 use Rattle.dv_pipe.specs.declared.stage.Stage.TheVariants.{Match, Project, Unwind, Sort, Limit, Group, Lookup}
 use Rattle.dv_pipe.specs.Sources.{Row}
 use Rattle.dv_pipe.specs.Stages as pipes
-use Rattle.dv_pipe.specs.Stages.{Lists, beside, evaluated, foreign_of, from_of, looked_into, rows_at, stage}
+use Rattle.dv_pipe.specs.Stages.{Lists, beside, evaluated, from_of, looked_into, rows_at, stage}
 use Rattle.dv_row.specs.declared.project.Project as projects
 use Rattle.dv_row.specs.declared.unwind.Unwind as unwinds
 use Rattle.dv_row.specs.Projecting.{projected}
 use Rattle.dv_row.specs.Unwinding.{unwound}
 use Rattle.dv_sort.specs.Sorting.{stable}
 use Rattle.dv_views.specs.Counted.{rows_made}
-use Rattle.dv_views.specs.Placed.{forms, listed, lists_in, lookups_of, own_position, places_of, positioned, stage_at, with_name}
+use Rattle.dv_views.specs.Placed.{forms, listed, lists_in, lookups_of, places_of, positioned, stage_at, with_name}
 use Rattle.dv_views.specs.Views.{taken_from}
 use Rattle.dv_views.proofs.Made.{forgotten}
 

@@ -31,9 +31,12 @@ abbrev pub lists_of_all : List Stage → ℕ
 lists_of_all [] = 0
 lists_of_all (s ∷ ss) = lists_in s + lists_of_all ss
 
--- its turners are the stages, linked to each other, and have as many lists as these look into; the rows are those that come out
-pub record IsSoundLive (stages : List Stage) (live : Live Turner) : Type 0 where
-  pub forms : forms_of turner_left turner_others turner_makes IsSoundTurner live.chain ≡ forms stages (named_of live.chain)
-  pub taken : HasTaken turner_left turner_others turner_makes IsSoundTurner live.chain live.rows.entries (left_of live.chain live.rows.entries)
-  pub positioned : IsPositioned (left_of live.chain live.rows.entries)
-  pub count : length (named_of live.chain) ≡ lists_of_all stages
+-- turners are the stages, linked to each other, and have as many lists as these look into; the rows are those that come out
+pub record IsSoundChain (stages : List Stage) (turners : List Turner) (rows : Positioned) : Type 0 where
+  pub forms : forms_of turner_left turner_others turner_makes IsSoundTurner turners ≡ forms stages (named_of turners)
+  pub taken : HasTaken turner_left turner_others turner_makes IsSoundTurner turners rows (left_of turners rows)
+  pub positioned : IsPositioned (left_of turners rows)
+  pub count : length (named_of turners) ≡ lists_of_all stages
+
+abbrev pub IsSoundLive : List Stage → Live Turner → Type 0
+IsSoundLive stages live = IsSoundChain stages live.chain live.rows.entries

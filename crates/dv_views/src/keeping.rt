@@ -1,11 +1,10 @@
 //! Rows that are kept by changes of what stages read.
 
-ghost use Rattle.std.specs.Prelude.{◌≡◌, true, length, IfOk};
+ghost use Rattle.std.specs.Prelude.{◌≡◌, length, IfOk};
 ghost use Rattle.std.specs.List.{AllByRecursion};
 ghost use Rattle.dv_change.specs.Inputs.{HasInput};
 ghost use Rattle.dv_coll.specs.Collection.{HasId};
 ghost use Rattle.dv_pipe.specs.Sources.{lists_of, referred};
-ghost use Rattle.dv_views.specs.Anew.{all_follow};
 ghost use Rattle.dv_views.specs.Counted.{inputs_at, kept_after, kept_behind, list_inputs};
 ghost use Rattle.dv_views.specs.Filled.{documents_in, lists_in_turn};
 ghost use Rattle.dv_views.specs.Keeping.{IsSoundLive, kept_seen, lists_of_all};
@@ -29,7 +28,6 @@ pub(crate) fn made(
     lookups: &[Str],
     sources: &Sources<'_>,
 ) -> Result<Live<Turner>, NoMemory>
-    requires follow { all_follow pipeline.now ≡ true }
     requires lookups { lookups.now ≡ lookups_of pipeline.now source.now }
     requires read { AreReadable pipeline.now source.now (lists_of sources.now) }
     ensures sound { IfOk result (λ live. IsSoundLive pipeline.now live) }

@@ -1,5 +1,5 @@
-//! Views: pipelines under names of their own, each with rows that are kept by changes of what it reads, or, where a stage is
-//! a `$group`, made anew behind them.
+//! Views: pipelines under names of their own, each with rows that are kept by changes of what it reads, or, where a group is too
+//! large for its `$push`, made anew behind them.
 #![tactic(auto)]
 
 mod fault;

@@ -126,7 +126,7 @@ impl Registry {
 
     /// The count of the work that changes of what it reads took since the view of this name was made: for each stage, 1 for
     /// each change that came to it, and 1 for each that it handed on. It stays at 9,223,372,036,854,775,807, and is 0 where the
-    /// view is stale or has a `$group`. None where there is no such view. Takes no memory.
+    /// view is stale, or its rows are made anew. None where there is no such view. Takes no memory.
     pub fn ticks(&self, name: &str) -> Option<u64>
         ensures { result ≡ option_map (λ v. ticks_in v.mark) (view_named name.now self.now) }
     {
@@ -236,7 +236,7 @@ impl Registry {
     /// Carries changes that were made to the documents under the namespace on to the views that read it: each change goes to
     /// each view in creation order, and there to the source first and then to each list that a stage looks into. A view counts
     /// the work that this takes. One that finds no memory drops what it keeps and is stale, which takes none; so does one with
-    /// a `$group`, whose rows are made anew.
+    /// a `$push` over a group of more than 256 rows, whose rows are made anew.
     pub fn apply(&mut self, namespace: &str, changes: &[Change])
         ensures right { (lists : Lists) → AreMade changes.now (lists namespace.now) → AreRight lists self.old → AreRight (with_changed namespace.now changes.now lists) self.new }
         ensures others { AreAfterChange namespace.now self.old self.new }

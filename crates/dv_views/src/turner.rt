@@ -1,22 +1,23 @@
 //! Stages that are kept by changes.
 
-ghost use Rattle.std.specs.Prelude.{◌≡◌, [], true, IfOk};
-ghost use Rattle.dv_views.specs.Anew as defined;
-ghost use Rattle.dv_views.specs.Placed.{stage_at};
-ghost use Rattle.dv_views.specs.Turning.{AreFresh, IsSoundTurner, no_lists, turner_empty, turner_even, turner_left, turner_makes, turner_ordered, turner_others, turner_positioned};
+ghost use Rattle.std.specs.Prelude.{IfOk};
+ghost use Rattle.dv_views.specs.Turning.{AreFresh, IsFresh, IsSoundTurner, turner_empty, turner_even, turner_left, turner_makes, turner_ordered, turner_others, turner_positioned};
 
 use dv_bson::NoMemory;
 use dv_change::{Change, Input, Ticks, Turn};
 use dv_flow::{LimitTurn, MatchTurn, ProjectTurn, SimpleTurn, SortTurn, UnwindTurn};
+use dv_group::GroupTurn;
 use dv_join::LookupTurn;
 use dv_pipe::Stage;
 use std::alloc::Global;
 
-/// A stage of any kind that is kept by changes, so that they can stand in one chain.
+/// A stage of any kind, kept by changes, so that all can stand in one chain.
 #[derive(Drop)]
 pub(crate) enum Turner {
     /// One of the simple stages.
     Simple(SimpleTurn),
+    /// `$group`.
+    Group(GroupTurn),
     /// `$lookup`.
     Lookup(LookupTurn),
 }
@@ -41,6 +42,7 @@ impl Turn for Turner {
     fn named(&self) -> usize {
         match self {
             Turner::Simple(turn) => turn.named(),
+            Turner::Group(turn) => turn.named(),
             Turner::Lookup(turn) => turn.named(),
         }
     }
@@ -54,28 +56,14 @@ impl Turn for Turner {
     ) -> Result<(), NoMemory> {
         match self {
             Turner::Simple(turn) => turn.change(input, change, ticks, out),
+            Turner::Group(turn) => turn.change(input, change, ticks, out),
             Turner::Lookup(turn) => turn.change(input, change, ticks, out),
         }
     }
 }
 
-/// Whether each of the stages is kept by changes.
-pub(crate) fn all_follow(stages: &[Stage]) -> bool
-    ensures { result ≡ defined.all_follow stages.now }
-{
-    stages.iter().all(follows)
-}
-
-/// Whether the stage is kept by changes. A row of a `$group` is yet made of all rows of its group.
-fn follows(stage: &Stage) -> bool
-    ensures { result ≡ defined.follows stage.now }
-{
-    !matches!(stage, Stage::Group(_))
-}
-
 /// The stages, where they have taken in nothing. Fails where memory is wanting.
 pub(crate) fn turners_of(alloc: Global, stages: &[Stage]) -> Result<Vec<Turner>, NoMemory>
-    requires { defined.all_follow stages.now ≡ true }
     ensures { IfOk result (λ turners. AreFresh stages.now turners.items) }
 {
     let mut turners = Vec::with_capacity(alloc, stages.len())?;
@@ -89,11 +77,7 @@ pub(crate) fn turners_of(alloc: Global, stages: &[Stage]) -> Result<Vec<Turner>,
 /// The stage, where it has taken in nothing. Fails where memory is wanting.
 #[tactic(auto, unfolding(crate::specs::Placed::stage_at))]
 fn turner_of(alloc: Global, stage: &Stage) -> Result<Turner, NoMemory>
-    requires { defined.follows stage.now ≡ true }
-    ensures makes { IfOk result (λ t. turner_makes t ≡ stage_at stage.now) }
-    ensures left { IfOk result (λ t. turner_left t ≡ []) }
-    ensures others { IfOk result (λ t. turner_others t ≡ no_lists stage.now) }
-    ensures sound { IfOk result IsSoundTurner }
+    ensures { IfOk result (λ turner. IsFresh stage.now turner) }
 {
     match stage {
         Stage::Match(filter) => Ok(Turner::Simple(SimpleTurn::Match(MatchTurn::new(
@@ -107,7 +91,7 @@ fn turner_of(alloc: Global, stage: &Stage) -> Result<Turner, NoMemory>
         )?))),
         Stage::Sort(spec) => Ok(Turner::Simple(SimpleTurn::Sort(SortTurn::new(alloc, spec)?))),
         Stage::Limit(count) => Ok(Turner::Simple(SimpleTurn::Limit(LimitTurn::new(alloc, *count)))),
-        Stage::Group(_) => unreachable!(),
+        Stage::Group(group) => Ok(Turner::Group(GroupTurn::new(alloc, group)?)),
         Stage::Lookup(lookup) => Ok(Turner::Lookup(LookupTurn::new(alloc, lookup)?)),
     }
 }

@@ -13,7 +13,7 @@ use crate::lookups::lookups_of;
 use crate::remade::Made;
 use crate::rows::Rows;
 use crate::state::ViewState;
-use crate::turner::{Turner, all_follow};
+use crate::turner::Turner;
 use dv_bson::{NoMemory, Str};
 use dv_change::{Change, Live};
 use dv_pipe::{Pipeline, Sources};
@@ -61,12 +61,13 @@ impl Mark {
         ensures sound { IfOk result (λ mark. IsSoundMark pipeline.now mark) }
     {
         laws::kept_rows_are_those_from_scratch();
-        if all_follow(pipeline.stages()) {
-            let live = made(alloc, pipeline, source, lookups, sources)?;
-            Ok(Mark::Live(live))
-        } else {
-            let rows = Made::new(alloc, pipeline, source, lookups, sources)?;
-            Ok(Mark::Made(rows))
+        match made(alloc, pipeline, source, lookups, sources) {
+            Ok(live) => Ok(Mark::Live(live)),
+            // A group is too large for its `$push`, or there is no memory for more than the rows.
+            Err(_) => {
+                let rows = Made::new(alloc, pipeline, source, lookups, sources)?;
+                Ok(Mark::Made(rows))
+            }
         }
     }
 }

@@ -1,16 +1,18 @@
 -- The rows with one more come in the place of those that were taken out.
-use Rattle.std.proofs.Common.{◌≡◌, ◌∙◌, ap, Some}
+use Rattle.std.proofs.Common.{◌∙◌, ap, Some}
 use Rattle.dv_change.specs.Ordered.{put}
-use Rattle.dv_group.specs.Members.{members}
-use Rattle.dv_group.proofs.Under.{changed-under, put-back}
+use Rattle.dv_group.proofs.Under.{bundles-put, changed-under, put-back}
 use Rattle.dv_group.proofs.groups.put_under.Goals as goal
 
-pub returns : goal.returns
-returns c =
+pub returns-clause-rows : goal.returns-clause-rows
+returns-clause-rows c =
     let es = c.args.groups.now.entries in
-    let ms = c.rows_of.new.groups.entries in
+    let ms = c.bundle_of.new.groups.entries in
     let key = c.args.key.now in
-    let more = c.in_ok-rows.rows in
-    let is : more ≡ put c.args.pos c.args.row (members key es) = c.in_ok-rows.ensures ∙ ap (put c.args.pos c.args.row) c.rows_of.ensures.rows in
+    let more = c.in_ok-more.more in
+    let is = c.in_ok-more.ensures.rows ∙ ap (put c.args.pos c.args.row) c.in_ok-bundle.ensures.rows in
     changed-under es c.insert.new.self.entries key (put c.args.pos c.args.row) (Some more) is
-    (put-back es ms c.insert.new.self.entries key c.in_ok-try_clone.field-0 more c.in_ok-try_clone.ensures c.rows_of.ensures.others c.in_ok-insert.ensures.updates.0)
+    (put-back es ms c.insert.new.self.entries key c.in_ok-try_clone.field-0 more c.in_ok-try_clone.ensures c.in_ok-bundle.ensures.others c.in_ok-insert.ensures.updates.0)
+
+pub returns-clause-sound : goal.returns-clause-sound
+returns-clause-sound c = bundles-put c.args.group.now c.in_ok-try_clone.field-0 c.in_ok-more.more c.bundle_of.new.groups.entries c.insert.new.self.entries c.in_ok-insert.ensures.entries c.in_ok-more.ensures.sound c.in_ok-bundle.ensures.left

@@ -9,7 +9,7 @@ use Rattle.dv_views.specs.Filled.{documents_in, lists_in_turn}
 use Rattle.dv_views.specs.Keeping.{kept_seen}
 use Rattle.dv_views.specs.Turning.{AreFresh}
 use Rattle.dv_views.specs.Views.{AreInOrder}
-use Rattle.dv_views.proofs.Anew.{lookups_read, made_anew, sound_same, source_read}
+use Rattle.dv_views.proofs.Anew.{lookups_read, made_anew, source_read}
 use Rattle.dv_views.proofs.Rolling.{fresh_named, fresh_turners, left_fresh, lookups_count, sound_fresh}
 use Rattle.dv_views.proofs.keeping.made.Goals as goal
 
@@ -32,9 +32,6 @@ filled_lists-requires-clause-ordered c =
 
 pub filled-requires-clause-identified : goal.filled-requires-clause-identified
 filled-requires-clause-identified c = subst (λ (ds : List Row). AllByRecursion HasId ds) (sym c.get.ensures) (source_read c.args.pipeline.now c.args.source.now (lists_of c.args.sources.now) c.requires.read).1
-
-pub returns-clause-sound : goal.returns-clause-sound
-returns-clause-sound c = sound_same c.args.pipeline.now c.in_ok-whole.whole c.counted_anew.result c.counted_anew.ensures.chain c.counted_anew.ensures.rows c.in_ok-whole.ensures.sound
 
 pub returns-clause-kept : goal.returns-clause-kept
 returns-clause-kept c =

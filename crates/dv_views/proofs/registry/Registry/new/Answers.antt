@@ -1,4 +1,4 @@
-use Rattle.std.proofs.Common.{[], sym, subst}
+use Rattle.std.proofs.Common.{sym, subst}
 use Rattle.dv_views.proofs.Entries.{named_apart}
 use Rattle.dv_views.proofs.WellKept.{AreWellKept}
 use Rattle.dv_views.proofs.registry.Registry.new.Goals as goal

@@ -1,4 +1,4 @@
-use Rattle.std.proofs.Common.{◌<◌, sym, subst, ◌∙◌, arith}
+use Rattle.std.proofs.Common.{◌<◌, subst, ◌∙◌, arith}
 use Rattle.indexmap.proofs.CallerLemmas.{index_map_len-with_value_at}
 use Rattle.dv_views.specs.Views.{AreNamedApart}
 use Rattle.dv_views.proofs.Marked.{all_taken, apart_taken, taken_next}

@@ -1,5 +1,5 @@
 use Rattle.dv_tests.proofs.Lists.{unnamed_in_order}
-use Rattle.dv_tests.proofs.views.a_view_with_a_group_is_made_anew_behind_a_change.Goals as goal
+use Rattle.dv_tests.proofs.views.a_view_that_is_taken_out_is_gone.Goals as goal
 
 pub refresh-requires : goal.refresh-requires
 refresh-requires g c = λ v there name read. unnamed_in_order c.new.result c.new.ensures name

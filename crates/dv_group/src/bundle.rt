@@ -1,0 +1,176 @@
+//! The rows of a group.
+
+ghost use Rattle.std.specs.Prelude.{◌≡◌, ◌↔◌, [], ◌∷◌, IfOk, IsTrue, OnOk, drop, map};
+ghost use Rattle.dv_change.specs.Changes.{forget};
+ghost use Rattle.dv_change.specs.Ordered.{gone, put};
+ghost use Rattle.dv_gather.specs.GroupView.{accumulation};
+ghost use Rattle.dv_gather.specs.Grouping.{row_shown};
+ghost use Rattle.dv_group.specs.Room.{AreNarrowIn, HaveRoom, IsBundle};
+ghost use Rattle.dv_group.specs.Running.{moved_at, moved_from, running_of, with_told};
+ghost use Rattle.dv_group.specs.RunningView.{running_seen};
+
+use crate::running::{Running, Way};
+use dv_bson::{Document, NoMemory};
+use dv_change::{Ordered, Pos};
+use dv_gather::{Group, GroupField};
+use dv_row::{push_field, row_beside};
+use std::alloc::Global;
+
+/// The rows of a group by their positions, and what has come of their values.
+#[derive(Drop)]
+pub(crate) struct Bundle {
+    members: Ordered<Document>,
+    /// For each field of the group, in its order.
+    totals: Vec<Running>,
+}
+
+impl Bundle {
+    /// A group of no rows. Fails where memory is wanting.
+    pub(crate) fn new(alloc: Global, group: &Group) -> Result<Self, NoMemory>
+        ensures rows { IfOk result (λ bundle. bundle.members ≡ []) }
+        ensures sound { IfOk result (λ bundle. IsBundle group.now.fields bundle) }
+    {
+        Ok(Bundle {
+            members: Ordered::new(alloc),
+            totals: totals_of_none(alloc, group.fields())?,
+        })
+    }
+
+    /// Whether it has no rows.
+    pub(crate) fn is_empty(&self) -> bool
+        ensures { IsTrue result ↔ (self.now.members ≡ []) }
+    {
+        self.members.is_empty()
+    }
+
+    /// With the row at the position, in the place of one that stands there. Fails where memory is wanting.
+    pub(crate) fn with(
+        self,
+        alloc: Global,
+        group: &Group,
+        pos: Pos,
+        row: Document,
+    ) -> Result<Self, NoMemory>
+        requires { IsBundle group.now.fields self }
+        ensures rows { IfOk result (λ more. more.members ≡ put pos row self.members) }
+        ensures sound { IfOk result (λ more. IsBundle group.now.fields more) }
+    {
+        pos.is_exact();
+        let Bundle {
+            members,
+            mut totals,
+        } = self.without(alloc, group, &pos)?;
+        // No sum of so many numbers is beyond 128 bits.
+        let _ = members.len();
+        follow_each(alloc, &mut totals, group.fields(), Way::Comes, &pos, &row)?;
+        let members = members.with(pos, row)?;
+        Ok(Bundle { members, totals })
+    }
+
+    /// Without what stands at the position. Fails where memory is wanting.
+    pub(crate) fn without(self, alloc: Global, group: &Group, pos: &Pos) -> Result<Self, NoMemory>
+        requires { IsBundle group.now.fields self }
+        ensures rows { IfOk result (λ left. left.members ≡ gone pos.now self.members) }
+        ensures sound { IfOk result (λ left. IsBundle group.now.fields left) }
+    {
+        pos.is_exact();
+        let Bundle {
+            members,
+            mut totals,
+        } = self;
+        if let Some(row) = members.get(pos) {
+            let _ = members.len();
+            follow_each(alloc, &mut totals, group.fields(), Way::Goes, pos, row)?;
+        }
+        let members = members.without(pos);
+        Ok(Bundle { members, totals })
+    }
+
+    /// The group's row, where it has rows. A row before it lends its names. Fails where memory is wanting.
+    pub(crate) fn row(
+        &self,
+        alloc: Global,
+        group: &Group,
+        before: Option<&Document>,
+    ) -> Result<Option<Document>, NoMemory>
+        requires { IsBundle group.now.fields self.now }
+        ensures { IfOk result (λ row. row ≡ row_shown group.now (forget self.now.members)) }
+    {
+        let Some((_, first)) = self.members.first() else {
+            return Ok(None);
+        };
+        let key = group.key_in(alloc, first)?.into_value()?;
+        let mut row = row_beside(alloc, before)?;
+        push_field(&mut row, "_id", Some(key))?;
+        self.push_fields(alloc, group.fields(), &mut row)?;
+        // Its length is asked more than once before it is written.
+        row.keep_size();
+        Ok(Some(row))
+    }
+
+    /// Puts the fields of the group behind those of the row. Fails where memory is wanting.
+    fn push_fields(
+        &self,
+        alloc: Global,
+        fields: &[GroupField],
+        row: &mut Document,
+    ) -> Result<(), NoMemory>
+        ensures { OnOk result (row.new ≡ with_told (map accumulation fields.now) self.now.members (map running_seen self.now.totals.items) row.old) }
+    {
+        'fields: for (field, total) in fields.iter().zip(&self.totals) {
+            let value = total.value(alloc, field, &self.members)?;
+            push_field(row, field.name.as_str(), Some(value))?;
+        }
+        Ok(())
+    }
+}
+
+/// What comes of no rows, for each field. Fails where memory is wanting.
+fn totals_of_none(alloc: Global, fields: &[GroupField]) -> Result<Vec<Running>, NoMemory>
+    ensures { IfOk result (λ totals. map running_seen totals.items ≡ map (λ a. running_of a []) (map accumulation fields.now)) }
+{
+    let mut totals = Vec::with_capacity(alloc, fields.len())?;
+    'fields: for field in fields {
+        totals.push(Running::of_none(alloc, field.accumulator))?;
+    }
+    Ok(totals)
+}
+
+/// Has what has come of each field follow the row at the position, as it comes or goes. Fails where memory is wanting.
+fn follow_each(
+    alloc: Global,
+    totals: &mut Vec<Running>,
+    fields: &[GroupField],
+    way: Way,
+    pos: &Pos,
+    row: &Document,
+) -> Result<(), NoMemory>
+    requires { HaveRoom way (map accumulation fields.now) pos.now row.now (map running_seen totals.old.items) }
+    ensures moved { OnOk result (map running_seen totals.new.items ≡ moved_from way pos.now row.now 0 (map accumulation fields.now) (map running_seen totals.old.items)) }
+    ensures narrow { OnOk result (AreNarrowIn (map running_seen totals.old.items) (map accumulation fields.now) row.now) }
+{
+    'fields: for (place, field) in fields.iter().enumerate() {
+        follow_at(alloc, totals, place, field, way, pos, row)?;
+    }
+    Ok(())
+}
+
+/// The same at a place, where there is one.
+fn follow_at(
+    alloc: Global,
+    totals: &mut [Running],
+    place: usize,
+    field: &GroupField,
+    way: Way,
+    pos: &Pos,
+    row: &Document,
+) -> Result<(), NoMemory>
+    requires { HaveRoom way (accumulation field.now ∷ []) pos.now row.now (drop place (map running_seen totals.old)) }
+    ensures moved { OnOk result (map running_seen totals.new ≡ moved_at way pos.now row.now place (accumulation field.now) (map running_seen totals.old)) }
+    ensures narrow { OnOk result (AreNarrowIn (drop place (map running_seen totals.old)) (accumulation field.now ∷ []) row.now) }
+{
+    if place < totals.len() {
+        totals[place].follow(alloc, field, way, pos, row)?;
+    }
+    Ok(())
+}

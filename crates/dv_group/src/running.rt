@@ -1,0 +1,184 @@
+//! What has come of the values of a group's rows, so that it follows changes.
+
+ghost use Rattle.std.specs.Prelude.{◌≡◌, [], ◌∷◌, IfOk, OnOk};
+ghost use Rattle.dv_bson.specs.Tree.{array, elements_of};
+ghost use Rattle.dv_bson.specs.View.{tree};
+ghost use Rattle.dv_change.specs.Changes.{forget};
+ghost use Rattle.dv_gather.specs.GroupView.{accumulation};
+ghost use Rattle.dv_gather.specs.Grouping.{Accumulation, values_over};
+ghost use Rattle.dv_row.specs.ExpressionView.{expression};
+ghost use Rattle.dv_group.specs.Room.{HasRoom, IsNarrowIn};
+ghost use Rattle.dv_group.specs.Running as defined;
+ghost use Rattle.dv_group.specs.Running.{first_value, moved_by, rank, running_by, told_by};
+ghost use Rattle.dv_group.specs.RunningView.{running_seen};
+
+use crate::groups::documents;
+use crate::summing::KeptSum;
+use dv_bson::{Document, List, NoMemory, Value};
+use dv_change::{Ordered, Part, Pos};
+use dv_gather::{Accumulator, GroupField};
+use dv_order::key_of;
+use dv_row::Expr;
+use std::alloc::{AllocError, Global};
+use std::mem::replace;
+
+/// Whether a row comes or goes.
+#[derive(Clone, Copy, Debug)]
+pub(crate) enum Way {
+    /// It comes.
+    Comes,
+    /// It goes.
+    Goes,
+}
+
+/// What has come of the values of a field over the rows of a group.
+#[derive(Drop)]
+pub(crate) enum Running {
+    /// For `$sum`: the sum of the numbers among them.
+    Summed(KeptSum),
+    /// For `$min` and `$max`: the rows with a value that isn't null, by it and then by their positions. The least value is the
+    /// first for `$min`, the greatest for `$max`.
+    Ranked(Ordered<Document>),
+    /// For `$push`: nothing, since all of the rows are asked.
+    Pushed,
+}
+
+impl Running {
+    /// What comes of no rows.
+    pub(crate) fn of_none(alloc: Global, accumulator: Accumulator) -> Self
+        ensures { (a : Accumulation) → running_seen result ≡ running_by accumulator a [] }
+    {
+        match accumulator {
+            Accumulator::Sum => Running::Summed(KeptSum::of_none()),
+            Accumulator::Min | Accumulator::Max => Running::Ranked(Ordered::new(alloc)),
+            Accumulator::Push => Running::Pushed,
+        }
+    }
+
+    /// Follows the row at the position, as it comes or goes. Fails where memory is wanting; then it is spent.
+    pub(crate) fn follow(
+        &mut self,
+        alloc: Global,
+        field: &GroupField,
+        way: Way,
+        pos: &Pos,
+        row: &Document,
+    ) -> Result<(), NoMemory>
+        requires { HasRoom way (accumulation field.now) pos.now row.now (running_seen self.old) }
+        ensures moved { OnOk result (running_seen self.new ≡ moved_by way (accumulation field.now) pos.now row.now (running_seen self.old)) }
+        ensures narrow { OnOk result (IsNarrowIn (running_seen self.old) (accumulation field.now) row.now) }
+    {
+        match self {
+            Running::Summed(sum) => {
+                if let Some(value) = field.expr.value_in(alloc, row)? {
+                    match way {
+                        Way::Comes => sum.add(value.get()),
+                        Way::Goes => sum.take(value.get()),
+                    }
+                }
+            }
+            Running::Ranked(rows) => {
+                let some = replace(rows, Ordered::new(alloc));
+                *rows = reranked(alloc, some, field, way, pos, row)?;
+            }
+            Running::Pushed => {}
+        }
+        Ok(())
+    }
+
+    /// What it tells of the values of these rows. Fails where memory is wanting.
+    pub(crate) fn value(
+        &self,
+        alloc: Global,
+        field: &GroupField,
+        rows: &Ordered<Document>,
+    ) -> Result<Value, NoMemory>
+        ensures { IfOk result (λ value. tree value ≡ told_by (accumulation field.now) rows.now (running_seen self.now)) }
+    {
+        match self {
+            Running::Summed(sum) => sum.value(alloc),
+            Running::Ranked(rows) => value_of_first(alloc, field, rows),
+            Running::Pushed => pushed(alloc, &field.expr, rows),
+        }
+    }
+}
+
+/// The rows with one more, or without it, where it has a value that isn't null. Fails where memory is wanting.
+fn reranked(
+    alloc: Global,
+    rows: Ordered<Document>,
+    field: &GroupField,
+    way: Way,
+    pos: &Pos,
+    row: &Document,
+) -> Result<Ordered<Document>, NoMemory>
+    ensures { IfOk result (λ now. now ≡ defined.reranked way (accumulation field.now) pos.now row.now rows) }
+{
+    let Some(value) = field.expr.value_in(alloc, row)? else {
+        return Ok(rows);
+    };
+    if let Value::Null = value.get() {
+        return Ok(rows);
+    }
+    let place = ranked_place(alloc, field.accumulator, value.get(), pos)?;
+    match way {
+        Way::Comes => rows.with(place, row.try_clone()?),
+        Way::Goes => Ok(rows.without(&place)),
+    }
+}
+
+/// Where the row at the position stands by this value. Fails where memory is wanting.
+fn ranked_place(
+    alloc: Global,
+    accumulator: Accumulator,
+    value: &Value,
+    pos: &Pos,
+) -> Result<Pos, NoMemory>
+    ensures { IfOk result (λ place. place ≡ rank accumulator (tree value.now) ∷ pos.now) }
+{
+    let key = key_of(value)?;
+    let part = match accumulator {
+        Accumulator::Max => Part::Down(key),
+        Accumulator::Sum | Accumulator::Min | Accumulator::Push => Part::Up(key),
+    };
+    let mut parts = Vec::with_capacity(alloc, pos.as_slice().len().saturating_add(1))?;
+    parts.push(part)?;
+    pos.behind(alloc, parts)
+}
+
+/// The value of the first row, null where there is none. Fails where memory is wanting.
+fn value_of_first(
+    alloc: Global,
+    field: &GroupField,
+    rows: &Ordered<Document>,
+) -> Result<Value, NoMemory>
+    ensures { IfOk result (λ value. tree value ≡ first_value (accumulation field.now) rows.now) }
+{
+    let Some((_, row)) = rows.first() else {
+        return Ok(Value::Null);
+    };
+    match field.expr.value_in(alloc, row)? {
+        Some(value) => value.into_value(),
+        None => Ok(Value::Null),
+    }
+}
+
+/// How many rows a group of a `$push` has at most: at each change all of their values are told.
+const MOST_PUSHED: usize = 256;
+
+/// The values of the expression over the rows, as an array. Fails where memory is wanting, and where there are too many rows.
+fn pushed(alloc: Global, expr: &Expr, rows: &Ordered<Document>) -> Result<Value, NoMemory>
+    ensures { IfOk result (λ value. tree value ≡ array (elements_of (values_over (expression expr.now) (forget rows.now)))) }
+{
+    if rows.len() > MOST_PUSHED {
+        return Err(AllocError);
+    }
+    let mut values = Vec::new(alloc);
+    let documents = documents(alloc, rows)?;
+    'rows: for row in &documents {
+        if let Some(value) = expr.value_in(alloc, row)? {
+            values.push(value.into_value()?)?;
+        }
+    }
+    Ok(Value::Array(List::of(values)))
+}
