@@ -90,9 +90,10 @@ fn a_group_follows_the_rows_that_come_and_go(rt: HostRuntime) -> Result<(), Fail
         gone(alloc, 1)?,
         put(alloc, 2, GROUPED[3])?,
     ];
+    let all = &changes[..];
     let mut counts = Vec::new(alloc);
-    for place in 0..changes.len() {
-        views.apply("t.c", &changes[place..place + 1]);
+    for place in 0..all.len() {
+        views.apply("t.c", &all[place..place + 1]);
         counts.push(views.ticks("t.v"))?;
     }
     assert_eq!(rt;
