@@ -24,6 +24,7 @@ use std::collections::BTreeMap;
 
 /// The groups of rows, each a row at its key, kept by changes. Looks at the groups of the changed row alone, and of these at the
 /// row that comes or goes, the first one and the one with the least or greatest value; where there is a `$push`, at each row.
+/// With a `$push`, a change that leaves a group with more than 256 rows fails as for want of memory.
 #[derive(Drop)]
 pub struct GroupTurn {
     alloc: Global,
