@@ -1,5 +1,5 @@
 -- Groups so far are what comes of the rows of each group.
-use Rattle.std.proofs.Common.{Bor, ◌≡◌, ◌==◌, ◌∙◌, ap, ap₂, length, sym, refl, Bool, true, false, not, ◌||◌, ◌&&◌, List, [], ◌∷◌, ◌++◌, ℕ, suc, ℤ, pos, ◌+ℤ◌, map, Option, Some, None, append_assoc, append-nil, arith, cond, codes}
+use Rattle.std.proofs.Common.{◌≡◌, ◌∙◌, ap, ap₂, sym, refl, Bool, true, false, not, ◌||◌, ◌&&◌, List, [], ◌∷◌, ◌++◌, ℕ, suc, ℤ, pos, ◌+ℤ◌, map, Option, Some, None, append_assoc, append-nil, arith, cond, codes}
 use Rattle.std.proofs.lemmas.Int.{ints}
 use Rattle.std.specs.List.{list_any}
 use Rattle.std.specs.Map.{lookup}
@@ -19,10 +19,9 @@ use Rattle.dv_gather.specs.declared.accumulator.Accumulator.{Accumulator}
 use Rattle.dv_gather.specs.declared.accumulator.Accumulator.TheVariants.{Sum, Min, Max, Push}
 use Rattle.dv_gather.specs.Extremes.{better, extreme_from}
 use Rattle.dv_gather.specs.Gathering.{Entry, listed, put, gathered}
-use Rattle.dv_gather.specs.Grouping.{Accumulation, Grouping, key_in, keyed, with_present, values_over, accumulated, with_accumulated, key_of_group, group_row, row_shown, grouped}
-use Rattle.dv_gather.specs.KeySets.{referred}
+use Rattle.dv_gather.specs.Grouping.{Accumulation, Grouping, key_in, keyed, with_present, values_over, accumulated, with_accumulated, key_of_group, group_row, grouped}
 use Rattle.dv_gather.specs.Sums.{addend, is_int64, total}
-use Rattle.dv_gather.specs.Tallies.{Tallied, with_present_at, with_values_from, with_values, with_row, without_rows, with_row_under, with_rows, with_rows_put, with_finished, key_or_null, finished_row}
+use Rattle.dv_gather.specs.Tallies.{Tallied, with_present_at, with_values_from, with_values, with_row, without_rows, with_row_under, with_rows_put, with_finished, key_or_null, finished_row}
 use Rattle.dv_gather.specs.Totals.{Total, summed, best, all, of_none, with_value, with_each, with_value_at, finished}
 use Rattle.dv_gather.proofs.Grouped.{groups-are}
 
@@ -163,10 +162,6 @@ module _ (g : Grouping) where
   so_far-more [] d = ap (pair (key_in g d ∷ [])) (totals-more g.fields [] d)
   so_far-more (c ∷ ds) d = ap (pair (key_in g c ∷ [])) (totals-more g.fields (c ∷ ds) d)
 
-  rows-so_far_more : (ds before : List Row) → with_rows g ds (so_far before) ≡ so_far (before ++ ds)
-  rows-so_far_more [] before = ap so_far (sym (append-nil before))
-  rows-so_far_more (d ∷ ds) before = ap (with_rows g ds) (so_far-more before d) ∙ rows-so_far_more ds (before ++ d ∷ []) ∙ ap so_far (append_assoc before (d ∷ []) ds)
-
   put-so_far : (d : Row) (k : KeyTree) (es : List Entry) → seen-by so_far (put k d es) ≡ with_row_under g d k (seen-by so_far es)
   put-so_far d k es =
       seen-inserted so_far key_order es k (listed k es ++ d ∷ [])
@@ -188,14 +183,6 @@ module _ (g : Grouping) where
       keys : (ds : List Row) → key_or_null (first_of ds) ≡ key_of_group g ds
       keys [] = refl
       keys (d ∷ ds) = refl
-
-  -- the row of the group of some rows
-  row-of : (d : Row) (ds : List Row) → finished_row g.fields (with_rows g (d ∷ ds) without_rows) ≡ group_row g (d ∷ ds)
-  row-of d ds = ap (finished_row g.fields) (ap (with_rows g ds) (so_far-more [] d) ∙ rows-so_far_more ds (d ∷ [])) ∙ row-so_far (d ∷ ds)
-
-  pub row-shown : (rows : List (Bor Row)) → (length rows == 0) ≡ false → Some (finished_row g.fields (with_rows g (referred rows) without_rows)) ≡ row_shown g (referred rows)
-  row-shown [] some = cc
-  row-shown (r ∷ rows) some = ap Some (row-of r.now (referred rows))
 
   rows-so_far : (es : List Entry) → map (λ e. finished_row g.fields e.1) (seen-by so_far es) ≡ map (group_row g) (map (λ e. e.1) es)
   rows-so_far [] = refl

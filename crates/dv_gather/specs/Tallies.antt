@@ -51,11 +51,6 @@ with_row g d t = taken g.fields d (started g.fields (key_in g d) t)
 abbrev pub without_rows : Tallied
 without_rows = ([], [])
 
--- a group with some rows more, one after the other
-abbrev pub with_rows : Grouping → List Row → Tallied → Tallied
-with_rows g [] t = t
-with_rows g (d ∷ ds) t = with_rows g ds (with_row g d t)
-
 -- groups with a row more, under its key
 abbrev pub with_row_under : Grouping → Row → KeyTree → List (KeyTree × Tallied) → List (KeyTree × Tallied)
 with_row_under g d k es = insert_entry key_order es k (with_row g d (unwrap_or (lookup (is_at (key_order k)) es) without_rows))

@@ -1,5 +1,5 @@
 -- What $group and $lookup make of valid rows is valid, where the stage was read from a valid value.
-use Rattle.std.proofs.Common.{◌≡◌, ◌∙◌, ap, sym, refl, subst, ℕ, ℤ, pos, negsuc, suc, zero, ◌+◌, ◌<◌, ◌^◌, ◌%◌, ◌/◌, ◌==◌, ◌||◌, ◌&&◌, not, nat_lt, Bool, true, false, List, [], ◌∷◌, ◌++◌, map, filter, length, Some, None, Option, Result, Ok, Err, codes, arith, if◌then◌else◌}
+use Rattle.std.proofs.Common.{◌≡◌, refl, ℕ, ℤ, pos, negsuc, suc, zero, ◌<◌, ◌%◌, ◌/◌, ◌==◌, ◌||◌, ◌&&◌, not, nat_lt, Bool, true, false, List, [], ◌∷◌, map, filter, length, Some, None, Option, Result, Ok, Err, codes, arith, if◌then◌else◌}
 use Rattle.std.proofs.lemmas.Bool.Decides.{nat_tests}
 use Rattle.std.proofs.lemmas.Str.{IsUtf8-from_ascii}
 use Rattle.std.specs.Bool.{⊤}
@@ -10,13 +10,12 @@ use Rattle.std.specs.Option.{IfSome}
 use Rattle.std.specs.Ordering.{is_eq}
 use Rattle.std.specs.Prelude.{FitsSigned}
 use Rattle.std.specs.Result.{IfOk}
-use Rattle.std.specs.Str.{IsAscii, IsUtf8, bytes_eq}
+use Rattle.std.specs.Str.{IsAscii, IsUtf8}
 use Rattle.dv_bson.specs.Names.{begins_with_dollar, has_name, has_zero, value_under, without, with_value_under}
 use Rattle.dv_bson.specs.Spelling.{IsValue}
-use Rattle.dv_bson.specs.Tree.{Tree, int32, int64, string, array, document, null, Field, Fields, fields_of, list_of_fields, elements_of}
+use Rattle.dv_bson.specs.Tree.{Tree, int32, int64, string, document, null, Field, list_of_fields}
 use Rattle.dv_order.specs.Order.{order}
 use Rattle.dv_path.specs.Candidates.{Candidate, or_null}
-use Rattle.dv_path.specs.Path.{path_of}
 use Rattle.dv_row.specs.declared.fault.PipelineFault.{PipelineFault}
 use Rattle.dv_row.specs.declared.fault.PipelineFault.TheVariants.{BadSpec}
 use Rattle.dv_path.specs.Names.{has_dot}
@@ -24,7 +23,7 @@ use Rattle.dv_row.specs.ExpressionParsing.{expression_in}
 use Rattle.dv_row.specs.Expressions.{Expression, value_of, with_field}
 use Rattle.dv_row.specs.Parsing.{◌>>=◌, each}
 use Rattle.dv_row.specs.Row.{Row}
-use Rattle.dv_row.specs.Valid.{AreValues, IsValid, AreValid, IsSound, fields_again, listed-fields, valid-fields, valid-elements, either, bound, unless, any-ok, each-sound, value_under-valid, with_field-valid, with_value_under-valid, without-valid, value_of-valid, expression_in-sound}
+use Rattle.dv_row.specs.Valid.{AreValues, IsValid, AreValid, IsSound, listed-fields, valid-fields, valid-elements, either, bound, unless, any-ok, each-sound, value_under-valid, with_field-valid, with_value_under-valid, without-valid, value_of-valid, expression_in-sound}
 use Rattle.dv_gather.specs.declared.accumulator.Accumulator.{Accumulator}
 use Rattle.dv_gather.specs.declared.accumulator.Accumulator.TheVariants.{Sum, Min, Max, Push}
 use Rattle.dv_gather.specs.declared.extreme.Extreme.{Extreme}
@@ -33,10 +32,10 @@ use Rattle.dv_gather.specs.declared.lookup.Lookup.{Lookup}
 use Rattle.dv_gather.specs.Extremes.{is_better, better, extreme_from}
 use Rattle.dv_gather.specs.GroupParsing.{accumulator_named, accumulation, alone, accumulation_in, field_in, key_form, grouping, group_of, group_in}
 use Rattle.dv_gather.specs.Grouping.{Accumulation, Grouping, key_in, keyed, with_present, values_over, accumulated, field_over, with_accumulated, key_of_group, group_row, grouped}
-use Rattle.dv_gather.specs.Groups.{Keyed, under, keys_of, groups_of}
+use Rattle.dv_gather.specs.Groups.{under, keys_of, groups_of}
 use Rattle.dv_gather.specs.Joining.{as_value, is_joined, matches}
-use Rattle.dv_gather.specs.Lookups.{set_field, found, joined_row, looked_up, text_in, text_option, collection_in, path_or_fault, target_in, from_option, field_option, as_option, looking, lookup_of, lookup_in}
-use Rattle.dv_gather.specs.Sums.{fits_32, fits_64, digits as spelled_out, total, is_int64, spelled, sum_of}
+use Rattle.dv_gather.specs.Lookups.{set_field, found, looked_up, text_in, target_in, from_option, field_option, as_option, looking, lookup_of, lookup_in}
+use Rattle.dv_gather.specs.Sums.{fits_32, fits_64, digits as spelled_out, total, is_int64, spelled}
 
 abbrev pub IsSoundField : Accumulation → Type 0
 IsSoundField a = IsUtf8 a.name × IsSound a.argument

@@ -5,12 +5,11 @@ ghost use Rattle.dv_row.specs.ExpressionView.{expression};
 ghost use Rattle.dv_row.specs.RowValueView.{row_value};
 ghost use Rattle.dv_gather.specs.Bounds.{EachWithin, most};
 ghost use Rattle.dv_gather.specs.Grouping as defined;
-ghost use Rattle.dv_gather.specs.Grouping.{row_shown};
 ghost use Rattle.dv_gather.specs.GroupParsing.{grouping};
 ghost use Rattle.dv_gather.specs.GroupView.{accumulation};
 ghost use Rattle.dv_gather.specs.KeySets.{referred};
-ghost use Rattle.dv_gather.specs.Tallies.{finished_row, with_row_put, with_rows, with_rows_put, without_rows};
-ghost use Rattle.dv_gather.specs.TotalView.{tallies_seen, tally_seen};
+ghost use Rattle.dv_gather.specs.Tallies.{finished_row, with_row_put, with_rows_put};
+ghost use Rattle.dv_gather.specs.TotalView.{tallies_seen};
 
 use crate::accumulator::Accumulator;
 use crate::tally::Tally;
@@ -99,35 +98,6 @@ impl Group {
         laws::keys_stand_as_their_values();
         let tallies = self.tallies(alloc, rows)?;
         self.finished(alloc, tallies)
-    }
-
-    /// The row of the group of these rows, where there are any: its key is that of the first one. A row before it lends its
-    /// names. Fails where memory is wanting.
-    pub fn row_of(
-        &self,
-        alloc: Global,
-        rows: &[&Document],
-        before: Option<&Document>,
-    ) -> Result<Option<Document>, NoMemory>
-        ensures { IfOk result (λ row. row ≡ row_shown self.now (referred rows.now)) }
-    {
-        if rows.is_empty() {
-            return Ok(None);
-        }
-        let tally = self.tally(alloc, rows)?;
-        Ok(Some(tally.row(alloc, &self.fields, before)?))
-    }
-
-    /// What comes of the rows of one group.
-    fn tally(&self, alloc: Global, rows: &[&Document]) -> Result<Tally, NoMemory>
-        ensures { IfOk result (λ tally. tally_seen tally ≡ with_rows self.now (referred rows.now) without_rows) }
-    {
-        let mut tally = Tally::new(alloc);
-        'rows: for row in rows {
-            let key = self.key_in(alloc, row)?;
-            tally.add(alloc, key, self.fields(), row)?;
-        }
-        Ok(tally)
     }
 
     /// The groups of the rows, by their keys.
