@@ -21,6 +21,7 @@ from measuring import documents_to_find, heads, in_turn, inserts, load, loaded, 
 
 FIELDS = ["bucket", "serial", "age", "balance"]  # those that have indexes, in the order in which they get them
 AT_END = 20  # documents in a range
+BETWEEN = (20, 2_000)  # documents between two bounds
 MEMBERS = 20  # of an `$in`
 STATEMENTS = 1_000  # in a message
 
@@ -44,12 +45,20 @@ def finds(count):
               lambda at: [at % len(buckets)]),
         Finds("a range at the end", 1_000, lambda at: {"serial": {"$gte": count - AT_END}}, extracted("serial") + " >= ?",
               lambda at: [count - AT_END]),
+        *(between(count, many) for many in BETWEEN),
         Finds("`$in` of %d members, a document each" % MEMBERS, 1_000, lambda at: {"serial": {"$in": picked[at]}},
               "%s IN (%s)" % (extracted("serial"), many), lambda at: picked[at]),
         Finds("`$in` of %d members, %d documents each" % (len(picked_buckets[0]), count // len(buckets)), 100,
               lambda at: {"bucket": {"$in": picked_buckets[at]}}, "%s IN (%s)" % (extracted("bucket"), several),
               lambda at: picked_buckets[at]),
     ]
+
+
+def between(count, many):
+    """A find by a range with two bounds, in which so many documents are."""
+    starts = random.Random(many).sample(range(count - many), 100)
+    return Finds("between two bounds", 100, lambda at: {"serial": {"$gte": starts[at], "$lt": starts[at] + many}},
+                 "%s >= ? AND %s < ?" % (extracted("serial"), extracted("serial")), lambda at: [starts[at], starts[at] + many])
 
 
 def buckets_of(count):
@@ -88,7 +97,19 @@ def print_finds(found):
     heads("a find by an index", "documents found", "microseconds", "SQLite: microseconds", "times SQLite")
     for asked in finds(len(found)):
         tell_find(docd, base, asked)
+    tell_with_arrays(docd, len(found))
     docd.close()
+
+
+def tell_with_arrays(docd, count):
+    """The finds between two bounds where one document in a hundred has its `serial` in an array: SQLite has no such index."""
+    numbers = [{"q": {"_id": place}, "u": {"$set": {"serial": [place, place]}}} for place in range(0, count, 100)]
+    docd.ask({"update": "c", "updates": numbers})
+    for many in BETWEEN:
+        asked = between(count, many)
+        given, stream = asked_docd(docd, asked)
+        spent = measuring.least(lambda: docd.send(stream, asked.times), docd.clock)
+        row(asked.name + ", with arrays", "%.0f" % (given / asked.times), "%.1f" % (1e6 * spent / asked.times), "", "")
 
 
 def print_making(docd, found):
@@ -104,17 +125,21 @@ def print_making(docd, found):
     print()
 
 
-def tell_find(docd, base, asked):
+def asked_docd(docd, asked):
+    """How many documents docd gives to all finds, and the stream that asks for them."""
     commands = [{"find": "c", "filter": asked.filter(at), "batchSize": measuring.ALL} for at in range(asked.times)]
-    stream = measuring.stream_of(commands)
+    given = sum(len(reply["cursor"]["firstBatch"]) for reply in docd.ask(*commands))
+    return given, measuring.stream_of(commands)
+
+
+def tell_find(docd, base, asked):
+    given, stream = asked_docd(docd, asked)
     sql = "SELECT body FROM c WHERE %s" % asked.sql
     statements = [asked.values(at) for at in range(asked.times)]
 
     def ask_sqlite():
         for values in statements:
             base.execute(sql, values).fetchall()
-    replies = docd.ask(*commands)
-    given = sum(len(reply["cursor"]["firstBatch"]) for reply in replies)
     told = sum(len(base.execute(sql, values).fetchall()) for values in statements)
     if given != told:
         sys.exit("bench: %s: docd gives %d documents and SQLite %d" % (asked.name, given, told))

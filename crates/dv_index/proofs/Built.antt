@@ -1,12 +1,13 @@
 -- Lists of indexes that change, and an index that is built of all documents.
-use Rattle.std.proofs.Common.{◌≡◌, ◌∙◌, ◌++◌, ℕ, List, [], ◌∷◌, length, is_some, map, take, refl, ap, sym, subst, Bool, true, false, cond, not, ◌||◌, ◌&&◌, filter, codes, Option, None, Some, Bor}
+use Rattle.std.proofs.Common.{◌≡◌, ◌∙◌, ◌++◌, ℕ, List, [], ◌∷◌, length, is_some, map, take, refl, ap, sym, subst, Bool, true, false, cond, not, ◌||◌, ◌&&◌, filter, Option, None, Some}
 use Rattle.std.specs.List.{AllByRecursion, list_any}
 use Rattle.std.proofs.lemmas.List.{length-map}
 use Rattle.std.specs.Option.{option_map}
 use Rattle.std.specs.Str.{bytes_eq}
 use Rattle.std.proofs.lemmas.Slice.Eq.{bytes_eq-Decides}
-use Rattle.std.specs.declared.cmp.Ordering.TheVariants.{Less, Equal}
+use Rattle.std.specs.declared.cmp.Ordering.TheVariants.{Equal}
 use Rattle.std.specs.Ordering.{is_eq}
+use Rattle.std.proofs.lemmas.Cmp.{tied_itself}
 use Rattle.dv_bson.specs.Tree.{Field}
 use Rattle.dv_order.specs.Key.{KeyTree, key_order}
 use Rattle.dv_order.specs.KeyLaws.{key_order_total}
@@ -15,7 +16,7 @@ use Rattle.dv_index.specs.Change.{AreIndexesOf}
 use Rattle.dv_index.specs.Index.{IndexForm, IndexTree, BeginsWithId, form_of, id_form}
 use Rattle.dv_index.specs.Indexed.{IndexedTree, is_dropped, with_documents, with_indexes, without_index}
 use Rattle.dv_path.specs.LeafKeys.{is_leaf_key}
-use Rattle.dv_index.specs.Pairs.{has_pair}
+use Rattle.dv_index.specs.Pairs.{Pair, has_pair}
 use Rattle.dv_index.specs.Search.{IsIndexOf, is_key_under}
 use Rattle.dv_index.proofs.Lists.{or-false, equal-from}
 use Rattle.dv_index.proofs.Picked.{Before, head-before, tail-ascends}
@@ -120,6 +121,31 @@ some-has-found k id path (d ∷ ds) h = at (is_eq (key_order id (id_key d))) ref
     at : (b : Bool) → is_eq (key_order id (id_key d)) ≡ b → some-has k id path ds ≡ is_key_under k path (found id ds) → (b && is_leaf_key k path d) || some-has k id path ds ≡ is_key_under k path (cond b (Some d) (found id ds))
     at true e rest = ap (λ c. is_leaf_key k path d || c) (none-later k id (id_key d) path ds (equal-from (key_order id (id_key d)) e) (head-before d ds h)) ∙ or-false (is_leaf_key k path d)
     at false e rest = rest
+
+-- an `_id` that none of these documents has
+abbrev pub IsElsewhere : KeyTree → List (List Field) → Type 0
+IsElsewhere i ds = AllByRecursion (λ d. is_eq (key_order i (id_key d)) ≡ false) ds
+
+elsewhere-later : (i l : KeyTree) (ds : List (List Field)) → key_order i l ≡ Equal → Before l ds → IsElsewhere i ds
+elsewhere-later i l [] e b = tt
+elsewhere-later i l (d ∷ ds) e b = (ap is_eq (key_order_total.congr i l (id_key d) e ∙ b.0), elsewhere-later i l ds e b.1)
+
+-- where no pair has the `_id` of a document that is left, so it is once the first one's are added
+module _ (d : List Field) (ds : List (List Field)) (ascending : IsAscending (d ∷ ds)) (ps : List Pair) (apart : (k i : KeyTree) → has_pair k i ps ≡ true → IsElsewhere i (d ∷ ds)) where
+  pub no-pair-yet : (k : KeyTree) → has_pair k (id_key d) ps ≡ false
+  no-pair-yet k = by (has_pair k (id_key d) ps) refl
+    where
+      by : (b : Bool) → has_pair k (id_key d) ps ≡ b → b ≡ false
+      by true e = sym (ap is_eq (tied_itself key_order_total (id_key d))) ∙ (apart k (id_key d) e).0
+      by false e = refl
+
+  pub still-apart : (more : Bool) (k i : KeyTree) → has_pair k i ps || (is_eq (key_order i (id_key d)) && more) ≡ true → IsElsewhere i ds
+  still-apart more k i e = by (has_pair k i ps) (is_eq (key_order i (id_key d))) refl refl e
+    where
+      by : (b c : Bool) → has_pair k i ps ≡ b → is_eq (key_order i (id_key d)) ≡ c → b || (c && more) ≡ true → IsElsewhere i ds
+      by true c was is f = (apart k i was).1
+      by false true was is f = elsewhere-later i (id_key d) ds (equal-from (key_order i (id_key d)) is) (head-before d ds ascending)
+      by false false was is f = absurd cc
 
 pub same_pairs : (x y : IndexTree) (ds : List (List Field)) → x.path ≡ y.path → IsIndexOf x ds → IsIndexOf y ds → (k id : KeyTree) → has_pair k id x.pairs ≡ has_pair k id y.pairs
 same_pairs x y ds same hx hy k id = hx.has k id ∙ ap (λ p. is_key_under k p (found id ds)) same ∙ sym (hy.has k id)

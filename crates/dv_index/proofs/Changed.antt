@@ -1,7 +1,6 @@
 -- An index, where one document changes: the keys that it gains are added, and those that it has lost are taken out.
 use Rattle.std.proofs.Common.{◌≡◌, ◌∙◌, ℕ, List, ◌∷◌, refl, ap, sym, subst, Bool, true, false, cond, not, ◌||◌, ◌&&◌, Option, Some, None, filter}
 use Rattle.std.specs.List.{AllByRecursion, find, list_any}
-use Rattle.std.specs.declared.cmp.Ordering.TheVariants.{Equal}
 use Rattle.std.specs.Option.{IsSome, option_map}
 use Rattle.std.specs.Ordering.{is_eq}
 use Rattle.dv_bson.specs.Tree.{Field}
@@ -17,6 +16,8 @@ use Rattle.dv_index.specs.declared.change.Change.{Change}
 use Rattle.dv_index.specs.declared.change.Change.TheVariants.{Insert, Replace, Remove}
 use Rattle.dv_index.proofs.Lists.{equal-back, equal-from}
 use Rattle.dv_index.proofs.Several.{any-filter}
+use Rattle.dv_index.proofs.Noted.{and-true}
+use Rattle.std.proofs.lemmas.Cmp.{tied_itself}
 
 -- ---- what is found after a change, by the laws of collections
 abbrev pub InsertedIsFound : Type 0
@@ -126,6 +127,29 @@ module _ (ds : List (List Field)) (indexes : List IndexTree) (index : IndexTree)
 
   pub not-there : (k : KeyTree) → has_key k gained ≡ true → has_pair k id index.pairs ≡ false
   not-there = gained-absent ds id path after old new gained gained index.pairs holds old-at is-new is-gained
+
+  -- it has no keys but the old ones
+  pub held-before : (k : KeyTree) → has_pair k id index.pairs ≡ true → has_key k old ≡ true
+  held-before k there = old-at k ∙ sym (holds k id) ∙ there
+
+  module _ (added : IndexTree) (more : (k i : KeyTree) → has_pair k i added.pairs ≡ has_pair k i index.pairs || (has_key k gained && is_eq (key_order i id))) where
+    itself : is_eq (key_order id id) ≡ true
+    itself = ap is_eq (tied_itself key_order_total id)
+
+    without : (k : KeyTree) (ks : List KeyTree) → (has_pair k id index.pairs || (has_key k gained && is_eq (key_order id id))) && not (has_key k ks && is_eq (key_order id id)) ≡ has_pair k id added.pairs && not (has_key k ks)
+    without k ks = λ j. sym (more k id) j && not ((ap (λ b. has_key k ks && b) itself ∙ and-true (has_key k ks)) j)
+
+    -- and then none but the new ones
+    pub left-after : (lost : List KeyTree) → lost ≡ filter (λ k. not (has_key k new)) old → (k : KeyTree) → has_pair k id added.pairs && not (has_key k lost) ≡ true → has_key k new ≡ true
+    left-after lost is-lost k e =
+        is-new k
+        ∙ ap (λ b. is_key_under k path (cond b after (found id ds))) (sym itself)
+        ∙ sym (pairs-after ds id path after old new gained lost index.pairs holds old-at is-new is-gained is-lost k id)
+        ∙ without k lost
+        ∙ e
+
+    pub left-before : (k : KeyTree) → has_pair k id added.pairs && not (has_key k gained) ≡ true → has_key k old ≡ true
+    left-before k e = old-at k ∙ sym (pairs-back ds id path after old new gained gained index.pairs holds old-at is-new is-gained k id) ∙ without k gained ∙ e
 
   module _ (added taken : IndexTree) (form-added : form_of added ≡ form_of index) (form-taken : form_of taken ≡ form_of added) (more : (k i : KeyTree) → has_pair k i added.pairs ≡ has_pair k i index.pairs || (has_key k gained && is_eq (key_order i id))) where
     same-path : path ≡ taken.path

@@ -4,7 +4,7 @@ use Rattle.std.specs.declared.cmp.Ordering.{Ordering}
 use Rattle.std.specs.declared.cmp.Ordering.TheVariants.{Less, Equal, Greater}
 use Rattle.std.specs.declared.ops.Bound.{Bound}
 use Rattle.std.specs.declared.ops.Bound.TheVariants.{Included, Excluded, Unbounded}
-use Rattle.std.specs.Ordering.{is_eq, is_lt, is_le, is_gt, is_ge, ordering_reverse}
+use Rattle.std.specs.Ordering.{is_lt, is_le, is_gt, is_ge, ordering_reverse}
 use Rattle.std.specs.BTreeMap.Range.{IsLeBy, IsLtBy, is_from_start, is_past_end, range_contains}
 use Rattle.std.specs.Range.Bound.{IsForward, bound_map}
 use Rattle.std.proofs.lemmas.Bool.{eqb-true}
@@ -65,7 +65,7 @@ key-ends (Included v) = refl
 key-ends (Excluded v) = refl
 key-ends Unbounded = refl
 
-not-greater : (o : Ordering) → is_le o ≡ true → is_gt o ≡ false
+pub not-greater : (o : Ordering) → is_le o ≡ true → is_gt o ≡ false
 not-greater Less e = refl
 not-greater Equal e = refl
 not-greater Greater e = absurd cc

@@ -1,5 +1,5 @@
 -- A set of a key and of others.
-use Rattle.std.proofs.Common.{◌≡◌, ◌∙◌, List, refl, ap, sym, Bool, true, false, cond, not, ◌||◌, ◌&&◌, Option, Some, None}
+use Rattle.std.proofs.Common.{◌≡◌, ◌∙◌, List, refl, ap, sym, Bool, true, false, cond, not, ◌||◌, ◌&&◌, Option, Some, None, is_some}
 use Rattle.std.specs.Ordering.{is_eq}
 use Rattle.std.proofs.lemmas.Cmp.{alike_right}
 use Rattle.dv_order.specs.Key.{KeyTree, key_order}
@@ -11,6 +11,17 @@ use Rattle.dv_index.proofs.Lists.{equal-from}
 pub kept-has : (i : KeyTree) (first : Option KeyTree) (ids : List KeyTree) → has_key i (ids_kept first ids) ≡ has_first i first || has_key i ids
 kept-has i None ids = refl
 kept-has i (Some id) ids = refl
+
+-- one more, where there is no first one
+pub put-first : (i id : KeyTree) (first : Option KeyTree) (ids : List KeyTree) → is_some first ≡ false → has_key i (ids_kept (Some id) ids) ≡ has_key i (ids_kept first ids) || is_eq (key_order i id)
+put-first i id (Some f) ids none = absurd cc
+put-first i id None ids none = swapped (is_eq (key_order i id)) (has_key i ids)
+  where
+    swapped : (a b : Bool) → a || b ≡ b || a
+    swapped true true = refl
+    swapped true false = refl
+    swapped false true = refl
+    swapped false false = refl
 
 never-both : (b : Bool) → false ≡ b && not b
 never-both true = refl

@@ -3,6 +3,8 @@ pub mod Ends
 pub mod Entries
 pub mod Firsts
 pub mod Several
+pub mod Noted
+pub mod Between
 pub mod Chosen
 pub mod Ordered
 pub mod Picked
@@ -10,6 +12,7 @@ pub mod Ranges
 pub mod Built
 pub mod Places
 pub mod Sound
+pub mod Only
 pub mod Changed
 pub mod Copied
 pub mod PutIn

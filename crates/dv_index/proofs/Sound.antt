@@ -1,5 +1,5 @@
 -- A document that matches a filter has a leaf in the bounds of the plan that is chosen for it.
-use Rattle.std.proofs.Common.{◌≡◌, ◌∙◌, ◌↔◌, ◌⊎◌, inl, inr, ℕ, zero, suc, ◌+◌, ◌≤◌, arith, List, [], ◌∷◌, map, refl, ap, sym, Bool, true, false, cond, ◌&&◌, ◌||◌, ◌==◌, Option, Some, None, slice_get}
+use Rattle.std.proofs.Common.{◌≡◌, ◌∙◌, ◌↔◌, ◌⊎◌, inl, inr, ℕ, suc, ◌+◌, arith, List, [], ◌∷◌, map, refl, ap, sym, Bool, true, false, cond, ◌&&◌, ◌||◌, ◌==◌, Option, Some, None, slice_get}
 use Rattle.std.specs.List.{AllByRecursion, flat_map, list_any, filter}
 use Rattle.std.specs.Prelude.{codes}
 use Rattle.std.specs.Option.{option_map, option_or}
@@ -25,20 +25,16 @@ use Rattle.dv_index.specs.Pairs.{has_pair}
 use Rattle.dv_index.specs.Index.{IndexTree}
 use Rattle.dv_index.specs.Choice.{is_point, is_bound, same_path, first_of, first_in, first_in_member, first_in_all, first_place, chosen}
 use Rattle.dv_index.proofs.Ends.{class-canon}
-use Rattle.dv_index.proofs.Lists.{equal-from, or-false}
+use Rattle.dv_index.proofs.Lists.{both, equal-from, or-false}
 use Rattle.dv_index.proofs.Picked.{all-found}
 use Rattle.dv_index.proofs.Places.{path-at, some-same}
 use Rattle.dv_index.specs.Search.{is_within, has_within, stands_so, covers, IsIndexOf, is_key_under}
-
-both : (a b : Bool) → a && b ≡ true → (a ≡ true) × (b ≡ true)
-both true b e = (refl, e)
-both false b e = absurd cc
 
 either-or : {X : Type 0} (o p : Option X) (x : X) → option_or o p ≡ Some x → (o ≡ Some x) ⊎ (p ≡ Some x)
 either-or None p x e = inr e
 either-or (Some y) p x e = inl e
 
-one-path : (p q : List (List ℕ)) → same_path p q ≡ true → p ≡ q
+pub one-path : (p q : List (List ℕ)) → same_path p q ≡ true → p ≡ q
 one-path [] [] e = refl
 one-path [] (y ∷ ys) e = absurd cc
 one-path (x ∷ xs) [] e = absurd cc
@@ -117,7 +113,7 @@ met-point (equal v) path d e h = h
 met-point (among vs) path d e h = h
 met-point c path d e h = absurd cc
 
-met-bound : (c : Condition) (path : List (List ℕ)) (d : List Field) → is_bound c ≡ true → meets c (whole d path) (leaves d path) ≡ true → has_within c path d ≡ true
+pub met-bound : (c : Condition) (path : List (List ℕ)) (d : List Field) → is_bound c ≡ true → meets c (whole d path) (leaves d path) ≡ true → has_within c path d ≡ true
 unfolding meets has_within
 met-bound (in_range r v) path d e h = h
 met-bound c path d e h = absurd cc
@@ -148,7 +144,7 @@ chosen-within ms xs place c x d e there h =
     ap (λ p. has_within c p d) (sym same) ∙ plan.2 d h
 
 -- ---- documents whose `_id`s are gathered
-narrowed : (among-ids : KeyTree → Bool) (test : List Field → Bool) (P : List Field → Type 0) → ((d : List Field) → P d → test d ≡ true → among-ids (id_key d) ≡ true) → (ds : List (List Field)) → AllByRecursion P ds → filter test (filter (λ d. among-ids (id_key d)) ds) ≡ filter test ds
+pub narrowed : (among-ids : KeyTree → Bool) (test : List Field → Bool) (P : List Field → Type 0) → ((d : List Field) → P d → test d ≡ true → among-ids (id_key d) ≡ true) → (ds : List (List Field)) → AllByRecursion P ds → filter test (filter (λ d. among-ids (id_key d)) ds) ≡ filter test ds
 narrowed among-ids test P h [] all = refl
 narrowed among-ids test P h (d ∷ ds) all = at (among-ids (id_key d)) (test d) refl refl (narrowed among-ids test P h ds all.1)
   where
@@ -198,7 +194,7 @@ module _ (law : (v w : Tree) → key_order (value (canon v)) (value (canon w)) �
           (or_null x, covers-within c x ∙ f, or_left (is_key_of k (or_null x)) (is_some_key k (map or_null xs)) (ap is_eq (tied_itself key_order_total k)))
       at false f g rest = let r = rest g in let k = value (canon r.0) in (r.0, r.1, or_right (is_key_of k (or_null x)) (is_some_key k (map or_null xs)) r.2)
 
-  leaf-key : (c : Condition) (path : List (List ℕ)) (d : List Field) → has_within c path d ≡ true → (v : Tree) × (covers c (value (canon v)) ≡ true) × (is_leaf_key (value (canon v)) path d ≡ true)
+  pub leaf-key : (c : Condition) (path : List (List ℕ)) (d : List Field) → has_within c path d ≡ true → (v : Tree) × (covers c (value (canon v)) ≡ true) × (is_leaf_key (value (canon v)) path d ≡ true)
   unfolding has_within is_leaf_key leaf_values
   leaf-key c path d e = some-key c (leaves d path) e
 

@@ -64,14 +64,14 @@ pub(crate) fn carry_out(
     let moved = keys_moved(alloc, index.path(), documents, &change)?;
     let gained = keys_without(alloc, &moved.new, &moved.old)?;
     let lost = keys_without(alloc, &moved.old, &moved.new)?;
-    index.add(gained.as_slice(), &moved.id)?;
+    index.add(gained.as_slice(), &moved.id, &moved.old)?;
     match carry_out(alloc, others, documents, change) {
         Ok(()) => {
-            index.take_out(lost.as_slice(), &moved.id);
+            index.take_out(lost.as_slice(), &moved.id, &moved.new);
             Ok(())
         }
         Err(fault) => {
-            index.take_out(gained.as_slice(), &moved.id);
+            index.take_out(gained.as_slice(), &moved.id, &moved.old);
             Err(fault)
         }
     }

@@ -35,6 +35,16 @@ impl Model for Ids {
 }
 
 impl Ids {
+    /// None. Takes no memory.
+    pub(crate) fn none(alloc: Global) -> Self
+        ensures { result ≡ [] }
+    {
+        Ids {
+            first: None,
+            others: BTreeSet::new(alloc),
+        }
+    }
+
     /// This one alone. Takes no memory.
     pub(crate) fn of(alloc: Global, id: Key) -> Self
         ensures { result ≡ id ∷ [] }
@@ -59,11 +69,21 @@ impl Ids {
         self.first.is_none() && self.others.is_empty()
     }
 
+    /// How many there are.
+    pub(crate) fn len(&self) -> usize {
+        let first = usize::from(self.first.is_some());
+        self.others.len().saturating_add(first)
+    }
+
     /// Adds one. Where memory is wanting, nothing changes.
     pub(crate) fn add(&mut self, id: &Key) -> Result<(), NoMemory>
         ensures ok { OnOk result ((i : KeyTree) → has_key i self.new ≡ (has_key i self.old || is_eq (key_order i id.now))) }
         ensures err { OnErr result ((i : KeyTree) → has_key i self.new ≡ has_key i self.old) }
     {
+        if self.first.is_none() {
+            self.first = Some(id.try_clone()?);
+            return Ok(());
+        }
         insert_into(&mut self.others, id)
     }
 

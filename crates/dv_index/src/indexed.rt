@@ -231,8 +231,8 @@ impl IndexedCollection {
         self.indexes.clear();
     }
 
-    /// The documents that match the filter, in the order of their `_id`s, whatever indexes there are. By an index only those
-    /// are looked at that have a key in the plan's bounds. Fails where memory is wanting.
+    /// The documents that match the filter, in the order of their `_id`s, whatever indexes there are. By an index no more
+    /// are looked at than stand under the keys in the plan's bounds. Fails where memory is wanting.
     pub fn find(&self, filter: &Filter) -> Result<Vec<&Document>, NoMemory>
         ensures { IfOk result (λ found. map (λ d. d.now) found.items ≡ kept (λ d. matches filter.now d) self.now.documents) }
     {
@@ -328,19 +328,20 @@ fn pairs_of(alloc: Global, path: &Path, documents: &Collection) -> Result<MultiI
     Ok(pairs)
 }
 
-/// Adds the pairs of the document's keys. Where memory is wanting, the pairs are those that there were.
+/// Adds the pairs of the keys of a document that has none yet. Where memory is wanting, the pairs are those that there were.
 fn add_keys(
     alloc: Global,
     pairs: &mut MultiIndex,
     path: &Path,
     document: &Document,
 ) -> Result<(), NoMemory>
-    requires { HasId document.now }
+    requires identified { HasId document.now }
+    requires first { (k : KeyTree) → has_pair k (id_key document.now) pairs.old ≡ false }
     ensures { OnOk result ((k i : KeyTree) → has_pair k i pairs.new ≡ (has_pair k i pairs.old || (is_eq (key_order i (id_key document.now)) && is_leaf_key k path.now document.now))) }
 {
     let id = key_of_id(document)?;
     let keys = keys_of(alloc, path, document)?;
-    pairs.add(&keys, &id)
+    pairs.add_first(&keys, &id)
 }
 
 /// The name of the index of a plan.

@@ -12,6 +12,7 @@ ghost use Rattle.dv_index.specs.Keys.{has_key};
 ghost use Rattle.dv_index.specs.Pairs.{has_pair};
 
 use crate::change::{Change, carry_out};
+use crate::keys::Keys;
 use crate::multi_index::MultiIndex;
 use dv_bson::{NoMemory, Str};
 use dv_coll::{Collection, InsertFault};
@@ -70,22 +71,26 @@ impl Index {
         &self.pairs
     }
 
-    /// Adds a pair for each key, none of which is there. Where memory is wanting, the pairs are those that there were.
-    pub(crate) fn add(&mut self, keys: &[&Key], id: &Key) -> Result<(), NoMemory>
-        requires { (k : KeyTree) → has_key k (map (λ l. l.now) keys.now) ≡ true → has_pair k id.now self.old.pairs ≡ false }
+    /// Adds a pair for each key, none of which is there, to an `_id` that has no keys but those that it holds. Where memory is
+    /// wanting, the pairs are those that there were.
+    pub(crate) fn add(&mut self, keys: &[&Key], id: &Key, held: &Keys) -> Result<(), NoMemory>
+        requires held { (k : KeyTree) → has_pair k id.now self.old.pairs ≡ true → has_key k held.now ≡ true }
+        requires absent { (k : KeyTree) → has_key k (map (λ l. l.now) keys.now) ≡ true → has_pair k id.now self.old.pairs ≡ false }
         ensures form { form_of self.new ≡ form_of self.old }
         ensures ok { OnOk result ((k i : KeyTree) → has_pair k i self.new.pairs ≡ (has_pair k i self.old.pairs || (has_key k (map (λ l. l.now) keys.now) && is_eq (key_order i id.now)))) }
         ensures err { OnErr result ((k i : KeyTree) → has_pair k i self.new.pairs ≡ has_pair k i self.old.pairs) }
     {
-        self.pairs.add_fresh(keys, id)
+        self.pairs.add_fresh(keys, id, held)
     }
 
-    /// Takes out the pair of each key, where it is there. Takes no memory.
-    pub(crate) fn take_out(&mut self, keys: &[&Key], id: &Key)
+    /// Takes out the pair of each key, where it is there, of an `_id` that then has no keys but those that are left. Takes no
+    /// memory.
+    pub(crate) fn take_out(&mut self, keys: &[&Key], id: &Key, left: &Keys)
+        requires { (k : KeyTree) → (has_pair k id.now self.old.pairs && not (has_key k (map (λ l. l.now) keys.now))) ≡ true → has_key k left.now ≡ true }
         ensures form { form_of self.new ≡ form_of self.old }
         ensures pairs { (k i : KeyTree) → has_pair k i self.new.pairs ≡ (has_pair k i self.old.pairs && not (has_key k (map (λ l. l.now) keys.now) && is_eq (key_order i id.now))) }
     {
-        self.pairs.take_out_each(keys, id);
+        self.pairs.take_out_each(keys, id, left);
     }
 }
 

@@ -1,6 +1,6 @@
 //! The keys of a document under a path.
 
-ghost use Rattle.std.specs.Prelude.{◌≡◌, not, [], IfOk, filter, map};
+ghost use Rattle.std.specs.Prelude.{◌≡◌, not, [], IfOk, filter, length, map};
 ghost use Rattle.dv_order.specs.Key.{KeyTree};
 ghost use Rattle.dv_path.specs.LeafKeys.{is_leaf_key};
 ghost use Rattle.dv_index.specs.Keys.{has_key};
@@ -38,6 +38,13 @@ impl Keys {
         Keys {
             keys: BTreeSet::new(alloc),
         }
+    }
+
+    /// How many there are.
+    pub(crate) fn len(&self) -> usize
+        ensures { result ≡ length self.now }
+    {
+        self.keys.len()
     }
 
     /// The keys.

@@ -2,18 +2,20 @@
 
 ghost use Rattle.std.specs.Prelude.{◌≡◌, ◌↔◌, ◌≤◌, ◌++◌, ◌∷◌, [], ℕ, pos, false, true, codes, filter as kept, length, slice_get, List, None, Ok, Some};
 ghost use Rattle.std.specs.List.{list_any};
+ghost use Rattle.std.specs.Ordering.{is_eq};
 ghost use Rattle.std.specs.Str.{bytes_eq};
 ghost use Rattle.dv_bson.specs.Tree.{Field, Tree, int64, null};
 ghost use Rattle.dv_match.specs.Examples.{doc, int, list, one};
 ghost use Rattle.dv_match.specs.Filter.{Condition, Members};
 ghost use Rattle.dv_match.specs.Match.{matches};
-ghost use Rattle.dv_order.specs.Key.{KeyTree, value};
+ghost use Rattle.dv_order.specs.Key.{KeyTree, key_order, value};
 ghost use Rattle.dv_order.specs.Order.{canon};
 ghost use Rattle.dv_path.specs.LeafKeys.{is_leaf_key};
 ghost use Rattle.dv_index.specs.Choice.{chosen};
 ghost use Rattle.dv_index.specs.Examples.{covered_by, has_key_of, index_for, three_indexes};
 ghost use Rattle.dv_index.specs.Index.{IndexForm, IndexTree, id_form};
 ghost use Rattle.dv_index.specs.Indexed.{IndexedTree, documents_covered, without_index};
+ghost use Rattle.dv_index.specs.Interval.{is_in_all};
 ghost use Rattle.dv_index.specs.Pairs.{has_pair};
 ghost use Rattle.dv_index.specs.Search.{IsIndexOf, covers, has_within};
 
@@ -30,6 +32,15 @@ pub fn a_find_covers_what_it_finds()
     ensures at_least { (filter : Members) (c : IndexedTree) → length (kept (matches filter) c.documents) ≤ documents_covered filter c }
     ensures at_most { (filter : Members) (c : IndexedTree) → documents_covered filter c ≤ length c.documents }
 {}
+
+/// What matches is tried: where a document that matches a filter has only one key under a path, this one is in all bounds that
+/// the filter's top conjunction sets under the path.
+pub fn an_only_key_is_in_all_bounds()
+    ensures { (filter : Members) (path : List (List ℕ)) (d : List Field) (v : Tree) → ((l : KeyTree) → is_leaf_key l path d ≡ true → is_eq (key_order l (value (canon v))) ≡ true) → matches filter d ≡ true → is_in_all (value (canon v)) path filter ≡ true }
+{
+    dv_order::laws::keys_stand_as_their_values();
+    dv_order::laws::equal_is_same_but_for_widths();
+}
 
 /// A document has a leaf in the bounds exactly where it has a key in them.
 pub fn leaves_are_found_by_keys()

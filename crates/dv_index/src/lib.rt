@@ -7,9 +7,11 @@ mod coverage;
 mod ids;
 mod indexed;
 mod indexes;
+mod interval;
 mod keys;
 pub mod laws;
 mod multi_index;
+mod pairs;
 mod plan;
 mod search;
 

@@ -1,46 +1,44 @@
 //! Indexes, by which the documents are found that have a key.
 
-ghost use Rattle.std.specs.Prelude.{◌≡◌, ◌||◌, ◌&&◌, true, false, not, [], map, filter, OnErr, OnOk, IfOk};
-ghost use Rattle.std.specs.List.Sorted.{IsStrictlySortedBy};
-ghost use Rattle.std.specs.Map.{keys_of};
+ghost use Rattle.std.specs.Prelude.{◌≡◌, ◌≤◌, ◌||◌, ◌&&◌, true, false, not, [], length, map, OnErr, OnOk, IfOk};
 ghost use Rattle.std.specs.Ordering.{is_eq};
-ghost use Rattle.std.specs.BTreeMap.Range.{IsLeBy, IsLtBy, range_contains};
+ghost use Rattle.std.specs.BTreeMap.Range.{IsLeBy, IsLtBy};
 ghost use Rattle.std.specs.Range.Bound.{IsForward};
 ghost use Rattle.dv_order.specs.Key.{KeyTree, key_order};
 ghost use Rattle.dv_index.specs.Keys.{has_key};
-ghost use Rattle.dv_index.specs.Pairs.{has_id, has_pair};
+ghost use Rattle.dv_index.specs.Pairs.{IsOnlyKey, has_pair};
 
 use crate::ids::Ids;
 use crate::keys::Keys;
+use crate::pairs::Pairs;
 use dv_bson::NoMemory;
 use dv_order::Key;
 use std::alloc::Global;
-use std::collections::BTreeMap;
 use std::marker::Model;
 use std::ops::Bound;
 
-/// A set of pairs: a key, and the key of the `_id` of a document that has it.
+/// A set of pairs: a key, and the key of the `_id` of a document that has it. Beside it stand the keys of the `_id`s that
+/// have several keys: of all others the one key tells which conditions they meet.
 #[derive(Debug, Drop)]
 pub struct MultiIndex {
     alloc: Global,
-    entries: BTreeMap<Key, Ids>,
+    pairs: Pairs,
+    several: Ids,
 }
 
 impl Model for MultiIndex {
     ghost use Rattle.std.specs.Prelude as prelude;
     ghost use Rattle.std.specs.Coded.{coded_list, coded×};
-    ghost use Rattle.std.specs.List.Sorted.{IsStrictlySortedBy};
-    ghost use Rattle.std.specs.Map.{keys_of};
-    ghost use Rattle.dv_order.specs.Key.{coded_key, key_order};
-    ghost use Rattle.dv_index.specs.Pairs.{Pair, pairs_of};
+    ghost use Rattle.dv_order.specs.Key.{coded_key};
+    ghost use Rattle.dv_index.specs.Pairs.{AreNoted, Pair};
 
     ghost Value = { prelude.List Pair };
 
     ghost coded = { coded_list (coded× coded_key coded_key) };
 
-    ghost view = { λ i. pairs_of i.entries.entries };
+    ghost view = { λ i. i.pairs };
 
-    ghost invariant = { λ i. IsStrictlySortedBy key_order (keys_of i.entries.entries) };
+    ghost invariant = { λ i. AreNoted i.several i.pairs };
 }
 
 impl MultiIndex {
@@ -50,7 +48,8 @@ impl MultiIndex {
     {
         MultiIndex {
             alloc,
-            entries: BTreeMap::new(alloc),
+            pairs: Pairs::new(alloc),
+            several: Ids::none(alloc),
         }
     }
 
@@ -59,21 +58,42 @@ impl MultiIndex {
         ensures ok { OnOk result ((k i : KeyTree) → has_pair k i self.new ≡ (has_pair k i self.old || (has_key k keys.now && is_eq (key_order i id.now)))) }
         ensures err { OnErr result ((k i : KeyTree) → has_pair k i self.new ≡ has_pair k i self.old) }
     {
-        // A pair that was there stays where memory is wanting.
-        let fresh = self.absent(keys, id)?;
-        self.add_fresh(fresh.as_slice(), id)
+        // Whether the `_id` has other keys isn't known.
+        note(&mut self.several, id, true)?;
+        self.pairs.add(keys, id)
     }
 
-    /// Adds a pair for each key, none of which is there. Where memory is wanting, the pairs are those that there were.
-    pub(crate) fn add_fresh(&mut self, fresh: &[&Key], id: &Key) -> Result<(), NoMemory>
-        requires { (k : KeyTree) → has_key k (map (λ l. l.now) fresh.now) ≡ true → has_pair k id.now self.old ≡ false }
+    /// The same of an `_id` that has no key yet.
+    pub(crate) fn add_first(&mut self, keys: &Keys, id: &Key) -> Result<(), NoMemory>
+        requires { (k : KeyTree) → has_pair k id.now self.old ≡ false }
+        ensures ok { OnOk result ((k i : KeyTree) → has_pair k i self.new ≡ (has_pair k i self.old || (has_key k keys.now && is_eq (key_order i id.now)))) }
+        ensures err { OnErr result ((k i : KeyTree) → has_pair k i self.new ≡ has_pair k i self.old) }
+    {
+        note(&mut self.several, id, keys.len() > 1)?;
+        self.pairs.add(keys, id)
+    }
+
+    /// Adds a pair for each key, none of which is there, to an `_id` that has no keys but those that it holds. Where memory
+    /// is wanting, the pairs are those that there were.
+    pub(crate) fn add_fresh(
+        &mut self,
+        fresh: &[&Key],
+        id: &Key,
+        held: &Keys,
+    ) -> Result<(), NoMemory>
+        requires absent { (k : KeyTree) → has_key k (map (λ l. l.now) fresh.now) ≡ true → has_pair k id.now self.old ≡ false }
+        requires held { (k : KeyTree) → has_pair k id.now self.old ≡ true → has_key k held.now ≡ true }
         ensures ok { OnOk result ((k i : KeyTree) → has_pair k i self.new ≡ (has_pair k i self.old || (has_key k (map (λ l. l.now) fresh.now) && is_eq (key_order i id.now)))) }
         ensures err { OnErr result ((k i : KeyTree) → has_pair k i self.new ≡ has_pair k i self.old) }
     {
-        match self.add_each(fresh, id) {
+        if fresh.is_empty() {
+            return Ok(());
+        }
+        note(&mut self.several, id, are_several(fresh, held))?;
+        match self.pairs.add_fresh(fresh, id) {
             Ok(()) => Ok(()),
             Err(e) => {
-                self.take_out_each(fresh, id);
+                self.settle(id, held);
                 Err(e)
             }
         }
@@ -83,9 +103,20 @@ impl MultiIndex {
     pub fn take_out(&mut self, keys: &Keys, id: &Key)
         ensures { (k i : KeyTree) → has_pair k i self.new ≡ (has_pair k i self.old && not (has_key k keys.now && is_eq (key_order i id.now))) }
     {
-        for key in keys.as_set().iter() {
-            self.take_out_pair(key, id);
+        self.pairs.take_out(keys, id);
+    }
+
+    /// Takes out the pair of each key, where it is there, of an `_id` that then has no keys but those that are left. Takes no
+    /// memory.
+    pub(crate) fn take_out_each(&mut self, keys: &[&Key], id: &Key, left: &Keys)
+        requires { (k : KeyTree) → (has_pair k id.now self.old && not (has_key k (map (λ l. l.now) keys.now))) ≡ true → has_key k left.now ≡ true }
+        ensures { (k i : KeyTree) → has_pair k i self.new ≡ (has_pair k i self.old && not (has_key k (map (λ l. l.now) keys.now) && is_eq (key_order i id.now))) }
+    {
+        if keys.is_empty() {
+            return;
         }
+        self.pairs.take_out_each(keys, id);
+        self.settle(id, left);
     }
 
     /// A copy of its own. Fails where memory is wanting.
@@ -94,122 +125,59 @@ impl MultiIndex {
     {
         Ok(MultiIndex {
             alloc: self.alloc,
-            entries: copy_of(self.alloc, &self.entries)?,
+            pairs: self.pairs.try_clone()?,
+            several: self.several.try_clone(self.alloc)?,
         })
     }
 
-    /// Adds to a list the `_id`s' keys that stand under a key. Where memory is wanting, some of them are added.
-    pub(crate) fn add_ids_at<'i>(
-        &'i self,
-        key: &Key,
-        ids: &mut Vec<&'i Key>,
-    ) -> Result<(), NoMemory>
-        ensures { OnOk result ((i : KeyTree) → has_key i (map (λ l. l.now) ids.new.items) ≡ (has_key i (map (λ l. l.now) ids.old.items) || has_pair key.now i self.now)) }
+    /// The pairs.
+    pub(crate) fn as_pairs(&self) -> &Pairs
+        ensures { result.now ≡ self.now }
     {
-        match self.entries.get(key) {
-            Some(found) => found.add_to(ids),
-            None => Ok(()),
-        }
+        &self.pairs
     }
 
-    /// Adds to a list the `_id`s' keys of the pairs whose keys stand between two ends. Where memory is wanting, some of
-    /// them are added.
-    pub(crate) fn add_ids_between<'i>(
-        &'i self,
-        low: Bound<Key>,
-        high: Bound<Key>,
-        ids: &mut Vec<&'i Key>,
-    ) -> Result<(), NoMemory>
+    /// Adds to a list the `_id`s' keys that have several keys: then each is there that is there if its key is the only one.
+    /// Where memory is wanting, some of them are added.
+    pub(crate) fn add_several<'i>(&'i self, ids: &mut Vec<&'i Key>) -> Result<(), NoMemory>
+        ensures { OnOk result ((k i : KeyTree) → has_pair k i self.now ≡ true → (IsOnlyKey k i self.now → has_key i (map (λ l. l.now) ids.old.items) ≡ true) → has_key i (map (λ l. l.now) ids.new.items) ≡ true) }
+    {
+        self.several.add_to(ids)
+    }
+
+    /// Whether more `_id`s stand under the keys between two ends than were found, with all that have several keys.
+    pub(crate) fn has_more(&self, low: Bound<Key>, high: Bound<Key>, found: usize) -> bool
         requires { IsForward (IsLeBy key_order) (IsLtBy key_order) low high }
-        ensures { OnOk result ((i : KeyTree) → has_key i (map (λ l. l.now) ids.new.items) ≡ (has_key i (map (λ l. l.now) ids.old.items) || has_id i (filter (λ p. range_contains key_order low high p.0) self.now))) }
     {
-        for (_, found) in self.entries.range((low, high)) {
-            found.add_to(ids)?;
-        }
-        Ok(())
+        self.several.is_empty()
+            || self
+                .pairs
+                .has_more(low, high, found.saturating_add(self.several.len()))
     }
 
-    /// The keys whose pairs with the `_id`'s key aren't there.
-    fn absent<'k>(&self, keys: &'k Keys, id: &Key) -> Result<Vec<&'k Key>, NoMemory>
-        ensures { IfOk result (λ fresh. map (λ k. k.now) fresh.items ≡ filter (λ k. not (has_pair k id.now self.now)) keys.now) }
+    /// Forgets that the `_id` has several keys, where it has none but those that are left, and these aren't several.
+    fn settle(&mut self, id: &Key, left: &Keys)
+        requires { (k : KeyTree) → has_pair k id.now self.old ≡ true → has_key k left.now ≡ true }
+        ensures { self.new ≡ self.old }
     {
-        keys.as_set()
-            .iter()
-            .filter(|key| !self.has(key, id))
-            .collect(self.alloc)
-    }
-
-    fn has(&self, key: &Key, id: &Key) -> bool
-        ensures { result ≡ has_pair key.now id.now self.now }
-    {
-        match self.entries.get(key) {
-            Some(ids) => ids.contains(id),
-            None => false,
-        }
-    }
-
-    /// Adds a pair for each key. Where memory is wanting, some of them are added.
-    fn add_each(&mut self, keys: &[&Key], id: &Key) -> Result<(), NoMemory>
-        ensures ok { OnOk result ((k i : KeyTree) → has_pair k i self.new ≡ (has_pair k i self.old || (has_key k (map (λ l. l.now) keys.now) && is_eq (key_order i id.now)))) }
-        ensures err { OnErr result ((k i : KeyTree) → (has_pair k i self.new && not (has_key k (map (λ l. l.now) keys.now) && is_eq (key_order i id.now))) ≡ (has_pair k i self.old && not (has_key k (map (λ l. l.now) keys.now) && is_eq (key_order i id.now)))) }
-    {
-        for key in keys {
-            self.add_pair(key, id)?;
-        }
-        Ok(())
-    }
-
-    /// Takes out the pair of each key, where it is there. Takes no memory.
-    pub(crate) fn take_out_each(&mut self, keys: &[&Key], id: &Key)
-        ensures { (k i : KeyTree) → has_pair k i self.new ≡ (has_pair k i self.old && not (has_key k (map (λ l. l.now) keys.now) && is_eq (key_order i id.now))) }
-    {
-        for key in keys {
-            self.take_out_pair(key, id);
-        }
-    }
-
-    fn add_pair(&mut self, key: &Key, id: &Key) -> Result<(), NoMemory>
-        ensures ok { OnOk result ((k i : KeyTree) → has_pair k i self.new ≡ (has_pair k i self.old || (is_eq (key_order k key.now) && is_eq (key_order i id.now)))) }
-        ensures err { OnErr result ((k i : KeyTree) → has_pair k i self.new ≡ has_pair k i self.old) }
-    {
-        match self.entries.get_mut(key) {
-            Some(ids) => ids.add(id),
-            None => self.add_key(key, id),
-        }
-    }
-
-    /// Adds a key that isn't there, with one `_id`. Where memory is wanting, nothing changes.
-    fn add_key(&mut self, key: &Key, id: &Key) -> Result<(), NoMemory>
-        requires { (i : KeyTree) → has_pair key.now i self.old ≡ false }
-        ensures ok { OnOk result ((k i : KeyTree) → has_pair k i self.new ≡ (has_pair k i self.old || (is_eq (key_order k key.now) && is_eq (key_order i id.now)))) }
-        ensures err { OnErr result ((k i : KeyTree) → has_pair k i self.new ≡ has_pair k i self.old) }
-    {
-        let ids = Ids::of(self.alloc, id.try_clone()?);
-        drop(self.entries.insert(key.try_clone()?, ids)?);
-        Ok(())
-    }
-
-    fn take_out_pair(&mut self, key: &Key, id: &Key)
-        ensures { (k i : KeyTree) → has_pair k i self.new ≡ (has_pair k i self.old && not (is_eq (key_order k key.now) && is_eq (key_order i id.now))) }
-    {
-        let Some(ids) = self.entries.get_mut(key) else {
-            return;
-        };
-        ids.take_out(id);
-        if ids.is_empty() {
-            drop(self.entries.remove(key));
+        if left.len() <= 1 {
+            self.several.take_out(id);
         }
     }
 }
 
-/// A copy of the entries. Fails where memory is wanting.
-fn copy_of(alloc: Global, entries: &BTreeMap<Key, Ids>) -> Result<BTreeMap<Key, Ids>, NoMemory>
-    ensures same { IfOk result (λ copy. copy.entries ≡ entries.now.entries) }
-    ensures sorted { IfOk result (λ copy. IsStrictlySortedBy key_order (keys_of copy.entries)) }
+/// Whether these keys, none of which is held, are several together with those that are.
+fn are_several(fresh: &[&Key], held: &Keys) -> bool
+    ensures one { result ≡ false → length fresh.now ≤ 1 }
+    ensures none_held { result ≡ false → held.now ≡ [] }
 {
-    let mut copy = BTreeMap::new(alloc);
-    'entries: for (key, ids) in entries {
-        drop(copy.insert(key.try_clone()?, ids.try_clone(alloc)?)?);
-    }
-    Ok(copy)
+    fresh.len() > 1 || held.len() > 0
+}
+
+/// Notes an `_id` where it has several keys. Where memory is wanting, nothing changes.
+fn note(several: &mut Ids, id: &Key, has_several: bool) -> Result<(), NoMemory>
+    ensures ok { OnOk result ((i : KeyTree) → has_key i several.new ≡ (has_key i several.old || (has_several && is_eq (key_order i id.now)))) }
+    ensures err { OnErr result ((i : KeyTree) → has_key i several.new ≡ has_key i several.old) }
+{
+    if has_several { several.add(id) } else { Ok(()) }
 }

@@ -12,16 +12,18 @@ ghost use Rattle.dv_match.specs.Filter.{among, equal, in_range};
 ghost use Rattle.dv_order.specs.Key.{KeyTree, key_order, value as key_of_tree};
 ghost use Rattle.dv_order.specs.Order.{canon};
 ghost use Rattle.dv_path.specs.LeafKeys.{is_key_of, is_some_key};
-ghost use Rattle.dv_index.specs.Pairs.{has_pair};
+ghost use Rattle.dv_index.specs.Pairs.{IsOnlyKey, has_pair};
 ghost use Rattle.dv_index.specs.Change.{AreIndexesOf, IsIndexAt};
 ghost use Rattle.dv_index.specs.Index.{id_form};
+ghost use Rattle.dv_index.specs.Interval.{is_in_all};
 ghost use Rattle.dv_index.specs.Keys.{has_key};
 ghost use Rattle.dv_index.specs.Search.{IsIndexOf, covers, has_within};
 ghost use Rattle.dv_index.specs.View.{bounds_seen, plan_seen};
 
 use crate::bounds::ends_within;
 use crate::indexes::{Index, Indexes};
-use crate::multi_index::MultiIndex;
+use crate::interval::Interval;
+use crate::pairs::Pairs;
 use crate::plan::{Bounds, Plan};
 use dv_bson::{Document, List, NoMemory, Value};
 use dv_coll::Collection;
@@ -29,8 +31,8 @@ use dv_match::{Filter, Range};
 use dv_order::{Key, key_of, laws};
 use std::alloc::Global;
 
-/// The documents that match the filter, in the order of their `_id`s. By an index only those are looked at that have a key
-/// in the plan's bounds. Fails where memory is wanting.
+/// The documents that match the filter, in the order of their `_id`s. By an index no more are looked at than stand under the
+/// keys in the plan's bounds. Fails where memory is wanting.
 pub fn run<'c>(
     alloc: Global,
     plan: &Plan<'_>,
@@ -62,7 +64,7 @@ pub(crate) fn run_first<'c>(
 {
     if let Plan::Index { place, bounds } = *plan {
         if let Some(index) = indexes.get(place) {
-            let found = candidates(alloc, place, index, bounds, collection)?;
+            let found = tried(alloc, place, index, bounds, filter, collection)?;
             return matching(alloc, found, filter, most);
         }
     }
@@ -107,6 +109,90 @@ fn matching<'c>(
         .filter(|document| filter.matches(document))
         .take(most)
         .collect(alloc)
+}
+
+/// The documents among which are all that match the filter, in the order of their `_id`s, where these have a leaf in the
+/// bounds of the index at a place.
+fn tried<'c>(
+    alloc: Global,
+    place: usize,
+    index: &Index,
+    bounds: Bounds<'_>,
+    filter: &Filter,
+    collection: &'c Collection,
+) -> Result<Vec<&'c Document>, NoMemory>
+    requires indexed { IsIndexAt place index.now collection.now }
+    requires within { (d : Sequence Field) → matches filter.now d ≡ true → has_within (bounds_seen bounds) index.now.path d ≡ true }
+    ensures { IfOk result (λ found. kept (matches filter.now) (map (λ d. d.now) found.items) ≡ kept (matches filter.now) collection.now) }
+{
+    if place == 0 {
+        candidates_by_id(alloc, bounds, collection)
+    } else {
+        tried_by_key(alloc, index, bounds, filter, collection)
+    }
+}
+
+/// The same of an index that has pairs.
+fn tried_by_key<'c>(
+    alloc: Global,
+    index: &Index,
+    bounds: Bounds<'_>,
+    filter: &Filter,
+    collection: &'c Collection,
+) -> Result<Vec<&'c Document>, NoMemory>
+    requires indexed { IsIndexOf index.now collection.now }
+    requires within { (d : Sequence Field) → matches filter.now d ≡ true → has_within (bounds_seen bounds) index.now.path d ≡ true }
+    ensures { IfOk result (λ found. kept (matches filter.now) (map (λ d. d.now) found.items) ≡ kept (matches filter.now) collection.now) }
+{
+    laws::keys_stand_as_their_values();
+    laws::equal_is_same_but_for_widths();
+    // The documents ascend by their `_id`s.
+    let _ = collection.len();
+    let ids = ids_tried(alloc, index, bounds, filter)?;
+    documents_of(alloc, ids, collection)
+}
+
+/// The `_id`s' keys of the pairs whose keys are in the bounds; an `_id` that has only one key may be left out, unless this is
+/// in all ranges that the filter sets. Of the two ways to find them the one that looks at fewer.
+fn ids_tried<'i>(
+    alloc: Global,
+    index: &'i Index,
+    bounds: Bounds<'_>,
+    filter: &Filter,
+) -> Result<Vec<&'i Key>, NoMemory>
+    ensures { IfOk result (λ ids. (k i : KeyTree) → covers (bounds_seen bounds.entry) k ≡ true → has_pair k i index.now.pairs ≡ true → (IsOnlyKey k i index.now.pairs → is_in_all k index.now.path filter.now ≡ true) → has_key i (map (λ l. l.now) ids.items) ≡ true) }
+{
+    let pairs = index.pairs();
+    if let Bounds::Within(range, value) = bounds {
+        let mut ids = ids_in_all(alloc, index, filter)?;
+        let (low, high) = ends_within(alloc, range, value)?;
+        if pairs.has_more(low, high, ids.len()) {
+            pairs.add_several(&mut ids)?;
+            return Ok(ids);
+        }
+    }
+    ids_within(alloc, pairs.as_pairs(), bounds)
+}
+
+/// The `_id`s' keys of the pairs whose keys are in all ranges that the filter sets.
+fn ids_in_all<'i>(
+    alloc: Global,
+    index: &'i Index,
+    filter: &Filter,
+) -> Result<Vec<&'i Key>, NoMemory>
+    ensures { IfOk result (λ ids. (k i : KeyTree) → is_in_all k index.now.path filter.now ≡ true → has_pair k i index.now.pairs ≡ true → has_key i (map (λ l. l.now) ids.items) ≡ true) }
+{
+    let ends = Interval::of(alloc, index.path(), filter)?;
+    if !ends.is_forward() {
+        return Ok(Vec::new(alloc));
+    }
+    let Interval { low, high } = ends;
+    let mut ids = Vec::new(alloc);
+    index
+        .pairs()
+        .as_pairs()
+        .add_ids_between(low, high, &mut ids)?;
+    Ok(ids)
 }
 
 /// The documents among which are all that have a leaf in the bounds of the index at a place, in the order of their `_id`s.
@@ -209,7 +295,7 @@ fn candidates_by_key<'c>(
     laws::keys_stand_as_their_values();
     // The documents ascend by their `_id`s.
     let _ = collection.len();
-    let ids = ids_within(alloc, index.pairs(), bounds)?;
+    let ids = ids_within(alloc, index.pairs().as_pairs(), bounds)?;
     documents_of(alloc, ids, collection)
 }
 
@@ -276,7 +362,7 @@ fn in_order(mut keys: Vec<&Key>) -> Result<Vec<&Key>, NoMemory>
 /// The `_id`s' keys of the pairs whose keys are in the bounds, in no order.
 fn ids_within<'i>(
     alloc: Global,
-    index: &'i MultiIndex,
+    index: &'i Pairs,
     bounds: Bounds<'_>,
 ) -> Result<Vec<&'i Key>, NoMemory>
     ensures { IfOk result (λ ids. (k i : KeyTree) → covers (bounds_seen bounds.entry) k ≡ true → has_pair k i index.now ≡ true → has_key i (map (λ l. l.now) ids.items) ≡ true) }
@@ -293,7 +379,7 @@ fn ids_within<'i>(
 /// Adds the `_id`s' keys of the pairs whose key is of the value's class and stands so to it.
 fn add_in_range<'i>(
     alloc: Global,
-    index: &'i MultiIndex,
+    index: &'i Pairs,
     range: Range,
     value: &Value,
     ids: &mut Vec<&'i Key>,
@@ -308,7 +394,7 @@ fn add_in_range<'i>(
 /// once.
 fn add_among<'i>(
     alloc: Global,
-    index: &'i MultiIndex,
+    index: &'i Pairs,
     values: &List,
     ids: &mut Vec<&'i Key>,
 ) -> Result<(), NoMemory>
@@ -321,11 +407,7 @@ fn add_among<'i>(
 }
 
 /// Adds the `_id`s' keys of the pairs that have one of the keys.
-fn add_each<'i>(
-    index: &'i MultiIndex,
-    keys: &[&Key],
-    ids: &mut Vec<&'i Key>,
-) -> Result<(), NoMemory>
+fn add_each<'i>(index: &'i Pairs, keys: &[&Key], ids: &mut Vec<&'i Key>) -> Result<(), NoMemory>
     ensures { OnOk result ((k i : KeyTree) → has_key k (map (λ l. l.now) keys.now) ≡ true → has_pair k i index.now ≡ true → has_key i (map (λ l. l.now) ids.new.items) ≡ true) }
 {
     'keys: for key in keys {
@@ -335,11 +417,7 @@ fn add_each<'i>(
 }
 
 /// Adds the `_id`s' keys of the pairs whose key is the value's.
-fn add_equal<'i>(
-    index: &'i MultiIndex,
-    value: &Value,
-    ids: &mut Vec<&'i Key>,
-) -> Result<(), NoMemory>
+fn add_equal<'i>(index: &'i Pairs, value: &Value, ids: &mut Vec<&'i Key>) -> Result<(), NoMemory>
     ensures { OnOk result ((k i : KeyTree) → covers (equal (tree value.now)) k ≡ true → has_pair k i index.now ≡ true → has_key i (map (λ l. l.now) ids.new.items) ≡ true) }
 {
     let key = key_of(value)?;
@@ -347,7 +425,7 @@ fn add_equal<'i>(
 }
 
 /// Adds the `_id`s' keys of the pairs that have the key.
-fn add_at<'i>(index: &'i MultiIndex, key: &Key, ids: &mut Vec<&'i Key>) -> Result<(), NoMemory>
+fn add_at<'i>(index: &'i Pairs, key: &Key, ids: &mut Vec<&'i Key>) -> Result<(), NoMemory>
     ensures found { OnOk result ((k i : KeyTree) → is_eq (key_order k key.now) ≡ true → has_pair k i index.now ≡ true → has_key i (map (λ l. l.now) ids.new.items) ≡ true) }
     ensures kept { OnOk result ((i : KeyTree) → has_key i (map (λ l. l.now) ids.old.items) ≡ true → has_key i (map (λ l. l.now) ids.new.items) ≡ true) }
 {

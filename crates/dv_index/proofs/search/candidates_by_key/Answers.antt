@@ -12,4 +12,4 @@ returns c =
     let ids = map (λ (l : Bor KeyTree). l.now) c.in_ok-ids.ids.items in
     IfOk-weaker c.documents_of.result _ _ (λ found is test within.
     ap (filter test) is
-    ∙ gathered-all c.keys_stand_as_their_values.ensures c.args.index.now (bounds_seen c.args.bounds) (λ i. has_key i ids) (λ k i covered there. c.in_ok-ids.ensures k i covered (ap (has_pair k i) c.pairs.ensures ∙ there)) test c.args.collection.now c.requires c.len.ensures.ascending within) c.documents_of.ensures
+    ∙ gathered-all c.keys_stand_as_their_values.ensures c.args.index.now (bounds_seen c.args.bounds) (λ i. has_key i ids) (λ k i covered there. c.in_ok-ids.ensures k i covered (ap (has_pair k i) (c.as_pairs.ensures ∙ c.pairs.ensures) ∙ there)) test c.args.collection.now c.requires c.len.ensures.ascending within) c.documents_of.ensures

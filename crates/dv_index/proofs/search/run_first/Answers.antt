@@ -1,4 +1,4 @@
-use Rattle.std.proofs.Common.{Bor, ◌≡◌, ◌∙◌, List, ap, sym, filter, map, take, Some, slice_get}
+use Rattle.std.proofs.Common.{Bor, ◌≡◌, ◌∙◌, List, ap, sym, map, take, Some, slice_get}
 use Rattle.std.proofs.lemmas.List.{take-map}
 use Rattle.std.proofs.lemmas.Result.{IfOk-weaker}
 use Rattle.dv_bson.specs.Tree.{Field}
@@ -9,16 +9,19 @@ use Rattle.dv_index.proofs.Places.{index-at}
 use Rattle.dv_index.proofs.Sound.{chosen-within}
 use Rattle.dv_index.proofs.search.run_first.Goals as goal
 
-pub candidates-requires : goal.candidates-requires
-candidates-requires c = index-at c.args.indexes.now c.in-Index.place c.in-Some.index.now c.args.collection.now c.requires.indexed c.get.ensures.id_first (sym c.in-Some.ensures.index)
+pub tried-requires-clause-indexed : goal.tried-requires-clause-indexed
+tried-requires-clause-indexed c = index-at c.args.indexes.now c.in-Index.place c.in-Some.index.now c.args.collection.now c.requires.indexed c.get.ensures.id_first (sym c.in-Some.ensures.index)
+
+pub tried-requires-clause-within : goal.tried-requires-clause-within
+tried-requires-clause-within c = λ d h.
+    let there : slice_get c.args.indexes.now c.in-Index.place ≡ Some c.in-Some.index.now = sym c.in-Some.ensures.index in
+    chosen-within c.args.filter.now c.args.indexes.now c.in-Index.place (bounds_seen c.in-Index.bounds) c.in-Some.index.now d (sym c.requires.planned ∙ ap plan_seen c.in-Index.is) there h
 
 pub returns-in-Some : goal.returns-in-Some
 returns-in-Some c =
     let now = λ (x : Bor (List Field)). x.now in
     let test = matches c.args.filter.now in
-    let there : slice_get c.args.indexes.now c.in-Index.place ≡ Some c.in-Some.index.now = sym c.in-Some.ensures.index in
     IfOk-weaker c.matching.result _ _ (λ found is.
     ap (map now) is
     ∙ sym (take-map now c.args.most _)
-    ∙ ap (take c.args.most) (map-kept test c.in_ok-found.found.items
-    ∙ c.in_ok-found.ensures test (λ d h. chosen-within c.args.filter.now c.args.indexes.now c.in-Index.place (bounds_seen c.in-Index.bounds) c.in-Some.index.now d (sym c.requires.planned ∙ ap plan_seen c.in-Index.is) there h))) c.matching.ensures
+    ∙ ap (take c.args.most) (map-kept test c.in_ok-found.found.items ∙ c.in_ok-found.ensures)) c.matching.ensures

@@ -1,12 +1,17 @@
-use Rattle.std.proofs.Common.{◌∙◌, ◌||◌, ap, sym}
+use Rattle.std.proofs.Common.{◌∙◌, ◌||◌, ap, not, sym}
 use Rattle.std.proofs.lemmas.Result.{on_ok_weaker, on_err_weaker}
 use Rattle.std.specs.Ordering.{is_eq}
 use Rattle.dv_order.specs.Key.{key_order}
 use Rattle.dv_index.specs.Ids.{has_first}
 use Rattle.dv_index.specs.Keys.{has_key}
 use Rattle.dv_index.proofs.Lists.{or-assoc}
-use Rattle.dv_index.proofs.Firsts.{kept-has}
+use Rattle.dv_index.proofs.Firsts.{kept-has, put-first}
 use Rattle.dv_index.proofs.ids.Ids.add.Goals as goal
+
+pub returns-then-is_none-clause-ok : goal.returns-then-is_none-clause-ok
+returns-then-is_none-clause-ok c = λ i.
+    put-first i c.in_ok-try_clone.field-0 c.self.inside.first c.self.inside.others.keys (c.is_none.ensures ∙ ap not c.if-is_none.true)
+    ∙ (λ j. has_key i (c.self.view_is j) || is_eq (key_order i (c.in_ok-try_clone.ensures j)))
 
 pub returns-clause-ok : goal.returns-clause-ok
 returns-clause-ok c = on_ok_weaker c.insert_into.result (λ known i.

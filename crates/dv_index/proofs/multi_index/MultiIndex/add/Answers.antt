@@ -1,17 +1,10 @@
-use Rattle.std.proofs.Common.{Bor, ◌∙◌, ◌&&◌, not, ap, map, sym}
-use Rattle.std.proofs.lemmas.Result.{on_ok_weaker}
-use Rattle.dv_order.specs.Key.{KeyTree}
-use Rattle.dv_index.specs.Keys.{has_key}
-use Rattle.dv_index.specs.Pairs.{has_pair}
-use Rattle.dv_index.proofs.Several.{added-fresh, fresh-absent}
+use Rattle.std.proofs.Common.{◌∙◌, sym, true}
+use Rattle.dv_index.proofs.Noted.{noted-either, noted-still}
 use Rattle.dv_index.proofs.multi_index.MultiIndex.add.Goals as goal
 
-pub add_fresh-requires : goal.add_fresh-requires
-add_fresh-requires c = λ k among.
-    let fresh = map (λ (x : Bor KeyTree). x.now) c.as_slice.result.now in
-    fresh-absent c.args.keys.now fresh c.args.self.now c.args.id.now (ap (map (λ (x : Bor KeyTree). x.now)) c.as_slice.ensures.value ∙ c.in_ok-fresh.ensures) k among
+pub invariant_of-self : goal.invariant_of-self
+invariant_of-self c = noted-still c.self.inside.several c.note.new.several c.self.inside.pairs c.self.inside.pairs c.self.invariant (λ i out. sym (c.in_err-note.ensures.err i) ∙ out) (λ k i there. there)
 
-pub returns-clause-ok : goal.returns-clause-ok
-returns-clause-ok c =
-    let fresh = map (λ (x : Bor KeyTree). x.now) c.as_slice.result.now in
-    on_ok_weaker c.add_fresh.result (λ known k i. known k i ∙ added-fresh c.args.keys.now fresh c.args.self.now c.args.id.now (ap (map (λ (x : Bor KeyTree). x.now)) c.as_slice.ensures.value ∙ c.in_ok-fresh.ensures) k i) c.add_fresh.ensures.ok
+pub invariant_of-self-2 : goal.invariant_of-self-2
+invariant_of-self-2 c =
+    noted-either c.add.result c.self.inside.several c.note.new.several c.args.keys.now c.self.inside.pairs c.add.new.self c.args.id.now true c.self.invariant c.in_ok-note.ensures.ok c.add.ensures.ok c.add.ensures.err (λ no. absurd cc)
