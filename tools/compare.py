@@ -134,6 +134,8 @@ def count_replies(output, seen):
             _, (_, found) = reply[b"cursor"][1][0]
             seen["answers with documents" if found else "answers without"] += 1
             seen["answers with more to come"] += dict(reply[b"cursor"][1])[b"id"][1] != 0
+        elif b"state" in reply:
+            seen["views that counted" if reply[b"ticks"][1] else "views that didn't"] += 1
         elif b"stage" in reply:
             seen["plans by an index" if b"index" in reply else "plans without"] += 1
         elif b"n" in reply:

@@ -3,8 +3,9 @@
 
 It reads a script on standard input and prints each reply, closing and end as docd must print them. It shares no code
 with docd: it has its own reader of BSON and its own filters, updates and pipelines (in tools/model), keeps each
-collection as a sorted list, scans for every find and runs a view's pipeline anew each time. Memory is never wanting
-here. `tools/compare.py` runs random scripts through both.
+collection as a sorted list, scans for every find and runs a view's pipeline anew each time. The work that a view counts
+is what its stages make of all their rows otherwise behind each change. Memory is never wanting here. `tools/compare.py`
+runs random scripts through both.
 
     python3 tools/machine.py < examples/inserts.hex
 """

@@ -1,6 +1,7 @@
 #!/usr/bin/python3
 """Checks the model of `tools/machine.py` against worked examples, whose answers were written by hand: those of
-tools/worked_examples.txt, and a few documents as bytes.
+tools/worked_examples.txt, and a few documents as bytes. Behind each answer the rows of the views that are kept by changes,
+which are counted by their positions, are looked at too: without positions they are what the pipeline makes.
 
     python3 tools/machine_rows.py
 """
@@ -9,6 +10,8 @@ import sys
 import machine
 from checking import status_of
 from model.values import BsonFault, read_document, spelling
+from model.views import KEPT
+from model.work import documents_of, through
 from notation import fields_of
 from worked_examples import answers, scripts
 
@@ -16,9 +19,18 @@ from worked_examples import answers, scripts
 def check_examples(tell):
     """Each line of the table is answered as it says."""
     for script in scripts():
-        for example, step, said in answers(machine.Machine(), script):
-            told = "%s\n    %s\n    %s" % (example.title, step.text or step.lines[0], "\n    ".join(said))
-            tell(said == step.prints, told)
+        held = machine.Machine()
+        for example, step, said in answers(held, script):
+            told = said if are_placed(held.store, example.title) else [*said, "and a view's rows have wrong positions"]
+            shown = "%s\n    %s\n    %s" % (example.title, step.text or step.lines[0], "\n    ".join(told))
+            tell(told == step.prints, shown)
+
+
+def are_placed(store, title):
+    """Whether the rows of an example's views stand where the pipelines have them."""
+    database = title.partition(":")[0].partition(",")[0].encode()
+    views = [(place, view) for place, view in store.views.items() if view.how == KEPT and place.startswith(database + b".")]
+    return all(documents_of(through(view.stages, map(store.placed, view.reads))) == store.rows(place) for place, view in views)
 
 
 def check_bytes(tell):

@@ -49,12 +49,12 @@ class Maker(Commands):
         return ([self.first(b"d")] if names else []) + [self.asked(self.view(name)) for name in names]
 
     def shown(self):
-        """Finds of all rows of the views that are there."""
+        """For each view that is there what it tells of itself, and a find of all its rows."""
         names = [place.partition(b".")[2] for place in self.store.views if place.startswith(b"t.")]
-        return [self.asked([(b"find", text(name))]) for name in names]
+        return [self.asked([(command, text(name))]) for name in names for command in (b"viewStats", b"find")]
 
     def written(self):
-        """A write, and finds of all rows of the views in front of it and behind it."""
+        """A write, and what the views show in front of it and behind it."""
         write = self.rng.choice([self.insert, self.update_command, self.delete])
         return [*self.shown(), self.asked(write()), *self.shown()]
 

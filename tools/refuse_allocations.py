@@ -9,10 +9,11 @@ first, second, .. request refused, until a run meets no refusal. What a run prin
 - a command is refused with code 900 and changes nothing;
 - a write ends at a statement with a write error of code 900, whose `done` tells how many of that statement's changes were
   made, fewer than all, and what the statements before it did stands;
-- a session is closed with 6: its last command has come to any of these ends, or to its usual one.
+- a session is closed with 6: its last command has come to any of these ends, or to its usual one;
+- a view is stale behind a write, as viewStats tells, and is made anew before it is read; one that finds no memory for more than
+  its rows where it is made is stale behind the next write.
 
-The finds of a later session show what stands then. A view that finds no memory for a change shows nothing of that: it is made
-anew before it is read.
+The finds of a later session show what stands then.
 
     python3 tools/refuse_allocations.py
     python3 tools/refuse_allocations.py --scripts "index,cursor"
@@ -31,6 +32,7 @@ from model.commands import execute
 from model.refusals import WANT_OF_MEMORY, refused
 from model.store import Store
 from model.values import ARRAY, read_document, spelling
+from model.views import MADE, STALE
 from model.writes import NoSuchCut, WRITES
 from program import parsed
 from spelled import message, script_lines
@@ -120,11 +122,12 @@ def find(name, session=0, **others):
 
 
 def under(views, *commands):
-    """Commands on two collections of which the first has these views, and what they hold afterwards."""
+    """Commands on two collections of which the first has these views, and what these tell and all hold afterwards."""
     there = [{"_id": place, "n": 7 - place, "tags": ["t%d" % place, "all"]} for place in range(1, 4)]
     made = [Message(0, {"create": name, "viewOn": "c", "pipeline": stages, "$db": "t"}) for name, stages in views.items()]
+    told = [Message(1, {"viewStats": name, "$db": "t"}) for name in views]
     finds = [find(name, 1) for name in (*views, "c", list(views)[0])]
-    return [Message(0, insert("c", there)), *made, *commands, End(0), *finds, End(1)]
+    return [Message(0, insert("c", there)), *made, *commands, End(0), *told, *finds, *told, End(1)]
 
 
 def viewed(*commands):
@@ -273,6 +276,15 @@ def without_memory(store, data, session):
                 break
 
 
+def without_rows(store, after):
+    """The stores behind a command in which one view has lost its rows by it, or was made with nothing but these."""
+    for place, view in after.views.items():
+        if place not in store.views or store.views[place].ticks != view.ticks:
+            other = copy.deepcopy(after)
+            other.views[place].how, other.views[place].ticks = STALE if place in store.views else MADE, 0
+            yield other
+
+
 def fits(steps, said, store, is_cut, may_want=True):
     """Whether the lines are what the steps may print, where the script is cut or comes to its end, and want of memory
     shows at most once."""
@@ -286,7 +298,10 @@ def fits(steps, said, store, is_cut, may_want=True):
         after.cursors.end(step.session)
         return said[:1] == [b"%d end 0" % step.session] and fits(rest, said[1:], after, is_cut, may_want)
     reply, is_usual = execute(after, body(step), session=step.session), True
-    for reply, after in [(reply, after), *(without_memory(store, body(step), step.session) if may_want else [])]:
+    ends = [(reply, after)]
+    if may_want:
+        ends += [*((reply, other) for other in without_rows(store, after)), *without_memory(store, body(step), step.session)]
+    for reply, after in ends:
         line = [b"%d %s" % (step.session, messages.message(7, reply).hex().encode())] * (not step.flags & 2)
         # Where no reply is sent, want of memory is told by the end of the session alone.
         is_told = is_usual or not step.flags & 2

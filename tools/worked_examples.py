@@ -71,6 +71,8 @@ def command_of(written):
         return [(b"update", text("c")), (b"updates", (ARRAY, [entry]))]
     word, name, rest = SHORT.fullmatch(written).groups()
     on, given = text(name or "c"), values(rest or "")
+    if word == "stats":
+        return [(b"viewStats", on)]
     if word == "view":
         return [(b"create", on), (b"viewOn", text("c")), (b"pipeline", *given)]
     if word == "explain":
@@ -101,6 +103,10 @@ def write_errors(command, number, name, count):
     entries = [document((b"index", (INT32, index)), *told) for index in range(count)]
     modified = [(b"nModified", (INT32, 0))] if command[0][0] == b"update" else []
     return [(b"n", (INT32, 0)), *modified, (b"writeErrors", (ARRAY, entries)), OK]
+
+
+def stats(state, rows, ticks):
+    return [(b"state", text(state)), (b"rows", (INT64, rows)), (b"ticks", (INT64, ticks)), OK]
 
 
 def list_of(command):
@@ -194,6 +200,8 @@ class Script:
         if word in ("error", "errors"):
             number, name = rest.split(" ")
             return write_errors(command, int(number), name, 1 if word == "error" else len(list_of(command)))
+        if word in ("live", "stale"):
+            return stats(word, *map(int, rest.split(" ") if rest else (0, 0)))
         if word in ("rows", "ids"):
             rows = values(rest)
             return self.batch(command[0][1], map(self.inserted_under, rows) if word == "ids" else rows)

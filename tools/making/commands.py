@@ -16,7 +16,7 @@ class Commands(Views):
         self.session = object()
         shares = {self.insert: 5, self.find: 10, self.ping: 1, self.hello: 1, self.delete: 3, self.update_command: 7,
                   self.aggregate: 7, self.create: 2, self.drop: 1, self.create_indexes: 3, self.drop_indexes: 1,
-                  self.explain: 4, self.get_more: 6, self.kill_cursors: 1}
+                  self.explain: 4, self.get_more: 6, self.kill_cursors: 1, self.view_stats: 3}
         self.makers = [maker for maker, share in shares.items() for _ in range(share)]
 
     def collection(self):
@@ -169,6 +169,11 @@ class Commands(Views):
             find = self.rng.choice([find[::-1], [], find + [(b"$db", text(b"t"))], find + [(b"lsid", NOTHING)], find + [(b"x", NOTHING)]])
         held = document(distinct(find)) if self.often(0.97) else self.value(2)
         return [(b"explain", held)] + [(b"verbosity", self.value(3))] * self.often(0.2)
+
+    def view_stats(self):
+        """Of a view that is there, mostly."""
+        names = [place.partition(b".")[2] for place in self.store.views]
+        return [(b"viewStats", text(self.rng.choice(names)) if names and self.often(0.7) else self.collection())]
 
     def cursor(self):
         """The id of a cursor that is there, was there, or never was, and its collection, if it is there."""

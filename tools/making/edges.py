@@ -72,11 +72,12 @@ def view_edges():
     """Views of a `$push` over groups of as many rows as are kept by changes, and of more."""
     fields = document([(b"_id", text(b"$k")), (b"all", document([(b"$push", text(b"$_id"))]))])
     view = [(b"create", text(b"v")), (b"viewOn", text(b"c")), (b"pipeline", array([document([(b"$group", fields)])]))]
-    read = [(b"find", text(b"v"))]
+    read, told = [(b"find", text(b"v"))], [(b"viewStats", text(b"v"))]
 
     def rows(start, end):
         return insert([document([(b"_id", number(i)), (b"k", number(i % 2))]) for i in range(start, end)])
 
     gone = [(b"delete", text(b"c")), (b"deletes", array([document([(b"q", document([(b"_id", number(7))])), (b"limit", number(1))])]))]
-    yield lines_of(0, view, rows(0, 512), read, rows(512, 514), read, gone, read, rows(514, 520), gone, read)
-    yield lines_of(0, rows(0, 1_000), view, read, gone, rows(1_000, 1_002), read)
+    yield lines_of(0, view, rows(0, 512), told, read, rows(512, 514), told, read, told, gone, told, read, rows(514, 520), gone,
+                   read, told)
+    yield lines_of(0, rows(0, 1_000), view, told, read, gone, told, rows(1_000, 1_002), read, told)

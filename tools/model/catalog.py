@@ -4,8 +4,9 @@ from model.namespaces import joined, namespace
 from model.pipelines import pipeline_of
 from model.refusals import (BAD_VALUE, INDEX_NOT_FOUND, LIMIT_REACHED, NAMESPACE_EXISTS, NAMESPACE_NOT_FOUND, OK, ON_VIEW,
                             READ_BY_VIEW, Refusal)
-from model.store import Collection, View
-from model.values import INT32, TEXT
+from model.store import Collection
+from model.values import INT32, INT64, TEXT
+from model.views import View
 
 MOST_VIEWS = 1_000
 
@@ -28,15 +29,26 @@ def create(store, database, fields):
         raise Refusal(READ_BY_VIEW)
     if len(store.views) == MOST_VIEWS:
         raise Refusal(LIMIT_REACHED)
-    store.views[place] = View(reads, functions)
+    store.views[place] = View(reads, functions, fields[b"pipeline"][1])
+    store.refresh(place)
     return [OK]
 
 
 def drop(store, database, fields):
     place = namespace(database, fields[b"drop"][1])
+    store.empty(place)
     if store.collections.pop(place, None) is None and store.views.pop(place, None) is None:
         raise Refusal(NAMESPACE_NOT_FOUND)
     return [(b"ns", (TEXT, place)), OK]
+
+
+def view_stats(store, database, fields):
+    place = namespace(database, fields[b"viewStats"][1])
+    if place not in store.views:
+        raise Refusal(NAMESPACE_NOT_FOUND)
+    view = store.views[place]
+    state, rows = (b"live", len(store.rows(place))) if view.is_live() else (b"stale", 0)
+    return [(b"state", (TEXT, state)), (b"rows", (INT64, rows)), (b"ticks", (INT64, view.ticks)), OK]
 
 
 def create_indexes(store, database, fields):

@@ -1,5 +1,5 @@
 """Commands: how the sections of a message become a reply."""
-from model.catalog import create, create_indexes, drop, drop_indexes
+from model.catalog import create, create_indexes, drop, drop_indexes, view_stats
 from model.fields import FIELDS, IGNORED, check_fields
 from model.namespaces import database_name, namespace
 from model.reads import aggregate, explain, find, get_more, kill_cursors
@@ -79,7 +79,7 @@ def hello(store, database, fields):
 
 COMMANDS = {b"ping": ping, b"hello": hello, b"find": find, b"aggregate": aggregate, b"create": create, b"drop": drop,
             b"createIndexes": create_indexes, b"dropIndexes": drop_indexes, b"explain": explain, b"getMore": get_more,
-            b"killCursors": kill_cursors, **dict.fromkeys(WRITES)}
+            b"killCursors": kill_cursors, b"viewStats": view_stats, **dict.fromkeys(WRITES)}
 OF_SESSIONS = {b"find", b"aggregate", b"getMore", b"killCursors"}  # what they answer goes by the session
 # The lists that may stand beside a body.
 LISTS = {name: lists for name, (lists, _) in WRITES.items()}

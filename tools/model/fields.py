@@ -90,6 +90,7 @@ FIELDS = {
     b"explain": {b"explain": find_document, b"verbosity": anything},
     b"getMore": {b"getMore": any_number, b"collection": text, b"batchSize": natural},
     b"killCursors": {b"killCursors": text, b"cursors": numbers},
+    b"viewStats": {b"viewStats": text},
 }
 UPDATE_ENTRY = {b"q": document, b"u": update_document, b"multi": boolean, b"upsert": false_alone}
 DELETE_ENTRY = {b"q": document, b"limit": zero_or_one}

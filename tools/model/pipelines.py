@@ -5,6 +5,7 @@ A stage is a function of the rows and of `look`, which gives the documents under
 from model.filters import filter_of
 from model.paths import (MISSING, as_null, components_of, expression_value, field_of, leaves, put, removed, slot, sort_of,
                          sorted_rows, whole, with_field)
+from model.remembered import remembered
 from model.refusals import CONFLICT, FAILED_TO_PARSE, LIMIT_REACHED, Refusal
 from model.values import ARRAY, BOOLEAN, DOCUMENT, INT32, INT64, NULL, NUMBERS, TEXT, key
 
@@ -227,9 +228,12 @@ def lookup(operand):
     wanted(is_collection_name(name) and local is not None and foreign is not None)
     wanted(b"." not in target and b"\0" not in target and not target.startswith(b"$"))
 
+    keys_of, others_keys = (remembered(lambda row: {key(value) for value in local_values(row, local)}),
+                            remembered(lambda other: foreign_keys(other, foreign)))
+
     def joined(row, others):
-        keys = {key(value) for value in local_values(row, local)}
-        matches = [(DOCUMENT, other) for other in others if keys & foreign_keys(other, foreign)]
+        keys = keys_of(row)
+        matches = [(DOCUMENT, other) for other in others if keys & others_keys(other)]
         return with_field(row, target, (ARRAY, matches))
     return lambda rows, look: [joined(row, look(name)) for row in rows]
 

@@ -1,6 +1,5 @@
 """What a machine holds: collections, views and cursors."""
 import bisect
-from collections import namedtuple
 
 from model.cursors import Cursors
 from model.indexes import ON_ID
@@ -27,10 +26,6 @@ class Collection:
         self.documents[at:end] = [] if document is None else [document]
 
 
-# `reads` are the namespaces that a view reads, its source first; `functions` are its stages.
-View = namedtuple("View", "reads functions")
-
-
 class Store:
     """The collections and views by namespace, and the cursors."""
 
@@ -41,6 +36,7 @@ class Store:
         """The documents of a collection or a view; none under any other name."""
         if place in self.views:
             view = self.views[place]
+            self.refresh(place)
             return rows_of(view.functions, self.rows(view.reads[0]), self.looker(place))
         return list(self.collections[place].documents) if place in self.collections else []
 
@@ -48,6 +44,22 @@ class Store:
         """The rows under a collection's name in the database of a namespace."""
         return lambda name: self.rows(joined(place.split(b".")[0], name))
 
+    def placed(self, place):
+        """The documents of a collection at their positions; none under any other name."""
+        collection = self.collections.get(place, Collection())
+        return [((wanted,), document) for wanted, document in zip(collection.keys, collection.documents)]
+
+    def refresh(self, place):
+        """Makes a view anew, where it is stale."""
+        self.views[place].refresh(self.placed)
+
+    def empty(self, place):
+        """Takes the documents out of a collection, if one is there, in their order."""
+        self.change(place, [(*position, None) for position, _ in self.placed(place)])
+
     def change(self, place, changes):
+        """Makes the changes of a collection, each of which the views that read it count."""
         for wanted, document in changes:
+            for view in self.views.values():
+                view.take(place, ((wanted,), document), self.placed)
             self.collections.setdefault(place, Collection()).change(wanted, document)

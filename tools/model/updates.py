@@ -3,11 +3,15 @@
 Of the changes of one update the first refusal in the order of its paths is told, then that `_id` is another one, then
 that the result is too large, then that it is too deep.
 """
+import sys
+
 from model.filters import element_test_of
 from model.paths import MISSING, changed_at, components_of, field_of, is_whole_number, put, removed, slot
 from model.refusals import (BAD_VALUE, CONFLICT, FAILED_TO_PARSE, IMMUTABLE_FIELD, Refusal, TOO_LARGE, TYPE_MISMATCH)
 from model.values import (ARRAY, DOCUMENT, INT32, INT64, MOST_BYTES, MOST_LEVELS, NUMBERS, begins_with_operator, is_storable,
                           key, levels, size)
+
+sys.setrecursionlimit(100_000)  # a path of thousands of components makes as many levels, before they are too many
 
 
 def is_replacement(fields):

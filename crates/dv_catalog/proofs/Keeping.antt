@@ -20,7 +20,7 @@ use Rattle.dv_fields.specs.declared.refusal.Refusal.{Refusal}
 use Rattle.dv_fields.specs.declared.refusal.Refusal.TheVariants.{DuplicateKey}
 use Rattle.dv_catalog.specs.State.{AreOrdered, Collection, Namespaces, Standing, ViewForm, collection, collection_at, collection_of, documents_of, is_collection, is_view, lists_of}
 use Rattle.dv_catalog.specs.StateLaws.{get-insert}
-use Rattle.dv_catalog.specs.Told.{told}
+use Rattle.dv_catalog.specs.Told.{AreTold, told}
 use Rattle.dv_catalog.specs.Views.{reads_name}
 
 -- ---- views and their forms
@@ -95,10 +95,6 @@ MadeAsTold = (documents : List (List Field)) (changes : List Change) → AreOrde
 
 abbrev pub UnreadIsNoMatter : Type 0
 UnreadIsNoMatter = (registry : Views) (lists others : Lists) → ((name : List ℕ) → views.reads_name registry name ≡ true → lists name ≡ others name) → AreRight lists registry → AreRight others registry
-
--- the changes as they are told to views, or nothing, where no view reads the namespace
-abbrev pub AreTold : List ℕ → Views → List Change → List flow.Change → Type 0
-AreTold namespace registry changes tell = (tell ≡ map told changes) ⊎ ((tell ≡ []) × (views.reads_name registry namespace ≡ false))
 
 -- the front of what is told is told of the first changes
 pub told_first : (n : ℕ) (namespace : List ℕ) (registry : Views) (changes : List Change) (tell : List flow.Change) → AreTold namespace registry changes tell → AreTold namespace registry (take n changes) (take n tell)

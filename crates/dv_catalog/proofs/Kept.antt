@@ -15,13 +15,15 @@ use Rattle.dv_views.specs.Views.{AreRight, IsRefusedFor, Views, fault_of_new, ha
 use Rattle.dv_views.specs.declared.fault.ViewFault.{ViewFault}
 use Rattle.dv_catalog.specs.CatalogParts.{IsKept, form_of, is_stale, rows_kept, state_of, view_refusal}
 use Rattle.dv_catalog.specs.Changes.{Change, gone, with_changes}
+use Rattle.dv_catalog.specs.Marks.{all_gone}
 use Rattle.dv_catalog.specs.SourceParts.{AreFor}
 use Rattle.dv_catalog.specs.State.{AreOrdered, Namespaces, Standing, State, collection_at, collection_of, documents_of, is_collection, is_there, is_view, lists_of, rows_of, with_documents}
 use Rattle.dv_catalog.specs.StateLaws.{get-remove}
+use Rattle.dv_catalog.specs.Told.{AreTold}
 use Rattle.dv_catalog.specs.Views as creating
 use Rattle.dv_catalog.specs.Views.{aggregated, created, dropped, looks_into_view, with_view, with_views}
 use Rattle.dv_catalog.proofs.Deleted.{NoLongerFound, all_go, all_go_placed}
-use Rattle.dv_catalog.proofs.Keeping.{AreTold, MadeAsTold, StaysRight, UnreadIsNoMatter, all_able, kept_after, kept_same_documents, view_forms}
+use Rattle.dv_catalog.proofs.Keeping.{MadeAsTold, StaysRight, UnreadIsNoMatter, all_able, kept_after, kept_same_documents, view_forms}
 use Rattle.dv_catalog.proofs.Keys.{before_ascending}
 use Rattle.dv_catalog.proofs.Making.{aggregates, form, kept_new, less_state, new_state, no_fault, result_of, same_state, view_fault, which_fault}
 use Rattle.dv_catalog.proofs.Refreshed.{Agreeing, KeptAgreeing, over_sources, rows_shown_are}
@@ -94,11 +96,8 @@ still_there : (b : Bool) (there : Option Standing) → is_some (cond b None ther
 still_there true there is = absurd cc
 still_there false there is = is
 
-abbrev pub all_going : List (List Field) → List Change
-all_going documents = map (λ d. gone (id_key d)) documents
-
 module _ (made : MadeAsTold) (unread : UnreadIsNoMatter) (law : NoLongerFound) (old : Namespaces) (before after : Views) (name : List ℕ) (tell : List flow.Change) where
-  documents_gone : AreOrdered (documents_of name old) → (n : List ℕ) → documents_of n (finite.remove old name) ≡ cond (bytes_eq name n) (with_changes (documents_of name old) (all_going (documents_of name old))) (documents_of n old)
+  documents_gone : AreOrdered (documents_of name old) → (n : List ℕ) → documents_of n (finite.remove old name) ≡ cond (bytes_eq name n) (with_changes (documents_of name old) (all_gone (documents_of name old))) (documents_of n old)
   documents_gone ordered n =
       let all = all_go (documents_of name old) (before_ascending (documents_of name old) ordered.0) in
       ap (λ (there : Option Standing). (collection_at there).documents) (get-remove old name n)
@@ -109,11 +108,11 @@ module _ (made : MadeAsTold) (unread : UnreadIsNoMatter) (law : NoLongerFound) (
   not_a_view kept there true view = absurd (cc (kept.apart name view, there))
   not_a_view kept there false view = refl
 
-  pub kept_without : IsKept old before → AreOrdered (documents_of name old) → is_collection name old ≡ true → AreTold name before (all_going (documents_of name old)) tell → StaysRight name tell before after → AreAfterChange name before after
+  pub kept_without : IsKept old before → AreOrdered (documents_of name old) → is_collection name old ≡ true → AreTold name before (all_gone (documents_of name old)) tell → StaysRight name tell before after → AreAfterChange name before after
       → IsKept (finite.remove old name) after
   kept_without kept ordered there are right others =
-      let able = all_able (documents_of name old) (all_going (documents_of name old)) (all_go_placed law (documents_of name old) (before_ascending (documents_of name old) ordered.0)) in
-      kept_after made unread old (finite.remove old name) before after name (all_going (documents_of name old)) tell kept ordered able (documents_gone ordered) are right others (not_a_view kept there (is_view name (map form_of before)) refl)
+      let able = all_able (documents_of name old) (all_gone (documents_of name old)) (all_go_placed law (documents_of name old) (before_ascending (documents_of name old) ordered.0)) in
+      kept_after made unread old (finite.remove old name) before after name (all_gone (documents_of name old)) tell kept ordered able (documents_gone ordered) are right others (not_a_view kept there (is_view name (map form_of before)) refl)
       (λ n e. inr (still_there (bytes_eq name n) (finite.get old n) (ap is_some (sym (get-remove old name n)) ∙ e)))
 
 -- ---- rows that are read

@@ -11,6 +11,8 @@ mod Order
 pub mod ToldChanges
 mod Keeping
 mod Refreshed
+mod Marking
+mod StatsTold
 mod Sourced
 mod Making
 mod Kept

@@ -128,7 +128,7 @@ pub form_named : (name : List ℕ) (vs : Views) → states.view_named name (map 
 form_named name [] = refl
 form_named name (v ∷ vs) = ap (λ (there : Option ViewForm). if bytes_eq name v.name then Some (form_of v) else there) (form_named name vs) ∙ named_form (bytes_eq name v.name) v (view_named name vs)
 
-right_named : (name : List ℕ) (lists : Lists) (vs : Views) → AreRight lists vs → (v : View) → view_named name vs ≡ Some v → IsRight lists v
+pub right_named : (name : List ℕ) (lists : Lists) (vs : Views) → AreRight lists vs → (v : View) → view_named name vs ≡ Some v → IsRight lists v
 right_named name lists [] right v is = absurd cc
 right_named name lists (w ∷ vs) right v is = by_name (right_named name lists vs right.1 v) (has_name name w) is
   where

@@ -7,6 +7,7 @@ use Rattle.dv_views.specs.declared.fault.ViewFault.{ViewFault}
 use Rattle.dv_views.specs.declared.fault.ViewFault.TheVariants.{Exists, NoMemory}
 use Rattle.dv_views.specs.declared.fault.ViewFault.TheVariants as faults
 use Rattle.dv_views.specs.Views as views
+use Rattle.dv_catalog.specs.Marks.{Mark, Marked, live, stale}
 use Rattle.dv_catalog.specs.State.{Namespaces, State, ViewForm, documents_of, is_collection, is_view, lists_of}
 
 -- a view but for its mark
@@ -27,6 +28,17 @@ is_stale name registry = is_stale_view (views.view_named name registry)
 
 abbrev pub state_of : Namespaces → views.Views → State
 state_of namespaces registry = record { namespaces = namespaces; views = map form_of registry }
+
+-- how a view stands
+abbrev pub mark_of : views.Mark → Mark
+mark_of (views.live kept) = live kept.ticks
+mark_of views.stale = stale
+
+abbrev pub marks_of : views.Views → List Mark
+marks_of registry = map (λ v. mark_of v.mark) registry
+
+abbrev pub marked_of : Namespaces → views.Views → Marked
+marked_of namespaces registry = record { state = state_of namespaces registry; marks = marks_of registry }
 
 -- each live view has the rows of its pipeline over the collections' documents; no view stands under a collection's name
 pub record IsKept (namespaces : Namespaces) (registry : views.Views) : Type 0 where

@@ -4,6 +4,8 @@ pub mod Scan
 pub mod Effects
 pub mod Views
 pub mod IndexMaking
+pub mod Told
+pub mod Marks
 -- words that only bodies need
 pub mod StateCode
 pub mod View
@@ -14,8 +16,8 @@ pub mod ComingParts
 pub mod EffectView
 pub mod RowsView
 pub mod SearchedView
+pub mod StatsView
 pub mod SourceParts
-pub mod Told
 pub mod CatalogParts
 -- facts that a crate above may cite
 pub mod StateLaws

@@ -4,7 +4,8 @@ use Rattle.dv_fields.specs.declared.refusal.Refusal.{Refusal}
 use Rattle.dv_fields.specs.declared.refusal.Refusal.TheVariants.{WantOfMemory}
 use Rattle.dv_catalog.specs.declared.counted.Counted.{Counted}
 use Rattle.dv_catalog.specs.declared.stopped.Stopped.{Stopped}
-use Rattle.dv_catalog.specs.State.{Namespaces, documents_of}
+use Rattle.dv_catalog.specs.State.{Namespaces, documents_of, lists_of}
+use Rattle.dv_catalog.specs.Marks.{AreMarkedBy, Marked, Marks, marks_read}
 use Rattle.dv_catalog.specs.Changes.{Change, Effect, Statement, apply, changes_of}
 
 -- a statement that is refused changes nothing
@@ -38,3 +39,28 @@ one = record { matched = 1; changed = 1 }
 abbrev pub Leaves : {S B : Type 0} → Result S Refusal → S → Result B Refusal → S → Type 0
 Leaves defined old (Ok x) new = defined ≡ Ok new
 Leaves defined old (Err refusal) new = ((defined ≡ Err refusal) ⊎ (refusal ≡ WantOfMemory)) × (new ≡ old)
+
+-- ---- how views stand
+
+-- the changes that a statement made: all of them, or the first so many, where it stopped
+abbrev pub changes_made : {B : Type 0} → Result Effect Refusal → Result B Stopped → List Change
+changes_made does (Ok x) = changes_of does
+changes_made does (Err stopped) = take stopped.done (changes_of does)
+
+-- behind what a statement does to the documents of a namespace
+abbrev pub StandBy : {B : Type 0} → List ℕ → Result Effect Refusal → Marked → Result B Stopped → Marks → Type 0
+StandBy namespace does old result after = AreMarkedBy namespace (changes_made does result) (lists_of old.state.namespaces) old.state.views old.marks after
+
+-- behind a statement on them
+abbrev pub StandBehind : {B : Type 0} → List ℕ → Statement → Marked → Result B Stopped → Marks → Type 0
+StandBehind namespace statement old result after = StandBy namespace (statement (documents_of namespace old.state.namespaces)) old result after
+
+-- behind what may be refused: so, where it is done, and else as they stood
+abbrev pub StandSo : {B E : Type 0} → (Marks → Type 0) → Marks → Result B E → Marks → Type 0
+StandSo So before (Ok x) after = So after
+StandSo So before (Err e) after = after ≡ before
+
+-- a reading, which may find no memory, changes nothing but that a stale view which is read is made anew
+abbrev pub Reads : {B E : Type 0} → List ℕ → Marked → Result B E → Marked → Type 0
+Reads namespace old (Ok x) new = new ≡ record old { marks = marks_read namespace old.state.views old.marks }
+Reads namespace old (Err e) new = (new ≡ old) ⊎ (new ≡ record old { marks = marks_read namespace old.state.views old.marks })

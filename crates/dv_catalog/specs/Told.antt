@@ -1,12 +1,17 @@
 -- Changes of a collection as views are told of them.
-use Rattle.std.specs.Prelude.{[], ◌∷◌}
+use Rattle.std.specs.Prelude.{◌≡◌, ◌⊎◌, ℕ, false, List, [], ◌∷◌, map}
 use Rattle.dv_change.specs.declared.change.Change as flow
 use Rattle.dv_change.specs.declared.change.Change.TheVariants.{Put, Gone}
 use Rattle.dv_change.specs.declared.position.Part.TheVariants.{Up}
 use Rattle.dv_coll.specs.Collection.{id_key}
+use Rattle.dv_views.specs.Views as views
 use Rattle.dv_catalog.specs.Changes.{Change, put, gone}
 
 -- a document stands under the key of its `_id`
 abbrev pub told : Change → flow.Change
 told (put d) = Put (Up (id_key d) ∷ []) d
 told (gone k) = Gone (Up k ∷ [])
+
+-- changes of a namespace, told to views; or nothing is told, where no view reads the namespace
+abbrev pub AreTold : List ℕ → views.Views → List Change → List flow.Change → Type 0
+AreTold namespace registry changes tell = (tell ≡ map told changes) ⊎ ((tell ≡ []) × (views.reads_name registry namespace ≡ false))

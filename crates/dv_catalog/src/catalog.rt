@@ -13,8 +13,9 @@ use crate::laws::told_changes_are_made;
 use crate::scan::scan;
 use crate::searched::searched_in;
 use crate::sources::{references, sources_of};
+use crate::stats::{Stats, is_live};
 use crate::stopped::Stopped;
-use crate::told::{each_gone, one_put, told};
+use crate::told::{all_told_gone, one_told, told};
 use crate::update::updated;
 use crate::upkeep::{looks_into_view, refresh, rows_in};
 use dv_bson::{Document, NoMemory};
@@ -33,7 +34,7 @@ const NOTHING: Counted = Counted {
 };
 
 /// Collections, and views over them in the order in which they were made. Each view that isn't stale keeps the rows of
-/// its pipeline over the documents of the collections, as they are at this moment.
+/// its pipeline over the documents of the collections, as they are at this moment, and counts the work that changes took.
 #[derive(Debug, Drop)]
 pub struct Catalog {
     alloc: Global,
@@ -42,21 +43,22 @@ pub struct Catalog {
 }
 
 impl Model for Catalog {
-    ghost use Rattle.dv_catalog.specs.State.{State};
-    ghost use Rattle.dv_catalog.specs.StateCode.{coded_state};
-    ghost use Rattle.dv_catalog.specs.CatalogParts.{IsKept, state_of};
+    ghost use Rattle.dv_catalog.specs.Marks.{Marked};
+    ghost use Rattle.dv_catalog.specs.StateCode.{coded_marked};
+    ghost use Rattle.dv_catalog.specs.CatalogParts.{IsKept, marked_of};
 
-    ghost Value = { State };
+    ghost Value = { Marked };
 
-    ghost coded = { coded_state };
+    ghost coded = { coded_marked };
 
-    ghost view = { λ c. state_of c.collections c.views };
+    ghost view = { λ c. marked_of c.collections c.views };
 
     ghost invariant = { λ c. IsKept c.collections c.views };
 }
 
 impl Catalog {
     ghost use Rattle.std.specs.FinMap as finite;
+    ghost use Rattle.std.specs.Option.{option_map};
     ghost use Rattle.std.specs.Prelude.{◌≡◌, ◌≤◌, true, false, map, take, Ok, Some, IfOk, OnOk, OnErr, length};
     ghost use Rattle.dv_coll.specs.Collection.{HasId};
     ghost use Rattle.dv_fields.specs.Refusals.{UnlessWanting};
@@ -66,15 +68,17 @@ impl Catalog {
     ghost use Rattle.dv_catalog.specs.EffectView.{ArePlaced, StandsFor, changes_seen, effect_seen};
     ghost use Rattle.dv_catalog.specs.IndexMaking as indexing;
     ghost use Rattle.dv_catalog.specs.IndexParts.{explained_seen};
-    ghost use Rattle.dv_catalog.specs.Parts.{Leaves, Makes, MakesSo, one};
+    ghost use Rattle.dv_catalog.specs.Marks.{AreMarkedBy, AreMarkedByDrop, all_gone, marks_made, nothing_marked, stats_of};
+    ghost use Rattle.dv_catalog.specs.Parts.{Leaves, Makes, MakesSo, Reads, StandBehind, StandBy, StandSo, one};
+    ghost use Rattle.dv_catalog.specs.StatsView.{stats_seen};
     ghost use Rattle.dv_catalog.specs.Scan as scans;
-    ghost use Rattle.dv_catalog.specs.State.{AreOrdered, documents_of, empty_state, indexes_of, is_collection, is_there, is_view, rows_of};
+    ghost use Rattle.dv_catalog.specs.State.{AreOrdered, documents_of, indexes_of, is_collection, is_there, is_view, lists_of, rows_of};
     ghost use Rattle.dv_index.specs.View.{form_of_new};
     ghost use Rattle.dv_catalog.specs.Views as making;
 
     /// Nothing.
     pub fn new(alloc: Global) -> Self
-        ensures { result ≡ empty_state }
+        ensures { result ≡ nothing_marked }
     {
         Catalog {
             alloc,
@@ -85,7 +89,7 @@ impl Catalog {
 
     /// Whether a view stands under the namespace. Takes no memory.
     pub fn is_view(&self, namespace: &str) -> bool
-        ensures { result ≡ is_view namespace.now self.now.views }
+        ensures { result ≡ is_view namespace.now self.now.state.views }
     {
         self.views.has(namespace)
     }
@@ -95,18 +99,16 @@ impl Catalog {
     /// collection is made.
     pub fn insert(&mut self, namespace: &str, document: Document) -> Result<(), Stopped>
         requires identified { HasId document }
-        requires collection { is_view namespace.now self.old.views ≡ false }
-        ensures made { Makes (λ _. one) namespace.now (effects.put_new document) self.old.namespaces result self.new.namespaces }
-        ensures views { self.new.views ≡ self.old.views }
+        requires collection { is_view namespace.now self.old.state.views ≡ false }
+        ensures made { Makes (λ _. one) namespace.now (effects.put_new document) self.old.state.namespaces result self.new.state.namespaces }
+        ensures views { self.new.state.views ≡ self.old.state.views }
+        ensures marks { StandBehind namespace.now (effects.put_new document) self.old result self.new.marks }
     {
         // Behind the change nothing may want memory.
-        let told = if self.views.is_read(namespace) {
-            one_put(self.alloc, &document)?
-        } else {
-            Vec::new(self.alloc)
-        };
+        let told = one_told(self.alloc, &self.views, namespace, &document)?;
         told_changes_are_made();
         dv_views::laws::what_is_not_read_does_not_matter();
+        dv_views::laws::what_is_not_read_is_not_counted();
         self.collections.ordered(namespace);
         self.collections.insert(namespace, document)?;
         self.views.apply(namespace, &told);
@@ -116,9 +118,10 @@ impl Catalog {
     /// Updates the documents of a namespace that an updating is for. Refused as the first of them is; then nothing is
     /// changed. Where memory is wanting, the first so many changes, not all of them, are made.
     pub fn update(&mut self, namespace: &str, updating: &Updating) -> Result<Counted, Stopped>
-        requires { is_view namespace.now self.old.views ≡ false }
-        ensures made { Makes (λ counted. counted) namespace.now (effects.update_chosen (updating_seen updating.now)) self.old.namespaces result self.new.namespaces }
-        ensures views { self.new.views ≡ self.old.views }
+        requires { is_view namespace.now self.old.state.views ≡ false }
+        ensures made { Makes (λ counted. counted) namespace.now (effects.update_chosen (updating_seen updating.now)) self.old.state.namespaces result self.new.state.namespaces }
+        ensures views { self.new.state.views ≡ self.old.state.views }
+        ensures marks { StandBehind namespace.now (effects.update_chosen (updating_seen updating.now)) self.old result self.new.marks }
     {
         // Views share the documents of which they are told.
         let whole = self.views.is_read(namespace);
@@ -132,9 +135,10 @@ impl Catalog {
     /// Takes out the documents of a namespace that a deletion is for. Where memory is wanting, the first so many, not all of
     /// them, are taken out.
     pub fn delete(&mut self, namespace: &str, deletion: &Deletion) -> Result<Counted, Stopped>
-        requires { is_view namespace.now self.old.views ≡ false }
-        ensures made { Makes (λ counted. counted) namespace.now (effects.delete_chosen (deletion_seen deletion.now)) self.old.namespaces result self.new.namespaces }
-        ensures views { self.new.views ≡ self.old.views }
+        requires { is_view namespace.now self.old.state.views ≡ false }
+        ensures made { Makes (λ counted. counted) namespace.now (effects.delete_chosen (deletion_seen deletion.now)) self.old.state.namespaces result self.new.state.namespaces }
+        ensures views { self.new.state.views ≡ self.old.state.views }
+        ensures marks { StandBehind namespace.now (effects.delete_chosen (deletion_seen deletion.now)) self.old result self.new.marks }
     {
         let effect = match self.collections.get(namespace) {
             Some(collection) => deleted(self.alloc, collection, deletion)?,
@@ -146,12 +150,13 @@ impl Catalog {
     /// Makes the changes of an effect, one after the other, tells the views of them, and answers what the statement is
     /// counted for. Where memory is wanting, the first so many, not all of them, are made, and the views are told of these.
     fn carry_out(&mut self, namespace: &str, effect: Effect) -> Result<Counted, Stopped>
-        requires collection { is_view namespace.now self.old.views ≡ false }
-        requires ordered { AreOrdered (documents_of namespace.now self.old.namespaces) }
-        requires placed { ArePlaced (documents_of namespace.now self.old.namespaces) (changes_seen effect.changes) }
-        requires standing { StandsFor (documents_of namespace.now self.old.namespaces) effect.changes }
-        ensures made { MakesSo (λ counted. counted) namespace.now (Ok (effect_seen effect)) self.old.namespaces result self.new.namespaces }
-        ensures views { self.new.views ≡ self.old.views }
+        requires collection { is_view namespace.now self.old.state.views ≡ false }
+        requires ordered { AreOrdered (documents_of namespace.now self.old.state.namespaces) }
+        requires placed { ArePlaced (documents_of namespace.now self.old.state.namespaces) (changes_seen effect.changes) }
+        requires standing { StandsFor (documents_of namespace.now self.old.state.namespaces) effect.changes }
+        ensures made { MakesSo (λ counted. counted) namespace.now (Ok (effect_seen effect)) self.old.state.namespaces result self.new.state.namespaces }
+        ensures views { self.new.state.views ≡ self.old.state.views }
+        ensures marks { StandBy namespace.now (Ok (effect_seen effect)) self.old result self.new.marks }
     {
         let Effect { matched, changes } = effect;
         let changed = changes.len();
@@ -168,23 +173,21 @@ impl Catalog {
     /// Makes changes, one after the other, until memory is wanting, tells the views of those that were made, and answers how
     /// many these are. Fails where memory is wanting before the first; then nothing is changed.
     fn make(&mut self, namespace: &str, changes: Changes) -> Result<usize, NoMemory>
-        requires collection { is_view namespace.now self.old.views ≡ false }
-        requires ordered { AreOrdered (documents_of namespace.now self.old.namespaces) }
-        requires placed { ArePlaced (documents_of namespace.now self.old.namespaces) (changes_seen changes) }
-        requires standing { StandsFor (documents_of namespace.now self.old.namespaces) changes }
+        requires collection { is_view namespace.now self.old.state.views ≡ false }
+        requires ordered { AreOrdered (documents_of namespace.now self.old.state.namespaces) }
+        requires placed { ArePlaced (documents_of namespace.now self.old.state.namespaces) (changes_seen changes) }
+        requires standing { StandsFor (documents_of namespace.now self.old.state.namespaces) changes }
         ensures count { IfOk result (λ done. done ≤ length (changes_seen changes)) }
-        ensures made { IfOk result (λ done. self.new.namespaces ≡ apply namespace.now (take done (changes_seen changes)) self.old.namespaces) }
+        ensures made { IfOk result (λ done. self.new.state.namespaces ≡ apply namespace.now (take done (changes_seen changes)) self.old.state.namespaces) }
         ensures kept { OnErr result (self.new ≡ self.old) }
-        ensures views { self.new.views ≡ self.old.views }
+        ensures views { self.new.state.views ≡ self.old.state.views }
+        ensures marks { IfOk result (λ done. AreMarkedBy namespace.now (take done (changes_seen changes)) (lists_of self.old.state.namespaces) self.old.state.views self.old.marks self.new.marks) }
     {
         // Behind the first change nothing but another one may want memory.
-        let mut told = if self.views.is_read(namespace) {
-            told(self.alloc, &changes)?
-        } else {
-            Vec::new(self.alloc)
-        };
+        let mut told = told(self.alloc, &self.views, namespace, &changes)?;
         told_changes_are_made();
         dv_views::laws::what_is_not_read_does_not_matter();
+        dv_views::laws::what_is_not_read_is_not_counted();
         let done = self.collections.make(namespace, changes);
         told.truncate(done);
         self.views.apply(namespace, &told);
@@ -194,9 +197,9 @@ impl Catalog {
     /// The rows under a namespace that a find is for, in its order. A stale view is rebuilt first. Fails where memory is
     /// wanting.
     pub fn find(&mut self, find: &Find) -> Result<Vec<Document>, NoMemory>
-        ensures same { self.new ≡ self.old }
         ensures rows { let asked = find_seen find.now in
-            IfOk result (λ rows. rows.items ≡ scans.scan asked.filter asked.sort asked.skip asked.limit (rows_of asked.namespace self.old)) }
+            IfOk result (λ rows. rows.items ≡ scans.scan asked.filter asked.sort asked.skip asked.limit (rows_of asked.namespace self.old.state)) }
+        ensures marks { Reads (find_seen find.now).namespace self.old result self.new }
     {
         refresh(
             self.alloc,
@@ -214,8 +217,8 @@ impl Catalog {
     /// How the rows under a namespace that match a filter are found, and how many are looked at. A stale view is rebuilt
     /// first. Fails where memory is wanting.
     pub fn explain(&mut self, namespace: &str, filter: &Filter) -> Result<Explained, NoMemory>
-        ensures same { self.new ≡ self.old }
-        ensures explained { IfOk result (λ told. explained_seen told ≡ indexing.explained namespace.now filter.now self.old) }
+        ensures explained { IfOk result (λ told. explained_seen told ≡ indexing.explained namespace.now filter.now self.old.state) }
+        ensures marks { Reads namespace.now self.old result self.new }
     {
         refresh(self.alloc, &self.collections, &mut self.views, namespace)?;
         if let Some(rows) = self.views.rows(namespace) {
@@ -227,9 +230,11 @@ impl Catalog {
     /// The rows of a pipeline over what stands under a namespace. A stale view is rebuilt first. Refused with `OnView`
     /// where the pipeline looks into a view, and where memory is wanting.
     pub fn aggregate(&mut self, aggregate: &Aggregate) -> Result<Vec<Document>, Refusal>
-        ensures same { self.new ≡ self.old }
         ensures rows { let asked = aggregate_seen aggregate.now in
-            UnlessWanting (λ rows. rows.items) (making.aggregated asked.stages asked.namespace self.old) result }
+            UnlessWanting (λ rows. rows.items) (making.aggregated asked.stages asked.namespace self.old.state) result }
+        ensures marks { Reads (aggregate_seen aggregate.now).namespace self.old result self.new }
+        ensures refused { let asked = aggregate_seen aggregate.now in
+            making.looks_into_view asked.stages asked.namespace self.old.state.views ≡ true → self.new ≡ self.old }
     {
         let Aggregate {
             namespace,
@@ -249,12 +254,27 @@ impl Catalog {
         Ok(evaluate(self.alloc, pipeline, namespace, &sources)?)
     }
 
+    /// How the view of a namespace stands; none where no view stands there. A stale view is left so. Takes no memory.
+    pub fn stats(&self, namespace: &str) -> Option<Stats>
+        ensures { option_map stats_seen result ≡ stats_of namespace.now self.now }
+    {
+        let state = self.views.state(namespace)?;
+        let rows = self.views.row_count(namespace)?;
+        let ticks = self.views.ticks(namespace)?;
+        Some(Stats {
+            is_live: is_live(state),
+            rows,
+            ticks,
+        })
+    }
+
     /// Makes a collection without documents, or a view, which has its rows from then on. Refused with `NamespaceExists`
     /// where something stands under the namespace; then, for a view, with `OnView` where it would read a view, with
     /// `ReadByView` where a view reads the namespace or it would read itself, and with `LimitReached` where there are
     /// 1,000 views; and with `WantOfMemory`. Then nothing is changed.
     pub fn create(&mut self, create: Create) -> Result<(), Refusal>
-        ensures { let asked = create_seen create in Leaves (making.created asked.namespace asked.view self.old) self.old result self.new }
+        ensures made { let asked = create_seen create in Leaves (making.created asked.namespace asked.view self.old.state) self.old.state result self.new.state }
+        ensures marks { let asked = create_seen create in StandSo (λ marks. marks ≡ marks_made asked.view self.old.marks) self.old.marks result self.new.marks }
     {
         let Create { namespace, view } = create;
         if self.collections.has(&namespace) || self.views.has(&namespace) {
@@ -271,8 +291,9 @@ impl Catalog {
 
     /// Makes a view under a namespace where nothing stands, as `create` does.
     fn create_view(&mut self, namespace: &str, view: ViewOn) -> Result<(), Refusal>
-        requires { is_there namespace.now self.old ≡ false }
-        ensures { Leaves (making.made namespace.now (Some (view_on_seen view)) self.old) self.old result self.new }
+        requires { is_there namespace.now self.old.state ≡ false }
+        ensures made { Leaves (making.made namespace.now (Some (view_on_seen view)) self.old.state) self.old.state result self.new.state }
+        ensures marks { StandSo (λ marks. marks ≡ marks_made (Some (view_on_seen view)) self.old.marks) self.old.marks result self.new.marks }
     {
         let ViewOn { source, pipeline } = view;
         dv_views::laws::what_is_not_read_is_not_kept();
@@ -289,7 +310,8 @@ impl Catalog {
     /// view. Refused with `NamespaceNotFound` where nothing stands there, and with `WantOfMemory`; then nothing is
     /// changed.
     pub fn remove(&mut self, namespace: &str) -> Result<(), Refusal>
-        ensures { Leaves (making.dropped namespace.now self.old) self.old result self.new }
+        ensures made { Leaves (making.dropped namespace.now self.old.state) self.old.state result self.new.state }
+        ensures marks { StandSo (AreMarkedByDrop namespace.now self.old.state self.old.marks) self.old.marks result self.new.marks }
     {
         if self.collections.has(namespace) {
             return Ok(self.remove_collection(namespace)?);
@@ -303,18 +325,17 @@ impl Catalog {
 
     /// Takes out the collection of a namespace, which is there. Fails where memory is wanting; then nothing is changed.
     fn remove_collection(&mut self, namespace: &str) -> Result<(), NoMemory>
-        requires { is_collection namespace.now self.old.namespaces ≡ true }
-        ensures ok { OnOk result (self.new ≡ record self.old { namespaces = finite.remove self.old.namespaces namespace.now }) }
+        requires { is_collection namespace.now self.old.state.namespaces ≡ true }
+        ensures ok { OnOk result (self.new.state ≡ record self.old.state { namespaces = finite.remove self.old.state.namespaces namespace.now }) }
         ensures err { OnErr result (self.new ≡ self.old) }
+        ensures marks { OnOk result (AreMarkedBy namespace.now (all_gone (documents_of namespace.now self.old.state.namespaces)) (lists_of self.old.state.namespaces) self.old.state.views self.old.marks self.new.marks) }
     {
         // Behind the change nothing may want memory.
-        let told = if self.views.is_read(namespace) {
-            each_gone(self.alloc, self.collections.rows(namespace))?
-        } else {
-            Vec::new(self.alloc)
-        };
+        let gone = self.collections.rows(namespace);
+        let told = all_told_gone(self.alloc, &self.views, namespace, gone)?;
         told_changes_are_made();
         dv_views::laws::what_is_not_read_does_not_matter();
+        dv_views::laws::what_is_not_read_is_not_counted();
         dv_coll::laws::removed_document_is_not_found();
         self.collections.ordered(namespace);
         self.collections.remove(namespace);
@@ -331,8 +352,9 @@ impl Catalog {
         namespace: &str,
         entries: Vec<NewIndex>,
     ) -> Result<IndexCounts, Refusal>
-        ensures made { Leaves (indexing.indexes_created namespace.now (map form_of_new entries.items) self.old) self.old result self.new }
-        ensures counts { IfOk result (λ counts. counts ≡ record { before = length (indexes_of namespace.now self.old.namespaces); after = length (indexes_of namespace.now self.new.namespaces) }) }
+        ensures made { Leaves (indexing.indexes_created namespace.now (map form_of_new entries.items) self.old.state) self.old.state result self.new.state }
+        ensures marks { self.new.marks ≡ self.old.marks }
+        ensures counts { IfOk result (λ counts. counts ≡ record { before = length (indexes_of namespace.now self.old.state.namespaces); after = length (indexes_of namespace.now self.new.state.namespaces) }) }
     {
         if self.views.has(namespace) {
             return Err(Refusal::OnView);
@@ -345,8 +367,9 @@ impl Catalog {
     /// Refused with `OnView` on a view, with `NamespaceNotFound` where nothing stands there, with `BadValue` for the index on
     /// `_id`, and with `IndexNotFound` where there is none of the name; then nothing is changed. Takes no memory.
     pub fn drop_indexes(&mut self, namespace: &str, name: &str) -> Result<usize, Refusal>
-        ensures made { Leaves (indexing.indexes_dropped namespace.now name.now self.old) self.old result self.new }
-        ensures count { IfOk result (λ count. count ≡ length (indexes_of namespace.now self.old.namespaces)) }
+        ensures made { Leaves (indexing.indexes_dropped namespace.now name.now self.old.state) self.old.state result self.new.state }
+        ensures marks { self.new.marks ≡ self.old.marks }
+        ensures count { IfOk result (λ count. count ≡ length (indexes_of namespace.now self.old.state.namespaces)) }
     {
         if self.views.has(namespace) {
             return Err(Refusal::OnView);

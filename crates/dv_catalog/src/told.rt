@@ -5,6 +5,7 @@ ghost use Rattle.std.specs.List.{AllByRecursion};
 ghost use Rattle.dv_coll.specs.Collection.{HasId, id_key};
 ghost use Rattle.dv_catalog.specs.Changes as changing;
 ghost use Rattle.dv_catalog.specs.EffectView.{BeginsWithId, after_of, changes_seen};
+ghost use Rattle.dv_catalog.specs.Marks.{all_gone};
 ghost use Rattle.dv_catalog.specs.Told as defined;
 
 use crate::effect::{Changes, Updated, Updates};
@@ -13,14 +14,22 @@ use dv_bson::{Document, NoMemory};
 use dv_change::Change;
 use dv_order::Key;
 use dv_update::Outcome;
-use dv_views::{document_gone, document_put, key_of_id};
+use dv_views::{Registry, document_gone, document_put, key_of_id};
 use std::alloc::Global;
 
-/// The changes as they are told to views. Fails where memory is wanting.
-pub(crate) fn told(alloc: Global, changes: &Changes) -> Result<Vec<Change>, NoMemory>
+/// The changes as they are told to views: nothing, where no view reads the namespace. Fails where memory is wanting.
+pub(crate) fn told(
+    alloc: Global,
+    views: &Registry,
+    namespace: &str,
+    changes: &Changes,
+) -> Result<Vec<Change>, NoMemory>
     requires { AllByRecursion BeginsWithId (changes_seen changes.now) }
-    ensures { IfOk result (λ all. all.items ≡ map defined.told (changes_seen changes.now)) }
+    ensures { IfOk result (λ all. defined.AreTold namespace.now views.now (changes_seen changes.now) all.items) }
 {
+    if !views.is_read(namespace) {
+        return Ok(Vec::new(alloc));
+    }
     match changes {
         Changes::Put(updates) => all_put(alloc, updates),
         Changes::Gone(keys) => all_gone(alloc, keys),
@@ -64,8 +73,24 @@ fn all_gone(alloc: Global, keys: &[Key]) -> Result<Vec<Change>, NoMemory>
     Ok(all)
 }
 
-/// Each of the documents goes. Fails where memory is wanting.
-pub(crate) fn each_gone(alloc: Global, documents: Rows<'_>) -> Result<Vec<Change>, NoMemory>
+/// That each of these documents goes, as it is told to views: nothing, where no view reads the namespace. Fails where memory
+/// is wanting.
+pub(crate) fn all_told_gone(
+    alloc: Global,
+    views: &Registry,
+    namespace: &str,
+    documents: Rows<'_>,
+) -> Result<Vec<Change>, NoMemory>
+    requires { AllByRecursion HasId documents }
+    ensures { IfOk result (λ all. defined.AreTold namespace.now views.now (all_gone documents.entry) all.items) }
+{
+    if !views.is_read(namespace) {
+        return Ok(Vec::new(alloc));
+    }
+    each_gone(alloc, documents)
+}
+
+fn each_gone(alloc: Global, documents: Rows<'_>) -> Result<Vec<Change>, NoMemory>
     requires { AllByRecursion HasId documents }
     ensures { IfOk result (λ all. all.items ≡ map defined.told (map (λ d. changing.gone (id_key d)) documents.entry)) }
 {
@@ -76,11 +101,20 @@ pub(crate) fn each_gone(alloc: Global, documents: Rows<'_>) -> Result<Vec<Change
     Ok(all)
 }
 
-/// A document is put. Fails where memory is wanting.
-pub(crate) fn one_put(alloc: Global, document: &Document) -> Result<Vec<Change>, NoMemory>
+/// That a document is put, as it is told to views: nothing, where no view reads the namespace. Fails where memory is
+/// wanting.
+pub(crate) fn one_told(
+    alloc: Global,
+    views: &Registry,
+    namespace: &str,
+    document: &Document,
+) -> Result<Vec<Change>, NoMemory>
     requires { HasId document.now }
-    ensures { IfOk result (λ all. all.items ≡ defined.told (changing.put document.now) ∷ []) }
+    ensures { IfOk result (λ all. defined.AreTold namespace.now views.now (changing.put document.now ∷ []) all.items) }
 {
+    if !views.is_read(namespace) {
+        return Ok(Vec::new(alloc));
+    }
     let mut all = Vec::with_capacity(alloc, 1)?;
     all.push(document_put(alloc, document)?)?;
     Ok(all)

@@ -1,8 +1,9 @@
 //! Views, kept over collections.
 
-ghost use Rattle.std.specs.Prelude.{◌≡◌, false, map, IfOk, OnOk};
+ghost use Rattle.std.specs.Prelude.{◌≡◌, false, map, IfOk, OnErr, OnOk};
 ghost use Rattle.dv_views.specs.Views as views;
-ghost use Rattle.dv_catalog.specs.CatalogParts.{form_of, is_stale, rows_kept};
+ghost use Rattle.dv_catalog.specs.CatalogParts.{form_of, is_stale, marks_of, rows_kept};
+ghost use Rattle.dv_catalog.specs.Marks.{marks_read};
 ghost use Rattle.dv_catalog.specs.State.{lists_of};
 ghost use Rattle.dv_catalog.specs.Views as making;
 
@@ -24,6 +25,8 @@ pub(crate) fn refresh(
     ensures right { views.AreRight (lists_of collections.now) registry.old → views.AreRight (lists_of collections.now) registry.new }
     ensures forms { map form_of registry.new ≡ map form_of registry.old }
     ensures fresh { OnOk result (is_stale name.now registry.new ≡ false) }
+    ensures marks { OnOk result (marks_of registry.new ≡ marks_read name.now (map form_of registry.old) (marks_of registry.old)) }
+    ensures err { OnErr result (registry.new ≡ registry.old) }
 {
     dv_views::laws::what_is_not_read_is_not_kept();
     // Most stores have no view.

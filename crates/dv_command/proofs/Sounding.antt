@@ -10,14 +10,14 @@ use Rattle.dv_bson.specs.Tree.{Tree, int32, int64, string, document, array, Fiel
 use Rattle.dv_update.specs.Parsing as updates
 use Rattle.dv_pipe.specs.StageParsing as pipelines
 use Rattle.dv_pipe.specs.declared.stage.Stage.{Stage}
-use Rattle.dv_command.specs.Asked.{Asked, Find, hello, ping, write, find, aggregate, get_more, kill_cursors, create, drop, create_indexes, drop_indexes, explain, command_named, asked_as, asked_under, hello_of, ping_of, write_of, find_of, find_in, aggregate_of, cursor_size, first_batch_size, get_more_of, kill_cursors_of, create_of, drop_of, create_indexes_of, drop_indexes_of, explain_of, explained, explained_by, ViewOn, ViewFields, view_fields, view_fields_in, view_of, looked_database, checked_database, check_count, statement_limit}
+use Rattle.dv_command.specs.Asked.{Asked, Find, hello, ping, write, find, aggregate, get_more, kill_cursors, create, drop, create_indexes, drop_indexes, explain, view_stats, command_named, asked_as, asked_under, hello_of, ping_of, write_of, find_of, find_in, aggregate_of, cursor_size, first_batch_size, get_more_of, kill_cursors_of, create_of, drop_of, create_indexes_of, drop_indexes_of, explain_of, view_stats_of, explained, explained_by, ViewOn, ViewFields, view_fields, view_fields_in, view_of, looked_database, checked_database, check_count, statement_limit}
 use Rattle.dv_command.specs.declared.asking.WriteKind.{WriteKind}
 use Rattle.dv_command.specs.declared.asking.WriteKind.TheVariants as writes
 use Rattle.dv_command.specs.declared.names.CommandName.{CommandName}
 use Rattle.dv_command.specs.declared.names.CommandName.TheVariants as names
 use Rattle.dv_fields.specs.Fields as reading
 use Rattle.dv_fields.specs.Fields.{Table, update_in, update_under, document_under, check_fields, first_name, text_in, document_in, array_in, integer_in, each_document, documents_in, required, text_under, array_under, boolean_under, integer_under, integers_under, natural_under}
-use Rattle.dv_command.specs.Tables.{updating_table, index_table, write_table, find_fields, find_table, aggregate_table, get_more_table, kill_cursors_table, create_table, drop_table, create_indexes_table, drop_indexes_table, explain_table}
+use Rattle.dv_command.specs.Tables.{updating_table, index_table, write_table, find_fields, find_table, aggregate_table, get_more_table, kill_cursors_table, create_table, drop_table, create_indexes_table, drop_indexes_table, explain_table, view_stats_table}
 use Rattle.dv_command.specs.Lists.{Lists, check_none, check_only, list_under, in_either, documents_under}
 use Rattle.dv_command.specs.Forms.{filter_under, sort_under, filter_of, pipeline_of}
 use Rattle.dv_command.specs.Forms as forms
@@ -429,6 +429,15 @@ module _ (adds : FieldsAdd) (body : List Field) (lists : Lists) (valid : AreFiel
       let made : Asked = explain (record { find = asked.given }) in
       subst IsAsked {x = made} (ends made a asked.rest_is) (find_valid db.given inside.given asked.given (database_sound db.given db.first_is) explained_fields asked.first_is)
 
+  view_stats_sound : (a : Asked) → view_stats_of body lists ≡ Ok a → IsAsked a
+  view_stats_sound a is =
+      let db = succeeds (checked_database view_stats_table body lists) _ a is in
+      let collection = succeeds (text_under (codes "viewStats") body) _ a db.rest_is in
+      let name = succeeds (namespace db.given collection.given) _ a collection.rest_is in
+      let asked : Asked = view_stats (record { namespace = name.given }) in
+      subst IsAsked {x = asked} (ends asked a name.rest_is)
+      (name_valid (codes "viewStats") db.given collection.given name.given (checked_valid view_stats_table db.given db.first_is) collection.first_is name.first_is)
+
   hello_sound : (a : Asked) → hello_of body ≡ Ok a → IsAsked a
   hello_sound a is = subst IsAsked (ends hello a (succeeds (database body) _ a is).rest_is) tt
 
@@ -451,6 +460,7 @@ module _ (adds : FieldsAdd) (body : List Field) (lists : Lists) (valid : AreFiel
   named_sound (Some names.CreateIndexes) a is = create_indexes_sound a is
   named_sound (Some names.DropIndexes) a is = drop_indexes_sound a is
   named_sound (Some names.Explain) a is = explain_sound a is
+  named_sound (Some names.ViewStats) a is = view_stats_sound a is
 
   pub asked_sound : (name : List ℕ) (a : Asked) → asked_under name body lists ≡ Ok a → IsAsked a
   asked_sound name a is = named_sound (command_named name) a is

@@ -19,7 +19,7 @@ use Rattle.dv_command.specs.declared.asking.WriteKind.{WriteKind}
 use Rattle.dv_command.specs.declared.asking.WriteKind.TheVariants as writes
 use Rattle.dv_command.specs.declared.names.CommandName.{CommandName}
 use Rattle.dv_command.specs.declared.names.CommandName.TheVariants as names
-use Rattle.dv_command.specs.Tables.{write_table, find_fields, find_table, aggregate_table, get_more_table, kill_cursors_table, create_table, drop_table, create_indexes_table, drop_indexes_table, explain_table}
+use Rattle.dv_command.specs.Tables.{write_table, find_fields, find_table, aggregate_table, get_more_table, kill_cursors_table, create_table, drop_table, create_indexes_table, drop_indexes_table, explain_table, view_stats_table}
 use Rattle.dv_command.specs.Lists.{Lists, check_none, check_only, documents_under}
 use Rattle.dv_command.specs.Forms.{filter_under, sort_under, pipeline_of}
 use Rattle.dv_command.specs.Entries.{IndexAsked, index_of}
@@ -87,6 +87,10 @@ pub record DropIndexes : Type 0 where
 pub record Explain : Type 0 where
   pub find : Find
 
+-- how the view of this namespace stands
+pub record ViewStats : Type 0 where
+  pub namespace : List ℕ
+
 pub data Asked : Type 0 where
   hello : Asked
   ping : Asked
@@ -100,6 +104,7 @@ pub data Asked : Type 0 where
   create_indexes : CreateIndexes → Asked
   drop_indexes : DropIndexes → Asked
   explain : Explain → Asked
+  view_stats : ViewStats → Asked
 
 -- how many rows come in a first batch where none says so
 abbrev pub first_batch_size : ℕ
@@ -273,6 +278,13 @@ explain_of body lists =
     find_in database_name inside >>= λ asked.
     Ok (explain (record { find = asked }))
 
+abbrev pub view_stats_of : List Field → Lists → Result Asked Refusal
+view_stats_of body lists =
+    checked_database view_stats_table body lists >>= λ database_name.
+    text_under (codes "viewStats") body >>= λ collection.
+    namespace database_name collection >>= λ name.
+    Ok (view_stats (record { namespace = name }))
+
 -- the command is the first name of the body
 abbrev pub command_name : List Field → List ℕ
 command_name body = first_name body
@@ -294,6 +306,7 @@ command_named text =
     else if bytes_eq text (codes "createIndexes") then Some names.CreateIndexes
     else if bytes_eq text (codes "dropIndexes") then Some names.DropIndexes
     else if bytes_eq text (codes "explain") then Some names.Explain
+    else if bytes_eq text (codes "viewStats") then Some names.ViewStats
     else None
 
 -- what the command of this name asks; of another name there is none
@@ -313,6 +326,7 @@ asked_as (Some names.Drop) body lists = drop_of body lists
 asked_as (Some names.CreateIndexes) body lists = create_indexes_of body lists
 asked_as (Some names.DropIndexes) body lists = drop_indexes_of body lists
 asked_as (Some names.Explain) body lists = explain_of body lists
+asked_as (Some names.ViewStats) body lists = view_stats_of body lists
 
 abbrev pub asked_under : List ℕ → List Field → Lists → Result Asked Refusal
 asked_under name body lists = asked_as (command_named name) body lists

@@ -1,6 +1,6 @@
 -- The documents of replies (MongoDB manual, "hello", "insert", "update", "delete", "find", "aggregate", "getMore", "killCursors", "drop", "createIndexes", "dropIndexes", "explain": their output). The codes from 900 on and what stands
--- beside them, and the versions of the wire, are this server's own.
-use Rattle.std.specs.Prelude.{ℕ, ◌^◌, ◌-◌, min, List, [], ◌∷◌, ◌++◌, Option, Some, None, pos, true, false, codes, nat_lt, if◌then◌else◌}
+-- beside them, the versions of the wire, and the reply to a viewStats are this server's own.
+use Rattle.std.specs.Prelude.{ℕ, ◌^◌, ◌-◌, min, Bool, List, [], ◌∷◌, ◌++◌, Option, Some, None, pos, true, false, codes, nat_lt, if◌then◌else◌}
 use Rattle.dv_bson.specs.Tree.{Tree, string, int32, int64, boolean, document, array, Field, fields_of, elements_of}
 use Rattle.dv_fields.specs.declared.refusal.Refusal.{Refusal}
 use Rattle.dv_fields.specs.declared.refusal.Refusal.TheVariants.{WantOfMemory}
@@ -95,3 +95,12 @@ index_field (Some name) = (codes "index", string name) ∷ []
 -- the reply to an explain: by which way the documents are found, by which index, and how many it covers
 abbrev pub explain_reply : List ℕ → Option (List ℕ) → ℕ → List Field
 explain_reply stage index documents = reply_of (((codes "stage", string stage) ∷ index_field index) ++ (codes "docs", long_count documents) ∷ [])
+
+-- how the state of a view is told, by whether it is live
+abbrev pub view_state : Bool → List ℕ
+view_state true = codes "live"
+view_state false = codes "stale"
+
+-- the reply to what asks how a view stands: its state, how many rows it has, and the count of the work that changes took
+abbrev pub view_stats_reply : Bool → ℕ → ℕ → List Field
+view_stats_reply is_live rows ticks = reply_of ((codes "state", string (view_state is_live)) ∷ (codes "rows", long_count rows) ∷ (codes "ticks", long_count ticks) ∷ [])

@@ -8,7 +8,7 @@ use Rattle.dv_update.specs.Update.{Update}
 use Rattle.dv_update.specs.Parsing as updates
 use Rattle.dv_pipe.specs.StageParsing.{pipeline_of}
 use Rattle.dv_pipe.specs.declared.stage.Stage.{Stage}
-use Rattle.dv_command.specs.Asked.{Asked, ViewOn, hello, ping, write, find, aggregate, get_more, kill_cursors, create, drop, create_indexes, drop_indexes, explain, statement_limit}
+use Rattle.dv_command.specs.Asked.{Asked, ViewOn, hello, ping, write, find, aggregate, get_more, kill_cursors, create, drop, create_indexes, drop_indexes, explain, view_stats, statement_limit}
 use Rattle.dv_command.specs.Entries.{IndexAsked, longest_index_name}
 use Rattle.dv_command.specs.Lists.{Lists}
 use Rattle.dv_fields.specs.Namespaces.{longest_namespace}
@@ -61,6 +61,7 @@ IsSoundlyAsked size (drop asked) = IsNamespace asked.namespace
 IsSoundlyAsked size (create_indexes asked) = IsNamespace asked.namespace × AreIndexes asked.indexes
 IsSoundlyAsked size (drop_indexes asked) = IsNamespace asked.namespace
 IsSoundlyAsked size (explain asked) = IsNamespace asked.find.namespace
+IsSoundlyAsked size (view_stats asked) = IsNamespace asked.namespace
 
 -- an update that a document with valid fields is
 pub record IsSoundUpdate (asked : Update) : Type 0 where

@@ -1,5 +1,5 @@
 -- Which fields commands and their entries may have (MongoDB manual, "insert", "update", "delete", "find", "aggregate", "getMore", "killCursors", "create", "drop",
--- "createIndexes", "dropIndexes", "explain"). Which of the manual's fields are there yet is this server's own.
+-- "createIndexes", "dropIndexes", "explain"). Which of the manual's fields are there yet, and the command viewStats, are this server's own.
 use Rattle.std.specs.Prelude.{ℕ, List, [], ◌∷◌, codes}
 use Rattle.dv_fields.specs.Kinds.{Kind}
 use Rattle.dv_fields.specs.Kinds as kinds
@@ -47,6 +47,9 @@ create_indexes_table = database_field ∷ (codes "createIndexes", kinds.text) �
 
 abbrev pub drop_indexes_table : Table
 drop_indexes_table = database_field ∷ (codes "dropIndexes", kinds.text) ∷ (codes "index", kinds.text) ∷ []
+
+abbrev pub view_stats_table : Table
+view_stats_table = database_field ∷ (codes "viewStats", kinds.text) ∷ []
 
 abbrev pub deletion_table : Table
 deletion_table = (codes "q", kinds.document) ∷ (codes "limit", kinds.how_many) ∷ []

@@ -3,12 +3,12 @@ use Rattle.std.specs.Prelude.{List, [], map, Option, Some, None}
 use Rattle.std.specs.Option.{option_map}
 use Rattle.std.specs.String.{string_bytes}
 use Rattle.dv_path.specs.SortSpec.{Part}
-use Rattle.dv_command.specs.Asked.{Asked, Write, Find, Aggregate, GetMore, KillCursors, ViewOn, ViewFields, Create, Drop, CreateIndexes, DropIndexes, Explain}
+use Rattle.dv_command.specs.Asked.{Asked, Write, Find, Aggregate, GetMore, KillCursors, ViewOn, ViewFields, Create, Drop, CreateIndexes, DropIndexes, Explain, ViewStats}
 use Rattle.dv_command.specs.Asked as asking
 use Rattle.dv_update.specs.UpdateView as updates
 use Rattle.dv_command.specs.Entries.{Deletion, Updating, IndexAsked}
 use Rattle.dv_command.specs.declared.asking.Asked as declared
-use Rattle.dv_command.specs.declared.asking.Asked.TheVariants.{Hello, Ping, Write as Writes, Find as Finds, Aggregate as Aggregates, GetMore as GetsMore, KillCursors as KillsCursors, Create as Creates, Drop as Drops, CreateIndexes as CreatesIndexes, DropIndexes as DropsIndexes, Explain as Explains}
+use Rattle.dv_command.specs.declared.asking.Asked.TheVariants.{Hello, Ping, Write as Writes, Find as Finds, Aggregate as Aggregates, GetMore as GetsMore, KillCursors as KillsCursors, Create as Creates, Drop as Drops, CreateIndexes as CreatesIndexes, DropIndexes as DropsIndexes, Explain as Explains, ViewStats as TellsOfView}
 use Rattle.dv_command.specs.declared.asking.Write as writing
 use Rattle.dv_command.specs.declared.asking.Find as finding
 use Rattle.dv_command.specs.declared.asking.Aggregate as aggregating
@@ -22,6 +22,7 @@ use Rattle.dv_command.specs.declared.asking.CreateIndexes as indexing
 use Rattle.dv_command.specs.declared.asking.IndexAsked as indexes
 use Rattle.dv_command.specs.declared.asking.DropIndexes as removing
 use Rattle.dv_command.specs.declared.asking.Explain as explaining
+use Rattle.dv_command.specs.declared.asking.ViewStats as telling
 use Rattle.dv_command.specs.declared.entries.Deletion as deletions
 use Rattle.dv_command.specs.declared.entries.Updating as updatings
 
@@ -69,6 +70,9 @@ drop_indexes_seen d = record { namespace = string_bytes d.namespace; index = str
 abbrev pub explain_seen : explaining.Explain → Explain
 explain_seen e = record { find = find_seen e.find }
 
+abbrev pub view_stats_seen : telling.ViewStats → ViewStats
+view_stats_seen v = record { namespace = string_bytes v.namespace }
+
 abbrev pub deletion_seen : deletions.Deletion → Deletion
 deletion_seen d = record { filter = d.filter; only_first = d.only_first }
 
@@ -88,3 +92,4 @@ asked_seen (Drops d) = asking.drop (drop_seen d)
 asked_seen (CreatesIndexes c) = asking.create_indexes (create_indexes_seen c)
 asked_seen (DropsIndexes d) = asking.drop_indexes (drop_indexes_seen d)
 asked_seen (Explains e) = asking.explain (explain_seen e)
+asked_seen (TellsOfView v) = asking.view_stats (view_stats_seen v)

@@ -24,6 +24,7 @@ pub enum Asked<'a> {
     CreateIndexes(CreateIndexes),
     DropIndexes(DropIndexes),
     Explain(Explain),
+    ViewStats(ViewStats),
 }
 
 /// What entries say is inserted, updated or deleted in a namespace, in order. An entry of an insert is the document; one of
@@ -137,6 +138,12 @@ pub struct DropIndexes {
 #[derive(Drop)]
 pub struct Explain {
     pub find: Find,
+}
+
+/// How the view of this namespace stands.
+#[derive(Drop)]
+pub struct ViewStats {
+    pub namespace: String,
 }
 
 /// The fields of a command that asks for a view.

@@ -9,12 +9,15 @@ ghost use Rattle.dv_fields.specs.Refusals.{UnlessWanting, each};
 
 use crate::asking::{
     Asked, Create, CreateIndexes, DropIndexes, DropNamespace, IndexAsked, ViewFields, ViewOn,
+    ViewStats,
 };
 use crate::checked::checked_database;
 use crate::command::DocumentLists;
 use crate::entries::index_of;
 use crate::forms::pipeline_of;
-use crate::rules::{CREATE_INDEXES_RULES, CREATE_RULES, DROP_INDEXES_RULES, DROP_RULES};
+use crate::rules::{
+    CREATE_INDEXES_RULES, CREATE_RULES, DROP_INDEXES_RULES, DROP_RULES, VIEW_STATS_RULES,
+};
 use dv_bson::Document;
 use dv_fields::fields::{array_of, documents_under, text_of, text_under};
 use dv_fields::namespaces::namespace;
@@ -121,4 +124,17 @@ pub(crate) fn drop_indexes_of<'a>(
         namespace,
         index: String::from_str(alloc, index)?,
     }))
+}
+
+pub(crate) fn view_stats_of<'a>(
+    alloc: Global,
+    body: &'a Document,
+    lists: &'a DocumentLists,
+) -> Result<Asked<'a>, Refusal>
+    ensures { UnlessWanting asked_seen (asking.view_stats_of body.now lists.now) result }
+{
+    let database = checked_database(&VIEW_STATS_RULES, body, lists)?;
+    let collection = text_under(body, "viewStats")?;
+    let namespace = namespace(alloc, database, collection)?;
+    Ok(Asked::ViewStats(ViewStats { namespace }))
 }

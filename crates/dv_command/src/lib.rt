@@ -19,7 +19,7 @@ mod statements;
 
 pub use asking::{
     Aggregate, Asked, Create, CreateIndexes, DropIndexes, DropNamespace, Explain, Find, GetMore,
-    IndexAsked, KillCursors, ViewOn, Write, WriteKind,
+    IndexAsked, KillCursors, ViewOn, ViewStats, Write, WriteKind,
 };
 pub use command::{Command, DocumentList, DocumentLists};
 pub use dv_fields::{Documents, Refusal, namespaces};

@@ -20,6 +20,7 @@ pub(crate) enum CommandName {
     CreateIndexes,
     DropIndexes,
     Explain,
+    ViewStats,
 }
 
 /// The name of a command that a text is; `None` where there is no such command.
@@ -41,6 +42,7 @@ pub(crate) fn command_named(text: &str) -> Option<CommandName>
         "createIndexes" => Some(CommandName::CreateIndexes),
         "dropIndexes" => Some(CommandName::DropIndexes),
         "explain" => Some(CommandName::Explain),
+        "viewStats" => Some(CommandName::ViewStats),
         _ => None,
     }
 }

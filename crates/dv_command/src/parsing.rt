@@ -5,7 +5,7 @@ ghost use Rattle.dv_command.specs.View.{asked_seen};
 ghost use Rattle.dv_fields.specs.Refusals.{UnlessWanting};
 
 use crate::asking::{Asked, WriteKind};
-use crate::catalog::{create_indexes_of, create_of, drop_indexes_of, drop_of};
+use crate::catalog::{create_indexes_of, create_of, drop_indexes_of, drop_of, view_stats_of};
 use crate::command::{Command, DocumentLists};
 use crate::names::{CommandName, command_named};
 use crate::reads::{aggregate_of, explain_of, find_of, get_more_of, kill_cursors_of};
@@ -66,6 +66,7 @@ fn asked_under<'a>(
         CommandName::CreateIndexes => create_indexes_of(alloc, body, lists),
         CommandName::DropIndexes => drop_indexes_of(alloc, body, lists),
         CommandName::Explain => explain_of(alloc, body, lists),
+        CommandName::ViewStats => view_stats_of(alloc, body, lists),
     }
 }
 

@@ -251,6 +251,34 @@ pub fn explain_reply(
     reply_of(fields)
 }
 
+/// The reply to what asks how a view stands. `state` is `live` where it has its rows, and `stale` where it has none and is
+/// made anew when it is read. `rows` is how many rows it has, and `ticks` the count of the work that changes of what it reads
+/// took since it was made: for each stage, 1 for each change that came to it, and 1 for each that it handed on. Of a stale
+/// view both are 0, which the caller sees to. They are told as int64, one beyond the greatest as that. Fails where memory is
+/// wanting.
+pub fn view_stats_reply(
+    alloc: Global,
+    is_live: bool,
+    rows: usize,
+    ticks: u64,
+) -> Result<Document, NoMemory>
+    ensures { IfOk result (λ reply. reply ≡ replies.view_stats_reply is_live rows ticks) }
+{
+    let state = text_value(alloc, view_state(is_live))?;
+    let mut fields = Document::new(alloc);
+    add(&mut fields, "state", state)?;
+    add(&mut fields, "rows", long_count(rows as u128))?;
+    add(&mut fields, "ticks", long_count(ticks as u128))?;
+    reply_of(fields)
+}
+
+/// The name of a view's state.
+fn view_state(is_live: bool) -> &'static str
+    ensures { result.now ≡ replies.view_state is_live }
+{
+    if is_live { "live" } else { "stale" }
+}
+
 /// A text as a value. Fails where memory is wanting.
 fn text_value(alloc: Global, text: &str) -> Result<Value, NoMemory>
     ensures { IfOk result (λ value. tree value ≡ string text.now) }

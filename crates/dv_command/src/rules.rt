@@ -106,6 +106,9 @@ pub(crate) const DROP_INDEXES_RULES: [Rule; 3] = [
     Rule("index", Kind::Text),
 ];
 
+/// The fields of what asks how a view stands.
+pub(crate) const VIEW_STATS_RULES: [Rule; 2] = [DATABASE, Rule("viewStats", Kind::Text)];
+
 /// The fields of an entry of a delete.
 pub(crate) const DELETION_RULES: [Rule; 2] = [
     Rule("q", Kind::Document),

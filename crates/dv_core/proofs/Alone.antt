@@ -1,11 +1,14 @@
 -- A document that is loaded, and one that is inserted alone.
-use Rattle.std.proofs.Common.{◌≡◌, ◌<◌, ◌==◌, ◌&&◌, ◌+◌, ℕ, Bool, true, false, not, List, [], ◌∷◌, ◌++◌, length, get_or, Result, Ok, Err, if◌then◌else◌, nat_lt, is_some, refl, sym, ap, ◌∙◌, arith}
+use Rattle.std.proofs.Common.{◌≡◌, ◌⊎◌, ◌<◌, ◌≤◌, ◌==◌, ◌&&◌, ◌+◌, ℕ, Bool, true, false, not, List, [], ◌∷◌, ◌++◌, length, get_or, take, Result, Ok, Err, if◌then◌else◌, nat_lt, is_some, inl, inr, refl, sym, ap, subst, ◌∙◌, arith}
 use Rattle.std.proofs.lemmas.List.Sums.{passes_at_first, split_at_first}
 use Rattle.std.specs.List.{after_first, before_first, position_or_len}
 use Rattle.dv_bson.specs.Tree.{Field}
-use Rattle.dv_catalog.specs.Changes.{Effect, put}
+use Rattle.dv_catalog.specs.Changes.{Change, Effect, apply, changes_of, put}
 use Rattle.dv_catalog.specs.Effects.{put_new}
-use Rattle.dv_catalog.specs.State.{documents_of, is_view}
+use Rattle.dv_catalog.specs.Marks.{AreMarkedBy}
+use Rattle.dv_catalog.specs.Parts.{Makes, one}
+use Rattle.dv_catalog.specs.State.{documents_of, is_view, lists_of}
+use Rattle.dv_catalog.specs.declared.stopped.Stopped.{Stopped}
 use Rattle.dv_coll.specs.Collection.{found, id_key}
 use Rattle.dv_command.specs.Asked.{Asked, asked_by}
 use Rattle.dv_command.specs.Asked as asking
@@ -17,13 +20,14 @@ use Rattle.dv_fields.specs.Namespaces.{is_collection_name, is_database_name, lon
 use Rattle.dv_fields.specs.Namespaces as names
 use Rattle.dv_fields.specs.Refusals.{◌>>=◌}
 use Rattle.dv_fields.specs.declared.refusal.Refusal.{Refusal}
-use Rattle.dv_fields.specs.declared.refusal.Refusal.TheVariants.{BadValue, DuplicateKey, OnView}
-use Rattle.dv_core.specs.Load.{insert_alone, left_by, namespace_in}
+use Rattle.dv_fields.specs.declared.refusal.Refusal.TheVariants.{BadValue, DuplicateKey, OnView, WantOfMemory}
+use Rattle.dv_core.specs.Load.{IsLoaded, insert_alone, left_by, loaded, namespace_in}
 use Rattle.dv_core.specs.State.{State}
 use Rattle.dv_core.specs.Statements.{Write, nothing_written, with_result}
 use Rattle.dv_core.specs.Step.{Answer, answer_to, answered, carried_out, step, write_answer}
 use Rattle.dv_core.specs.Storable.{storable}
 use Rattle.dv_core.specs.Writes.{insert_one, write_by}
+use Rattle.dv_core.proofs.Marking.{none_changed}
 
 -- ---- one statement
 
@@ -120,3 +124,44 @@ module _ (text : List ℕ) where
 
   pub named_so : (made : List ℕ) → namespace_in text ≡ Ok made → made ≡ text
   named_so made is = by_parts (has_dot text) (is_database_name front) made refl is
+
+-- ---- a load, and how views stand behind it
+
+few_put : (b : Bool) (d : List Field) → length (changes_of (if b then Err DuplicateKey else Ok (record { matched = 1; changes = put d ∷ [] }))) ≤ 1
+few_put true d = omega arith
+few_put false d = omega arith
+
+module _ (text namespace : List ℕ) (d stored : List Field) (old new : State) (named : namespace_in text ≡ Ok namespace) (on : is_view namespace old.catalog.views ≡ false) (stores : storable d ≡ Ok stored)
+    (views : new.catalog.views ≡ old.catalog.views) (cursors : new.cursors ≡ old.cursors) where
+  abbrev puts : Result Effect Refusal
+  puts = put_new stored (documents_of namespace old.catalog.namespaces)
+
+  abbrev MarkedBy : List Change → Type 0
+  MarkedBy changes = AreMarkedBy namespace changes (lists_of old.catalog.namespaces) old.catalog.views old.marks new.marks
+
+  loads_so : (does : Result Effect Refusal) → puts ≡ does → loaded text d old ≡ (does >>= λ effect. Ok (left_by namespace old effect))
+  loads_so does is = rw (named, on, stores, is) refl
+
+  pub load_done : Makes {B = Unit {0}} (λ x. one) namespace (put_new stored) old.catalog.namespaces (Ok tt) new.catalog.namespaces → MarkedBy (changes_of puts) → IsLoaded text d old new
+  load_done (changes, does, many, leaves) marked = record {
+    so = loads_so _ does ∙ (λ i. Ok (record { catalog = record { namespaces = sym leaves i; views = sym views i }; cursors = sym cursors i; marks = old.marks }));
+    marks = rw (← named_so text namespace named, stores) marked;
+  }
+
+  kept : (done : ℕ) → done ≡ 0 → new.catalog.namespaces ≡ old.catalog.namespaces → MarkedBy (take done (changes_of puts)) → new ≡ old
+  kept done none same marked =
+      let first : MarkedBy [] = subst (λ (n : ℕ). MarkedBy (take n (changes_of puts))) none marked in
+      let marks = none_changed namespace (lists_of old.catalog.namespaces) old.catalog.views old.marks new.marks first in
+      λ i. record { catalog = record { namespaces = same i; views = views i }; cursors = cursors i; marks = marks i }
+
+  pub load_stopped : (stopped : Stopped) → Makes {B = Unit {0}} (λ x. one) namespace (put_new stored) old.catalog.namespaces (Err stopped) new.catalog.namespaces
+      → MarkedBy (take stopped.done (changes_of puts)) → ((loaded text d old ≡ Err stopped.refusal) ⊎ (stopped.refusal ≡ WantOfMemory)) × (new ≡ old)
+  load_stopped stopped (inl refused) marked = (inl (loads_so _ refused.so), kept stopped.done refused.none refused.kept marked)
+  load_stopped stopped (inr cut) marked =
+      let few = few_put (is_some (found (id_key stored) (documents_of namespace old.catalog.namespaces))) stored in
+      let none : stopped.done ≡ 0 = none_done few cut.fewer in
+      (inr cut.so, kept stopped.done none (cut.made ∙ ap (λ (n : ℕ). apply namespace (take n (changes_of puts)) old.catalog.namespaces) none) marked)
+    where
+      none_done : {n many : ℕ} → many ≤ 1 → (n ≡ 0) ⊎ (n < many) → n ≡ 0
+      none_done few (inl none) = none
+      none_done few (inr fewer) = omega arith

@@ -3,7 +3,7 @@ use Rattle.std.proofs.Common.{◌≡◌, ◌⊎◌, ◌≤◌, ℕ, Bool, true, 
 use Rattle.std.specs.Prelude.{codes}
 use Rattle.dv_bson.specs.Names.{value_under}
 use Rattle.dv_bson.specs.Tree.{Tree, Field, int32}
-use Rattle.dv_command.specs.Asked.{Asked, hello, ping, find, aggregate, get_more, kill_cursors, create, drop, create_indexes, drop_indexes, explain, asked_by}
+use Rattle.dv_command.specs.Asked.{Asked, hello, ping, find, aggregate, get_more, kill_cursors, create, drop, create_indexes, drop_indexes, explain, view_stats, asked_by}
 use Rattle.dv_command.specs.Asked as asking
 use Rattle.dv_fields.specs.Refusals.{◌>>=◌}
 use Rattle.dv_command.specs.Replies.{reply_of, drop_reply, first_batch_reply, create_indexes_reply, drop_indexes_reply, document_of, count, errors_field}
@@ -23,12 +23,14 @@ use Rattle.dv_cursor.specs.Cursors.{Cursors}
 use Rattle.dv_catalog.specs.IndexMaking.{indexes_created, indexes_dropped}
 use Rattle.dv_catalog.specs.State.{Namespaces, documents_of, is_view}
 use Rattle.dv_catalog.specs.State as stored
-use Rattle.dv_core.specs.State.{State}
+use Rattle.dv_core.specs.State.{State, marked}
+use Rattle.dv_core.specs.Stats.{view_told}
 use Rattle.dv_catalog.specs.Views.{aggregated, created, dropped}
 use Rattle.dv_catalog.specs.Changes.{Statement}
 use Rattle.dv_core.specs.Statements.{Write, Written, nothing_written, carry_out, with_all, with_next, with_result, is_due, IsCut}
-use Rattle.dv_core.specs.Step.{Answer, answered, write_answer, on_catalog, on_cursors, answer_to, step, write_of, makes, moves, WriteCut, Cut, Wants, MemoryStep}
+use Rattle.dv_core.specs.Step.{Answer, answered, read_answer, write_answer, on_catalog, on_cursors, answer_to, step, write_of, makes, moves}
 use Rattle.dv_core.specs.Writes.{reply_by, write_by}
+use Rattle.dv_core.proofs.Bare.{BareCut, BareStep, BareWants, BareWriteCut}
 
 -- what a write did, be it cut
 abbrev pub Did : Write → State → Written → Type 0
@@ -45,7 +47,7 @@ pub record Writes (old : State) (asked : Result Asked Refusal) (answer : Answer)
   pub answers : answer ≡ write_answer old write did
 
 -- what stands under "ok"
-abbrev told : List Field → Option Tree
+abbrev pub told : List Field → Option Tree
 told reply = value_under (codes "ok") reply
 
 -- what a command makes under a namespace, or leaves of what it takes out; one on cursors leaves what stands under namespaces
@@ -87,6 +89,10 @@ cursors_may : (old : State) (what : Asked) (defined : Result (List Field × Curs
     → MayWrite old (Ok what) (answered old (on_cursors old defined))
 cursors_may old what (Ok done) tells made = inr (inr (record { what = what; asks = refl; made = made done; tells = tells done refl }))
 cursors_may old what (Err refusal) tells made = inl refl
+
+read_may : (old : State) (what : Asked) (result : Result (List Field) Refusal) → MayWrite old (Ok what) (answered old (read_answer old result))
+read_may old what (Ok reply) = inl refl
+read_may old what (Err refusal) = inl refl
 
 -- what is made, with the reply that tells of it
 module _ {S : Type 0} (reply : S → List Field) where
@@ -145,22 +151,23 @@ step_may old session (Ok (drop_indexes d)) =
     let reply : stored.State → List Field = λ left. drop_indexes_reply (index_count d.namespace old.catalog) in
     catalog_may old (drop_indexes d) _ (told_of reply (λ left. refl) made) (λ done is. (made_of reply made done is, refl))
 step_may old session (Ok (explain e)) = inl refl
+step_may old session (Ok (view_stats v)) = read_may old (view_stats v) (view_told v (marked old))
 
-write_cut_may : (old : State) (what : Asked) (write : Option Write) → write_of what ≡ write → (answer : Answer) → WriteCut old write answer → MayWrite old (Ok what) answer
+write_cut_may : (old : State) (what : Asked) (write : Option Write) → write_of what ≡ write → (answer : Answer) → BareWriteCut old write answer → MayWrite old (Ok what) answer
 write_cut_may old what None is answer cut = absurd cut
 write_cut_may old what (Some write) is answer (on, (left, is_cut, answers)) =
     inr (inl (record { what = what; write = write; did = left; asks = refl; is_write = is; did_so = inr is_cut; answers = answers }))
 
-cut_may : (old : State) (asked : Result Asked Refusal) (answer : Answer) → Cut old asked answer → MayWrite old asked answer
+cut_may : (old : State) (asked : Result Asked Refusal) (answer : Answer) → BareCut old asked answer → MayWrite old asked answer
 cut_may old (Ok what) answer cut = write_cut_may old what (write_of what) refl answer cut
 cut_may old (Err refusal) answer cut = absurd cut
 
-wants_may : (old : State) (command : Command) (answer : Answer) → Wants old command answer → MayWrite old (asked_by command) answer
+wants_may : (old : State) (command : Command) (answer : Answer) → BareWants old command answer → MayWrite old (asked_by command) answer
 wants_may old command answer (inl refused) = inl (rw refused refl)
 wants_may old command answer (inr cut) = cut_may old (asked_by command) answer cut
 
 -- the answer that an outcome comes from
-pub outcome_may : (old new : State) (session : ℕ) (command : Command) (outcome : Outcome) → MemoryStep old session command outcome new
+pub outcome_may : (old new : State) (session : ℕ) (command : Command) (outcome : Outcome) → BareStep old session command outcome new
     → (answer : Answer) × MayWrite old (asked_by command) answer × (new ≡ answer.state)
 outcome_may old new session command (Reply reply) is = (step old session command, step_may old session (asked_by command), ap (λ (a : Answer). a.state) (sym is))
 outcome_may old new session command (Wanting reply) wants = (record { reply = reply; state = new }, wants_may old command _ wants, refl)
@@ -194,7 +201,7 @@ made_cursors old new what made idle = absurd made
 
 -- a command that asks for no write, and makes nothing
 pub others_leave : (old new : State) (session : ℕ) (command : Command) (asked : Asked) (outcome : Outcome) → asked_by command ≡ Ok asked → write_of asked ≡ None → makes asked ≡ false
-    → MemoryStep old session command outcome new → new.catalog ≡ old.catalog
+    → BareStep old session command outcome new → new.catalog ≡ old.catalog
 others_leave old new session command asked outcome asks none idle steps =
     let (answer, may, stands) = outcome_may old new session command outcome steps in
     ap (λ (s : State). s.catalog) stands ∙ leave answer may
@@ -206,7 +213,7 @@ others_leave old new session command asked outcome asks none idle steps =
 
 -- a command that moves no cursors
 pub cursors_stay : (old new : State) (session : ℕ) (command : Command) (asked : Asked) (outcome : Outcome) → asked_by command ≡ Ok asked → moves asked ≡ false
-    → MemoryStep old session command outcome new → new.cursors ≡ old.cursors
+    → BareStep old session command outcome new → new.cursors ≡ old.cursors
 cursors_stay old new session command asked outcome asks idle steps =
     let (answer, may, stands) = outcome_may old new session command outcome steps in
     ap (λ (s : State). s.cursors) stands ∙ leave answer may
@@ -216,7 +223,7 @@ cursors_stay old new session command asked outcome asks idle steps =
     leave answer (inr (inl w)) = ap (λ (a : Answer). a.state.cursors) w.answers
     leave answer (inr (inr m)) = let same : m.what ≡ asked = cc (m.asks, asks) in made_cursors old answer.state m.what m.made (rw same idle)
 
-pub refused_leave : (old new : State) (session : ℕ) (command : Command) (refusal : Refusal) (outcome : Outcome) → asked_by command ≡ Err refusal → MemoryStep old session command outcome new → new ≡ old
+pub refused_leave : (old new : State) (session : ℕ) (command : Command) (refusal : Refusal) (outcome : Outcome) → asked_by command ≡ Err refusal → BareStep old session command outcome new → new ≡ old
 refused_leave old new session command refusal outcome asks steps =
     let (answer, may, stands) = outcome_may old new session command outcome steps in
     stands ∙ leave answer may
@@ -227,7 +234,7 @@ refused_leave old new session command refusal outcome asks steps =
     leave answer (inr (inr m)) = absurd (cc (m.asks, asks))
 
 -- a command that makes nothing leaves the views
-pub views_stay : (old new : State) (session : ℕ) (command : Command) (asked : Asked) (outcome : Outcome) → asked_by command ≡ Ok asked → makes asked ≡ false → MemoryStep old session command outcome new
+pub views_stay : (old new : State) (session : ℕ) (command : Command) (asked : Asked) (outcome : Outcome) → asked_by command ≡ Ok asked → makes asked ≡ false → BareStep old session command outcome new
     → new.catalog.views ≡ old.catalog.views
 views_stay old new session command asked outcome asks idle steps =
     let (answer, may, stands) = outcome_may old new session command outcome steps in
@@ -239,7 +246,7 @@ views_stay old new session command asked outcome asks idle steps =
     leave answer (inr (inr m)) = let same : m.what ≡ asked = cc (m.asks, asks) in ap (λ (s : stored.State). s.views) (made_catalog old answer.state m.what m.made (rw same idle))
 
 -- what a command leaves that isn't a write: the state, or what it made
-pub others_made : (old new : State) (session : ℕ) (command : Command) (asked : Asked) (outcome : Outcome) → asked_by command ≡ Ok asked → write_of asked ≡ None → MemoryStep old session command outcome new
+pub others_made : (old new : State) (session : ℕ) (command : Command) (asked : Asked) (outcome : Outcome) → asked_by command ≡ Ok asked → write_of asked ≡ None → BareStep old session command outcome new
     → (new ≡ old) ⊎ Made old asked new
 others_made old new session command asked outcome asks none steps =
     let (answer, may, stands) = outcome_may old new session command outcome steps in
@@ -266,7 +273,7 @@ reply_told Update n changed errors = update_told errors (count n) (count changed
 reply_told Delete n changed errors = errors_told errors (count n)
 
 -- a write that is carried out says so
-write_told : (what : Asked) (write : Write) → write_of what ≡ Some write → (n changed : ℕ) (errors : List Tree) → told (write.reply n changed errors) ≡ Some (int32 (pos 1))
+pub write_told : (what : Asked) (write : Write) → write_of what ≡ Some write → (n changed : ℕ) (errors : List Tree) → told (write.reply n changed errors) ≡ Some (int32 (pos 1))
 write_told (asking.write w) write is n changed errors = let same : write_by w ≡ write = cc in subst (λ (made : Write). told (made.reply n changed errors) ≡ Some (int32 (pos 1))) same (reply_told w.kind n changed errors)
 write_told what write is n changed errors = absurd cc
 
@@ -277,13 +284,13 @@ refused_may old asked answer (inr (inl w)) refused =
     absurd cc
 refused_may old asked answer (inr (inr m)) refused = absurd (cc (m.tells, refused))
 
-pub refusal_leaves : (old new : State) (session : ℕ) (command : Command) (reply : List Field) → MemoryStep old session command (Reply reply) new → told reply ≡ Some (int32 (pos 0)) → new ≡ old
+pub refusal_leaves : (old new : State) (session : ℕ) (command : Command) (reply : List Field) → BareStep old session command (Reply reply) new → told reply ≡ Some (int32 (pos 0)) → new ≡ old
 refusal_leaves old new session command reply is refused =
     let state : new ≡ (step old session command).state = ap (λ (a : Answer). a.state) (sym is) in
     let replies : told (step old session command).reply ≡ Some (int32 (pos 0)) = ap (λ (a : Answer). told a.reply) is ∙ refused in
     state ∙ refused_may old (asked_by command) (step old session command) (step_may old session (asked_by command)) replies
 
-pub want_leaves : (old new : State) (session : ℕ) (command : Command) (reply : List Field) → MemoryStep old session command (Wanting reply) new → told reply ≡ Some (int32 (pos 0)) → new ≡ old
+pub want_leaves : (old new : State) (session : ℕ) (command : Command) (reply : List Field) → BareStep old session command (Wanting reply) new → told reply ≡ Some (int32 (pos 0)) → new ≡ old
 want_leaves old new session command reply wants refused = refused_may old (asked_by command) (record { reply = reply; state = new }) (wants_may old command _ wants) refused
 
 -- ---- an ordered write

@@ -5,7 +5,7 @@ use Rattle.std.specs.FinMap as finite
 use lib.ListN.{drop as behind_first}
 use Rattle.std.specs.Str.{bytes_eq}
 use Rattle.dv_bson.specs.Tree.{Field}
-use Rattle.dv_command.specs.Asked.{Asked, Aggregate, Find, GetMore, hello, ping, find, aggregate, get_more, kill_cursors, create, drop, create_indexes, drop_indexes, explain, asked_by}
+use Rattle.dv_command.specs.Asked.{Asked, Aggregate, Find, GetMore, hello, ping, find, aggregate, get_more, kill_cursors, create, drop, create_indexes, drop_indexes, explain, view_stats, asked_by}
 use Rattle.dv_command.specs.Asked as asking
 use Rattle.dv_command.specs.Replies.{document_of, first_batch_reply, next_batch_reply}
 use Rattle.dv_command.specs.declared.command.Command.{Command}
@@ -23,10 +23,12 @@ use Rattle.dv_core.specs.declared.outcome.Outcome.{Outcome}
 use Rattle.dv_core.specs.declared.outcome.Outcome.TheVariants.{Reply, Wanting, NoReply}
 use Rattle.dv_core.specs.Find.{are_too_large, found, first_batch, kept, kept_under, left_behind, replied}
 use Rattle.dv_core.specs.More.{id_behind, next_of, number_of, rows_asked, wanted, without, without_each}
-use Rattle.dv_core.specs.Runs.{Move, carries, ends, wants, state_behind, state_behind_all, is_number, batch_told, is_nil, is_last_batch, asked_rows, asked_last, rows_told, tells_last, all_told, is_told_out, BatchesAreFront, IsToldOf, Shows}
-use Rattle.dv_core.specs.State.{State, empty_state}
+use Rattle.dv_core.specs.Runs.{Move, carries, ends, wants, stands, state_behind, state_behind_all, is_number, batch_told, is_nil, is_last_batch, asked_rows, asked_last, rows_told, tells_last, all_told, is_told_out, BatchesAreFront, IsToldOf, Shows}
+use Rattle.dv_core.specs.State.{State, empty_state, marked}
+use Rattle.dv_core.specs.Stats.{view_told}
 use Rattle.dv_core.specs.Statements.{Write}
-use Rattle.dv_core.specs.Step.{Answer, answered, answer_to, on_catalog, on_cursors, step, write_of, end_session, WriteCut, Cut, Wants, MemoryStep}
+use Rattle.dv_core.specs.Step.{Answer, answered, answer_to, read_answer, on_catalog, on_cursors, step, write_of, end_session}
+use Rattle.dv_core.proofs.Bare.{BareCut, BareStep, BareWants, BareWriteCut}
 
 abbrev Rows : Type 0
 Rows = List (List Field)
@@ -80,6 +82,10 @@ unmoved session id before after same = record { does = inl (record { same = ap (
 pub write_cursors : (state : State) (b : Bool) (refusal : Refusal) (answer : Answer) → answer.state.cursors ≡ state.cursors → (answered state (if b then Err refusal else Ok answer)).state.cursors ≡ state.cursors
 write_cursors state true refusal answer same = refl
 write_cursors state false refusal answer same = same
+
+pub read_cursors : (state : State) (result : Result (List Field) Refusal) → (answered state (read_answer state result)).state.cursors ≡ state.cursors
+read_cursors state (Ok reply) = refl
+read_cursors state (Err refusal) = refl
 
 pub catalog_cursors : (state : State) (defined : Result (List Field × stored.State) Refusal) → (answered state (on_catalog state defined)).state.cursors ≡ state.cursors
 catalog_cursors state (Ok done) = refl
@@ -236,6 +242,7 @@ module _ (laws : CursorLaws) (session id : ℕ) where
   command_moves state other (Ok (create_indexes c)) new = unmoved session id state.cursors _ (catalog_cursors state _)
   command_moves state other (Ok (drop_indexes d)) new = unmoved session id state.cursors _ (catalog_cursors state _)
   command_moves state other (Ok (explain e)) new = unmoved session id state.cursors state.cursors refl
+  command_moves state other (Ok (view_stats v)) new = unmoved session id state.cursors _ (read_cursors state (view_told v (marked state)))
 
   session_moves : (state : State) (other : ℕ) (b : Bool) → (session == other) ≡ b → Moves session id state.cursors (end_session other state).cursors [] false
   session_moves state other true is = record { does = inr (inl (record { gone = laws.ended_at session id other state.cursors ∙ rw is refl; none = refl; more = refl })); next = omega arith }
@@ -245,6 +252,7 @@ module _ (laws : CursorLaws) (session id : ℕ) where
   each_moves (carries other command) state new = command_moves state other (asked_by command) new
   each_moves (ends other) state new = session_moves state other (session == other) refl
   each_moves (wants catalog) state new = unmoved session id state.cursors state.cursors refl
+  each_moves (stands marks) state new = unmoved session id state.cursors state.cursors refl
 
   -- ---- a run
 
@@ -438,19 +446,19 @@ module _ (laws : CursorLaws) where
 
 -- ---- want of memory
 
-write_wants : (old : State) (write : Option Write) (answer : Answer) → WriteCut old write answer → (catalog : stored.State) × (answer.state ≡ state_behind (wants catalog) old)
+write_wants : (old : State) (write : Option Write) (answer : Answer) → BareWriteCut old write answer → (catalog : stored.State) × (answer.state ≡ state_behind (wants catalog) old)
 write_wants old None answer cut = absurd cut
 write_wants old (Some write) answer (on, (left, is_cut, answers)) = (record old.catalog { namespaces = left.namespaces }, ap (λ (a : Answer). a.state) answers)
 
-cut_wants : (old : State) (asked : Result Asked Refusal) (answer : Answer) → Cut old asked answer → (catalog : stored.State) × (answer.state ≡ state_behind (wants catalog) old)
+cut_wants : (old : State) (asked : Result Asked Refusal) (answer : Answer) → BareCut old asked answer → (catalog : stored.State) × (answer.state ≡ state_behind (wants catalog) old)
 cut_wants old (Ok asked) answer cut = write_wants old (write_of asked) answer cut
 cut_wants old (Err refusal) answer cut = absurd cut
 
-answer_wants : (old : State) (command : Command) (answer : Answer) → Wants old command answer → (catalog : stored.State) × (answer.state ≡ state_behind (wants catalog) old)
+answer_wants : (old : State) (command : Command) (answer : Answer) → BareWants old command answer → (catalog : stored.State) × (answer.state ≡ state_behind (wants catalog) old)
 answer_wants old command answer (inl refused) = (old.catalog, ap (λ (a : Answer). a.state) refused)
 answer_wants old command answer (inr cut) = cut_wants old (asked_by command) answer cut
 
-pub memory_moves : (old new : State) (session : ℕ) (command : Command) (outcome : Outcome) → MemoryStep old session command outcome new
+pub memory_moves : (old new : State) (session : ℕ) (command : Command) (outcome : Outcome) → BareStep old session command outcome new
     → (new ≡ state_behind (carries session command) old) ⊎ ((catalog : stored.State) × (new ≡ state_behind (wants catalog) old))
 memory_moves old new session command (Reply reply) is = inl (ap (λ (a : Answer). a.state) (sym is))
 memory_moves old new session command (Wanting reply) is = inr (answer_wants old command (record { reply = reply; state = new }) is)

@@ -21,10 +21,11 @@ use Rattle.dv_catalog.specs.Scan.{matching}
 use Rattle.dv_catalog.specs.State.{Standing, Namespaces, Collection, collection_at, collection_of, documents_of, with_documents, collection}
 use Rattle.dv_core.specs.State.{State}
 use Rattle.dv_core.specs.Statements.{Write, Written, nothing_written, with_all, with_next, with_result, is_due}
-use Rattle.dv_core.specs.Step.{Answer, write_of, MemoryStep}
+use Rattle.dv_core.specs.Step.{Answer, write_of}
 use Rattle.dv_core.specs.Storable.{storable}
 use Rattle.dv_catalog.specs.StateLaws.{get-insert}
 use Rattle.dv_core.specs.Writes.{insert_one, update_one, delete_one}
+use Rattle.dv_core.proofs.Bare.{BareStep}
 use Rattle.dv_core.proofs.Changed.{Did, outcome_may, Made, MayWrite}
 use Rattle.dv_core.proofs.Made.{made_documents}
 use Rattle.dv_catalog.specs.EffectLaws.{IsGoodAfter, chosen_good, matching_good, all_changed_good}
@@ -111,7 +112,7 @@ module _ (P : List ℕ → List (List Field) → Type 0) (IsGood : Change → Ty
   -- a step whose statements keep it does
   pub step_holds : (old new : State) (session : ℕ) (command : Command) (outcome : Outcome) → ((namespace : List ℕ) → P namespace [])
       → ((what : Asked) (write : Write) → asked_by command ≡ Ok what → write_of what ≡ Some write → AllByRecursion Keeps write.statements)
-      → Holds old.catalog.namespaces → MemoryStep old session command outcome new → Holds new.catalog.namespaces
+      → Holds old.catalog.namespaces → BareStep old session command outcome new → Holds new.catalog.namespaces
   step_holds old new session command outcome none keep h steps =
       let (answer, may, stands) = outcome_may old new session command outcome steps in
       rw stands (may_hold old (asked_by command) answer none keep may h)

@@ -5,9 +5,12 @@ pub mod Statements
 mod Plain
 mod Steps
 mod Endings
+mod Bare
 mod Changed
 mod Cursored
 mod Made
+mod Marking
+mod Marked
 mod Kept
 mod Texts
 mod Valid

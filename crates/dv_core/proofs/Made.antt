@@ -14,9 +14,10 @@ use Rattle.dv_catalog.specs.Views.{created, dropped, made, with_view, with_views
 use Rattle.dv_command.specs.Asked.{Asked, Create, Drop, ViewOn, find, aggregate, get_more, kill_cursors, create, drop, create_indexes, drop_indexes, asked_by}
 use Rattle.dv_command.specs.declared.command.Command.{Command}
 use Rattle.dv_core.specs.declared.outcome.Outcome.{Outcome}
-use Rattle.dv_core.specs.Step.{MemoryStep, write_of, indexes}
+use Rattle.dv_core.specs.Step.{write_of, indexes}
 use Rattle.dv_fields.specs.declared.refusal.Refusal.{Refusal}
 use Rattle.dv_fields.specs.declared.refusal.Refusal.TheVariants.{NamespaceExists, NamespaceNotFound, OnView}
+use Rattle.dv_core.proofs.Bare.{BareStep}
 use Rattle.dv_core.proofs.Changed.{Made, others_made}
 
 none_there : (there : Option Standing) → is_some there ≡ false → (collection_at there).documents ≡ []
@@ -149,7 +150,7 @@ dropped_others old new namespace name is other = either (dropped_documents old n
 
 -- ---- a create and a drop, and what makes and drops indexes, whatever they are answered
 
-pub create_leaves : (old new : core.State) (session : ℕ) (command : Command) (asked : Create) (outcome : Outcome) → asked_by command ≡ Ok (create asked) → MemoryStep old session command outcome new → (namespace : List ℕ)
+pub create_leaves : (old new : core.State) (session : ℕ) (command : Command) (asked : Create) (outcome : Outcome) → asked_by command ≡ Ok (create asked) → BareStep old session command outcome new → (namespace : List ℕ)
     → documents_of namespace new.catalog.namespaces ≡ documents_of namespace old.catalog.namespaces
 create_leaves old new session command asked outcome asks steps namespace = either (others_made old new session command (create asked) outcome asks refl steps)
   where
@@ -157,7 +158,7 @@ create_leaves old new session command asked outcome asks steps namespace = eithe
     either (inl same) = ap (λ (s : core.State). documents_of namespace s.catalog.namespaces) same
     either (inr made) = created_documents old.catalog new.catalog asked.namespace asked.view made.0 namespace
 
-pub drop_leaves : (old new : core.State) (session : ℕ) (command : Command) (asked : Drop) (outcome : Outcome) → asked_by command ≡ Ok (drop asked) → MemoryStep old session command outcome new → (namespace : List ℕ)
+pub drop_leaves : (old new : core.State) (session : ℕ) (command : Command) (asked : Drop) (outcome : Outcome) → asked_by command ≡ Ok (drop asked) → BareStep old session command outcome new → (namespace : List ℕ)
     → bytes_eq asked.namespace namespace ≡ false → documents_of namespace new.catalog.namespaces ≡ documents_of namespace old.catalog.namespaces
 drop_leaves old new session command asked outcome asks steps namespace other = either (others_made old new session command (drop asked) outcome asks refl steps)
   where
@@ -175,7 +176,7 @@ no_write (create_indexes c) is = refl
 no_write (drop_indexes d) is = refl
 no_write asked is = absurd cc
 
-pub indexing_leaves : (old new : core.State) (session : ℕ) (command : Command) (asked : Asked) (outcome : Outcome) → asked_by command ≡ Ok asked → indexes asked ≡ true → MemoryStep old session command outcome new
+pub indexing_leaves : (old new : core.State) (session : ℕ) (command : Command) (asked : Asked) (outcome : Outcome) → asked_by command ≡ Ok asked → indexes asked ≡ true → BareStep old session command outcome new
     → (new.catalog.views ≡ old.catalog.views) × ((namespace : List ℕ) → documents_of namespace new.catalog.namespaces ≡ documents_of namespace old.catalog.namespaces)
 indexing_leaves old new session command asked outcome asks is steps = either (others_made old new session command asked outcome asks (no_write asked is) steps)
   where

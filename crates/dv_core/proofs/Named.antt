@@ -23,8 +23,9 @@ use Rattle.dv_core.specs.Indexes.{form_asked, index_name}
 use Rattle.dv_core.specs.Sound.{AreSoundIndexes, IsSoundCommand}
 use Rattle.dv_core.specs.State.{State, empty_state}
 use Rattle.dv_core.specs.Statements.{Write, Written, nothing_written, with_all, with_next, with_result, is_due}
-use Rattle.dv_core.specs.Step.{Answer, MemoryStep}
+use Rattle.dv_core.specs.Step.{Answer}
 use Rattle.dv_core.specs.declared.outcome.Outcome.{Outcome}
+use Rattle.dv_core.proofs.Bare.{BareStep}
 use Rattle.dv_core.proofs.Asking.{AsksSoundly, body_size, soundly_asked}
 use Rattle.dv_core.proofs.Changed.{Did, Made, MayWrite, outcome_may}
 use Rattle.dv_core.proofs.Made.{views_only}
@@ -220,7 +221,7 @@ made_indexes old new size (get_more g) asked made all = same_indexes old new mad
 made_indexes old new size (kill_cursors k) asked made all = same_indexes old new made all
 made_indexes old new size what asked made all = absurd made
 
-pub steps_named : AsksSoundly → (old new : State) (session : ℕ) (command : Command) (outcome : Outcome) → IsSoundCommand command → AreSoundIndexes old → MemoryStep old session command outcome new → AreSoundIndexes new
+pub steps_named : AsksSoundly → (old new : State) (session : ℕ) (command : Command) (outcome : Outcome) → IsSoundCommand command → AreSoundIndexes old → BareStep old session command outcome new → AreSoundIndexes new
 steps_named asks old new session command outcome sound all steps =
     let (answer, may, stands) = outcome_may old new session command outcome steps in
     subst AreSoundIndexes (sym stands) (stay answer may)

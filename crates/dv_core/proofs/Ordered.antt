@@ -32,10 +32,11 @@ use Rattle.dv_core.specs.Load.{insert_alone, left_by, loaded, namespace_in}
 use Rattle.dv_catalog.specs.State.{documents_of, is_view, AreOrdered, IsOrdered}
 use Rattle.dv_core.specs.State.{State, empty_state}
 use Rattle.dv_core.specs.Statements.{Write}
-use Rattle.dv_core.specs.Step.{write_of, MemoryStep}
+use Rattle.dv_core.specs.Step.{write_of}
 use Rattle.dv_path.specs.Names.{has_bad_name}
 use Rattle.dv_core.specs.Storable.{id_in, is_within_limits, storable, with_id_first, without_field}
 use Rattle.dv_core.specs.Writes.{insert_one, statement_of, write_by}
+use Rattle.dv_core.proofs.Bare.{BareStep}
 use Rattle.dv_core.proofs.Asking.{AsksSoundly, soundly_asked}
 use Rattle.dv_catalog.specs.StateLaws.{documents_there}
 use Rattle.dv_core.proofs.Kept.{Keeps, apply_holds, insert_keeps, updates_keep, deletes_keep, step_holds}
@@ -150,7 +151,7 @@ module _ (laws : CollectionLaws) where
   writes_order (asking.write w) write is = let same : write_by w ≡ write = cc in subst KeepsOrder same (statements_order w.kind w.entries)
   writes_order what write is = absurd cc
 
-  pub steps_ordered : (old new : State) (session : ℕ) (command : Command) (outcome : Outcome) → IsOrdered old.catalog → MemoryStep old session command outcome new → IsOrdered new.catalog
+  pub steps_ordered : (old new : State) (session : ℕ) (command : Command) (outcome : Outcome) → IsOrdered old.catalog → BareStep old session command outcome new → IsOrdered new.catalog
   steps_ordered old new session command outcome h steps = step_holds (λ namespace ds. AreOrdered ds) BeginsWithId changes_order old new session command outcome (λ namespace. none_ordered) (λ what write asks is. writes_order what write is) h steps
 
   -- ---- and sound, if the documents of commands are
@@ -224,7 +225,7 @@ module _ (laws : CollectionLaws) where
         subst KeepsSound same (statements_sound w.kind w.entries (soundly_asked asks command (asking.write w) sound asked).1)
     writes_sound command sound what write asked is = absurd cc
 
-    pub steps_sound : (old new : State) (session : ℕ) (command : Command) (outcome : Outcome) → IsSoundCommand command → AreSoundDocuments old → MemoryStep old session command outcome new → AreSoundDocuments new
+    pub steps_sound : (old new : State) (session : ℕ) (command : Command) (outcome : Outcome) → IsSoundCommand command → AreSoundDocuments old → BareStep old session command outcome new → AreSoundDocuments new
     steps_sound old new session command outcome sound h steps = step_holds (λ namespace ds. AreSound ds) IsSoundChange changes_sound old new session command outcome (λ namespace. none_sound) (writes_sound command sound) h steps
 
   -- ---- and so after a load of a sound document

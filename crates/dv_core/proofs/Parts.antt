@@ -14,8 +14,9 @@ use Rattle.dv_core.specs.Part.{IsPart}
 use Rattle.dv_catalog.specs.State.{documents_of}
 use Rattle.dv_core.specs.State.{State}
 use Rattle.dv_core.specs.Statements.{Write}
-use Rattle.dv_core.specs.Step.{write_of, MemoryStep}
+use Rattle.dv_core.specs.Step.{write_of}
 use Rattle.dv_core.specs.Writes.{statement_of, write_by}
+use Rattle.dv_core.proofs.Bare.{BareStep}
 use Rattle.dv_core.proofs.Kept.{Keeps, deletes_keep, step_holds}
 
 abbrev IsGone : Change → Type 0
@@ -58,7 +59,7 @@ module _ (old : State) where
       subst (λ (kind : WriteKind). Go (map (statement_of kind) asked.entries)) (sym deletes) (deletes_keep LeftOf IsGone goes (λ k. tt) asked.entries) in
       subst (λ (w : Write). Go w.statements) same go
 
-  pub delete_leaves : (new : State) (session : ℕ) (command : Command) (asked : asking.Write) (outcome : Outcome) → asked_by command ≡ Ok (asking.write asked) → asked.kind ≡ Delete → MemoryStep old session command outcome new
+  pub delete_leaves : (new : State) (session : ℕ) (command : Command) (asked : asking.Write) (outcome : Outcome) → asked_by command ≡ Ok (asking.write asked) → asked.kind ≡ Delete → BareStep old session command outcome new
       → (namespace : List ℕ) → IsPart (documents_of namespace new.catalog.namespaces) (documents_of namespace old.catalog.namespaces)
   delete_leaves new session command asked outcome asks deletes steps =
       step_holds LeftOf IsGone goes old new session command outcome (λ namespace. ((λ d. false), filter_none (documents_of namespace old.catalog.namespaces)))

@@ -11,7 +11,7 @@ use Rattle.dv_catalog.specs.ScanLaws.{all_scanned}
 use Rattle.dv_catalog.specs.State as stored
 use Rattle.dv_catalog.specs.State.{rows_of}
 use Rattle.dv_catalog.specs.Views.{looks_into_view}
-use Rattle.dv_command.specs.Asked.{Asked, hello, ping, find, aggregate, get_more, kill_cursors, create, drop, create_indexes, drop_indexes, explain, asked_by}
+use Rattle.dv_command.specs.Asked.{Asked, hello, ping, find, aggregate, get_more, kill_cursors, create, drop, create_indexes, drop_indexes, explain, view_stats, asked_by}
 use Rattle.dv_command.specs.Asked as asking
 use Rattle.dv_command.specs.Sound.{AreValid, IsSoundlyAsked}
 use Rattle.dv_command.specs.declared.command.Command.{Command}
@@ -26,12 +26,14 @@ use Rattle.dv_core.specs.Load.{loaded}
 use Rattle.dv_core.specs.More.{next_of, number_of, rows_asked, wanted, without, without_each}
 use Rattle.dv_core.specs.Runs.{carries, wants, state_behind}
 use Rattle.dv_core.specs.Sound.{AreShown, AreSoundCursors, AreSoundDocuments, AreSoundViews, IsSoundCommand}
-use Rattle.dv_core.specs.State.{State, empty_state}
-use Rattle.dv_core.specs.Step.{answered, answer_to, on_cursors, end_session, MemoryStep}
+use Rattle.dv_core.specs.State.{State, empty_state, marked}
+use Rattle.dv_core.specs.Stats.{view_told}
+use Rattle.dv_core.specs.Step.{answered, answer_to, on_cursors, end_session}
 use Rattle.dv_core.specs.Storable.{is_within_limits}
 use Rattle.dv_core.specs.declared.outcome.Outcome.{Outcome}
+use Rattle.dv_core.proofs.Bare.{BareStep}
 use Rattle.dv_core.proofs.Asking.{AsksSoundly, body_size, soundly_asked}
-use Rattle.dv_core.proofs.Cursored.{CursorLaws, at, catalog_cursors, memory_moves, write_cursors}
+use Rattle.dv_core.proofs.Cursored.{CursorLaws, at, catalog_cursors, memory_moves, read_cursors, write_cursors}
 use Rattle.dv_core.proofs.Spelled.{both_hold}
 use Rattle.dv_core.proofs.Viewed.{PipesStayValid, gathered_valid, loaded_leaves, rows_valid}
 
@@ -166,13 +168,14 @@ module _ (laws : CursorLaws) where
     asked_shown size hello sound = all
     asked_shown size ping sound = all
     asked_shown size (explain e) sound = all
+    asked_shown size (view_stats v) sound = same_shown old.cursors _ (read_cursors old (view_told v (marked old))) all
 
     command_shown : (command : Command) → IsSoundCommand command → (asked : Result Asked Refusal) → asked_by command ≡ asked → AreSoundCursors (answered old (asked >>= answer_to old session)).state
     command_shown command sound (Ok asked) is = asked_shown (body_size command) asked (soundly_asked asks command asked sound is)
     command_shown command sound (Err refusal) is = all
 
   pub steps_shown : AsksSoundly → PipesStayValid → (old new : State) (session : ℕ) (command : Command) (outcome : Outcome) → IsSoundCommand command → AreSoundDocuments old → AreSoundViews old → AreSoundCursors old
-      → MemoryStep old session command outcome new → AreSoundCursors new
+      → BareStep old session command outcome new → AreSoundCursors new
   steps_shown asks pipes old new session command outcome sound documents views all steps = stay (memory_moves old new session command outcome steps)
     where
       stay : (new ≡ state_behind (carries session command) old) ⊎ ((catalog : stored.State) × (new ≡ state_behind (wants catalog) old)) → AreSoundCursors new

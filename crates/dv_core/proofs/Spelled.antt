@@ -18,9 +18,9 @@ use Rattle.dv_bson.specs.declared.fault.BsonFault.TheVariants.{Truncated, BadLen
 use Rattle.dv_bson.specs.Names.{has_name, has_zero}
 use Rattle.dv_bson.specs.Spelling.{framed, element_spelling, counted, payload, spelling, IsValue, AreFields, AreElements, Spells}
 use Rattle.dv_bson.specs.Tree.{Tree, int32, int64, boolean, string, array, Field, fields_of, list_of_fields, elements_of}
-use Rattle.dv_command.specs.Asked.{Asked, ViewOn, hello, ping, find, aggregate, get_more, kill_cursors, create, drop, create_indexes, drop_indexes, explain, asked_by}
+use Rattle.dv_command.specs.Asked.{Asked, ViewOn, hello, ping, find, aggregate, get_more, kill_cursors, create, drop, create_indexes, drop_indexes, explain, view_stats, asked_by}
 use Rattle.dv_command.specs.Asked as asking
-use Rattle.dv_command.specs.Replies.{document_of, count, long_count, drop_reply, hello_reply, reply_of, refusal_reply, batch_reply, first_batch_reply, kill_cursors_reply, create_indexes_reply, drop_indexes_reply, cut_error, write_error, update_reply, errors_field}
+use Rattle.dv_command.specs.Replies.{document_of, count, long_count, drop_reply, hello_reply, reply_of, refusal_reply, batch_reply, first_batch_reply, kill_cursors_reply, create_indexes_reply, drop_indexes_reply, view_stats_reply, cut_error, write_error, update_reply, errors_field}
 use Rattle.dv_fields.specs.Refusals.{code, code_name, message_of, ◌>>=◌}
 use Rattle.dv_command.specs.declared.asking.WriteKind.{WriteKind}
 use Rattle.dv_command.specs.declared.asking.WriteKind.TheVariants.{Insert, Update, Delete}
@@ -32,7 +32,9 @@ use Rattle.dv_catalog.specs.Changes.{Effect}
 use Rattle.dv_catalog.specs.Scan.{scan}
 use Rattle.dv_catalog.specs.IndexMaking.{Explained, Way, over_view, by_index, over_all, explained, indexes_created, indexes_dropped, with_all as with_all_entries, with_entries, with_index, without_named, within_limit}
 use Rattle.dv_catalog.specs.State.{Namespaces, ViewForm, documents_of, indexes_of, is_collection, is_there, is_view, rows_of}
-use Rattle.dv_core.specs.State.{State}
+use Rattle.dv_core.specs.State.{State, marked}
+use Rattle.dv_core.specs.Stats.{told_of}
+use Rattle.dv_catalog.specs.Marks.{Stats, stats_of}
 use Rattle.dv_cursor.specs.Batch.{batch, behind, total_size}
 use Rattle.dv_cursor.specs.Cursors.{Cursors, added, free_id}
 use Rattle.dv_cursor.specs.Runs.{IsWithin}
@@ -42,9 +44,10 @@ use Rattle.dv_catalog.specs.State as states
 use Rattle.dv_catalog.specs.Views.{created, dropped, looks_into_view, made, with_view, with_views}
 use Rattle.dv_catalog.specs.Changes.{Statement}
 use Rattle.dv_core.specs.Statements.{Write, Written, nothing_written, is_due, with_result, with_next, with_all, carry_out, IsCut}
-use Rattle.dv_core.specs.Step.{Answer, answered, write_answer, on_catalog, on_cursors, answer_to, step, write_of, Cut, MemoryStep, WriteCut}
+use Rattle.dv_core.specs.Step.{Answer, answered, read_answer, write_answer, on_catalog, on_cursors, answer_to, step, write_of}
 use Rattle.dv_command.specs.Sound.{AreValid, AreIds, IsNamespace, IsSoundlyAsked}
 use Rattle.dv_core.specs.Writes.{statement_of, reply_by, write_by}
+use Rattle.dv_core.proofs.Bare.{BareCut, BareStep, BareWriteCut}
 use Rattle.dv_core.proofs.Viewed.{PipesStayValid, gathered_valid, rows_valid}
 use Rattle.dv_core.proofs.Named.{IsNamed, explained_named}
 use Rattle.dv_core.proofs.Asking.{AsksSoundly, body_fits, body_size, soundly_asked}
@@ -733,6 +736,33 @@ explained_spelled (by_index name) n named =
     staged (codes "IXSCAN") ((codes "index", string name) ∷ docs) n refl (omega arith) refl (more_valid (codes "index") (string name) docs refl refl refl named.0 (docs_valid n))
     (omega (arith, spelling-field (codes "index", string name) docs, length-string name, named.1, docs_size n))
 
+-- how a view stands, which is one of two words
+stated : (word : List ℕ) (rows ticks : ℕ) → are_ascii word ≡ true → length word ≤ 8 → HasSpelling ((codes "state", string word) ∷ (codes "rows", long_count rows) ∷ (codes "ticks", long_count ticks) ∷ ok_fields)
+stated word rows ticks ascii short =
+    let told : List Field = (codes "ticks", long_count ticks) ∷ ok_fields in
+    let rest : List Field = (codes "rows", long_count rows) ∷ told in
+    let ticked = more_valid (codes "ticks") (long_count ticks) ok_fields refl refl refl (id_valid (min ticks (2 ^ 63 - 1)) (omega arith)) ok_valid in
+    let valid = more_valid (codes "rows") (long_count rows) told refl refl refl (id_valid (min rows (2 ^ 63 - 1)) (omega arith)) ticked in
+    spelled ((codes "state", string word) ∷ rest) (more_valid (codes "state") (string word) rest refl refl refl (IsUtf8-ascii word ascii) valid)
+    (omega (
+      arith,
+      spelling-field (codes "state", string word) rest,
+      length-string word,
+      spelling-field (codes "rows", long_count rows) told,
+      length-int64 (pos (min rows (2 ^ 63 - 1))),
+      spelling-field (codes "ticks", long_count ticks) ok_fields,
+      length-int64 (pos (min ticks (2 ^ 63 - 1))),
+      ok_size,
+    ))
+
+stats_spelled : (is_live : Bool) (rows ticks : ℕ) → HasSpelling (view_stats_reply is_live rows ticks)
+stats_spelled true rows ticks = stated (codes "live") rows ticks refl (omega arith)
+stats_spelled false rows ticks = stated (codes "stale") rows ticks refl (omega arith)
+
+told_spelled : (state : State) (stats : Option Stats) → HasSpelling (answered state (read_answer state (told_of stats))).reply
+told_spelled state None = refusal_spelled NamespaceNotFound tt
+told_spelled state (Some s) = stats_spelled s.is_live s.rows s.ticks
+
 module _ (asks : AsksSoundly) (counts : CountsAreValid) (laws : BatchLaws) (pipes : PipesStayValid) where
   asked_spelled : (state : State) (session size : ℕ) (asked : Asked) → size ≤ 16777216 → IsSoundlyAsked size asked → IsSound state → HasSpelling (answered state (answer_to state session asked)).reply
   asked_spelled state session size hello fits sound all = hello_spelled
@@ -765,6 +795,7 @@ module _ (asks : AsksSoundly) (counts : CountsAreValid) (laws : BatchLaws) (pipe
   asked_spelled state session size (explain e) fits sound all =
       let how : Explained = explained e.find.namespace e.find.filter state.catalog in
       explained_spelled how.way how.documents (explained_named e.find.namespace e.find.filter state all.indexes)
+  asked_spelled state session size (view_stats v) fits sound all = told_spelled state (stats_of v.namespace (marked state))
 
   pub replies_spelled : (state : State) (session : ℕ) (command : Command) (asked : Asked) → IsSoundCommand command → IsSound state → asked_by command ≡ Ok asked → HasSpelling (step state session command).reply
   replies_spelled state session command asked sound all is =
@@ -775,17 +806,17 @@ module _ (asks : AsksSoundly) (counts : CountsAreValid) (laws : BatchLaws) (pipe
 
 module _ (asks : AsksSoundly) (counts : CountsAreValid) where
   -- the reply of a write that is cut
-  left_spelled : (old : State) (write : Write) (answer : Answer) → IsTellable write → WriteCut old (Some write) answer → HasSpelling answer.reply
+  left_spelled : (old : State) (write : Write) (answer : Answer) → IsTellable write → BareWriteCut old (Some write) answer → HasSpelling answer.reply
   left_spelled old write answer is (on, (left, is_cut, answers)) = subst (λ (a : Answer). HasSpelling a.reply) (sym answers) (cut_spelled counts write old.catalog.namespaces left is is_cut)
 
-  asked_cut_spelled : (old : State) (size : ℕ) (what : Asked) (answer : Answer) → IsSoundlyAsked size what → WriteCut old (write_of what) answer → HasSpelling answer.reply
+  asked_cut_spelled : (old : State) (size : ℕ) (what : Asked) (answer : Answer) → IsSoundlyAsked size what → BareWriteCut old (write_of what) answer → HasSpelling answer.reply
   asked_cut_spelled old size (asking.write w) answer sound cut = left_spelled old (write_by w) answer (write_tellable counts w sound.2) cut
   asked_cut_spelled old size what answer sound cut = absurd cut
 
-  any_cut_spelled : (old : State) (command : Command) (asked : Result Asked Refusal) (answer : Answer) → asked_by command ≡ asked → IsSoundCommand command → Cut old asked answer → HasSpelling answer.reply
+  any_cut_spelled : (old : State) (command : Command) (asked : Result Asked Refusal) (answer : Answer) → asked_by command ≡ asked → IsSoundCommand command → BareCut old asked answer → HasSpelling answer.reply
   any_cut_spelled old command (Ok what) answer is sound cut = asked_cut_spelled old (body_size command) what answer (soundly_asked asks command what sound is) cut
   any_cut_spelled old command (Err refusal) answer is sound cut = absurd cut
 
-  pub wanting_spelled : (old new : State) (session : ℕ) (command : Command) (reply : List Field) → IsSoundCommand command → MemoryStep old session command (Wanting reply) new → HasSpelling reply
+  pub wanting_spelled : (old new : State) (session : ℕ) (command : Command) (reply : List Field) → IsSoundCommand command → BareStep old session command (Wanting reply) new → HasSpelling reply
   wanting_spelled old new session command reply sound (inl refused) = subst (λ (a : Answer). HasSpelling a.reply) (sym refused) (refusal_spelled WantOfMemory tt)
   wanting_spelled old new session command reply sound (inr cut) = any_cut_spelled old command (asked_by command) (record { reply = reply; state = new }) refl sound cut

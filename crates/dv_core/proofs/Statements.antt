@@ -1,5 +1,5 @@
 -- The statements of a write, one after the other.
-use Rattle.std.proofs.Common.{◌≡◌, ℕ, suc, ◌+◌, ◌<◌, ◌⊎◌, Bool, true, false, not, List, [], ◌∷◌, ◌++◌, length, Result, Ok, Err, if◌then◌else◌, refl, sym, ap, subst, ◌∙◌, append_assoc, inl, inr}
+use Rattle.std.proofs.Common.{◌≡◌, ℕ, suc, ◌+◌, ◌<◌, ◌⊎◌, Bool, true, false, not, List, [], ◌∷◌, ◌++◌, length, take, Result, Ok, Err, if◌then◌else◌, refl, sym, ap, subst, ◌∙◌, append_assoc, inl, inr}
 use Rattle.std.specs.declared.alloc.AllocError.{AllocError}
 use Rattle.std.proofs.lemmas.List.{append-nil}
 use Rattle.dv_bson.specs.Tree.{Tree, Field}
@@ -8,36 +8,44 @@ use Rattle.dv_fields.specs.declared.refusal.Refusal.TheVariants.{WantOfMemory}
 use Rattle.dv_core.specs.declared.outcome.Outcome.TheVariants.{Reply, Wanting, NoReply}
 use Rattle.dv_core.specs.declared.next.Next.{Next}
 use Rattle.dv_core.specs.declared.next.Next.TheVariants.{Due, Ended}
-use Rattle.dv_catalog.specs.State.{Namespaces, documents_of}
-use Rattle.dv_catalog.specs.Changes.{Change, Effect, apply}
+use Rattle.dv_catalog.specs.Marks.{AreMarkedBy, Marked, Marks}
+use Rattle.dv_catalog.specs.State.{Namespaces, ViewForm, documents_of, lists_of}
+use Rattle.dv_catalog.specs.Changes.{Change, Effect, apply, changes_of}
 use Rattle.dv_catalog.specs.Changes.{Statement}
-use Rattle.dv_core.specs.Statements.{Write, Written, nothing_written, carry_out, with_next, with_all, with_result, is_due, next_changes, cut, AreCut, IsCut}
+use Rattle.dv_core.specs.Statements.{Write, Written, nothing_written, with_next, with_all, with_result, is_due, next_changes, cut, AreCut, IsCut}
 use Rattle.dv_catalog.specs.Parts as Parts
 use Rattle.dv_catalog.specs.declared.stopped.Stopped.{Stopped}
 use Rattle.dv_command.specs.Replies.{document_of, cut_error}
-use Rattle.dv_core.specs.WriteParts.{with_stopped, next_behind, reply_seen, Notes, CutsNext, NextStep, Writes}
+use Rattle.dv_core.specs.Marks.{AreMarkedByCut, AreMarkedByEach, due_changes}
+use Rattle.dv_core.specs.WriteParts.{with_stopped, next_behind, reply_seen, CarriesOut, CutsNext, CutsWrite, DoesNext, NextStep, Notes, Writes}
+use Rattle.dv_core.proofs.Marking.{each_append, each_stopped}
 
 is_due-push : (ordered : Bool) (es : List Tree) (e : Tree) → is_due ordered (es ++ e ∷ []) ≡ not ordered
 is_due-push ordered [] e = refl
 is_due-push ordered (x ∷ es) e = refl
 
-module _ (namespace : List ℕ) (ordered : Bool) where
+module _ (namespace : List ℕ) (ordered : Bool) (views : List ViewForm) where
+  -- how views stand behind changes of what stands so
+  abbrev StandBy : Written → List Change → Marks → Marks → Type 0
+  StandBy so_far changes before after = AreMarkedBy namespace changes (lists_of so_far.namespaces) views before after
+
   -- ---- one statement
 
-  module _ (so_far now : Written) (statement : Statement) where
+  module _ (so_far now : Written) (statement : Statement) (before after : Marks) where
     -- it was carried out
     pub next_made : (matched : ℕ) (changes : List Change) → is_due ordered so_far.errors ≡ true → statement (documents_of namespace so_far.namespaces) ≡ Ok (record { matched = matched; changes = changes })
         → now ≡ record { statements = suc so_far.statements; n = so_far.n + matched; changed = so_far.changed + length changes; errors = so_far.errors; namespaces = apply namespace changes so_far.namespaces }
-        → NextStep namespace ordered so_far statement (Ok Due) now
-    next_made matched changes due made is = (rw (due, made) is, rw is due)
+        → StandBy so_far (next_changes namespace ordered so_far statement) before after → NextStep namespace ordered views so_far statement before (Ok Due) now after
+    next_made matched changes due made is marked = record { is_next = rw (due, made) is; behind = rw is due; marked = marked }
 
     -- an error of an ordered command ends it
-    ended_or_due : (b : Bool) → ordered ≡ b → now ≡ with_next namespace ordered so_far statement → is_due ordered now.errors ≡ not ordered → NextStep namespace ordered so_far statement (Ok (if b then Ended else Due)) now
-    ended_or_due true ends is due = (is, due ∙ rw ends refl)
-    ended_or_due false ends is due = (is, due ∙ rw ends refl)
+    ended_or_due : (b : Bool) → ordered ≡ b → now ≡ with_next namespace ordered so_far statement → is_due ordered now.errors ≡ not ordered → StandBy so_far (next_changes namespace ordered so_far statement) before after
+        → NextStep namespace ordered views so_far statement before (Ok (if b then Ended else Due)) now after
+    ended_or_due true ends is due marked = record { is_next = is; behind = due ∙ rw ends refl; marked = marked }
+    ended_or_due false ends is due marked = record { is_next = is; behind = due ∙ rw ends refl; marked = marked }
 
   -- a refusal that is noted, or for which there was no memory
-  module _ (so_far : Written) (statement : Statement) (new : Namespaces) where
+  module _ (so_far : Written) (statement : Statement) (new : Namespaces) (before after : Marks) where
     abbrev does : Result Effect Refusal
     does = statement (documents_of namespace so_far.namespaces)
 
@@ -47,30 +55,44 @@ module _ (namespace : List ℕ) (ordered : Bool) where
     abbrev noted_so : Refusal → ℕ → Written
     noted_so refusal done = with_stopped (record so_far { namespaces = new }) (record { refusal = refusal; done = done })
 
-    next_stopped : (now : Written) (refusal : Refusal) (done : ℕ) → is_due ordered so_far.errors ≡ true → Stops (record { refusal = refusal; done = done }) → now ≡ noted_so refusal done
-        → NextStep namespace ordered so_far statement (Ok (next_behind ordered refusal)) now
-    next_stopped now WantOfMemory done due (inl refused) is = record {
+    -- behind the first so many of its changes
+    abbrev MarkedFor : ℕ → Type 0
+    MarkedFor done = StandBy so_far (take done (changes_of does)) before after
+
+    -- one that is refused has no changes
+    none_refused : (refusal : Refusal) (done : ℕ) → does ≡ Err refusal → done ≡ 0 → MarkedFor done → StandBy so_far (changes_of does) before after
+    none_refused refusal done so none marked =
+        subst (λ (changes : List Change). StandBy so_far changes before after) (sym (ap changes_of so)) (subst MarkedFor none marked)
+
+    next_stopped : (now : Written) (refusal : Refusal) (done : ℕ) → is_due ordered so_far.errors ≡ true → Stops (record { refusal = refusal; done = done }) → now ≡ noted_so refusal done → MarkedFor done
+        → NextStep namespace ordered views so_far statement before (Ok (next_behind ordered refusal)) now after
+    next_stopped now WantOfMemory done due (inl refused) is marked = record {
       made = 0;
+      marked = subst MarkedFor refused.none marked;
       fewer = inl refl;
       is_cut = is ∙ (λ i. record { statements = suc so_far.statements; n = so_far.n; changed = so_far.changed; errors = so_far.errors ++ document_of (cut_error so_far.statements (refused.none i)) ∷ []; namespaces = refused.kept i });
     }
-    next_stopped now WantOfMemory done due (inr cuts) is = record {
+    next_stopped now WantOfMemory done due (inr cuts) is marked = record {
       made = done;
+      marked = marked;
       fewer = cuts.fewer;
       is_cut = is ∙ (λ i. record { statements = suc so_far.statements; n = so_far.n; changed = so_far.changed; errors = so_far.errors ++ document_of (cut_error so_far.statements done) ∷ []; namespaces = cuts.made i });
     }
-    next_stopped now refusal done due (inl refused) is =
-        ended_or_due so_far now statement ordered refl (rw (due, refused.so) (is ∙ rw refused.kept refl)) (rw is (is_due-push ordered so_far.errors _))
-    next_stopped now refusal done due (inr cuts) is = absurd (cc cuts.so)
+    next_stopped now refusal done due (inl refused) is marked =
+        ended_or_due so_far now statement before after ordered refl (rw (due, refused.so) (is ∙ rw refused.kept refl)) (rw is (is_due-push ordered so_far.errors _)) (none_refused refusal done refused.so refused.none marked)
+    next_stopped now refusal done due (inr cuts) is marked = absurd (cc cuts.so)
 
-    cut_untold_at : (now : Written) (stopped : Stopped) → Stops stopped → now.namespaces ≡ new → (cuts : Written) × CutsNext namespace ordered so_far statement cuts × (now.namespaces ≡ cuts.namespaces)
-    cut_untold_at now stopped (inl refused) same = (cut namespace ordered 0 so_far statement, record { made = 0; fewer = inl refl; is_cut = refl }, same ∙ refused.kept)
-    cut_untold_at now stopped (inr cuts) same = (cut namespace ordered stopped.done so_far statement, record { made = stopped.done; fewer = cuts.fewer; is_cut = refl }, same ∙ cuts.made)
+    cut_untold_at : (now : Written) (stopped : Stopped) → Stops stopped → now.namespaces ≡ new → MarkedFor stopped.done
+        → (cuts : Written) × CutsNext namespace ordered views so_far statement before cuts after × (now.namespaces ≡ cuts.namespaces)
+    cut_untold_at now stopped (inl refused) same marked =
+        (cut namespace ordered 0 so_far statement, record { made = 0; fewer = inl refl; is_cut = refl; marked = subst MarkedFor refused.none marked }, same ∙ refused.kept)
+    cut_untold_at now stopped (inr cuts) same marked =
+        (cut namespace ordered stopped.done so_far statement, record { made = stopped.done; fewer = cuts.fewer; is_cut = refl; marked = marked }, same ∙ cuts.made)
 
-    pub next_noted : (now : Written) (stopped : Stopped) → is_due ordered so_far.errors ≡ true → Stops stopped → (result : Result Next AllocError) → Notes ordered stopped (record so_far { namespaces = new }) result now → now.namespaces ≡ new
-        → NextStep namespace ordered so_far statement result now
-    next_noted now stopped due stops (Ok next) (now_is, next_is) same = rw next_is (next_stopped now stopped.refusal stopped.done due stops now_is)
-    next_noted now stopped due stops (Err e) told same = cut_untold_at now stopped stops same
+    pub next_noted : (now : Written) (stopped : Stopped) → is_due ordered so_far.errors ≡ true → Stops stopped → MarkedFor stopped.done → (result : Result Next AllocError) → Notes ordered stopped (record so_far { namespaces = new }) result now
+        → now.namespaces ≡ new → NextStep namespace ordered views so_far statement before result now after
+    next_noted now stopped due stops marked (Ok next) (now_is, next_is) same = rw next_is (next_stopped now stopped.refusal stopped.done due stops now_is marked)
+    next_noted now stopped due stops marked (Err e) told same = cut_untold_at now stopped stops same marked
 
   counts_result : (so_far : Written) (result : Result Effect Refusal) → (with_result namespace ordered so_far result).statements ≡ suc so_far.statements
   counts_result so_far (Ok effect) = refl
@@ -87,63 +109,110 @@ module _ (namespace : List ℕ) (ordered : Bool) where
   with_all-stopped w [] stopped = refl
   with_all-stopped w (x ∷ xs) stopped = rw stopped (with_all-stopped w xs stopped)
 
-  module _ (statements : List Statement) (old : Namespaces) where
+  -- where the next statement is looked at, its changes are those that views are told
+  due_marked : (so_far : Written) (statement : Statement) (before after : Marks) → is_due ordered so_far.errors ≡ true → StandBy so_far (next_changes namespace ordered so_far statement) before after
+      → StandBy so_far (due_changes namespace ordered views so_far statement) before after
+  due_marked so_far statement before after due marked = rw due marked
+
+  module _ (statements : List Statement) (old : Namespaces) (from : Marks) where
+    -- all statements were carried out, and views stand so
+    abbrev pub AreCarried : Written → Marks → Type 0
+    AreCarried so_far marks = (so_far ≡ with_all namespace ordered (nothing_written old) statements) × AreMarkedByEach namespace ordered views (nothing_written old) statements from marks
+
     -- the statements before the rest were carried out, and the rest is to be looked at
-    pub record Reached (so_far : Written) (rest : List Statement) : Type 0 where
+    pub record Reached (so_far : Written) (marks : Marks) (rest : List Statement) : Type 0 where
       pub before : List Statement
       pub stands : statements ≡ before ++ rest
       pub carried_out : so_far ≡ with_all namespace ordered (nothing_written old) before
       pub due : is_due ordered so_far.errors ≡ true
+      pub marked : AreMarkedByEach namespace ordered views (nothing_written old) before from marks
 
-    pub starts : Reached (nothing_written old) statements
-    starts = record { before = []; stands = refl; carried_out = refl; due = refl }
+    pub starts : Reached (nothing_written old) from statements
+    starts = record { before = []; stands = refl; carried_out = refl; due = refl; marked = refl }
 
-    module _ (so_far : Written) where
-      pub at_end : Reached so_far [] → so_far ≡ with_all namespace ordered (nothing_written old) statements
-      at_end reached = reached.carried_out ∙ ap (with_all namespace ordered (nothing_written old)) (sym (append-nil reached.before) ∙ sym reached.stands)
+    module _ (so_far : Written) (marks : Marks) where
+      pub at_end : Reached so_far marks [] → AreCarried so_far marks
+      at_end reached =
+          let whole : reached.before ≡ statements = sym (append-nil reached.before) ∙ sym reached.stands in (
+            reached.carried_out ∙ ap (with_all namespace ordered (nothing_written old)) whole,
+            subst (λ (ss : List Statement). AreMarkedByEach namespace ordered views (nothing_written old) ss from marks) whole reached.marked,
+          )
 
-      module _ (statement : Statement) (rest : List Statement) (reached : Reached so_far (statement ∷ rest)) where
-        pub cut_here : (now : Written) → CutsNext namespace ordered so_far statement now → AreCut namespace ordered statements old now
-        cut_here now cuts =
-            let before_is : Written = with_all namespace ordered (nothing_written old) reached.before in
-            record {
-              before = reached.before;
-              statement = statement;
-              behind = rest;
-              made = cuts.made;
-              stands = reached.stands;
-              reached = rw (← reached.carried_out) reached.due;
-              fewer = subst (λ (w : Written). (cuts.made ≡ 0) ⊎ (cuts.made < length (next_changes namespace ordered w statement))) reached.carried_out cuts.fewer;
-              left_so = cuts.is_cut ∙ ap (λ (w : Written). cut namespace ordered cuts.made w statement) reached.carried_out;
-            }
-
-        pub due_behind : (now : Written) → NextStep namespace ordered so_far statement (Ok Due) now → Reached now rest
-        due_behind now next = record {
-          before = reached.before ++ statement ∷ [];
-          stands = reached.stands ∙ sym (append_assoc reached.before (statement ∷ []) rest);
-          carried_out = next.0 ∙ ap (λ (w : Written). with_next namespace ordered w statement) reached.carried_out ∙ sym (with_all-append (nothing_written old) reached.before (statement ∷ []));
-          due = next.1;
+      module _ (statement : Statement) (rest : List Statement) (reached : Reached so_far marks (statement ∷ rest)) where
+        cut_at : (now : Written) (after : Marks) → CutsNext namespace ordered views so_far statement marks now after → AreCut namespace ordered statements old now
+        cut_at now after cuts = record {
+          before = reached.before;
+          statement = statement;
+          behind = rest;
+          made = cuts.made;
+          stands = reached.stands;
+          reached = rw (← reached.carried_out) reached.due;
+          fewer = subst (λ (w : Written). (cuts.made ≡ 0) ⊎ (cuts.made < length (next_changes namespace ordered w statement))) reached.carried_out cuts.fewer;
+          left_so = cuts.is_cut ∙ ap (λ (w : Written). cut namespace ordered cuts.made w statement) reached.carried_out;
         }
 
-        pub ends : (now : Written) → NextStep namespace ordered so_far statement (Ok Ended) now → now ≡ with_all namespace ordered (nothing_written old) statements
-        ends now next =
-            sym (with_all-stopped now rest next.1)
-            ∙ ap (λ (w : Written). with_all namespace ordered w rest) (next.0 ∙ ap (λ (w : Written). with_next namespace ordered w statement) reached.carried_out)
-            ∙ sym (with_all-append (nothing_written old) reached.before (statement ∷ rest)) ∙ ap (with_all namespace ordered (nothing_written old)) (sym reached.stands)
+        pub cut_here : (now : Written) (after : Marks) → CutsNext namespace ordered views so_far statement marks now after
+            → (is_cut : AreCut namespace ordered statements old now) × AreMarkedByCut namespace ordered views statements old now is_cut from after
+        unfolding cut_at
+        cut_here now after cuts = (
+          cut_at now after cuts,
+          (marks, reached.marked, subst (λ (w : Written). StandBy w (take cuts.made (next_changes namespace ordered w statement)) marks after) reached.carried_out cuts.marked),
+        )
 
-        pub counts : (now : Written) → NextStep namespace ordered so_far statement (Ok Due) now → now.statements ≡ suc so_far.statements
-        counts now next = ap (λ (w : Written). w.statements) next.0 ∙ rw reached.due (counts_result so_far _)
+        -- with those behind it, where it was carried out or refused
+        with_behind : (due : Bool) (now : Written) (after : Marks) (behind : List Statement) (last : Marks) → DoesNext namespace ordered views due so_far statement marks now after
+            → AreMarkedByEach namespace ordered views now behind after last → AreMarkedByEach namespace ordered views (nothing_written old) (reached.before ++ statement ∷ behind) from last
+        with_behind due now after behind last next marked =
+            let this = due_marked so_far statement marks after reached.due next.marked in
+            each_append namespace ordered views (nothing_written old) reached.before (statement ∷ behind) from marks last reached.marked
+            (subst (λ (w : Written). AreMarkedByEach namespace ordered views w (statement ∷ behind) marks last) reached.carried_out
+            (after, this, subst (λ (w : Written). AreMarkedByEach namespace ordered views w behind after last) next.is_next marked))
+
+        pub due_behind : (now : Written) (after : Marks) → NextStep namespace ordered views so_far statement marks (Ok Due) now after → Reached now after rest
+        due_behind now after next = record {
+          before = reached.before ++ statement ∷ [];
+          stands = reached.stands ∙ sym (append_assoc reached.before (statement ∷ []) rest);
+          carried_out = next.is_next ∙ ap (λ (w : Written). with_next namespace ordered w statement) reached.carried_out ∙ sym (with_all-append (nothing_written old) reached.before (statement ∷ []));
+          due = next.behind;
+          marked = with_behind true now after [] after next refl;
+        }
+
+        pub ends : (now : Written) (after : Marks) → NextStep namespace ordered views so_far statement marks (Ok Ended) now after → AreCarried now after
+        ends now after next = (
+          sym (with_all-stopped now rest next.behind)
+              ∙ ap (λ (w : Written). with_all namespace ordered w rest) (next.is_next ∙ ap (λ (w : Written). with_next namespace ordered w statement) reached.carried_out)
+              ∙ sym (with_all-append (nothing_written old) reached.before (statement ∷ rest)) ∙ ap (with_all namespace ordered (nothing_written old)) (sym reached.stands),
+          subst (λ (ss : List Statement). AreMarkedByEach namespace ordered views (nothing_written old) ss from after) (sym reached.stands)
+              (with_behind false now after rest after next (each_stopped namespace ordered views now rest after next.behind)),
+        )
+
+        pub counts : (now : Written) (after : Marks) → NextStep namespace ordered views so_far statement marks (Ok Due) now after → now.statements ≡ suc so_far.statements
+        counts now after next = ap (λ (w : Written). w.statements) next.is_next ∙ rw reached.due (counts_result so_far _)
 
 -- what an ended write answers
-module _ (write : Write) (old : Namespaces) (left : Written) where
-  pub done_replied : (reply : List Field) → left ≡ carry_out write old → reply ≡ reply_seen write left → Writes write old (Reply reply) left.namespaces
-  done_replied reply is replies = (replies ∙ ap (reply_seen write) is, ap (λ (w : Written). w.namespaces) is)
+module _ (write : Write) (old new : Marked) (left : Written) where
+  abbrev pub WholeOf : Type 0
+  WholeOf = AreCarried write.namespace write.ordered old.state.views write.statements old.state.namespaces old.marks left new.marks
 
-  pub done_untold : left ≡ carry_out write old → Writes write old NoReply left.namespaces
-  done_untold is = inl (ap (λ (w : Written). w.namespaces) is)
+  abbrev pub CutOf : Type 0
+  CutOf =
+      (is_cut : IsCut write old.state.namespaces left)
+      × AreMarkedByCut write.namespace write.ordered old.state.views write.statements old.state.namespaces left is_cut old.marks new.marks
 
-  pub cut_replied : (reply : List Field) → IsCut write old left → reply ≡ reply_seen write left → Writes write old (Wanting reply) left.namespaces
-  cut_replied reply is_cut replies = (left, is_cut, replies, refl)
+  whole_so : WholeOf → new.state.namespaces ≡ left.namespaces → CarriesOut write old new
+  whole_so (is, marked) leaves = record { leaves = leaves ∙ ap (λ (w : Written). w.namespaces) is; marked = marked }
 
-  pub cut_untold : (new : Namespaces) → IsCut write old left → new ≡ left.namespaces → Writes write old NoReply new
-  cut_untold new is_cut same = inr (left, is_cut, same)
+  cut_so : CutOf → new.state.namespaces ≡ left.namespaces → CutsWrite write old left new
+  cut_so (is_cut, marked) leaves = record { is_cut = is_cut; leaves = leaves; marked = marked }
+
+  pub done_replied : (reply : List Field) → WholeOf → new.state.namespaces ≡ left.namespaces → reply ≡ reply_seen write left → Writes write old (Reply reply) new
+  done_replied reply whole leaves replies = (replies ∙ ap (reply_seen write) whole.0, whole_so whole leaves)
+
+  pub done_untold : WholeOf → new.state.namespaces ≡ left.namespaces → Writes write old NoReply new
+  done_untold whole leaves = inl (whole_so whole leaves)
+
+  pub cut_replied : (reply : List Field) → CutOf → new.state.namespaces ≡ left.namespaces → reply ≡ reply_seen write left → Writes write old (Wanting reply) new
+  cut_replied reply cuts leaves replies = (left, replies, cut_so cuts leaves)
+
+  pub cut_untold : CutOf → new.state.namespaces ≡ left.namespaces → Writes write old NoReply new
+  cut_untold cuts leaves = inr (left, cut_so cuts leaves)

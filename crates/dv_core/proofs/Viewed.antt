@@ -14,9 +14,10 @@ use Rattle.dv_core.specs.Indexes.{form_asked}
 use Rattle.dv_core.specs.Load.{insert_alone, left_by, loaded, namespace_in}
 use Rattle.dv_core.specs.Sound.{AreSoundDocuments, AreSoundIndexes, AreSoundViews, IsSoundCommand}
 use Rattle.dv_core.specs.State.{State}
-use Rattle.dv_core.specs.Step.{Answer, MemoryStep}
+use Rattle.dv_core.specs.Step.{Answer}
 use Rattle.dv_core.specs.declared.outcome.Outcome.{Outcome}
 use Rattle.dv_core.specs.Writes.{insert_one}
+use Rattle.dv_core.proofs.Bare.{BareStep}
 use Rattle.dv_core.proofs.Asking.{AsksSoundly, body_size, documents_valid, soundly_asked}
 use Rattle.dv_core.proofs.Changed.{Made, MayWrite, outcome_may}
 use Rattle.dv_core.proofs.Made.{created_so, dropped_so}
@@ -96,7 +97,7 @@ made_views old new size (get_more g) asked made all = same_views old new made al
 made_views old new size (kill_cursors k) asked made all = same_views old new made all
 made_views old new size what asked made all = absurd made
 
-pub steps_views : AsksSoundly → (old new : State) (session : ℕ) (command : Command) (outcome : Outcome) → IsSoundCommand command → AreSoundViews old → MemoryStep old session command outcome new → AreSoundViews new
+pub steps_views : AsksSoundly → (old new : State) (session : ℕ) (command : Command) (outcome : Outcome) → IsSoundCommand command → AreSoundViews old → BareStep old session command outcome new → AreSoundViews new
 steps_views asks old new session command outcome sound all steps =
     let (answer, may, stands) = outcome_may old new session command outcome steps in
     subst AreSoundViews (sym stands) (stay answer may)

@@ -10,6 +10,7 @@ use Rattle.dv_match.specs.Filter.{no_members}
 use Rattle.dv_match.specs.Match.{matches}
 use Rattle.dv_match.specs.Parsing.{filter_in}
 use Rattle.dv_sort.specs.Sorting.{stable}
+use Rattle.dv_command.specs.Asked.{Asked, asked_by}
 use Rattle.dv_command.specs.Asked as asking
 use Rattle.dv_command.specs.declared.asking.WriteKind.TheVariants.{Insert}
 use Rattle.dv_command.specs.Replies.{document_of, write_error, cut_error, reply_of, refusal_reply}
@@ -18,6 +19,7 @@ use Rattle.dv_fields.specs.declared.refusal.Refusal.TheVariants.{DuplicateKey, W
 use Rattle.dv_catalog.specs.Changes.{put, Effect, with_put}
 use Rattle.dv_core.specs.Examples.{only, one_field, number, holding, letters, InsertExamples, ReadExamples, RefusalExamples, WantExamples}
 use Rattle.dv_core.specs.Find.{first_batch}
+use Rattle.dv_core.specs.Marks.{AreMarkedByCut, AreMarkedForWant}
 use Rattle.dv_cursor.specs.Batch.{batch}
 use Rattle.dv_catalog.specs.Scan.{scan}
 use Rattle.dv_catalog.specs.State.{Collection, Standing, Namespaces, collection, collection_at, collection_of, documents_of, with_documents}
@@ -198,10 +200,19 @@ cut_second = record {
   left_so = ap (λ (w : Written). cut t_c true 0 w (insert_one (only 6))) (sym put_five);
 }
 
+-- each view stands as it stood
+left_marked : (state : State) (asked : Result Asked Refusal) → AreMarkedForWant state asked state.marks
+left_marked state (Ok asked) = inl refl
+left_marked state (Err refusal) = refl
+
+no_marks : AreMarkedByCut t_c true [] (write_by two).statements empty_state.catalog.namespaces left cut_second [] []
+unfolding cut_second
+no_marks = ([], ([], refl, refl), refl)
+
 pub wants : WantExamples
 wants = record {
-  refused = λ state session command. inl refl;
-  cut = λ session. inr (refl, (left, cut_second, refl));
-  untold = λ session. inr (write_answer empty_state (write_by two) left, inr (refl, (left, cut_second, refl)), refl);
-  pinged = λ state new session is. let replies : reply_of [] ≡ refusal_reply WantOfMemory = ap (λ (a : Answer). a.reply) is in cc;
+  refused = λ state session command. inl (refl, left_marked state (asked_by command));
+  cut = λ session. inr (refl, (left, cut_second, refl, no_marks));
+  untold = λ session. inr (write_answer empty_state (write_by two) left, inr (refl, (left, cut_second, refl, no_marks)), refl);
+  pinged = λ state new session is. let replies : reply_of [] ≡ refusal_reply WantOfMemory = ap (λ (a : Answer). a.reply) is.0 in cc;
 }

@@ -1,5 +1,5 @@
 -- The worked examples of views, computed.
-use Rattle.std.proofs.Common.{◌≡◌, ◌||◌, ℕ, Bool, true, false, cond, if◌then◌else◌, List, [], Option, Some, None, Result, Ok, Err, is_some, refl, sym, ap, ◌∙◌}
+use Rattle.std.proofs.Common.{◌≡◌, ◌||◌, ℕ, Bool, true, false, cond, if◌then◌else◌, List, [], Option, Some, None, Result, Ok, Err, is_some, length, refl, sym, ap, ◌∙◌}
 use Rattle.std.specs.Cmp.Lexicographic.{slice_cmp, nat_list_cmp_total}
 use Rattle.std.specs.FinMap as finite
 use Rattle.std.specs.Ordering.{nat_cmp}
@@ -20,13 +20,13 @@ use Rattle.dv_core.specs.State.{State, empty_state}
 use Rattle.dv_catalog.specs.StateLaws.{same_namespaces, get-insert, get-remove}
 use Rattle.dv_catalog.specs.Views.{created, dropped, made}
 use Rattle.dv_command.specs.Asked.{ViewOn}
-use Rattle.dv_command.specs.Replies.{reply_of, drop_reply}
+use Rattle.dv_command.specs.Replies.{reply_of, drop_reply, view_stats_reply}
 use Rattle.dv_fields.specs.declared.refusal.Refusal.{Refusal}
 use Rattle.dv_fields.specs.declared.refusal.Refusal.TheVariants.{NamespaceExists, NamespaceNotFound}
-use Rattle.dv_core.specs.Examples.{holding, two, viewing, ViewExamples}
+use Rattle.dv_core.specs.Examples.{holding, two, viewing, MarkExamples, ViewExamples}
 use Rattle.dv_core.specs.Find.{first_batch}
 use Rattle.dv_cursor.specs.Batch.{batch}
-use Rattle.dv_core.specs.Step.{answered, on_catalog, on_cursors, replying}
+use Rattle.dv_core.specs.Step.{answered, on_catalog, on_cursors, read_answer, replying}
 use Rattle.dv_core.proofs.Worked.{t_c, nothing_in, put_there}
 
 -- ---- what stands where
@@ -103,4 +103,20 @@ views = record {
   source_dropped = λ session. drops full t_c true two_there ∙ ap (λ (ns : Namespaces). answered full (on_catalog full (replying (drop_reply t_c) (Ok (record full.catalog { namespaces = ns }))))) put_and_gone;
   dropped = λ session. drops bare (codes "t.v") false (none_there (codes "t.v"));
   nothing_there = λ session. drops empty_state (codes "t.v") false (none_there (codes "t.v"));
+}
+
+-- ---- how they stand
+
+pub marks : MarkExamples
+unfolding framed element_spelling payload counted filter_in pipeline_of through
+marks = record {
+  told_live = λ session. ap (λ (rows : List (List Field)). answered full (read_answer full (Ok (view_stats_reply true (length rows) 0)))) (put_there two empty_state.catalog.namespaces);
+  told_stale = λ session. refl;
+  no_view = λ session. refl;
+  created = rw (none_there (codes "t.v")) refl;
+  dropped = rw (none_there (codes "t.v")) refl;
+  read = refl;
+  aggregated = refl;
+  source_read = refl;
+  written = refl;
 }

@@ -4,12 +4,15 @@ use Rattle.dv_bson.specs.Tree.{Tree, null, string, int32, int64, document, no_fi
 use Rattle.dv_bson.specs.declared.fault.BsonFault.TheVariants.{TooDeep}
 use Rattle.dv_command.specs.declared.command.Command.{Command}
 use Rattle.dv_command.specs.declared.command.Command.TheVariants.{Sections, Invalid}
+use Rattle.dv_command.specs.Asked.{asked_by}
 use Rattle.dv_command.specs.Replies.{document_of, hello_reply}
 use Rattle.dv_core.specs.declared.outcome.Outcome.TheVariants.{Reply, Wanting, NoReply}
+use Rattle.dv_catalog.specs.Marks.{Marks, live, stale}
 use Rattle.dv_catalog.specs.State.{with_documents}
 use Rattle.dv_fields.specs.declared.refusal.Refusal.TheVariants.{BadValue, DuplicateKey, OnView}
 use Rattle.dv_core.specs.Load.{loaded, namespace_in}
-use Rattle.dv_core.specs.State.{State, empty_state}
+use Rattle.dv_core.specs.Marks.{marks_behind_all}
+use Rattle.dv_core.specs.State.{State, empty_state, standing}
 use Rattle.dv_core.specs.Step.{step, MemoryStep}
 
 -- ---- words for them
@@ -224,9 +227,9 @@ pub record RefusalExamples : Type 0 where
 abbrev pub two : List (List Field)
 two = only 1 ∷ only 2 ∷ []
 
--- with a view v over c, which has no stages
+-- with a view v over c, which has no stages, and has counted nothing
 abbrev pub viewing : State → State
-viewing state = record state { catalog = record state.catalog { views = record { name = codes "t.v"; source = codes "t.c"; stages = [] } ∷ [] } }
+viewing state = record state { catalog = record state.catalog { views = record { name = codes "t.v"; source = codes "t.c"; stages = [] } ∷ [] }; marks = live 0 ∷ [] }
 
 abbrev pub create : List ℕ → List Field
 create name = on (codes "t") ((codes "create", string name) ∷ [])
@@ -271,8 +274,9 @@ done = (codes "ok", number 1) ∷ []
 abbrev pub drop_reply : List ℕ → List Field
 drop_reply namespace = (codes "ns", string namespace) ∷ done
 
+-- an answer leaves the marks: how views stand behind it is told beside it
 pub record ViewExamples : Type 0 where
-  pub created : Does empty_state (create_view (codes "v") (codes "c")) done (viewing empty_state)
+  pub created : Does empty_state (create_view (codes "v") (codes "c")) done (standing [] (viewing empty_state))
   -- a view reads c, which isn't there; so no view may stand there, but a collection may
   pub read : Does (viewing empty_state) (create_view (codes "c") (codes "d")) (refusal 904 (codes "ReadByView")) (viewing empty_state)
   pub collection : Does (viewing empty_state) (create (codes "c")) done (viewing (holding []))
@@ -289,8 +293,38 @@ pub record ViewExamples : Type 0 where
   pub found : Does (viewing (holding two)) (find_in (codes "v")) (find_reply (codes "t.v") two) (viewing (holding two))
   pub aggregated : Does (viewing (holding two)) (aggregate (codes "v")) (find_reply (codes "t.v") two) (viewing (holding two))
   pub source_dropped : Does (viewing (holding two)) (drop (codes "c")) (drop_reply (codes "t.c")) (viewing empty_state)
-  pub dropped : Does (viewing empty_state) (drop (codes "v")) (drop_reply (codes "t.v")) empty_state
+  pub dropped : Does (viewing empty_state) (drop (codes "v")) (drop_reply (codes "t.v")) (standing (live 0 ∷ []) empty_state)
   pub nothing_there : Does empty_state (drop (codes "v")) (refusal 26 (codes "NamespaceNotFound")) empty_state
+
+-- the same views, but that memory was wanting for one
+abbrev pub struck : State → State
+struck state = standing (stale ∷ []) (viewing state)
+
+abbrev pub view_stats : List ℕ → List Field
+view_stats name = on (codes "t") ((codes "viewStats", string name) ∷ [])
+
+abbrev pub stats_reply : List ℕ → ℕ → ℕ → List Field
+stats_reply state rows ticks = (codes "state", string state) ∷ (codes "rows", int64 (pos rows)) ∷ (codes "ticks", int64 (pos ticks)) ∷ done
+
+-- how views stand behind a command, where memory is wanting for none
+abbrev pub Marking : State → List Field → Marks → Type 0
+Marking old body marks = marks_behind_all old (asked_by (of_body body)) ≡ marks
+
+-- how views stand, and what is told of it
+pub record MarkExamples : Type 0 where
+  pub told_live : Does (viewing (holding two)) (view_stats (codes "v")) (stats_reply (codes "live") 2 0) (viewing (holding two))
+  -- a stale view has no rows
+  pub told_stale : Does (struck (holding two)) (view_stats (codes "v")) (stats_reply (codes "stale") 0 0) (struck (holding two))
+  -- a collection is no view
+  pub no_view : Does (viewing (holding two)) (view_stats (codes "c")) (refusal 26 (codes "NamespaceNotFound")) (viewing (holding two))
+  pub created : Marking empty_state (create_view (codes "v") (codes "c")) (live 0 ∷ [])
+  pub dropped : Marking (viewing empty_state) (drop (codes "v")) []
+  -- a stale view is made anew where it is read, be the find answered or not; and not by a read of its source
+  pub read : Marking (struck (holding two)) (find_in (codes "v")) (live 0 ∷ [])
+  pub aggregated : Marking (struck (holding two)) (aggregate (codes "v")) (live 0 ∷ [])
+  pub source_read : Marking (struck (holding two)) (find_in (codes "c")) (stale ∷ [])
+  -- it counts no work until then
+  pub written : Marking (struck empty_state) (insert (only 5 ∷ [])) (stale ∷ [])
 
 -- what is told of want of memory
 pub record WantExamples : Type 0 where

@@ -5,6 +5,8 @@ pub mod Writes
 pub mod Find
 pub mod More
 pub mod Indexes
+pub mod Stats
+pub mod Marks
 pub mod Step
 pub mod Load
 pub mod Runs

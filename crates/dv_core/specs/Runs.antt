@@ -5,23 +5,26 @@ use Rattle.dv_command.specs.Asked.{Asked, GetMore, get_more, asked_by}
 use Rattle.dv_command.specs.Replies.{document_of, first_batch_reply}
 use Rattle.dv_command.specs.declared.command.Command.{Command}
 use Rattle.dv_fields.specs.declared.refusal.Refusal.{Refusal}
+use Rattle.dv_catalog.specs.Marks.{Marks}
 use Rattle.dv_catalog.specs.State as stored
 use Rattle.dv_cursor.specs.Batch.{batch, behind}
 use Rattle.dv_core.specs.More.{rows_asked, wanted}
-use Rattle.dv_core.specs.State.{State}
+use Rattle.dv_core.specs.State.{State, standing}
 use Rattle.dv_core.specs.Step.{Answer, answered, step, end_session}
 
 -- what comes: a command of a session that is carried out as it is defined, or the session's end; or one for which memory is wanting, and
--- what then stands under namespaces
+-- what then stands under namespaces; and how views then stand
 pub data Move : Type 0 where
   carries : ℕ → Command → Move
   ends : ℕ → Move
   wants : stored.State → Move
+  stands : Marks → Move
 
 abbrev pub state_behind : Move → State → State
 state_behind (carries session command) state = (step state session command).state
 state_behind (ends session) state = end_session session state
 state_behind (wants catalog) state = record state { catalog = catalog }
+state_behind (stands marks) state = standing marks state
 
 -- ---- one move
 
@@ -62,12 +65,14 @@ abbrev pub rows_told : ℕ → ℕ → Move → State → List (List Field)
 rows_told session id (carries other command) state = asked_rows session id other (asked_by command) state
 rows_told session id (ends other) state = []
 rows_told session id (wants catalog) state = []
+rows_told session id (stands marks) state = []
 
 -- whether it tells that no others are left, by the id 0
 abbrev pub tells_last : ℕ → ℕ → Move → State → Bool
 tells_last session id (carries other command) state = asked_last session id other (asked_by command) state
 tells_last session id (ends other) state = false
 tells_last session id (wants catalog) state = false
+tells_last session id (stands marks) state = false
 
 -- ---- a run
 

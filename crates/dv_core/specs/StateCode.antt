@@ -1,13 +1,13 @@
 -- A state as a ghost value, one to one: so a proof can tell two states apart.
 use Rattle.std.specs.Prelude.{refl}
 use Rattle.std.specs.Coded.{Coded, code_by, coded×}
-use Rattle.dv_catalog.specs.State as stored
+use Rattle.dv_catalog.specs.Marks.{Marked}
 use Rattle.dv_catalog.specs.StateCode as codes
 use Rattle.dv_cursor.specs.Cursors.{Cursors}
 use Rattle.dv_cursor.specs.CursorsCode.{coded_cursors}
-use Rattle.dv_core.specs.State.{State}
+use Rattle.dv_core.specs.State.{State, marked}
 
 abbrev pub coded_state : Coded State
 coded_state =
-    code_by (stored.State × Cursors) (coded× codes.coded_state coded_cursors)
-    (λ s. (s.catalog, s.cursors)) (λ parts. record { catalog = parts.0; cursors = parts.1 }) (λ _. refl)
+    code_by (Marked × Cursors) (coded× codes.coded_marked coded_cursors)
+    (λ s. (marked s, s.cursors)) (λ parts. record { catalog = parts.0.state; cursors = parts.1; marks = parts.0.marks }) (λ _. refl)

@@ -1,15 +1,16 @@
--- The machine: what each command answers, and the state that it leaves.
+-- The machine: what each command answers, and the state that it leaves. How views stand behind it is told beside that.
 use Rattle.std.specs.Prelude.{◌≡◌, ℕ, ◌⊎◌, Bool, true, false, List, [], Option, Some, None, Result, Ok, Err, if◌then◌else◌}
 use Rattle.dv_bson.specs.Tree.{Field}
 use Rattle.dv_command.specs.declared.command.Command.{Command}
 use Rattle.dv_fields.specs.declared.refusal.Refusal.{Refusal}
 use Rattle.dv_fields.specs.declared.refusal.Refusal.TheVariants.{OnView, WantOfMemory}
-use Rattle.dv_command.specs.Asked.{Asked, hello, ping, find, aggregate, get_more, kill_cursors, create, drop, create_indexes, drop_indexes, explain, asked_by}
+use Rattle.dv_command.specs.Asked.{Asked, hello, ping, find, aggregate, get_more, kill_cursors, create, drop, create_indexes, drop_indexes, explain, view_stats, asked_by}
 use Rattle.dv_command.specs.Asked as asking
 use Rattle.dv_fields.specs.Refusals.{◌>>=◌}
 use Rattle.dv_command.specs.Replies.{reply_of, hello_reply, drop_reply, refusal_reply}
 use Rattle.dv_core.specs.declared.outcome.Outcome.{Outcome}
 use Rattle.dv_core.specs.declared.outcome.Outcome.TheVariants.{Reply, Wanting, NoReply}
+use Rattle.dv_catalog.specs.Marks.{Marks}
 use Rattle.dv_catalog.specs.State.{is_view}
 use Rattle.dv_catalog.specs.State as stored
 use Rattle.dv_catalog.specs.Views.{created, dropped}
@@ -17,8 +18,10 @@ use Rattle.dv_core.specs.Statements.{Write, Written, carry_out, IsCut}
 use Rattle.dv_core.specs.Writes.{write_by}
 use Rattle.dv_core.specs.Find.{found, gathered}
 use Rattle.dv_core.specs.Indexes.{find_explained, indexed, unindexed}
+use Rattle.dv_core.specs.Marks.{AreMarkedAll, AreMarkedByCut, AreMarkedForWant, marks_behind_all}
 use Rattle.dv_core.specs.More.{killed, next_batch}
-use Rattle.dv_core.specs.State.{State}
+use Rattle.dv_core.specs.State.{State, marked, standing}
+use Rattle.dv_core.specs.Stats.{view_told}
 use Rattle.dv_cursor.specs.Cursors.{Cursors, without_session}
 
 -- the reply to a command, and the state after it
@@ -67,6 +70,7 @@ answer_to state session (drop asked) = on_catalog state (replying (drop_reply as
 answer_to state session (create_indexes asked) = on_catalog state (indexed asked state.catalog)
 answer_to state session (drop_indexes asked) = on_catalog state (unindexed asked state.catalog)
 answer_to state session (explain asked) = read_answer state (Ok (find_explained asked state.catalog))
+answer_to state session (view_stats asked) = read_answer state (view_told asked (marked state))
 
 -- a refusal leaves the state
 abbrev pub answered : State → Result Answer Refusal → Answer
@@ -106,32 +110,49 @@ moves (get_more asked) = true
 moves (kill_cursors asked) = true
 moves asked = false
 
--- the answers of a write that is cut at one of its statements; one on a view isn't carried out
-abbrev pub WriteCut : State → Option Write → Answer → Type 0
-WriteCut old None answer = ⊥
-WriteCut old (Some write) answer = (is_view write.namespace old.catalog.views ≡ false) × ((left : Written) × IsCut write old.catalog.namespaces left × (answer ≡ write_answer old write left))
+-- the answers of a write that is cut at one of its statements, and how views stand behind it; one on a view isn't carried out
+abbrev pub WriteCut : State → Option Write → Answer → Marks → Type 0
+WriteCut old None answer marks = ⊥
+WriteCut old (Some write) answer marks =
+    (is_view write.namespace old.catalog.views ≡ false)
+    × ((left : Written) × (cut : IsCut write old.catalog.namespaces left) × (answer ≡ write_answer old write left)
+    × AreMarkedByCut write.namespace write.ordered old.catalog.views write.statements old.catalog.namespaces left cut old.marks marks)
 
 -- a command that is refused isn't cut
-abbrev pub Cut : State → Result Asked Refusal → Answer → Type 0
-Cut old (Ok asked) answer = WriteCut old (write_of asked) answer
-Cut old (Err refusal) answer = ⊥
+abbrev pub Cut : State → Result Asked Refusal → Answer → Marks → Type 0
+Cut old (Ok asked) answer marks = WriteCut old (write_of asked) answer marks
+Cut old (Err refusal) answer marks = ⊥
 
--- the answers of a command for which memory is wanting: it is refused and nothing changed, or it is a write and cut
-abbrev pub Wants : State → Command → Answer → Type 0
-Wants old command answer = (answer ≡ answered old (Err WantOfMemory)) ⊎ Cut old (asked_by command) answer
+-- the answers of a command for which memory is wanting, and how views stand then: it is refused and nothing changed, or it is a write and cut
+abbrev pub Wants : State → Command → Answer → Marks → Type 0
+Wants old command answer marks = ((answer ≡ answered old (Err WantOfMemory)) × AreMarkedForWant old (asked_by command) marks) ⊎ Cut old (asked_by command) answer marks
 
 -- What a command of a session may come to, and the state after it: a reply, and then it is the step as it is defined; a reply that
--- tells of want of memory; or no reply, for which memory is wanting, after either.
+-- tells of want of memory; or no reply, for which memory is wanting, after either. The answer leaves the marks, and how views stand
+-- then is as they are counted, or that memory was wanting for one.
 abbrev pub MemoryStep : State → ℕ → Command → Outcome → State → Type 0
-MemoryStep old session command (Reply reply) new = step old session command ≡ record { reply = reply; state = new }
-MemoryStep old session command (Wanting reply) new = Wants old command (record { reply = reply; state = new })
-MemoryStep old session command NoReply new = (new ≡ (step old session command).state) ⊎ ((answer : Answer) × Wants old command answer × (new ≡ answer.state))
+MemoryStep old session command (Reply reply) new =
+    (step old session command ≡ record { reply = reply; state = standing old.marks new }) × AreMarkedAll old (asked_by command) new.marks
+MemoryStep old session command (Wanting reply) new = Wants old command (record { reply = reply; state = standing old.marks new }) new.marks
+MemoryStep old session command NoReply new =
+    ((standing old.marks new ≡ (step old session command).state) × AreMarkedAll old (asked_by command) new.marks)
+    ⊎ ((answer : Answer) × Wants old command answer new.marks × (standing old.marks new ≡ answer.state))
+
+-- the step where memory is never wanting: views count all of its work
+abbrev pub counted_step : State → ℕ → Command → Answer
+counted_step state session command =
+    let answer = step state session command in
+    record { reply = answer.reply; state = standing (marks_behind_all state (asked_by command)) answer.state }
 
 -- an outcome that tells of want of memory, if only by there being no reply
 abbrev pub TellsOfWant : Outcome → Type 0
 TellsOfWant (Reply reply) = ⊥
 TellsOfWant (Wanting reply) = Unit {0}
 TellsOfWant NoReply = Unit {0}
+
+-- nothing changed, but that a stale view which a command reads may have been made anew
+abbrev pub IsLeft : State → Result Asked Refusal → State → Type 0
+IsLeft old asked new = (new.catalog ≡ old.catalog) × (new.cursors ≡ old.cursors) × AreMarkedForWant old asked new.marks
 
 -- ---- the end of a session
 

@@ -1,5 +1,5 @@
 -- What the parts of a write give.
-use Rattle.std.specs.Prelude.{◌≡◌, ℕ, suc, ◌+◌, ◌<◌, ◌⊎◌, Bool, true, false, List, [], ◌∷◌, ◌++◌, length, map, Result, Ok, Err, if◌then◌else◌, ⊤}
+use Rattle.std.specs.Prelude.{◌≡◌, ℕ, suc, ◌+◌, ◌<◌, ◌⊎◌, Bool, true, false, List, [], ◌∷◌, ◌++◌, length, map, take, Result, Ok, Err, if◌then◌else◌, ⊤}
 use Rattle.std.specs.declared.alloc.AllocError.{AllocError}
 use Rattle.dv_bson.specs.Tree.{Field}
 use Rattle.dv_bson.specs.View.{tree}
@@ -13,11 +13,13 @@ use Rattle.dv_core.specs.declared.written.Written as declared
 use Rattle.dv_core.specs.declared.next.Next.{Next}
 use Rattle.dv_core.specs.declared.next.Next.TheVariants.{Due, Ended, Cut}
 use Rattle.dv_catalog.specs.declared.stopped.Stopped.{Stopped}
-use Rattle.dv_catalog.specs.State.{Namespaces, is_view}
-use Rattle.dv_core.specs.State.{State}
+use Rattle.dv_catalog.specs.Marks.{AreMarkedBy, Marked, Marks}
+use Rattle.dv_catalog.specs.State.{Namespaces, ViewForm, is_view, lists_of}
+use Rattle.dv_core.specs.Marks.{AreMarkedByCut, AreMarkedByEach}
+use Rattle.dv_core.specs.State.{State, marked}
 use Rattle.dv_catalog.specs.Changes.{Statement}
 use Rattle.dv_core.specs.StepParts.{Refuses}
-use Rattle.dv_core.specs.Statements.{Write, Written, carry_out, with_next, is_due, next_changes, cut, IsCut}
+use Rattle.dv_core.specs.Statements.{Write, Written, carry_out, nothing_written, with_next, is_due, next_changes, cut, IsCut}
 
 -- what statements did, and what they left
 abbrev pub written_seen : declared.Written → Namespaces → Written
@@ -59,30 +61,48 @@ abbrev pub outcome_of : Result Outcome AllocError → Outcome
 outcome_of (Ok outcome) = outcome
 outcome_of (Err e) = NoReply
 
-module _ (namespace : List ℕ) (ordered : Bool) where
+module _ (namespace : List ℕ) (ordered : Bool) (views : List ViewForm) where
+  -- the next statement was carried out or refused, and another one is due behind it, or none; and how views stand
+  pub record DoesNext (due : Bool) (so_far : Written) (statement : Statement) (before : Marks) (now : Written) (after : Marks) : Type 0 where
+    pub is_next : now ≡ with_next namespace ordered so_far statement
+    pub behind : is_due ordered now.errors ≡ due
+    pub marked : AreMarkedBy namespace (next_changes namespace ordered so_far statement) (lists_of so_far.namespaces) views before after
+
   -- the next statement is cut behind some of its changes
-  pub record CutsNext (so_far : Written) (statement : Statement) (now : Written) : Type 0 where
+  pub record CutsNext (so_far : Written) (statement : Statement) (before : Marks) (now : Written) (after : Marks) : Type 0 where
     pub made : ℕ
     pub fewer : (made ≡ 0) ⊎ (made < length (next_changes namespace ordered so_far statement))
     pub is_cut : now ≡ cut namespace ordered made so_far statement
+    pub marked : AreMarkedBy namespace (take made (next_changes namespace ordered so_far statement)) (lists_of so_far.namespaces) views before after
 
   -- The next statement, and whether another one is due behind it: not where it was refused in an ordered command, and not where it
   -- was cut. Where its error finds no memory, it is cut and not told.
-  abbrev pub NextStep : Written → Statement → Result Next AllocError → Written → Type 0
-  NextStep so_far statement (Ok Due) now = (now ≡ with_next namespace ordered so_far statement) × (is_due ordered now.errors ≡ true)
-  NextStep so_far statement (Ok Ended) now = (now ≡ with_next namespace ordered so_far statement) × (is_due ordered now.errors ≡ false)
-  NextStep so_far statement (Ok Cut) now = CutsNext so_far statement now
-  NextStep so_far statement (Err e) now = (cuts : Written) × CutsNext so_far statement cuts × (now.namespaces ≡ cuts.namespaces)
+  abbrev pub NextStep : Written → Statement → Marks → Result Next AllocError → Written → Marks → Type 0
+  NextStep so_far statement before (Ok Due) now after = DoesNext true so_far statement before now after
+  NextStep so_far statement before (Ok Ended) now after = DoesNext false so_far statement before now after
+  NextStep so_far statement before (Ok Cut) now after = CutsNext so_far statement before now after
+  NextStep so_far statement before (Err e) now after = (cuts : Written) × CutsNext so_far statement before cuts after × (now.namespaces ≡ cuts.namespaces)
+
+-- the statements of a write as they are defined
+pub record CarriesOut (write : Write) (old new : Marked) : Type 0 where
+  pub leaves : new.state.namespaces ≡ (carry_out write old.state.namespaces).namespaces
+  pub marked : AreMarkedByEach write.namespace write.ordered old.state.views (nothing_written old.state.namespaces) write.statements old.marks new.marks
+
+-- cut at one of them
+pub record CutsWrite (write : Write) (old : Marked) (left : Written) (new : Marked) : Type 0 where
+  pub is_cut : IsCut write old.state.namespaces left
+  pub leaves : new.state.namespaces ≡ left.namespaces
+  pub marked : AreMarkedByCut write.namespace write.ordered old.state.views write.statements old.state.namespaces left is_cut old.marks new.marks
 
 -- a write: the statements as they are defined, or cut at one of them; no reply after either
-abbrev pub Writes : Write → Namespaces → Outcome → Namespaces → Type 0
-Writes write old (Reply reply) new = (reply ≡ reply_seen write (carry_out write old)) × (new ≡ (carry_out write old).namespaces)
-Writes write old (Wanting reply) new = (left : Written) × IsCut write old left × (reply ≡ reply_seen write left) × (new ≡ left.namespaces)
-Writes write old NoReply new = (new ≡ (carry_out write old).namespaces) ⊎ ((left : Written) × IsCut write old left × (new ≡ left.namespaces))
+abbrev pub Writes : Write → Marked → Outcome → Marked → Type 0
+Writes write old (Reply reply) new = (reply ≡ reply_seen write (carry_out write old.state.namespaces)) × CarriesOut write old new
+Writes write old (Wanting reply) new = (left : Written) × (reply ≡ reply_seen write left) × CutsWrite write old left new
+Writes write old NoReply new = CarriesOut write old new ⊎ ((left : Written) × CutsWrite write old left new)
 
 abbrev pub WritesWhere : Bool → Write → State → Outcome → State → Type 0
 WritesWhere false write old outcome new =
-    Writes write old.catalog.namespaces outcome new.catalog.namespaces × (new.catalog.views ≡ old.catalog.views) × (new.cursors ≡ old.cursors)
+    Writes write (marked old) outcome (marked new) × (new.catalog.views ≡ old.catalog.views) × (new.cursors ≡ old.cursors)
 WritesWhere true write old outcome new = Refuses OnView outcome × (new ≡ old)
 
 -- a write on a collection; one on a view is refused

@@ -16,28 +16,29 @@ ghost use Rattle.dv_core.specs.declared.outcome.Outcome.{Outcome};
 ghost use Rattle.dv_core.specs.declared.outcome.Outcome.TheVariants.{Reply, Wanting};
 ghost use Rattle.dv_core.specs.Examples as examples;
 ghost use Rattle.dv_core.specs.Find.{are_too_large, first_batch};
-ghost use Rattle.dv_core.specs.Load.{insert_alone, loaded, namespace_in};
+ghost use Rattle.dv_core.specs.Load.{IsLoaded, insert_alone, loaded, namespace_in};
 ghost use Rattle.dv_core.specs.Part.{IsPart};
 ghost use Rattle.dv_core.specs.Sound.{HasSpelling, IsSound, IsSoundCommand, IsSoundDocument, IsTold};
 ghost use Rattle.dv_catalog.specs.State.{Namespaces, IsOrdered, documents_of, is_view, rows_of};
 ghost use Rattle.dv_core.specs.State.{State, empty_state};
 ghost use Rattle.std.specs.Str.{bytes_eq};
-ghost use Rattle.dv_core.specs.Runs.{Move, Shows, carries, wants, rows_told, state_behind, state_behind_all, tells_last};
+ghost use Rattle.dv_core.specs.Runs.{Move, Shows, carries, stands, wants, rows_told, state_behind, state_behind_all, tells_last};
 ghost use Rattle.dv_cursor.specs.Batch.{behind};
 ghost use Rattle.dv_cursor.specs.Cursors.{Cursors, free_id, rows_to_come};
 ghost use Rattle.dv_catalog.specs.Scan.{scan};
 ghost use Rattle.dv_catalog.specs.State as stored;
 ghost use Rattle.dv_catalog.specs.Views.{aggregated};
 ghost use Rattle.dv_core.specs.Statements.{Write, Written, carry_out, IsCut};
-ghost use Rattle.dv_core.specs.Step.{MemoryStep, step, write_of, makes, moves, indexes, end_session};
+ghost use Rattle.dv_core.specs.Step.{IsLeft, MemoryStep, counted_step, step, write_of, makes, moves, indexes, end_session};
 ghost use Rattle.dv_core.specs.Storable.{storable, is_within_limits};
 
-/// A command that is told as refused, with `ok: 0`, changed nothing, be it for want of memory.
+/// A command that is told as refused, with `ok: 0`, changed nothing, be it for want of memory; but a stale view that it
+/// reads may have been made anew.
 pub fn a_refused_command_changes_nothing()
     ensures plain { (old new : State) (session : ℕ) (command : Command) (reply : List Field) → MemoryStep old session command (Reply reply) new
-        → value_under (codes "ok") reply ≡ Some (int32 (pos 0)) → new ≡ old }
+        → value_under (codes "ok") reply ≡ Some (int32 (pos 0)) → IsLeft old (asked_by command) new }
     ensures wanting { (old new : State) (session : ℕ) (command : Command) (reply : List Field) → MemoryStep old session command (Wanting reply) new
-        → value_under (codes "ok") reply ≡ Some (int32 (pos 0)) → new ≡ old }
+        → value_under (codes "ok") reply ≡ Some (int32 (pos 0)) → IsLeft old (asked_by command) new }
 {}
 
 /// Only a write, a create, a drop, and what makes and drops indexes change what stands under namespaces: not another
@@ -59,6 +60,22 @@ pub fn only_writes_change_documents()
         → MemoryStep old session command outcome new → (namespace : List ℕ) → bytes_eq asked.namespace namespace ≡ false → documents_of namespace new.catalog.namespaces ≡ documents_of namespace old.catalog.namespaces }
     ensures indexed { (old new : State) (session : ℕ) (command : Command) (asked : Asked) (outcome : Outcome) → asked_by command ≡ Ok asked → indexes asked ≡ true
         → MemoryStep old session command outcome new → (new.catalog.views ≡ old.catalog.views) × ((namespace : List ℕ) → documents_of namespace new.catalog.namespaces ≡ documents_of namespace old.catalog.namespaces) }
+{}
+
+/// Where memory is wanting for no view, a step leaves views as they are counted: so this is one of the steps that are allowed.
+pub fn the_counted_step_is_allowed()
+    ensures { (state : State) (session : ℕ) (command : Command) → let answer = counted_step state session command in
+        MemoryStep state session command (Reply answer.reply) answer.state }
+{}
+
+/// Each view has its mark, and no other marks are there: so it is before the first command, and so after each command, each
+/// load and each end of a session.
+pub fn each_view_has_its_mark()
+    ensures before { length empty_state.marks ≡ length empty_state.catalog.views }
+    ensures after { (old new : State) (session : ℕ) (command : Command) (outcome : Outcome) → length old.marks ≡ length old.catalog.views
+        → MemoryStep old session command outcome new → length new.marks ≡ length new.catalog.views }
+    ensures loaded { (old new : State) (namespace : List ℕ) (d : List Field) → length old.marks ≡ length old.catalog.views → IsLoaded namespace d old new → length new.marks ≡ length new.catalog.views }
+    ensures ended { (session : ℕ) (state : State) → length state.marks ≡ length state.catalog.views → length (end_session session state).marks ≡ length (end_session session state).catalog.views }
 {}
 
 /// A delete leaves some of the documents of each namespace, in their order, whatever it is answered.
@@ -135,8 +152,8 @@ pub fn an_ordered_write_ends_at_its_first_error()
 /// What the replies of a run tell of a cursor's rows, be they left out or not: the first batch and the batches of later
 /// getMores, joined, are a front of the rows at the moment of the find or the pipeline, whatever others do in between; and
 /// all of them once one told that none is left, by the id 0, unless the first batch was to be the only one. What a getMore
-/// tells of a cursor are the rows and the id of its reply; and what a command comes to, be it for want of memory, is one of
-/// the moves of a run.
+/// tells of a cursor are the rows and the id of its reply; and what a command comes to, be it for want of memory, are
+/// moves of a run: its own, and how views then stand.
 pub fn a_cursors_batches_are_a_front()
     ensures find { (before : List Move) (session : ℕ) (command : Command) (asked : Find) → asked_by command ≡ Ok (find asked)
         → let state = state_behind_all before empty_state in
@@ -149,7 +166,7 @@ pub fn a_cursors_batches_are_a_front()
         → rows_to_come session asked.namespace id state.cursors ≡ Some rows
         → (step state session command).reply ≡ next_batch_reply asked.namespace (if tells_last session id (carries session command) state then 0 else id) (map document_of (rows_told session id (carries session command) state)) }
     ensures moves { (old new : State) (session : ℕ) (command : Command) (outcome : Outcome) → MemoryStep old session command outcome new
-        → (new ≡ state_behind (carries session command) old) ⊎ ((catalog : stored.State) × (new ≡ state_behind (wants catalog) old)) }
+        → (new ≡ state_behind_all (carries session command ∷ stands new.marks ∷ []) old) ⊎ ((catalog : stored.State) × (new ≡ state_behind_all (wants catalog ∷ stands new.marks ∷ []) old)) }
 {
     dv_cursor::laws::a_batch_is_a_front();
     dv_cursor::laws::a_change_leaves_other_cursors();
@@ -207,6 +224,11 @@ pub fn finds_by_example()
 /// What creates, drops, finds and aggregates answer where there are views, by worked examples.
 pub fn views_by_example()
     ensures { examples.ViewExamples }
+{}
+
+/// How views stand behind commands, and what is told of it, by worked examples.
+pub fn marks_by_example()
+    ensures { examples.MarkExamples }
 {}
 
 /// What a greeting, a ping and a find of all documents answer, by worked examples.

@@ -10,10 +10,12 @@ use crate::storable::storable;
 use crate::writes::write_all;
 use dv_bson::Document;
 use dv_catalog::Catalog;
-use dv_command::replies::{create_indexes_reply, drop_indexes_reply, drop_reply, reply_of};
+use dv_command::replies::{
+    create_indexes_reply, drop_indexes_reply, drop_reply, reply_of, view_stats_reply,
+};
 use dv_command::{
     Aggregate, Asked, Command, Create, CreateIndexes, DropIndexes, DropNamespace, Explain, Find,
-    GetMore, KillCursors, Refusal, ReplyNames, Write, parse,
+    GetMore, KillCursors, Refusal, ReplyNames, ViewStats, Write, parse,
 };
 use dv_cursor::Cursors;
 use std::alloc::Global;
@@ -39,25 +41,29 @@ impl Model for Store {
 
     ghost coded = { coded_state };
 
-    ghost view = { λ s. record { catalog = s.catalog; cursors = s.cursors } };
+    ghost view = { λ s. record { catalog = s.catalog.state; cursors = s.cursors; marks = s.catalog.marks } };
 }
 
 impl Store {
     ghost use Rattle.std.specs.Prelude.{◌≡◌, [], Ok, IfErr, OnErr, OnOk};
     ghost use Rattle.dv_bson.specs.declared.fault.BsonFault.TheVariants.{NoMemory};
-    ghost use Rattle.dv_catalog.specs.Parts.{Leaves};
+    ghost use Rattle.dv_catalog.specs.Marks.{AreMarkedByDrop, marks_made};
+    ghost use Rattle.dv_catalog.specs.Parts.{StandSo};
     ghost use Rattle.dv_catalog.specs.Views as views;
     ghost use Rattle.dv_command.specs.declared.command.Command.TheVariants.{Invalid};
     ghost use Rattle.dv_fields.specs.Refusals.{UnlessWanting};
+    ghost use Rattle.dv_command.specs.Asked as asking;
     ghost use Rattle.dv_command.specs.Replies as replies;
-    ghost use Rattle.dv_command.specs.View.{aggregate_seen, create_indexes_seen, create_seen, drop_indexes_seen, drop_seen, explain_seen, find_seen, get_more_seen, kill_cursors_seen, write_seen};
+    ghost use Rattle.dv_command.specs.View.{aggregate_seen, create_indexes_seen, create_seen, drop_indexes_seen, drop_seen, explain_seen, find_seen, get_more_seen, kill_cursors_seen, view_stats_seen, write_seen};
     ghost use Rattle.dv_core.specs.Find as finding;
     ghost use Rattle.dv_core.specs.Indexes as indexing;
     ghost use Rattle.dv_core.specs.More as more;
     ghost use Rattle.dv_core.specs.Load as loading;
-    ghost use Rattle.dv_core.specs.State.{empty_state};
+    ghost use Rattle.dv_core.specs.Marks.{marks_where_read, read_by};
+    ghost use Rattle.dv_core.specs.State.{empty_state, marked, standing};
+    ghost use Rattle.dv_core.specs.Stats as telling;
     ghost use Rattle.dv_core.specs.Step.{MemoryStep, TellsOfWant, end_session, replying};
-    ghost use Rattle.dv_core.specs.StepParts.{Ends, Gives};
+    ghost use Rattle.dv_core.specs.StepParts.{Ends, Gives, Loads, StandRead};
     ghost use Rattle.dv_core.specs.WriteParts.{WritesOn};
     ghost use Rattle.dv_core.specs.Writes.{write_by};
 
@@ -96,6 +102,7 @@ impl Store {
             Ok(Asked::CreateIndexes(asked)) => self.create_indexes(asked),
             Ok(Asked::DropIndexes(asked)) => self.drop_indexes(asked),
             Ok(Asked::Explain(asked)) => outcome_of(self.alloc, self.explain(asked)),
+            Ok(Asked::ViewStats(asked)) => outcome_of(self.alloc, self.view_stats(asked)),
             Err(refusal) => refuse(self.alloc, refusal),
         }
     }
@@ -114,6 +121,7 @@ impl Store {
     fn find(&mut self, session: u32, find: Find) -> Result<Document, Refusal>
         ensures catalog { self.new.catalog ≡ self.old.catalog }
         ensures reply { Gives (finding.found session (find_seen find) self.old.catalog self.old.cursors) self.old.cursors result self.new.cursors }
+        ensures marks { StandRead (marks_where_read (read_by (asking.find (find_seen find)) self.old.catalog.views) self.old) self.old.marks result self.new.marks }
     {
         let rows = self.catalog.find(&find)?;
         let Find {
@@ -135,6 +143,7 @@ impl Store {
     fn aggregate(&mut self, session: u32, aggregate: Aggregate) -> Result<Document, Refusal>
         ensures catalog { self.new.catalog ≡ self.old.catalog }
         ensures reply { Gives (finding.gathered session (aggregate_seen aggregate) self.old.catalog self.old.cursors) self.old.cursors result self.new.cursors }
+        ensures marks { StandRead (marks_where_read (read_by (asking.aggregate (aggregate_seen aggregate)) self.old.catalog.views) self.old) self.old.marks result self.new.marks }
     {
         let rows = self.catalog.aggregate(&aggregate)?;
         let Aggregate {
@@ -155,6 +164,7 @@ impl Store {
     fn get_more(&mut self, session: u32, asked: GetMore) -> Result<Document, Refusal>
         ensures catalog { self.new.catalog ≡ self.old.catalog }
         ensures reply { Gives (more.next_batch session (get_more_seen asked) self.old.cursors) self.old.cursors result self.new.cursors }
+        ensures marks { self.new.marks ≡ self.old.marks }
     {
         self.names.prepare(self.alloc);
         next_batch(self.alloc, &self.names, &mut self.cursors, session, asked)
@@ -163,6 +173,7 @@ impl Store {
     fn kill_cursors(&mut self, session: u32, asked: KillCursors) -> Outcome
         ensures catalog { self.new.catalog ≡ self.old.catalog }
         ensures reply { Ends (Ok (more.killed session (kill_cursors_seen asked) self.old.cursors)) self.old.cursors result self.new.cursors }
+        ensures marks { self.new.marks ≡ self.old.marks }
     {
         kill_all(self.alloc, &mut self.cursors, session, asked)
     }
@@ -170,6 +181,7 @@ impl Store {
     fn create(&mut self, create: Create) -> Result<Document, Refusal>
         ensures cursors { self.new.cursors ≡ self.old.cursors }
         ensures reply { let asked = create_seen create in Gives (replying (replies.reply_of []) (views.created asked.namespace asked.view self.old.catalog)) self.old.catalog result self.new.catalog }
+        ensures marks { StandSo (λ marks. marks ≡ marks_made (create_seen create).view self.old.marks) self.old.marks result self.new.marks }
     {
         // Behind the change nothing may want memory.
         let reply = reply_of(Document::new(self.alloc))?;
@@ -180,6 +192,7 @@ impl Store {
     fn drop_namespace(&mut self, drop: DropNamespace) -> Result<Document, Refusal>
         ensures cursors { self.new.cursors ≡ self.old.cursors }
         ensures reply { let asked = drop_seen drop in Gives (replying (replies.drop_reply asked.namespace) (views.dropped asked.namespace self.old.catalog)) self.old.catalog result self.new.catalog }
+        ensures marks { StandSo (AreMarkedByDrop (drop_seen drop).namespace self.old.catalog self.old.marks) self.old.marks result self.new.marks }
     {
         let DropNamespace { namespace } = drop;
         // Behind the change nothing may want memory.
@@ -192,6 +205,7 @@ impl Store {
     fn create_indexes(&mut self, asked: CreateIndexes) -> Outcome
         ensures cursors { self.new.cursors ≡ self.old.cursors }
         ensures reply { Ends (indexing.indexed (create_indexes_seen asked) self.old.catalog) self.old.catalog result self.new.catalog }
+        ensures marks { self.new.marks ≡ self.old.marks }
     {
         let CreateIndexes { namespace, indexes } = asked;
         let Ok(entries) = new_indexes(self.alloc, indexes) else {
@@ -206,6 +220,7 @@ impl Store {
     fn drop_indexes(&mut self, asked: DropIndexes) -> Outcome
         ensures cursors { self.new.cursors ≡ self.old.cursors }
         ensures reply { Ends (indexing.unindexed (drop_indexes_seen asked) self.old.catalog) self.old.catalog result self.new.catalog }
+        ensures marks { self.new.marks ≡ self.old.marks }
     {
         let DropIndexes { namespace, index } = asked;
         match self.catalog.drop_indexes(&namespace, &index) {
@@ -215,12 +230,23 @@ impl Store {
     }
 
     fn explain(&mut self, asked: Explain) -> Result<Document, Refusal>
-        ensures same { self.new ≡ self.old }
+        ensures same { standing self.old.marks self.new ≡ self.old }
         ensures reply { UnlessWanting (λ reply. reply) (Ok (indexing.find_explained (explain_seen asked) self.old.catalog)) result }
+        ensures marks { StandRead (marks_where_read (read_by (asking.explain (explain_seen asked)) self.old.catalog.views) self.old) self.old.marks result self.new.marks }
     {
         let Explain { find } = asked;
         let told = self.catalog.explain(&find.namespace, &find.filter)?;
         explained(self.alloc, told)
+    }
+
+    fn view_stats(&self, asked: ViewStats) -> Result<Document, Refusal>
+        ensures { UnlessWanting (λ reply. reply) (telling.view_told (view_stats_seen asked) (marked self.now)) result }
+    {
+        let Some(stats) = self.catalog.stats(&asked.namespace) else {
+            return Err(Refusal::NamespaceNotFound);
+        };
+        let reply = view_stats_reply(self.alloc, stats.is_live, stats.rows, stats.ticks)?;
+        Ok(reply)
     }
 
     /// Loads a document into the collection of a namespace, which is made where it isn't there: what an insert of that
@@ -230,7 +256,7 @@ impl Store {
     /// bytes or 100 levels; 11000 where a document has an equal `_id`; and 900 where memory is wanting. Then nothing is
     /// changed.
     pub fn load(&mut self, namespace: &str, document: Document) -> Result<(), i32>
-        ensures loaded { OnOk result (loading.loaded namespace.now document self.old ≡ Ok self.new) }
+        ensures loaded { OnOk result (loading.IsLoaded namespace.now document self.old self.new) }
         ensures code { IfErr result (λ code. loading.IsCodeOf (loading.loaded namespace.now document self.old) code) }
         ensures kept { OnErr result (self.new ≡ self.old) }
     {
@@ -242,7 +268,7 @@ impl Store {
 
     /// Inserts a document into the collection of the namespace that a text is. Refused as `load` is; then nothing is changed.
     fn insert_alone(&mut self, text: &str, document: &Document) -> Result<(), Refusal>
-        ensures { Leaves (loading.loaded text.now document.now self.old) self.old result self.new }
+        ensures { Loads text.now document.now self.old result self.new }
     {
         let namespace = namespace_in(self.alloc, text)?;
         if self.catalog.is_view(&namespace) {

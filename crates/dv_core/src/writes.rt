@@ -6,7 +6,7 @@ ghost use Rattle.dv_bson.specs.View.{tree};
 ghost use Rattle.dv_command.specs.Asked.{statement_limit};
 ghost use Rattle.dv_command.specs.View.{write_seen};
 ghost use Rattle.dv_core.specs.Statements.{is_due};
-ghost use Rattle.dv_catalog.specs.Parts.{Makes};
+ghost use Rattle.dv_catalog.specs.Parts.{Makes, StandBehind};
 ghost use Rattle.dv_catalog.specs.State.{is_view};
 ghost use Rattle.dv_core.specs.WriteParts.{written_seen, outcome_of, NextStep, Writes};
 ghost use Rattle.dv_core.specs.Writes.{statement_of, write_by};
@@ -28,9 +28,9 @@ pub(crate) fn write_all(
     catalog: &mut Catalog,
     write: Write<'_>,
 ) -> Outcome
-    requires { is_view (string_bytes write.namespace) catalog.old.views ≡ false }
-    ensures writes { Writes (write_by (write_seen write.entry)) catalog.old.namespaces result catalog.new.namespaces }
-    ensures views { catalog.new.views ≡ catalog.old.views }
+    requires { is_view (string_bytes write.namespace) catalog.old.state.views ≡ false }
+    ensures writes { Writes (write_by (write_seen write.entry)) catalog.old result catalog.new }
+    ensures views { catalog.new.state.views ≡ catalog.old.state.views }
 {
     match write_each(alloc, names, catalog, write) {
         Ok(outcome) => outcome,
@@ -45,9 +45,9 @@ fn write_each(
     catalog: &mut Catalog,
     write: Write<'_>,
 ) -> Result<Outcome, NoMemory>
-    requires { is_view (string_bytes write.namespace) catalog.old.views ≡ false }
-    ensures writes { Writes (write_by (write_seen write.entry)) catalog.old.namespaces (outcome_of result) catalog.new.namespaces }
-    ensures views { catalog.new.views ≡ catalog.old.views }
+    requires { is_view (string_bytes write.namespace) catalog.old.state.views ≡ false }
+    ensures writes { Writes (write_by (write_seen write.entry)) catalog.old (outcome_of result) catalog.new }
+    ensures views { catalog.new.state.views ≡ catalog.old.state.views }
 {
     let Write {
         kind,
@@ -87,9 +87,9 @@ fn write_next(
 ) -> Result<Next, NoMemory>
     requires room { written.old.statements < statement_limit }
     requires due { is_due ordered (map tree written.old.errors.items) ≡ true }
-    requires collection { is_view namespace.now catalog.old.views ≡ false }
-    ensures step { NextStep namespace.now ordered (written_seen written.old catalog.old.namespaces) (statement_of kind entry.now) result (written_seen written.new catalog.new.namespaces) }
-    ensures views { catalog.new.views ≡ catalog.old.views }
+    requires collection { is_view namespace.now catalog.old.state.views ≡ false }
+    ensures step { NextStep namespace.now ordered catalog.old.state.views (written_seen written.old catalog.old.state.namespaces) (statement_of kind entry.now) catalog.old.marks result (written_seen written.new catalog.new.state.namespaces) catalog.new.marks }
+    ensures views { catalog.new.state.views ≡ catalog.old.state.views }
 {
     match write_one(alloc, catalog, kind, namespace, entry) {
         Ok(counted) => {
@@ -109,9 +109,10 @@ fn write_one(
     namespace: &str,
     entry: &Document,
 ) -> Result<Counted, Stopped>
-    requires { is_view namespace.now catalog.old.views ≡ false }
-    ensures makes { Makes (λ counted. counted) namespace.now (statement_of kind entry.now) catalog.old.namespaces result catalog.new.namespaces }
-    ensures views { catalog.new.views ≡ catalog.old.views }
+    requires { is_view namespace.now catalog.old.state.views ≡ false }
+    ensures makes { Makes (λ counted. counted) namespace.now (statement_of kind entry.now) catalog.old.state.namespaces result catalog.new.state.namespaces }
+    ensures views { catalog.new.state.views ≡ catalog.old.state.views }
+    ensures marks { StandBehind namespace.now (statement_of kind entry.now) catalog.old result catalog.new.marks }
 {
     match kind {
         WriteKind::Insert => {

@@ -2,7 +2,7 @@
 use Rattle.std.proofs.Common.{◌≡◌, ◌≢◌, ◌⊎◌, ℤ, pos, Option, Some, None, replicate, Result, IfSome, IsErrAnd, ℕ, ◌+◌, ◌<◌, ◌≤◌, List, [], ◌∷◌, ◌++◌, ◌∙◌, Ok, Err, inl, inr, refl, sym, ap, length, length-append, arith, append_assoc, subst}
 use Rattle.std.proofs.lemmas.List.{length-replicate}
 use Rattle.dv_bson.specs.Tree.{Field}
-use Rattle.dv_core.specs.Load.{IsCodeOf, loaded}
+use Rattle.dv_core.specs.Load.{IsCodeOf, IsLoaded, loaded}
 use Rattle.dv_core.specs.State.{State}
 use Rattle.dv_program.specs.File.{Begins, file_read_failed}
 use Rattle.dv_program.specs.Load.{IsWhy, Loads, LoadsEach, LoadsFile, load_read_failed, read_fault}
@@ -30,13 +30,13 @@ nothing_yet file namespace old = record {
 
 -- ---- one document more
 
-LoadsEach-more : (namespace : List ℕ) (documents : List (List Field)) (d : List Field) (old mid new : State) → LoadsEach namespace documents old mid → loaded namespace d mid ≡ Ok new
+LoadsEach-more : (namespace : List ℕ) (documents : List (List Field)) (d : List Field) (old mid new : State) → LoadsEach namespace documents old mid → IsLoaded namespace d mid new
     → LoadsEach namespace (documents ++ d ∷ []) old new
-LoadsEach-more namespace [] d old mid new before this = (new, ap (loaded namespace d) (sym before) ∙ this, refl)
+LoadsEach-more namespace [] d old mid new before this = (new, subst (λ (state : State). IsLoaded namespace d state new) before this, refl)
 LoadsEach-more namespace (e ∷ documents) d old mid new before this = (before.0, before.1, LoadsEach-more namespace documents d before.0 mid new before.2 this)
 
 Loads-more : (file namespace : List ℕ) (old mid new : State) (documents : List (List Field)) (rest : List ℕ) (d : List Field) (behind : List ℕ)
-    → Loads file namespace old documents rest mid → Begins rest d behind → loaded namespace d mid ≡ Ok new → Loads file namespace old (documents ++ d ∷ []) behind new
+    → Loads file namespace old documents rest mid → Begins rest d behind → IsLoaded namespace d mid new → Loads file namespace old (documents ++ d ∷ []) behind new
 Loads-more file namespace old mid new documents rest d behind loads begins this = record {
   front = loads.front ++ begins.front;
   whole = loads.whole ∙ ap (λ xs. loads.front ++ xs) begins.whole ∙ sym (append_assoc loads.front begins.front behind);
@@ -45,7 +45,7 @@ Loads-more file namespace old mid new documents rest d behind loads begins this 
 }
 
 pub one_more : HasBytes → (file namespace : List ℕ) (old mid new : State) (number : ℕ) (rest : List ℕ) (d : List Field) (behind : List ℕ)
-    → LoadsSoFar file namespace old number rest mid → Begins rest d behind → loaded namespace d mid ≡ Ok new → LoadsSoFar file namespace old (number + 1) behind new
+    → LoadsSoFar file namespace old number rest mid → Begins rest d behind → IsLoaded namespace d mid new → LoadsSoFar file namespace old (number + 1) behind new
 one_more law file namespace old mid new number rest d behind so_far begins this = record {
   documents = so_far.documents ++ d ∷ [];
   loads = Loads-more file namespace old mid new so_far.documents rest d behind so_far.loads begins this;

@@ -2,7 +2,7 @@
 use Rattle.std.specs.Prelude.{◌≡◌, ◌≢◌, ◌⊎◌, ⊤, ℕ, ◌+◌, ◌<◌, ℤ, pos, List, [], ◌∷◌, ◌++◌, length, Bool, true, false, Result, Ok, Err, Some}
 use Rattle.dv_bson.specs.Tree.{Field}
 use Rattle.dv_bson.specs.Reading.{first_fault}
-use Rattle.dv_core.specs.Load.{IsCodeOf, loaded}
+use Rattle.dv_core.specs.Load.{IsCodeOf, IsLoaded, loaded}
 use Rattle.dv_core.specs.State.{State}
 use Rattle.dv_program.specs.File.{Begins, Holds}
 use Rattle.dv_program.specs.declared.file.FileFault.{FileFault}
@@ -23,7 +23,7 @@ load_read_failed fault = false
 -- documents are loaded under a namespace, one after the other, and this is left
 abbrev pub LoadsEach : List ℕ → List (List Field) → State → State → Type 0
 LoadsEach namespace [] old new = new ≡ old
-LoadsEach namespace (d ∷ documents) old new = (mid : State) × (loaded namespace d old ≡ Ok mid) × LoadsEach namespace documents mid new
+LoadsEach namespace (d ∷ documents) old new = (mid : State) × IsLoaded namespace d old mid × LoadsEach namespace documents mid new
 
 -- documents from the front of a file are loaded under the namespace, and this is left; these bytes stand behind them
 pub record Loads (file namespace : List ℕ) (old : State) (documents : List (List Field)) (rest : List ℕ) (new : State) : Type 0 where

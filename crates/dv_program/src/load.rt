@@ -3,7 +3,7 @@
 ghost use Rattle.std.specs.Prelude.{◌≡◌, ◌≢◌, ◌⊎◌, ℕ, List, Ok, Err, pos, IfErr, IfOk, IfSome, OnErr};
 ghost use Rattle.dv_bson.specs.declared.fault.BsonFault.{BsonFault};
 ghost use Rattle.dv_bson.specs.Tree.{Field};
-ghost use Rattle.dv_core.specs.Load.{loaded};
+ghost use Rattle.dv_core.specs.Load.{IsLoaded};
 ghost use Rattle.dv_program.specs.File.{Begins};
 ghost use Rattle.dv_program.specs.Load.{IsWhy, LoadsFile, load_read_failed};
 ghost use Rattle.dv_program.specs.Streams.{failures_told};
@@ -134,7 +134,7 @@ fn load_first<'a>(
     at: usize,
     bytes: &'a [u8],
 ) -> Result<&'a [u8], LoadFault>
-    ensures loaded { IfOk result (λ behind. (document : List Field) × Begins bytes.now document behind.now × (loaded namespace.now document store.old ≡ Ok store.new)) }
+    ensures loaded { IfOk result (λ behind. (document : List Field) × Begins bytes.now document behind.now × IsLoaded namespace.now document store.old store.new) }
     ensures kept { OnErr result (store.new ≡ store.old) }
     ensures why { IfErr result (λ fault. IsWhy fault namespace.now store.old bytes.now number at) }
     ensures reader { (n : ℕ) → failures_told load_read_failed result n ≡ n }

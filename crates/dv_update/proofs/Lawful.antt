@@ -20,7 +20,6 @@ use Rattle.dv_update.specs.declared.fault.UpdateFault.TheVariants.{Conflict, IdC
 use Rattle.dv_update.proofs.Items.{fields_again}
 use Rattle.dv_update.proofs.Paths.{path-exact, begins-itself}
 use Rattle.dv_update.proofs.Placed.{Alike-swap, Alike-behind}
-use Rattle.dv_update.proofs.Made.{put_taken}
 use Rattle.dv_update.proofs.PutThere.{put-again}
 use Rattle.dv_order.specs.SameLaws.{same-is, same-itself, same-fields, fields-itself}
 
@@ -102,7 +101,7 @@ traded before after d e none =
 -- ---- what is set again
 
 pub set_again : (path : Path) (v : Tree) (d : List Field) → slot d path ≡ taken v → set_at path v d ≡ Ok d
-set_again path v d here = put_taken d path v v here ∙ ap told (put-again d path v here)
+set_again path v d here = ap told (put-again d path v here)
 
 -- ---- what comes out
 

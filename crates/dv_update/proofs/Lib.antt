@@ -1,5 +1,11 @@
+pub mod AlikeChecked
+pub mod AlikeDown
+pub mod AlikeEdits
+pub mod DownTo
+pub mod FarEdits
 pub mod Gathered
 pub mod Items
+pub mod LastWay
 pub mod Lawful
 pub mod Lengths
 pub mod Made
@@ -13,4 +19,5 @@ pub mod Sound
 pub mod Texts
 pub mod Valid
 pub mod RemovalsLast
+pub mod StandingIn
 pub mod Stepwise

@@ -1,27 +1,21 @@
 -- What edits leave as it is, and elements that are taken out.
-use Rattle.std.proofs.Common.{◌≡◌, ◌∙◌, ap, sym, refl, List, [], ◌∷◌, ◌++◌, ℕ, zero, suc, ◌<◌, ◌≤◌, length, map, drop, get_or, Bool, true, false, ◌||◌, Ok, Err, if◌then◌else◌, arith, drop_of_length-le, append-nil}
+use Rattle.std.proofs.Common.{◌≡◌, ◌∙◌, ap, sym, refl, List, [], ◌∷◌, ◌++◌, ℕ, zero, suc, ◌<◌, ◌≤◌, length, map, drop, get_or, Bool, true, false, ◌||◌, Ok, arith, drop_of_length-le, append-nil}
 use Rattle.std.specs.List.{list_any}
 use Rattle.dv_bson.specs.Tree.{Tree, Field, elements_of, array}
 use Rattle.dv_bson.specs.View.{tree}
 use Rattle.dv_bson.specs.declared.value.Value.{Value}
-use Rattle.dv_path.specs.Placing.{put}
 use Rattle.dv_path.specs.Slots.{slot, taken}
-use Rattle.dv_update.specs.Apply.{Path, told, is_beyond, set_at, is_pulled, left}
+use Rattle.dv_update.specs.Apply.{Path, told, set_at, is_pulled, left}
 use Rattle.dv_order.specs.Same.{is_same}
 use Rattle.dv_update.specs.Update.{Pulled}
-use Rattle.dv_update.specs.declared.fault.UpdateFault.TheVariants.{TooDeep}
 use Rattle.dv_update.proofs.PutThere.{put-again}
 use Rattle.dv_order.specs.SameLaws.{same-is}
-
--- where a value stands, none comes deeper than it
-pub put_taken : (d : List Field) (path : Path) (w v : Tree) → slot d path ≡ taken w → set_at path v d ≡ told (put d path v)
-put_taken d path w v here = ap (λ s. if is_beyond path s then Err TooDeep else told (put d path v)) here
 
 -- to set what stands there changes nothing
 pub set_there : (d : List Field) (path : Path) (w v : Tree) → taken w ≡ slot d path → true ≡ is_same w v → set_at path v d ≡ Ok d
 set_there d path w v here same =
     let is : w ≡ v = same-is w v (sym same) in
-    put_taken d path w v (sym here) ∙ ap told (put-again d path v (sym here ∙ ap taken is))
+    ap told (put-again d path v (sym here ∙ ap taken is))
 
 or-true : (a : Bool) → a || true ≡ true
 or-true true = refl
@@ -51,5 +45,4 @@ none-kept p (v ∷ vs) e = by (is_pulled p v) refl e (none-kept p vs)
 pub pull_none : (d : List Field) (path : Path) (p : Pulled) (vs : List Tree) → taken (array (elements_of vs)) ≡ slot d path → false ≡ list_any (is_pulled p) vs → set_at path (array (elements_of (left p vs))) d ≡ Ok d
 pull_none d path p vs here none =
     let same : left p vs ≡ vs = none-kept p vs (sym none) in
-    put_taken d path (array (elements_of vs)) (array (elements_of (left p vs))) (sym here)
-    ∙ ap told (put-again d path (array (elements_of (left p vs))) (sym here ∙ ap (λ ws. taken (array (elements_of ws))) (sym same)))
+    ap told (put-again d path (array (elements_of (left p vs))) (sym here ∙ ap (λ ws. taken (array (elements_of ws))) (sym same)))

@@ -17,7 +17,6 @@ use Rattle.dv_update.specs.declared.fault.UpdateFault.{UpdateFault}
 use Rattle.dv_update.specs.declared.fault.UpdateFault.TheVariants.{IdChanged, TooLarge, TooDeep}
 use Rattle.dv_update.proofs.Items.{fields_again}
 use Rattle.dv_update.proofs.Lawful.{same_documents}
-use Rattle.dv_update.proofs.Made.{put_taken}
 use Rattle.dv_order.specs.SameLaws.{same-itself, same-fields, fields-itself}
 
 -- what dv_bson's law says of spellings
@@ -52,7 +51,7 @@ module _ (name : List ℕ) (v : Tree) where
   putting d = refl
 
   set-there : (w : Tree) (d : List Field) → value_under name d ≡ Some w → set_at (name ∷ []) v d ≡ Ok (with_value_under name v d)
-  set-there w d here = put_taken d (name ∷ []) w v (slot-there w d here) ∙ ap told (putting d) ∙ ap Ok (put-there w d here)
+  set-there w d here = ap told (putting d) ∙ ap Ok (put-there w d here)
 
   edit-there : (o : Operation) (w : Tree) (d : List Field) → value_under name d ≡ Some w → value_by o w ≡ Ok v → edit_at (name ∷ []) o d ≡ Ok (with_value_under name v d)
   edit-there (assign u) w d here is = let same : u ≡ v = cc in ap (λ x. set_at (name ∷ []) x d) same ∙ set-there w d here

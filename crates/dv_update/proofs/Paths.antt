@@ -24,7 +24,7 @@ second-equal Less p e = cc
 second-equal Equal p e = e
 second-equal Greater p e = cc
 
-component-exact : (a b : List ℕ) → component_order a b ≡ Equal → a ≡ b
+pub component-exact : (a b : List ℕ) → component_order a b ≡ Equal → a ≡ b
 component-exact a b e =
     let numbers = nat_cmp (number_of a) (number_of b) in
     let bytes = slice_cmp nat_cmp a b in

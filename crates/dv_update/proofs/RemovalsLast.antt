@@ -10,8 +10,7 @@ use Rattle.dv_path.specs.Placing.{put, result_map}
 use Rattle.dv_path.specs.Removing.{remove}
 use Rattle.dv_path.specs.Slots.{Slot, taken, free, blocked, slot}
 use Rattle.dv_update.specs.declared.fault.UpdateFault.{UpdateFault}
-use Rattle.dv_update.specs.declared.fault.UpdateFault.TheVariants.{TooDeep}
-use Rattle.dv_update.specs.Apply.{Path, told, is_beyond, set_at, increased, appended, pull_from, edit_at, edited}
+use Rattle.dv_update.specs.Apply.{Path, told, set_at, increased, appended, pull_from, edit_at, edited}
 use Rattle.dv_update.specs.Parsing.{◌>>=◌, conflicts, has_conflict}
 use Rattle.dv_update.specs.PathOrder.{begins}
 use Rattle.dv_update.specs.Removals.{is_removal, removals, other_edits}
@@ -80,15 +79,8 @@ PutsStay = (fields : List Field) (p q : List (List ℕ)) (v : Tree) → AreApart
 
 module _ (slots : SlotsStay) (puts : PutsStay) where
   module _ (p q : Path) (h : AreApart p q) (d : List Field) where
-    set-by : (v : Tree) (b : Bool) → (if b then Err TooDeep else told (result_map (λ after. remove after p) (put d q v))) ≡ ((if b then Err TooDeep else told (put d q v)) >>= λ after. Ok (remove after p))
-    set-by v true = refl
-    set-by v false = told-then (λ after. remove after p) (put d q v)
-
     set-apart : (v : Tree) → set_at q v (remove d p) ≡ (set_at q v d >>= λ after. Ok (remove after p))
-    set-apart v =
-        ap (λ s. if is_beyond q s then Err TooDeep else told (put (remove d p) q v)) (slots d p q h)
-        ∙ ap (λ r. if is_beyond q (slot d q) then Err TooDeep else told r) (puts d p q v h)
-        ∙ set-by v (is_beyond q (slot d q))
+    set-apart v = ap told (puts d p q v h) ∙ told-then (λ after. remove after p) (put d q v)
 
     value-apart : (r : Result Tree UpdateFault) → (r >>= λ v. set_at q v (remove d p)) ≡ ((r >>= λ v. set_at q v d) >>= λ after. Ok (remove after p))
     value-apart (Ok v) = set-apart v
@@ -142,3 +134,50 @@ module _ (slots : SlotsStay) (puts : PutsStay) where
           ∙ ap (λ r. r >>= λ after. Ok (remove_each after (removals es))) (removed-later e es (or-none-first (list_any (conflicts e) es) (has_conflict es) none) d)
           ∙ first (edited (other_edits es) d)
       by false is rest = one (edit_at e.0 e.1 d) rest
+
+  -- ---- removals before all other edits
+
+  abbrev AllPart : List Path → Path → Type 0
+  AllPart [] q = Unit {0}
+  AllPart (p ∷ ps) q = AreApart p q × AllPart ps q
+
+  all-part : (e : Edit) (es : List Edit) → list_any (conflicts e) es ≡ false → AllPart (removals es) e.0
+  all-part e [] none = tt
+  all-part e (x ∷ es) none = by (is_removal x.1) (all-part e es (or-none-second (conflicts e x) (list_any (conflicts e) es) none))
+    where
+      parts : AreApart x.0 e.0
+      parts =
+          let both : conflicts e x ≡ false = or-none-first (conflicts e x) (list_any (conflicts e) es) none in
+          part x.0 e.0 (or-none-second (begins e.0 x.0) (begins x.0 e.0) both) (or-none-first (begins e.0 x.0) (begins x.0 e.0) both)
+
+      by : (b : Bool) → AllPart (removals es) e.0 → AllPart (if b then x.0 ∷ removals es else removals es) e.0
+      by true rest = (parts, rest)
+      by false rest = rest
+
+  edit-passes : (q : Path) (o : Operation) → is_removal o ≡ false → (ps : List Path) → AllPart ps q → (d : List Field) → edit_at q o (remove_each d ps) ≡ (edit_at q o d >>= λ after. Ok (remove_each after ps))
+  edit-passes q o other [] parts d = alone (edit_at q o d)
+    where
+      alone : (r : Result (List Field) UpdateFault) → r ≡ (r >>= λ after. Ok after)
+      alone (Ok a) = refl
+      alone (Err f) = refl
+  edit-passes q o other (p ∷ ps) parts d =
+      edit-passes q o other ps parts.1 (remove d p) ∙ ap (λ r. r >>= λ after. Ok (remove_each after ps)) (edit-apart p q parts.0 d o other) ∙ joined (edit_at q o d)
+    where
+      joined : (r : Result (List Field) UpdateFault) → ((r >>= λ after. Ok (remove after p)) >>= λ after. Ok (remove_each after ps)) ≡ (r >>= λ after. Ok (remove_each (remove after p) ps))
+      joined (Ok a) = refl
+      joined (Err f) = refl
+
+  pub removals_first : (es : List Edit) (d : List Field) → has_conflict es ≡ false → edited es d ≡ edited (other_edits es) (remove_each d (removals es))
+  removals_first [] d none = refl
+  removals_first (e ∷ es) d none = by (is_removal e.1) refl (λ a. removals_first es a (or-none-second (list_any (conflicts e) es) (has_conflict es) none))
+    where
+      one : (r : Result (List Field) UpdateFault) → ((a : List Field) → edited es a ≡ edited (other_edits es) (remove_each a (removals es))) → (r >>= edited es) ≡ ((r >>= λ after. Ok (remove_each after (removals es))) >>= edited (other_edits es))
+      one (Ok a) rest = rest a
+      one (Err f) rest = refl
+
+      by : (b : Bool) → is_removal e.1 ≡ b → ((a : List Field) → edited es a ≡ edited (other_edits es) (remove_each a (removals es)))
+          → edited (e ∷ es) d ≡ edited (if b then other_edits es else e ∷ other_edits es) (remove_each d (if b then e.0 ∷ removals es else removals es))
+      by true is rest = ap (λ o. edit_at e.0 o d >>= edited es) (removal-is e.1 is) ∙ rest (remove d e.0)
+      by false is rest =
+          one (edit_at e.0 e.1 d) rest
+          ∙ ap (λ r. r >>= edited (other_edits es)) (sym (edit-passes e.0 e.1 is (removals es) (all-part e es (or-none-first (list_any (conflicts e) es) (has_conflict es) none)) d))

@@ -19,7 +19,7 @@ use Rattle.dv_path.specs.Path.{is_component, path_of}
 use Rattle.dv_path.specs.Placing.{put}
 use Rattle.dv_path.specs.Slots.{Slot, taken, free, blocked, slot}
 use Rattle.dv_path.specs.declared.fault.PathFault.{PathFault}
-use Rattle.dv_update.specs.Apply.{Path, told, is_beyond, set_at, integer, is_narrow, number_tree, fits_32, fits_64, sum_as, increased, appended, is_pulled, left, pull_from, edit_at, edited, chosen, leading_id, checked, changed, applied, document_limit, level_limit}
+use Rattle.dv_update.specs.Apply.{Path, told, set_at, integer, is_narrow, number_tree, fits_32, fits_64, sum_as, increased, appended, is_pulled, left, pull_from, edit_at, edited, chosen, leading_id, checked, changed, applied, document_limit, level_limit}
 use Rattle.dv_path.specs.Names.{has_bad_name}
 use Rattle.dv_update.specs.Parsing.{◌>>=◌, operator_named, number_to_add, members, each_alone, values_to_push, condition, values_to_pull, operation_by, plain, edit_by, edits_by, edits_under, edits_in, has_conflict, placed, sorted, in_order, replacement_of, update_of}
 use Rattle.dv_update.specs.PathOrder.{path_order}
@@ -176,7 +176,7 @@ told-valid (Ok d) valid = valid
 told-valid (Err e) valid = tt
 
 set_at-valid : (path : Path) (v : Tree) (d : List Field) → AreNames path → IsValue v → AreValid d → IfOk (set_at path v d) AreValid
-set_at-valid path v d named value valid = unless AreValid (is_beyond path (slot d path)) TooDeep (told (put d path v)) (told-valid (put d path v) (put-valid d path v named value valid))
+set_at-valid path v d named value valid = told-valid (put d path v) (put-valid d path v named value valid)
 
 fits-32 : (n : ℤ) → fits_32 n ≡ true → FitsSigned w32 n
 fits-32 (pos n) e = record { sfits = grind (arith, nat_tests) }

@@ -31,16 +31,8 @@ abbrev pub told : {X : Type 0} → Result X PathFault → Result X UpdateFault
 told (Ok x) = Ok x
 told (Err e) = Err (of_path e)
 
-abbrev pub component_limit : ℕ
-component_limit = 1000
-
--- what would come under more components could never be stored, having ten times the levels of any document: none of it is made
-abbrev pub is_beyond : Path → Slot → Bool
-is_beyond path free = nat_lt component_limit (length path)
-is_beyond path s = false
-
 abbrev pub set_at : Path → Tree → List Field → Result (List Field) UpdateFault
-set_at path v d = if is_beyond path (slot d path) then Err TooDeep else told (placing.put d path v)
+set_at path v d = told (placing.put d path v)
 
 -- ---- $inc
 

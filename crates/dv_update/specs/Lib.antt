@@ -7,6 +7,8 @@ pub mod Outcome
 pub mod Parsing
 pub mod PathOrder
 pub mod PathOrderLaws
+pub mod StandIn
+pub mod Standing
 pub mod Update
 pub mod UpdateCode
 pub mod UpdateView

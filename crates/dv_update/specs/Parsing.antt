@@ -1,11 +1,11 @@
 -- Updates from documents: the form, or the first fault in written order, and conflicts last (MongoDB manual, "Update Operators",
 -- "Replace Documents"). Which fault is told, and which names are refused, are this server's own.
-use Rattle.std.specs.Prelude.{◌≡◌, ◌⊎◌, ℕ, Bool, false, ◌||◌, List, [], ◌∷◌, ◌++◌, Option, Some, None, Result, Ok, Err, codes, ◌==◌, if◌then◌else◌}
+use Rattle.std.specs.Prelude.{◌≡◌, ◌⊎◌, ℕ, Bool, false, ◌||◌, List, [], ◌∷◌, ◌++◌, Option, Some, None, Result, Ok, Err, codes, if◌then◌else◌}
 use Rattle.std.specs.List.{list_any}
 use Rattle.std.specs.Str.{bytes_eq}
 use Rattle.std.specs.Ordering.{is_gt}
 use Rattle.dv_bson.specs.Names.{begins_with_dollar}
-use Rattle.dv_bson.specs.Tree.{Tree, int32, int64, document, array, Fields, no_fields, field, Elements, no_elements, element, Field, fields_of, list_of_fields, list_of_elements}
+use Rattle.dv_bson.specs.Tree.{Tree, int32, int64, document, array, Fields, no_fields, field, Field, fields_of, list_of_fields, list_of_elements}
 use Rattle.dv_path.specs.Names.{has_bad_name}
 use Rattle.dv_path.specs.Path.{path_of}
 use Rattle.dv_match.specs.Filter.{Test}

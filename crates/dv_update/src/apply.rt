@@ -8,11 +8,12 @@ ghost use Rattle.dv_bson.specs.View.{tree};
 ghost use Rattle.dv_update.specs.Apply as defined;
 ghost use Rattle.dv_update.specs.Parsing.{Gives};
 ghost use Rattle.dv_order.specs.Same.{both_same};
+ghost use Rattle.dv_update.specs.Standing.{Likewise};
 ghost use Rattle.dv_update.specs.UpdateView.{update};
 
-use crate::edits::edited;
 use crate::fault::UpdateFault;
 use crate::form::Update;
+use crate::stand_in::edited_or_alike;
 use dv_bson::{BsonFault, Document, NoMemory, Value, fits, size};
 use dv_order::is_same;
 use std::alloc::{AllocError, Global};
@@ -27,9 +28,8 @@ impl Update {
     /// What the update makes of the document, which stays as it is.
     ///
     /// Edits are made one after the other, and the first refusal is told: `NotViable` where no value can be put, `NotNumber`
-    /// and `Overflow` of `$inc`, `NotArray` of `$push` and `$pull`, `TooDeep` where a path of more than 1,000 components leads
-    /// to nothing that is there. A replacement has its own `_id`, or else the document's,
-    /// in front. Then `IdChanged` where the result doesn't begin with the `_id` with which the document begins, spelled as it
+    /// and `Overflow` of `$inc`, `NotArray` of `$push` and `$pull`. A replacement has its own `_id`, or else the document's, in
+    /// front. Then `IdChanged` where the result doesn't begin with the `_id` with which the document begins, spelled as it
     /// is there, `TooLarge` above 16,777,216 bytes, and `TooDeep` above 100 levels. Fails with `NoMemory` where memory is
     /// wanting.
     ///
@@ -52,13 +52,13 @@ impl Update {
         Err(UpdateFault::TooDeep)
     }
 
-    /// The same, whatever the result is.
+    /// The same, whatever the result is; or what is refused as the result is.
     fn change(&self, alloc: Global, document: &Document) -> Result<Document, UpdateFault>
-        ensures { Gives (λ changed. changed) result (defined.changed (update self.now) document.now) }
+        ensures { Likewise document.now result (defined.changed (update self.now) document.now) }
     {
         match self {
             Update::Replacement(fields) => Ok(replaced(alloc, fields, document)?),
-            Update::Operators(edits) => edited(alloc, edits, document.try_clone()?),
+            Update::Operators(edits) => edited_or_alike(alloc, edits, document),
         }
     }
 }
@@ -101,7 +101,7 @@ fn chosen_id<'a>(fields: &'a Document, document: &'a Document) -> Option<&'a Val
 }
 
 /// Adds a field whose name is known to be new and without a zero byte. Fails where memory is wanting.
-fn add(document: &mut Document, name: &str, value: Value) -> Result<(), NoMemory>
+pub(crate) fn add(document: &mut Document, name: &str, value: Value) -> Result<(), NoMemory>
     requires whole { has_zero name.now ≡ false }
     requires fresh { has_name name.now document.old ≡ false }
     ensures { OnOk result (document.new ≡ document.old ++ (name.now, tree value) ∷ []) }

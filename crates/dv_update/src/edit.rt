@@ -3,7 +3,6 @@
 ghost use Rattle.std.specs.Prelude.{◌≡◌, ◌++◌, true, IfOk};
 ghost use Rattle.std.specs.List.{list_any};
 ghost use Rattle.dv_bson.specs.View.{tree};
-ghost use Rattle.dv_path.specs.Slots.{slot};
 ghost use Rattle.dv_path.specs.View.{slot_seen};
 ghost use Rattle.dv_update.specs.Apply as defined;
 ghost use Rattle.dv_update.specs.Parsing.{Gives};
@@ -16,9 +15,6 @@ use dv_bson::{Document, List, NoMemory, Value};
 use dv_order::{compare, is_same};
 use dv_path::{Path, Slot, put_at, remove_at, slot_at};
 use std::alloc::Global;
-
-/// How many components a path has at most at which something new is made.
-const MOST_COMPONENTS: usize = 1_000;
 
 impl Edit {
     /// What the operator makes of the document, which is changed in place.
@@ -50,31 +46,7 @@ fn set_at(
             return Ok(document);
         }
     }
-    put(alloc, document, path, value.try_clone()?)
-}
-
-/// The value put where the path leads. `TooDeep` where nothing stands there yet, and the path has more than 1,000
-/// components: what would be made could never be stored, a path may have millions of components, and walking through so
-/// deep a document takes stack for each of them.
-fn put(
-    alloc: Global,
-    document: Document,
-    path: &Path,
-    value: Value,
-) -> Result<Document, UpdateFault>
-    ensures { Gives (λ changed. changed) result (defined.set_at path.now (tree value) document) }
-{
-    if is_beyond(path, &document) {
-        return Err(UpdateFault::TooDeep);
-    }
-    Ok(put_at(alloc, document, path, value)?)
-}
-
-/// Whether nothing stands where the path leads yet, and it has too many components for it to be made.
-fn is_beyond(path: &Path, document: &Document) -> bool
-    ensures { result ≡ defined.is_beyond path.now (slot document.now path.now) }
-{
-    path.components().len() > MOST_COMPONENTS && matches!(slot_at(document, path), Slot::Free)
+    Ok(put_at(alloc, document, path, value.try_clone()?)?)
 }
 
 fn increase_at(
@@ -86,7 +58,7 @@ fn increase_at(
     ensures { Gives (λ changed. changed) result (defined.increase_at path.now number document) }
 {
     let increased = increased(number, slot_at(&document, path))?;
-    put(alloc, document, path, increased)
+    Ok(put_at(alloc, document, path, increased)?)
 }
 
 /// The number added to what stands there.
@@ -113,7 +85,7 @@ fn append_at(
     ensures { Gives (λ changed. changed) result (defined.append_at path.now values.now document) }
 {
     let appended = appended(values, slot_at(&document, path))?;
-    put(alloc, document, path, Value::Array(appended))
+    Ok(put_at(alloc, document, path, Value::Array(appended))?)
 }
 
 /// The values behind those that stand there.
@@ -162,7 +134,7 @@ fn pull_at(
         return Ok(document);
     }
     let left = pulled.left(alloc, list)?;
-    put(alloc, document, path, Value::Array(left))
+    Ok(put_at(alloc, document, path, Value::Array(left))?)
 }
 
 impl Pulled {

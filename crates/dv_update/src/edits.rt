@@ -77,7 +77,7 @@ fn others_in_turn(
 }
 
 /// The paths of the removals.
-fn removals(alloc: Global, edits: &[Edit]) -> Result<Vec<&Path>, NoMemory>
+pub(crate) fn removals(alloc: Global, edits: &[Edit]) -> Result<Vec<&Path>, NoMemory>
     ensures { IfOk result (λ paths. map (λ path. path.now) paths.items ≡ last.removals (map edit edits.now)) }
 {
     let mut paths = Vec::new(alloc);
@@ -90,7 +90,7 @@ fn removals(alloc: Global, edits: &[Edit]) -> Result<Vec<&Path>, NoMemory>
 }
 
 impl Edit {
-    fn is_removal(&self) -> bool
+    pub(crate) fn is_removal(&self) -> bool
         ensures { result ≡ last.is_removal (operation self.now.operation) }
     {
         matches!(self.operation, Operation::Unset)

@@ -10,7 +10,8 @@ ghost use Rattle.dv_update.specs.Apply.{Path, applied, changed, edited, leading_
 ghost use Rattle.dv_update.specs.Examples.{doc, int, list, long, one, outcome, start, with_a};
 ghost use Rattle.dv_update.specs.Parsing.{conflicts, has_conflict, in_order, update_of};
 ghost use Rattle.dv_update.specs.PathOrder.{path_order};
-ghost use Rattle.dv_update.specs.Removals.{edited_removals_last};
+ghost use Rattle.dv_path.specs.Apart.{remove_each};
+ghost use Rattle.dv_update.specs.Removals.{edited_removals_last, other_edits, removals};
 ghost use Rattle.dv_order.specs.Same.{both_same, is_same, same_fields};
 ghost use Rattle.dv_update.specs.Update.{Edit, Update};
 ghost use Rattle.dv_update.specs.declared.fault.UpdateFault.TheVariants.{BadName, BadOperand, Conflict, IdChanged, NotArray, NotNumber, NotViable, Overflow, TooDeep, TooLarge, UnknownOperator};
@@ -33,6 +34,13 @@ pub fn the_written_order_is_no_matter()
 /// Where no path begins or equals another one, removals may be made behind all other edits.
 pub fn removals_may_come_last()
     ensures { (edits : List Edit) (d : List Field) → has_conflict edits ≡ false → edited edits d ≡ edited_removals_last edits d }
+{
+    dv_path::laws::paths_that_part_are_independent();
+}
+
+/// And before them.
+pub fn removals_may_come_first()
+    ensures { (edits : List Edit) (d : List Field) → has_conflict edits ≡ false → edited edits d ≡ edited (other_edits edits) (remove_each d (removals edits)) }
 {
     dv_path::laws::paths_that_part_are_independent();
 }

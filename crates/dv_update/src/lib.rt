@@ -4,6 +4,7 @@
 mod apply;
 mod edit;
 mod edits;
+mod far;
 mod fault;
 mod form;
 pub mod laws;
@@ -13,6 +14,8 @@ mod operator;
 mod order;
 mod outcome;
 mod parsing;
+mod pieces;
+mod stand_in;
 
 pub use fault::UpdateFault;
 pub use form::{Edit, Edits, Operation, Pulled, Update};

@@ -91,7 +91,7 @@ impl Ord for PathKey {
 }
 
 /// The order of two components: whole numbers before names, and by number; names by their bytes.
-fn compare_components(a: &Component, b: &Component) -> Ordering
+pub(crate) fn compare_components(a: &Component, b: &Component) -> Ordering
     ensures { result ≡ component_order a.now b.now }
 {
     match (a.index(), b.index()) {
@@ -116,7 +116,7 @@ fn compare_paths(a: &[Component], b: &[Component]) -> Ordering
 }
 
 /// Whether the path `a` begins the path `b`, or equals it.
-fn begins(a: &Path, b: &Path) -> bool
+pub(crate) fn begins(a: &Path, b: &Path) -> bool
     ensures { result ≡ begins_with a.now b.now }
 {
     let xs = a.components();

@@ -254,14 +254,14 @@ no-lists source namespace (s ∷ ss) i away =
     by None here rest = rest i
     by (Some name) here rest = ap (λ (b : Bool). if b then Named i ∷ list_inputs (suc i) (lookups_of ss source) namespace else list_inputs (suc i) (lookups_of ss source) namespace) here ∙ rest (suc i)
 
-no-inputs : (stages : List Stage) (source namespace : List ℕ) → is_read stages source namespace ≡ false → inputs_at stages source namespace ≡ []
-no-inputs stages source namespace away =
+pub no_inputs : (stages : List Stage) (source namespace : List ℕ) → is_read stages source namespace ≡ false → inputs_at stages source namespace ≡ []
+no_inputs stages source namespace away =
     let both = neither (bytes_eq source namespace) (list_any (λ s. is_named namespace (looked_into s source)) stages) away in
     let lists = list_inputs 0 (lookups_of stages source) namespace in
     ap (λ (b : Bool). if b then Left ∷ lists else lists) (not-equal source namespace both.0) ∙ no-lists source namespace stages 0 both.1
 
 unread-marked : (stages : List Stage) (source namespace : List ℕ) (c : Change) (m : Mark) → is_read stages source namespace ≡ false → IsMarked stages source namespace (c ∷ []) m m
-unread-marked stages source namespace c (live kept) away = inl (ap (λ (inputs : List Input). live (fold (kept_after stages c) kept inputs)) (sym (no-inputs stages source namespace away)))
+unread-marked stages source namespace c (live kept) away = inl (ap (λ (inputs : List Input). live (fold (kept_after stages c) kept inputs)) (sym (no_inputs stages source namespace away)))
 unread-marked stages source namespace c stale away = refl
 
 pub unread_taken : (namespace : List ℕ) (c : Change) (v : View) → reads v namespace ≡ false → IsTakenBy namespace c v v

@@ -1,6 +1,6 @@
 //! What holds of changes and of views, each the contract of a function that does nothing.
 
-ghost use Rattle.std.specs.Prelude.{◌≡◌, ◌≢◌, ◌++◌, ◌∷◌, [], ℕ, List, length, Some, None, true, codes, is_some, if◌then◌else◌};
+ghost use Rattle.std.specs.Prelude.{◌≡◌, ◌≢◌, ◌++◌, ◌∷◌, [], ℕ, List, length, Some, None, true, false, codes, is_some, if◌then◌else◌};
 ghost use Rattle.std.specs.List.{AllByRecursion};
 ghost use Rattle.dv_coll.specs.Collection.{HasId, IsAscending, found, id_key, inserted, removed, replaced};
 ghost use Rattle.dv_change.specs.declared.position.Part.TheVariants.{Up};
@@ -11,7 +11,7 @@ ghost use Rattle.dv_pipe.specs.Stages.{Lists, evaluated, is_read};
 ghost use Rattle.dv_pipe.specs.declared.stage.Stage.{Stage};
 ghost use Rattle.dv_views.specs.Changed.{AreMade, AreMadeInTurn, changed};
 ghost use Rattle.dv_change.specs.Changes.{IsPositioned};
-ghost use Rattle.dv_views.specs.Counted.{rows_made};
+ghost use Rattle.dv_views.specs.Counted.{inputs_at, rows_made};
 ghost use Rattle.dv_views.specs.Placed.{own_position, places_of};
 ghost use Rattle.dv_views.specs.Views.{AreRight, View, Views, fault_of_new, has_view, kept_anew, new_view, reads_name, refreshed, rows_shown, taken_from, view_named, without};
 ghost use Rattle.dv_views.specs.declared.fault.ViewFault.TheVariants.{Exists, LimitReached, OnView, ReadByView};
@@ -75,6 +75,12 @@ pub fn what_is_not_read_is_not_kept()
 {
     dv_pipe::laws::what_is_not_read_does_not_matter();
 }
+
+/// Changes of what a pipeline doesn't read come to none of its inputs, so they count no work.
+#[tactic(auto, using(crate::proofs::Behind::no_inputs))]
+pub fn what_is_not_read_is_not_counted()
+    ensures { (stages : List Stage) (source namespace : List ℕ) → is_read stages source namespace ≡ false → inputs_at stages source namespace ≡ [] }
+{}
 
 /// Views stay right where one more is made.
 #[tactic(auto, using(crate::proofs::Right::right_with_new))]

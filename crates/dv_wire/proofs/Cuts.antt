@@ -2,6 +2,7 @@
 use Rattle.std.proofs.Common.{◌≡◌, ℕ, suc, ◌+◌, ◌-◌, ◌≤◌, min, List, [], ◌∷◌, ◌++◌, length, take, Option, Some, None, refl, sym, ap, subst, ◌∙◌, append_assoc, zero-add, arith, inl, inr}
 use Rattle.std.proofs.lemmas.Bool.{cases_lt, eq-eqb}
 use Rattle.std.proofs.lemmas.List.{append-nil, take-append-le, take_min}
+use Rattle.std.specs.Prelude.{⊤}
 use Rattle.std.specs.List.{concat}
 use Rattle.std.proofs.lemmas.List.Folds.{concat-append}
 use Rattle.dv_wire.specs.declared.fault.CloseFault.{CloseFault}
@@ -9,12 +10,13 @@ use Rattle.dv_wire.specs.declared.fault.CloseFault.TheVariants.{NoMemory}
 use Rattle.dv_wire.specs.declared.hub.Fed.{Fed}
 use Rattle.dv_wire.specs.declared.hub.Fed.TheVariants.{Unknown}
 use Rattle.dv_core.specs.State.{State}
+use Rattle.dv_core.specs.Step.{MemoryStep}
 use Rattle.dv_wire.specs.Message.{Message, Conversation, reading, closed, Split, split, continuation}
 use Rattle.dv_wire.specs.Schedule.{Run, in_front, silence, CarriesOut, Takes, takes_all, takes_some, Hears, fed_of, World, conversation_of, with_conversation, world_behind, plain_run, bytes_of, Feeds, FeedsAll, stream_of}
 use Rattle.dv_wire.specs.View.{GoesOn}
 use Rattle.dv_wire.proofs.Runs.{in_front-silence, carries_then, carries_to, carries_cases, carries_all, carries_shut, stops_so, Divides}
 use Rattle.dv_wire.proofs.Growth.{split_continues}
-use Rattle.dv_wire.proofs.Replies.{plain_carries}
+use Rattle.dv_wire.proofs.Replies.{IsAllowed, allows_any, plain_carries}
 use Rattle.dv_wire.proofs.Worlds.{conversation_of-with}
 
 take_past : (n : ℕ) (xs ys : List Message) → take (length xs + n) (xs ++ ys) ≡ xs ++ take n ys
@@ -226,11 +228,11 @@ feeds_all old new session piece (next ∷ pieces) bytes answer feeds =
     (first, others, mid, told, both, before, feeds_all mid new session next pieces others answer behind)
 
 -- the plain run, however its bytes are cut
-pub plain_feeds : (world : World) (session : ℕ) (kept piece : List ℕ) (pieces : List (List ℕ)) → conversation_of session world.sessions ≡ Some (reading kept) →
+pub plain_feeds : IsAllowed → (world : World) (session : ℕ) (kept piece : List ℕ) (pieces : List (List ℕ)) → conversation_of session world.sessions ≡ Some (reading kept) →
     let run = plain_run session world.state (split (kept ++ stream_of piece pieces)) in
     FeedsAll world session piece pieces (bytes_of run) (fed_of run.conversation) (world_behind session run world)
-plain_feeds world session kept piece pieces there =
+plain_feeds allowed world session kept piece pieces there =
     let stream = split (kept ++ stream_of piece pieces) in
     let run = plain_run session world.state stream in
     feeds_all world (world_behind session run world) session piece pieces (bytes_of run) (fed_of run.conversation)
-    (run.answers, refl, rw there (run, takes_all (plain_carries session world.state stream.messages stream.conversation), refl, refl, refl))
+    (run.answers, refl, rw there (run, takes_all (plain_carries MemoryStep (λ state. ⊤) (allows_any allowed) session world.state stream.messages stream.conversation tt), refl, refl, refl))

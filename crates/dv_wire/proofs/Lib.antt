@@ -21,6 +21,10 @@ mod Worked
 mod Talks
 mod Ran
 mod Written
+mod Wanting
+mod Alike
+mod Counted
+mod Standing
 mod Plain
 pub mod Plays
 pub mod Orders

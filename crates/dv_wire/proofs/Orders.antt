@@ -2,28 +2,28 @@
 use Rattle.std.proofs.Common.{◌≡◌, ℕ, suc, Bool, true, false, ◌&&◌, cond, eqb, ltb, List, [], ◌∷◌, ◌++◌, length, map, Option, Some, None, refl, sym, ap, ◌∙◌, append_assoc, inl, inr}
 use Rattle.std.proofs.lemmas.Bool.{cases_Bool, and_parts, ltb-true, ltb-false}
 use Rattle.dv_core.specs.State.{State}
-use Rattle.dv_core.specs.Step.{step, end_session}
+use Rattle.dv_core.specs.Step.{counted_step, end_session}
 use Rattle.dv_wire.specs.declared.events.Event.{Event}
 use Rattle.dv_wire.specs.declared.events.Event.TheVariants as events
 use Rattle.dv_wire.specs.Message.{Message, Conversation, reading, closed, Split, split}
 use Rattle.dv_wire.specs.Commands.{command_of}
-use Rattle.dv_wire.specs.Schedule.{World, silence, conversation_of, number_limit, plain_messages, plain_run, reply_bytes, bytes_of, session_limit, takes_all, with_conversation, world_behind}
-use Rattle.dv_wire.specs.Playing.{Happens, Plays}
+use Rattle.dv_wire.specs.Schedule.{Steps, World, silence, conversation_of, number_limit, plain_messages, plain_run, reply_bytes, bytes_of, session_limit, takes_all, with_conversation, world_behind}
+use Rattle.dv_wire.specs.Playing.{Happens, HappensBy, PlaysBy}
 use Rattle.dv_wire.specs.Order.{Moment, opens, comes, ends, is_room, heard, moments_heard, order, state_behind, replies_behind, plain_fed, plain_event, plain_play, answers}
-use Rattle.dv_wire.proofs.Replies.{plain_carries}
+use Rattle.dv_wire.proofs.Replies.{Allows, plain_carries, plain_kept}
 
 -- ---- one message after the other
 
 pub plain_conversation : (session : ℕ) (state : State) (messages : List Message) (conversation : Conversation) → (plain_messages session state messages conversation).conversation ≡ conversation
 unfolding plain_messages
 plain_conversation session state [] conversation = refl
-plain_conversation session state (message ∷ messages) conversation = plain_conversation session (step state session (command_of message)).state messages conversation
+plain_conversation session state (message ∷ messages) conversation = plain_conversation session (counted_step state session (command_of message)).state messages conversation
 
 plain_state : (session : ℕ) (state : State) (messages : List Message) (conversation : Conversation)
     → (plain_messages session state messages conversation).state ≡ state_behind state (map (comes session) messages)
 unfolding plain_messages
 plain_state session state [] conversation = refl
-plain_state session state (message ∷ messages) conversation = plain_state session (step state session (command_of message)).state messages conversation
+plain_state session state (message ∷ messages) conversation = plain_state session (counted_step state session (command_of message)).state messages conversation
 
 both_or_none : (here : Bool) (first others : List ℕ) → cond here first [] ++ cond here others [] ≡ cond here (first ++ others) []
 both_or_none true first others = refl
@@ -38,7 +38,7 @@ plain_bytes : (listener session : ℕ) (state : State) (messages : List Message)
 unfolding plain_messages
 plain_bytes listener session state [] conversation = same_anyway (eqb session listener) []
 plain_bytes listener session state (message ∷ messages) conversation =
-    let answer = step state session (command_of message) in
+    let answer = counted_step state session (command_of message) in
     ap (λ (bytes : List ℕ). cond (eqb session listener) (reply_bytes message answer.reply) [] ++ bytes) (plain_bytes listener session answer.state messages conversation)
     ∙ both_or_none (eqb session listener) (reply_bytes message answer.reply) (bytes_of (plain_messages session answer.state messages conversation))
 
@@ -47,7 +47,7 @@ plain_bytes listener session state (message ∷ messages) conversation =
 state_append : (state : State) (first later : List Moment) → state_behind state (first ++ later) ≡ state_behind (state_behind state first) later
 state_append state [] later = refl
 state_append state (opens ∷ first) later = state_append state first later
-state_append state (comes session message ∷ first) later = state_append (step state session (command_of message)).state first later
+state_append state (comes session message ∷ first) later = state_append (counted_step state session (command_of message)).state first later
 state_append state (ends session ∷ first) later = state_append (end_session session state) first later
 
 replies_append : (listener : ℕ) (state : State) (first later : List Moment)
@@ -55,7 +55,7 @@ replies_append : (listener : ℕ) (state : State) (first later : List Moment)
 replies_append listener state [] later = refl
 replies_append listener state (opens ∷ first) later = replies_append listener state first later
 replies_append listener state (comes session message ∷ first) later =
-    let answer = step state session (command_of message) in
+    let answer = counted_step state session (command_of message) in
     let reply = cond (eqb session listener) (reply_bytes message answer.reply) [] in
     ap (λ (bytes : List ℕ). reply ++ bytes) (replies_append listener answer.state first later)
     ∙ sym (append_assoc reply (replies_behind listener answer.state first) (replies_behind listener (state_behind answer.state first) later))
@@ -133,16 +133,6 @@ same_order world one two same = (
 
 -- ---- it is one of the runs that are allowed
 
-plain_feeds : (world : World) (session : ℕ) (piece : List ℕ) (here : Option Conversation) → conversation_of session world.sessions ≡ here
-    → Happens world (events.Piece (record { number = session }) piece) (plain_fed session world (heard piece here)).said (plain_fed session world (heard piece here)).world
-unfolding plain_messages
-plain_feeds world session piece None e = ([], refl, rw e (refl, refl, refl))
-plain_feeds world session piece (Some (reading kept)) e =
-    let s = split (kept ++ piece) in
-    let run = plain_run session world.state s in
-    (run.answers, refl, rw e (run, takes_all (plain_carries session world.state s.messages s.conversation), refl, refl, refl))
-plain_feeds world session piece (Some (closed fault)) e = ([], refl, rw e (silence world.state (closed fault), refl, refl, refl, refl))
-
 full_by : (a b : Bool) → a && b ≡ false → (P : Type 0) → (a ≡ false → P) → (b ≡ false → P) → P
 full_by true b e P left right = right e
 full_by false b e P left right = left refl
@@ -160,14 +150,34 @@ plain_opens world =
       | inr full ↦ rw full (full_by (fewer world) (left world) full _ (λ e. inl (ltb-false (length world.sessions) session_limit e)) (λ e. inr (ltb-false world.next number_limit e)), refl)
     ]
 
-plain_happens : (world : World) (event : Event) → Happens world event (plain_event world event).said (plain_event world event).world
-plain_happens world events.Open = plain_opens world
-plain_happens world (events.Piece session piece) = plain_feeds world session.number piece (conversation_of session.number world.sessions) refl
-plain_happens world (events.End session) = (refl, refl)
+module _ (Step : Steps) (Kept : State → Type 0) (allows : Allows Step Kept) where
+  plain_feeds : (world : World) (session : ℕ) (piece : List ℕ) (here : Option Conversation) → conversation_of session world.sessions ≡ here → Kept world.state
+      → HappensBy Step world (events.Piece (record { number = session }) piece) (plain_fed session world (heard piece here)).said (plain_fed session world (heard piece here)).world
+  unfolding plain_messages
+  plain_feeds world session piece None e kept = ([], refl, rw e (refl, refl, refl))
+  plain_feeds world session piece (Some (reading bytes)) e kept =
+      let s = split (bytes ++ piece) in
+      let run = plain_run session world.state s in
+      (run.answers, refl, rw e (run, takes_all (plain_carries Step Kept allows session world.state s.messages s.conversation kept), refl, refl, refl))
+  plain_feeds world session piece (Some (closed fault)) e kept = ([], refl, rw e (silence world.state (closed fault), refl, refl, refl, refl))
 
-pub plain_plays : (world : World) (all : List Event) → Plays world all (plain_play world all).said (plain_play world all).world
-unfolding plain_play
-plain_plays world [] = (refl, refl)
-plain_plays world (event ∷ later) =
-    let first = plain_event world event in
-    (first.said, (plain_play first.world later).said, first.world, refl, plain_happens world event, plain_plays first.world later)
+  plain_happens : (world : World) (event : Event) → Kept world.state → HappensBy Step world event (plain_event world event).said (plain_event world event).world
+  plain_happens world events.Open kept = plain_opens world
+  plain_happens world (events.Piece session piece) kept = plain_feeds world session.number piece (conversation_of session.number world.sessions) refl kept
+  plain_happens world (events.End session) kept = (refl, refl)
+
+  fed_kept : (world : World) (session : ℕ) (h : Option Split) → Kept world.state → Kept (plain_fed session world h).world.state
+  fed_kept world session None kept = kept
+  fed_kept world session (Some s) kept = plain_kept Step Kept allows session world.state s.messages s.conversation kept
+
+  event_kept : (world : World) (event : Event) → Kept world.state → Kept (plain_event world event).world.state
+  event_kept world events.Open kept = elim (cases_Bool (is_room world.next world.sessions)) [ inl room ↦ rw room kept | inr full ↦ rw full kept ]
+  event_kept world (events.Piece session piece) kept = fed_kept world session.number (heard piece (conversation_of session.number world.sessions)) kept
+  event_kept world (events.End session) kept = allows.ended session.number world.state kept
+
+  pub plain_plays : (world : World) (all : List Event) → Kept world.state → PlaysBy Step world all (plain_play world all).said (plain_play world all).world
+  unfolding plain_play
+  plain_plays world [] kept = (refl, refl)
+  plain_plays world (event ∷ later) kept =
+      let first = plain_event world event in
+      (first.said, (plain_play first.world later).said, first.world, refl, plain_happens world event kept, plain_plays first.world later (event_kept world event kept))

@@ -1,18 +1,23 @@
 -- The bytes of a reply, and what carrying out one message answers.
-use Rattle.std.proofs.Common.{true, ◌≡◌, ℕ, ◌+◌, ◌-◌, ◌<◌, ◌⊎◌, List, [], ◌∷◌, ◌++◌, length, take, drop, Some, Err, refl, sym, ap, ◌∙◌, append_assoc, arith, inl, inr}
+use Rattle.std.proofs.Common.{true, ◌≡◌, ℕ, ◌+◌, ◌-◌, ◌<◌, ◌⊎◌, List, [], ◌∷◌, ◌++◌, length, take, drop, Some, Result, Ok, Err, refl, sym, ap, ◌∙◌, append_assoc, arith, inl, inr}
+use Rattle.std.specs.Prelude.{⊤}
 use Rattle.std.specs.Int.{w32, to_le_bytes}
 use Rattle.std.proofs.lemmas.List.{append-nil, take_at, drop_at, drop-drop, length-append}
 use Rattle.dv_bson.specs.declared.fault.BsonFault.TheVariants as bson
+use Rattle.dv_catalog.specs.Marks.{Marks}
+use Rattle.dv_command.specs.Asked.{Asked, asked_by}
 use Rattle.dv_command.specs.declared.command.Command.{Command}
 use Rattle.dv_command.specs.declared.command.Command.TheVariants.{Invalid}
+use Rattle.dv_fields.specs.declared.refusal.Refusal.{Refusal}
 use Rattle.dv_fields.specs.declared.refusal.Refusal.TheVariants.{WantOfMemory}
+use Rattle.dv_core.specs.Marks.{AreMarkedForWant}
 use Rattle.dv_core.specs.declared.outcome.Outcome.{Outcome}
 use Rattle.dv_core.specs.declared.outcome.Outcome.TheVariants.{Reply, Wanting, NoReply}
-use Rattle.dv_core.specs.State.{State}
+use Rattle.dv_core.specs.State.{State, standing}
 use Rattle.dv_wire.specs.declared.fault.CloseFault.TheVariants.{NoMemory}
 use Rattle.dv_wire.specs.Message.{Message, message_spelling, Conversation, reading, closed}
-use Rattle.dv_core.specs.Step.{Answer, step, answered, MemoryStep, TellsOfWant}
-use Rattle.dv_wire.specs.Schedule.{Run, in_front, silence, unanswered, bytes_to, CarriesOut, plain_messages}
+use Rattle.dv_core.specs.Step.{Answer, MemoryStep, TellsOfWant, answered, counted_step, end_session, step}
+use Rattle.dv_wire.specs.Schedule.{Run, in_front, silence, unanswered, bytes_to, CarriesOut, CarriesOutBy, Steps, plain_messages}
 use Rattle.dv_wire.specs.Commands.{command_of}
 use Rattle.dv_wire.specs.declared.session.Counts.{Counts}
 use Rattle.dv_wire.specs.View.{Answered, Counted, GoesOn, unmeasured}
@@ -53,14 +58,19 @@ message_spelling-some request_id response_to flags sections = omega arith
 
 -- ---- the command that a message brings
 
+-- where nothing changed, views stand as they may behind any command that is refused for want of memory
+pub unmarked : (old : State) (asked : Result Asked Refusal) (marks : Marks) → marks ≡ old.marks → AreMarkedForWant old asked marks
+unmarked old (Ok asked) marks same = inl same
+unmarked old (Err refusal) marks same = same
+
 -- where memory was wanting to read a command, that is told of it which may be told of any command
 steps_unread : (session : ℕ) (old new : State) (command : Command) (outcome : Outcome) → MemoryStep old session (Invalid bson.NoMemory) outcome new → TellsOfWant outcome → MemoryStep old session command outcome new
 steps_unread session old new command (Reply reply) steps told = absurd told
-steps_unread session old new command (Wanting reply) (inl refused) told = inl refused
+steps_unread session old new command (Wanting reply) (inl (refused, same)) told = inl (refused, unmarked old (asked_by command) new.marks same)
 steps_unread session old new command (Wanting reply) (inr cut) told = absurd cut
-steps_unread session old new command NoReply (inl same) told = inr (answered old (Err WantOfMemory), inl refl, same)
-steps_unread session old new command NoReply (inr (answer, inl refused, same)) told = inr (answer, inl refused, same)
-steps_unread session old new command NoReply (inr (answer, inr cut, same)) told = absurd cut
+steps_unread session old new command NoReply (inl (left, same)) told = inr (answered old (Err WantOfMemory), inl (refl, unmarked old (asked_by command) new.marks same), left)
+steps_unread session old new command NoReply (inr (answer, inl (refused, same), left)) told = inr (answer, inl (refused, unmarked old (asked_by command) new.marks same), left)
+steps_unread session old new command NoReply (inr (answer, inr cut, left)) told = absurd cut
 
 pub steps_as : (session : ℕ) (old new : State) (meant read : Command) (outcome : Outcome) → (meant ≡ read) ⊎ (read ≡ Invalid bson.NoMemory)
     → MemoryStep old session read outcome new → (read ≡ Invalid bson.NoMemory → TellsOfWant outcome) → MemoryStep old session meant outcome new
@@ -94,29 +104,56 @@ module _ (session : ℕ) (old new : State) (message : Message) (outcome : Outcom
 
 -- ---- the plain run
 
--- it is one of those that are allowed
-pub plain_carries : (session : ℕ) (old : State) (messages : List Message) (conversation : Conversation) → CarriesOut session old messages conversation (plain_messages session old messages conversation)
-unfolding plain_messages
-plain_carries session old [] conversation = refl
-plain_carries session old (message ∷ messages) conversation =
-    let answer = step old session (command_of message) in
-    (Reply answer.reply, answer.state, refl, inl (plain_messages session answer.state messages conversation, plain_carries session answer.state messages conversation, refl))
+-- steps that may be those where memory is never wanting, from states of which this holds
+pub record Allows (Step : Steps) (Kept : State → Type 0) : Type 0 where
+  pub steps : (state : State) (session : ℕ) (command : Command) → Kept state → let answer = counted_step state session command in Step state session command (Reply answer.reply) answer.state
+  pub kept : (state : State) (session : ℕ) (command : Command) → Kept state → Kept (counted_step state session command).state
+  pub ended : (session : ℕ) (state : State) → Kept state → Kept (end_session session state)
+
+abbrev pub IsAllowed : Type 0
+IsAllowed = (state : State) (session : ℕ) (command : Command) → let answer = counted_step state session command in MemoryStep state session command (Reply answer.reply) answer.state
+
+pub allows_any : IsAllowed → Allows MemoryStep (λ state. ⊤)
+allows_any allowed = record { steps = λ state session command kept. allowed state session command; kept = λ state session command kept. tt; ended = λ session state kept. tt }
+
+module _ (Step : Steps) (Kept : State → Type 0) (allows : Allows Step Kept) where
+  -- it is one of those that are allowed
+  pub plain_carries : (session : ℕ) (old : State) (messages : List Message) (conversation : Conversation) → Kept old
+      → CarriesOutBy Step session old messages conversation (plain_messages session old messages conversation)
+  unfolding plain_messages
+  plain_carries session old [] conversation kept = refl
+  plain_carries session old (message ∷ messages) conversation kept =
+      let answer = counted_step old session (command_of message) in
+      let behind = allows.kept old session (command_of message) kept in (
+        Reply answer.reply,
+        answer.state,
+        allows.steps old session (command_of message) kept,
+        inl (plain_messages session answer.state messages conversation, plain_carries session answer.state messages conversation behind, refl),
+      )
+
+  pub plain_kept : (session : ℕ) (old : State) (messages : List Message) (conversation : Conversation) → Kept old → Kept (plain_messages session old messages conversation).state
+  unfolding plain_messages
+  plain_kept session old [] conversation kept = kept
+  plain_kept session old (message ∷ messages) conversation kept =
+      plain_kept session (counted_step old session (command_of message)).state messages conversation (allows.kept old session (command_of message) kept)
 
 -- ---- a message with moreToCome
 
 goes_on_done : (session : ℕ) (old mid : State) (message : Message) (outcome : Outcome) (conversation : Conversation) (run : Run) (bytes : List ℕ) → message.more_to_come ≡ true
     → MemoryStep old session (command_of message) outcome mid → bytes_to message outcome ≡ Some bytes → run ≡ in_front (bytes ∷ []) (silence mid conversation)
-    → run ≡ unanswered (step old session (command_of message)).state conversation
+    → run ≡ unanswered (standing run.state.marks (step old session (command_of message)).state) conversation
 goes_on_done session old mid message (Reply reply) conversation run bytes more steps is e =
     let nothing : [] ≡ bytes = (let sent : Some [] ≡ Some bytes = rw more at is in cc) in
-    let same : (step old session (command_of message)).state ≡ mid = ap (λ (a : Answer). a.state) steps in
-    e ∙ ap (λ (b : List ℕ). in_front (b ∷ []) (silence mid conversation)) (sym nothing) ∙ ap (λ (s : State). unanswered s conversation) (sym same)
+    let same : (step old session (command_of message)).state ≡ standing old.marks mid = ap (λ (a : Answer). a.state) steps.0 in
+    let stands : mid ≡ standing run.state.marks (step old session (command_of message)).state =
+    ap (λ (s : State). standing mid.marks s) (sym same) ∙ ap (λ (m : Marks). standing m (step old session (command_of message)).state) (sym (ap (λ (r : Run). r.state.marks) e)) in
+    e ∙ ap (λ (b : List ℕ). in_front (b ∷ []) (silence mid conversation)) (sym nothing) ∙ ap (λ (s : State). unanswered s conversation) stands
 goes_on_done session old mid message (Wanting reply) conversation run bytes more steps is e = let sent = rw more at is in absurd cc
 goes_on_done session old mid message NoReply conversation run bytes more steps is e = absurd cc
 
 -- where the session goes on, its step was carried out
 pub silent_done : (session : ℕ) (old : State) (message : Message) (kept : List ℕ) (run : Run) → message.more_to_come ≡ true → CarriesOut session old (message ∷ []) (reading kept) run
-    → run.conversation ≡ reading kept → run ≡ unanswered (step old session (command_of message)).state (reading kept)
+    → run.conversation ≡ reading kept → run ≡ unanswered (standing run.state.marks (step old session (command_of message)).state) (reading kept)
 silent_done session old message kept run more (outcome, mid, steps, follows) on =
     elim (follows_cases (bytes_to message outcome) mid (CarriesOut session mid [] (reading kept)) run follows) [
       | inl shut ↦ let e = sym on ∙ ap (λ (r : Run). r.conversation) shut in absurd cc

@@ -10,15 +10,17 @@ use Rattle.dv_bson.specs.declared.fault.BsonFault.{BsonFault}
 use Rattle.dv_bson.specs.Tree.{int32, Field}
 use Rattle.dv_bson.specs.Spelling.{framed, element_spelling, payload}
 use Rattle.dv_bson.specs.Reading.{document_at, count_at, body_at, Inside, ◌>>=◌, fields_at, kind_at, kind_of_byte, name_at, cut_at_zero, value_at, text_at}
+use Rattle.dv_command.specs.Asked.{asked_by}
 use Rattle.dv_command.specs.declared.command.Command.{Command}
 use Rattle.dv_fields.specs.declared.refusal.Refusal.TheVariants.{WantOfMemory}
 use Rattle.dv_core.specs.declared.outcome.Outcome.TheVariants.{NoReply}
 use Rattle.dv_core.specs.State.{State}
-use Rattle.dv_core.specs.Step.{Answer, step, answered}
+use Rattle.dv_core.specs.Step.{Answer, answered, counted_step}
 use Rattle.dv_wire.specs.Sections.{body, named, sized, is_section, are_sections, row_within, row_in, frame_at, section_at, sections_in}
 use Rattle.dv_wire.specs.Message.{Message, Conversation, reading, front, split_within, split, message_spelling}
 use Rattle.dv_wire.specs.Commands.{brought_body, body_among, lists_among, command_from, command_of}
 use Rattle.dv_wire.specs.Schedule.{reply_bytes, in_front, silence, plain_behind, plain_messages, plain_run}
+use Rattle.dv_wire.proofs.Replies.{unmarked}
 use Rattle.dv_wire.proofs.Together.{sections_found, sections_refused}
 use Rattle.dv_wire.specs.Examples.{Are, AreNone, empty_document, nothing_under, asks, ping_document, ping_fields, ok, ping, pong, HeaderExamples, SectionExamples, SessionExamples, WantExamples}
 
@@ -138,14 +140,14 @@ command_by read =
 command_is : (more_to_come : Bool) (document : List ℕ) → command_of (asks more_to_come document) ≡ command_by (document_at document)
 command_is more_to_come document = refl
 
-answer_ping : (state : State) (session : ℕ) (more_to_come : Bool) → step state session (command_of (asks more_to_come ping_document)) ≡ record { reply = ok; state = state }
-answer_ping state session more_to_come = ap (step state session) (command_is more_to_come ping_document ∙ ap command_by read_ping) ∙ refl
+answer_ping : (state : State) (session : ℕ) (more_to_come : Bool) → counted_step state session (command_of (asks more_to_come ping_document)) ≡ record { reply = ok; state = state }
+answer_ping state session more_to_come = ap (counted_step state session) (command_is more_to_come ping_document ∙ ap command_by read_ping) ∙ refl
 
 split_pings : split (ping 0 ++ ping 2 ++ ping 0 ++ 47 ∷ []) ≡ record { messages = asks false ping_document ∷ asks true ping_document ∷ asks false ping_document ∷ []; conversation = reading (47 ∷ []) }
 unfolding split split_within front sections_in row_in row_within section_at frame_at
 split_pings = refl
 
-plain_next : (session : ℕ) (state : State) (message : Message) (messages : List Message) (conversation : Conversation) (reply : List Field) → step state session (command_of message) ≡ record { reply = reply; state = state }
+plain_next : (session : ℕ) (state : State) (message : Message) (messages : List Message) (conversation : Conversation) (reply : List Field) → counted_step state session (command_of message) ≡ record { reply = reply; state = state }
     → plain_messages session state (message ∷ messages) conversation ≡ in_front (reply_bytes message reply ∷ []) (plain_messages session state messages conversation)
 unfolding plain_messages
 plain_next session state message messages conversation reply e = ap (λ (a : Answer). plain_behind message a (λ behind. plain_messages session behind messages conversation)) e
@@ -189,5 +191,5 @@ wants = record {
   untold = λ reply. refl;
   told = λ reply. refl;
   no_reply = λ more_to_come. refl;
-  refused = λ state session. (NoReply, state, inr (answered state (Err WantOfMemory), inl refl, refl), refl);
+  refused = λ state session. (NoReply, state, inr (answered state (Err WantOfMemory), inl (refl, unmarked state (asked_by (command_of (asks true empty_document))) state.marks refl), refl), refl);
 }

@@ -6,6 +6,7 @@ pub mod Schedule
 pub mod Playing
 pub mod Order
 pub mod Wants
+pub mod Standing
 pub mod Stream
 pub mod Service
 pub mod Sound

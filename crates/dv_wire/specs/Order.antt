@@ -1,7 +1,9 @@
 -- The order in which a schedule's messages take effect, and a schedule where memory is never wanting.
-use Rattle.std.specs.Prelude.{ℕ, suc, Bool, ◌&&◌, List, [], ◌∷◌, ◌++◌, length, map, Option, Some, None, Ok, Err, nat_lt, ◌==◌, if◌then◌else◌}
+use Rattle.std.specs.Prelude.{ℕ, suc, Bool, ◌&&◌, List, [], ◌∷◌, ◌++◌, length, map, Option, Some, None, Ok, Err, nat_lt, ◌==◌, if◌then◌else◌, ⊤}
+use Rattle.std.specs.List.{AllByRecursion}
+use Rattle.dv_command.specs.declared.command.Command.{Command}
 use Rattle.dv_core.specs.State.{State}
-use Rattle.dv_core.specs.Step.{step, end_session}
+use Rattle.dv_core.specs.Step.{counted_step, end_session}
 use Rattle.dv_wire.specs.declared.events.Event.{Event}
 use Rattle.dv_wire.specs.declared.events.Event.TheVariants as events
 use Rattle.dv_wire.specs.declared.events.Said.{Said}
@@ -47,13 +49,23 @@ order next sessions (events.Piece session piece ∷ later) =
     moments_heard session.number sessions (heard piece (conversation_of session.number sessions)) (λ ss. order next ss later)
 order next sessions (events.End session ∷ later) = ends session.number ∷ order next (sessions_but session.number sessions) later
 
+-- where a message comes, this holds of its command
+abbrev pub OfCommand : (Command → Type 0) → Moment → Type 0
+OfCommand Meant opens = ⊤
+OfCommand Meant (comes session message) = Meant (command_of message)
+OfCommand Meant (ends session) = ⊤
+
+-- of all commands that come
+abbrev pub OfCommands : (Command → Type 0) → List Moment → Type 0
+OfCommands Meant moments = AllByRecursion (OfCommand Meant) moments
+
 -- ---- a machine that takes one moment after the other
 
 -- the state that it leaves
 abbrev pub state_behind : State → List Moment → State
 state_behind state [] = state
 state_behind state (opens ∷ later) = state_behind state later
-state_behind state (comes session message ∷ later) = state_behind (step state session (command_of message)).state later
+state_behind state (comes session message ∷ later) = state_behind (counted_step state session (command_of message)).state later
 state_behind state (ends session ∷ later) = state_behind (end_session session state) later
 
 -- the bytes of its replies to a session
@@ -61,7 +73,7 @@ abbrev pub replies_behind : ℕ → State → List Moment → List ℕ
 replies_behind session state [] = []
 replies_behind session state (opens ∷ later) = replies_behind session state later
 replies_behind session state (comes other message ∷ later) =
-    (if other == session then reply_bytes message (step state other (command_of message)).reply else []) ++ replies_behind session (step state other (command_of message)).state later
+    (if other == session then reply_bytes message (counted_step state other (command_of message)).reply else []) ++ replies_behind session (counted_step state other (command_of message)).state later
 replies_behind session state (ends other ∷ later) = replies_behind session (end_session other state) later
 
 -- ---- a schedule where memory is never wanting

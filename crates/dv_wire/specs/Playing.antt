@@ -6,19 +6,27 @@ use Rattle.dv_wire.specs.declared.events.Said.{Said}
 use Rattle.dv_wire.specs.declared.events.Said.TheVariants as said
 use Rattle.dv_wire.specs.declared.hub.Fed.{Fed}
 use Rattle.dv_wire.specs.declared.hub.SessionId.{SessionId}
-use Rattle.dv_wire.specs.Schedule.{World, conversation_of, Opens, Feeds, unfinished_in, end}
+use Rattle.dv_core.specs.Step.{MemoryStep}
+use Rattle.dv_wire.specs.Schedule.{Steps, World, conversation_of, Opens, FeedsBy, unfinished_in, end}
 
--- an event happens, and this is said of it
+-- an event happens by such steps, and this is said of it
+abbrev pub HappensBy : Steps → World → Event → Said → World → Type 0
+HappensBy Step old events.Open (said.Opened result) new = Opens old result new
+HappensBy Step old (events.Piece session piece) (said.Fed told bytes) new = FeedsBy Step old session.number piece bytes told new
+HappensBy Step old (events.End session) (said.Ended unfinished) new = (unfinished ≡ unfinished_in (conversation_of session.number old.sessions)) × (new ≡ end session.number old)
+HappensBy Step old event other new = ⊥
+
 abbrev pub Happens : World → Event → Said → World → Type 0
-Happens old events.Open (said.Opened result) new = Opens old result new
-Happens old (events.Piece session piece) (said.Fed told bytes) new = Feeds old session.number piece bytes told new
-Happens old (events.End session) (said.Ended unfinished) new = (unfinished ≡ unfinished_in (conversation_of session.number old.sessions)) × (new ≡ end session.number old)
-Happens old event other new = ⊥
+Happens = HappensBy MemoryStep
 
 -- events happen in order, and this is said of them
+abbrev pub PlaysBy : Steps → World → List Event → List Said → World → Type 0
+PlaysBy Step old [] all new = (all ≡ []) × (new ≡ old)
+PlaysBy Step old (event ∷ events) all new =
+    (first : Said) × (others : List Said) × (mid : World) × (all ≡ first ∷ others) × HappensBy Step old event first mid × PlaysBy Step mid events others new
+
 abbrev pub Plays : World → List Event → List Said → World → Type 0
-Plays old [] all new = (all ≡ []) × (new ≡ old)
-Plays old (event ∷ events) all new = (first : Said) × (others : List Said) × (mid : World) × (all ≡ first ∷ others) × Happens old event first mid × Plays mid events others new
+Plays = PlaysBy MemoryStep
 
 -- the same schedule, but for a piece that comes in two: so are its replies, and what is told of the second is what was told of the whole
 abbrev pub ComesInTwo : World → List Event → SessionId → List ℕ → List ℕ → List Event → List Said → Fed → List ℕ → List Said → World → Type 0

@@ -6,6 +6,7 @@ use Rattle.dv_bson.specs.Spelling.{spelling}
 use Rattle.dv_wire.specs.declared.fault.CloseFault.TheVariants.{NoMemory}
 use Rattle.dv_wire.specs.declared.fault.HubFault.{HubFault}
 use Rattle.dv_wire.specs.declared.fault.HubFault.TheVariants as hub_faults
+use Rattle.dv_command.specs.declared.command.Command.{Command}
 use Rattle.dv_core.specs.declared.outcome.Outcome.{Outcome}
 use Rattle.dv_core.specs.declared.outcome.Outcome.TheVariants.{Reply, Wanting, NoReply}
 use Rattle.dv_wire.specs.declared.hub.SessionId.{SessionId}
@@ -15,7 +16,7 @@ use Rattle.dv_wire.specs.Sections.{body, section_spelling}
 use Rattle.dv_wire.specs.Message.{Message, message_spelling, Conversation, reading, closed, Split, split}
 use Rattle.dv_wire.specs.Commands.{command_of}
 use Rattle.dv_core.specs.State.{State}
-use Rattle.dv_core.specs.Step.{Answer, step, MemoryStep, end_session}
+use Rattle.dv_core.specs.Step.{Answer, MemoryStep, counted_step, end_session}
 
 -- ---- the messages of a session, one after the other
 
@@ -59,37 +60,50 @@ abbrev pub Follows : Option (List ℕ) → State → (Run → Type 0) → Run �
 Follows None state Others run = run ≡ unanswered state (closed NoMemory)
 Follows (Some bytes) state Others run = ((others : Run) × Others others × (run ≡ in_front (bytes ∷ []) others)) ⊎ (run ≡ unanswered state (closed NoMemory))
 
--- the messages of a session are carried out in order, and it stands as given behind them; or it was closed among them
-abbrev pub CarriesOut : ℕ → State → List Message → Conversation → Run → Type 0
-CarriesOut session old [] conversation run = run ≡ silence old conversation
-CarriesOut session old (message ∷ messages) conversation run =
-    (outcome : Outcome) × (mid : State) × MemoryStep old session (command_of message) outcome mid
-    × Follows (bytes_to message outcome) mid (CarriesOut session mid messages conversation) run
+-- what a command of a session may come to, and the state after it
+abbrev pub Steps : Type 1
+Steps = State → ℕ → Command → Outcome → State → Type 0
 
--- the same where memory is never wanting: each message is carried out by its step
+-- the messages of a session are carried out in order by such steps, and it stands as given behind them; or it was closed among them
+abbrev pub CarriesOutBy : Steps → ℕ → State → List Message → Conversation → Run → Type 0
+CarriesOutBy Step session old [] conversation run = run ≡ silence old conversation
+CarriesOutBy Step session old (message ∷ messages) conversation run =
+    (outcome : Outcome) × (mid : State) × Step old session (command_of message) outcome mid
+    × Follows (bytes_to message outcome) mid (CarriesOutBy Step session mid messages conversation) run
+
+abbrev pub CarriesOut : ℕ → State → List Message → Conversation → Run → Type 0
+CarriesOut = CarriesOutBy MemoryStep
+
+-- the same where memory is never wanting: each message is carried out by its step, and each view counts its work
 abbrev pub plain_behind : Message → Answer → (State → Run) → Run
 plain_behind message answer others = in_front (reply_bytes message answer.reply ∷ []) (others answer.state)
 
 unfoldable pub plain_messages : ℕ → State → List Message → Conversation → Run
 plain_messages session state [] conversation = silence state conversation
 plain_messages session state (message ∷ messages) conversation =
-    plain_behind message (step state session (command_of message)) (λ behind. plain_messages session behind messages conversation)
+    plain_behind message (counted_step state session (command_of message)) (λ behind. plain_messages session behind messages conversation)
 
 -- what a session's stream comes to then
 abbrev pub plain_run : ℕ → State → Split → Run
 plain_run session state stream = plain_messages session state stream.messages stream.conversation
 
 -- what a session may do with a stream
-pub data Takes (session : ℕ) (old : State) (stream : Split) (run : Run) : Type 0 where
+pub data TakesBy (Step : Steps) (session : ℕ) (old : State) (stream : Split) (run : Run) : Type 0 where
   -- all its messages are carried out
-  takes_all : CarriesOut session old stream.messages stream.conversation run → Takes session old stream run
+  takes_all : CarriesOutBy Step session old stream.messages stream.conversation run → TakesBy Step session old stream run
   -- its bytes find no memory, behind any of the messages, and the session is closed
-  takes_some : (count : ℕ) → CarriesOut session old (take count stream.messages) (closed NoMemory) run → Takes session old stream run
+  takes_some : (count : ℕ) → CarriesOutBy Step session old (take count stream.messages) (closed NoMemory) run → TakesBy Step session old stream run
+
+abbrev pub Takes : ℕ → State → Split → Run → Type 0
+Takes = TakesBy MemoryStep
 
 -- a session takes the next piece of its bytes; a closed one takes none
+abbrev pub HearsBy : Steps → ℕ → State → Conversation → List ℕ → Run → Type 0
+HearsBy Step session old (reading kept) piece run = TakesBy Step session old (split (kept ++ piece)) run
+HearsBy Step session old (closed fault) piece run = run ≡ silence old (closed fault)
+
 abbrev pub Hears : ℕ → State → Conversation → List ℕ → Run → Type 0
-Hears session old (reading kept) piece run = Takes session old (split (kept ++ piece)) run
-Hears session old (closed fault) piece run = run ≡ silence old (closed fault)
+Hears = HearsBy MemoryStep
 
 -- ---- the sessions
 
@@ -143,21 +157,31 @@ abbrev pub world_behind : ℕ → Run → World → World
 world_behind session run old = record { state = run.state; next = old.next; sessions = with_conversation session run.conversation old.sessions }
 
 -- a piece of a session's bytes comes: what is answered to its messages, and whether the session goes on; to one that isn't there nothing is
-abbrev pub Comes : World → ℕ → List ℕ → List (List ℕ) → Fed → World → Type 0
-Comes old session piece answers told new =
+abbrev pub ComesBy : Steps → World → ℕ → List ℕ → List (List ℕ) → Fed → World → Type 0
+ComesBy Step old session piece answers told new =
     MatchOption (conversation_of session old.sessions)
     ((answers ≡ []) × (told ≡ fed.Unknown) × (new ≡ old))
-    (λ before. (run : Run) × Hears session old.state before piece run × (answers ≡ run.answers) × (told ≡ fed_of run.conversation) × (new ≡ world_behind session run old))
+    (λ before. (run : Run) × HearsBy Step session old.state before piece run × (answers ≡ run.answers) × (told ≡ fed_of run.conversation) × (new ≡ world_behind session run old))
+
+abbrev pub Comes : World → ℕ → List ℕ → List (List ℕ) → Fed → World → Type 0
+Comes = ComesBy MemoryStep
 
 -- the same by the bytes of all that is answered
+abbrev pub FeedsBy : Steps → World → ℕ → List ℕ → List ℕ → Fed → World → Type 0
+FeedsBy Step old session piece bytes told new = (answers : List (List ℕ)) × (bytes ≡ concat answers) × ComesBy Step old session piece answers told new
+
 abbrev pub Feeds : World → ℕ → List ℕ → List ℕ → Fed → World → Type 0
-Feeds old session piece bytes told new = (answers : List (List ℕ)) × (bytes ≡ concat answers) × Comes old session piece answers told new
+Feeds = FeedsBy MemoryStep
 
 -- pieces of a session's bytes come, one right after the other: what is answered to all, and whether the session then goes on
+abbrev pub FeedsAllBy : Steps → World → ℕ → List ℕ → List (List ℕ) → List ℕ → Fed → World → Type 0
+FeedsAllBy Step old session piece [] bytes answer new = FeedsBy Step old session piece bytes answer new
+FeedsAllBy Step old session piece (next ∷ pieces) bytes answer new =
+    (first : List ℕ) × (others : List ℕ) × (mid : World) × (told : Fed) × (bytes ≡ first ++ others)
+    × FeedsBy Step old session piece first told mid × FeedsAllBy Step mid session next pieces others answer new
+
 abbrev pub FeedsAll : World → ℕ → List ℕ → List (List ℕ) → List ℕ → Fed → World → Type 0
-FeedsAll old session piece [] bytes answer new = Feeds old session piece bytes answer new
-FeedsAll old session piece (next ∷ pieces) bytes answer new =
-    (first : List ℕ) × (others : List ℕ) × (mid : World) × (told : Fed) × (bytes ≡ first ++ others) × Feeds old session piece first told mid × FeedsAll mid session next pieces others answer new
+FeedsAll = FeedsAllBy MemoryStep
 
 -- the bytes of all pieces
 abbrev pub stream_of : List ℕ → List (List ℕ) → List ℕ

@@ -4,7 +4,7 @@ ghost use Rattle.std.specs.Prelude.{◌≡◌, ◌≢◌, ◌↔◌, ℕ, suc, t
 ghost use Rattle.std.specs.List.{AllByRecursion};
 ghost use Rattle.dv_bson.specs.Spelling.{IsBytes};
 ghost use Rattle.dv_core.specs.Sound.{IsSound};
-ghost use Rattle.dv_core.specs.State.{State};
+ghost use Rattle.dv_core.specs.State.{State, standing};
 ghost use Rattle.dv_core.specs.Step.{step};
 ghost use Rattle.dv_wire.specs.Examples as examples;
 ghost use Rattle.dv_wire.specs.Sound.{IsNumbered, IsSoundWorld};
@@ -18,11 +18,12 @@ ghost use Rattle.dv_wire.specs.declared.events.Event.TheVariants as events;
 ghost use Rattle.dv_wire.specs.declared.events.Said.{Said};
 ghost use Rattle.dv_wire.specs.declared.events.Said.TheVariants as said;
 ghost use Rattle.dv_wire.specs.Message as wire;
-ghost use Rattle.dv_wire.specs.Order.{answers, order, plain_play, replies_behind, state_behind};
-ghost use Rattle.dv_wire.specs.Playing.{ComesInTwo, Plays};
+ghost use Rattle.dv_wire.specs.Order.{OfCommands, answers, order, plain_play, replies_behind, state_behind};
+ghost use Rattle.dv_wire.specs.Playing.{ComesInTwo, Plays, PlaysBy};
 ghost use Rattle.dv_wire.specs.Commands.{command_of};
 ghost use Rattle.dv_wire.specs.Schedule.{Run, CarriesOut, bytes_of, unanswered, World, world_of, conversation_of, Opens, Feeds, FeedsAll, end, fed_of, plain_run, stream_of, unfinished_in, world_behind};
 ghost use Rattle.dv_wire.specs.Service.{IsSession};
+ghost use Rattle.dv_wire.specs.Standing.{AreLive, AsksNoStats, LiveStep, world_standing};
 ghost use Rattle.dv_wire.specs.Wants.{SaysWant};
 
 /// A stream of which more comes splits as before, and then as its rest with what comes; behind a fault nothing does.
@@ -80,16 +81,36 @@ pub fn only_the_order_counts()
         → ((plain_play world one).world.state ≡ (plain_play world two).world.state)
         × ((session : ℕ) → answers session one (plain_play world one).said ≡ answers session two (plain_play world two).said) }
     ensures allowed { (world : World) (all : List Event) → Plays world all (plain_play world all).said (plain_play world all).world }
-{}
+{
+    dv_core::laws::the_counted_step_is_allowed();
+}
 
-/// A play without want of memory is the plain one: where nothing that is said tells of it, as no session is refused or closed for
-/// it and no reply tells of it, all is said that the plain run says, and nothing else, and the world that is left is the plain
-/// run's. So the state, and what is answered to each session, are those of the machine that takes one message after the other.
+/// A play without want of memory, be it for a view, is the plain one: where nothing that is said tells of it, as no session is
+/// refused or closed for it and no reply tells of it, and each step leaves all views live, all is said that the plain run says,
+/// and nothing else, and the world that is left is the plain run's. So the state, and what is answered to each session, are
+/// those of the machine that takes one message after the other. The plain run itself is such a play, where views are live
+/// before it.
 pub fn a_play_without_want_of_memory_is_the_plain_one()
-    ensures plain { (old new : World) (all : List Event) (told : List Said) → Plays old all told new → AllByRecursion (λ s. SaysWant s → ⊥) told
+    ensures plain { (old new : World) (all : List Event) (told : List Said) → PlaysBy LiveStep old all told new → AllByRecursion (λ s. SaysWant s → ⊥) told
         → (told ≡ (plain_play old all).said) × (new ≡ (plain_play old all).world) }
-    ensures order { (old new : World) (all : List Event) (told : List Said) → Plays old all told new → AllByRecursion (λ s. SaysWant s → ⊥) told
+    ensures order { (old new : World) (all : List Event) (told : List Said) → PlaysBy LiveStep old all told new → AllByRecursion (λ s. SaysWant s → ⊥) told
         → (new.state ≡ state_behind old.state (order old.next old.sessions all))
+        × ((session : ℕ) → answers session all told ≡ replies_behind session old.state (order old.next old.sessions all)) }
+    ensures such { (world : World) (all : List Event) → AreLive world.state.marks → PlaysBy LiveStep world all (plain_play world all).said (plain_play world all).world }
+{
+    dv_core::laws::the_counted_step_is_allowed();
+}
+
+/// How views stand matters to viewStats alone. A view for which memory was wanting becomes stale without a reply that tells of
+/// it; but where nothing that is said tells of want of memory, and no message asks viewStats, all is said that the plain run
+/// says, and nothing else, and the world that is left is the plain run's, but that views may stand otherwise.
+pub fn how_views_stand_matters_to_view_stats_alone()
+    ensures plain { (old new : World) (all : List Event) (told : List Said) → Plays old all told new → AllByRecursion (λ s. SaysWant s → ⊥) told
+        → OfCommands AsksNoStats (order old.next old.sessions all)
+        → (told ≡ (plain_play old all).said) × (new ≡ world_standing new.state.marks (plain_play old all).world) }
+    ensures order { (old new : World) (all : List Event) (told : List Said) → Plays old all told new → AllByRecursion (λ s. SaysWant s → ⊥) told
+        → OfCommands AsksNoStats (order old.next old.sessions all)
+        → (new.state ≡ standing new.state.marks (state_behind old.state (order old.next old.sessions all)))
         × ((session : ℕ) → answers session all told ≡ replies_behind session old.state (order old.next old.sessions all)) }
 {}
 
@@ -99,13 +120,15 @@ pub fn the_plain_run_is_allowed()
     ensures { (world : World) (session : ℕ) (kept piece : List ℕ) (pieces : List (List ℕ)) → conversation_of session world.sessions ≡ Some (wire.reading kept)
         → let run = plain_run session world.state (wire.split (kept ++ stream_of piece pieces)) in
         FeedsAll world session piece pieces (bytes_of run) (fed_of run.conversation) (world_behind session run world) }
-{}
+{
+    dv_core::laws::the_counted_step_is_allowed();
+}
 
 /// What moreToCome leaves untold was done: where a session goes on behind such a message, the message was carried out by
-/// its step, and nothing is answered.
+/// its step, and nothing is answered. How views stand behind it is left open here, as memory may have been wanting for one.
 pub fn what_is_untold_is_done()
     ensures { (session : ℕ) (old : State) (message : wire.Message) (kept : List ℕ) (run : Run) → message.more_to_come ≡ true → CarriesOut session old (message ∷ []) (wire.reading kept) run
-        → run.conversation ≡ wire.reading kept → run ≡ unanswered (step old session (command_of message)).state (wire.reading kept) }
+        → run.conversation ≡ wire.reading kept → run ≡ unanswered (standing run.state.marks (step old session (command_of message)).state) (wire.reading kept) }
 {}
 
 /// No number is used again: sessions ascend by their numbers, which are below the next one. So it is before the first

@@ -1,8 +1,9 @@
-use Rattle.dv_core.proofs.Cursored.{CursorLaws, find_told, pipeline_told, more_told, memory_moves}
+use Rattle.dv_core.proofs.Cursored.{CursorLaws, find_told, pipeline_told, more_told}
+use Rattle.dv_core.proofs.Marked.{step_moves}
 use Rattle.dv_core.proofs.laws.a_cursors_batches_are_a_front.Goals as goal
 
 pub returns : goal.returns
 returns c =
     let changes = c.a_change_leaves_other_cursors.ensures in
     let laws : CursorLaws = record { added_at = changes.added; advanced_at = changes.advanced; closed_at = changes.closed; ended_at = changes.ended; next_stays = changes.next; front = c.a_batch_is_a_front.ensures } in
-    record { find = find_told laws; pipeline = pipeline_told laws; replies = more_told laws; moves = memory_moves }
+    record { find = find_told laws; pipeline = pipeline_told laws; replies = more_told laws; moves = step_moves }

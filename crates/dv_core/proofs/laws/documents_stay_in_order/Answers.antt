@@ -1,3 +1,5 @@
+use Rattle.dv_core.specs.State.{standing}
+use Rattle.dv_core.proofs.Bare.{bare}
 use Rattle.dv_core.proofs.Ordered.{CollectionLaws, empty_ordered, steps_ordered}
 use Rattle.dv_core.proofs.laws.documents_stay_in_order.Goals as goal
 
@@ -15,4 +17,4 @@ returns-clause-after c =
       id_stays = c.the_id_stays.ensures;
       replaced_ids = c.replaced_documents_begin_with_ids.ensures;
     } in
-    steps_ordered laws
+    λ old new session command outcome ordered steps. steps_ordered laws old (standing old.marks new) session command outcome ordered (bare old new session command outcome steps)

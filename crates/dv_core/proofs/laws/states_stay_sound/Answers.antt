@@ -1,3 +1,5 @@
+use Rattle.dv_core.specs.State.{standing}
+use Rattle.dv_core.proofs.Bare.{bare}
 use Rattle.dv_core.proofs.Cursored.{CursorLaws}
 use Rattle.dv_core.proofs.Named.{empty_named, steps_named}
 use Rattle.dv_core.proofs.Ordered.{CollectionLaws, UpdateLaws, empty_sound, loaded_sound, steps_sound}
@@ -22,12 +24,15 @@ returns c =
     let asks = c.what_is_asked_is_sound.ensures in
     record {
       before = record { documents = empty_sound; indexes = empty_named; views = tt; cursors = empty_shown };
-      after = λ old new session command outcome sound all steps. record {
-        documents = steps_sound laws asks updates old new session command outcome sound all.documents steps;
-        indexes = steps_named asks old new session command outcome sound all.indexes steps;
-        views = steps_views asks old new session command outcome sound all.views steps;
-        cursors = steps_shown cursors asks c.what_comes_out_is_valid-2.ensures old new session command outcome sound all.documents all.views all.cursors steps;
-      };
+      after = λ old new session command outcome sound all steps. (
+          let left = standing old.marks new in
+          let does = bare old new session command outcome steps in
+          record {
+            documents = steps_sound laws asks updates old left session command outcome sound all.documents does;
+            indexes = steps_named asks old left session command outcome sound all.indexes does;
+            views = steps_views asks old left session command outcome sound all.views does;
+            cursors = steps_shown cursors asks c.what_comes_out_is_valid-2.ensures old left session command outcome sound all.documents all.views all.cursors does;
+          });
       loaded = λ old new namespace d sound all is. record {
         documents = loaded_sound laws old new namespace d sound all.documents is;
         indexes = loaded_indexes old new namespace d is all.indexes;

@@ -8,8 +8,12 @@ use Rattle.dv_core.proofs.writes.write_each.Given as goal
 
 -- the entries so far were carried out, each a statement
 abbrev pub invariant-entries : goal.invariant-entries
-invariant-entries l = record {
-  reached : Reached (string_bytes l.fn.write.namespace) l.fn.write.ordered (map (statement_of l.fn.write.kind) l.fn.write.entries) l.fn.catalog.namespaces (written_seen l.written l.catalog.namespaces) (map (statement_of l.fn.write.kind) l.entry-iterator);
-  same : l.catalog.views ≡ l.fn.catalog.views;
-  room : l.written.statements + length l.entry-iterator ≤ statement_limit;
-}
+invariant-entries l =
+    let w = l.fn.write in
+    let old = l.fn.catalog in
+    let so_far = written_seen l.written l.catalog.state.namespaces in
+    record {
+      reached : Reached (string_bytes w.namespace) w.ordered old.state.views (map (statement_of w.kind) w.entries) old.state.namespaces old.marks so_far l.catalog.marks (map (statement_of w.kind) l.entry-iterator);
+      same : l.catalog.state.views ≡ old.state.views;
+      room : l.written.statements + length l.entry-iterator ≤ statement_limit;
+    }

@@ -9,8 +9,8 @@ use Rattle.dv_catalog.proofs.Kept.{created_is_made, is_free, is_taken, kept_empt
 use Rattle.dv_catalog.proofs.catalog.Catalog.create.Goals as goal
 use Rattle.dv_catalog.proofs.catalog.Catalog.create.Goals.{then-has-via-then-has, then-has-via-else-has+then-has-2}
 
-pub returns-then-has : goal.returns-then-has
-returns-then-has c =
+pub returns-then-has-clause-made : goal.returns-then-has-clause-made
+returns-then-has-clause-made c =
     let name = string_bytes c.args.create.namespace in
     let there : (is_collection name c.self.inside.collections ≡ true) ⊎ (has_view name c.self.inside.views ≡ true) =
     elim c.then-has.branch [
@@ -26,8 +26,8 @@ invariant_of-self-in-None c =
     let no_view = sym (rw c.deref-else-has.ensures at c.has-else-has.ensures) ∙ c.if-has-2.false in
     rw (rw c.deref-in-None.ensures at c.in_ok-make_empty-in-None.ensures.ok) (kept_empty c.what_is_not_read_does_not_matter.ensures name c.self.inside.collections c.self.inside.views (not_there _ none) no_view c.self.invariant)
 
-pub returns-in-None : goal.returns-in-None
-returns-in-None c =
+pub returns-in-None-clause-made : goal.returns-in-None-clause-made
+returns-in-None-clause-made c =
     let name = string_bytes c.args.create.namespace in
     let none = sym (rw c.deref.ensures at c.has.ensures) ∙ c.if-has.false in
     let no_view = sym (rw c.deref-else-has.ensures at c.has-else-has.ensures) ∙ c.if-has-2.false in
@@ -41,10 +41,10 @@ create_view-requires c =
     let no_view = sym (rw c.deref-else-has.ensures at c.has-else-has.ensures) ∙ c.if-has-2.false in
     rw (← c.self.view_is, c.deref-in-Some.ensures) (is_free name c.self.inside.collections c.self.inside.views none no_view)
 
-pub returns : goal.returns
-returns c =
+pub returns-clause-made : goal.returns-clause-made
+returns-clause-made c =
     let name = string_bytes c.args.create.namespace in
     let none = sym (rw c.deref.ensures at c.has.ensures) ∙ c.if-has.false in
     let no_view = sym (rw c.deref-else-has.ensures at c.has-else-has.ensures) ∙ c.if-has-2.false in
-    let free : is_there name c.args.self.now ≡ false = rw (← c.self.view_is) (is_free name c.self.inside.collections c.self.inside.views none no_view) in
-    rw (c.in-Some.is, created_is_made name (Some (view_on_seen c.in-Some.view)) c.args.self.now free) (rw c.deref-in-Some.ensures at c.create_view.ensures)
+    let free : is_there name c.args.self.now.state ≡ false = rw (← c.self.view_is) (is_free name c.self.inside.collections c.self.inside.views none no_view) in
+    rw (c.in-Some.is, created_is_made name (Some (view_on_seen c.in-Some.view)) c.args.self.now.state free) (rw c.deref-in-Some.ensures at c.create_view.ensures.made)

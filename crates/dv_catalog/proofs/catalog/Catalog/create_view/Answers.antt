@@ -16,15 +16,15 @@ invariant_of-self c =
     rw (rw c.deref-3.ensures at c.in-Ok.ensures.ok)
     (view_kept c.args.namespace.now source c.args.view.pipeline c.self.inside.collections c.self.inside.views none c.what_is_not_read_is_not_kept.ensures (λ all ws. c.a_new_view_leaves_views_right.ensures c.args.namespace.now source c.args.view.pipeline all ws) _ _ rows listed c.self.invariant)
 
-pub returns-in-Ok : goal.returns-in-Ok
-returns-in-Ok c =
+pub returns-in-Ok-clause-made : goal.returns-in-Ok-clause-made
+returns-in-Ok-clause-made c =
     let source = string_bytes c.args.view.source in
     let none : is_there c.args.namespace.now (state_of c.self.inside.collections c.self.inside.views) ≡ false = rw (← c.self.view_is) at c.requires in
     rw (← c.self.view_is, rw c.deref-3.ensures at c.in-Ok.ensures.ok)
     (view_is_made c.args.namespace.now source c.args.view.pipeline c.self.inside.collections c.self.inside.views none (lists_of c.in_ok-sources.sources) (rw c.deref-3.ensures at c.in-Ok.ensures.fault))
 
-pub returns : goal.returns
-returns c =
+pub returns-clause-made : goal.returns-clause-made
+returns-clause-made c =
     let source = string_bytes c.args.view.source in
     let none : is_there c.args.namespace.now (state_of c.self.inside.collections c.self.inside.views) ≡ false = rw (← c.self.view_is) at c.requires in
     rw (← c.self.view_is, c.in-Err.ensures.err, c.refusal_of.ensures)

@@ -1,9 +1,14 @@
-use Rattle.std.proofs.Common.{◌≡◌, List, [], ◌∷◌, inl, inr, sym, ap, ◌∙◌}
-use Rattle.dv_catalog.specs.Changes.{Change, put, apply}
-use Rattle.dv_catalog.specs.State.{Namespaces, documents_of}
-use Rattle.dv_catalog.proofs.Keeping.{AreTold, collections_after, documents_after, kept_after, new_put, same_forms}
+use Rattle.std.proofs.Common.{◌≡◌, List, [], ◌∷◌, Err, ap, ◌∙◌}
+use Rattle.std.proofs.lemmas.Result.{err_from_is_err_and}
+use Rattle.dv_catalog.specs.CatalogParts.{form_of, marked_of, marks_of}
+use Rattle.dv_catalog.specs.Changes.{Change, put, apply, changes_of}
+use Rattle.dv_catalog.specs.Effects.{put_new}
+use Rattle.dv_catalog.specs.Marks.{AreMarkedBy}
+use Rattle.dv_catalog.specs.State.{Namespaces, documents_of, lists_of}
+use Rattle.dv_catalog.specs.declared.stopped.Stopped.{Stopped}
+use Rattle.dv_catalog.proofs.Keeping.{collections_after, documents_after, kept_after, new_put, same_forms}
+use Rattle.dv_catalog.proofs.Marking.{are_marked, put_stops, stands_before, stands_done}
 use Rattle.dv_catalog.proofs.catalog.Catalog.insert.Goals as goal
-use Rattle.dv_catalog.proofs.catalog.Catalog.insert.Goals.{then-is_read+in_ok-told, else-is_read}
 
 pub invariant_of-self-2 : goal.invariant_of-self-2
 invariant_of-self-2 c =
@@ -13,14 +18,34 @@ invariant_of-self-2 c =
     let changes : List Change = put c.args.document ∷ [] in
     let (made, does, many, leaves) = c.in_ok-insert.ensures in
     let makes : c.insert.new.self ≡ apply name changes old = leaves ∙ ap (λ (cs : List Change). apply name cs old) (new_put c.args.document (documents_of name old) made does) in
-    let told : AreTold name before changes c.if-is_read.told.items =
-    elim c.if-is_read.branch [
-      | then-is_read+in_ok-told w ↦ inl (rw w.told-is w.in_ok-told.ensures)
-      | else-is_read w ↦ inr (rw w.told-is w.new-told.ensures.items, sym c.is_read.ensures ∙ w.if-is_read.false)
-    ] in
-    kept_after c.told_changes_are_made.ensures c.what_is_not_read_does_not_matter.ensures old c.insert.new.self before c.apply.new.self name changes c.if-is_read.told.items c.self.invariant c.ordered.ensures (c.requires.identified, tt)
-    (λ n. ap (λ (ns : Namespaces). documents_of n ns) makes ∙ documents_after old name changes n) told (rw c.deref.ensures.value at c.apply.ensures.right) c.apply.ensures.others (rw (← c.self.view_is) at c.requires.collection)
+    kept_after c.told_changes_are_made.ensures c.what_is_not_read_does_not_matter.ensures old c.insert.new.self before c.apply.new.self name changes c.in_ok-told.told.items c.self.invariant c.ordered.ensures (c.requires.identified, tt)
+    (λ n. ap (λ (ns : Namespaces). documents_of n ns) makes ∙ documents_after old name changes n) c.in_ok-told.ensures (rw c.deref.ensures.value at c.apply.ensures.right) c.apply.ensures.others (rw (← c.self.view_is) at c.requires.collection)
     (λ n e. collections_after old name changes n (rw makes at e))
 
 pub returns-clause-views : goal.returns-clause-views
 returns-clause-views c = rw (← c.self.view_is) (same_forms c.args.namespace.now c.self.inside.views c.apply.new.self c.apply.ensures.others)
+
+pub returns-in_err-told-clause-marks : goal.returns-in_err-told-clause-marks
+returns-in_err-told-clause-marks c =
+    let p = err_from_is_err_and c.from_residual.result c.from_residual.ensures.1 in
+    stands_before c.args.namespace.now (put_new c.args.document (documents_of c.args.namespace.now c.args.self.now.state.namespaces)) c.args.self.now c.from_residual.result p.0 p.1 (ap (λ (s : Stopped). s.done) p.2)
+
+pub returns-in_err-insert-clause-marks : goal.returns-in_err-insert-clause-marks
+returns-in_err-insert-clause-marks c =
+    let name = c.args.namespace.now in
+    let old = c.self.inside.collections in
+    let p = err_from_is_err_and c.from_residual-in_err-insert.result c.from_residual-in_err-insert.ensures.1 in
+    let stopped = c.in_err-insert.field-0.0 in
+    rw (← c.self.view_is)
+    (stands_before name (put_new c.args.document (documents_of name old)) (marked_of old c.self.inside.views) c.from_residual-in_err-insert.result stopped (p.1 ∙ ap Err p.2)
+    (put_stops c.args.document (documents_of name old) name old c.insert.new.self stopped c.in_err-insert.ensures))
+
+pub returns-clause-marks : goal.returns-clause-marks
+returns-clause-marks c =
+    let old = c.self.inside.collections in
+    let before = c.self.inside.views in
+    let name = c.args.namespace.now in
+    let changes : List Change = put c.args.document ∷ [] in
+    let (made, does, many, leaves) = c.in_ok-insert.ensures in
+    let are = are_marked c.what_is_not_read_is_not_counted.ensures (lists_of old) name changes c.in_ok-told.told.items before c.apply.new.self c.in_ok-told.ensures c.self.invariant.right (rw c.deref.ensures.value at c.apply.ensures.counted) c.apply.ensures.others in
+    rw (← c.self.view_is) (stands_done name (put_new c.args.document (documents_of name old)) (marked_of old before) (tt {0}) changes (ap changes_of does ∙ new_put c.args.document (documents_of name old) made does) (marks_of c.apply.new.self) are)

@@ -1,10 +1,12 @@
-use Rattle.std.proofs.Common.{inl, inr, take, sym, ap, ◌∙◌}
+use Rattle.std.proofs.Common.{take, ap, ◌∙◌}
+use Rattle.dv_catalog.specs.CatalogParts.{form_of}
 use Rattle.dv_catalog.specs.EffectView.{changes_seen}
-use Rattle.dv_catalog.specs.State.{Namespaces, documents_of}
-use Rattle.dv_catalog.proofs.Keeping.{AreTold, all_able, all_begin, collections_after, documents_after, kept_after, same_forms, told_first}
+use Rattle.dv_catalog.specs.State.{Namespaces, documents_of, lists_of}
+use Rattle.dv_catalog.specs.Told.{AreTold}
+use Rattle.dv_catalog.proofs.Keeping.{all_able, all_begin, collections_after, documents_after, kept_after, same_forms, told_first}
+use Rattle.dv_catalog.proofs.Marking.{are_marked}
 use Rattle.dv_catalog.proofs.Stopping.{first_placed}
 use Rattle.dv_catalog.proofs.catalog.Catalog.make.Goals as goal
-use Rattle.dv_catalog.proofs.catalog.Catalog.make.Goals.{then-is_read+in_ok-told, else-is_read}
 
 pub told-requires : goal.told-requires
 told-requires c = all_begin _ (changes_seen c.args.changes) c.requires.placed
@@ -16,12 +18,7 @@ invariant_of-self c =
     let name = c.args.namespace.now in
     let changes = changes_seen c.args.changes in
     let made = take c.make-done.result changes in
-    let told : AreTold name before changes c.if-is_read.told.items =
-    elim c.if-is_read.branch [
-      | then-is_read+in_ok-told w ↦ inl (rw w.told-is w.in_ok-told.ensures)
-      | else-is_read w ↦ inr (rw w.told-is w.new-told.ensures.items, sym c.is_read.ensures ∙ w.if-is_read.false)
-    ] in
-    let first : AreTold name before made c.truncate.new.self.items = rw c.truncate.ensures.items (told_first c.make-done.result name before changes c.if-is_read.told.items told) in
+    let first : AreTold name before made c.truncate.new.self.items = rw c.truncate.ensures.items (told_first c.make-done.result name before changes c.in_ok-told.told.items c.in_ok-told.ensures) in
     let placed = first_placed (documents_of name old) changes c.make-done.result (rw (← c.self.view_is) at c.requires.placed) in
     kept_after c.told_changes_are_made.ensures c.what_is_not_read_does_not_matter.ensures old c.make-done.new.self before c.apply.new.self name made c.truncate.new.self.items c.self.invariant (rw (← c.self.view_is) at c.requires.ordered)
     (all_able (documents_of name old) made placed) (λ n. ap (λ (ns : Namespaces). documents_of n ns) c.make-done.ensures.made ∙ documents_after old name made n) first (rw c.deref.ensures.value at c.apply.ensures.right)
@@ -29,3 +26,14 @@ invariant_of-self c =
 
 pub returns-clause-views : goal.returns-clause-views
 returns-clause-views c = rw (← c.self.view_is) (same_forms c.args.namespace.now c.self.inside.views c.apply.new.self c.apply.ensures.others)
+
+pub returns-clause-marks : goal.returns-clause-marks
+returns-clause-marks c =
+    let old = c.self.inside.collections in
+    let before = c.self.inside.views in
+    let name = c.args.namespace.now in
+    let changes = changes_seen c.args.changes in
+    let made = take c.make-done.result changes in
+    let first : AreTold name before made c.truncate.new.self.items = rw c.truncate.ensures.items (told_first c.make-done.result name before changes c.in_ok-told.told.items c.in_ok-told.ensures) in
+    rw (← c.self.view_is)
+    (are_marked c.what_is_not_read_is_not_counted.ensures (lists_of old) name made c.truncate.new.self.items before c.apply.new.self first c.self.invariant.right (rw c.deref.ensures.value at c.apply.ensures.counted) c.apply.ensures.others)

@@ -12,8 +12,8 @@ returns-in_default-clause-reply c = wanting_ends (indexed (create_indexes_seen c
 pub returns-in-Ok-create_indexes-clause-reply : goal.returns-in-Ok-create_indexes-clause-reply
 returns-in-Ok-create_indexes-clause-reply c =
     let asked = create_indexes_seen c.args.asked in
-    let old = c.self.inside.catalog in
-    let new = c.create_indexes.new.self in
+    let old = c.self.inside.catalog.state in
+    let new = c.create_indexes.new.self.state in
     let before = index_count asked.namespace old in
     let after = index_count asked.namespace new in
     let made : indexes_created asked.namespace (map form_asked asked.indexes) old ≡ Ok new = rw (← c.deref.ensures, ← c.in-Ok.ensures) c.in-Ok-create_indexes.ensures.made in

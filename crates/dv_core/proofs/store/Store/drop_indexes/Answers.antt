@@ -9,8 +9,8 @@ use Rattle.dv_core.proofs.store.Store.drop_indexes.Goals as goal
 pub returns-in-Ok-clause-reply : goal.returns-in-Ok-clause-reply
 returns-in-Ok-clause-reply c =
     let asked = drop_indexes_seen c.args.asked in
-    let old = c.self.inside.catalog in
-    let new = c.drop_indexes.new.self in
+    let old = c.self.inside.catalog.state in
+    let new = c.drop_indexes.new.self.state in
     let before = index_count asked.namespace old in
     let made : indexes_dropped asked.namespace asked.index old ≡ Ok new = rw (← c.deref.ensures, ← c.deref-2.ensures) c.in-Ok.ensures.made in
     let count = rw c.deref.ensures at c.in-Ok.ensures.count in

@@ -1,0 +1,26 @@
+//! How a view stands.
+
+ghost use Rattle.std.specs.Prelude.{◌≡◌};
+ghost use Rattle.dv_catalog.specs.StatsView.{live_shown};
+
+use dv_views::ViewState;
+
+/// How a view stands. A stale one has no rows, and has counted nothing.
+#[derive(Clone, Copy, Debug)]
+pub struct Stats {
+    /// Whether it has its rows: not where memory was wanting for them, until it is read.
+    pub is_live: bool,
+    pub rows: usize,
+    /// The work that changes took since its rows were made, at most 9,223,372,036,854,775,807.
+    pub ticks: u64,
+}
+
+/// Whether a view that stands so is live.
+pub(crate) fn is_live(state: ViewState) -> bool
+    ensures { result ≡ live_shown state }
+{
+    match state {
+        ViewState::Live => true,
+        ViewState::Stale => false,
+    }
+}

@@ -1,0 +1,10 @@
+-- What is ahead parts from what is left as the paths do.
+use Rattle.std.proofs.Common.{◌≡◌, length}
+use Rattle.dv_update.specs.StandIn.{parting}
+use Rattle.dv_update.proofs.far.parting.Given as goal
+
+abbrev pub invariant-components : goal.invariant-components
+invariant-components l = parting l.before l.path ≡ parting l.ahead l.rest
+
+abbrev pub decreases-components : goal.decreases-components
+decreases-components l = length l.rest

@@ -1,0 +1,75 @@
+//! Paths of many components.
+
+ghost use Rattle.std.specs.Prelude.{◌≡◌, ◌≤◌, true, drop, length, IfOk, IfSome};
+ghost use Rattle.std.specs.Option.{option_map};
+ghost use Rattle.dv_update.specs.PathOrder.{begins as begins_with};
+ghost use Rattle.dv_update.specs.StandIn as defined;
+
+use crate::order::{begins, compare_components};
+use dv_bson::NoMemory;
+use dv_path::{Component, Path, PathFault};
+use std::alloc::{AllocError, Global};
+use std::cmp::Ordering;
+
+/// How many components a path has at most that is made as it is: behind more, a document has ten times the levels that any
+/// stored one has.
+pub(crate) const MOST_COMPONENTS: usize = 1_000;
+
+/// What the path leads through from where it parts from one that stands before it.
+pub(crate) fn parting<'a>(before: &[Component], path: &'a [Component]) -> Option<&'a [Component]>
+    ensures { option_map (λ rest. rest.now) result ≡ defined.parting before.now path.now }
+{
+    let mut ahead = before;
+    let mut rest = path;
+    'components: while let (Some((a, further)), Some((b, behind))) = (
+        ahead.split_first(),
+        rest.split_first(),
+    ) {
+        match compare_components(a, b) {
+            Ordering::Less => return Some(rest),
+            Ordering::Equal => {}
+            Ordering::Greater => return None,
+        }
+        ahead = further;
+        rest = behind;
+    }
+    None
+}
+
+/// The path of as many first components as are made. Fails where memory is wanting.
+pub(crate) fn beginning(alloc: Global, path: &Path) -> Result<Option<Path>, NoMemory>
+    ensures { IfOk result (λ found. IfSome found (λ beginning. (length beginning ≡ 1000) × (begins_with beginning path.now ≡ true))) }
+{
+    let text = joined(alloc, path.components())?;
+    let beginning = match Path::parse(alloc, text.as_str()) {
+        Ok(beginning) => beginning,
+        Err(PathFault::NoMemory) => return Err(AllocError),
+        Err(_) => return Ok(None),
+    };
+    if beginning.components().len() == MOST_COMPONENTS && begins(&beginning, path) {
+        Ok(Some(beginning))
+    } else {
+        Ok(None)
+    }
+}
+
+/// The components behind those.
+pub(crate) fn further(path: &Path) -> &[Component]
+    requires { 1000 ≤ length path.now }
+    ensures { result.now ≡ drop 1000 path.now }
+{
+    let components = path.components();
+    &components[MOST_COMPONENTS..]
+}
+
+/// As many first components as are made, with dots between them. Fails where memory is wanting.
+fn joined(alloc: Global, components: &[Component]) -> Result<String, NoMemory> {
+    let mut text = String::new(alloc);
+    'components: for component in components.iter().take(MOST_COMPONENTS) {
+        if !text.is_empty() {
+            text.push_str(".")?;
+        }
+        text.push_str(component.as_str())?;
+    }
+    Ok(text)
+}

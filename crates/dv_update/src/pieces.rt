@@ -1,0 +1,126 @@
+//! Documents in one piece, and how long they are.
+
+ghost use Rattle.std.specs.Prelude.{◌≡◌, ◌+◌, ◌-◌, ◌≤◌, ◌*◌, false, [], ◌∷◌, length, IfOk, IfSome, IsTrue};
+ghost use Rattle.std.proofs.Math.ListN.{replicate};
+ghost use Rattle.dv_bson.specs.Names.{has_name, has_zero};
+ghost use Rattle.dv_bson.specs.Spelling.{levels, payload, spelling};
+ghost use Rattle.dv_bson.specs.Tree.{binary};
+ghost use Rattle.dv_bson.specs.View.{tree};
+ghost use Rattle.dv_update.specs.StandIn as defined;
+
+use crate::apply::add;
+use dv_bson::{Bytes, Document, NoMemory, Value, fits, laws, size};
+use dv_path::Component;
+use std::alloc::Global;
+
+/// What stands around the bytes of a binary, and around the fields of a document.
+pub(crate) const FRAME: usize = 5;
+
+/// What a document adds to two values that stand in it under names of one letter together.
+const AROUND_TWO: usize = 10;
+
+/// How many bytes are few.
+const SMALL: usize = 1_000;
+
+/// What a document adds to a value that stands in it: its length, a type byte, the zero byte behind a name, and the closing
+/// zero.
+const AROUND: usize = 7;
+
+/// A value that has so many bytes, which stands in for a document: a small one is a binary of zeros, and a larger one a
+/// document in which another one stands twice, and is in memory once. So it takes hardly any. Fails where memory is wanting.
+#[cycle(piece)]
+pub(crate) fn piece(alloc: Global, size: usize) -> Result<Value, NoMemory>
+    ensures piece { IfOk result (λ piece. defined.in_one_piece (tree piece) ≡ binary 0 (replicate (size - 5) 0)) }
+    ensures long { 5 ≤ size → IfOk result (λ piece. length (payload (tree piece)) ≡ size) }
+{
+    if size < SMALL {
+        return zeros(alloc, size);
+    }
+    Ok(Value::Doc(doubled(alloc, size)?))
+}
+
+/// A binary of zeros that has so many bytes, with what stands around them. Fails where memory is wanting.
+fn zeros(alloc: Global, size: usize) -> Result<Value, NoMemory>
+    ensures zeros { IfOk result (λ zeros. tree zeros ≡ binary 0 (replicate (size - 5) 0)) }
+    ensures long { 5 ≤ size → IfOk result (λ zeros. length (payload (tree zeros)) ≡ size) }
+{
+    let bytes = Vec::from_elem(alloc, 0u8, size.saturating_sub(FRAME))?;
+    Ok(Value::Binary {
+        subtype: 0,
+        bytes: Bytes::of(bytes),
+    })
+}
+
+/// A document that has so many bytes, and keeps its size. Fails where memory is wanting.
+#[cycle(piece)]
+fn doubled(alloc: Global, size: usize) -> Result<Document, NoMemory>
+    requires { 1000 ≤ size }
+    ensures { IfOk result (λ document. length (spelling document) ≡ size) }
+{
+    let inside = size - AROUND_TWO;
+    let half = piece(alloc, inside / 2)?;
+    if inside % 2 == 0 {
+        twice(alloc, half, "a")
+    } else {
+        twice(alloc, half, "aa")
+    }
+}
+
+/// A document with the value under an empty name and under this one, which keeps its size. Fails where memory is wanting.
+fn twice(alloc: Global, value: Value, name: &str) -> Result<Document, NoMemory>
+    requires whole { has_zero name.now ≡ false }
+    requires other { has_name name.now (([], tree value) ∷ []) ≡ false }
+    ensures { IfOk result (λ document. length (spelling document) ≡ 2 * length (payload (tree value)) + length name.now + 9) }
+{
+    laws::what_a_field_adds();
+    let mut document = alone(alloc, &value)?;
+    add(&mut document, name, value)?;
+    document.keep_size();
+    Ok(document)
+}
+
+/// How many bytes documents add that stand one in another under these names, if a number can say it.
+pub(crate) fn names_size(names: &[Component]) -> Option<usize>
+    ensures { IfSome result (λ size. size ≡ defined.names_length names.now) }
+{
+    let mut size = 0usize;
+    'names: for name in names {
+        size = with_name(size, name.as_str())?;
+    }
+    Some(size)
+}
+
+fn with_name(size: usize, name: &str) -> Option<usize>
+    ensures { IfSome result (λ more. more ≡ size + 7 + length name.now) }
+{
+    size.checked_add(AROUND)?.checked_add(name.len())
+}
+
+/// How many bytes a value has, behind its name, where a document can be so long. Fails where memory is wanting.
+pub(crate) fn value_size(alloc: Global, value: &Value) -> Result<Option<usize>, NoMemory>
+    ensures { IfOk result (λ found. IfSome found (λ size. size ≡ length (payload (tree value.now)))) }
+{
+    laws::what_a_field_adds();
+    let alone = alone(alloc, value)?;
+    match size(&alone) {
+        Some(size) => Ok(Some(size as usize - AROUND)),
+        None => Ok(None),
+    }
+}
+
+/// Whether a value surely has at most 100 levels. Fails where memory is wanting.
+pub(crate) fn is_shallow(alloc: Global, value: &Value) -> Result<bool, NoMemory>
+    ensures { IfOk result (λ shallow. IsTrue shallow → levels (tree value.now) ≤ 100) }
+{
+    let alone = alone(alloc, value)?;
+    Ok(fits(&alone))
+}
+
+/// A document with the value under an empty name. Fails where memory is wanting.
+fn alone(alloc: Global, value: &Value) -> Result<Document, NoMemory>
+    ensures { IfOk result (λ alone. alone ≡ ([], tree value.now) ∷ []) }
+{
+    let mut alone = Document::new(alloc);
+    add(&mut alone, "", value.try_clone()?)?;
+    Ok(alone)
+}

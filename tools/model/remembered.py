@@ -1,0 +1,12 @@
+"""Functions of rows that are computed once for each row, since views ask them again at each change."""
+
+
+def remembered(function):
+    """The same function. A row is told by where it is in memory, as none is changed there; so each is kept."""
+    known = {}
+
+    def of(row):
+        if id(row) not in known:
+            known[id(row)] = row, function(row)
+        return known[id(row)][1]
+    return of

@@ -1,0 +1,188 @@
+"""The work that changes of what a view reads take in its stages.
+
+A row stands at a position, a tuple: a document of a collection under the key of its `_id`, and a row behind a stage where
+that puts it. A list of rows is one of pairs of a position and a row, in the order of positions. A change is such a pair too:
+the row is put at the position, or the one there goes where it is None. Nothing is kept from one write to the next: what a
+stage makes of all its rows is made in front of each change and behind it, and the differences are counted.
+"""
+import bisect
+from collections import namedtuple
+from operator import itemgetter
+
+from model.paths import field_of, sort_key, sort_of
+from model.pipelines import STAGES
+from model.remembered import remembered
+from model.values import DOCUMENT, INT32, key
+
+MOST_PUSHED = 256  # rows of a group with a $push, where it is kept by changes
+ONE = DOCUMENT, [(b"$sum", (INT32, 1))]
+
+# What a stage makes of rows, and of the documents that it looks into; and whether it looks into any.
+Placed = namedtuple("Placed", "makes looks", defaults=[False])
+
+
+class Overfull(Exception):
+    """A group is too large for its $push."""
+
+
+class Falling:
+    """A key in a position where the higher one stands first."""
+
+    def __init__(self, held):
+        self.held = held
+
+    def __eq__(self, other):
+        return self.held == other.held
+
+    def __lt__(self, other):
+        return other.held < self.held
+
+    def __hash__(self):
+        return hash(self.held)
+
+
+# Rows at positions.
+
+
+def with_change(rows, change):
+    position, row = change
+    at = bisect.bisect_left(rows, position, key=itemgetter(0))
+    end = at + (at < len(rows) and rows[at][0] == position)
+    return rows[:at] + [change] * (row is not None) + rows[end:]
+
+
+def difference(old, new):
+    """The changes from rows to other ones: what goes, and then what comes or is another row."""
+    before, behind = dict(old), dict(new)
+    gone = [(position, None) for position, _ in old if position not in behind]
+    return gone + [(position, row) for position, row in new if before.get(position) != row]
+
+
+def documents_of(rows):
+    return [row for _, row in rows]
+
+
+# Stages over rows at positions, each from its operand and from its function of rows without them.
+
+
+def matched_or_shown(operand, plain):
+    """$match and $project: a row stands where it stood."""
+    made = remembered(lambda row: plain([row], None))
+    return Placed(lambda rows, others: [(position, new) for position, row in rows for new in made(row)])
+
+
+def unwound(operand, plain):
+    """The rows of a row stand by their numbers behind where it stood."""
+    made = remembered(lambda row: plain([row], None))
+    return Placed(lambda rows, others: [((*position, at), new) for position, row in rows for at, new in enumerate(made(row))])
+
+
+def ordered(operand, plain):
+    """$sort: a row stands by its keys, and then where it stood."""
+    parts = sort_of(operand[1])
+    keys = remembered(lambda row: tuple(part_of(sort_key(row, *part), *part) for part in parts))
+    return Placed(lambda rows, others: sorted((((*keys(row), *position), row) for position, row in rows), key=itemgetter(0)))
+
+
+def part_of(wanted, path, is_falling):
+    return Falling(wanted) if is_falling else wanted
+
+
+def limited(operand, plain):
+    """The first rows stand where they stood."""
+    _, count = operand
+    return Placed(lambda rows, others: rows[:count])
+
+
+def grouped(operand, plain):
+    """The row of a group stands under its key."""
+    has_push, sizes = pushes(operand), STAGES[b"$group"]((DOCUMENT, [(b"_id", field_of(operand[1], b"_id")), (b"n", ONE)]))
+
+    def makes(rows, others):
+        documents = documents_of(rows)
+        if has_push and any(size > MOST_PUSHED for _, (_, (_, size)) in sizes(documents, None)):
+            raise Overfull
+        return [((key(field_of(row, b"_id")),), row) for row in plain(documents, None)]
+    return Placed(makes)
+
+
+def pushes(operand):
+    """Whether a group has a $push."""
+    return any(name != b"_id" and held[0][0] == b"$push" for name, (_, held) in operand[1])
+
+
+def looked_up(operand, plain):
+    """A row stands where it stood."""
+    def makes(rows, others):
+        made = plain(documents_of(rows), lambda name: others)
+        return [(position, new) for (position, _), new in zip(rows, made)]
+    return Placed(makes, looks=True)
+
+
+PLACED = {b"$match": matched_or_shown, b"$project": matched_or_shown, b"$unwind": unwound, b"$sort": ordered,
+          b"$limit": limited, b"$group": grouped, b"$lookup": looked_up}
+
+
+def placed(stages, functions):
+    """The stages of a pipeline, which are these functions of rows, over rows at positions."""
+    return [PLACED[held[0][0]](held[0][1], plain) for (_, held), plain in zip(stages, functions)]
+
+
+def has_push(stages):
+    """Whether a stage is a group with a $push."""
+    return any(held[0][0] == b"$group" and pushes(held[0][1]) for _, held in stages)
+
+
+# The work: for each stage 1 for each change that comes to it, and 1 for each that it hands on.
+
+
+def handed(makes, rows, changes):
+    """What a stage hands on for changes of its rows, one after the other."""
+    told, made = [], makes(rows)
+    for change in changes:
+        rows, old = with_change(rows, change), made
+        made = makes(rows)
+        told += difference(old, made)
+    return told
+
+
+def work(stages, named, rows, changes):
+    """The work of changes of the rows that come to the first of these stages. `named` are the lists that the stages look
+    into, in their order."""
+    if not stages or not changes:
+        return 0
+    makes, rest = over(stages[0], named)
+    told = handed(makes, rows, changes)
+    return len(changes) + len(told) + work(stages[1:], rest, makes(rows), told)
+
+
+def work_of_list(stages, named, at, rows, change):
+    """The work of a change of the list at a place among those that the stages look into."""
+    stage, others = stages[0], stages[1:]
+    makes, rest = over(stage, named)
+    if not stage.looks or at > 0:
+        return work_of_list(others, rest, at - stage.looks, makes(rows), change)
+    after, _ = over(stage, [with_change(named[0], change)])
+    told = difference(makes(rows), after(rows))
+    return 1 + len(told) + work(others, rest, makes(rows), told)
+
+
+def over(stage, named):
+    """What a stage makes of rows, where it looks into the first of these lists if it looks into one; and the other lists."""
+    others = documents_of(named[0]) if stage.looks else None
+    return lambda rows: stage.makes(rows, others), named[stage.looks:]
+
+
+def through(stages, lists):
+    """What stages make of the lists that a view reads: the source's, and then each that they look into."""
+    rows, *named = lists
+    for stage in stages:
+        makes, named = over(stage, named)
+        rows = makes(rows)
+    return rows
+
+
+def work_at(stages, lists, at, change):
+    """The work of a change of one of the lists that a view reads: the source's, and then each that its stages look into."""
+    source, *named = lists
+    return work_of_list(stages, named, at - 1, source, change) if at else work(stages, named, source, [change])
