@@ -4,11 +4,14 @@
 Needs the built program (run ./docd once). Right messages of all commands (`tools/random_scripts.py`) have bytes changed,
 cut, repeated, swapped and put in; lengths, flags, operation codes, kinds of sections, types, names and texts made wrong;
 and pieces of one message put behind another. What surrounds a change has its lengths mended in most cases, so that the
-fault lies deep. They are sent to
+fault lies deep. What they write to is under live views, one of each stage. They are sent to
 
 - `docd run`, one session a run;
 - `docd run --hex`, several sessions side by side, cut anywhere;
 - `docd serve`, many connections one after the other.
+
+In the end each view is read, and its pipeline is run as an aggregate, in a session of its own where there may be one: both
+have to give the model's rows, which are the same.
 
 What is answered, the closings, the counts at an end, the exit status and standard error's text must be those of the model
 of `tools/machine.py`. The first input that docd answers in another way is cut down and printed with both answers, and the
@@ -42,16 +45,22 @@ Piece = namedtuple("Piece", "session data")
 REFUSED_BYTES = b"InvalidBSON: ".hex().encode()
 
 
-def pieces_of(rng, sessions):
-    """The pieces of some sessions' messages, many of them broken."""
+def pieces_of(rng, sessions, last):
+    """The pieces of some sessions' messages, many of them broken, behind those that make views; and, for a last session, of
+    those that ask for each view's rows."""
     maker, breaker, made = Maker(rng), Breaker(rng), []
+    begin = [maker.first(), maker.first(b"d")]
+    views = maker.views_of_each_stage()
+    begin += map(maker.asked, views)
     for session in sessions:
-        maker.session, messages = object(), [] if maker.made else [maker.first()]
+        maker.session, messages, begin = object(), begin, []
         for _ in range(rng.randint(5, 30)):
+            if rng.random() < 0.3:
+                messages.append(maker.write())
             data = maker.whole(rng.choice([0, 0, 0, 0, 0, 0, 2, 65_536]))
             messages.append(maker.carried_out(breaker.broken(data) if rng.random() < 0.6 else data))
         made.append([Piece(session, data) for data in messages])
-    return made
+    return made, [Piece(last, data) for view in views for data in maker.asked_twice(view)]
 
 
 class Way:
@@ -77,8 +86,8 @@ class Run(Way):
     """One session, of standard input's bytes."""
 
     def input(self, rng):
-        (messages,) = pieces_of(rng, [b"0"])
-        return messages
+        (messages,), shown = pieces_of(rng, [b"0"], b"0")
+        return messages + shown
 
     def said(self, pieces):
         return self.run(["run"], b"".join(piece.data for piece in pieces))
@@ -93,8 +102,8 @@ class Script(Way):
     """Several sessions side by side, their bytes in the lines of a script."""
 
     def input(self, rng):
-        made = pieces_of(rng, rng.sample([b"0", b"7", b"255", b"999"], rng.randint(1, 4)))
-        return interleaved(rng, [recut(rng, messages) + [Piece(messages[0].session, None)] for messages in made])
+        made, shown = pieces_of(rng, rng.sample([b"0", b"7", b"255", b"999"], rng.randint(1, 4)), b"1")
+        return interleaved(rng, [recut(rng, messages) + [Piece(messages[0].session, None)] for messages in made]) + shown
 
     def script(self, pieces):
         lines = [[session + b" end"] if data is None else script_lines(int(session), data) for session, data in pieces]
@@ -112,8 +121,8 @@ class Serve(Way):
     """Connections, one after the other, over the loopback."""
 
     def input(self, rng):
-        made = pieces_of(rng, [b"%d" % number for number in range(rng.randint(1, 20))])
-        return [piece for messages in made for piece in recut(rng, messages)]
+        made, shown = pieces_of(rng, [b"%d" % number for number in range(rng.randint(1, 20))], b"last")
+        return [piece for messages in made for piece in recut(rng, messages)] + shown
 
     def connections(self, pieces):
         """The pieces of each connection."""

@@ -1,10 +1,12 @@
 #!/usr/bin/python3
 """What docd takes at the limits: the largest and the deepest that each command may bring, at half of that and at all of it.
 
-Needs the built program (run ./docd once). Each case in tools/cases is a session's messages for a size and for twice that size, up to
-what is allowed. They are run with 8 GB of address space and a stack of 8 MB, for a minute of processor time at most. For
-both sizes the processor time and the most memory that was resident are printed, with their ratios, and what was answered: a
-ratio above 2.5 stands out, as more than the size grows. So does a run that doesn't end well, and then the exit status is 1.
+Needs the built program (run ./docd once). Each case in tools/cases is a session's messages for a size and for twice that
+size, up to what is allowed. They are run with 8 GB of address space and a stack of 8 MB, for a minute of processor time at
+most. For both sizes the processor time and the most memory that was resident are printed, with their ratios, and what was
+answered: a ratio above 2.5 stands out, as more than the size grows. So does a run that doesn't end well, and then the exit
+status is 1. Of some views it is told what one write takes, of all that come behind the making: the difference of runs with
+them and without, where it is greater than two runs differ.
 
     python3 tools/limits.py
     python3 tools/limits.py --cases "unwind,lookup" --part 10 --program crates/docd/out/docd
@@ -39,16 +41,17 @@ STANDS_OUT = 2.5
 SMALL_TIME, SMALL_MEMORY = 0.1, 64 << 20  # below these a ratio tells nothing
 
 
-def write(make, size, path):
-    """Writes the bytes of a case to a file, in a process of its own: what this one holds counts for the program that it runs."""
+def write(make, words, path):
+    """Writes the bytes of a case to a file, in a process of its own: what this one holds counts for the program that it runs.
+    The words are the case's size, and how many writes it makes where these are timed."""
     child = os.fork()
     if not child:
         with open(path, "wb") as file:
-            for one in make(size):
+            for one in make(*words):
                 file.write(one if isinstance(one, bytes) else message(spelled([*one, DATABASE])))
         os._exit(0)
     if os.waitpid(child, 0)[1]:
-        sys.exit("limits: no messages of %s for %d" % (make.__name__, size))
+        sys.exit("limits: no messages of %s for %s" % (make.__name__, words))
 
 
 def limited():
@@ -91,13 +94,13 @@ Took = namedtuple("Took", "seconds memory status")
 
 def measured(program, name, part, folder):
     """Prints a case's line, and tells whether nothing in it stands out. What stands out is run again, and the least counts."""
-    make, most = CASES[name]
-    sizes = most // part // 2, most // part
+    make, most, writes = CASES[name]
+    sizes, more = (most // part // 2, most // part), [] if writes is None else [writes]
     given, answer, best = os.path.join(folder, "given"), os.path.join(folder, "answer"), []
     for _ in range(MOST_RUNS):
         took = []
         for size in sizes:
-            write(make, size, given)
+            write(make, [size, *more], given)
             took.append(run(program, make is sessions, given, answer))
         best = [min(runs) for runs in zip(best, took)] if best else took
         ratios = best[1].seconds / max(best[0].seconds, 0.001), best[1].memory / best[0].memory
@@ -106,8 +109,23 @@ def measured(program, name, part, folder):
             break
     told = ["%d: %.2f s, %d MB" % (size, one.seconds, one.memory >> 20) for size, one in zip(sizes, best)]
     told += ["ratios %.1f and %.1f" % ratios, *(["status %d" % best[1].status] if best[1].status else []), answered(answer)]
+    told += [of_one_write(program, make, sizes[1], one, folder) for one in more]
     print("%s %s: %s" % ("  " if is_right else "!!", name, "; ".join(told)), flush=True)
     return is_right
+
+
+def of_one_write(program, make, size, writes, folder):
+    """What one of so many writes of a case takes, by the least of some runs with them and without, which come in turn. It isn't
+    told where the runs without them differ by as much among themselves."""
+    answer, took = os.path.join(folder, "answer"), {0: [], writes: []}
+    for count in took:
+        write(make, [size, count], os.path.join(folder, str(count)))
+    for count in [*took] * MOST_RUNS:
+        took[count].append(run(program, False, os.path.join(folder, str(count)), answer).seconds)
+    all_writes = min(took[writes]) - min(took[0])
+    if all_writes <= max(took[0]) - min(took[0]):
+        return "a write takes too little to tell"
+    return "a write %.3f ms" % (1_000 * all_writes / writes)
 
 
 def stands_out(took, ratios):

@@ -10,7 +10,7 @@ from making.commands import Commands
 from model import messages
 from model.commands import answer_to
 from model.values import ARRAY, DOCUMENT
-from spelled import Broken, PIECE, array, boolean, data_of, joined, message, section, spelled, text
+from spelled import Broken, PIECE, array, boolean, data_of, document, joined, message, number, section, spelled, text
 
 
 def interleaved(rng, runs):
@@ -19,6 +19,10 @@ def interleaved(rng, runs):
     rng.shuffle(order)
     left = [iter(one) for one in runs]
     return [next(left[place]) for place in order]
+
+
+STAGES = ["$match", "$project", "$unwind", "$sort", "$limit", "$group", "$lookup"]
+ALL = number(2**31 - 1)  # as many rows in a first batch as its bytes let
 
 
 class Maker(Commands):
@@ -48,6 +52,17 @@ class Maker(Commands):
         names = [b"v", b"w", b"x"][:self.rng.choice([0, 1, 2, 3])]
         return ([self.first(b"d")] if names else []) + [self.asked(self.view(name)) for name in names]
 
+    def views_of_each_stage(self):
+        """The commands that make a view of each stage, named after it. No random command has such a name."""
+        return [self.view(stage[1:].encode(), [[stage]]) for stage in STAGES]
+
+    def asked_twice(self, view):
+        """For the command of a view: what it tells of itself, a find of all its rows, and an aggregate that makes them anew."""
+        (_, name), (_, source), pipeline = view
+        return [self.asked(command) for command in (
+            [(b"viewStats", name)], [(b"find", name), (b"batchSize", ALL)],
+            [(b"aggregate", source), pipeline, (b"cursor", document([(b"batchSize", ALL)]))])]
+
     def shown(self):
         """For each view that is there what it tells of itself, and a find of all its rows."""
         names = [place.partition(b".")[2] for place in self.store.views if place.startswith(b"t.")]
@@ -55,8 +70,11 @@ class Maker(Commands):
 
     def written(self):
         """A write, and what the views show in front of it and behind it."""
-        write = self.rng.choice([self.insert, self.update_command, self.delete])
-        return [*self.shown(), self.asked(write()), *self.shown()]
+        return [*self.shown(), self.write(), *self.shown()]
+
+    def write(self):
+        """The message of an insert, an update or a delete."""
+        return self.asked(self.rng.choice([self.insert, self.update_command, self.delete])())
 
     def asked(self, fields):
         """The message of a command, which the model's store has carried out."""

@@ -1,17 +1,22 @@
 """The commands of which cases are made, and the table of the cases."""
+from collections import namedtuple
+
 from spelled import array, document, joined, number, section, spelled, text
 
 FULL = 16_777_216  # bytes of a document
 DATABASE = b"$db", text(b"t")
 IDENTITY = b"_id", number(1)
 ONE = number(1)
+# What gives the commands of a size, the largest size, and how many writes come behind all else, where these are timed.
+Case = namedtuple("Case", "make most writes")
 CASES = {}
 
 
-def case(most):
-    """Marks a function that gives the commands of a size, of which this is the largest."""
+def case(most, writes=None):
+    """Marks a function that gives the commands of a size, of which this is the largest. Where a number of writes is named, it
+    is given that, or 0, behind the size."""
     def kept(make):
-        CASES[make.__name__.replace("_", " ")] = make, most
+        CASES[make.__name__.replace("_", " ")] = Case(make, most, writes)
         return make
     return kept
 

@@ -36,15 +36,15 @@ MOST_ROWS = 20  # along which a stage is made
 class Views(Pipelines):
     """Makes views."""
 
-    def view(self, name):
-        """A command that makes a view, mostly of the collection `c`."""
+    def view(self, name, chains=CHAINS):
+        """A command that makes a view, mostly of the collection `c`, by one of these chains of stages."""
         source = self.rng.choice([b"c"] * 9 + [b"d"])
-        return [(b"create", text(name)), (b"viewOn", text(source)), (b"pipeline", array(self.chain()))]
+        return [(b"create", text(name)), (b"viewOn", text(source)), (b"pipeline", array(self.chain(chains)))]
 
-    def chain(self):
+    def chain(self, chains):
         """Stages of which each is made along the rows that those before it make."""
         stages, rows = [], self.documents[:MOST_ROWS]
-        for name in self.rng.choice(CHAINS):
+        for name in self.rng.choice(chains):
             self.along = rows or None
             stages.append(self.kept_stage(name))
             rows = self.rows_behind(stages[-1], rows)

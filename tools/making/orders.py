@@ -1,0 +1,136 @@
+"""Random writes and reads of two collections, orders and shelves, and the views over them."""
+import random
+
+SHELVES = 40
+LARGEST = 1_000  # number in an order
+TAGS = ["tag%d" % place for place in range(12)]
+# How many documents each collection has: at least and at most, but for a moment behind a drop.
+BOUNDS = {"orders": (400, 700), "shelves": (15, 35)}
+INDEXES = {"orders": ["n", "tags"], "shelves": ["floor"]}
+
+
+def joined(source, local, foreign, name):
+    return {"$lookup": {"from": source, "localField": local, "foreignField": foreign, "as": name}}
+
+
+# The collection that each view is over, and its pipeline.
+VIEWS = {
+    "dear": ("orders", [{"$match": {"n": {"$gte": LARGEST // 2}}}, {"$project": {"n": 1, "place": "$shelf"}}]),
+    "tagged": ("orders", [{"$unwind": "$tags"}]),
+    "first": ("orders", [{"$sort": {"n": -1}}, {"$limit": 20}]),
+    "by_shelf": ("orders", [{"$group": {"_id": "$shelf", "orders": {"$sum": 1}, "sum": {"$sum": "$n"}, "least": {"$min": "$n"},
+                                        "most": {"$max": "$n"}, "all": {"$push": "$_id"}}}]),
+    "together": ("orders", [{"$group": {"_id": None, "all": {"$push": "$n"}}}]),
+    "with_shelf": ("orders", [joined("shelves", "shelf", "_id", "at")]),
+    "with_orders": ("shelves", [joined("orders", "_id", "shelf", "orders"), {"$project": {"orders": "$orders._id"}}]),
+    "pairs": ("orders", [joined("orders", "next", "_id", "next")]),
+    "chain": ("orders", [{"$unwind": "$tags"}, {"$group": {"_id": "$tags", "n": {"$sum": "$n"}}}, {"$sort": {"n": -1}},
+                         {"$limit": 5}, joined("orders", "_id", "tags", "orders"), {"$project": {"orders": "$orders._id"}}]),
+}
+# A $push over more than 256 rows, behind whose changes its view is stale.
+LARGE = {"together"}
+
+
+class Orders:
+    """Makes commands, and keeps how many documents each collection has."""
+
+    def __init__(self, seed):
+        self.rng, self.counts = random.Random(seed), dict.fromkeys(BOUNDS, 0)
+
+    def often(self, share):
+        return self.rng.random() < share
+
+    def identity(self, collection):
+        """One that some document may have: there are twice as many as documents."""
+        return self.rng.randrange(2 * BOUNDS[collection][1])
+
+    def document(self, collection):
+        fields = {"_id": self.identity(collection), "note": "x" * self.rng.randrange(200)}
+        return {**fields, "floor": self.rng.randrange(5)} if collection == "shelves" else {**fields, **self.order()}
+
+    def order(self):
+        fields = {"n": self.rng.randrange(LARGEST), "next": self.identity("orders"),
+                  "tags": self.rng.choices(TAGS, k=self.rng.randrange(5))}
+        return fields if self.often(0.03) else {**fields, "shelf": self.shelf()}
+
+    def shelf(self):
+        if self.often(0.05):
+            return self.rng.choice([None, [self.rng.randrange(SHELVES) for _ in range(3)]])
+        return self.rng.randrange(SHELVES)
+
+    def query(self, collection):
+        """One document by its identity, mostly, or a few by an index."""
+        if collection == "shelves" or self.often(0.9):
+            return {"_id": self.identity(collection)}
+        return self.query_by_index()
+
+    def query_by_index(self):
+        least = self.rng.randrange(LARGEST)
+        return self.rng.choice([{"n": {"$gte": least, "$lt": least + 10}}, {"n": least},
+                                {"tags": self.rng.choice(TAGS), "n": {"$gt": LARGEST - 200}}])
+
+    def change(self, collection):
+        """An update's operand; a replacement in some cases."""
+        if self.often(0.1):
+            return {name: one for name, one in self.document(collection).items() if name != "_id"}
+        if collection == "shelves":
+            return {"$set": {"floor": self.rng.randrange(5)}}
+        tag = self.rng.choice(TAGS)
+        return self.rng.choice([
+            {"$set": {"n": self.rng.randrange(LARGEST)}}, {"$set": {"shelf": self.shelf()}}, {"$set": {"tags": [tag]}},
+            {"$inc": {"n": self.rng.choice([-1, 1])}}, {"$push": {"tags": tag}}, {"$pull": {"tags": tag}},
+            {"$set": {"next": self.identity("orders"), "note": "y" * self.rng.randrange(200)}},
+        ] + [{"$unset": {"shelf": 1}}] * self.often(0.2))
+
+    def write(self):
+        """The collection that a write is of, and its command."""
+        collection = "orders" if self.often(0.85) else "shelves"
+        least, most = BOUNDS[collection]
+        if self.counts[collection] < least:
+            return collection, self.insert(collection, (least + most) // 2 - self.counts[collection])
+        if self.counts[collection] > most:
+            return collection, self.delete(collection)
+        if self.often(0.0005):
+            return collection, {"drop": collection}
+        made = self.rng.choice([self.insert, self.delete, self.delete, self.update, self.update, self.update])
+        return collection, made(collection)
+
+    def insert(self, collection, count=0):
+        documents = [self.document(collection) for _ in range(count or self.rng.choice([1, 1, 1, 2, 5]))]
+        return {"insert": collection, "documents": documents, "ordered": False}
+
+    def delete(self, collection):
+        return {"delete": collection, "deletes": [{"q": self.query(collection), "limit": self.rng.randrange(2)}]}
+
+    def update(self, collection):
+        entry = {"q": self.query(collection), "u": self.change(collection)}
+        is_replacement = not any(name.startswith("$") for name in entry["u"])
+        return {"update": collection, "updates": [entry if is_replacement else {**entry, "multi": True}]}
+
+    def written(self, collection, command, reply):
+        """Counts what a write has done to its collection."""
+        if "drop" in command:
+            self.counts[collection] = 0
+        elif "update" not in command:
+            self.counts[collection] += reply["n"] if "insert" in command else -reply["n"]
+
+    def read(self):
+        """A find or an aggregate, whose answer may be longer than its first batch."""
+        batch = {"batchSize": self.rng.choice([0, 1, 10, 101])}
+        if self.often(0.5):
+            return {"find": self.rng.choice(list(VIEWS)), **batch}
+        if self.often(0.5):
+            return {"find": "orders", "filter": self.query_by_index(), "sort": {"next": -1}, **batch}
+        source, pipeline = self.rng.choice(list(VIEWS.values()))
+        return {"aggregate": source, "pipeline": pipeline, "cursor": batch}
+
+
+def indexing(collection):
+    """The command that makes a collection's indexes."""
+    return {"createIndexes": collection, "indexes": [{"key": {path: 1}, "name": path} for path in INDEXES[collection]]}
+
+
+def making(view):
+    """The command that makes a view."""
+    source, pipeline = VIEWS[view]
+    return {"create": view, "viewOn": source, "pipeline": pipeline}
