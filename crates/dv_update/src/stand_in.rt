@@ -1,7 +1,7 @@
 //! What edits make of a document, or what stands in for it where paths of many components would make it too deep.
 //!
 //! A path may have millions of components, and the documents that stand one in another along it would take stack for each of
-//! them. So what such a path makes below its first 1,000 components is made in one piece: a binary that has as many bytes. It is
+//! them. So what such a path makes below its first 1,000 components is made in one piece: a value that has as many bytes. It is
 //! refused as the document itself would be: it has as many bytes, more levels than any stored document, and no other `_id`.
 
 ghost use Rattle.std.specs.Prelude.{◌≡◌, is_some, ◌≢◌, [], ◌+◌, ◌-◌, Some, ◌<◌, ◌≤◌, List, map, length, true, false, IfOk, IfSome, IsTrue};
