@@ -21,3 +21,4 @@ pub mod Valid
 pub mod RemovalsLast
 pub mod StandingIn
 pub mod Stepwise
+pub mod Losses
