@@ -22,3 +22,4 @@ pub mod RemovalsLast
 pub mod StandingIn
 pub mod Stepwise
 pub mod Losses
+pub mod Shortening

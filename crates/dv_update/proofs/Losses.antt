@@ -163,7 +163,7 @@ left-shorter (name ∷ names) v = omega arith
 -- ---- what is put beside it
 
 -- where nothing is refused, there is what is put
-made-by : {X Y : Type 0} (f : X → Y) (r : Result X PathFault) (y : Y) → result_map f r ≡ Ok y → (x : X) × (r ≡ Ok x) × (f x ≡ y)
+pub made-by : {X Y : Type 0} (f : X → Y) (r : Result X PathFault) (y : Y) → result_map f r ≡ Ok y → (x : X) × (r ≡ Ok x) × (f x ≡ y)
 made-by f (Ok x) y e = (x, refl, cc)
 made-by f (Err g) y e = absurd cc
 
@@ -175,7 +175,7 @@ Parts a p b q = (a ≡ b → ⊥) ⊎ ((a ≡ b) × AreApart p q)
 abbrev Loses : Path → Path → Tree → Type 0
 Loses p q v = (w u : Tree) → AreApart p q → put_behind q v (Some w) ≡ Ok u → size w + size (left_of p u) ≤ size u + size (left_of p w)
 
-stays : (name : List ℕ) (names : Path) (v : Tree) → left_behind (name ∷ names) v ≡ Some (left_of (name ∷ names) v)
+pub stays : (name : List ℕ) (names : Path) (v : Tree) → left_behind (name ∷ names) v ≡ Some (left_of (name ∷ names) v)
 stays name names (document fs) = refl
 stays name names (array vs) = refl
 stays name names v = refl
@@ -208,7 +208,7 @@ fields-lose a p b q v fs x loses parts put = by (value_under a fs) refl parts
           removed-length (left_behind p) a fs (Some w) is,
           ap (field-size a) (further p q h.1 w),
           removed-length (left_behind p) a made (Some x) there,
-          ap (field-size a) (further p q h.1 x)
+          ap (field-size a) (further p q h.1 x),
         )
 
 -- ---- two components that pick one place in arrays are one
@@ -319,7 +319,7 @@ module _ (slots : SlotsStay) where
         length-array (elements_of ws),
         length-array (elements_of made),
         length-array (elements_of (remove_element (left_behind p) (index_of a) made)),
-        length-array (elements_of (remove_element (left_behind p) (index_of a) ws))
+        length-array (elements_of (remove_element (left_behind p) (index_of a) ws)),
       )
   loses (a ∷ p) (b ∷ q) v w u h e = absurd cc
 
