@@ -1,5 +1,5 @@
 -- Edits of a document without what none of them leads to.
-use Rattle.std.proofs.Common.{◌≡◌, ◌∙◌, ap, ap₂, sym, refl, ℕ, suc, ◌+◌, ◌-◌, ◌≤◌, ◌<◌, ◌&&◌, ◌||◌, Bool, true, false, nat_lt, not, List, [], ◌∷◌, ◌++◌, length, map, Option, Some, None, slice_get, Result, Ok, Err, ◌⊎◌, inl, inr, if◌then◌else◌, option_and_then, codes, arith}
+use Rattle.std.proofs.Common.{◌≡◌, ◌∙◌, ap, ap₂, sym, refl, ℕ, suc, ◌+◌, ◌-◌, ◌≤◌, ◌<◌, ◌&&◌, ◌||◌, Bool, true, false, nat_lt, not, List, [], ◌∷◌, ◌++◌, length, map, Option, Some, None, slice_get, Result, Ok, Err, ◌⊎◌, inl, inr, if◌then◌else◌, option_and_then, codes, arith, subst}
 use Rattle.std.specs.Bool.{⊤}
 use Rattle.std.specs.List.{list_any, AllByRecursion}
 use Rattle.std.specs.Str.{bytes_eq}
@@ -27,6 +27,7 @@ use Rattle.dv_update.specs.declared.fault.UpdateFault.{UpdateFault}
 use Rattle.dv_update.specs.declared.fault.UpdateFault.TheVariants.{IdChanged, TooLarge}
 use Rattle.dv_update.specs.declared.form.Edit as memory
 use Rattle.dv_update.proofs.Losses.{long, made-by, put-loses, remove-shorter, stays}
+use Rattle.dv_update.proofs.Stepwise.{no_conflict}
 use Rattle.dv_update.proofs.RemovalsLast.{SlotsStay, PutsStay, AllPart, apart, edit-apart, edit-passes, or-none-first, or-none-second}
 
 -- ---- what an edit is, where nothing is refused
@@ -121,6 +122,9 @@ each-first (p ∷ ps) name (f ∷ fs) is none =
 each-shorter : (ps : List Path) (d : List Field) → long (remove_each d ps) ≤ long d
 each-shorter [] d = omega arith
 each-shorter (p ∷ ps) d = omega (arith, each-shorter ps (remove d p), remove-shorter d p)
+
+pub left_shorter : (d : List Field) (removed : List Edit) (left : List Field) → left ≡ remove_each d (removals removed) → long left ≤ long d
+left_shorter d removed left is = omega (arith, ap long is, each-shorter (removals removed) d)
 
 removals-touch : (o : Option (List ℕ)) (es : List Edit) → list_any (λ (e : Edit). touches o e.0) es ≡ false → list_any (touches o) (removals es) ≡ false
 removals-touch o [] none = refl
@@ -228,9 +232,6 @@ module _ (slots : SlotsStay) (puts : PutsStay) where
       pass : edited (other_edits further) (remove_each d ps) ≡ (edited (other_edits further) d >>= λ a. Ok (remove_each a ps))
       pass = all-pass ps further behind d
 
-  pub left_shorter : (d : List Field) (removed : List Edit) (left : List Field) → left ≡ remove_each d (removals removed) → long left ≤ long d
-  left_shorter d removed left is = omega (arith, ap long is, each-shorter (removals removed) d)
-
 -- ---- one edit after another
 
 pub none_gone : (d : List Field) (es : List Edit) → IsShortened d 0 es (edited (other_edits es) d)
@@ -285,3 +286,35 @@ steps_joined (x ∷ []) (y ∷ ys) first second meet = let m = meet x y refl ref
 steps_joined (x ∷ z ∷ xs) ys first second meet =
     let at : length (x ∷ z ∷ xs) - 1 ≡ suc (length (z ∷ xs) - 1) = omega arith in
     (first.0, first.1, steps_joined (z ∷ xs) ys first.2 second (λ l y is. meet l y (is ∙ ap (slice_get (x ∷ z ∷ xs)) (sym at))))
+
+some-same : {X : Type 0} (a b : X) → Some a ≡ Some b → a ≡ b
+some-same a b e = cc
+
+pub stand_joined : (xs ys : List memory.Edit) (x y : memory.Edit) → Some x ≡ slice_get xs (length xs - 1) → Some y ≡ slice_get ys 0 → Steps (map edit xs) → Steps (map edit ys) → (path_order x.path y.path ≡ Less) × (begins x.path y.path ≡ false)
+    → has_conflict (map edit xs ++ map edit ys) ≡ false
+stand_joined xs ys x y is-x is-y first second apart = no_conflict _ (steps_joined xs ys first second meet)
+  where
+    Apart : memory.Edit → memory.Edit → Type 0
+    Apart a b = (path_order a.path b.path ≡ Less) × (begins a.path b.path ≡ false)
+
+    meet : (a b : memory.Edit) → Some a ≡ slice_get xs (length xs - 1) → Some b ≡ slice_get ys 0 → Apart a b
+    meet a b is-a is-b = subst (Apart a) (some-same y b (is-y ∙ sym is-b)) (subst (λ e. Apart e y) (some-same x a (is-x ∙ sym is-a)) apart)
+
+pub stand_alone : (xs ys : List memory.Edit) → None ≡ slice_get xs (length xs - 1) → Steps (map edit ys) → has_conflict (map edit xs ++ map edit ys) ≡ false
+stand_alone [] ys none second = no_conflict (map edit ys) second
+stand_alone (x ∷ []) ys none second = absurd cc
+stand_alone (x ∷ z ∷ xs) ys none second = absurd (some-last z xs (none ∙ ap (slice_get (x ∷ z ∷ xs)) at))
+  where
+    at : length (x ∷ z ∷ xs) - 1 ≡ suc (length (z ∷ xs) - 1)
+    at = omega arith
+
+    some-last : (z : memory.Edit) (xs : List memory.Edit) → None ≡ slice_get (z ∷ xs) (length (z ∷ xs) - 1) → ⊥
+    some-last z [] e = cc
+    some-last z (w ∷ ws) e = let next : length (z ∷ w ∷ ws) - 1 ≡ suc (length (w ∷ ws) - 1) = omega arith in some-last w ws (e ∙ ap (slice_get (z ∷ w ∷ ws)) next)
+
+pub first_apart : (xs ys : List Edit) → has_conflict (xs ++ ys) ≡ false → has_conflict xs ≡ false
+first_apart [] ys none = refl
+first_apart (x ∷ xs) ys none =
+    let here : (list_any (conflicts x) xs || list_any (conflicts x) ys) ≡ false = sym (list_any-append (conflicts x) xs ys) ∙ or-none-first (list_any (conflicts x) (xs ++ ys)) (has_conflict (xs ++ ys)) none in
+    let rest = first_apart xs ys (or-none-second (list_any (conflicts x) (xs ++ ys)) (has_conflict (xs ++ ys)) none) in
+    ap₂ (λ a b. a || b) (or-none-first (list_any (conflicts x) xs) (list_any (conflicts x) ys) here) rest
