@@ -10,7 +10,7 @@ use Rattle.dv_path.specs.Apart.{AreApart}
 use Rattle.dv_path.specs.Path.{index_of}
 use Rattle.dv_path.specs.Placing.{result_map, field_with, with_field, with_element, put_field, put_element, put_behind, put}
 use Rattle.dv_path.specs.Removing.{changed_at, remove_field, remove_element, left_behind, remove}
-use Rattle.dv_path.specs.Slots.{taken, slot_of, element_slot, slot_behind, slot}
+use Rattle.dv_path.specs.Slots.{taken, slot_of, element_slot, slot}
 use Rattle.dv_path.specs.declared.fault.PathFault.{PathFault}
 use Rattle.dv_path.specs.declared.fault.PathFault.TheVariants.{IndexTooLarge}
 use Rattle.dv_update.proofs.AlikeDown.{length-document, length-array, length-field, length-item}

@@ -1,6 +1,5 @@
 -- Edits each of which parts from the next one.
 use Rattle.std.proofs.Common.{◌≡◌, refl, List, [], ◌∷◌, false, length, map, arith}
-use Rattle.std.specs.Bool.{⊤}
 use Rattle.std.specs.List.{list_any, AllByRecursion}
 use Rattle.std.specs.declared.cmp.Ordering.TheVariants.{Less}
 use Rattle.dv_update.specs.Parsing.{conflicts, has_conflict}
