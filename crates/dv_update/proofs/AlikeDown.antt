@@ -73,7 +73,7 @@ pub length-field : (name : List ℕ) (v : Tree) (fs : Fields) → length (fields
 unfolding payload
 length-field name v fs = omega (arith, length-append (element_spelling (kind_of v) name (payload v)) (fields_spelling fs), length-element v name)
 
-length-item : (i : ℕ) (v : Tree) (vs : Elements) → length (elements_spelling i (element v vs)) ≡ length (decimal i) + length (payload v) + 2 + length (elements_spelling (suc i) vs)
+pub length-item : (i : ℕ) (v : Tree) (vs : Elements) → length (elements_spelling i (element v vs)) ≡ length (decimal i) + length (payload v) + 2 + length (elements_spelling (suc i) vs)
 unfolding payload
 length-item i v vs = omega (arith, length-append (element_spelling (kind_of v) (decimal i) (payload v)) (elements_spelling (suc i) vs), length-element v (decimal i))
 

@@ -21,3 +21,5 @@ pub mod Valid
 pub mod RemovalsLast
 pub mod StandingIn
 pub mod Stepwise
+pub mod Losses
+pub mod Shortening

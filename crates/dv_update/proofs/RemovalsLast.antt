@@ -16,17 +16,17 @@ use Rattle.dv_update.specs.PathOrder.{begins}
 use Rattle.dv_update.specs.Removals.{is_removal, removals, other_edits}
 use Rattle.dv_update.specs.Update.{Operation, assign, take_away, increase, append, pull, Pulled, Edit}
 
-or-none-first : (a b : Bool) → (a || b) ≡ false → a ≡ false
+pub or-none-first : (a b : Bool) → (a || b) ≡ false → a ≡ false
 or-none-first true b h = cc
 or-none-first false b h = refl
 
-or-none-second : (a b : Bool) → (a || b) ≡ false → b ≡ false
+pub or-none-second : (a b : Bool) → (a || b) ≡ false → b ≡ false
 or-none-second true b h = cc
 or-none-second false b h = h
 
 -- ---- paths of edits without a conflict part
 
-part : (p q : Path) → begins p q ≡ false → begins q p ≡ false → AreApart p q
+pub part : (p q : Path) → begins p q ≡ false → begins q p ≡ false → AreApart p q
 part [] q h g = cc
 part (a ∷ p) [] h g = cc
 part (a ∷ p) (b ∷ q) h g = by (bytes_eq a b) refl (part p q)
@@ -38,7 +38,7 @@ part (a ∷ p) (b ∷ q) h g = by (bytes_eq a b) refl (part p q)
         inr (e, rest (ap (λ c. c && begins p q) (sym is) ∙ h) (ap (λ c. c && begins q p) (sym back) ∙ g))
     by false is rest = inl (λ e. let same : bytes_eq a b ≡ true = (bytes_eq-Decides a b).1 e in cc)
 
-apart : (d e : Edit) → conflicts d e ≡ false → AreApart d.0 e.0
+pub apart : (d e : Edit) → conflicts d e ≡ false → AreApart d.0 e.0
 apart d e none = part d.0 e.0 (or-none-first (begins d.0 e.0) (begins e.0 d.0) none) (or-none-second (begins d.0 e.0) (begins e.0 d.0) none)
 
 apart-from : (e : Edit) (es : List Edit) → list_any (conflicts e) es ≡ false → IsApartFrom e.0 (removals es)
@@ -70,6 +70,11 @@ removal-is (increase n) h = cc
 removal-is (append vs) h = cc
 removal-is (pull p) h = cc
 
+-- each of these paths parts from the other one
+abbrev pub AllPart : List Path → Path → Type 0
+AllPart [] q = Unit {0}
+AllPart (p ∷ ps) q = AreApart p q × AllPart ps q
+
 -- what dv_path's law says
 abbrev pub SlotsStay : Type 0
 SlotsStay = (fields : List Field) (p q : List (List ℕ)) → AreApart p q → slot (remove fields p) q ≡ slot fields q
@@ -92,7 +97,7 @@ module _ (slots : SlotsStay) (puts : PutsStay) where
     pull-apart x free = refl
     pull-apart x blocked = refl
 
-    edit-apart : (o : Operation) → is_removal o ≡ false → edit_at q o (remove d p) ≡ (edit_at q o d >>= λ after. Ok (remove after p))
+    pub edit-apart : (o : Operation) → is_removal o ≡ false → edit_at q o (remove d p) ≡ (edit_at q o d >>= λ after. Ok (remove after p))
     edit-apart (assign v) none = set-apart v
     edit-apart take_away none = cc
     edit-apart (increase n) none = ap (λ s. increased n s >>= λ v. set_at q v (remove d p)) (slots d p q h) ∙ value-apart (increased n (slot d q))
@@ -137,10 +142,6 @@ module _ (slots : SlotsStay) (puts : PutsStay) where
 
   -- ---- removals before all other edits
 
-  abbrev AllPart : List Path → Path → Type 0
-  AllPart [] q = Unit {0}
-  AllPart (p ∷ ps) q = AreApart p q × AllPart ps q
-
   all-part : (e : Edit) (es : List Edit) → list_any (conflicts e) es ≡ false → AllPart (removals es) e.0
   all-part e [] none = tt
   all-part e (x ∷ es) none = by (is_removal x.1) (all-part e es (or-none-second (conflicts e x) (list_any (conflicts e) es) none))
@@ -154,7 +155,7 @@ module _ (slots : SlotsStay) (puts : PutsStay) where
       by true rest = (parts, rest)
       by false rest = rest
 
-  edit-passes : (q : Path) (o : Operation) → is_removal o ≡ false → (ps : List Path) → AllPart ps q → (d : List Field) → edit_at q o (remove_each d ps) ≡ (edit_at q o d >>= λ after. Ok (remove_each after ps))
+  pub edit-passes : (q : Path) (o : Operation) → is_removal o ≡ false → (ps : List Path) → AllPart ps q → (d : List Field) → edit_at q o (remove_each d ps) ≡ (edit_at q o d >>= λ after. Ok (remove_each after ps))
   edit-passes q o other [] parts d = alone (edit_at q o d)
     where
       alone : (r : Result (List Field) UpdateFault) → r ≡ (r >>= λ after. Ok after)

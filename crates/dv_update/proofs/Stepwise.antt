@@ -1,22 +1,16 @@
 -- Edits each of which parts from the next one.
 use Rattle.std.proofs.Common.{◌≡◌, refl, List, [], ◌∷◌, false, length, map, arith}
-use Rattle.std.specs.Bool.{⊤}
 use Rattle.std.specs.List.{list_any, AllByRecursion}
 use Rattle.std.specs.declared.cmp.Ordering.TheVariants.{Less}
 use Rattle.dv_update.specs.Parsing.{conflicts, has_conflict}
 use Rattle.dv_update.specs.PathOrder.{path_order, begins}
+use Rattle.dv_update.specs.Shortened.{Steps}
 use Rattle.dv_update.specs.Update.{Edit}
 use Rattle.dv_update.specs.View.{edit}
 use Rattle.dv_update.specs.declared.form.Edit as memory
 use Rattle.dv_update.proofs.Lawful.{through}
 use Rattle.dv_update.proofs.Paths.{begins-between}
 use Rattle.dv_update.proofs.Placed.{Rises, or-none, is-false, clash, apart-below}
-
--- each stands before the next one, and doesn't begin it
-abbrev pub Steps : List Edit → Type 0
-Steps [] = ⊤
-Steps (e ∷ []) = ⊤
-Steps (e ∷ d ∷ es) = (path_order e.0 d.0 ≡ Less) × (begins e.0 d.0 ≡ false) × Steps (d ∷ es)
 
 all-through : (e d : Edit) → path_order e.0 d.0 ≡ Less → (es : List Edit) → AllByRecursion (λ x. path_order d.0 x.0 ≡ Less) es → AllByRecursion (λ x. path_order e.0 x.0 ≡ Less) es
 all-through e d l [] h = tt

@@ -14,3 +14,4 @@ pub mod UpdateCode
 pub mod UpdateView
 pub mod View
 pub mod Removals
+pub mod Shortened

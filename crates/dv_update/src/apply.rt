@@ -1,6 +1,6 @@
 //! What an update makes of a document.
 
-ghost use Rattle.std.specs.Prelude.{◌≡◌, [], ◌∷◌, ◌++◌, nat_lt, false, length, codes, IfOk, OnOk, OnErr};
+ghost use Rattle.std.specs.Prelude.{◌≡◌, [], ◌∷◌, ◌++◌, nat_lt, ◌⊎◌, Err, false, length, codes, IfErr, IfOk, OnOk, OnErr};
 ghost use Rattle.std.specs.Option.{option_map};
 ghost use Rattle.dv_bson.specs.Names.{has_name, has_zero, value_under};
 ghost use Rattle.dv_bson.specs.Spelling.{spelling};
@@ -10,9 +10,11 @@ ghost use Rattle.dv_update.specs.Parsing.{Gives};
 ghost use Rattle.dv_order.specs.Same.{both_same};
 ghost use Rattle.dv_update.specs.Standing.{Likewise};
 ghost use Rattle.dv_update.specs.UpdateView.{update};
+ghost use Rattle.dv_update.specs.declared.fault.UpdateFault.TheVariants.{NoMemory as wanting};
 
 use crate::fault::UpdateFault;
 use crate::form::Update;
+use crate::shortened::refuse_too_large;
 use crate::stand_in::edited_or_alike;
 use dv_bson::{BsonFault, Document, NoMemory, Value, fits, size};
 use dv_order::is_same;
@@ -38,6 +40,7 @@ impl Update {
     pub fn apply(&self, alloc: Global, document: &Document) -> Result<Document, UpdateFault>
         ensures { Gives (λ changed. changed) result (defined.applied (update self.now) document.now) }
     {
+        self.refuse_too_large(alloc, document)?;
         let mut changed = self.change(alloc, document)?;
         changed.keep_size();
         if !keeps_id(document, &changed) {
@@ -50,6 +53,16 @@ impl Update {
             return Err(UpdateFault::TooLarge);
         }
         Err(UpdateFault::TooDeep)
+    }
+
+    /// Refused as the result is, where it is surely too large.
+    fn refuse_too_large(&self, alloc: Global, document: &Document) -> Result<(), UpdateFault>
+        ensures { IfErr result (λ f. (f ≡ wanting) ⊎ (defined.applied (update self.now) document.now ≡ Err f)) }
+    {
+        match self {
+            Update::Replacement(_) => Ok(()),
+            Update::Operators(edits) => refuse_too_large(alloc, edits, document),
+        }
     }
 
     /// The same, whatever the result is; or what is refused as the result is.
@@ -114,7 +127,7 @@ pub(crate) fn add(document: &mut Document, name: &str, value: Value) -> Result<(
 }
 
 /// Whether both documents begin with the same `_id`, or neither with one.
-fn keeps_id(old: &Document, new: &Document) -> bool
+pub(crate) fn keeps_id(old: &Document, new: &Document) -> bool
     ensures { result ≡ both_same (defined.leading_id old.now) (defined.leading_id new.now) }
 {
     match (leading_id(old), leading_id(new)) {

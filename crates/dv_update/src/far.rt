@@ -5,6 +5,7 @@ ghost use Rattle.std.specs.Option.{option_map};
 ghost use Rattle.dv_update.specs.PathOrder.{begins as begins_with};
 ghost use Rattle.dv_update.specs.StandIn as defined;
 
+use crate::form::Edit;
 use crate::order::{begins, compare_components};
 use dv_bson::NoMemory;
 use dv_path::{Component, Path, PathFault};
@@ -36,20 +37,38 @@ pub(crate) fn parting<'a>(before: &[Component], path: &'a [Component]) -> Option
     None
 }
 
+/// Whether a path has many components.
+pub(crate) fn lead_far(edits: &[Edit]) -> bool {
+    edits
+        .iter()
+        .any(|edit| edit.path.components().len() > MOST_COMPONENTS)
+}
+
 /// The path of as many first components as are made. Fails where memory is wanting.
 pub(crate) fn beginning(alloc: Global, path: &Path) -> Result<Option<Path>, NoMemory>
     ensures { IfOk result (λ found. IfSome found (λ beginning. (length beginning ≡ 1000) × (begins_with beginning path.now ≡ true))) }
 {
-    let text = joined(alloc, path.components())?;
-    let beginning = match Path::parse(alloc, text.as_str()) {
-        Ok(beginning) => beginning,
-        Err(PathFault::NoMemory) => return Err(AllocError),
-        Err(_) => return Ok(None),
+    let Some(beginning) = first_components(alloc, path.components(), MOST_COMPONENTS)? else {
+        return Ok(None);
     };
     if beginning.components().len() == MOST_COMPONENTS && begins(&beginning, path) {
         Ok(Some(beginning))
     } else {
         Ok(None)
+    }
+}
+
+/// The path of so many first components, where there are any. Fails where memory is wanting.
+pub(crate) fn first_components(
+    alloc: Global,
+    components: &[Component],
+    count: usize,
+) -> Result<Option<Path>, NoMemory> {
+    let text = joined(alloc, components, count)?;
+    match Path::parse(alloc, text.as_str()) {
+        Ok(beginning) => Ok(Some(beginning)),
+        Err(PathFault::NoMemory) => Err(AllocError),
+        Err(_) => Ok(None),
     }
 }
 
@@ -62,10 +81,10 @@ pub(crate) fn further(path: &Path) -> &[Component]
     &components[MOST_COMPONENTS..]
 }
 
-/// As many first components as are made, with dots between them. Fails where memory is wanting.
-fn joined(alloc: Global, components: &[Component]) -> Result<String, NoMemory> {
+/// So many first components, with dots between them. Fails where memory is wanting.
+fn joined(alloc: Global, components: &[Component], count: usize) -> Result<String, NoMemory> {
     let mut text = String::new(alloc);
-    'components: for component in components.iter().take(MOST_COMPONENTS) {
+    'components: for component in components.iter().take(count) {
         if !text.is_empty() {
             text.push_str(".")?;
         }

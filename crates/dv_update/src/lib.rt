@@ -15,6 +15,7 @@ mod order;
 mod outcome;
 mod parsing;
 mod pieces;
+mod shortened;
 mod stand_in;
 
 pub use fault::UpdateFault;

@@ -11,6 +11,7 @@ ghost use Rattle.dv_update.specs.Parsing.{Gives};
 ghost use Rattle.dv_update.specs.PathOrder.{begins as begins_with, component_order, path_order};
 ghost use Rattle.dv_update.specs.Collected.{last_begins};
 ghost use Rattle.dv_update.specs.PathOrderLaws.{path_order_total};
+ghost use Rattle.dv_update.specs.Shortened.{Steps};
 ghost use Rattle.dv_update.specs.Update.{operators};
 ghost use Rattle.dv_update.specs.View.{edit, edit as seen, entry};
 ghost use Rattle.dv_update.specs.declared.fault.UpdateFault.TheVariants.{Conflict, NoMemory};
@@ -131,7 +132,8 @@ pub(crate) fn begins(a: &Path, b: &Path) -> bool
 
 /// Whether the edits stand in the order of their paths, and none of these begins another one.
 pub(crate) fn are_apart(edits: &[Edit]) -> bool
-    ensures { IsTrue result → (defined.has_conflict (map edit edits.now) ≡ false) }
+    ensures apart { IsTrue result → (defined.has_conflict (map edit edits.now) ≡ false) }
+    ensures steps { IsTrue result → Steps (map edit edits.now) }
 {
     let mut left = edits;
     'edits: while let Some((first, behind)) = left.split_first() {
@@ -146,7 +148,7 @@ pub(crate) fn are_apart(edits: &[Edit]) -> bool
 }
 
 /// Whether the path `a` stands before the path `b`, and doesn't begin it.
-fn parts_from(a: &Path, b: &Path) -> bool
+pub(crate) fn parts_from(a: &Path, b: &Path) -> bool
     ensures { IsTrue result → (path_order a.now b.now ≡ Less) × (begins_with a.now b.now ≡ false) }
 {
     compare_paths(a.components(), b.components()).is_lt() && !begins(a, b)
@@ -206,7 +208,7 @@ fn listed(alloc: Global, places: BTreeMap<PathKey, Operation>) -> Result<Edits, 
 }
 
 /// Whether the last edit's path begins this one.
-fn follows_its_beginning(edits: &[Edit], path: &Path) -> bool
+pub(crate) fn follows_its_beginning(edits: &[Edit], path: &Path) -> bool
     ensures { result ≡ last_begins path.now (map edit edits.now) }
 {
     match edits.last() {

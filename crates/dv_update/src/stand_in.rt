@@ -19,7 +19,7 @@ ghost use Rattle.dv_update.specs.Standing.{Becomes, Likewise, Stands, StandsFor}
 ghost use Rattle.dv_update.specs.View.{edit as seen, operation};
 
 use crate::edits::{edited, removals};
-use crate::far::{MOST_COMPONENTS, beginning, further, parting};
+use crate::far::{MOST_COMPONENTS, beginning, further, lead_far, parting};
 use crate::fault::UpdateFault;
 use crate::form::{Edit, Edits, Operation};
 use crate::laws;
@@ -62,13 +62,6 @@ pub(crate) fn edited_or_alike(
         }
     }
     edited(alloc, edits, document.try_clone()?)
-}
-
-/// Whether a path has many components.
-fn lead_far(edits: &[Edit]) -> bool {
-    edits
-        .iter()
-        .any(|edit| edit.path.components().len() > MOST_COMPONENTS)
 }
 
 /// The edits made one after the other, of which no path begins or equals another one. None where that can't be told, which
