@@ -2,10 +2,10 @@
 """Counts the requests for memory that one insert takes under a view of a thousand rows, and one find on such a view.
 
 Needs the built program (run ./docd once) and a C compiler. A collection has the documents {_id: i, k: i}, i from 1 to 1,000,
-under one view. docd runs with a last insert of {_id: 1001, k: 1001} and without it, and over the view that shows one row also
-with a find on it. The least number of a request that a run doesn't meet may be 500 higher with the insert, and with the find.
-So a stage that makes all its rows anew for one change stands out, and so does a find that does. What each run shows last is
-that the view is live, with as many rows as it has to have; else the exit status is 1 too.
+under one view. docd runs with a last insert of {_id: 1001, k: 1001} and without it, and then also with a find of one row of the
+view. The least number of a request that a run doesn't meet may be 500 higher with the insert, and with the find. So a stage
+that makes all its rows anew for one change stands out, and so does a find that does. What each run shows last is that the view
+is live, with as many rows as it has to have; else the exit status is 1 too.
 
     python3 tools/requests_counted.py
     python3 tools/requests_counted.py --program crates/docd/out/docd
@@ -25,12 +25,12 @@ ROWS = 1_000
 MOST = 500  # requests that one command may take
 JOINED = {"from": "c", "localField": "k", "foreignField": "_id", "as": "o"}
 
-# The stages of a view, how many rows they leave of so many, and whether a find is counted too.
-View = namedtuple("View", "stages rows is_found", defaults=[False])
+# The stages of a view, how many rows they leave of so many, and what a find of one of them asks.
+View = namedtuple("View", "stages rows find", defaults=[{"limit": 1}])
 
 VIEWS = {
     "a match, an unwind, a project and the first row": View(
-        [{"$match": {"k": {"$gte": 1}}}, {"$unwind": "$k"}, {"$project": {"k": 1}}, {"$limit": 1}], lambda rows: min(rows, 1), True),
+        [{"$match": {"k": {"$gte": 1}}}, {"$unwind": "$k"}, {"$project": {"k": 1}}, {"$limit": 1}], lambda rows: min(rows, 1), {}),
     "a sort": View([{"$sort": {"k": 1}}], lambda rows: rows),
     "a group for each row": View([{"$group": {"_id": "$k", "n": {"$sum": 1}}}], lambda rows: rows),
     "a lookup into the collection itself": View([{"$lookup": JOINED}], lambda rows: rows),
@@ -72,8 +72,8 @@ class Under:
 
     def taken(self):
         """What each last command takes, by what it is: its requests."""
-        steps = [("without", self.begin, ROWS), ("an insert", self.inserted, ROWS + 1)]
-        steps += [("a find", [*self.inserted, {"find": "v"}], ROWS + 1)] * self.view.is_found
+        steps = [("without", self.begin, ROWS), ("an insert", self.inserted, ROWS + 1),
+                 ("a find", [*self.inserted, {"find": "v", **self.view.find}], ROWS + 1)]
         least = [self.least_unmet(commands, rows) for _, commands, rows in steps]
         return {what: None if None in (before, behind) else behind - before
                 for (what, _, _), before, behind in zip(steps[1:], least, least[1:])}
