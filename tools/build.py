@@ -32,7 +32,7 @@ A_CHECK = 3 << 30  # bytes of memory that one crate's check may take
 A_JOB = 3 << 29  # bytes that each further processor of a check may take
 ALL_WORK = 16 << 30  # bytes that the crates' work takes on disk
 SHARED = 1.25  # how much more processor time a check takes that several processors share
-ALONE = 0.4  # how much of its processor time a crate takes at least, however many processors share it
+ALONE = 0.9  # how much of its processor time a crate takes at least, however many processors share it, as a first build showed
 
 
 class Fault(Exception):
