@@ -13,17 +13,18 @@ first, second, .. request refused, until a run meets no refusal. What a run prin
 - a view is stale behind a write, as viewStats tells, and is made anew before it is read; one that finds no memory for more than
   its rows where it is made is stale behind the next write.
 
-The finds of a later session show what stands then.
+The finds of a later session show what stands then, each view beside an aggregate of its pipeline, and each index beside a
+scan. In a run that meets no refusal every view is live at the end.
+
+Where a view is stale by a refusal, each later request is refused as well, in turn: so those of making it anew are too. One that
+is read while memory is wanting for it may stay stale, and one that was made anew stays so where the command is refused then.
 
     python3 tools/refuse_allocations.py
     python3 tools/refuse_allocations.py --scripts "index,cursor"
 """
 import argparse
 import copy
-import os
-import subprocess
 import sys
-import tempfile
 from collections import Counter, namedtuple
 
 from extended_json import value_of
@@ -35,48 +36,8 @@ from model.values import ARRAY, read_document, spelling
 from model.views import MADE, STALE
 from model.writes import NoSuchCut, WRITES
 from program import parsed
+from refusing import Refusing
 from spelled import message, script_lines
-
-# Counts the requests, and refuses the one whose number REFUSE gives. At the end it says whether one was refused.
-SHIM = r"""
-#define _GNU_SOURCE
-#include <dlfcn.h>
-#include <stdlib.h>
-#include <unistd.h>
-
-static long left = -1;
-static int refused;
-
-static int refuses(void) {
-    if (left < 0) {
-        const char *number = getenv("REFUSE");
-        left = number ? atol(number) : 0;
-    }
-    if (left > 0 && --left == 0) {
-        refused = 1;
-        return 1;
-    }
-    return 0;
-}
-
-void *malloc(size_t size) {
-    static void *(*next)(size_t);
-    if (!next) next = (void *(*)(size_t))dlsym(RTLD_NEXT, "malloc");
-    return refuses() ? NULL : next(size);
-}
-
-void *realloc(void *old, size_t size) {
-    static void *(*next)(void *, size_t);
-    if (!next) next = (void *(*)(void *, size_t))dlsym(RTLD_NEXT, "realloc");
-    return refuses() ? NULL : next(old, size);
-}
-
-__attribute__((destructor)) static void tell(void) {
-    const char *path = getenv("REFUSED");
-    if (refused && path && unlink(path) != 0) _exit(70);
-}
-"""
-
 
 # A message of a session, with the fields of its body, in pieces of so many bytes where that isn't 0; and its end.
 Message = namedtuple("Message", "session fields flags piece", defaults=(0, 0))
@@ -117,6 +78,10 @@ def three(*commands):
     return [Message(0, insert("c", there)), *commands, End(0), Message(1, {"find": "c", "$db": "t"}), End(1)]
 
 
+def aggregate(stages):
+    return {"aggregate": "c", "pipeline": stages, "cursor": {}, "$db": "t"}
+
+
 def find(name, session=0, **others):
     return Message(session, {"find": name, **others, "$db": "t"})
 
@@ -127,7 +92,8 @@ def under(views, *commands):
     made = [Message(0, {"create": name, "viewOn": "c", "pipeline": stages, "$db": "t"}) for name, stages in views.items()]
     told = [Message(1, {"viewStats": name, "$db": "t"}) for name in views]
     finds = [find(name, 1) for name in (*views, "c", list(views)[0])]
-    return [Message(0, insert("c", there)), *made, *commands, End(0), *told, *finds, *told, End(1)]
+    anew = [Message(1, aggregate(stages)) for stages in views.values()]
+    return [Message(0, insert("c", there)), *made, *commands, End(0), *told, *finds, *told, *anew, End(1)]
 
 
 def viewed(*commands):
@@ -143,6 +109,12 @@ def gathered(*commands):
                  Message(0, insert("d", [{"_id": 5, "x": "five"}, {"_id": 4, "x": ["four"]}])), *commands)
 
 
+def summed(*commands):
+    """Commands under two views that add up, one of them all rows together."""
+    return under({"v": [{"$group": {"_id": None, "t": {"$sum": "$n"}}}],
+                  "w": [{"$unwind": "$tags"}, {"$group": {"_id": "$tags", "n": {"$sum": 1}, "most": {"$max": "$n"}}}]}, *commands)
+
+
 def itself(*commands):
     """Commands under two views, one that looks into its own collection, and one of the first elements in order."""
     looked = {"from": "c", "localField": "n", "foreignField": "_id", "as": "o"}
@@ -150,14 +122,19 @@ def itself(*commands):
                   "w": [{"$unwind": "$tags"}, {"$sort": {"tags": 1, "n": -1}}, {"$limit": 2}]}, *commands)
 
 
+BY_INDEX = {"n": {"$gte": 0}}, {"tags": "all"}, {"tags": {"$gte": ""}}
+
+
 def indexed(*commands):
-    """Commands on a collection with two indexes, and what a scan and finds by each of them show afterwards."""
+    """Commands on a collection with two indexes, and what a scan and finds by each of them show afterwards. What explains these
+    tells how many documents an index has there."""
     there = [{"_id": place, "n": 7 - place, "tags": ["t%d" % place, "all"]} for place in range(1, 4)]
     entries = [{"key": {name: 1}, "name": name + "_1"} for name in ("n", "tags")]
     made = {"createIndexes": "c", "indexes": entries, "$db": "t"}
-    finds = [{"find": "c", "$db": "t"}, *({"find": "c", "filter": one, "$db": "t"} for one in ({"n": {"$gte": 0}}, {"tags": "all"})),
-             {"explain": {"find": "c", "filter": {"tags": "all"}}, "$db": "t"}]
-    return [Message(0, insert("c", there)), Message(0, made), *commands, End(0), *(Message(1, one) for one in finds), End(1)]
+    finds = [{"find": "c"}, *({"find": "c", "filter": one} for one in BY_INDEX),
+             *({"explain": {"find": "c", "filter": one}} for one in BY_INDEX)]
+    shown = [Message(1, {**one, "$db": "t"}) for one in finds]
+    return [Message(0, insert("c", there)), Message(0, made), *commands, End(0), *shown, End(1)]
 
 
 def delete(*entries):
@@ -209,10 +186,13 @@ SCRIPTS = {
                             {"q": {}, "u": {"$pull": {"tags": "all"}}},
                             {"q": {"_id": 1}, "u": {"$unset": {"in": 1}}},
                             {"q": {}, "u": {"$inc": {"in": 1}}, "multi": True})),
-    "an aggregate": three(Message(0, {"aggregate": "c", "pipeline": STAGES, "cursor": {}, "$db": "t"})),
+    "an aggregate": three(Message(0, aggregate(STAGES))),
     "two views and an insert": viewed(Message(0, insert("c", [{"_id": 0, "n": 5, "tags": ["new"]}]))),
-    "two views and an update": viewed(update({"q": {"n": {"$gt": 4}}, "u": {"$inc": {"n": -2}}, "multi": True})),
-    "two views and a delete": viewed(delete({"q": {"n": {"$gt": 4}}, "limit": 0})),
+    "two views and an update": viewed(update({"q": {}, "u": {"$inc": {"n": -2}}, "multi": True})),
+    "two views and a delete": viewed(delete({"q": {}, "limit": 0})),
+    "two views and an insert without a reply": viewed(Message(0, insert("c", [{"_id": 0, "n": 5, "tags": []}]), flags=2)),
+    "two sums and what leaves them": summed(
+        delete({"q": {"_id": 2}, "limit": 1}), find("v"), delete({"q": {}, "limit": 0})),
     "a collection and a view that is refused": viewed(Message(0, {"create": "d", "$db": "t"}),
                                                       Message(0, {"create": "v", "$db": "t"})),
     "two views and a drop": viewed(Message(0, {"drop": "c", "$db": "t"}), Message(0, {"drop": "w", "$db": "t"})),
@@ -222,7 +202,7 @@ SCRIPTS = {
         delete({"q": {"_id": 3}, "limit": 1}), find("w")),
     "a drop of what a view looks into": gathered(Message(0, {"drop": "d", "$db": "t"}), find("w")),
     "an insert under indexes": indexed(Message(0, insert("c", [{"_id": 9, "n": 5, "tags": ["new", "all"]}]))),
-    "an update under indexes": indexed(update({"q": {"n": {"$gt": 4}}, "u": {"$set": {"tags": [1, "all"]}}, "multi": True})),
+    "an update under indexes": indexed(update({"q": {"n": {"$gt": 3}}, "u": {"$set": {"tags": [1, "all"]}}, "multi": True})),
     "a delete under indexes": indexed(delete({"q": {"tags": "all"}, "limit": 0})),
     "indexes that are dropped": indexed(Message(0, {"dropIndexes": "c", "index": "*", "$db": "t"})),
     "arrays in arrays under indexes": indexed(
@@ -247,114 +227,165 @@ SCRIPTS = {
         update({"q": {}, "u": {"$inc": {"n": -1}}, "multi": True}), find("w"),
         Message(0, insert("d", [{"_id": 3, "x": 3}])), Message(0, {"delete": "d", "deletes": [{"q": {"_id": 5}, "limit": 1}], "$db": "t"}),
         find("w"), delete({"q": {"tags": "t1"}, "limit": 0})),
-    "groups": three(Message(0, {"aggregate": "c", "pipeline": [{"$unwind": "$tags"}, {"$group": {
-        "_id": "$tags", "n": {"$sum": "$n"}, "least": {"$min": "$in"}, "all": {"$push": "$n"}}}], "cursor": {}, "$db": "t"})),
-    "a lookup": three(Message(0, {"aggregate": "c", "pipeline": [{"$lookup": {
-        "from": "c", "localField": "n", "foreignField": "_id", "as": "others"}}], "cursor": {}, "$db": "t"})),
+    "groups": three(Message(0, aggregate([{"$unwind": "$tags"}, {"$group": {
+        "_id": "$tags", "n": {"$sum": "$n"}, "least": {"$min": "$in"}, "all": {"$push": "$n"}}}]))),
+    "a lookup": three(Message(0, aggregate([{"$lookup": {
+        "from": "c", "localField": "n", "foreignField": "_id", "as": "others"}}]))),
 }
 
 
-def run(program, steps, shim, number, token):
-    open(token, "w").close()
-    env = dict(os.environ, LD_PRELOAD=shim, REFUSE=str(number), REFUSED=token)
-    script = b"".join(lines(step) for step in steps)
-    done = subprocess.run([program, "run", "--hex"], input=script, capture_output=True, env=env)
-    return done.returncode, done.stdout.splitlines(), done.stderr, not os.path.exists(token)
-
-
-def without_memory(store, data, session):
-    """The ends that a command of a session may come to where memory is wanting: the reply, and the store then."""
+def without_memory(store, usual, step):
+    """The ends that a command may come to where memory is wanting, in place of the usual one: the reply, and the store then.
+    Of a command that is refused no more stands than that a view was made anew."""
     yield refused(WANT_OF_MEMORY), store
-    fields = read_document(data)
+    for place, view in store.views.items():
+        if not view.is_live() and place in usual.views and usual.views[place].is_live():
+            after = copy.deepcopy(store)
+            after.refresh(place)
+            yield refused(WANT_OF_MEMORY), after
+    fields = read_document(body(step))
     list_name, _ = WRITES.get(fields[0][0], (None, None))
     for index in range(len(dict(fields).get(list_name, (ARRAY, []))[1])):
         for done in range(MOST_CHANGES):
             after = copy.deepcopy(store)
             try:
-                yield execute(after, data, (index, done), session), after
+                yield execute(after, body(step), (index, done), step.session), after
             except NoSuchCut:
                 break
 
 
 def without_rows(store, after):
-    """The stores behind a command in which one view has lost its rows by it, or was made with nothing but these."""
+    """The stores behind a command in which one view has found no memory for all that it keeps."""
     for place, view in after.views.items():
-        if place not in store.views or store.views[place].ticks != view.ticks:
+        for how in ways_without_rows(store.views.get(place), view):
             other = copy.deepcopy(after)
-            other.views[place].how, other.views[place].ticks = STALE if place in store.views else MADE, 0
+            other.views[place].how, other.views[place].ticks = how, 0
             yield other
 
 
-def fits(steps, said, store, is_cut, may_want=True):
+def ways_without_rows(old, view):
+    """How a view may have its rows behind a command where memory was wanting for it: none by a change; nothing but these where it
+    was made; and one or the other where it was made anew."""
+    if old is None:
+        return [MADE]
+    if not old.is_live():
+        return [MADE, STALE] if view.is_live() else []
+    return [STALE] if old.ticks != view.ticks else []
+
+
+# What a command may come to: its reply, the store then, whether it was refused or cut for want of memory, and how often memory
+# was wanting.
+Outcome = namedtuple("Outcome", "reply after is_refused wants")
+
+
+def outcomes(store, step, wants):
+    """What a command may come to where memory is wanting so often at most."""
+    usual = copy.deepcopy(store)
+    reply = execute(usual, body(step), session=step.session)
+    yield Outcome(reply, usual, False, 0)
+    if wants:
+        once = [Outcome(reply, other, False, 1) for other in without_rows(store, usual)]
+        once += [Outcome(*end, True, 1) for end in without_memory(store, usual, step)]
+        yield from once
+    if wants > 1:
+        for one in once:
+            for other in without_rows(store, one.after):
+                yield one._replace(after=other, wants=2)
+
+
+def fits(steps, said, store, is_cut, wants):
     """Whether the lines are what the steps may print, where the script is cut or comes to its end, and want of memory
-    shows at most once."""
-    if not said and is_cut and may_want:
+    shows so often at most."""
+    if not said and is_cut and wants:
         return True
     if not steps:
         return not said and not is_cut
     step, rest = steps[0], steps[1:]
-    after = copy.deepcopy(store)
     if isinstance(step, End):
+        after = copy.deepcopy(store)
         after.cursors.end(step.session)
-        return said[:1] == [b"%d end 0" % step.session] and fits(rest, said[1:], after, is_cut, may_want)
-    reply, is_usual = execute(after, body(step), session=step.session), True
-    ends = [(reply, after)]
-    if may_want:
-        ends += [*((reply, other) for other in without_rows(store, after)), *without_memory(store, body(step), step.session)]
-    for reply, after in ends:
-        line = [b"%d %s" % (step.session, messages.message(7, reply).hex().encode())] * (not step.flags & 2)
-        # Where no reply is sent, want of memory is told by the end of the session alone.
-        is_told = is_usual or not step.flags & 2
-        if is_told and said[:len(line)] == line and fits(rest, said[len(line):], after, is_cut, may_want and is_usual):
+        return said[:1] == [b"%d end 0" % step.session] and fits(rest, said[1:], after, is_cut, wants)
+    for one in outcomes(store, step, wants):
+        line = [b"%d %s" % (step.session, messages.message(7, one.reply).hex().encode())] * (not step.flags & 2)
+        # Where no reply is sent, that a command was refused for want of memory is told by the end of the session alone.
+        is_told = not one.is_refused or not step.flags & 2
+        if is_told and said[:len(line)] == line and fits(rest, said[len(line):], one.after, is_cut, wants - one.wants):
             return True
-        if may_want and said[:1] == [b"%d closed 6" % step.session]:
-            later = [one for place, one in enumerate(rest)
-                     if one.session != step.session or End(step.session) in rest[:place + 1]]
-            if fits(later, said[1:], after, is_cut, False):
+        if wants and said[:1] == [b"%d closed 6" % step.session]:
+            later = [other for place, other in enumerate(rest)
+                     if other.session != step.session or End(step.session) in rest[:place + 1]]
+            if fits(later, said[1:], one.after, is_cut, wants - max(1, one.wants)):
                 return True
-        is_usual = False
     return False
 
 
-def kind(status, said, ample):
-    """How want of memory shows."""
-    if status == 1:
-        return "no memory"
-    if any(line.endswith(b" closed 6") for line in said):
-        return "closed 6"
-    if said == ample:
-        return "as with ample memory"
-    return "write error 900" if any(b"done\0".hex().encode() in line for line in said) else "code 900"
+class Trial:
+    """A script, each of whose requests is refused, and how want of memory showed."""
+
+    def __init__(self, docd, name, steps):
+        self.docd, self.name, self.steps = docd, name, steps
+        self.script = b"".join(lines(step) for step in steps)
+        self.ample = docd.run(self.script)
+        self.seen, self.wrong, self.without_rows = Counter(), 0, {}
+        is_right = (self.ample.status, self.ample.told) == (0, b"") and fits(steps, self.ample.said, Store(), False, wants=0)
+        if not is_right or any(has(line, b"stale") for line in self.ample.said):
+            self.tell((), self.ample)
+
+    def tell(self, numbers, ran):
+        self.wrong += 1
+        print("%s: refused %s: status %d, %r, %r" % (self.name, numbers, ran.status, ran.told, ran.said))
+
+    def refuse_each(self, first=()):
+        """Refuses each request behind the first that are refused, until a run meets no refusal more; how many these were."""
+        start = number = sum(first) + 1
+        while (ran := self.docd.run(self.script, [*first, number])).requests >= number:
+            is_ended = (ran.status, ran.told) in ((0, b""), (1, b"docd: no memory\n"))
+            if not is_ended or not fits(self.steps, ran.said, Store(), ran.status == 1, wants=1 + len(first)):
+                self.tell((*first, number), ran)
+            how = self.kind(ran)
+            self.seen[how] += 1
+            if how == STALE_VIEW:
+                others = tuple(place for place, lines in enumerate(zip(ran.said, self.ample.said)) if len(set(lines)) > 1)
+                self.without_rows.setdefault(others, number)
+            number += 1
+        return number - start
+
+    def kind(self, ran):
+        """How want of memory shows."""
+        if ran.status == 1:
+            return "no memory"
+        if any(line.endswith(b" closed 6") for line in ran.said):
+            return "closed 6"
+        if ran.said == self.ample.said:
+            return "as with ample memory"
+        if any(has(line, b"WantOfMemory") for line in ran.said):
+            return "write error 900" if any(has(line, b"done") for line in ran.said) else "code 900"
+        return STALE_VIEW
+
+
+STALE_VIEW = "a view stale or made anew"
+
+
+def has(line, text):
+    """Whether a line has these bytes in front of a zero."""
+    return (text + b"\0").hex().encode() in line
 
 
 def main():
     options = argparse.ArgumentParser(description=__doc__, formatter_class=argparse.RawDescriptionHelpFormatter)
     options.add_argument("--scripts", default="", help="words, joined by commas, of which the names of the scripts have one")
     given = parsed(options, "refuse_allocations")
-    bad = 0
-    with tempfile.TemporaryDirectory() as folder:
-        shim, token = os.path.join(folder, "shim.so"), os.path.join(folder, "token")
-        with open(os.path.join(folder, "shim.c"), "w") as source:
-            source.write(SHIM)
-        subprocess.run(["cc", "-shared", "-fPIC", "-O1", "-o", shim, source.name, "-ldl"], check=True)
-        words = given.scripts.split(",")
+    words, wrong, refused_in_all = given.scripts.split(","), 0, 0
+    with Refusing(given.program) as docd:
         for name, steps in ((name, steps) for name, steps in SCRIPTS.items() if any(word in name for word in words)):
-            status, ample, _, _ = run(given.program, steps, shim, 0, token)
-            assert status == 0 and fits(steps, ample, Store(), False, may_want=False), name
-            number, seen = 1, Counter()
-            while True:
-                status, said, told, is_refused = run(given.program, steps, shim, number, token)
-                if not is_refused:
-                    break
-                right = (status, told) in ((0, b""), (1, b"docd: no memory\n")) and fits(steps, said, Store(), status == 1)
-                if not right:
-                    bad += 1
-                    print("%s: request %d refused: status %d, %r, %r" % (name, number, status, told, said))
-                seen[kind(status, said, ample)] += 1
-                number += 1
-            shown = ", ".join("%d %s" % (count, how) for how, count in sorted(seen.items()))
-            print("%s: %d requests, each refused: %s" % (name, number - 1, shown))
-    sys.exit(1 if bad else 0)
+            trial = Trial(docd, name, steps)
+            count = trial.refuse_each()
+            later = sum(trial.refuse_each((number,)) for number in [*trial.without_rows.values()])
+            shown = ", ".join("%d %s" % (count, how) for how, count in sorted(trial.seen.items()))
+            print("%s: %d requests, each refused, and %d behind another: %s" % (name, count, later, shown), flush=True)
+            wrong, refused_in_all = wrong + trial.wrong, refused_in_all + count + later
+    print("%d requests refused, %d wrong" % (refused_in_all, wrong))
+    sys.exit(1 if wrong else 0)
 
 
 if __name__ == "__main__":
