@@ -39,13 +39,12 @@ impl Read for Dropping<'_> {
     }
 }
 
-// Takes one byte at a call, and fails at this one; or takes none at any.
+// Takes one byte at a call, and fails at this one.
 #[derive(Drop)]
 pub(super) struct Narrow {
     pub(super) taken: Vec<u8>,
     calls: usize,
     failing: usize,
-    is_full: bool,
 }
 
 impl Narrow {
@@ -55,17 +54,6 @@ impl Narrow {
             taken: Vec::new(alloc),
             calls: 0,
             failing,
-            is_full: false,
-        }
-    }
-
-    // Takes no byte.
-    pub(super) fn full(alloc: Global) -> Self {
-        Narrow {
-            taken: Vec::new(alloc),
-            calls: 0,
-            failing: 0,
-            is_full: true,
         }
     }
 
@@ -81,13 +69,13 @@ impl Write for Narrow {
             return Err(io::Error::from(ErrorKind::Other));
         }
         match buf.first() {
-            Some(byte) if !self.is_full => {
+            Some(byte) => {
                 self.taken
                     .push(*byte)
                     .map_err(|_| io::Error::from(ErrorKind::OutOfMemory))?;
                 Ok(1)
             }
-            _ => Ok(0),
+            None => Ok(0),
         }
     }
 
