@@ -106,9 +106,14 @@ def refusals(engine, crate, edits, kept, jobs):
     return {path: said for path, said in found.items() if said}
 
 
+def refused_by(engine):
+    """What the engine answers for an edit that is refused: a word of its own, or True where its kit has none."""
+    return [getattr(engine, it) for it in ("REFUSED", "AT_LIMIT") if hasattr(engine, it)] or [True]
+
+
 def try_crate(engine, crate, edits, alone, jobs):
     """Tries a crate's edits, and returns how many weren't refused."""
-    failed = 0
+    failed, refused = 0, refused_by(engine)
     with tempfile.TemporaryDirectory(prefix="planted-") as room:
         kept = os.path.join(room, "kept")
         if crate.has_kept():
@@ -123,7 +128,7 @@ def try_crate(engine, crate, edits, alone, jobs):
                 print(f"{crate.name}/{edit.path.stem}: refused, together with others: it is not proved {said[edit.path]}", flush=True)
                 continue
             outcome, told = engine.must_fail(crate, str(edit.path), ["--jobs", str(jobs)], kept)
-            failed += outcome not in (engine.REFUSED, engine.AT_LIMIT)
+            failed += outcome not in refused
             print(told.removeprefix("must-fail ").replace(".edit:", ":", 1), flush=True)
     return failed
 
