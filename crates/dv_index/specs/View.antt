@@ -27,4 +27,4 @@ has_kind kinds.Point = is_point
 has_kind kinds.Bound = is_bound
 
 abbrev pub form_of_new : NewIndex → IndexForm
-form_of_new x = record { name = x.name; path = x.path }
+form_of_new x = record { name = x.name; path = x.path; unique = x.unique }
