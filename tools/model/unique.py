@@ -9,13 +9,19 @@ from model.refusals import DUPLICATE_KEY, Refusal
 
 def check_indexes(indexes, documents):
     """Refuses indexes of which one is unique, where two of the documents share a key under its path."""
-    for path in unique_paths(indexes):
-        taken = set()
-        for document in documents:
-            keys = leaf_keys(document, path)
-            if keys & taken:
-                raise Refusal(DUPLICATE_KEY)
-            taken |= keys
+    if not all(are_apart(path, documents) for path in unique_paths(indexes)):
+        raise Refusal(DUPLICATE_KEY)
+
+
+def are_apart(path, documents):
+    """Whether no two of the documents share a key under a path."""
+    taken = set()
+    for document in documents:
+        keys = leaf_keys(document, path)
+        if keys & taken:
+            return False
+        taken |= keys
+    return True
 
 
 def check_changes(collection, changes):
