@@ -32,6 +32,10 @@ abbrev pub are_apart : List (List ℕ) → List (List Field) → Bool
 are_apart path [] = true
 are_apart path (d ∷ ds) = not (list_any (share_key path d) ds) && are_apart path ds
 
--- whether one of the indexes is unique, and two of some documents share a key under its path
+-- whether an index is unique, and two of some documents share a key under its path
+abbrev pub is_broken : IndexForm → List (List Field) → Bool
+is_broken x documents = x.unique && not (are_apart x.path documents)
+
+-- whether one of the indexes is
 abbrev pub are_broken : List IndexForm → List (List Field) → Bool
-are_broken indexes documents = list_any (λ x. x.unique && not (are_apart x.path documents)) indexes
+are_broken indexes documents = list_any (λ x. is_broken x documents) indexes
