@@ -163,6 +163,8 @@ class Maker(Commands):
             made.append(self.message())
             made += self.written() if self.often(0.1) else []
         made += [self.asked([(b"find", text(b"c"))]), *self.shown()]  # what stands in the end
+        if self.often(0.5):
+            made.append(self.asked([(b"createIndexes", text(b"c")), (b"indexes", array([]))]))  # how many indexes there are
         ends = [b"%d end" % number] * self.often(0.97)
         return tuple([self.line(number, piece[at:at + PIECE]) for piece in pieces for at in range(0, len(piece), PIECE)] + ends
                      for pieces in (self.pieces(made), made))

@@ -122,7 +122,7 @@ class Commands(Views):
         name, operand = self.rng.choice([
             *[(b"$inc", number(self.rng.choice([-2, -1, 1, 2, self.reach]), self.often(0.2)))] * 3, (b"$set", self.near(self.path()[1])),
             (b"$set", self.own_key()), (b"$push", self.own_key()), (b"$unset", NOTHING)])
-        query = document(numbers) if name == b"$inc" and self.often(0.9) else self.filter()
+        query = document(numbers) if name == b"$inc" and self.often(0.8) else self.one_of(self.filter, lambda: document([]))
         changes = document([(name, document([(path, operand)]))])
         return [(b"q", query), (b"u", changes), (b"multi", boolean(self.often(0.9)))]
 
@@ -177,7 +177,8 @@ class Commands(Views):
         if self.often(0.03):
             key = self.rng.choice([[], key + [(b"z", number(1))], [(path, number(2))], [(path, text(b"1"))]])
         fields = [(b"key", document(key)), (b"name", text(name))] + [(b"v", self.value(3))] * self.often(0.1)
-        fields += [(b"unique", boolean(is_unique))] * (is_unique or self.often(0.1))
+        unique = boolean(is_unique) if self.often(0.97) else self.rng.choice([number(is_unique), NOTHING])
+        fields += [(b"unique", unique)] * (is_unique or self.often(0.1))
         return self.entry(fields)
 
     def path_apart(self):
