@@ -1,5 +1,5 @@
 -- Ends that come closer together, and those between which no key stands.
-use Rattle.std.proofs.Common.{◌≡◌, ◌∙◌, ◌⊎◌, inl, inr, map, ℕ, suc, ◌+◌, ◌<◌, get_or, length, List, ◌∷◌, drop, add-one, refl, ap, sym, Bool, true, false, not, ◌&&◌}
+use Rattle.std.proofs.Common.{◌≡◌, ◌∙◌, ◌⊎◌, inl, inr, map, ℕ, ◌+◌, ◌<◌, get_or, length, List, ◌∷◌, drop, refl, ap, sym, Bool, true, false, not, ◌&&◌}
 use Rattle.std.specs.BTreeMap.Range.{is_from_start, is_past_end, range_contains}
 use Rattle.std.specs.Ordering.{is_gt, is_lt, is_le, ordering_reverse}
 use Rattle.std.specs.declared.cmp.Ordering.{Ordering}

@@ -1,20 +1,16 @@
 -- Keys that stand in two documents.
-use Rattle.std.proofs.Common.{◌≡◌, ◌∙◌, ◌++◌, ℕ, List, [], ◌∷◌, map, refl, ap, sym, Bool, true, false, cond, not, ◌||◌, ◌&&◌, filter}
+use Rattle.std.proofs.Common.{◌≡◌, ◌∙◌, ℕ, List, [], ◌∷◌, refl, ap, sym, Bool, true, false, ◌||◌}
 use Rattle.std.specs.List.{AllByRecursion, list_any}
-use Rattle.std.specs.Ordering.{is_eq, is_lt}
-use Rattle.std.proofs.lemmas.Bool.{or_left, or_right, or_parts, or_from, and_from, not-true}
+use Rattle.std.specs.Ordering.{is_eq}
+use Rattle.std.proofs.lemmas.Bool.{or_left, or_right}
 use Rattle.std.proofs.lemmas.Cmp.{tied_itself}
-use Rattle.std.proofs.lemmas.List.Folds.{list_any-append}
 use Rattle.dv_bson.specs.Tree.{Field, Tree}
 use Rattle.dv_order.specs.Key.{KeyTree, key_order, value}
 use Rattle.dv_order.specs.KeyLaws.{key_order_total}
 use Rattle.dv_order.specs.Order.{canon}
 use Rattle.dv_path.specs.LeafKeys.{is_key_of, is_leaf_key, is_some_key, leaf_values}
-use Rattle.dv_coll.specs.Collection.{IsAscending, has_key, id_key, inserted, removed, replaced}
-use Rattle.dv_index.specs.Index.{IndexForm}
-use Rattle.dv_index.specs.Unique.{are_apart, are_broken, clashes, is_broken, is_key_taken, share_key}
-use Rattle.dv_index.proofs.Lists.{both, equal-from, or-false}
-use Rattle.dv_index.proofs.Picked.{Before, head-before, tail-ascends}
+use Rattle.dv_index.specs.Unique.{share_key}
+use Rattle.dv_index.proofs.Lists.{equal-from}
 
 pub bool-alike : (a b : Bool) → (a ≡ true → b ≡ true) → (b ≡ true → a ≡ true) → a ≡ b
 bool-alike true b f g = sym (f refl)

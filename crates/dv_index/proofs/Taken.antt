@@ -1,8 +1,8 @@
 -- Pairs of keys that stand under another `_id`, and the documents that have these keys.
-use Rattle.std.proofs.Common.{◌≡◌, ◌∙◌, ◌++◌, ◌⊎◌, inl, inr, ℕ, List, [], ◌∷◌, refl, ap, sym, Bool, true, false, cond, not, ◌||◌, ◌&&◌, filter, Option, Some, None}
+use Rattle.std.proofs.Common.{◌≡◌, ◌∙◌, inl, inr, ℕ, List, [], ◌∷◌, refl, ap, sym, Bool, true, false, cond, not, ◌||◌, ◌&&◌, filter, Option, Some, None}
 use Rattle.std.specs.List.{AllByRecursion, list_any}
 use Rattle.std.specs.Ordering.{is_eq}
-use Rattle.std.proofs.lemmas.Bool.{and_from, and_parts, not-true, or_cases, or_left, or_right}
+use Rattle.std.proofs.lemmas.Bool.{and_from, and_parts, or_cases, or_left, or_right}
 use Rattle.std.proofs.lemmas.Cmp.{alike_right, tied_itself}
 use Rattle.dv_bson.specs.Tree.{Field}
 use Rattle.dv_order.specs.Key.{KeyTree, key_order}
@@ -13,13 +13,12 @@ use Rattle.dv_index.specs.Keys.{has_key}
 use Rattle.dv_index.specs.Pairs.{Pair, has_another_at, has_pair, is_pair_of, is_under_another, pairs_without}
 use Rattle.dv_index.specs.Search.{is_key_under}
 use Rattle.dv_index.specs.Unique.{are_apart, is_key_taken, share_key}
-use Rattle.dv_index.proofs.Built.{IsElsewhere}
 use Rattle.dv_index.proofs.Entries.{any-and}
 use Rattle.dv_index.proofs.Lists.{equal-back, equal-from}
 use Rattle.dv_index.proofs.Noted.{and-true}
 use Rattle.dv_index.proofs.Picked.{all-found}
 use Rattle.dv_index.proofs.Several.{same-id, same-key}
-use Rattle.dv_index.proofs.Shared.{any-false, any-or, any-swap, any-weaker, bool-alike, leaf-same, share-both, share-from, some-of}
+use Rattle.dv_index.proofs.Shared.{any-or, any-swap, any-weaker, bool-alike, leaf-same, share-both, share-from, some-of}
 
 -- ---- pairs that are gone
 pub any-kept : {X : Type 0} (r q : X → Bool) (xs : List X) → list_any q (filter r xs) ≡ list_any (λ x. r x && q x) xs
@@ -188,7 +187,7 @@ module _ (path : List (List ℕ)) (d : List Field) (ps qs : List Pair) (more : (
           elim (or_cases (has-some path ps e) (share_key path d e) h) [
             | inl was ↦ (let p = some-pair (λ q. is_leaf_key q.0 path e) ps was in by-pair e qs p.0.0 p.0.1 (more p.0.0 p.0.1 ∙ or_left (has_pair p.0.0 p.0.1 ps) (is_eq (key_order p.0.1 (id_key d)) && is_leaf_key p.0.0 path d) p.1) p.2)
             | inr shares ↦ (let k = share-both path d e shares in
-            by-pair e qs k.0 (id_key d) (more k.0 (id_key d) ∙ or_right (has_pair k.0 (id_key d) ps) (is_eq (key_order (id_key d) (id_key d)) && is_leaf_key k.0 path d) (and_from (is_eq (key_order (id_key d) (id_key d))) (is_leaf_key k.0 path d) (ap is_eq (tied_itself key_order_total (id_key d))) k.1)) k.2)
+                by-pair e qs k.0 (id_key d) (more k.0 (id_key d) ∙ or_right (has_pair k.0 (id_key d) ps) (is_eq (key_order (id_key d) (id_key d)) && is_leaf_key k.0 path d) (and_from (is_eq (key_order (id_key d) (id_key d))) (is_leaf_key k.0 path d) (ap is_eq (tied_itself key_order_total (id_key d))) k.1)) k.2)
           ]
 
   step : (s a b : Bool) → (not s && a) && not (false || b) ≡ a && not (b || s)

@@ -1,6 +1,6 @@
 -- An index: its name, its path, whether it is unique, and the pairs of a key under the path and the `_id` of a document that has it. The first one
 -- of a collection is on `_id`; it has no pairs, since the documents themselves stand in the order of their `_id`s.
-use Rattle.std.specs.Prelude.{◌≡◌, ℕ, Bool, false, List, [], ◌∷◌, map, codes, refl}
+use Rattle.std.specs.Prelude.{◌≡◌, ℕ, Bool, false, List, [], ◌∷◌, codes, refl}
 use Rattle.std.specs.Coded.{Coded, coded_bool, coded_ℕ, coded_list, coded×, code_by}
 use Rattle.dv_order.specs.Key.{coded_key}
 use Rattle.dv_index.specs.Pairs.{Pair}

@@ -353,11 +353,7 @@ fn indexes_over(
 }
 
 /// An index over all documents. Refused as they are.
-fn index_over(
-    alloc: Global,
-    wanted: NewIndex,
-    documents: &Collection,
-) -> Result<Index, InsertFault>
+fn index_over(alloc: Global, wanted: NewIndex, documents: &Collection) -> Result<Index, InsertFault>
     ensures form { IfOk result (λ index. form_of index ≡ form_of_new wanted) }
     ensures index { IfOk result (λ index. IsIndexOf index documents.now) }
     ensures sound { OnOk result (is_broken (form_of_new wanted) documents.now ≡ false) }

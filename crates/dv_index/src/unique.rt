@@ -144,11 +144,7 @@ fn clash_in_turn(
 }
 
 /// The keys under a path of the document that is there, and of the one that comes. Fails where memory is wanting.
-fn keys_moved(
-    alloc: Global,
-    path: &Path,
-    replacing: &Replacing<'_>,
-) -> Result<Moved, NoMemory>
+fn keys_moved(alloc: Global, path: &Path, replacing: &Replacing<'_>) -> Result<Moved, NoMemory>
     requires { HasId replacing.now.after.now }
     ensures id { IfOk result (λ moved. moved.id ≡ id_key replacing.now.after.now) }
     ensures old { IfOk result (λ moved. (k : KeyTree) → has_key k moved.old ≡ is_leaf_key k path.now replacing.now.before.now) }

@@ -1,10 +1,4 @@
-use Rattle.std.proofs.Common.{◌≡◌, ◌∙◌, ◌||◌, ◌&&◌, Bool, true, false, ap, refl}
-use Rattle.std.proofs.lemmas.Result.{on_ok_weaker}
-use Rattle.std.specs.Ordering.{is_eq}
-use Rattle.dv_coll.specs.Collection.{id_key}
-use Rattle.dv_order.specs.Key.{key_order}
-use Rattle.dv_path.specs.LeafKeys.{is_leaf_key}
-use Rattle.dv_index.specs.Keys.{has_key}
+use Rattle.std.proofs.Common.{◌≡◌, ◌∙◌, ◌&&◌, Bool, true, false, ap, refl}
 use Rattle.dv_index.specs.Pairs.{has_pair}
 use Rattle.dv_index.proofs.indexed.add_keys.Goals as goal
 
@@ -16,4 +10,3 @@ swapped false false = refl
 
 pub add_first-requires : goal.add_first-requires
 add_first-requires c = λ k. ap (λ l. has_pair k l c.args.pairs.now) c.in_ok-id.ensures ∙ c.requires.first k
-

@@ -1,6 +1,4 @@
 use Rattle.std.proofs.Common.{◌+◌, ◌∷◌, ◌∙◌, [], drop, ap, subst, sym, ℕ, List}
-use Rattle.dv_coll.specs.Collection.{id_key}
-use Rattle.dv_order.specs.Key.{KeyTree}
 use Rattle.dv_path.specs.LeafKeys.{is_leaf_key}
 use Rattle.dv_index.specs.Index.{form_of}
 use Rattle.dv_index.specs.View.{afters, befores}

@@ -1,6 +1,4 @@
-use Rattle.std.proofs.Common.{◌≡◌, ◌∙◌, ◌&&◌, ℕ, List, not, true, ap, sym}
-use Rattle.std.specs.Ordering.{is_eq}
-use Rattle.dv_index.specs.Index.{IndexTree}
+use Rattle.std.proofs.Common.{◌≡◌, ◌∙◌, ◌&&◌, ℕ, List, true, ap, sym}
 use Rattle.dv_index.specs.Keys.{has_key}
 use Rattle.dv_index.specs.Pairs.{Pair, is_under_another}
 use Rattle.dv_index.specs.Unique.{is_key_taken}

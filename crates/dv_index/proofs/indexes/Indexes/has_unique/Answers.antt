@@ -1,4 +1,4 @@
-use Rattle.std.proofs.Common.{◌∙◌, List, ap, map, sym}
+use Rattle.std.proofs.Common.{◌∙◌, List, ap, sym}
 use Rattle.std.specs.List.{list_any}
 use Rattle.dv_index.specs.Index.{IndexForm, IndexTree, form_of}
 use Rattle.dv_index.proofs.Lists.{any-map}

@@ -1,4 +1,4 @@
-use Rattle.std.proofs.Common.{◌≡◌, ◌∙◌, ◌||◌, ◌&&◌, not, ap, sym, List}
+use Rattle.std.proofs.Common.{◌∙◌, ◌||◌, ap, sym, List}
 use Rattle.std.specs.List.{list_any}
 use Rattle.std.proofs.lemmas.List.Folds.{list_any-append}
 use Rattle.dv_index.specs.Keys.{has_key}
@@ -14,9 +14,9 @@ returns-then-clash_without c =
     let held = c.args.index.now.pairs in
     let come = c.args.self.now.come in
     let is =
-        c.clash_without.ensures
-        ∙ ap (λ (ps : List Pair). list_any (λ k. has_another_at k id gone ps) keys) (c.as_pairs-held.ensures ∙ c.pairs.ensures)
-        ∙ each-key keys id gone held in
+    c.clash_without.ensures
+    ∙ ap (λ (ps : List Pair). list_any (λ k. has_another_at k id gone ps) keys) (c.as_pairs-held.ensures ∙ c.pairs.ensures)
+    ∙ each-key keys id gone held in
     c.if-clash_without.true
     ∙ sym (list_any-append _ (pairs_without gone held) come ∙ ap (λ b. b || is_under_another (λ k. has_key k keys) id come) (sym is ∙ c.if-clash_without.true))
 
@@ -28,8 +28,8 @@ returns-else-clash_without c =
     let held = c.args.index.now.pairs in
     let come = c.args.self.now.come in
     let is =
-        c.clash_without.ensures
-        ∙ ap (λ (ps : List Pair). list_any (λ k. has_another_at k id gone ps) keys) (c.as_pairs-held.ensures ∙ c.pairs.ensures)
-        ∙ each-key keys id gone held in
+    c.clash_without.ensures
+    ∙ ap (λ (ps : List Pair). list_any (λ k. has_another_at k id gone ps) keys) (c.as_pairs-held.ensures ∙ c.pairs.ensures)
+    ∙ each-key keys id gone held in
     c.clash.ensures
     ∙ sym (list_any-append _ (pairs_without gone held) come ∙ ap (λ b. b || is_under_another (λ k. has_key k keys) id come) (sym is ∙ c.if-clash_without.false))
