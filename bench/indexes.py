@@ -1,17 +1,19 @@
 #!/usr/bin/python3
-"""What finds by indexes cost, and what indexes cost the writes, beside SQLite in process with the same indexes.
+"""What finds by indexes cost, and what indexes, unique ones too, cost the writes, beside SQLite in process with the same.
 
 Needs what bench/measuring.py says. The documents have ten fields; SQLite holds them as JSON in memory, with indexes on
 `json_extract` of the same fields, and its answers stand in the order of its indexes, docd's in that of `_id`. A hundred
 documents have one `bucket`; `serial` is another number in each. All times are processor time, the least of some runs in
 turn; docd's hold the reading of its messages and the writing of its replies, SQLite's the making of the statement and of
-Python's rows.
+Python's rows. An update of all documents is one statement; the bytes are those that docd has resident at most while it is
+carried out, less those before it.
 
     /usr/bin/python3 bench/indexes.py
     /usr/bin/python3 bench/indexes.py --count 10000 --program crates/docd/out/docd
 """
 import json
 import random
+import sqlite3
 import sys
 import time
 from collections import namedtuple
@@ -71,22 +73,22 @@ def documents(count):
     return [{**one, "bucket": (one["_id"] * 7_919) % buckets} for one in documents_to_find(count)]
 
 
-def index_of(field):
-    return {"key": {field: 1}, "name": field + "_1"}
+def index_of(field, is_unique=False):
+    return {"key": {field: 1}, "name": field + "_1", "unique": is_unique}
 
 
-def indexed_docd(found, fields):
-    """A running program with indexes on the fields, and then with the documents."""
+def indexed_docd(fields, is_unique=False):
+    """A running program with indexes on the fields, and without documents."""
     docd = measuring.Docd()
-    reply, = docd.ask({"createIndexes": "c", "indexes": [index_of(field) for field in fields]})
+    reply, = docd.ask({"createIndexes": "c", "indexes": [index_of(field, is_unique) for field in fields]})
     if reply["ok"] != 1:
         sys.exit("bench: the indexes are refused: %r" % reply)
     return docd
 
 
-def indexed_sqlite(base, fields):
+def indexed_sqlite(base, fields, is_unique=False):
     for field in fields:
-        base.execute("CREATE INDEX by_%s ON c (%s)" % (field, extracted(field)))
+        base.execute("CREATE %s by_%s ON c (%s)" % ("UNIQUE INDEX" if is_unique else "INDEX", field, extracted(field)))
     base.commit()
     return base
 
@@ -179,7 +181,7 @@ def updates_of(count):
 
 
 def docd_writes(found, stream, updates, fields):
-    docd = indexed_docd(found, fields)
+    docd = indexed_docd(fields)
     start = docd.clock()
     docd.send(stream, len(inserts(found)))
     inserted = docd.clock() - start
@@ -211,12 +213,118 @@ def sqlite_writes(found, updates, fields):
     return inserted / len(found), updated / len(updates)
 
 
+def print_unique(found):
+    """An insert and an update of all documents, where `serial` has a unique index, one that isn't, and none."""
+    kinds = [("none", [], False), ("one", ["serial"], False), ("a unique one", ["serial"], True)]
+    heads("a write", "index on `serial`", "microseconds a document", "SQLite: microseconds", "times SQLite",
+          "bytes a document at most")
+    for index, fields, is_unique in kinds:
+        docd, base, inserted = filled(found, fields, is_unique)
+        tell_unique("an insert", index, inserted, len(found), "")
+        updated, most = updates_of_all(docd, base, len(found))
+        tell_unique("an update of all", index, updated, len(found), "%.0f" % (most / len(found)))
+        if is_unique:
+            refused = refused_updates(docd, base, len(found))
+            tell_unique("an update of all, refused for the last", index, refused, len(found), "")
+        docd.close()
+        base.close()
+
+
+def tell_unique(write, index, spent, count, most):
+    ours, other = spent
+    row(write, index, "%.2f" % (1e6 * ours / count), "%.2f" % (1e6 * other / count), "%.2f" % (other / ours), most)
+
+
+def filled(found, fields, is_unique):
+    """A running docd and an SQLite with the documents, and the least seconds that their inserts took in some runs."""
+    rows, spent = [(one["_id"], json.dumps(one)) for one in found], []
+    for run in range(measuring.RUNS):
+        docd, base = indexed_docd(fields, is_unique), indexed_sqlite(loaded_sqlite([]), fields, is_unique)
+        spent.append([seconds(lambda: insert_all(docd, found), docd.clock), seconds(lambda: insert_all_sqlite(base, rows))])
+        if run < measuring.RUNS - 1:
+            docd.close()
+            base.close()
+    return docd, base, list(map(min, zip(*spent)))
+
+
+def seconds(action, clock=time.thread_time):
+    start = clock()
+    action()
+    return clock() - start
+
+
+def insert_all(docd, found):
+    replies = docd.ask(*inserts(found))
+    if any("writeErrors" in reply for reply in replies):
+        sys.exit("bench: an insert is refused: %r" % replies[0])
+
+
+def insert_all_sqlite(base, rows):
+    base.executemany("INSERT INTO c VALUES (?, ?)", rows)
+    base.commit()
+
+
+def updates_of_all(docd, base, count):
+    """The least seconds of an update of all documents in some runs, and the most bytes that docd had resident beyond those
+    before it."""
+    spent, most = [], 0
+    for _ in range(measuring.RUNS):
+        before = forget_peak(docd)
+        spent.append([seconds(lambda: update_all(docd, count), docd.clock), seconds(lambda: update_all_sqlite(base, count))])
+        most = max(most, resident(docd, "VmHWM") - before)
+    return list(map(min, zip(*spent))), most
+
+
+def update_all(docd, count, is_free=True):
+    """Adds a number to each `serial`, after which the numbers are others than before."""
+    reply, = docd.ask({"update": "c", "updates": [{"q": {}, "u": {"$inc": {"serial": count}}, "multi": True}]})
+    if ("writeErrors" in reply) == is_free:
+        sys.exit("bench: an update of all is answered %r" % reply)
+
+
+def update_all_sqlite(base, count, is_free=True):
+    path = extracted("serial")
+    try:
+        base.execute("UPDATE c SET body = json_set(body, '$.serial', %s + ?)" % path, [count])
+        base.commit()
+    except sqlite3.IntegrityError:
+        base.rollback()
+        is_free = not is_free
+    if not is_free:
+        sys.exit("bench: SQLite carries out what is to be refused, or refuses what is to be carried out")
+
+
+def refused_updates(docd, base, count):
+    """Seconds of an update of all whose last document would get a number that one has which isn't updated."""
+    last, = docd.ask({"find": "c", "filter": {"_id": count - 1}})
+    taken = {"_id": count, "serial": last["cursor"]["firstBatch"][0]["serial"] + count}
+    docd.ask({"insert": "c", "documents": [taken]})
+    base.execute("INSERT INTO c VALUES (?, ?)", (taken["_id"], json.dumps(taken)))
+    base.commit()
+    return in_turn((lambda: update_all(docd, count, False), docd.clock),
+                   (lambda: update_all_sqlite(base, count, False), time.thread_time))
+
+
+def forget_peak(docd):
+    """Has the system forget how many bytes a running program had resident at most, and gives how many it has."""
+    with open("/proc/%d/clear_refs" % docd.process.pid, "w") as file:
+        file.write("5")
+    return resident(docd, "VmRSS")
+
+
+def resident(docd, word):
+    with open("/proc/%d/status" % docd.process.pid) as lines:
+        return 1_024 * next(int(line.split()[1]) for line in lines if line.startswith(word + ":"))
+
+
 def main():
     found = documents(measuring.count_asked(__doc__))
     print("%d documents; %s" % (len(found), load()))
     print_finds(found)
     print()
     print_writes(found)
+    print()
+    print_unique(found)
 
 
 if __name__ == "__main__":

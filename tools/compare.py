@@ -19,6 +19,7 @@ from collections import Counter
 import machine
 from making.edges import edges
 from model.messages import HEADER
+from model.refusals import DUPLICATE_KEY
 from model.values import ARRAY, BsonFault, DOCUMENT, read_document, spelling
 from notation import shown
 from program import parsed
@@ -140,9 +141,12 @@ def count_replies(output, seen):
             seen["plans by an index" if b"index" in reply else "plans without"] += 1
         elif b"n" in reply:
             seen["writes that write" if reply[b"n"][1] else "writes that don't"] += 1
-            seen["write errors"] += len(reply.get(b"writeErrors", (ARRAY, []))[1])
+            errors = [dict(error)[b"code"][1] for _, error in reply.get(b"writeErrors", (ARRAY, []))[1]]
+            seen["write errors"] += len(errors)
+            seen["updates that a unique index refuses"] += b"nModified" in reply and errors.count(DUPLICATE_KEY)
         elif b"code" in reply:
             seen["refusals"] += 1
+            seen["unique indexes that aren't made"] += reply[b"code"][1] == DUPLICATE_KEY
 
 
 def main():

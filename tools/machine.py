@@ -16,7 +16,7 @@ import sys
 from model.commands import answer_to
 from model.messages import Closing, message, take_message
 from model.store import Collection, Store
-from model.writes import insert_one
+from model.writes import done_to, insert_one
 
 LONGEST_LINE = 131_200
 LINE = re.compile(rb"(?s:#.*)?|(0|[1-9][0-9]{0,2}) (?:(end)|([0-9A-Fa-f]{2}(?: *[0-9A-Fa-f]{2})*))")
@@ -47,7 +47,7 @@ class Machine:
 
     def load(self, place, document):
         """Inserts a document in front of the script, beside any session."""
-        self.store.change(place, insert_one(self.store.collections.get(place, Collection()), document).changes)
+        self.store.change(place, done_to(self.store.collections.get(place, Collection()), insert_one, document).changes)
 
     def session(self, number):
         """The session of this number, which is opened if it isn't open."""

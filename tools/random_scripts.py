@@ -147,14 +147,24 @@ class Maker(Commands):
             plain.append(last)
         return cut, plain
 
+    def unique(self):
+        """A unique index, in some scripts."""
+        if self.often(0.6 if self.has_keys else 0.95):
+            return []
+        path = self.path_apart()
+        entry = [(b"key", document([(path, number(1))])), (b"name", text(path)), (b"unique", boolean(True))]
+        return [self.asked([(b"createIndexes", text(b"c")), (b"indexes", array([document(entry)]))])]
+
     def run(self, number):
         """The lines of one session, cut anywhere, and a message in each."""
         self.session = object()
-        made = [] if self.made else [self.first(), *self.views()]
+        made = [] if self.made else [*self.unique(), self.first(), *self.unique(), *self.views()]
         for _ in range(self.rng.randint(1, 25)):
             made.append(self.message())
             made += self.written() if self.often(0.1) else []
         made += [self.asked([(b"find", text(b"c"))]), *self.shown()]  # what stands in the end
+        if self.often(0.5):
+            made.append(self.asked([(b"createIndexes", text(b"c")), (b"indexes", array([]))]))  # how many indexes there are
         ends = [b"%d end" % number] * self.often(0.97)
         return tuple([self.line(number, piece[at:at + PIECE]) for piece in pieces for at in range(0, len(piece), PIECE)] + ends
                      for pieces in (self.pieces(made), made))

@@ -137,6 +137,15 @@ def indexed(*commands):
     return [Message(0, insert("c", there)), Message(0, made), *commands, End(0), *shown, End(1)]
 
 
+def unique(*commands):
+    """Commands on a collection with a unique index under a view, and what a scan, a find by the index and the view show."""
+    there = [{"_id": place, "n": [place, place + 3]} for place in range(1, 4)]
+    made = {"createIndexes": "c", "indexes": [{"key": {"n": 1}, "name": "n_1", "unique": True}], "$db": "t"}
+    view = {"create": "v", "viewOn": "c", "pipeline": [{"$unwind": "$n"}], "$db": "t"}
+    finds = [find("c", 1), find("c", 1, filter={"n": {"$gte": 0}}), Message(1, {"viewStats": "v", "$db": "t"}), find("v", 1)]
+    return [Message(0, insert("c", there)), Message(0, made), Message(0, view), *commands, End(0), *finds, End(1)]
+
+
 def delete(*entries):
     return Message(0, {"delete": "c", "deletes": list(entries), "$db": "t"})
 
@@ -204,6 +213,11 @@ SCRIPTS = {
     "an insert under indexes": indexed(Message(0, insert("c", [{"_id": 9, "n": 5, "tags": ["new", "all"]}]))),
     "an update under indexes": indexed(update({"q": {"n": {"$gt": 3}}, "u": {"$set": {"tags": [1, "all"]}}, "multi": True})),
     "a delete under indexes": indexed(delete({"q": {"tags": "all"}, "limit": 0})),
+    "an insert, updates and a new index under a unique index": unique(
+        Message(0, insert("c", [{"_id": 9, "n": [7, None]}, {"_id": 8, "n": 4}, {"_id": 7}], ordered=False)),
+        update({"q": {"_id": {"$lt": 4}}, "u": {"$inc": {"n.0": 10, "n.1": 20}}, "multi": True}),
+        update({"q": {}, "u": {"$set": {"n": 5}}, "multi": True}),
+        Message(0, {"createIndexes": "c", "indexes": [{"key": {"m": 1}, "name": "m_1", "unique": True}], "$db": "t"})),
     "indexes that are dropped": indexed(Message(0, {"dropIndexes": "c", "index": "*", "$db": "t"})),
     "arrays in arrays under indexes": indexed(
         Message(0, insert("c", [{"_id": 9, "n": [[1, 2], {"a": [3]}, 1, 1], "tags": []}])),

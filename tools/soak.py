@@ -2,17 +2,18 @@
 """Lets one served docd work for an hour, and looks whether its views stay right and its memory stays bounded.
 
 Needs the built program (run ./docd once), and Linux, which tells a process's memory in /proc. A client inserts, updates,
-deletes and drops at random in two collections with indexes, under views of every stage, and reads between
+deletes and drops at random in two collections with indexes, one of them unique, under views of every stage, and reads between
 (`tools/making/orders.py`). The number of documents stays between bounds. Behind every thousand writes
 
 - each view's rows, by a find and all its batches, have to be those of an aggregate of the same pipeline;
 - viewStats has to tell `live` and so many rows; in front of the find it may tell `stale` of a `$push` over more than 256 rows;
 - a find by each index has to give what a `$match` gives;
+- no two documents share a key of the unique index;
 - a view is dropped and made anew, and another connection takes over.
 
-Every reply has to be right, but for an `_id` that is there. The memory that is resident is looked at every hundred writes; its
-greatest in the last quarter of the time may be 5 % over that of the second. The first difference is printed, and the exit
-status is 1. So it is where memory grew.
+Every reply has to be right, but for an `_id` or a key of the unique index that is there. The memory that is resident is looked
+at every hundred writes; its greatest in the last quarter of the time may be 5 % over that of the second. The first difference
+is printed, and the exit status is 1. So it is where memory grew.
 
     python3 tools/soak.py
     python3 tools/soak.py --seconds 600 --seed 7 --program crates/docd/out/docd
@@ -24,7 +25,7 @@ import sys
 import time
 from collections import Counter
 
-from making.orders import INDEXES, LARGE, Orders, VIEWS, indexing, making
+from making.orders import INDEXES, LARGE, Orders, UNIQUE, VIEWS, indexing, making
 from program import parsed
 from served import Served, free_port
 
@@ -124,6 +125,7 @@ class Soak:
         self.orders.written(collection, command, reply)
         self.seen["writes"] += 1
         self.seen["documents written"] += reply.get("nModified", reply.get("n", 0))
+        self.seen["updates refused"] += "update" in command and "writeErrors" in reply
         if "drop" in command:
             self.seen["drops"] += 1
             self.docd.ask(indexing(collection))
@@ -149,6 +151,9 @@ class Soak:
             query = self.orders.query_by_index()
             rows = self.docd.rows({"find": "orders", "filter": query})
             self.same(query, rows, {"aggregate": "orders", "pipeline": [{"$match": query}], "cursor": {}})
+        keys = [one[UNIQUE] for one in self.docd.rows({"find": "orders"})]
+        if len(set(keys)) < len(keys):
+            raise Difference("two orders share a %s" % UNIQUE)
 
     def same(self, name, rows, command):
         """Compares rows with those of a command."""

@@ -19,7 +19,7 @@ import sys
 from collections import namedtuple
 
 from model.messages import message as reply_message
-from model.values import ARRAY, DOCUMENT, INT32, INT64, TEXT, spelling
+from model.values import ARRAY, BOOLEAN, DOCUMENT, INT32, INT64, TEXT, spelling
 from notation import fields_of, values
 from spelled import PIECE, joined, pieces, section
 
@@ -93,8 +93,9 @@ def section_of(written):
     return section(name.encode(), [data])
 
 
-def index_command(paths):
-    entries = [document((b"key", document((path.encode(), (INT32, 1)))), (b"name", text(path + "_1"))) for path in paths]
+def index_command(word, paths):
+    unique = [(b"unique", (BOOLEAN, True))] * (word == "unique")
+    entries = [document((b"key", document((path.encode(), (INT32, 1)))), (b"name", text(path + "_1")), *unique) for path in paths]
     return [(b"createIndexes", text("c")), (b"indexes", (ARRAY, entries))]
 
 
@@ -148,7 +149,8 @@ class Script:
             data, request, command = self.rests.pop(session)
         else:
             written, *lists = written.split(" beside ")
-            command = index_command(written.split()[1:]) if written.startswith("index ") else command_of(written)
+            word, *paths = written.split()
+            command = index_command(word, paths) if word in ("index", "unique") else command_of(written)
             data, request = self.message(command, how[0], map(section_of, lists))
         count = int(how[1]) if len(how) > 1 else len(data)
         if count < len(data):

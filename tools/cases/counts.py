@@ -1,6 +1,6 @@
 """The most cursors, views and indexes that there may be."""
-from cases.commands import IDENTITY, ONE, case, command, find, named, plain, put, stage, update
-from spelled import array, document, number, text
+from cases.commands import IDENTITY, ONE, case, command, find, named, plain, put, stage, update, with_id
+from spelled import array, boolean, document, number, text
 
 
 @case(1_000)
@@ -45,8 +45,9 @@ def writes_under_a_view(count):
         yield put([(b"_id", number(-1 - place))])
 
 
-def indexing(*paths):
-    entries = (document([(b"key", document([(path, ONE)])), (b"name", text(path))]) for path in paths)
+def indexing(*paths, unique=False):
+    others = [(b"unique", boolean(True))] * unique
+    entries = (document([(b"key", document([(path, ONE)])), (b"name", text(path)), *others]) for path in paths)
     return command(b"createIndexes", (b"indexes", array(entries)))
 
 
@@ -68,3 +69,39 @@ def elements_under_an_index(count):
     yield put([IDENTITY, (b"a", array(map(number, range(count))))])
     yield update(b"$push", (b"a", number(-1)))
     yield find(filter=document([(b"a", document([(b"$gte", number(0))]))]))
+
+
+@case(500_000)
+def elements_under_a_unique_index(count):
+    yield indexing(b"a", unique=True)
+    yield put([IDENTITY, (b"a", array(map(number, range(count))))])
+    yield update(b"$push", (b"a", number(-1)))
+    yield put([(b"_id", number(2)), (b"a", array(map(number, range(1 - count, 1))))])
+
+
+@case(500_000)
+def equal_elements_under_a_unique_index(count):
+    yield indexing(b"a", unique=True)
+    yield put([IDENTITY, (b"a", array([ONE] * count))])
+    yield update(b"$push", (b"a", ONE))
+    yield put([(b"_id", number(2)), (b"a", ONE)])
+
+
+@case(100_000)
+def updates_of_all_under_a_unique_index(count):
+    """The second update would break at its last document but one."""
+    yield indexing(b"a", unique=True)
+    yield from plain(count)
+    yield update(b"$inc", (b"a", number(-1)), multi=boolean(True))
+    yield put([(b"_id", number(count)), (b"a", number(2 * count - 2))])
+    yield update(b"$inc", (b"a", number(count)), multi=boolean(True))
+
+
+@case(100_000)
+def a_unique_index_over_documents(count):
+    """The first one is refused for the last document."""
+    yield from plain(count)
+    yield put([(b"_id", number(count)), (b"a", number(count - 1))])
+    yield indexing(b"a", unique=True)
+    yield command(b"delete", (b"deletes", array([document([(b"q", with_id(count)), (b"limit", ONE)])])))
+    yield indexing(b"a", unique=True)

@@ -2,6 +2,7 @@
 from making.values import distinct
 from making.views import Views
 from model.paths import whole
+from model.unique import are_apart, unique_paths
 from model.values import DOCUMENT
 from spelled import NOTHING, array, boolean, document, number, text
 
@@ -55,15 +56,19 @@ class Commands(Views):
 
     def filter_by_index(self):
         """A filter; where there are indexes, mostly one that begins with a path of one of them."""
-        made, collection = self.filter(), self.store.collections.get(b"t.c")
-        if len(collection.indexes if collection else []) < 2 or self.often(0.4):
+        made, indexes = self.filter(), self.indexes()
+        if len(indexes) < 2 or self.often(0.4):
             return made
-        path = b".".join(self.rng.choice(collection.indexes)[1])
+        path = b".".join(self.rng.choice(indexes).path)
         candidates = [one for fields in self.documents[:20] for one in whole((DOCUMENT, fields), path.split(b".")) if one]
         condition = path, self.condition(self.rng.choice(candidates or [NOTHING]), 1)
         if self.often(0.2):
             condition = b"$and", array([document([condition]), *([made] * self.often(0.5))])
         return document(distinct([condition, *made[1][1:]]))
+
+    def indexes(self):
+        """Those of the collection `c`."""
+        return self.store.collections[b"t.c"].indexes if b"t.c" in self.store.collections else []
 
     def batch(self, share):
         """How many documents a batch has, and whether it is the only one."""
@@ -99,6 +104,9 @@ class Commands(Views):
         return fields + self.ordered()
 
     def updating(self):
+        paths = unique_paths(self.indexes())
+        if paths and self.often(0.6):
+            return self.entry(self.updating_keys(b".".join(self.rng.choice(paths))))
         fields = self.rng.choice(self.documents) if self.documents else []
         others = [field for field in fields if field[0] != b"_id"]
         update = self.same_identity(fields) if self.often(0.05) else self.update([others])
@@ -106,6 +114,17 @@ class Commands(Views):
         is_replacement = update[0] == DOCUMENT and not (update[1] and update[1][0][0].startswith(b"$"))
         members += [(b"multi", boolean(self.often(0.1 if is_replacement else 0.8)))] * self.often(0.6)
         return self.entry(members + [(b"upsert", boolean(self.often(0.2)))] * self.often(0.05))
+
+    def updating_keys(self, path):
+        """What changes keys of a unique index in several documents, in some of which they are free."""
+        numbers = [(path, document([(b"$gte", number(self.rng.randrange(2 * self.reach)))])),
+                   (path + b".0", document([(b"$exists", boolean(False))]))]
+        name, operand = self.rng.choice([
+            *[(b"$inc", number(self.rng.choice([-2, -1, 1, 2, self.reach]), self.often(0.2)))] * 3, (b"$set", self.near(self.path()[1])),
+            (b"$set", self.own_key()), (b"$push", self.own_key()), (b"$unset", NOTHING)])
+        query = document(numbers) if name == b"$inc" and self.often(0.8) else self.one_of(self.filter, lambda: document([]))
+        changes = document([(name, document([(path, operand)]))])
+        return [(b"q", query), (b"u", changes), (b"multi", boolean(self.often(0.9)))]
 
     def same_identity(self, fields):
         """An update that gives a document its own `_id`, or an equal one."""
@@ -151,13 +170,24 @@ class Commands(Views):
 
     def index_entry(self):
         path = self.rng.choice([b"a", b"a", b"b", b"a.b", b"a.0", b"_id"]) if self.often(0.7) else self.path()[0]
+        is_unique = self.often(0.4)
+        path = self.path_apart() if is_unique and self.often(0.7) else path
         name = path.replace(b"\0", b"") + b"_1" if self.often(0.9) else self.rng.choice([b"a_1", b"_id_", b"", b"x" * 120, b"x" * 121])
         key = [(path, number(self.rng.choice([1, -1]), self.often(0.2)))]
         if self.often(0.03):
             key = self.rng.choice([[], key + [(b"z", number(1))], [(path, number(2))], [(path, text(b"1"))]])
         fields = [(b"key", document(key)), (b"name", text(name))] + [(b"v", self.value(3))] * self.often(0.1)
-        fields += [(b"unique", boolean(self.often(0.2)))] * self.often(0.05)
+        unique = boolean(is_unique) if self.often(0.97) else self.rng.choice([number(is_unique), NOTHING])
+        fields += [(b"unique", unique)] * (is_unique or self.often(0.1))
         return self.entry(fields)
+
+    def path_apart(self):
+        """A path under which no two documents share a key, if one is met soon."""
+        for _ in range(8):
+            path = self.rng.choice([b"a", b"b", b"a.b", b"a.0", self.path()[0]] + [b"k"] * (5 * self.has_keys))
+            if are_apart(path.split(b"."), self.documents):
+                break
+        return path
 
     def drop_indexes(self):
         name = self.rng.choice([b"a_1", b"b_1", b"a.b_1", b"_id_", b"*", b"x"])

@@ -6,7 +6,9 @@ LARGEST = 1_000  # number in an order
 TAGS = ["tag%d" % place for place in range(12)]
 # How many documents each collection has: at least and at most, but for a moment behind a drop.
 BOUNDS = {"orders": (400, 700), "shelves": (15, 35)}
-INDEXES = {"orders": ["n", "tags"], "shelves": ["floor"]}
+INDEXES = {"orders": ["n", "tags", "slip"], "shelves": ["floor"]}
+UNIQUE = "slip"  # the one that is
+SLIPS = 2_000
 
 
 def joined(source, local, foreign, name):
@@ -49,7 +51,7 @@ class Orders:
         return {**fields, "floor": self.rng.randrange(5)} if collection == "shelves" else {**fields, **self.order()}
 
     def order(self):
-        fields = {"n": self.rng.randrange(LARGEST), "next": self.identity("orders"),
+        fields = {"n": self.rng.randrange(LARGEST), "next": self.identity("orders"), UNIQUE: self.rng.randrange(SLIPS),
                   "tags": self.rng.choices(TAGS, k=self.rng.randrange(5))}
         return fields if self.often(0.03) else {**fields, "shelf": self.shelf()}
 
@@ -67,6 +69,7 @@ class Orders:
     def query_by_index(self):
         least = self.rng.randrange(LARGEST)
         return self.rng.choice([{"n": {"$gte": least, "$lt": least + 10}}, {"n": least},
+                                {UNIQUE: {"$gte": 2 * least, "$lt": 2 * least + 20}},
                                 {"tags": self.rng.choice(TAGS), "n": {"$gt": LARGEST - 200}}])
 
     def change(self, collection):
@@ -80,6 +83,7 @@ class Orders:
             {"$set": {"n": self.rng.randrange(LARGEST)}}, {"$set": {"shelf": self.shelf()}}, {"$set": {"tags": [tag]}},
             {"$inc": {"n": self.rng.choice([-1, 1])}}, {"$push": {"tags": tag}}, {"$pull": {"tags": tag}},
             {"$set": {"next": self.identity("orders"), "note": "y" * self.rng.randrange(200)}},
+            {"$set": {UNIQUE: self.rng.randrange(SLIPS)}}, {"$inc": {UNIQUE: self.rng.choice([-1, 1])}},
         ] + [{"$unset": {"shelf": 1}}] * self.often(0.2))
 
     def write(self):
@@ -127,7 +131,8 @@ class Orders:
 
 def indexing(collection):
     """The command that makes a collection's indexes."""
-    return {"createIndexes": collection, "indexes": [{"key": {path: 1}, "name": path} for path in INDEXES[collection]]}
+    entries = [{"key": {path: 1}, "name": path, "unique": path == UNIQUE} for path in INDEXES[collection]]
+    return {"createIndexes": collection, "indexes": entries}
 
 
 def making(view):

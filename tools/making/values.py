@@ -16,6 +16,7 @@ class Values:
     def __init__(self, rng):
         self.rng, self.store, self.made, self.along = rng, Store(), [], None
         self.reach = rng.choice([10, 40, 500])  # the greatest of the usual numbers
+        self.has_keys = self.often(0.3)  # whether documents have a field `k` that differs in most of them
 
     @property
     def documents(self):
@@ -106,12 +107,20 @@ class Values:
             fields = self.like(self.rng.choice(self.documents))
         else:
             fields = self.fields(self.rng.randrange(5), 0)
+        if self.has_keys and self.often(0.95):
+            fields = distinct([(b"k", self.own_key()), *fields])
         self.made.append(fields)
         if self.often(0.97):
             fields.insert(self.rng.randint(0, len(fields)), (b"_id", self.identity()))
         if self.often(0.004):
             return document(fields + [(b"broken", self.broken())])
         return document(fields)
+
+    def own_key(self):
+        """A value that few others equal."""
+        if self.often(0.1):
+            return self.one_of(lambda: array(self.own_key() for _ in range(self.rng.randrange(3))), lambda: self.value(3))
+        return number(self.rng.randrange(4 * self.reach), self.often(0.4))
 
     # What stands near a value.
 

@@ -5,6 +5,7 @@ from model.pipelines import pipeline_of
 from model.refusals import (BAD_VALUE, INDEX_NOT_FOUND, LIMIT_REACHED, NAMESPACE_EXISTS, NAMESPACE_NOT_FOUND, OK, ON_VIEW,
                             READ_BY_VIEW, Refusal)
 from model.store import Collection
+from model.unique import check_indexes
 from model.values import INT32, INT64, TEXT
 from model.views import View
 
@@ -58,6 +59,7 @@ def create_indexes(store, database, fields):
         raise Refusal(ON_VIEW)
     old = store.collections[place].indexes if place in store.collections else [ON_ID]
     new = with_indexes(old, wanted)
+    check_indexes(new[len(old):], store.rows(place))
     store.collections.setdefault(place, Collection()).indexes = new
     return [(b"numIndexesBefore", (INT32, len(old))), (b"numIndexesAfter", (INT32, len(new))), OK]
 
@@ -70,9 +72,9 @@ def drop_indexes(store, database, fields):
         raise Refusal(NAMESPACE_NOT_FOUND)
     collection = store.collections[place]
     old = collection.indexes
-    if name == ON_ID[0]:
+    if name == ON_ID.name:
         raise Refusal(BAD_VALUE)
-    if name != b"*" and all(name != other for other, _ in old):
+    if name != b"*" and all(name != other.name for other in old):
         raise Refusal(INDEX_NOT_FOUND)
-    collection.indexes = [index for index in old if index == ON_ID or name not in (b"*", index[0])]
+    collection.indexes = [index for index in old if index == ON_ID or name not in (b"*", index.name)]
     return [(b"nIndexesWas", (INT32, len(old))), OK]

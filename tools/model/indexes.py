@@ -1,7 +1,9 @@
 """Indexes: the entries that make them, which of them a filter is answered by, and how many documents that one covers.
 
-An index is its name and its path; what it would hold is never kept.
+An index is its name, its path and whether it is unique; what it would hold is never kept.
 """
+from collections import namedtuple
+
 from model.filters import LOGIC, OPERATORS
 from model.paths import components_of, leaves, whole
 from model.refusals import BAD_VALUE, CONFLICT, FAILED_TO_PARSE, LIMIT_REACHED, Refusal, TYPE_MISMATCH
@@ -9,7 +11,8 @@ from model.values import BOOLEAN, DOCUMENT, NUMBERS, TEXT, begins_with_operator
 
 MOST_INDEXES = 64
 LONGEST_NAME = 120
-ON_ID = b"_id_", [b"_id"]
+Index = namedtuple("Index", "name path is_unique")
+ON_ID = Index(b"_id_", [b"_id"], False)
 POINTS, RANGES = (b"$eq", b"$in"), (b"$gt", b"$gte", b"$lt", b"$lte")
 
 
@@ -17,7 +20,7 @@ def entry_of(fields):
     """The index that an entry asks for."""
     for name, (kind, held) in fields:
         wanted = {b"key": DOCUMENT, b"name": TEXT, b"unique": BOOLEAN}.get(name, kind)
-        if name not in (b"key", b"name", b"v", b"unique") or kind == wanted and is_left_out(name, held):
+        if name not in (b"key", b"name", b"v", b"unique") or kind == wanted and has_several_paths(name, held):
             raise Refusal(FAILED_TO_PARSE)
         if kind != wanted:
             raise Refusal(TYPE_MISMATCH)
@@ -28,23 +31,23 @@ def entry_of(fields):
     paths = [components_of(path) for path, (kind, held) in parts if kind in NUMBERS and held in (1, -1)]
     if len(paths) != 1 or paths[0] is None or len(name) > LONGEST_NAME:
         raise Refusal(BAD_VALUE)
-    return name, paths[0]
+    return Index(name, paths[0], given.get(b"unique", (BOOLEAN, False))[1])
 
 
-def is_left_out(name, held):
-    """Whether a field asks for what there isn't: an index over several paths, or a unique one."""
-    return name == b"key" and len(held) > 1 or name == b"unique" and held
+def has_several_paths(name, held):
+    """Whether a field asks for an index over several paths, which there isn't."""
+    return name == b"key" and len(held) > 1
 
 
 def with_indexes(indexes, wanted):
     """The indexes with those that are wanted, in order, of which each is new or there already."""
     indexes = list(indexes)
-    for name, path in wanted:
-        if path == ON_ID[1] or (name, path) in indexes:
+    for new in wanted:
+        if new.path == ON_ID.path or new in indexes:
             continue
-        if any(name == other or path == taken for other, taken in indexes):
+        if any(new.name == other.name or new.path == other.path for other in indexes):
             raise Refusal(CONFLICT)
-        indexes.append((name, path))
+        indexes.append(new)
     if len(indexes) > MOST_INDEXES:
         raise Refusal(LIMIT_REACHED)
     return indexes
@@ -67,7 +70,7 @@ def plan_of(fields, indexes):
     all documents are looked at."""
     conditions = list(conditions_of(fields))
     for wanted in (POINTS, RANGES):
-        for name, path in indexes:
+        for name, path, _ in indexes:
             for at, operator, operand in conditions:
                 if at == path and operator in wanted:
                     return name, path, OPERATORS[operator](operand)

@@ -53,6 +53,11 @@ def leaves(candidates):
     return found
 
 
+def leaf_keys(fields, components):
+    """The keys of a document's leaves under a path."""
+    return {key(as_null(leaf)) for leaf in leaves(whole((DOCUMENT, fields), components))}
+
+
 def as_null(candidate):
     return (NULL, None) if candidate is MISSING else candidate
 

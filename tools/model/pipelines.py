@@ -3,7 +3,7 @@
 A stage is a function of the rows and of `look`, which gives the documents under a collection's name.
 """
 from model.filters import filter_of
-from model.paths import (MISSING, as_null, components_of, expression_value, field_of, leaves, put, removed, slot, sort_of,
+from model.paths import (MISSING, as_null, components_of, expression_value, field_of, leaf_keys, put, removed, slot, sort_of,
                          sorted_rows, whole, with_field)
 from model.remembered import remembered
 from model.refusals import CONFLICT, FAILED_TO_PARSE, LIMIT_REACHED, Refusal
@@ -229,7 +229,7 @@ def lookup(operand):
     wanted(b"." not in target and b"\0" not in target and not target.startswith(b"$"))
 
     keys_of, others_keys = (remembered(lambda row: {key(value) for value in local_values(row, local)}),
-                            remembered(lambda other: foreign_keys(other, foreign)))
+                            remembered(lambda other: leaf_keys(other, foreign)))
 
     def joined(row, others):
         keys = keys_of(row)
@@ -248,10 +248,6 @@ def local_values(row, path):
     for value in map(as_null, whole((DOCUMENT, row), path)):
         values += value[1] if value[0] == ARRAY else [value]
     return values
-
-
-def foreign_keys(document, path):
-    return {key(as_null(leaf)) for leaf in leaves(whole((DOCUMENT, document), path))}
 
 
 def group(operand):

@@ -8,6 +8,7 @@ from model.paths import field_of
 from model.refusals import (BAD_VALUE, DUPLICATE_KEY, FAILED_TO_PARSE, LIMIT_REACHED, OK, ON_VIEW, Refusal, TOO_LARGE,
                             WANT_OF_MEMORY)
 from model.store import Collection
+from model.unique import check_changes
 from model.updates import is_replacement, update_of
 from model.values import ARRAY, BOOLEAN, DOCUMENT, INT32, INT64, TEXT, fits, is_storable, key
 
@@ -37,7 +38,7 @@ def write(store, place, name, fields, cut):
     matched, modified, errors, is_cut = 0, 0, [], False
     for index, statement in enumerate(statements):
         try:
-            effect = effect_of(store.collections.get(place, Collection()), statement)
+            effect = done_to(store.collections.get(place, Collection()), effect_of, statement)
         except Refusal as fault:
             effect = fault
         if cut is not None and cut[0] == index:
@@ -56,6 +57,13 @@ def write(store, place, name, fields, cut):
     told = [(b"nModified", count(modified))] if name == b"update" else []
     told += [(b"writeErrors", (ARRAY, errors))] if errors else []
     return [(b"n", count(matched)), *told, OK]
+
+
+def done_to(collection, effect_of, statement):
+    """What a statement does to a collection; it is refused for its documents first, and then by a unique index."""
+    effect = effect_of(collection, statement)
+    check_changes(collection, effect.changes)
+    return effect
 
 
 def write_error(index, code):

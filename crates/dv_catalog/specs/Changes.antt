@@ -1,10 +1,14 @@
 -- What statements change: one document after the other.
-use Rattle.std.specs.Prelude.{ℕ, List, [], ◌∷◌, Result, Ok, Err, is_some, if◌then◌else◌}
+use Rattle.std.specs.Prelude.{ℕ, ◌||◌, Bool, false, List, [], ◌∷◌, Result, Ok, Err, is_some, if◌then◌else◌}
 use Rattle.dv_bson.specs.Tree.{Field}
 use Rattle.dv_order.specs.Key.{KeyTree}
 use Rattle.dv_coll.specs.Collection.{id_key, found, inserted, removed, replaced}
 use Rattle.dv_fields.specs.declared.refusal.Refusal.{Refusal}
-use Rattle.dv_catalog.specs.State.{Namespaces, documents_of, with_documents}
+use Rattle.dv_fields.specs.declared.refusal.Refusal.TheVariants.{DuplicateKey}
+use Rattle.dv_fields.specs.Refusals.{◌>>=◌}
+use Rattle.dv_index.specs.Index.{IndexForm}
+use Rattle.dv_index.specs.Unique.{clashes}
+use Rattle.dv_catalog.specs.State.{Collection, Namespaces, documents_of, with_documents}
 
 -- a document put among the others, or the document under a key gone
 pub data Change : Type 0 where
@@ -42,3 +46,23 @@ changes_of (Err refusal) = []
 -- a statement: what it does to the documents of a namespace, or why it is refused
 abbrev pub Statement : Type 0
 Statement = List (List Field) → Result Effect Refusal
+
+-- ---- unique indexes
+
+-- whether a change puts a key of a unique index under two `_id`s
+abbrev pub clashes_by : List IndexForm → Change → List (List Field) → Bool
+clashes_by indexes (put d) documents = clashes indexes d documents
+clashes_by indexes (gone k) documents = false
+
+-- whether one of some changes does, made one after the other
+abbrev pub breaks : List IndexForm → List Change → List (List Field) → Bool
+breaks indexes [] documents = false
+breaks indexes (change ∷ changes) documents = clashes_by indexes change documents || breaks indexes changes (with_change documents change)
+
+abbrev pub unless_it_breaks : Collection → Effect → Result Effect Refusal
+unless_it_breaks c effect = if breaks c.indexes effect.changes c.documents then Err DuplicateKey else Ok effect
+
+-- what a statement does to a collection: it is refused for its documents, or else where one of its changes would put a key of a unique
+-- index under two `_id`s
+abbrev pub done_to : Collection → Statement → Result Effect Refusal
+done_to c statement = statement c.documents >>= unless_it_breaks c

@@ -1,25 +1,27 @@
 -- Making indexes, dropping them, and telling by which one a find is answered (MongoDB manual, "createIndexes", "dropIndexes",
 -- "explain"). The limit, the order of refusals, and that an entry is refused where its name or its path alone is there, are this server's
 -- own.
-use Rattle.std.specs.Prelude.{◌&&◌, ◌||◌, Bool, ℕ, List, [], ◌∷◌, ◌++◌, Option, Some, None, Result, Ok, Err, codes, length, nat_lt, if◌then◌else◌}
+use Rattle.std.specs.Prelude.{◌&&◌, ◌||◌, Bool, ℕ, List, [], ◌∷◌, ◌++◌, Option, Some, None, Result, Ok, Err, codes, drop, length, nat_lt, if◌then◌else◌}
 use Rattle.std.specs.FinMap as finite
 use Rattle.std.specs.List.{list_any}
 use Rattle.std.specs.Str.{bytes_eq}
 use Rattle.dv_fields.specs.declared.refusal.Refusal.{Refusal}
-use Rattle.dv_fields.specs.declared.refusal.Refusal.TheVariants.{BadValue, NamespaceNotFound, IndexNotFound, ConflictingUpdateOperators, OnView, LimitReached}
+use Rattle.dv_fields.specs.declared.refusal.Refusal.TheVariants.{BadValue, DuplicateKey, NamespaceNotFound, IndexNotFound, ConflictingUpdateOperators, OnView, LimitReached}
 use Rattle.dv_fields.specs.Refusals.{◌>>=◌}
 use Rattle.dv_index.specs.Choice.{same_path}
 use Rattle.dv_index.specs.Index.{IndexForm, id_form}
 use Rattle.dv_index.specs.Indexed.{documents_covered, index_chosen, is_dropped, without_index}
+use Rattle.dv_index.specs.Unique.{are_broken}
 use Rattle.dv_match.specs.Filter.{Members}
-use Rattle.dv_catalog.specs.State.{Collection, Standing, State, collection, indexes_of, is_collection, is_view, rows_of, with_indexes}
+use Rattle.dv_catalog.specs.State.{Collection, Standing, State, collection, collection_of, indexes_of, is_collection, is_view, rows_of, with_indexes}
 
 -- how many indexes a collection has at most, that on `_id` among them
 abbrev pub index_limit : ℕ
 index_limit = 64
 
+-- whether they are one index
 abbrev pub is_same : IndexForm → IndexForm → Bool
-is_same x y = bytes_eq x.name y.name && same_path x.path y.path
+is_same x y = bytes_eq x.name y.name && same_path x.path y.path && bool_eq x.unique y.unique
 
 -- whether they share a name or a path
 abbrev pub is_alike : IndexForm → IndexForm → Bool
@@ -31,7 +33,7 @@ is_made x indexes = same_path x.path id_form.path || list_any (is_same x) indexe
 
 -- ---- making
 
--- the indexes and one more where it isn't there; refused where its name or its path alone is
+-- the indexes and one more where it isn't there; refused where its name or its path is, but not the same index
 abbrev pub with_index : IndexForm → List IndexForm → Result (List IndexForm) Refusal
 with_index x indexes =
     if is_made x indexes then Ok indexes
@@ -46,9 +48,13 @@ with_entries (x ∷ xs) indexes = with_index x indexes >>= λ more. with_entries
 abbrev pub within_limit : List IndexForm → Result (List IndexForm) Refusal
 within_limit indexes = if nat_lt index_limit (length indexes) then Err LimitReached else Ok indexes
 
--- all entries, or why none is made
-abbrev pub with_all : List IndexForm → List IndexForm → Result (List IndexForm) Refusal
-with_all entries indexes = with_entries entries indexes >>= within_limit
+-- refused where the documents have a key of a unique index that comes under two `_id`s
+abbrev pub unless_broken : Collection → List IndexForm → Result (List IndexForm) Refusal
+unless_broken c indexes = if are_broken (drop (length c.indexes) indexes) c.documents then Err DuplicateKey else Ok indexes
+
+-- all entries, for a collection, or why none is made
+abbrev pub with_all : List IndexForm → Collection → Result (List IndexForm) Refusal
+with_all entries c = with_entries entries c.indexes >>= within_limit >>= unless_broken c
 
 -- ---- dropping
 
@@ -70,7 +76,7 @@ with_indexes_so namespace made state = made >>= λ indexes. Ok (record state { n
 abbrev pub indexes_created : List ℕ → List IndexForm → State → Result State Refusal
 indexes_created namespace entries state =
     if is_view namespace state.views then Err OnView
-    else with_indexes_so namespace (with_all entries (indexes_of namespace state.namespaces)) state
+    else with_indexes_so namespace (with_all entries (collection_of namespace state.namespaces)) state
 
 -- the state without these indexes. Refused on a view, and where nothing stands under the namespace
 abbrev pub indexes_dropped : List ℕ → List ℕ → State → Result State Refusal

@@ -4,9 +4,9 @@ use Rattle.dv_fields.specs.declared.refusal.Refusal.{Refusal}
 use Rattle.dv_fields.specs.declared.refusal.Refusal.TheVariants.{WantOfMemory}
 use Rattle.dv_catalog.specs.declared.counted.Counted.{Counted}
 use Rattle.dv_catalog.specs.declared.stopped.Stopped.{Stopped}
-use Rattle.dv_catalog.specs.State.{Namespaces, documents_of, lists_of}
+use Rattle.dv_catalog.specs.State.{Namespaces, collection_of, lists_of}
 use Rattle.dv_catalog.specs.Marks.{AreMarkedBy, Marked, Marks, marks_read}
-use Rattle.dv_catalog.specs.Changes.{Change, Effect, Statement, apply, changes_of}
+use Rattle.dv_catalog.specs.Changes.{Change, Effect, Statement, apply, changes_of, done_to}
 
 -- a statement that is refused changes nothing
 pub record IsRefused (does : Result Effect Refusal) (old : Namespaces) (stopped : Stopped) (new : Namespaces) : Type 0 where
@@ -27,9 +27,9 @@ MakesSo counted namespace does old (Ok x) new =
     (changes : List Change) × (does ≡ Ok (record { matched = (counted x).matched; changes = changes })) × (length changes ≡ (counted x).changed) × (new ≡ apply namespace changes old)
 MakesSo counted namespace does old (Err stopped) new = IsRefused does old stopped new ⊎ IsCut namespace does old stopped new
 
--- the same of a statement on the documents of a namespace
+-- the same of a statement on the collection of a namespace
 abbrev pub Makes : {B : Type 0} → (B → Counted) → List ℕ → Statement → Namespaces → Result B Stopped → Namespaces → Type 0
-Makes counted namespace statement old result new = MakesSo counted namespace (statement (documents_of namespace old)) old result new
+Makes counted namespace statement old result new = MakesSo counted namespace (done_to (collection_of namespace old) statement) old result new
 
 -- one document and one change
 abbrev pub one : Counted
@@ -47,13 +47,13 @@ abbrev pub changes_made : {B : Type 0} → Result Effect Refusal → Result B St
 changes_made does (Ok x) = changes_of does
 changes_made does (Err stopped) = take stopped.done (changes_of does)
 
--- behind what a statement does to the documents of a namespace
+-- behind what a statement does to the collection of a namespace
 abbrev pub StandBy : {B : Type 0} → List ℕ → Result Effect Refusal → Marked → Result B Stopped → Marks → Type 0
 StandBy namespace does old result after = AreMarkedBy namespace (changes_made does result) (lists_of old.state.namespaces) old.state.views old.marks after
 
 -- behind a statement on them
 abbrev pub StandBehind : {B : Type 0} → List ℕ → Statement → Marked → Result B Stopped → Marks → Type 0
-StandBehind namespace statement old result after = StandBy namespace (statement (documents_of namespace old.state.namespaces)) old result after
+StandBehind namespace statement old result after = StandBy namespace (done_to (collection_of namespace old.state.namespaces) statement) old result after
 
 -- behind what may be refused: so, where it is done, and else as they stood
 abbrev pub StandSo : {B E : Type 0} → (Marks → Type 0) → Marks → Result B E → Marks → Type 0

@@ -197,9 +197,10 @@ index_valid entry index valid is =
     let looked = succeeds (check_fields kinds.entry index_table entry) _ index is in
     let key = succeeds (document_under (codes "key") entry) _ index looked.rest_is in
     let name = succeeds (text_under (codes "name") entry) _ index key.rest_is in
-    let path = succeeds (key_path key.given) _ index name.rest_is in
+    let unique = succeeds (boolean_under (codes "unique") false entry) _ index name.rest_is in
+    let path = succeeds (key_path key.given) _ index unique.rest_is in
     let short = succeeds (check_index_name name.given) _ index path.rest_is in
-    let made : IndexAsked = record { name = name.given; path = path.given } in
+    let made : IndexAsked = record { name = name.given; path = path.given; unique = unique.given } in
     subst (λ (x : IndexAsked). IsIndexName x.name) {x = made} (ends made index short.rest_is) (
       text_valid (value_under (codes "name") entry) name.given (λ v under. under_valid (codes "name") entry v valid under) name.first_is,
       index_name_short name.given short.given short.first_is,

@@ -54,6 +54,7 @@ updating_of entry =
 pub record IndexAsked : Type 0 where
   pub name : List ℕ
   pub path : List (List ℕ)
+  pub unique : Bool
 
 -- a key has one field: its name is the path, and its value a direction
 abbrev pub key_path : List Field → Result (List (List ℕ)) Refusal
@@ -73,6 +74,7 @@ index_of entry =
     check_fields kinds.entry index_table entry >>= λ _.
     document_under (codes "key") entry >>= λ key.
     text_under (codes "name") entry >>= λ name.
+    boolean_under (codes "unique") false entry >>= λ unique.
     key_path key >>= λ path.
     check_index_name name >>= λ _.
-    Ok (record { name = name; path = path })
+    Ok (record { name = name; path = path; unique = unique })

@@ -58,4 +58,4 @@ abbrev pub updating_table : Table
 updating_table = (codes "q", kinds.document) ∷ (codes "u", kinds.update) ∷ (codes "multi", kinds.boolean) ∷ (codes "upsert", kinds.only_false) ∷ []
 
 abbrev pub index_table : Table
-index_table = (codes "key", kinds.single) ∷ (codes "name", kinds.text) ∷ (codes "v", kinds.anything) ∷ (codes "unique", kinds.only_false) ∷ []
+index_table = (codes "key", kinds.single) ∷ (codes "name", kinds.text) ∷ (codes "v", kinds.anything) ∷ (codes "unique", kinds.boolean) ∷ []

@@ -59,7 +59,7 @@ abbrev pub drop_seen : dropping.DropNamespace → Drop
 drop_seen d = record { namespace = string_bytes d.namespace }
 
 abbrev pub index_seen : indexes.IndexAsked → IndexAsked
-index_seen i = record { name = i.name; path = i.path }
+index_seen i = record { name = i.name; path = i.path; unique = i.unique }
 
 abbrev pub create_indexes_seen : indexing.CreateIndexes → CreateIndexes
 create_indexes_seen c = record { namespace = string_bytes c.namespace; indexes = map index_seen c.indexes.items }

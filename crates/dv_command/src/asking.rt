@@ -124,6 +124,8 @@ pub struct CreateIndexes {
 pub struct IndexAsked {
     pub name: Str,
     pub path: Path,
+    /// Whether no key of it may stand in two documents.
+    pub unique: bool,
 }
 
 /// An index of a namespace goes, or all but the one on `_id`.

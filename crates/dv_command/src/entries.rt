@@ -87,19 +87,21 @@ fn check_multi(multi: bool, update: &Document) -> Result<(), Refusal>
 const LONGEST_INDEX_NAME: usize = 120;
 
 /// The index that an entry asks, or the first refusal: for its fields in the order in which they stand (`FailedToParse`
-/// for a key with more than one field and for `unique: true`), for those that are missing (`FailedToParse`), for its key
-/// and its name (`BadValue`). It may be refused with `WantOfMemory` in place of any of these.
+/// for a key with more than one field), for those that are missing (`FailedToParse`), for its key and its name
+/// (`BadValue`). It may be refused with `WantOfMemory` in place of any of these.
 pub(crate) fn index_of(alloc: Global, entry: &Document) -> Result<IndexAsked, Refusal>
     ensures { UnlessWanting index_seen (entries.index_of entry.now) result }
 {
     check_fields(Place::Entry, &INDEX_RULES, entry)?;
     let key = document_under(entry, "key")?;
     let name = text_under(entry, "name")?;
+    let unique = boolean_under(entry, "unique", false)?;
     let path = key_path(alloc, key)?;
     check_index_name(name)?;
     Ok(IndexAsked {
         name: Str::of(String::from_str(alloc, name)?),
         path,
+        unique,
     })
 }
 

@@ -128,7 +128,7 @@ pub(crate) const INDEX_RULES: [Rule; 4] = [
     Rule("key", Kind::Single),
     Rule("name", Kind::Text),
     Rule("v", Kind::Anything),
-    Rule("unique", Kind::OnlyFalse),
+    Rule("unique", Kind::Boolean),
 ];
 
 /// The fields of a command of statements, by its name and that of their list.

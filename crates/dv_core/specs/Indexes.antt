@@ -11,7 +11,7 @@ use Rattle.dv_catalog.specs.IndexMaking.{Explained, Way, over_view, by_index, ov
 use Rattle.dv_catalog.specs.State.{State, indexes_of}
 
 abbrev pub form_asked : IndexAsked → IndexForm
-form_asked x = record { name = x.name; path = x.path }
+form_asked x = record { name = x.name; path = x.path; unique = x.unique }
 
 -- how many indexes a namespace has
 abbrev pub index_count : List ℕ → State → ℕ

@@ -2,9 +2,9 @@
 use Rattle.std.specs.Prelude.{◌≡◌, ◌⊎◌, ◌==◌, ◌&&◌, ℕ, ℤ, pos, List, Result, Ok, Err, if◌then◌else◌}
 use Rattle.std.specs.List.{after_first, before_first}
 use Rattle.dv_bson.specs.Tree.{Field}
-use Rattle.dv_catalog.specs.Changes.{Effect, apply, changes_of}
+use Rattle.dv_catalog.specs.Changes.{Effect, apply, changes_of, done_to}
 use Rattle.dv_catalog.specs.Marks.{AreMarkedBy}
-use Rattle.dv_catalog.specs.State.{documents_of, is_view, lists_of}
+use Rattle.dv_catalog.specs.State.{collection_of, is_view, lists_of}
 use Rattle.dv_core.specs.Writes.{insert_one}
 use Rattle.dv_core.specs.State.{State, standing}
 use Rattle.dv_path.specs.Names.{has_dot}
@@ -27,7 +27,7 @@ left_by namespace state effect = record state { catalog = record state.catalog {
 abbrev pub insert_alone : List ℕ → List Field → State → Result State Refusal
 insert_alone namespace d state =
     if is_view namespace state.catalog.views then Err OnView
-    else insert_one d (documents_of namespace state.catalog.namespaces) >>= λ effect. Ok (left_by namespace state effect)
+    else done_to (collection_of namespace state.catalog.namespaces) (insert_one d) >>= λ effect. Ok (left_by namespace state effect)
 
 -- the same of the namespace that a text is
 abbrev pub loaded : List ℕ → List Field → State → Result State Refusal
@@ -36,7 +36,7 @@ loaded text d state = namespace_in text >>= λ namespace. insert_alone namespace
 -- a document is loaded into the namespace that a text is, and this is left: views count the work, or memory is wanting for one
 pub record IsLoaded (text : List ℕ) (d : List Field) (old new : State) : Type 0 where
   pub so : loaded text d old ≡ Ok (standing old.marks new)
-  pub marks : AreMarkedBy text (changes_of (insert_one d (documents_of text old.catalog.namespaces))) (lists_of old.catalog.namespaces) old.catalog.views old.marks new.marks
+  pub marks : AreMarkedBy text (changes_of (done_to (collection_of text old.catalog.namespaces) (insert_one d))) (lists_of old.catalog.namespaces) old.catalog.views old.marks new.marks
 
 -- a number tells why something is refused, or that memory is wanting
 abbrev pub IsCodeOf : {S : Type 0} → Result S Refusal → ℤ → Type 0

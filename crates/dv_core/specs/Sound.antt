@@ -8,6 +8,7 @@ use Rattle.dv_command.specs.declared.command.Command.TheVariants.{Sections, Inva
 use Rattle.dv_bson.specs.declared.fault.BsonFault.TheVariants.{RefusedType}
 use Rattle.dv_fields.specs.declared.refusal.Refusal.{Refusal}
 use Rattle.dv_fields.specs.declared.refusal.Refusal.TheVariants.{InvalidBson}
+use Rattle.dv_index.specs.Unique.{are_broken}
 use Rattle.dv_catalog.specs.State.{documents_of, indexes_of, AreOrdered}
 use Rattle.dv_core.specs.State.{State}
 use Rattle.dv_cursor.specs.Cursors.{rows_to_come}
@@ -31,6 +32,10 @@ AreSoundDocuments state = (namespace : List ℕ) → AreSound (documents_of name
 abbrev pub AreSoundIndexes : State → Type 0
 AreSoundIndexes state = (namespace : List ℕ) → AllByRecursion (λ index. IsIndexName index.name) (indexes_of namespace state.catalog.namespaces)
 
+-- of a unique index no key stands in two documents
+abbrev pub AreUnique : State → Type 0
+AreUnique state = (namespace : List ℕ) → are_broken (indexes_of namespace state.catalog.namespaces) (documents_of namespace state.catalog.namespaces) ≡ false
+
 -- the stages of each view were read from valid values
 abbrev pub AreSoundViews : State → Type 0
 AreSoundViews state = AllByRecursion (λ v. IsSoundPipeline v.stages) state.catalog.views
@@ -48,6 +53,7 @@ AreSoundCursors state = (session : ℕ) (namespace : List ℕ) (id : ℕ) → Ar
 pub record IsSound (state : State) : Type 0 where
   pub documents : AreSoundDocuments state
   pub indexes : AreSoundIndexes state
+  pub unique : AreUnique state
   pub views : AreSoundViews state
   pub cursors : AreSoundCursors state
 

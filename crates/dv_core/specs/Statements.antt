@@ -4,8 +4,8 @@ use Rattle.std.specs.Prelude.{◌≡◌, ℕ, suc, ◌+◌, ◌<◌, ◌⊎◌, 
 use Rattle.dv_bson.specs.Tree.{Tree, Field}
 use Rattle.dv_fields.specs.declared.refusal.Refusal.{Refusal}
 use Rattle.dv_command.specs.Replies.{document_of, write_error, cut_error}
-use Rattle.dv_catalog.specs.State.{Namespaces, documents_of}
-use Rattle.dv_catalog.specs.Changes.{Change, Effect, Statement, apply, changes_of}
+use Rattle.dv_catalog.specs.State.{Namespaces, collection_of}
+use Rattle.dv_catalog.specs.Changes.{Change, Effect, Statement, apply, changes_of, done_to}
 
 -- what a write's statements did so far: how many were looked at, how many documents those that were carried out are counted for, and
 -- how many changes they made, the errors of the others, and what stands under the namespaces
@@ -35,7 +35,7 @@ module _ (namespace : List ℕ) (ordered : Bool) where
 
   -- the next statement, where it is looked at
   abbrev pub with_next : Written → Statement → Written
-  with_next so_far statement = if is_due ordered so_far.errors then with_result so_far (statement (documents_of namespace so_far.namespaces)) else so_far
+  with_next so_far statement = if is_due ordered so_far.errors then with_result so_far (done_to (collection_of namespace so_far.namespaces) statement) else so_far
 
   -- the statements one after the other
   abbrev pub with_all : Written → List Statement → Written
@@ -46,7 +46,7 @@ module _ (namespace : List ℕ) (ordered : Bool) where
 
   -- the changes that the next statement would make
   abbrev pub next_changes : Written → Statement → List Change
-  next_changes so_far statement = changes_of (statement (documents_of namespace so_far.namespaces))
+  next_changes so_far statement = changes_of (done_to (collection_of namespace so_far.namespaces) statement)
 
   -- the next statement finds no memory behind the first so many of its changes: these stand, and it isn't counted
   abbrev pub cut : ℕ → Written → Statement → Written

@@ -1,6 +1,5 @@
 -- Ends that come closer together, and those between which no key stands.
-use Rattle.std.proofs.Common.{◌≡◌, ◌∙◌, ◌⊎◌, inl, inr, map, ℕ, suc, ◌+◌, ◌<◌, get_or, length, List, ◌∷◌, drop, add-one, refl, ap, sym, Bool, true, false, not, ◌&&◌}
-use Rattle.std.proofs.Math.Seq.{drop-cons}
+use Rattle.std.proofs.Common.{◌≡◌, ◌∙◌, ◌⊎◌, inl, inr, map, ℕ, ◌+◌, ◌<◌, get_or, length, List, ◌∷◌, drop, refl, ap, sym, Bool, true, false, not, ◌&&◌}
 use Rattle.std.specs.BTreeMap.Range.{is_from_start, is_past_end, range_contains}
 use Rattle.std.specs.Ordering.{is_gt, is_lt, is_le, ordering_reverse}
 use Rattle.std.specs.declared.cmp.Ordering.{Ordering}
@@ -15,7 +14,7 @@ use Rattle.dv_match.specs.declared.form.Condition as held
 use Rattle.dv_match.specs.Filter.{Members, conditions_of, members_of, filters_of}
 use Rattle.dv_match.specs.View.{condition, member}
 use Rattle.dv_index.proofs.Ends.{not-greater}
-use Rattle.dv_index.proofs.Lists.{both}
+use Rattle.dv_index.proofs.Lists.{both, drop-step}
 use Rattle.dv_index.specs.Interval.{is_in_all, is_in_bounds, is_in_each, is_in_member, is_in_filters}
 
 not-so : (b : Bool) → not b ≡ true → b ≡ false
@@ -89,8 +88,7 @@ none-inside low high a b k start end wrong =
 module _ {X : Type 0} (all : List X → Bool) (one : X → Bool) (more : (x : X) (xs : List X) → all (x ∷ xs) ≡ one x && all xs) (xs : List X) (i : ℕ) where
   pub next-passes : (x : X) → i < length xs → x ≡ get_or xs i x → all (drop i xs) ≡ true → (one x ≡ true) × (all (drop (i + 1) xs) ≡ true)
   next-passes x within is e =
-      let here : drop i xs ≡ x ∷ drop (i + 1) xs = rw add-one (drop-cons xs i x within ∙ ap (λ y. y ∷ drop (suc i) xs) (sym is)) in
-      both (one x) (all (drop (i + 1) xs)) (sym (ap all here ∙ more x (drop (i + 1) xs)) ∙ e)
+      both (one x) (all (drop (i + 1) xs)) (sym (ap all (drop-step xs i x within is) ∙ more x (drop (i + 1) xs)) ∙ e)
 
 pub more-conditions : (k : KeyTree) (c : held.Condition) (cs : List held.Condition) → is_in_each k (conditions_of (map condition (c ∷ cs))) ≡ is_in_bounds k (condition c) && is_in_each k (conditions_of (map condition cs))
 more-conditions k c cs = refl

@@ -76,12 +76,12 @@ module _ (name : List ℕ) where
       subst (λ t. AreIndexesOf (cond t (x ∷ filter (λ y. not (is_dropped name (form_of y))) xs) (filter (λ y. not (is_dropped name (form_of y))) xs)) ds) (sym (id-stays x b)) (all-kept (λ y. IsIndexOf y ds) xs h)
 
   -- one that is put behind others, none of which has its name, is all that goes
-  module _ (path : List (List ℕ)) (other : bytes_eq name id_form.name ≡ false) where
+  module _ (path : List (List ℕ)) (unique : Bool) (other : bytes_eq name id_form.name ≡ false) where
     abbrev with-last : List IndexForm → List IndexForm
-    with-last xs = without_index name (xs ++ record { name = name; path = path } ∷ [])
+    with-last xs = without_index name (xs ++ record { name = name; path = path; unique = unique } ∷ [])
 
     pub last_dropped : (xs : List IndexForm) → list_any (λ x. bytes_eq x.name name) xs ≡ false → with-last xs ≡ xs
-    last_dropped [] fresh = ap (λ b. cond (not b) (record { name = name; path = path } ∷ []) []) (ap (λ b. b && not (bytes_eq name id_form.name)) ((bytes_eq-Decides name name).1 refl) ∙ ap not other)
+    last_dropped [] fresh = ap (λ b. cond (not b) (record { name = name; path = path; unique = unique } ∷ []) []) (ap (λ b. b && not (bytes_eq name id_form.name)) ((bytes_eq-Decides name name).1 refl) ∙ ap not other)
     last_dropped (x ∷ xs) fresh = at (bytes_eq x.name name) refl fresh (last_dropped xs)
       where
         at : (b : Bool) → bytes_eq x.name name ≡ b → b || list_any (λ y. bytes_eq y.name name) xs ≡ false → (list_any (λ y. bytes_eq y.name name) xs ≡ false → with-last xs ≡ xs) → with-last (x ∷ xs) ≡ x ∷ xs
@@ -126,7 +126,7 @@ some-has-found k id path (d ∷ ds) h = at (is_eq (key_order id (id_key d))) ref
 abbrev pub IsElsewhere : KeyTree → List (List Field) → Type 0
 IsElsewhere i ds = AllByRecursion (λ d. is_eq (key_order i (id_key d)) ≡ false) ds
 
-elsewhere-later : (i l : KeyTree) (ds : List (List Field)) → key_order i l ≡ Equal → Before l ds → IsElsewhere i ds
+pub elsewhere-later : (i l : KeyTree) (ds : List (List Field)) → key_order i l ≡ Equal → Before l ds → IsElsewhere i ds
 elsewhere-later i l [] e b = tt
 elsewhere-later i l (d ∷ ds) e b = (ap is_eq (key_order_total.congr i l (id_key d) e ∙ b.0), elsewhere-later i l ds e b.1)
 

@@ -1,6 +1,5 @@
 -- How many documents a find covers: all that match, and no more than there are.
-use Rattle.std.proofs.Common.{◌≡◌, ◌∙◌, ℕ, suc, ◌≤◌, arith, List, [], ◌∷◌, length, refl, sym, subst, Bool, true, false, cond, Option, Some, None, filter, slice_get}
-use Rattle.std.specs.List.{count_by}
+use Rattle.std.proofs.Common.{◌≡◌, ℕ, ◌≤◌, arith, List, [], ◌∷◌, length, refl, sym, subst, Bool, true, false, cond, Option, Some, None, filter, slice_get}
 use Rattle.std.proofs.lemmas.List.Sums.{count_by-le-length, length-filter}
 use Rattle.dv_bson.specs.Tree.{Field}
 use Rattle.dv_match.specs.Filter.{Condition, Members}

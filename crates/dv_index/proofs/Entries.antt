@@ -11,47 +11,64 @@ use Rattle.std.proofs.lemmas.List.Folds.{list_any-append}
 use Rattle.std.proofs.lemmas.Map.Keys.{sorted_head, sorted_tail}
 use Rattle.dv_order.specs.Key.{KeyTree, key_order}
 use Rattle.dv_order.specs.KeyLaws.{key_order_total}
+use Rattle.dv_index.specs.Ids.{has_in, is_another}
 use Rattle.dv_index.specs.Keys.{has_key}
-use Rattle.dv_index.specs.Pairs.{has_pair, pairs_of}
+use Rattle.dv_index.specs.Pairs.{Pair, has_another_at, has_pair, pairs_of}
 use Rattle.dv_index.proofs.Lists.{any-map, or-false, equal-back, equal-from}
 
 abbrev pub Entry : Type 0
 Entry = KeyTree × List KeyTree
 
--- whether an `_id` is among those under a key
-abbrev pub has_in : KeyTree → Option (List KeyTree) → Bool
-has_in i None = false
-has_in i (Some ids) = has_key i ids
-
-any-and : {X : Type 0} (a : Bool) (p : X → Bool) (xs : List X) → list_any (λ x. a && p x) xs ≡ a && list_any p xs
+pub any-and : {X : Type 0} (a : Bool) (p : X → Bool) (xs : List X) → list_any (λ x. a && p x) xs ≡ a && list_any p xs
 any-and true p xs = refl
 any-and false p [] = refl
 any-and false p (x ∷ xs) = any-and false p xs
 
--- the pairs of one key
-at-entry : (k i : KeyTree) (e : Entry) (es : List Entry) → has_pair k i (pairs_of (e ∷ es)) ≡ (is_eq (key_order k e.0) && has_key i e.1) || has_pair k i (pairs_of es)
-at-entry k i e es =
-    list_any-append _ (map (λ id. (e.0, id)) e.1) (pairs_of es)
-    ∙ ap (λ b. b || has_pair k i (pairs_of es)) (any-map _ (λ id. (e.0, id)) e.1 ∙ any-and (is_eq (key_order k e.0)) (λ id. is_eq (key_order i id)) e.1)
+-- some `_id` under a key passes a test
+abbrev pub some-at : KeyTree → (KeyTree → Bool) → List Pair → Bool
+some-at k test ps = list_any (λ p. is_eq (key_order k p.0) && test p.1) ps
 
-none-later : (k i : KeyTree) (es : List Entry) → AllByRecursion (λ l. key_order k l ≡ Less) (keys_of es) → has_pair k i (pairs_of es) ≡ false
-none-later k i [] h = refl
-none-later k i (e ∷ es) h = at-entry k i e es ∙ ap (λ o. (is_eq o && has_key i e.1) || has_pair k i (pairs_of es)) h.0 ∙ none-later k i es h.1
+abbrev pub some-in : (KeyTree → Bool) → Option (List KeyTree) → Bool
+some-in test None = false
+some-in test (Some ids) = list_any test ids
+
+-- the pairs of one key
+at-entry : (k : KeyTree) (test : KeyTree → Bool) (e : Entry) (es : List Entry) → some-at k test (pairs_of (e ∷ es)) ≡ (is_eq (key_order k e.0) && list_any test e.1) || some-at k test (pairs_of es)
+at-entry k test e es =
+    list_any-append _ (map (λ id. (e.0, id)) e.1) (pairs_of es)
+    ∙ ap (λ b. b || some-at k test (pairs_of es)) (any-map _ (λ id. (e.0, id)) e.1 ∙ any-and (is_eq (key_order k e.0)) test e.1)
+
+none-later : (k : KeyTree) (test : KeyTree → Bool) (es : List Entry) → AllByRecursion (λ l. key_order k l ≡ Less) (keys_of es) → some-at k test (pairs_of es) ≡ false
+none-later k test [] h = refl
+none-later k test (e ∷ es) h = at-entry k test e es ∙ ap (λ o. (is_eq o && list_any test e.1) || some-at k test (pairs_of es)) h.0 ∙ none-later k test es h.1
 
 same-later : (k l : KeyTree) (ks : List KeyTree) → key_order k l ≡ Equal → AllByRecursion (λ m. key_order l m ≡ Less) ks → AllByRecursion (λ m. key_order k m ≡ Less) ks
 same-later k l [] e h = tt
 same-later k l (m ∷ ks) e h = (key_order_total.congr k l m e ∙ h.0, same-later k l ks e h.1)
 
--- an index has the pair of a key and an `_id` where the `_id` is among those that are found under the key
-pub pair-found : (k i : KeyTree) (es : List Entry) → IsStrictlySortedBy key_order (keys_of es) → has_pair k i (pairs_of es) ≡ has_in i (lookup (is_at (key_order k)) es)
-pair-found k i [] h = refl
-pair-found k i (e ∷ es) h = at-entry k i e es ∙ one (key_order k e.0) refl (pair-found k i es (sorted_tail key_order e.0 (keys_of es) h))
+-- some `_id` under a key passes a test where one of those does that are found under the key
+pub some-found : (k : KeyTree) (test : KeyTree → Bool) (es : List Entry) → IsStrictlySortedBy key_order (keys_of es) → some-at k test (pairs_of es) ≡ some-in test (lookup (is_at (key_order k)) es)
+some-found k test [] h = refl
+some-found k test (e ∷ es) h = at-entry k test e es ∙ one (key_order k e.0) refl (some-found k test es (sorted_tail key_order e.0 (keys_of es) h))
   where
-    one : (o : Ordering) → key_order k e.0 ≡ o → has_pair k i (pairs_of es) ≡ has_in i (lookup (is_at (key_order k)) es) → (is_eq o && has_key i e.1) || has_pair k i (pairs_of es) ≡ has_in i (cond (is_eq o) (Some e.1) (lookup (is_at (key_order k)) es))
+    one : (o : Ordering) → key_order k e.0 ≡ o → some-at k test (pairs_of es) ≡ some-in test (lookup (is_at (key_order k)) es) → (is_eq o && list_any test e.1) || some-at k test (pairs_of es) ≡ some-in test (cond (is_eq o) (Some e.1) (lookup (is_at (key_order k)) es))
     one Less f later = later
     one Greater f later = later
     one Equal f later =
-        ap (λ b. has_key i e.1 || b) (none-later k i es (same-later k e.0 (keys_of es) f (sorted_head key_order e.0 (keys_of es) h))) ∙ or-false (has_key i e.1)
+        ap (λ b. list_any test e.1 || b) (none-later k test es (same-later k e.0 (keys_of es) f (sorted_head key_order e.0 (keys_of es) h))) ∙ or-false (list_any test e.1)
+
+-- an index has the pair of a key and an `_id` where the `_id` is among those that are found under the key
+pub pair-found : (k i : KeyTree) (es : List Entry) → IsStrictlySortedBy key_order (keys_of es) → has_pair k i (pairs_of es) ≡ has_in i (lookup (is_at (key_order k)) es)
+pair-found k i es h = some-found k (λ id. is_eq (key_order i id)) es h ∙ by (lookup (is_at (key_order k)) es)
+  where
+    by : (o : Option (List KeyTree)) → some-in (λ id. is_eq (key_order i id)) o ≡ has_in i o
+    by None = refl
+    by (Some ids) = refl
+
+-- another `_id` under a key, in a pair that isn't gone, is one of those that are found under the key, and not among those that are gone
+pub another-found : (k id : KeyTree) (gone es : List Entry) → IsStrictlySortedBy key_order (keys_of gone) → IsStrictlySortedBy key_order (keys_of es) → has_another_at k id (pairs_of gone) (pairs_of es) ≡ some-in (is_another id (lookup (is_at (key_order k)) gone)) (lookup (is_at (key_order k)) es)
+another-found k id gone es sorted h =
+    ap (λ t. some-at k t (pairs_of es)) (λ j i. not (is_eq (key_order id i)) && not (pair-found k i gone sorted j)) ∙ some-found k (is_another id (lookup (is_at (key_order k)) gone)) es h
 
 lookup-same : (k l : KeyTree) (es : List Entry) → key_order k l ≡ Equal → lookup (is_at (key_order k)) es ≡ lookup (is_at (key_order l)) es
 lookup-same k l es e = ap (λ t. lookup t es) (λ j m. is_eq (key_order_total.congr k l m e j))

@@ -17,3 +17,7 @@ pub mod Changed
 pub mod Copied
 pub mod PutIn
 pub mod Counted
+pub mod Shared
+pub mod Taken
+pub mod Tried
+pub mod Apart

@@ -1,5 +1,6 @@
 -- Tests of lists, and of keys, which compare equal either way round.
-use Rattle.std.proofs.Common.{Bor, filter, ◌≡◌, ℕ, zero, suc, ◌+◌, ◌<◌, ◌≤◌, List, [], ◌∷◌, length, map, take, get_or, refl, ap, sym, ◌∙◌, arith, Bool, true, false, cond, ◌&&◌, ◌||◌, add-one}
+use Rattle.std.proofs.Common.{Bor, filter, ◌≡◌, ℕ, zero, suc, ◌+◌, ◌<◌, ◌≤◌, List, [], ◌∷◌, length, map, take, drop, get_or, refl, ap, sym, ◌∙◌, arith, Bool, true, false, cond, ◌&&◌, ◌||◌, add-one}
+use Rattle.std.proofs.Math.Seq.{drop-cons}
 use Rattle.std.specs.List.{list_any}
 use Rattle.std.specs.Cmp.{eq_by_cmp_equiv}
 use Rattle.std.specs.Ordering.{is_eq}
@@ -36,6 +37,10 @@ any-one-more p (y ∷ ys) (suc i) x within is =
 pub any-map : {X Y : Type 0} (p : Y → Bool) (view : X → Y) (xs : List X) → list_any p (map view xs) ≡ list_any (λ x. p (view x)) xs
 any-map p view [] = refl
 any-map p view (x ∷ xs) = ap (λ b. p (view x) || b) (any-map p view xs)
+
+-- what is left of a list begins with its next one
+pub drop-step : {X : Type 0} (xs : List X) (i : ℕ) (x : X) → i < length xs → x ≡ get_or xs i x → drop i xs ≡ x ∷ drop (i + 1) xs
+drop-step xs i x within is = rw add-one (drop-cons xs i x within ∙ ap (λ y. y ∷ drop (suc i) xs) (sym is))
 
 -- whether keys are equal, either way round
 pub equal-back : (k l : KeyTree) → is_eq (key_order k l) ≡ is_eq (key_order l k)

@@ -2,8 +2,7 @@
 use Rattle.std.proofs.Common.{Bor, ◌≡◌, ◌∙◌, ◌+◌, ◌<◌, ℕ, zero, suc, take, get_or, add-one, append-nil, append_assoc, List, [], ◌∷◌, ◌++◌, refl, ap, sym, Bool, true, false, cond, ◌||◌, Option, Some, None, filter, length, arith}
 use Rattle.std.specs.List.{list_any, flat_map, AllByRecursion}
 use Rattle.std.specs.List.Sorted.{IsStrictlySortedBy}
-use Rattle.std.specs.declared.cmp.Ordering.{Ordering}
-use Rattle.std.specs.declared.cmp.Ordering.TheVariants.{Less, Equal, Greater}
+use Rattle.std.specs.declared.cmp.Ordering.TheVariants.{Less, Greater}
 use Rattle.std.specs.Ordering.{is_eq, ordering_reverse}
 use Rattle.std.proofs.Common.{map}
 use Rattle.std.proofs.lemmas.Map.Keys.{sorted_head, sorted_tail}

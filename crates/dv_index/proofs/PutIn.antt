@@ -1,5 +1,5 @@
 -- A document with another value comes in place of the one that was found.
-use Rattle.std.proofs.Common.{◌≡◌, ◌∙◌, ℕ, List, [], ◌∷◌, length, arith, Option, Some, IsSome, false, true, codes, ap, sym, subst}
+use Rattle.std.proofs.Common.{◌≡◌, ◌∙◌, ℕ, List, [], ◌∷◌, length, arith, Some, IsSome, false, true, codes, ap, sym, subst}
 use Rattle.std.specs.List.{AllByRecursion}
 use Rattle.std.specs.Str.{bytes_eq}
 use Rattle.dv_bson.specs.Names.{with_value_under}

@@ -1,5 +1,5 @@
 -- What becomes of one document, and that the indexes of a collection have the keys of its documents.
-use Rattle.std.specs.Prelude.{◌≡◌, ℕ, zero, suc, List, [], ◌∷◌, Option, None, Some, IsSome, ⊤}
+use Rattle.std.specs.Prelude.{◌≡◌, ℕ, zero, suc, true, List, [], ◌∷◌, Option, None, Some, IsSome, ⊤}
 use Rattle.std.specs.List.{AllByRecursion}
 use Rattle.dv_bson.specs.Tree.{Field}
 use Rattle.dv_order.specs.Key.{KeyTree}
@@ -58,3 +58,7 @@ AreIndexesOf (x ∷ xs) ds = AllByRecursion (λ y. IsIndexOf y ds) xs
 abbrev pub IsIndexAt : ℕ → IndexTree → List (List Field) → Type 0
 IsIndexAt zero x ds = x.path ≡ id_form.path
 IsIndexAt (suc n) x ds = IsIndexOf x ds
+
+-- of some indexes those that are unique have the keys of the documents
+abbrev pub UniqueAreIndexesOf : List IndexTree → List (List Field) → Type 0
+UniqueAreIndexesOf xs ds = AllByRecursion (λ x. x.unique ≡ true → IsIndexOf x ds) xs

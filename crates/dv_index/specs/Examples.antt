@@ -1,12 +1,12 @@
 -- Worked examples: the keys of a document, by which index a find is answered, and how many documents it covers. Filters and
 -- documents are as they are written.
-use Rattle.std.specs.Prelude.{ℕ, Bool, List, [], ◌∷◌, Option, Result, Ok, codes}
+use Rattle.std.specs.Prelude.{ℕ, Bool, false, List, [], ◌∷◌, Option, Result, Ok, codes}
 use Rattle.dv_bson.specs.Tree.{Tree, Field, fields_of}
 use Rattle.dv_order.specs.Order.{canon}
 use Rattle.dv_order.specs.Key.{value}
 use Rattle.dv_path.specs.LeafKeys.{is_leaf_key}
 use Rattle.dv_match.specs.declared.fault.FilterFault.{FilterFault}
-use Rattle.dv_match.specs.Examples.{int, list, one}
+use Rattle.dv_match.specs.Examples.{int, list}
 use Rattle.dv_match.specs.Parsing.{◌>>=◌, filter_in}
 use Rattle.dv_index.specs.Index.{IndexForm, id_form}
 use Rattle.dv_index.specs.Indexed.{documents_covered, index_chosen}
@@ -17,7 +17,7 @@ has_key_of v path d = is_leaf_key (value (canon v)) path d
 
 -- the indexes on `_id`, on a and on b, made in this order
 abbrev pub three_indexes : List IndexForm
-three_indexes = id_form ∷ record { name = codes "a_1"; path = codes "a" ∷ [] } ∷ record { name = codes "b_1"; path = codes "b" ∷ [] } ∷ []
+three_indexes = id_form ∷ record { name = codes "a_1"; path = codes "a" ∷ []; unique = false } ∷ record { name = codes "b_1"; path = codes "b" ∷ []; unique = false } ∷ []
 
 -- the name of that of them by which a filter is answered, or the fault of what is no filter
 abbrev pub index_for : List Field → Result (Option (List ℕ)) FilterFault

@@ -9,4 +9,5 @@ pub mod Search
 pub mod Interval
 pub mod Indexed
 pub mod Change
+pub mod Unique
 pub mod Examples

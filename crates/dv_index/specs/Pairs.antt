@@ -1,6 +1,6 @@
 -- Indexes as finite sets of pairs: a key, and the key of the `_id` of a document that has it.
-use Rattle.std.specs.Prelude.{◌≡◌, Bool, true, false, List, map, ◌&&◌}
-use Rattle.std.specs.List.{flat_map, list_any}
+use Rattle.std.specs.Prelude.{◌≡◌, Bool, true, false, List, map, not, ◌&&◌}
+use Rattle.std.specs.List.{filter, flat_map, list_any}
 use Rattle.std.specs.Ordering.{is_eq}
 use Rattle.dv_order.specs.Key.{KeyTree, key_order}
 use Rattle.dv_index.specs.Keys.{has_key}
@@ -19,6 +19,18 @@ has_pair k id ps = list_any (is_pair_of k id) ps
 -- whether some of these pairs have an `_id`
 abbrev pub has_id : KeyTree → List Pair → Bool
 has_id id ps = list_any (λ p. is_eq (key_order id p.1)) ps
+
+-- whether a key that passes a test stands under another `_id`
+abbrev pub is_under_another : (KeyTree → Bool) → KeyTree → List Pair → Bool
+is_under_another test id ps = list_any (λ p. test p.0 && not (is_eq (key_order id p.1))) ps
+
+-- whether another `_id` stands under a key, in a pair that isn't gone
+abbrev pub has_another_at : KeyTree → KeyTree → List Pair → List Pair → Bool
+has_another_at k id gone ps = list_any (λ p. is_eq (key_order k p.0) && (not (is_eq (key_order id p.1)) && not (has_pair k p.1 gone))) ps
+
+-- the pairs but those that are gone
+abbrev pub pairs_without : List Pair → List Pair → List Pair
+pairs_without gone ps = filter (λ p. not (has_pair p.0 p.1 gone)) ps
 
 -- the pairs of keys, each with the `_id`s under it
 abbrev pub pairs_of : List (KeyTree × List KeyTree) → List Pair

@@ -1,6 +1,7 @@
 -- What a plan in memory stands for: the place of an index and the condition that bounds its keys, or none, for a scan. And what an index
--- is that isn't made yet.
-use Rattle.std.specs.Prelude.{ℕ, Bool, Option, Some, None}
+-- is that isn't made yet, and what documents there are before and after some are replaced.
+use Rattle.std.specs.Prelude.{ℕ, Bool, List, map, Option, Some, None}
+use Rattle.dv_bson.specs.Tree.{Field}
 use Rattle.dv_bson.specs.View.{tree}
 use Rattle.dv_match.specs.Filter.{Condition, equal, among, in_range}
 use Rattle.dv_index.specs.Choice.{is_point, is_bound}
@@ -12,6 +13,7 @@ use Rattle.dv_index.specs.declared.plan.Plan.{Plan}
 use Rattle.dv_index.specs.declared.plan.Plan.TheVariants as plans
 use Rattle.dv_index.specs.declared.plan.Kind.{Kind}
 use Rattle.dv_index.specs.declared.plan.Kind.TheVariants as kinds
+use Rattle.dv_index.specs.declared.unique.Replacing.{Replacing}
 
 abbrev pub bounds_seen : Bounds → Condition
 bounds_seen (bounds.Equal v) = equal (tree v.now)
@@ -27,4 +29,12 @@ has_kind kinds.Point = is_point
 has_kind kinds.Bound = is_bound
 
 abbrev pub form_of_new : NewIndex → IndexForm
-form_of_new x = record { name = x.name; path = x.path }
+form_of_new x = record { name = x.name; path = x.path; unique = x.unique }
+
+-- the documents that are replaced
+abbrev pub befores : List Replacing → List (List Field)
+befores each = map (λ r. r.before.now) each
+
+-- and those that come in their places
+abbrev pub afters : List Replacing → List (List Field)
+afters each = map (λ r. r.after.now) each

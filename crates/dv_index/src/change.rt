@@ -32,10 +32,10 @@ pub(crate) enum Change<'k> {
 
 /// The keys under a path of a document as it was and as it will be, neither having keys where there is none.
 #[derive(Debug, Drop)]
-struct Moved {
-    id: Key,
-    old: Keys,
-    new: Keys,
+pub(crate) struct Moved {
+    pub(crate) id: Key,
+    pub(crate) old: Keys,
+    pub(crate) new: Keys,
 }
 
 /// Changes one document, and with it the indexes: first the keys that it gains are added to one index after the other,

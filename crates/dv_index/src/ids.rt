@@ -1,10 +1,13 @@
 //! The documents that stand under one key.
 
 ghost use Rattle.std.specs.Prelude.{◌≡◌, ◌||◌, ◌&&◌, ◌↔◌, not, [], ◌∷◌, ◌++◌, map, IsTrue, IfOk, OnErr, OnOk};
+ghost use Rattle.std.specs.List.{list_any};
+ghost use Rattle.std.specs.Option.{option_map};
 ghost use Rattle.std.specs.BTreeSet.{contains};
 ghost use Rattle.std.specs.Ordering.{is_eq};
 ghost use Rattle.dv_order.specs.Key.{KeyTree, key_order};
-ghost use Rattle.dv_index.specs.Ids.{has_first};
+ghost use Rattle.dv_index.specs.Ids.{has_first, has_in};
+ghost use Rattle.dv_index.specs.Ids as defined;
 ghost use Rattle.dv_index.specs.Keys.{has_key};
 
 use dv_bson::NoMemory;
@@ -62,6 +65,17 @@ impl Ids {
         is_first(&self.first, id) || self.others.contains(id)
     }
 
+    /// Whether another one is there that isn't gone.
+    pub(crate) fn has_another(&self, id: &Key, gone: Option<&Ids>) -> bool
+        ensures { result ≡ list_any (defined.is_another id.now (option_map (λ ids. ids.now) gone.entry)) self.now }
+    {
+        let first = match &self.first {
+            Some(first) => is_another(first, id, gone),
+            None => false,
+        };
+        first || has_another_among(&self.others, id, gone)
+    }
+
     /// Whether there is none.
     pub(crate) fn is_empty(&self) -> bool
         ensures { IsTrue result ↔ (self.now ≡ []) }
@@ -113,6 +127,30 @@ impl Ids {
             found.push(first)?;
         }
         add_all_to(found, &self.others)
+    }
+}
+
+/// Whether another one is among these that isn't gone.
+fn has_another_among(ids: &BTreeSet<Key>, id: &Key, gone: Option<&Ids>) -> bool
+    ensures { result ≡ list_any (defined.is_another id.now (option_map (λ ids. ids.now) gone.entry)) ids.now.keys }
+{
+    ids.iter().any(|other| is_another(other, id, gone))
+}
+
+/// Whether one is another than this one, and isn't gone.
+fn is_another(other: &Key, id: &Key, gone: Option<&Ids>) -> bool
+    ensures { result ≡ defined.is_another id.now (option_map (λ ids. ids.now) gone.entry) other.now }
+{
+    id != other && !is_in(gone, other)
+}
+
+/// Whether an equal one is in the set, where there is one.
+fn is_in(ids: Option<&Ids>, id: &Key) -> bool
+    ensures { result ≡ has_in id.now (option_map (λ ids. ids.now) ids.entry) }
+{
+    match ids {
+        Some(ids) => ids.contains(id),
+        None => false,
     }
 }
 

@@ -1,23 +1,25 @@
 //! A collection with its indexes.
 
-ghost use Rattle.std.specs.Prelude.{◌≡◌, ◌↔◌, ◌||◌, ◌&&◌, ◌++◌, ◌∷◌, [], None, List, codes, false, filter as kept, is_some, length, map, take, IfOk, IsErrOf, IsSome, IsTrue, OnErr, OnOk};
+ghost use Rattle.std.specs.Prelude.{◌≡◌, ◌↔◌, ◌||◌, ◌&&◌, ◌++◌, ◌∷◌, [], None, List, codes, false, true, not, filter as kept, is_some, length, map, take, IfOk, IsErrOf, IsSome, IsTrue, OnErr, OnOk};
 ghost use Rattle.std.specs.List.{AllByRecursion, list_any};
 ghost use Rattle.std.specs.Option.{option_map};
 ghost use Rattle.std.specs.Str.{bytes_eq};
 ghost use Rattle.dv_bson.specs.Tree.{Field};
 ghost use Rattle.dv_bson.specs.View.{tree};
-ghost use Rattle.dv_coll.specs.Collection.{HasId, IsAscending, found, id_key, inserted, removed, replaced, with_value_in};
+ghost use Rattle.dv_coll.specs.Collection.{AreStanding, HasId, IsAscending, found, id_key, inserted, removed, replaced, with_value_in};
 ghost use Rattle.dv_match.specs.Match.{matches};
 ghost use Rattle.std.specs.Ordering.{is_eq};
 ghost use Rattle.dv_order.specs.Key.{KeyTree, key_order};
 ghost use Rattle.dv_path.specs.LeafKeys.{is_leaf_key};
 ghost use Rattle.dv_index.specs.Change.{AreIndexesOf, IsChangeOf, IsTaken, documents_after};
 ghost use Rattle.dv_index.specs.Index.{form_of, id_form};
-ghost use Rattle.dv_index.specs.View.{form_of_new, plan_seen};
+ghost use Rattle.dv_index.specs.View.{afters, befores, form_of_new, plan_seen};
 ghost use Rattle.dv_index.specs.Indexed.{empty_indexed, is_dropped, with_documents, with_indexes, without_index};
-ghost use Rattle.dv_index.specs.Pairs.{has_pair};
+ghost use Rattle.dv_index.specs.Pairs.{has_pair, is_under_another};
 ghost use Rattle.dv_index.specs.Search.{IsIndexOf, is_key_under};
+ghost use Rattle.dv_index.specs.Unique.{are_apart, are_broken, is_broken};
 ghost use Rattle.dv_index.specs.Indexed as defined;
+ghost use Rattle.dv_index.specs.Unique as uniqueness;
 
 use crate::change::{Change, key_of_id};
 use crate::coverage::covered;
@@ -26,6 +28,7 @@ use crate::keys::keys_of;
 use crate::multi_index::MultiIndex;
 use crate::plan::{Plan, Planner};
 use crate::search::{run, run_first};
+use crate::unique::{Replacing, clashes, replacing_clashes};
 use dv_bson::{Document, NoMemory, Str, Value};
 use dv_coll::{Collection, InsertFault, Iter, laws};
 use dv_match::Filter;
@@ -198,22 +201,61 @@ impl IndexedCollection {
         Ok(found)
     }
 
-    /// The indexes in the order in which they were made, the one on `_id` first: their names and paths. Takes no memory.
+    /// The indexes in the order in which they were made, the one on `_id` first: their names and paths, and whether they are
+    /// unique. Takes no memory.
     pub fn indexes(&self) -> &[Index]
         ensures { map form_of result.now ≡ self.now.indexes }
     {
         self.indexes.as_slice()
     }
 
+    /// Whether one of the indexes is unique. Takes no memory.
+    pub fn has_unique(&self) -> bool
+        ensures { result ≡ list_any (λ x. x.unique) self.now.indexes }
+    {
+        self.indexes.has_unique()
+    }
+
+    /// Whether the document can't stand among the documents, since another `_id` than its own has one of its keys in a unique
+    /// index. Fails where memory is wanting.
+    pub fn clashes(&self, document: &Document) -> Result<bool, NoMemory>
+        requires { HasId document.now }
+        ensures { IfOk result (λ clash. clash ≡ uniqueness.clashes self.now.indexes document.now self.now.documents) }
+    {
+        clashes(
+            self.alloc,
+            self.indexes.as_slice(),
+            document,
+            &self.documents,
+        )
+    }
+
+    /// Whether one of the documents that come can't stand among the documents, each put in place of the one that it replaces,
+    /// one after the other. Nothing is changed. Fails where memory is wanting for the keys that come and go.
+    pub fn replacing_clashes(&self, each: &[Replacing<'_>]) -> Result<bool, NoMemory>
+        requires standing { AreStanding self.now.documents (befores each.now) }
+        requires same_ids { map id_key (afters each.now) ≡ map id_key (befores each.now) }
+        requires identified { AllByRecursion HasId (afters each.now) }
+        ensures { IfOk result (λ clash. clash ≡ uniqueness.replacing_clashes self.now.indexes (afters each.now) self.now.documents) }
+    {
+        replacing_clashes(self.alloc, self.indexes.as_slice(), each, &self.documents)
+    }
+
     /// Makes indexes, behind the others in this order. That neither the name nor the path of one is there already is for the
-    /// caller to see. Takes time as the keys of all documents want to be put in order. Fails where memory is wanting; then
-    /// none is made.
-    pub fn create_indexes(&mut self, wanted: Vec<NewIndex>) -> Result<(), NoMemory>
+    /// caller to see. Takes time as the keys of all documents want to be put in order. Refused with `Duplicate` where one of
+    /// them is unique and two documents share a key under its path, and with `NoMemory` where memory is wanting; then none is
+    /// made.
+    pub fn create_indexes(&mut self, wanted: Vec<NewIndex>) -> Result<(), InsertFault>
         ensures ok { OnOk result (self.new ≡ with_indexes (self.old.indexes ++ map form_of_new wanted.items) self.old) }
         ensures err { OnErr result (self.new ≡ self.old) }
+
+        // No unique index is made that two documents break, and none refused as a duplicate that they don't.
+        ensures sound { OnOk result (are_broken (map form_of_new wanted.items) self.old.documents ≡ false) }
+        ensures duplicate { IsErrOf result InsertFault.Duplicate → are_broken (map form_of_new wanted.items) self.old.documents ≡ true }
     {
         let made = indexes_over(self.alloc, wanted, &self.documents)?;
-        self.indexes.append(made)
+        self.indexes.append(made)?;
+        Ok(())
     }
 
     /// Takes out the index of a name, but never the one on `_id`, and answers whether there is one. Takes no memory.
@@ -291,14 +333,17 @@ fn are_only_id(indexes: &Indexes) -> bool
     indexes.as_slice().len() == 1
 }
 
-/// Indexes over all documents, in the order in which they are wanted. Fails where memory is wanting.
+/// Indexes over all documents, in the order in which they are wanted. Refused with `Duplicate` where one is unique and two
+/// documents share a key under its path, and with `NoMemory` where memory is wanting.
 fn indexes_over(
     alloc: Global,
     wanted: Vec<NewIndex>,
     documents: &Collection,
-) -> Result<Vec<Index>, NoMemory>
+) -> Result<Vec<Index>, InsertFault>
     ensures forms { IfOk result (λ made. map form_of made.items ≡ map form_of_new wanted.items) }
     ensures indexes { IfOk result (λ made. AllByRecursion (λ x. IsIndexOf x documents.now) made.items) }
+    ensures sound { OnOk result (are_broken (map form_of_new wanted.items) documents.now ≡ false) }
+    ensures duplicate { IsErrOf result InsertFault.Duplicate → are_broken (map form_of_new wanted.items) documents.now ≡ true }
 {
     let mut made = Vec::with_capacity(alloc, wanted.len())?;
     'wanted: for index in wanted {
@@ -307,41 +352,60 @@ fn indexes_over(
     Ok(made)
 }
 
-/// An index over all documents. Fails where memory is wanting.
-fn index_over(alloc: Global, wanted: NewIndex, documents: &Collection) -> Result<Index, NoMemory>
+/// An index over all documents. Refused as they are.
+fn index_over(alloc: Global, wanted: NewIndex, documents: &Collection) -> Result<Index, InsertFault>
     ensures form { IfOk result (λ index. form_of index ≡ form_of_new wanted) }
     ensures index { IfOk result (λ index. IsIndexOf index documents.now) }
+    ensures sound { OnOk result (is_broken (form_of_new wanted) documents.now ≡ false) }
+    ensures duplicate { IsErrOf result InsertFault.Duplicate → is_broken (form_of_new wanted) documents.now ≡ true }
 {
-    let NewIndex { name, path } = wanted;
-    let pairs = pairs_of(alloc, &path, documents)?;
-    Ok(Index::of(name, path, pairs))
+    let NewIndex { name, path, unique } = wanted;
+    let pairs = pairs_of(alloc, &path, unique, documents)?;
+    Ok(Index::of(name, path, unique, pairs))
 }
 
-/// The pairs of the keys of all documents under a path, each with its document's `_id`. Fails where memory is wanting.
-fn pairs_of(alloc: Global, path: &Path, documents: &Collection) -> Result<MultiIndex, NoMemory>
-    ensures { IfOk result (λ pairs. (k id : KeyTree) → has_pair k id pairs ≡ is_key_under k path.now (found id documents.now)) }
+/// The pairs of the keys of all documents under a path, each with its document's `_id`. Refused with `Duplicate` where they
+/// are those of a unique index and two documents share a key, and with `NoMemory` where memory is wanting.
+fn pairs_of(
+    alloc: Global,
+    path: &Path,
+    unique: bool,
+    documents: &Collection,
+) -> Result<MultiIndex, InsertFault>
+    ensures pairs { IfOk result (λ pairs. (k id : KeyTree) → has_pair k id pairs ≡ is_key_under k path.now (found id documents.now)) }
+    ensures sound { OnOk result ((unique && not (are_apart path.now documents.now)) ≡ false) }
+    ensures duplicate { IsErrOf result InsertFault.Duplicate → (unique && not (are_apart path.now documents.now)) ≡ true }
 {
     let mut pairs = MultiIndex::new(alloc);
     for document in documents.iter() {
-        add_keys(alloc, &mut pairs, path, document)?;
+        add_keys(alloc, &mut pairs, path, unique, document)?;
     }
     Ok(pairs)
 }
 
-/// Adds the pairs of the keys of a document that has none yet. Where memory is wanting, the pairs are those that there were.
+/// Adds the pairs of the keys of a document that has none yet. Refused with `Duplicate` where the pairs are those of a unique
+/// index and one of the keys stands under another `_id`, and with `NoMemory` where memory is wanting; then the pairs are
+/// those that there were.
 fn add_keys(
     alloc: Global,
     pairs: &mut MultiIndex,
     path: &Path,
+    unique: bool,
     document: &Document,
-) -> Result<(), NoMemory>
+) -> Result<(), InsertFault>
     requires identified { HasId document.now }
     requires first { (k : KeyTree) → has_pair k (id_key document.now) pairs.old ≡ false }
-    ensures { OnOk result ((k i : KeyTree) → has_pair k i pairs.new ≡ (has_pair k i pairs.old || (is_eq (key_order i (id_key document.now)) && is_leaf_key k path.now document.now))) }
+    ensures ok { OnOk result ((k i : KeyTree) → has_pair k i pairs.new ≡ (has_pair k i pairs.old || (is_eq (key_order i (id_key document.now)) && is_leaf_key k path.now document.now))) }
+    ensures free { OnOk result ((unique && is_under_another (λ k. is_leaf_key k path.now document.now) (id_key document.now) pairs.old) ≡ false) }
+    ensures duplicate { IsErrOf result InsertFault.Duplicate → (unique && is_under_another (λ k. is_leaf_key k path.now document.now) (id_key document.now) pairs.old) ≡ true }
 {
     let id = key_of_id(document)?;
     let keys = keys_of(alloc, path, document)?;
-    pairs.add_first(&keys, &id)
+    if unique && pairs.clash(&keys, &id) {
+        return Err(InsertFault::Duplicate);
+    }
+    pairs.add_first(&keys, &id)?;
+    Ok(())
 }
 
 /// The name of the index of a plan.

@@ -24,11 +24,13 @@ use std::marker::Model;
 /// The name of the index that every collection has, which is on `_id`.
 const ID_INDEX: &str = "_id_";
 
-/// An index: its name, its path, and the pairs of a key under the path and the key of the `_id` of a document that has it.
+/// An index: its name, its path, whether it is unique, and the pairs of a key under the path and the key of the `_id` of a
+/// document that has it.
 #[derive(Debug, Drop)]
 pub struct Index {
     name: Str,
     path: Path,
+    unique: bool,
     pairs: MultiIndex,
 }
 
@@ -39,15 +41,20 @@ impl Model for Index {
 
     ghost coded = { coded_index };
 
-    ghost view = { λ i. record { name = i.name; path = i.path; pairs = i.pairs } };
+    ghost view = { λ i. record { name = i.name; path = i.path; unique = i.unique; pairs = i.pairs } };
 }
 
 impl Index {
-    /// The index with this name, this path and these pairs. Takes no memory.
-    pub fn of(name: Str, path: Path, pairs: MultiIndex) -> Self
-        ensures { result ≡ record { name = name; path = path; pairs = pairs } }
+    /// The index with this name, this path and these pairs, `unique` or not. Takes no memory.
+    pub fn of(name: Str, path: Path, unique: bool, pairs: MultiIndex) -> Self
+        ensures { result ≡ record { name = name; path = path; unique = unique; pairs = pairs } }
     {
-        Index { name, path, pairs }
+        Index {
+            name,
+            path,
+            unique,
+            pairs,
+        }
     }
 
     /// The name.
@@ -62,6 +69,13 @@ impl Index {
         ensures { result.now ≡ self.now.path }
     {
         &self.path
+    }
+
+    /// Whether no key of it is to stand in two documents.
+    pub fn is_unique(&self) -> bool
+        ensures { result ≡ self.now.unique }
+    {
+        self.unique
     }
 
     /// The pairs. The index on `_id` has none: the documents themselves stand in the order of their `_id`s.
@@ -94,11 +108,12 @@ impl Index {
     }
 }
 
-/// An index that isn't made yet: its name and its path.
+/// An index that isn't made yet: its name, its path, and whether no key of it is to stand in two documents.
 #[derive(Debug, Drop)]
 pub struct NewIndex {
     pub name: Str,
     pub path: Path,
+    pub unique: bool,
 }
 
 /// The indexes of a collection in creation order, the one on `_id` first.
@@ -130,6 +145,7 @@ impl Indexes {
         indexes.push(Index {
             name: Str::of(String::from_str(alloc, ID_INDEX)?),
             path: id_path(alloc)?,
+            unique: false,
             pairs: MultiIndex::new(alloc),
         })?;
         Ok(Indexes { indexes })
@@ -149,6 +165,13 @@ impl Indexes {
         ensures id_first { BeginsWithId self.now }
     {
         self.indexes.as_slice()
+    }
+
+    /// Whether one of them is unique. Takes no memory.
+    pub fn has_unique(&self) -> bool
+        ensures { result ≡ list_any (λ x. x.unique) (map form_of self.now) }
+    {
+        has_unique(self.indexes.as_slice())
     }
 
     /// Puts indexes behind the others. Where memory is wanting, nothing changes, and they are dropped.
@@ -241,6 +264,12 @@ fn goes(index: &Index, name: &str) -> bool
     ensures { result ≡ is_dropped name.now (form_of index.now) }
 {
     index.name() == name && index.name() != ID_INDEX
+}
+
+fn has_unique(indexes: &[Index]) -> bool
+    ensures { result ≡ list_any (λ x. (form_of x).unique) indexes.now }
+{
+    indexes.iter().any(|index| index.is_unique())
 }
 
 fn has_dropped(indexes: &[Index], name: &str) -> bool

@@ -1,10 +1,11 @@
 //! What holds of indexes and of the finds that they answer, each the contract of a function that does nothing.
 
-ghost use Rattle.std.specs.Prelude.{◌≡◌, ◌↔◌, ◌≤◌, ◌++◌, ◌∷◌, [], ℕ, pos, false, true, codes, filter as kept, length, slice_get, List, None, Ok, Some};
+ghost use Rattle.std.specs.Prelude.{◌≡◌, ◌↔◌, ◌≤◌, ◌||◌, ◌++◌, ◌∷◌, [], ℕ, pos, Bool, false, true, codes, filter as kept, length, slice_get, List, IsSome, None, Ok, Some};
 ghost use Rattle.std.specs.List.{list_any};
 ghost use Rattle.std.specs.Ordering.{is_eq};
 ghost use Rattle.std.specs.Str.{bytes_eq};
 ghost use Rattle.dv_bson.specs.Tree.{Field, Tree, int64, null};
+ghost use Rattle.dv_coll.specs.Collection.{IsAscending, found, id_key, inserted, removed, replaced};
 ghost use Rattle.dv_match.specs.Examples.{doc, int, list, one};
 ghost use Rattle.dv_match.specs.Filter.{Condition, Members};
 ghost use Rattle.dv_match.specs.Match.{matches};
@@ -18,6 +19,7 @@ ghost use Rattle.dv_index.specs.Indexed.{IndexedTree, documents_covered, without
 ghost use Rattle.dv_index.specs.Interval.{is_in_all};
 ghost use Rattle.dv_index.specs.Pairs.{has_pair};
 ghost use Rattle.dv_index.specs.Search.{IsIndexOf, covers, has_within};
+ghost use Rattle.dv_index.specs.Unique.{are_broken, clashes};
 
 /// A filter is answered by an index that is there, and what matches it has a leaf in the bounds: by no index is a document
 /// missed.
@@ -60,8 +62,43 @@ pub fn an_index_made_anew_is_the_same()
 /// An index that is made and dropped leaves the others as they were, and the one on `_id` never goes.
 #[tactic(auto, using(crate::proofs::Built::none_dropped))]
 pub fn indexes_come_and_go()
-    ensures others { (name : List ℕ) (path : List (List ℕ)) (xs : List IndexForm) → bytes_eq name id_form.name ≡ false → list_any (λ x. bytes_eq x.name name) xs ≡ false → without_index name (xs ++ record { name = name; path = path } ∷ []) ≡ xs }
+    ensures others { (name : List ℕ) (path : List (List ℕ)) (unique : Bool) (xs : List IndexForm) → bytes_eq name id_form.name ≡ false → list_any (λ x. bytes_eq x.name name) xs ≡ false → without_index name (xs ++ record { name = name; path = path; unique = unique } ∷ []) ≡ xs }
     ensures on_id { (xs : List IndexForm) → without_index id_form.name xs ≡ xs }
+{}
+
+/// A document that is inserted where it clashes with none breaks no unique index.
+#[tactic(auto, using(crate::proofs::Apart::insert_breaks_nothing))]
+pub fn an_insert_without_a_clash_breaks_nothing()
+    ensures { (indexes : List IndexForm) (d : List Field) (ds : List (List Field)) → IsAscending ds → found (id_key d) ds ≡ None → are_broken indexes ds ≡ false → clashes indexes d ds ≡ false → are_broken indexes (inserted d ds) ≡ false }
+{}
+
+/// Nor does one that is put in place of another.
+#[tactic(auto, using(crate::proofs::Apart::replacement_breaks_nothing))]
+pub fn a_replacement_without_a_clash_breaks_nothing()
+    ensures { (indexes : List IndexForm) (d : List Field) (ds : List (List Field)) → IsAscending ds → IsSome (found (id_key d) ds) → are_broken indexes ds ≡ false → clashes indexes d ds ≡ false → are_broken indexes (replaced d ds) ≡ false }
+{}
+
+/// A document that is taken out breaks none.
+pub fn a_removal_breaks_nothing()
+    ensures { (indexes : List IndexForm) (k : KeyTree) (ds : List (List Field)) → are_broken indexes ds ≡ false → are_broken indexes (removed k ds) ≡ false }
+{}
+
+/// Without documents none is broken.
+#[tactic(auto, using(crate::proofs::Apart::nothing_broken))]
+pub fn nothing_is_broken_by_no_document()
+    ensures { (indexes : List IndexForm) → are_broken indexes [] ≡ false }
+{}
+
+/// Of indexes none of which is broken, none of some of them is.
+#[tactic(auto, using(crate::proofs::Apart::fewer_break))]
+pub fn fewer_indexes_break_no_more()
+    ensures { (p : IndexForm → Bool) (indexes : List IndexForm) (ds : List (List Field)) → are_broken indexes ds ≡ false → are_broken (kept p indexes) ds ≡ false }
+{}
+
+/// One of some indexes and of others is broken where one of the ones is, or one of the others.
+#[tactic(auto, using(crate::proofs::Apart::one_by_one))]
+pub fn indexes_break_one_by_one()
+    ensures { (xs ys : List IndexForm) (ds : List (List Field)) → are_broken (xs ++ ys) ds ≡ (are_broken xs ds || are_broken ys ds) }
 {}
 
 /// The keys of a document: those of what a path leads to, an array being one beside its elements, and null for what is

@@ -14,6 +14,7 @@ mod multi_index;
 mod pairs;
 mod plan;
 mod search;
+mod unique;
 
 pub use coverage::covered;
 pub use indexed::{Explanation, IndexedCollection};
@@ -22,3 +23,4 @@ pub use keys::{Keys, keys_of};
 pub use multi_index::MultiIndex;
 pub use plan::{Bounds, Plan, Planner, same_path};
 pub use search::run;
+pub use unique::Replacing;

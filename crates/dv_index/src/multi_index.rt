@@ -6,7 +6,7 @@ ghost use Rattle.std.specs.BTreeMap.Range.{IsLeBy, IsLtBy};
 ghost use Rattle.std.specs.Range.Bound.{IsForward};
 ghost use Rattle.dv_order.specs.Key.{KeyTree, key_order};
 ghost use Rattle.dv_index.specs.Keys.{has_key};
-ghost use Rattle.dv_index.specs.Pairs.{IsOnlyKey, has_pair};
+ghost use Rattle.dv_index.specs.Pairs.{IsOnlyKey, has_pair, is_under_another};
 
 use crate::ids::Ids;
 use crate::keys::Keys;
@@ -117,6 +117,13 @@ impl MultiIndex {
         }
         self.pairs.take_out_each(keys, id);
         self.settle(id, left);
+    }
+
+    /// Whether one of the keys stands under another `_id`. Takes no memory.
+    pub fn clash(&self, keys: &Keys, id: &Key) -> bool
+        ensures { result ≡ is_under_another (λ k. has_key k keys.now) id.now self.now }
+    {
+        self.pairs.clash(keys, id)
     }
 
     /// A copy of its own. Fails where memory is wanting.

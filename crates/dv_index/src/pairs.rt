@@ -1,6 +1,7 @@
 //! Sets of pairs of a key and an `_id`, by which the documents are found that have a key.
 
 ghost use Rattle.std.specs.Prelude.{◌≡◌, ◌||◌, ◌&&◌, true, false, not, [], map, filter, OnErr, OnOk, IfOk};
+ghost use Rattle.std.specs.List.{list_any};
 ghost use Rattle.std.specs.List.Sorted.{IsStrictlySortedBy};
 ghost use Rattle.std.specs.Map.{keys_of};
 ghost use Rattle.std.specs.Ordering.{is_eq};
@@ -8,7 +9,7 @@ ghost use Rattle.std.specs.BTreeMap.Range.{IsLeBy, IsLtBy, range_contains};
 ghost use Rattle.std.specs.Range.Bound.{IsForward};
 ghost use Rattle.dv_order.specs.Key.{KeyTree, key_order};
 ghost use Rattle.dv_index.specs.Keys.{has_key};
-ghost use Rattle.dv_index.specs.Pairs.{has_id, has_pair};
+ghost use Rattle.dv_index.specs.Pairs.{has_another_at, has_id, has_pair, is_under_another};
 
 use crate::ids::Ids;
 use crate::keys::Keys;
@@ -88,6 +89,32 @@ impl Pairs {
         }
     }
 
+    /// Whether one of the keys stands under another `_id`. Takes no memory.
+    pub(crate) fn clash(&self, keys: &Keys, id: &Key) -> bool
+        ensures { result ≡ is_under_another (λ k. has_key k keys.now) id.now self.now }
+    {
+        self.clash_without(&Pairs::new(self.alloc), keys, id)
+    }
+
+    /// Whether one of the keys stands under another `_id` in a pair that isn't gone. Takes no memory.
+    pub(crate) fn clash_without(&self, gone: &Pairs, keys: &Keys, id: &Key) -> bool
+        ensures { result ≡ list_any (λ k. has_another_at k id.now gone.now self.now) keys.now }
+    {
+        keys.as_set()
+            .iter()
+            .any(|key| self.has_another(key, id, gone))
+    }
+
+    /// Whether another `_id` stands under the key, in a pair that isn't gone.
+    fn has_another(&self, key: &Key, id: &Key, gone: &Pairs) -> bool
+        ensures { result ≡ has_another_at key.now id.now gone.now self.now }
+    {
+        match self.entries.get(key) {
+            Some(ids) => ids.has_another(id, gone.entries.get(key)),
+            None => false,
+        }
+    }
+
     /// A copy of its own. Fails where memory is wanting.
     pub(crate) fn try_clone(&self) -> Result<Self, NoMemory>
         ensures { IfOk result (λ copy. copy ≡ self.now) }
@@ -164,7 +191,7 @@ impl Pairs {
     }
 
     /// Adds a pair for each key. Where memory is wanting, some of them are added.
-    fn add_each(&mut self, keys: &[&Key], id: &Key) -> Result<(), NoMemory>
+    pub(crate) fn add_each(&mut self, keys: &[&Key], id: &Key) -> Result<(), NoMemory>
         ensures ok { OnOk result ((k i : KeyTree) → has_pair k i self.new ≡ (has_pair k i self.old || (has_key k (map (λ l. l.now) keys.now) && is_eq (key_order i id.now)))) }
         ensures err { OnErr result ((k i : KeyTree) → (has_pair k i self.new && not (has_key k (map (λ l. l.now) keys.now) && is_eq (key_order i id.now))) ≡ (has_pair k i self.old && not (has_key k (map (λ l. l.now) keys.now) && is_eq (key_order i id.now)))) }
     {

@@ -1,10 +1,4 @@
-use Rattle.std.proofs.Common.{◌≡◌, ◌∙◌, ◌||◌, ◌&&◌, Bool, true, false, ap, refl}
-use Rattle.std.proofs.lemmas.Result.{on_ok_weaker}
-use Rattle.std.specs.Ordering.{is_eq}
-use Rattle.dv_coll.specs.Collection.{id_key}
-use Rattle.dv_order.specs.Key.{key_order}
-use Rattle.dv_path.specs.LeafKeys.{is_leaf_key}
-use Rattle.dv_index.specs.Keys.{has_key}
+use Rattle.std.proofs.Common.{◌≡◌, ◌∙◌, ◌&&◌, Bool, true, false, ap, refl}
 use Rattle.dv_index.specs.Pairs.{has_pair}
 use Rattle.dv_index.proofs.indexed.add_keys.Goals as goal
 
@@ -16,11 +10,3 @@ swapped false false = refl
 
 pub add_first-requires : goal.add_first-requires
 add_first-requires c = λ k. ap (λ l. has_pair k l c.args.pairs.now) c.in_ok-id.ensures ∙ c.requires.first k
-
-pub returns : goal.returns
-returns c = on_ok_weaker c.add_first.result (λ known k i.
-    let was = has_pair k i c.args.pairs.now in
-    known k i
-    ∙ ap (λ l. was || (has_key k c.in_ok-keys.keys && is_eq (key_order i l))) c.in_ok-id.ensures
-    ∙ ap (λ b. was || (b && is_eq (key_order i (id_key c.args.document.now)))) (c.in_ok-keys.ensures k)
-    ∙ ap (λ b. was || b) (swapped (is_leaf_key k c.args.path.now c.args.document.now) (is_eq (key_order i (id_key c.args.document.now))))) c.add_first.ensures.ok

@@ -1,4 +1,4 @@
-use Rattle.std.proofs.Common.{Bor, ◌≡◌, true, map, take}
+use Rattle.std.proofs.Common.{◌≡◌, true, map, take}
 use Rattle.dv_order.specs.Key.{KeyTree}
 use Rattle.dv_index.specs.Keys.{has_key}
 use Rattle.dv_index.specs.Pairs.{has_pair}

@@ -1,6 +1,5 @@
 use Rattle.std.proofs.Common.{◌∙◌, map, ap, filter}
 use Rattle.std.proofs.lemmas.Result.{IfOk-weaker}
-use Rattle.dv_bson.specs.Tree.{Field}
 use Rattle.dv_coll.specs.Collection.{id_key}
 use Rattle.dv_index.specs.Keys.{has_key}
 use Rattle.dv_index.proofs.Ordered.{now}

@@ -1,6 +1,5 @@
-use Rattle.std.proofs.Common.{Bor, ◌∙◌, ◌++◌, List, map, ap, sym, filter, take_all}
+use Rattle.std.proofs.Common.{◌∙◌, ◌++◌, map, ap, sym, filter, take_all}
 use Rattle.std.specs.Ordering.{is_eq}
-use Rattle.dv_bson.specs.Tree.{Field}
 use Rattle.dv_coll.specs.Collection.{id_key}
 use Rattle.dv_order.specs.Key.{key_order}
 use Rattle.dv_index.proofs.Ordered.{now}

@@ -1,7 +1,6 @@
-use Rattle.std.proofs.Common.{◌≡◌, ◌≤◌, ◌∙◌, List, ap, sym, filter, length, map, take}
+use Rattle.std.proofs.Common.{◌∙◌, ap, filter, length, take}
 use Rattle.std.proofs.lemmas.List.{take_all}
 use Rattle.std.proofs.lemmas.Result.{IfOk-weaker}
-use Rattle.dv_bson.specs.Tree.{Field}
 use Rattle.dv_match.specs.Match.{matches}
 use Rattle.dv_index.proofs.Lists.{length-kept}
 use Rattle.dv_index.proofs.search.run.Goals as goal

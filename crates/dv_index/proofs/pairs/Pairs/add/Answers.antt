@@ -1,8 +1,6 @@
-use Rattle.std.proofs.Common.{Bor, ◌∙◌, ◌&&◌, not, ap, map, sym}
+use Rattle.std.proofs.Common.{Bor, ◌∙◌, ap, map}
 use Rattle.std.proofs.lemmas.Result.{on_ok_weaker}
 use Rattle.dv_order.specs.Key.{KeyTree}
-use Rattle.dv_index.specs.Keys.{has_key}
-use Rattle.dv_index.specs.Pairs.{has_pair}
 use Rattle.dv_index.proofs.Several.{added-fresh, fresh-absent}
 use Rattle.dv_index.proofs.pairs.Pairs.add.Goals as goal
 

@@ -4,7 +4,8 @@ use Rattle.std.proofs.lemmas.Result.{on_ok_weaker}
 use Rattle.dv_order.specs.Key.{KeyTree}
 use Rattle.dv_index.specs.Keys.{has_key}
 use Rattle.dv_index.specs.Pairs.{has_pair}
-use Rattle.dv_index.proofs.Entries.{has_in, pair-found}
+use Rattle.dv_index.specs.Ids.{has_in}
+use Rattle.dv_index.proofs.Entries.{pair-found}
 use Rattle.dv_index.proofs.Lists.{or-false}
 use Rattle.dv_index.proofs.pairs.Pairs.add_ids_at.Goals as goal
 

@@ -3,7 +3,8 @@ use Rattle.std.proofs.lemmas.Result.{on_ok_weaker, on_err_weaker}
 use Rattle.std.specs.Ordering.{is_eq}
 use Rattle.dv_order.specs.Key.{key_order}
 use Rattle.dv_index.specs.Pairs.{has_pair}
-use Rattle.dv_index.proofs.Entries.{has_in, pair-found, pair-kept, pair-written}
+use Rattle.dv_index.specs.Ids.{has_in}
+use Rattle.dv_index.proofs.Entries.{pair-found, pair-kept, pair-written}
 use Rattle.dv_index.proofs.pairs.Pairs.add_pair.Goals as goal
 
 pub add_key-requires : goal.add_key-requires

@@ -1,6 +1,7 @@
 use Rattle.std.proofs.Common.{◌∙◌, ap, sym}
 use Rattle.dv_index.specs.Pairs.{has_pair}
-use Rattle.dv_index.proofs.Entries.{has_in, pair-found}
+use Rattle.dv_index.specs.Ids.{has_in}
+use Rattle.dv_index.proofs.Entries.{pair-found}
 use Rattle.dv_index.proofs.pairs.Pairs.has.Goals as goal
 
 pub returns-in-Some : goal.returns-in-Some

@@ -1,0 +1,13 @@
+use Rattle.std.proofs.Common.{◌≡◌, drop, map}
+use Rattle.dv_index.specs.Change.{UniqueAreIndexesOf}
+use Rattle.dv_index.specs.Index.{form_of}
+use Rattle.dv_index.specs.View.{afters}
+use Rattle.dv_index.specs.Unique as defined
+use Rattle.dv_index.proofs.unique.replacing_clashes.Given as goal
+
+-- whether one clashes in one of those that are left is whether one does in any
+abbrev pub invariant-indexes : goal.invariant-indexes
+invariant-indexes l = record {
+  whole : defined.replacing_clashes (map form_of (drop l.index-index l.indexes)) (afters l.each) l.documents ≡ defined.replacing_clashes (map form_of l.indexes) (afters l.each) l.documents;
+  indexed : UniqueAreIndexesOf (drop l.index-index l.indexes) l.documents;
+}

@@ -1,0 +1,41 @@
+-- Unique indexes (MongoDB manual, "Unique Indexes"): no key of such an index stands in two documents. The keys of a document are those of
+-- its leaves, a whole array being one as well as its elements; that Missing counts as null there, so that one document alone may lack the
+-- path, is the manual's too ("Unique Index and Missing Field").
+use Rattle.std.specs.Prelude.{ℕ, ◌&&◌, ◌||◌, not, Bool, true, false, List, [], ◌∷◌}
+use Rattle.std.specs.List.{list_any}
+use Rattle.dv_bson.specs.Tree.{Field}
+use Rattle.dv_order.specs.Order.{canon}
+use Rattle.dv_order.specs.Key.{value}
+use Rattle.dv_path.specs.LeafKeys.{is_leaf_key, leaf_values}
+use Rattle.dv_coll.specs.Collection.{has_key, id_key, replaced}
+use Rattle.dv_index.specs.Index.{IndexForm}
+
+-- whether two documents share a key under a path
+unfoldable pub share_key : List (List ℕ) → List Field → List Field → Bool
+share_key path d e = list_any (λ v. is_leaf_key (value (canon v)) path e) (leaf_values path d)
+
+-- whether a document under another `_id` than d's has a key of d
+abbrev pub is_key_taken : List (List ℕ) → List Field → List (List Field) → Bool
+is_key_taken path d documents = list_any (λ e. not (has_key (id_key d) e) && share_key path d e) documents
+
+-- whether d can't stand among documents, for a unique index
+abbrev pub clashes : List IndexForm → List Field → List (List Field) → Bool
+clashes indexes d documents = list_any (λ x. x.unique && is_key_taken x.path d documents) indexes
+
+-- whether one of these can't, each put in place of the document that has its `_id`, one after the other
+abbrev pub replacing_clashes : List IndexForm → List (List Field) → List (List Field) → Bool
+replacing_clashes indexes [] documents = false
+replacing_clashes indexes (d ∷ ds) documents = clashes indexes d documents || replacing_clashes indexes ds (replaced d documents)
+
+-- whether no two of some documents share a key under a path
+abbrev pub are_apart : List (List ℕ) → List (List Field) → Bool
+are_apart path [] = true
+are_apart path (d ∷ ds) = not (list_any (share_key path d) ds) && are_apart path ds
+
+-- whether an index is unique, and two of some documents share a key under its path
+abbrev pub is_broken : IndexForm → List (List Field) → Bool
+is_broken x documents = x.unique && not (are_apart x.path documents)
+
+-- whether one of the indexes is
+abbrev pub are_broken : List IndexForm → List (List Field) → Bool
+are_broken indexes documents = list_any (λ x. is_broken x documents) indexes
