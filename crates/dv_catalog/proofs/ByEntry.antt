@@ -1,14 +1,21 @@
 -- Indexes that are made, entry by entry, and dropped.
-use Rattle.std.proofs.Common.{◌≡◌, ◌++◌, ◌||◌, not, ℕ, Bool, true, false, if◌then◌else◌, List, [], ◌∷◌, map, codes, Result, Ok, Err, refl, ap, ◌∙◌}
+use Rattle.std.proofs.Common.{◌≡◌, ◌⊎◌, inl, inr, ◌++◌, ◌||◌, not, nat_lt, ℕ, Bool, true, false, if◌then◌else◌, List, [], ◌∷◌, length, map, codes, Result, Ok, Err, IsErrOf, refl, sym, ap, ◌∙◌}
+use Rattle.std.proofs.Math.Seq.{drop-append_seam}
 use Rattle.std.proofs.lemmas.List.Folds.{list_any-append}
 use Rattle.std.specs.List.{list_any}
 use Rattle.std.specs.Str.{bytes_eq}
+use Rattle.dv_coll.specs.declared.fault.InsertFault.{InsertFault}
+use Rattle.dv_coll.specs.declared.fault.InsertFault.TheVariants.{Duplicate, NoMemory}
 use Rattle.dv_fields.specs.declared.refusal.Refusal.{Refusal}
-use Rattle.dv_fields.specs.declared.refusal.Refusal.TheVariants.{BadValue, IndexNotFound}
-use Rattle.dv_fields.specs.Refusals.{◌>>=◌}
+use Rattle.dv_fields.specs.declared.refusal.Refusal.TheVariants.{BadValue, DuplicateKey, IndexNotFound, LimitReached, WantOfMemory}
+use Rattle.dv_fields.specs.Refusals.{◌>>=◌, insert_refusal}
 use Rattle.dv_index.specs.Index.{IndexForm, id_form}
 use Rattle.dv_index.specs.Indexed.{is_dropped, without_index}
-use Rattle.dv_catalog.specs.IndexMaking.{with_entries, within_limit, with_all, without_named}
+use Rattle.dv_index.specs.Unique.{are_broken}
+use Rattle.dv_catalog.specs.IndexMaking.{index_limit, unless_broken, with_all, with_entries, within_limit, without_named}
+use Rattle.dv_catalog.specs.IndexParts.{collection_so}
+use Rattle.dv_catalog.specs.Parts.{Leaves}
+use Rattle.dv_catalog.specs.State.{Collection}
 
 pub any_seen : {X : Type 0} (test : IndexForm → Bool) (form : X → IndexForm) (xs : List X) → list_any test (map form xs) ≡ list_any (λ x. test (form x)) xs
 any_seen test form [] = refl
@@ -20,8 +27,32 @@ any_parts test form there others = list_any-append test (map form there) others 
 
 -- ---- all entries
 
-pub none_made : (entries indexes : List IndexForm) (refusal : Refusal) → with_entries entries indexes ≡ Err refusal → with_all entries indexes ≡ Err refusal
-none_made entries indexes refusal refused = ap (λ (r : Result (List IndexForm) Refusal). r >>= within_limit) refused
+-- where these come behind those that are there
+module _ (entries more : List IndexForm) (c : Collection) (come : with_entries entries c.indexes ≡ Ok (c.indexes ++ more)) where
+  limited_by : (b : Bool) → nat_lt index_limit (length (c.indexes ++ more)) ≡ b → with_all entries c ≡ ((if b then Err LimitReached else Ok (c.indexes ++ more)) >>= unless_broken c)
+  limited_by b is = ap (λ (r : Result (List IndexForm) Refusal). r >>= within_limit >>= unless_broken c) come ∙ ap (λ (x : Bool). (if x then Err LimitReached else Ok (c.indexes ++ more)) >>= unless_broken c) is
+
+  broken_by : (b : Bool) → are_broken more c.documents ≡ b → unless_broken c (c.indexes ++ more) ≡ (if b then Err DuplicateKey else Ok (c.indexes ++ more))
+  broken_by b is =
+      ap (λ (xs : List IndexForm). if are_broken xs c.documents then Err DuplicateKey else Ok (c.indexes ++ more)) (drop-append_seam c.indexes more) ∙ ap (λ (x : Bool). if x then Err DuplicateKey else Ok (c.indexes ++ more)) is
+
+  pub over_limit : nat_lt index_limit (length (c.indexes ++ more)) ≡ true → with_all entries c ≡ Err LimitReached
+  over_limit over = limited_by true over
+
+  pub none_made : nat_lt index_limit (length (c.indexes ++ more)) ≡ false → are_broken more c.documents ≡ true → with_all entries c ≡ Err DuplicateKey
+  none_made within broken = limited_by false within ∙ broken_by true broken
+
+  pub all_made : nat_lt index_limit (length (c.indexes ++ more)) ≡ false → are_broken more c.documents ≡ false → with_all entries c ≡ Ok (c.indexes ++ more)
+  all_made within whole = limited_by false within ∙ broken_by false whole
+
+  -- where the collection doesn't make them
+  pub not_made : {B : Type 0} → nat_lt index_limit (length (c.indexes ++ more)) ≡ false → (fault : InsertFault) (result : Result B Refusal) (refusal : Refusal) (new : Collection) → result ≡ Err refusal → refusal ≡ insert_refusal fault
+      → (IsErrOf {T = Unit {0}} (Err fault) Duplicate → are_broken more c.documents ≡ true) → new ≡ c → Leaves (collection_so c (with_all entries c)) c result new
+  not_made within fault result refusal new is from broken same = rw is (by_fault fault from broken, same)
+    where
+      by_fault : (fault : InsertFault) → refusal ≡ insert_refusal fault → (IsErrOf {T = Unit {0}} (Err fault) Duplicate → are_broken more c.documents ≡ true) → (collection_so c (with_all entries c) ≡ Err refusal) ⊎ (refusal ≡ WantOfMemory)
+      by_fault Duplicate from broken = inl (ap (collection_so c) (none_made within (broken refl)) ∙ ap Err (sym from))
+      by_fault NoMemory from broken = inr from
 
 -- ---- dropping
 

@@ -13,13 +13,9 @@ use Rattle.std.specs.declared.string.String.{String}
 use Rattle.std.specs.String.{string_bytes, string_cmp}
 use Rattle.dv_bson.specs.Tree.{Field}
 use Rattle.dv_catalog.specs.StateLaws.{same_namespaces, get-insert, get-remove}
-use Rattle.dv_coll.specs.Collection.{id_key, found, inserted}
-use Rattle.dv_coll.specs.declared.fault.InsertFault.{InsertFault}
-use Rattle.dv_coll.specs.declared.fault.InsertFault.TheVariants.{Duplicate, NoMemory}
 use Rattle.dv_fields.specs.declared.refusal.Refusal.{Refusal}
-use Rattle.dv_fields.specs.declared.refusal.Refusal.TheVariants.{DuplicateKey, WantOfMemory}
-use Rattle.dv_fields.specs.Refusals.{insert_refusal}
-use Rattle.dv_catalog.specs.Changes.{Change, Effect, put, with_put, apply, with_changes}
+use Rattle.dv_fields.specs.declared.refusal.Refusal.TheVariants.{WantOfMemory}
+use Rattle.dv_catalog.specs.Changes.{Change, Effect, apply, done_to, put, with_changes, with_put}
 use Rattle.dv_catalog.specs.Effects.{put_new}
 use Rattle.dv_catalog.specs.State.{Collection, Standing, Namespaces, collection_at, collection_of, documents_of, with_documents}
 use Rattle.dv_index.specs.Indexed.{empty_indexed}
@@ -99,33 +95,23 @@ with_empty old name none = ap (λ (there : Option Standing). with_collection nam
 
 module _ (old : Namespaces) (namespace : List ℕ) (d : List Field) (c : Collection) (are : collection_of namespace old ≡ c) where
   abbrev does : Result Effect Refusal
-  does = put_new d (documents_of namespace old)
+  does = done_to (collection_of namespace old) (put_new d)
 
-  documents : documents_of namespace old ≡ c.documents
-  documents = ap (λ (there : Collection). there.documents) are
+  there : does ≡ done_to c (put_new d)
+  there = ap (λ (x : Collection). done_to x (put_new d)) are
 
-  pub makes_new : (new : Namespaces) → found (id_key d) c.documents ≡ None → new ≡ with_collection namespace (record c { documents = inserted d c.documents }) old → Makes {B = Unit {0}} (λ _. one) namespace (put_new d) old (Ok tt) new
-  makes_new new none more =
-      let fresh : put_new d c.documents ≡ Ok (record { matched = 1; changes = put d ∷ [] }) = rw none refl in
-      let put_there : with_put d c.documents ≡ inserted d c.documents = rw none refl in (
-        put d ∷ [],
-        ap (put_new d) documents ∙ fresh,
-        refl,
-        more
-            ∙ ap (λ (ds : List (List Field)). with_collection namespace (record c { documents = ds }) old) (sym (ap (with_put d) documents ∙ put_there))
-            ∙ made-there old namespace c (λ there. record there { documents = with_put d (documents_of namespace old) }) are,
-      )
+  pub makes_new : (new : Namespaces) → done_to c (put_new d) ≡ Ok (record { matched = 1; changes = put d ∷ [] }) → new ≡ with_collection namespace (record c { documents = with_put d c.documents }) old
+      → Makes {B = Unit {0}} (λ _. one) namespace (put_new d) old (Ok tt) new
+  makes_new new done more = (put d ∷ [], there ∙ done, refl, more ∙ made-there old namespace c (λ x. record x { documents = with_put d x.documents }) are)
 
   -- where the collection refuses the document, it is refused so
-  refuses_equal : (fault : InsertFault) → (IsErrOf {T = Unit {0}} (Err fault) Duplicate → IsSome (found (id_key d) c.documents)) → (does ≡ Err (insert_refusal fault)) ⊎ (insert_refusal fault ≡ WantOfMemory)
-  refuses_equal Duplicate twice =
-      let there : put_new d c.documents ≡ Err DuplicateKey = rw (twice refl) refl in
-      inl (ap (put_new d) documents ∙ there)
-  refuses_equal NoMemory twice = inr refl
-
-  pub not_made : (new : Namespaces) (fault : InsertFault) (result : Result (Unit {0}) Stopped) (stopped : Stopped) → result ≡ Err stopped → stopped ≡ record { refusal = insert_refusal fault; done = 0 }
-      → (IsErrOf {T = Unit {0}} (Err fault) Duplicate → IsSome (found (id_key d) c.documents)) → new ≡ old → Makes (λ _. one) namespace (put_new d) old result new
-  not_made new fault result stopped is from twice same = rw is (stops_before namespace does old new same {B = Unit {0}} (λ _. one) (insert_refusal fault) stopped from (refuses_equal fault twice))
+  pub not_made : (new : Namespaces) (refusal : Refusal) (result : Result (Unit {0}) Stopped) (stopped : Stopped) → result ≡ Err stopped → stopped ≡ record { refusal = refusal; done = 0 }
+      → (done_to c (put_new d) ≡ Err refusal) ⊎ (refusal ≡ WantOfMemory) → new ≡ old → Makes (λ _. one) namespace (put_new d) old result new
+  not_made new refusal result stopped is from why same = rw is (stops_before namespace does old new same {B = Unit {0}} (λ _. one) refusal stopped from (by_cause why))
+    where
+      by_cause : (done_to c (put_new d) ≡ Err refusal) ⊎ (refusal ≡ WantOfMemory) → (does ≡ Err refusal) ⊎ (refusal ≡ WantOfMemory)
+      by_cause (inl refused) = inl (there ∙ refused)
+      by_cause (inr want) = inr want
 
 -- ---- changes of the documents of a namespace
 

@@ -2,6 +2,7 @@
 use Rattle.std.proofs.Common.{◌≡◌, ◌∙◌, ◌++◌, ◌&&◌, ◌||◌, ◌⊎◌, inl, inr, ℕ, Bool, true, false, cond, List, [], ◌∷◌, Option, Some, is_some, slice_get, zero, suc, refl, sym, ap, arith}
 use Rattle.std.proofs.lemmas.List.Folds.{list_any-append}
 use Rattle.std.proofs.lemmas.Slice.Eq.{bytes_eq-Decides}
+use Rattle.std.specs.Bool.{beq}
 use Rattle.std.specs.BTreeMap.{BTreeMap, get_by_text}
 use Rattle.std.specs.BTreeSet.{BTreeSet, contains_text}
 use Rattle.std.specs.List.{list_any}
@@ -59,7 +60,7 @@ module _ {Y : Type 0} (names : BTreeMap (String Y) ℕ) (paths : BTreeSet (Strin
 
   pub none_same : is_some (get_by_text names x.name) ≡ false → list_any (is_same x) forms ≡ false
   none_same none = false_unless _ (λ some.
-      let named = any_weaker (is_same x) (λ y. bytes_eq x.name y.name) (λ y same. (both_are (bytes_eq x.name y.name) (same_path x.path y.path) same).0) forms some in
+      let named = any_weaker (is_same x) (λ y. bytes_eq x.name y.name) (λ y same. let front = both_are (bytes_eq x.name y.name && same_path x.path y.path) (beq x.unique y.unique) same in (both_are (bytes_eq x.name y.name) (same_path x.path y.path) front.0).0) forms some in
       let f : true ≡ false = sym named ∙ name_absent none in cc)
 
   pub none_alike : is_some (get_by_text names x.name) ≡ false → contains_text paths (joined x.path) ≡ false → list_any (is_alike x) forms ≡ false

@@ -1,6 +1,7 @@
 mod Keys
 mod ByNamespace
 mod Stopping
+mod Breaking
 mod ByEntry
 mod Found
 mod Explaining

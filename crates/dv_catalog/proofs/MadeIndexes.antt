@@ -20,9 +20,6 @@ use Rattle.dv_catalog.proofs.Keeping.{UnreadIsNoMatter, kept_same_documents}
 -- ---- of a collection, and of the collection of a namespace
 
 module _ (old : Namespaces) (name : List ℕ) (c : Collection) (are : collection_of name old ≡ c) where
-  same_indexes : indexes_of name old ≡ c.indexes
-  same_indexes = ap (λ (there : Collection). there.indexes) are
-
   so_there : (written : Collection) (made : Result (List IndexForm) Refusal) → collection_so c made ≡ Ok written → namespaces_so name made old ≡ Ok (with_collection name written old)
   so_there written (Ok indexes) is =
       let same : record c { indexes = indexes } ≡ written = cc in
@@ -33,20 +30,20 @@ module _ (old : Namespaces) (name : List ℕ) (c : Collection) (are : collection
   not_so refusal (Ok indexes) is = absurd cc
   not_so refusal (Err e) is = let same : e ≡ refusal = cc in ap Err same
 
-  module _ (make : List IndexForm → Result (List IndexForm) Refusal) where
-    over_there : namespaces_so name (make c.indexes) old ≡ namespaces_so name (make (indexes_of name old)) old
-    over_there = ap (λ (xs : List IndexForm). namespaces_so name (make xs) old) (sym same_indexes)
+  module _ (make : Collection → Result (List IndexForm) Refusal) where
+    over_there : namespaces_so name (make c) old ≡ namespaces_so name (make (collection_of name old)) old
+    over_there = ap (λ (there : Collection). namespaces_so name (make there) old) (sym are)
 
-    pub made_there : (written : Collection) (new : Namespaces) → collection_so c (make c.indexes) ≡ Ok written → new ≡ with_collection name written old → namespaces_so name (make (indexes_of name old)) old ≡ Ok new
-    made_there written new is now = sym over_there ∙ so_there written (make c.indexes) is ∙ ap Ok (sym now)
+    pub made_there : (written : Collection) (new : Namespaces) → collection_so c (make c) ≡ Ok written → new ≡ with_collection name written old → namespaces_so name (make (collection_of name old)) old ≡ Ok new
+    made_there written new is now = sym over_there ∙ so_there written (make c) is ∙ ap Ok (sym now)
 
-    pub leaves_there : {B : Type 0} (result : Result B Refusal) (written : Collection) (new : Namespaces) → with_collection name c old ≡ old → Leaves (collection_so c (make c.indexes)) c result written → new ≡ with_collection name written old
-        → Leaves (namespaces_so name (make (indexes_of name old)) old) old result new
+    pub leaves_there : {B : Type 0} (result : Result B Refusal) (written : Collection) (new : Namespaces) → with_collection name c old ≡ old → Leaves (collection_so c (make c)) c result written → new ≡ with_collection name written old
+        → Leaves (namespaces_so name (make (collection_of name old)) old) old result new
     leaves_there (Ok x) written new same leaves now = made_there written new leaves now
     leaves_there (Err e) written new same leaves now = (by_cause leaves.0, now ∙ ap (λ (x : Collection). with_collection name x old) leaves.1 ∙ same)
       where
-        by_cause : (collection_so c (make c.indexes) ≡ Err e) ⊎ (e ≡ WantOfMemory) → (namespaces_so name (make (indexes_of name old)) old ≡ Err e) ⊎ (e ≡ WantOfMemory)
-        by_cause (inl refused) = inl (sym over_there ∙ not_so e (make c.indexes) refused)
+        by_cause : (collection_so c (make c) ≡ Err e) ⊎ (e ≡ WantOfMemory) → (namespaces_so name (make (collection_of name old)) old ≡ Err e) ⊎ (e ≡ WantOfMemory)
+        by_cause (inl refused) = inl (sym over_there ∙ not_so e (make c) refused)
         by_cause (inr want) = inr want
 
 put_itself : (b : Bool) (c : Collection) (there : Option Standing) → b ≡ true → collection_at (if b then Some (collection c) else there) ≡ c
@@ -99,13 +96,13 @@ state_leaves name old new vs made (Err e) leaves = (by_cause leaves.0, ap (λ (n
 -- ---- on a view, and on a collection
 
 module _ (name : List ℕ) (state : State) where
-  view_creates : (entries : List IndexForm) (b : Bool) → is_view name state.views ≡ b → indexes_created name entries state ≡ (if b then Err OnView else with_indexes_so name (with_all entries (indexes_of name state.namespaces)) state)
-  view_creates entries b is = ap (λ (c : Bool). if c then Err OnView else with_indexes_so name (with_all entries (indexes_of name state.namespaces)) state) is
+  view_creates : (entries : List IndexForm) (b : Bool) → is_view name state.views ≡ b → indexes_created name entries state ≡ (if b then Err OnView else with_indexes_so name (with_all entries (collection_of name state.namespaces)) state)
+  view_creates entries b is = ap (λ (c : Bool). if c then Err OnView else with_indexes_so name (with_all entries (collection_of name state.namespaces)) state) is
 
   pub not_created_on_view : (entries : List IndexForm) → is_view name state.views ≡ true → indexes_created name entries state ≡ Err OnView
   not_created_on_view entries is = view_creates entries true is
 
-  pub created_on_collection : (entries : List IndexForm) → is_view name state.views ≡ false → indexes_created name entries state ≡ with_indexes_so name (with_all entries (indexes_of name state.namespaces)) state
+  pub created_on_collection : (entries : List IndexForm) → is_view name state.views ≡ false → indexes_created name entries state ≡ with_indexes_so name (with_all entries (collection_of name state.namespaces)) state
   created_on_collection entries is = view_creates entries false is
 
   view_drops : (dropped : List ℕ) (a b : Bool) → is_view name state.views ≡ a → is_collection name state.namespaces ≡ b

@@ -20,12 +20,14 @@ use Rattle.dv_fields.specs.Refusals.{◌>>=◌}
 use Rattle.dv_fields.specs.declared.refusal.Refusal.{Refusal}
 use Rattle.dv_fields.specs.declared.refusal.Refusal.TheVariants.{DuplicateKey}
 use Rattle.dv_catalog.specs.declared.stopped.Stopped.{Stopped}
-use Rattle.dv_catalog.specs.Changes.{Change, Effect, changes_of, gone, put}
-use Rattle.dv_catalog.specs.Effects.{all_or_first, changed_by, delete_chosen, put_new, update_chosen}
+use Rattle.dv_catalog.specs.Changes.{Change, Effect, Statement, changes_of, done_to, put}
+use Rattle.dv_catalog.specs.EffectLaws.{done_changes}
+use Rattle.dv_catalog.specs.Effects.{all_or_first, changed_by, delete_chosen, put_new, update_chosen, without as all_going}
 use Rattle.dv_catalog.specs.Parts.{IsCut, IsRefused, StandBy, changes_made}
 use Rattle.dv_catalog.specs.Marks.{AreMarkedBy, AreMarkedByDrop, AreMarkedWhere, IsMarkedBy, Mark, Marked, Marks, all_gone, counted, live, mark_counted, mark_read, marks_read, marks_without, stale}
-use Rattle.dv_catalog.specs.State.{Namespaces, State, ViewForm, documents_of, is_collection, lists_of}
+use Rattle.dv_catalog.specs.State.{Collection, Namespaces, State, ViewForm, documents_of, is_collection, lists_of}
 use Rattle.dv_catalog.specs.Told.{AreTold, told}
+use Rattle.dv_catalog.proofs.Breaking.{idle_done}
 use Rattle.dv_catalog.proofs.Refreshed.{all_named}
 use Rattle.dv_catalog.proofs.Stopping.{take_none}
 
@@ -204,31 +206,45 @@ module _ {B : Type 0} (namespace : List ℕ) (does : Result Effect Refusal) (old
   pub stands_idle : (x : B) → changes_of does ≡ [] → StandBy namespace does old (Ok x) old.marks
   stands_idle x none = unmarked namespace (changes_of does) (lists_of old.state.namespaces) old.state.views old.marks none
 
-no_more : (n : ℕ) (d : List Field) (documents : List (List Field)) → (n ≡ 0) ⊎ (n < length (changes_of (put_new d documents))) → n ≡ 0
-no_more n d documents (inl none) = none
-no_more n d documents (inr fewer) = by_found (is_some (found (id_key d) documents)) fewer
+one_more : (n : ℕ) (d : List Field) (documents : List (List Field)) → n < length (changes_of (put_new d documents)) → n ≡ 0
+one_more n d documents fewer = by_found (is_some (found (id_key d) documents)) fewer
   where
     by_found : (b : Bool) → (let result : Result Effect Refusal = if b then Err DuplicateKey else Ok (record { matched = 1; changes = put d ∷ [] }) in n < length (changes_of result)) → n ≡ 0
     by_found true fewer = absurd (omega (arith, fewer))
     by_found false fewer = omega (arith, fewer)
 
--- a document that isn't put changes nothing, as there is no first part of one change
-pub put_stops : (d : List Field) (documents : List (List Field)) (namespace : List ℕ) (old new : Namespaces) (stopped : Stopped)
-    → IsRefused (put_new d documents) old stopped new ⊎ IsCut namespace (put_new d documents) old stopped new → stopped.done ≡ 0
-put_stops d documents namespace old new stopped (inl refused) = refused.none
-put_stops d documents namespace old new stopped (inr cut) = no_more stopped.done d documents cut.fewer
-
--- where there is no document, no change is made
-pub nothing_updated : (asked : Updating) → changes_of (update_chosen asked []) ≡ []
-nothing_updated asked = by_number (not asked.multi)
+no_more : (n : ℕ) (d : List Field) (c : Collection) → (n ≡ 0) ⊎ (n < length (changes_of (done_to c (put_new d)))) → n ≡ 0
+no_more n d c (inl none) = none
+no_more n d c (inr fewer) = by_changes (done_changes c (put_new d))
   where
-    by_number : (b : Bool) → changes_of (changed_by asked.update (all_or_first b []) >>= λ changed. Ok (record { matched = length (all_or_first b []); changes = map put changed })) ≡ []
+    by_changes : (changes_of (done_to c (put_new d)) ≡ changes_of (put_new d c.documents)) ⊎ (changes_of (done_to c (put_new d)) ≡ []) → n ≡ 0
+    by_changes (inl same) = one_more n d c.documents (subst (λ (changes : List Change). n < length changes) same fewer)
+    by_changes (inr none) = let nothing : n < length {A = Change} [] = subst (λ (changes : List Change). n < length changes) none fewer in absurd (omega (arith, nothing))
+
+-- a document that isn't put changes nothing, as there is no first part of one change
+pub put_stops : (d : List Field) (c : Collection) (namespace : List ℕ) (old new : Namespaces) (stopped : Stopped)
+    → IsRefused (done_to c (put_new d)) old stopped new ⊎ IsCut namespace (done_to c (put_new d)) old stopped new → stopped.done ≡ 0
+put_stops d c namespace old new stopped (inl refused) = refused.none
+put_stops d c namespace old new stopped (inr cut) = no_more stopped.done d c cut.fewer
+
+-- ---- where there is no document, nothing is done
+
+abbrev nothing : Result Effect Refusal
+nothing = Ok (record { matched = 0; changes = [] })
+
+idle : (statement : Statement) (c : Collection) → c.documents ≡ [] → statement [] ≡ nothing → done_to c statement ≡ nothing
+idle statement c none so = idle_done c statement (ap statement none ∙ so)
+
+pub nothing_updated : (asked : Updating) (c : Collection) → c.documents ≡ [] → done_to c (update_chosen asked) ≡ nothing
+nothing_updated asked c none = idle (update_chosen asked) c none (by_number (not asked.multi))
+  where
+    by_number : (b : Bool) → (changed_by asked.update (all_or_first b []) >>= λ changed. Ok (record { matched = length (all_or_first b []); changes = map put changed })) ≡ nothing
     by_number true = refl
     by_number false = refl
 
-pub nothing_deleted : (asked : Deletion) → changes_of (delete_chosen asked []) ≡ []
-nothing_deleted asked = by_number asked.only_first
+pub nothing_deleted : (asked : Deletion) (c : Collection) → c.documents ≡ [] → done_to c (delete_chosen asked) ≡ nothing
+nothing_deleted asked c none = idle (delete_chosen asked) c none (by_number asked.only_first)
   where
-    by_number : (b : Bool) → map (λ d. gone (id_key d)) (all_or_first b []) ≡ []
+    by_number : (b : Bool) → (let r : Result Effect Refusal = Ok (all_going (all_or_first b [])) in r) ≡ nothing
     by_number true = refl
     by_number false = refl

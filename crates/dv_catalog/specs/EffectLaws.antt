@@ -1,5 +1,5 @@
--- What holds of documents that are chosen, and of what becomes of them.
-use Rattle.std.proofs.Common.{◌≡◌, Bool, true, false, cond, List, [], ◌∷◌, Result, Ok, Err, refl, sym, ap, subst, ◌∙◌, if◌then◌else◌}
+-- What holds of documents that are chosen, of what becomes of them, and of what is done to a collection.
+use Rattle.std.proofs.Common.{◌≡◌, ◌⊎◌, inl, inr, Bool, true, false, cond, List, [], ◌∷◌, Result, Ok, Err, refl, sym, ap, subst, ◌∙◌, if◌then◌else◌}
 use Rattle.std.specs.Prelude.{codes}
 use Rattle.std.specs.List.{AllByRecursion}
 use Rattle.dv_bson.specs.Tree.{Tree, Field, fields_of}
@@ -12,8 +12,11 @@ use Rattle.dv_update.specs.Update as form
 use Rattle.dv_update.specs.declared.fault.UpdateFault.{UpdateFault}
 use Rattle.dv_fields.specs.Refusals.{◌>>=◌, refused_by, update_refusal}
 use Rattle.dv_fields.specs.declared.refusal.Refusal.{Refusal}
+use Rattle.dv_fields.specs.declared.refusal.Refusal.TheVariants.{DuplicateKey}
+use Rattle.dv_catalog.specs.Changes.{Effect, Statement, breaks, changes_of, done_to, unless_it_breaks}
 use Rattle.dv_catalog.specs.Effects.{after, all_or_first, changed_by}
 use Rattle.dv_catalog.specs.Scan.{matching}
+use Rattle.dv_catalog.specs.State.{Collection}
 
 module _ (Q : List Field → Type 0) where
   pub chosen_good : (first : Bool) (ds : List (List Field)) → AllByRecursion Q ds → AllByRecursion Q (all_or_first first ds)
@@ -65,3 +68,46 @@ after_id law update (f ∷ fs) e has_id is =
     let same : f ≡ (codes "_id", f.1) = λ i. (has_id.0 i, f.1) in
     let (rest, begins) = law update f.1 fs e (ap (λ (g : Field). applied update (g ∷ fs)) (sym same) ∙ told_after (applied update (f ∷ fs)) e is) in
     rw begins ((refl, has_id.1), refl)
+
+-- ---- what a statement does to a collection
+
+module _ (c : Collection) (statement : Statement) where
+  -- what it does to the documents, by whether this breaks a unique index
+  done_by : (effect : Effect) (b : Bool) → statement c.documents ≡ Ok effect → breaks c.indexes effect.changes c.documents ≡ b → done_to c statement ≡ (if b then Err DuplicateKey else Ok effect)
+  done_by effect b so broken = ap (λ (r : Result Effect Refusal). r >>= unless_it_breaks c) so ∙ ap (λ (x : Bool). if x then Err DuplicateKey else Ok effect) broken
+
+  pub done_unbroken : (effect : Effect) → statement c.documents ≡ Ok effect → breaks c.indexes effect.changes c.documents ≡ false → done_to c statement ≡ Ok effect
+  done_unbroken effect so broken = done_by effect false so broken
+
+  pub done_broken : (effect : Effect) → statement c.documents ≡ Ok effect → breaks c.indexes effect.changes c.documents ≡ true → done_to c statement ≡ Err DuplicateKey
+  done_broken effect so broken = done_by effect true so broken
+
+  pub done_refused : (refusal : Refusal) → statement c.documents ≡ Err refusal → done_to c statement ≡ Err refusal
+  done_refused refusal so = ap (λ (r : Result Effect Refusal). r >>= unless_it_breaks c) so
+
+  -- a statement that is carried out does to the documents what it says, and breaks no unique index
+  pub done_so : (effect : Effect) → done_to c statement ≡ Ok effect → (statement c.documents ≡ Ok effect) × (breaks c.indexes effect.changes c.documents ≡ false)
+  done_so effect is = by_result (statement c.documents) refl is
+    where
+      by_test : (made : Effect) (b : Bool) → statement c.documents ≡ Ok made → breaks c.indexes made.changes c.documents ≡ b → (let r : Result Effect Refusal = if b then Err DuplicateKey else Ok made in r) ≡ Ok effect
+          → (statement c.documents ≡ Ok effect) × (breaks c.indexes effect.changes c.documents ≡ false)
+      by_test made true so broken is = absurd cc
+      by_test made false so broken is =
+          let same : made ≡ effect = cc in
+          (so ∙ ap Ok same, subst (λ (e : Effect). breaks c.indexes e.changes c.documents ≡ false) same broken)
+
+      by_result : (r : Result Effect Refusal) → statement c.documents ≡ r → (r >>= unless_it_breaks c) ≡ Ok effect → (statement c.documents ≡ Ok effect) × (breaks c.indexes effect.changes c.documents ≡ false)
+      by_result (Ok made) so is = by_test made (breaks c.indexes made.changes c.documents) so refl is
+      by_result (Err refusal) so is = absurd cc
+
+  -- its changes are those that it makes of the documents, or none
+  pub done_changes : (changes_of (done_to c statement) ≡ changes_of (statement c.documents)) ⊎ (changes_of (done_to c statement) ≡ [])
+  done_changes = by_result (statement c.documents) refl
+    where
+      by_test : (made : Effect) (b : Bool) → done_to c statement ≡ (if b then Err DuplicateKey else Ok made) → statement c.documents ≡ Ok made → (changes_of (done_to c statement) ≡ changes_of (statement c.documents)) ⊎ (changes_of (done_to c statement) ≡ [])
+      by_test made true done so = inr (ap changes_of done)
+      by_test made false done so = inl (ap changes_of (done ∙ sym so))
+
+      by_result : (r : Result Effect Refusal) → statement c.documents ≡ r → (changes_of (done_to c statement) ≡ changes_of (statement c.documents)) ⊎ (changes_of (done_to c statement) ≡ [])
+      by_result (Ok made) so = by_test made (breaks c.indexes made.changes c.documents) (done_by made (breaks c.indexes made.changes c.documents) so refl) so
+      by_result (Err refusal) so = inr (ap changes_of (done_refused refusal so))

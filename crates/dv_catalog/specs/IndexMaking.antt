@@ -3,6 +3,7 @@
 -- own.
 use Rattle.std.specs.Prelude.{◌&&◌, ◌||◌, Bool, ℕ, List, [], ◌∷◌, ◌++◌, Option, Some, None, Result, Ok, Err, codes, drop, length, nat_lt, if◌then◌else◌}
 use Rattle.std.specs.FinMap as finite
+use Rattle.std.specs.Bool.{beq}
 use Rattle.std.specs.List.{list_any}
 use Rattle.std.specs.Str.{bytes_eq}
 use Rattle.dv_fields.specs.declared.refusal.Refusal.{Refusal}
@@ -21,7 +22,7 @@ index_limit = 64
 
 -- whether they are one index
 abbrev pub is_same : IndexForm → IndexForm → Bool
-is_same x y = bytes_eq x.name y.name && same_path x.path y.path && bool_eq x.unique y.unique
+is_same x y = bytes_eq x.name y.name && same_path x.path y.path && beq x.unique y.unique
 
 -- whether they share a name or a path
 abbrev pub is_alike : IndexForm → IndexForm → Bool

@@ -16,7 +16,7 @@ use crate::sources::{references, sources_of};
 use crate::stats::{Stats, is_live};
 use crate::stopped::Stopped;
 use crate::told::{all_told_gone, one_told, told};
-use crate::update::updated;
+use crate::update::updated_in;
 use crate::upkeep::{looks_into_view, refresh, rows_in};
 use dv_bson::{Document, NoMemory};
 use dv_command::{Aggregate, Create, Deletion, Find, Refusal, Updating, ViewOn};
@@ -95,8 +95,8 @@ impl Catalog {
     }
 
     /// Puts a document into the collection of a namespace, which is made where it isn't there. Refused with
-    /// `DuplicateKey` where a document has an equal `_id`, and with `WantOfMemory`; then nothing is changed, and no
-    /// collection is made.
+    /// `DuplicateKey` where a document has an equal `_id`, or one has a key of it in a unique index, and with
+    /// `WantOfMemory`; then nothing is changed, and no collection is made.
     pub fn insert(&mut self, namespace: &str, document: Document) -> Result<(), Stopped>
         requires identified { HasId document }
         requires collection { is_view namespace.now self.old.state.views ≡ false }
@@ -115,8 +115,9 @@ impl Catalog {
         Ok(())
     }
 
-    /// Updates the documents of a namespace that an updating is for. Refused as the first of them is; then nothing is
-    /// changed. Where memory is wanting, the first so many changes, not all of them, are made.
+    /// Updates the documents of a namespace that an updating is for. Refused as the first of them is, then with
+    /// `DuplicateKey` where one of the changes, made one after the other, would put a key of a unique index under two `_id`s;
+    /// then nothing is changed. Where memory is wanting, the first so many changes, not all of them, are made.
     pub fn update(&mut self, namespace: &str, updating: &Updating) -> Result<Counted, Stopped>
         requires { is_view namespace.now self.old.state.views ≡ false }
         ensures made { Makes (λ counted. counted) namespace.now (effects.update_chosen (updating_seen updating.now)) self.old.state.namespaces result self.new.state.namespaces }
@@ -126,7 +127,7 @@ impl Catalog {
         // Views share the documents of which they are told.
         let whole = self.views.is_read(namespace);
         let effect = match self.collections.get(namespace) {
-            Some(collection) => updated(self.alloc, collection, updating, whole)?,
+            Some(collection) => updated_in(self.alloc, collection, updating, whole)?,
             None => return Ok(NOTHING),
         };
         self.carry_out(namespace, effect)
@@ -345,8 +346,9 @@ impl Catalog {
 
     /// Makes the indexes of these entries under a namespace, in their order, but those that are there; the collection is
     /// made where it isn't there. Refused with `OnView` on a view; then with `ConflictingUpdateOperators` where the name or
-    /// the path of an entry alone is there or comes by an earlier one; then with `LimitReached` where there would be more
-    /// than 64; and with `WantOfMemory`. Then nothing is changed.
+    /// the path of an entry is there or comes by an earlier one, but not the same index; then with `LimitReached` where there
+    /// would be more than 64; then with `DuplicateKey` where a key of a unique one stands in two documents; and with
+    /// `WantOfMemory`. Then nothing is changed.
     pub fn create_indexes(
         &mut self,
         namespace: &str,

@@ -6,17 +6,18 @@ ghost use Rattle.std.specs.FinMap as finite;
 ghost use Rattle.std.specs.Option.{option_map};
 ghost use Rattle.dv_coll.specs.Collection.{HasId};
 ghost use Rattle.dv_catalog.specs.Changes.{apply};
-ghost use Rattle.dv_catalog.specs.Effects.{put_new};
+ghost use Rattle.dv_catalog.specs.Effects as effects;
 ghost use Rattle.dv_catalog.specs.EffectView.{ArePlaced, StandsFor, changes_seen};
 ghost use Rattle.dv_catalog.specs.IndexMaking as making;
 ghost use Rattle.dv_catalog.specs.IndexParts.{namespaces_so};
 ghost use Rattle.dv_catalog.specs.Parts.{Leaves, Makes, one};
-ghost use Rattle.dv_catalog.specs.State.{AreOrdered, documents_of, empty_state, indexes_of, is_collection, with_documents};
+ghost use Rattle.dv_catalog.specs.State.{AreOrdered, collection_of, documents_of, empty_state, indexes_of, is_collection, with_documents};
 ghost use Rattle.dv_catalog.specs.View.{standing_seen};
 ghost use Rattle.dv_index.specs.View.{form_of_new};
 
 use crate::effect::Changes;
 use crate::indexing::{IndexCounts, create_each, drop_named};
+use crate::insert::put_new;
 use crate::rows::Rows;
 use crate::stopped::Stopped;
 use dv_bson::{Document, NoMemory};
@@ -90,14 +91,14 @@ impl Collections {
     }
 
     /// Puts a document into the collection of a namespace, which is made where it isn't there. Refused with
-    /// `DuplicateKey` where a document has an equal `_id`, and with `WantOfMemory`; then nothing is changed, and no
-    /// collection is made.
+    /// `DuplicateKey` where a document has an equal `_id`, or one has a key of it in a unique index, and with
+    /// `WantOfMemory`; then nothing is changed, and no collection is made.
     pub(crate) fn insert(&mut self, namespace: &str, document: Document) -> Result<(), Stopped>
         requires { HasId document }
-        ensures { Makes (λ _. one) namespace.now (put_new document) self.old result self.new }
+        ensures { Makes (λ _. one) namespace.now (effects.put_new document) self.old result self.new }
     {
         match self.collections.get_mut(namespace) {
-            Some(collection) => Ok(collection.insert(document)?),
+            Some(collection) => Ok(put_new(collection, document)?),
             None => self.insert_first(namespace, document),
         }
     }
@@ -107,7 +108,7 @@ impl Collections {
     fn insert_first(&mut self, namespace: &str, document: Document) -> Result<(), Stopped>
         requires identified { HasId document }
         requires fresh { finite.get self.old namespace.now ≡ None }
-        ensures { Makes (λ _. one) namespace.now (put_new document) self.old result self.new }
+        ensures { Makes (λ _. one) namespace.now (effects.put_new document) self.old result self.new }
     {
         let mut collection = IndexedCollection::new(self.alloc)?;
         collection.insert(document)?;
@@ -145,14 +146,15 @@ impl Collections {
     }
 
     /// Makes the indexes of the collection of a namespace that aren't there; the collection is made where it isn't there.
-    /// Refused with `ConflictingUpdateOperators` where the name or the path of one is there alone, then with `LimitReached`
-    /// where there would be more than 64, and with `WantOfMemory`; then nothing is changed, and no collection is made.
+    /// Refused with `ConflictingUpdateOperators` where the name or the path of one is there but not the same index, then with
+    /// `LimitReached` where there would be more than 64, then with `DuplicateKey` where a key of a unique one stands in two
+    /// documents, and with `WantOfMemory`; then nothing is changed, and no collection is made.
     pub(crate) fn create_indexes(
         &mut self,
         namespace: &str,
         entries: Vec<NewIndex>,
     ) -> Result<IndexCounts, Refusal>
-        ensures made { Leaves (namespaces_so namespace.now (making.with_all (map form_of_new entries.items) (indexes_of namespace.now self.old)) self.old) self.old result self.new }
+        ensures made { Leaves (namespaces_so namespace.now (making.with_all (map form_of_new entries.items) (collection_of namespace.now self.old)) self.old) self.old result self.new }
         ensures counts { IfOk result (λ counts. counts ≡ record { before = length (indexes_of namespace.now self.old); after = length (indexes_of namespace.now self.new) }) }
     {
         match self.collections.get_mut(namespace) {
@@ -168,7 +170,7 @@ impl Collections {
         entries: Vec<NewIndex>,
     ) -> Result<IndexCounts, Refusal>
         requires { finite.get self.old namespace.now ≡ None }
-        ensures made { Leaves (namespaces_so namespace.now (making.with_all (map form_of_new entries.items) (indexes_of namespace.now self.old)) self.old) self.old result self.new }
+        ensures made { Leaves (namespaces_so namespace.now (making.with_all (map form_of_new entries.items) (collection_of namespace.now self.old)) self.old) self.old result self.new }
         ensures counts { IfOk result (λ counts. counts ≡ record { before = length (indexes_of namespace.now self.old); after = length (indexes_of namespace.now self.new) }) }
     {
         let mut collection = IndexedCollection::new(self.alloc)?;

@@ -54,13 +54,13 @@ impl Coming {
         }
     }
 
-    /// Whether an index comes that has the name and the path of this one.
+    /// Whether an index comes that is the same as this one.
     pub(crate) fn has(&self, index: &NewIndex) -> bool
         ensures { result ≡ list_any (making.is_same (form_of_new index.now)) self.now }
     {
         match self.names.get(index.name.as_str()) {
             None => false,
-            // Where the one of its name has another path, this one is refused, and no other one is looked up.
+            // Where the one of its name isn't the same, this one is refused, and no other one is looked up.
             Some(place) => is_at(index, &self.indexes, *place) || is_among(index, &self.indexes),
         }
     }
@@ -97,23 +97,21 @@ impl Coming {
     }
 }
 
-/// Whether the index at a place is there, and has the name and the path of this one.
+/// Whether the index at a place is there, and the same as this one.
 fn is_at(index: &NewIndex, others: &[NewIndex], place: usize) -> bool
     ensures { result ≡ true → list_any (λ x. making.is_same (form_of_new index.now) (form_of_new x)) others.now ≡ true }
 {
     match others.get(place) {
-        Some(there) => is_same(index, there.name.as_str(), &there.path),
+        Some(there) => is_same(index, there.name.as_str(), &there.path, there.unique),
         None => false,
     }
 }
 
-/// Whether one of the indexes has the name and the path of this one.
+/// Whether one of the indexes is the same as this one.
 fn is_among(index: &NewIndex, others: &[NewIndex]) -> bool
     ensures { result ≡ list_any (λ x. making.is_same (form_of_new index.now) (form_of_new x)) others.now }
 {
-    others
-        .iter()
-        .any(|there| is_same(index, there.name.as_str(), &there.path))
+    others.iter().any(|there| is_same(index, there.name.as_str(), &there.path, there.unique))
 }
 
 /// Whether one of the indexes has the name or the path of this one.

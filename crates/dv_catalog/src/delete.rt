@@ -4,7 +4,7 @@ ghost use Rattle.std.specs.Prelude.{◌≡◌, ◌≤◌, length, map, take, IfO
 ghost use Rattle.std.specs.List.{AllByRecursion};
 ghost use Rattle.dv_coll.specs.Collection.{HasId, id_key};
 ghost use Rattle.dv_command.specs.View.{deletion_seen};
-ghost use Rattle.dv_catalog.specs.Changes.{gone, with_changes};
+ghost use Rattle.dv_catalog.specs.Changes.{done_to, gone, with_changes};
 ghost use Rattle.dv_catalog.specs.Effects.{delete_chosen};
 ghost use Rattle.dv_catalog.specs.EffectView.{ArePlaced, StandsFor, changes_seen, effect_seen};
 ghost use Rattle.dv_catalog.specs.State.{AreOrdered};
@@ -21,13 +21,13 @@ use dv_order::Key;
 use dv_views::key_of_id;
 use std::alloc::Global;
 
-/// What a deletion does to the documents of a collection. Fails where memory is wanting.
+/// What a deletion does to a collection. Fails where memory is wanting.
 pub(crate) fn deleted(
     alloc: Global,
     collection: &IndexedCollection,
     deletion: &Deletion,
 ) -> Result<Effect, NoMemory>
-    ensures effect { IfOk result (λ effect. delete_chosen (deletion_seen deletion.now) collection.now.documents ≡ Ok (effect_seen effect)) }
+    ensures effect { IfOk result (λ effect. done_to collection.now (delete_chosen (deletion_seen deletion.now)) ≡ Ok (effect_seen effect)) }
     ensures ordered { AreOrdered collection.now.documents }
     ensures placed { IfOk result (λ effect. ArePlaced collection.now.documents (changes_seen effect.changes)) }
     ensures standing { IfOk result (λ effect. StandsFor collection.now.documents effect.changes) }

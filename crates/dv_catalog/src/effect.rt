@@ -1,16 +1,17 @@
 //! What statements do to the documents of a collection.
 
-ghost use Rattle.std.specs.Prelude.{◌≡◌, ◌≤◌, length, take};
-ghost use Rattle.dv_catalog.specs.Changes.{with_changes};
-ghost use Rattle.dv_catalog.specs.EffectView.{ArePlaced, StandsFor, changes_seen};
+ghost use Rattle.std.specs.Prelude.{◌≡◌, ◌≤◌, length, take, IfOk};
+ghost use Rattle.dv_catalog.specs.Changes.{breaks, with_changes};
+ghost use Rattle.dv_catalog.specs.EffectView.{ArePlaced, StandsFor, after_of, changes_seen};
 ghost use Rattle.dv_index.specs.Indexed.{with_documents};
 
 use crate::delete::remove_each;
-use crate::update::put_each;
-use dv_bson::{Document, Str};
+use crate::update::{put_each, updates_clash};
+use dv_bson::{Document, NoMemory, Str};
 use dv_index::IndexedCollection;
 use dv_order::Key;
 use dv_update::Outcome;
+use std::alloc::Global;
 
 /// Changes of a collection, each of one document, in order.
 #[derive(Drop)]
@@ -36,6 +37,23 @@ pub(crate) struct Updated {
     pub(crate) outcome: Outcome,
 }
 
+impl Updated {
+    /// The document that comes in its place; a value comes under the name. Fails where memory is wanting.
+    pub(crate) fn after(&self, name: &str) -> Result<Document, NoMemory>
+        ensures { IfOk result (λ after. after ≡ after_of name.now self.now) }
+    {
+        match &self.outcome {
+            Outcome::Same => self.before.try_clone(),
+            Outcome::Whole(after) => after.try_clone(),
+            Outcome::Value(value) => {
+                let mut after = self.before.try_clone()?;
+                let _ = after.put(name, value.try_clone()?)?;
+                Ok(after)
+            }
+        }
+    }
+}
+
 impl Changes {
     /// How many changes there are.
     pub(crate) fn len(&self) -> usize
@@ -44,6 +62,24 @@ impl Changes {
         match self {
             Changes::Put(updates) => updates.each.len(),
             Changes::Gone(keys) => keys.len(),
+        }
+    }
+
+    /// Whether one of the changes, made one after the other, would put a key of a unique index under two `_id`s. Fails where
+    /// memory is wanting.
+    pub(crate) fn clash_in(
+        &self,
+        alloc: Global,
+        collection: &IndexedCollection,
+    ) -> Result<bool, NoMemory>
+        requires placed { ArePlaced collection.now.documents (changes_seen self.now) }
+        requires standing { StandsFor collection.now.documents self.now }
+        ensures { IfOk result (λ clash. clash ≡ breaks collection.now.indexes (changes_seen self.now) collection.now.documents) }
+    {
+        match self {
+            Changes::Put(updates) => updates_clash(alloc, collection, updates),
+            // Documents that go have no keys.
+            Changes::Gone(_) => Ok(false),
         }
     }
 

@@ -2,6 +2,7 @@
 
 ghost use Rattle.std.specs.Prelude.{◌≡◌, ◌++◌, ◌||◌, map, length, IfOk};
 ghost use Rattle.std.specs.List.{list_any};
+ghost use Rattle.std.specs.Str.{bytes_eq};
 ghost use Rattle.dv_fields.specs.Refusals.{UnlessWanting};
 ghost use Rattle.dv_index.specs.Choice.{same_path as is_same_path};
 ghost use Rattle.dv_index.specs.Index.{form_of, id_form};
@@ -28,14 +29,14 @@ pub struct IndexCounts {
 }
 
 /// Makes the indexes of a collection that aren't there. Refused with `ConflictingUpdateOperators` where the name or the path
-/// of one is there alone, then with `LimitReached` where there would be more than 64, and with `WantOfMemory`; then none is
-/// made.
+/// of one is there but not the same index, then with `LimitReached` where there would be more than 64, then with
+/// `DuplicateKey` where a key of a unique one stands in two documents, and with `WantOfMemory`; then none is made.
 pub(crate) fn create_each(
     alloc: Global,
     collection: &mut IndexedCollection,
     entries: Vec<NewIndex>,
 ) -> Result<IndexCounts, Refusal>
-    ensures made { Leaves (collection_so collection.old (making.with_all (map form_of_new entries.items) collection.old.indexes)) collection.old result collection.new }
+    ensures made { Leaves (collection_so collection.old (making.with_all (map form_of_new entries.items) collection.old)) collection.old result collection.new }
     ensures counts { IfOk result (λ counts. counts ≡ record { before = length collection.old.indexes; after = length collection.new.indexes }) }
 {
     let before = collection.indexes().len();
@@ -52,8 +53,8 @@ pub(crate) fn create_each(
 }
 
 /// The entries whose indexes aren't there, where an index of an earlier entry counts as there. Refused with
-/// `ConflictingUpdateOperators` at the first whose name or path is there alone, and with `WantOfMemory`. Takes time as the
-/// entries want to be put in order.
+/// `ConflictingUpdateOperators` at the first whose name or path is there but not the same index, and with `WantOfMemory`.
+/// Takes time as the entries want to be put in order.
 fn fresh_among(
     alloc: Global,
     there: &[Index],
@@ -92,9 +93,7 @@ fn is_made(entry: &NewIndex, there: &[Index], coming: &Coming) -> bool
 fn is_there(entry: &NewIndex, there: &[Index]) -> bool
     ensures { result ≡ list_any (λ x. making.is_same (form_of_new entry.now) (form_of x)) there.now }
 {
-    there
-        .iter()
-        .any(|index| is_same(entry, index.name(), index.path()))
+    there.iter().any(|index| is_same(entry, index.name(), index.path(), index.is_unique()))
 }
 
 /// Whether the name or the path of an entry is there, or comes.
@@ -117,16 +116,18 @@ fn is_half_there(entry: &NewIndex, there: &[Index]) -> bool
         .any(|index| is_alike(entry, index.name(), index.path()))
 }
 
-/// Whether an entry has this name and this path.
-pub(crate) fn is_same(entry: &NewIndex, name: &str, path: &Path) -> bool
-    ensures { result ≡ making.is_same (form_of_new entry.now) (record { name = name.now; path = path.now }) }
+/// Whether an entry's index is the one of this name and this path, unique or not.
+pub(crate) fn is_same(entry: &NewIndex, name: &str, path: &Path, unique: bool) -> bool
+    ensures { result ≡ making.is_same (form_of_new entry.now) (record { name = name.now; path = path.now; unique = unique }) }
 {
-    entry.name.as_str() == name && same_path(entry.path.components(), path.components())
+    entry.name.as_str() == name
+        && same_path(entry.path.components(), path.components())
+        && entry.unique == unique
 }
 
 /// Whether an entry has this name or this path.
 pub(crate) fn is_alike(entry: &NewIndex, name: &str, path: &Path) -> bool
-    ensures { result ≡ making.is_alike (form_of_new entry.now) (record { name = name.now; path = path.now }) }
+    ensures { result ≡ (bytes_eq entry.now.name name.now || is_same_path entry.now.path path.now) }
 {
     entry.name.as_str() == name || same_path(entry.path.components(), path.components())
 }

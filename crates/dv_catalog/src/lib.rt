@@ -10,6 +10,7 @@ mod delete;
 mod effect;
 mod explained;
 mod indexing;
+mod insert;
 pub mod laws;
 mod rows;
 mod scan;

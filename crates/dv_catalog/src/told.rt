@@ -8,12 +8,11 @@ ghost use Rattle.dv_catalog.specs.EffectView.{BeginsWithId, after_of, changes_se
 ghost use Rattle.dv_catalog.specs.Marks.{all_gone};
 ghost use Rattle.dv_catalog.specs.Told as defined;
 
-use crate::effect::{Changes, Updated, Updates};
+use crate::effect::{Changes, Updates};
 use crate::rows::Rows;
 use dv_bson::{Document, NoMemory};
 use dv_change::Change;
 use dv_order::Key;
-use dv_update::Outcome;
 use dv_views::{Registry, document_gone, document_put, key_of_id};
 use std::alloc::Global;
 
@@ -42,25 +41,10 @@ fn all_put(alloc: Global, updates: &Updates) -> Result<Vec<Change>, NoMemory>
 {
     let mut all = Vec::with_capacity(alloc, updates.each.len())?;
     'documents: for document in &updates.each {
-        let after = whole_after(updates.name.as_str(), document)?;
+        let after = document.after(updates.name.as_str())?;
         all.push(document_put(alloc, &after)?)?;
     }
     Ok(all)
-}
-
-/// The document that comes in place of one that is updated. Fails where memory is wanting.
-fn whole_after(name: &str, document: &Updated) -> Result<Document, NoMemory>
-    ensures { IfOk result (λ after. after ≡ after_of name.now document.now) }
-{
-    match &document.outcome {
-        Outcome::Same => document.before.try_clone(),
-        Outcome::Whole(after) => after.try_clone(),
-        Outcome::Value(value) => {
-            let mut after = document.before.try_clone()?;
-            let _ = after.put(name, value.try_clone()?)?;
-            Ok(after)
-        }
-    }
 }
 
 fn all_gone(alloc: Global, keys: &[Key]) -> Result<Vec<Change>, NoMemory>

@@ -5,11 +5,12 @@ ghost use Rattle.std.specs.Str.{bytes_eq};
 ghost use Rattle.dv_coll.specs.Collection.{HasId, found, id_key, replaced};
 ghost use Rattle.dv_fields.specs.Refusals.{UnlessWanting};
 ghost use Rattle.dv_command.specs.View.{updating_seen};
-ghost use Rattle.dv_catalog.specs.Changes.{put, with_changes};
+ghost use Rattle.dv_catalog.specs.Changes.{breaks, done_to, put, with_changes};
 ghost use Rattle.dv_catalog.specs.Effects as effects;
 ghost use Rattle.dv_catalog.specs.EffectView.{ArePlaced, AreUpdatesOf, StandsFor, after_of, changes_seen, effect_seen};
 ghost use Rattle.dv_catalog.specs.State.{AreOrdered};
 ghost use Rattle.dv_index.specs.Indexed.{with_documents};
+ghost use Rattle.dv_index.specs.View.{afters as documents_after, befores as documents_before};
 ghost use Rattle.dv_pipe.specs.Sources.{referred};
 ghost use Rattle.dv_update.specs.Apply.{applied};
 ghost use Rattle.dv_update.specs.Outcome as outcomes;
@@ -21,14 +22,37 @@ use crate::effect::{Changes, Effect, Updated, Updates};
 use dv_bson::{Document, NoMemory, Str};
 use dv_coll::laws;
 use dv_command::{Refusal, Updating};
-use dv_index::IndexedCollection;
+use dv_index::{IndexedCollection, Replacing};
 use dv_update::{Outcome, Update, UpdateFault};
 use dv_views::key_of_id;
 use std::alloc::Global;
 
+/// What an updating does to a collection: where its documents are wanted whole, each as a whole document. Refused as the first
+/// of them is, then with `DuplicateKey` where one of the changes, made one after the other, would put a key of a unique index
+/// under two `_id`s, and where memory is wanting.
+pub(crate) fn updated_in(
+    alloc: Global,
+    collection: &IndexedCollection,
+    updating: &Updating,
+    whole: bool,
+) -> Result<Effect, Refusal>
+    ensures effect { UnlessWanting effect_seen (done_to collection.now (effects.update_chosen (updating_seen updating.now))) result }
+    ensures ordered { AreOrdered collection.now.documents }
+    ensures placed { IfOk result (λ effect. ArePlaced collection.now.documents (changes_seen effect.changes)) }
+    ensures standing { IfOk result (λ effect. StandsFor collection.now.documents effect.changes) }
+{
+    // Whole documents show the keys of a unique index.
+    let whole = whole || collection.has_unique();
+    let effect = updated(alloc, collection, updating, whole)?;
+    if effect.changes.clash_in(alloc, collection)? {
+        return Err(Refusal::DuplicateKey);
+    }
+    Ok(effect)
+}
+
 /// What an updating does to the documents of a collection: where they are wanted whole, each as a whole document. Refused as
 /// the first of them is, and where memory is wanting.
-pub(crate) fn updated(
+fn updated(
     alloc: Global,
     collection: &IndexedCollection,
     updating: &Updating,
@@ -112,6 +136,54 @@ fn outcome_of(
     } else {
         update.outcome(alloc, document)
     }
+}
+
+/// Whether one of the documents that come, put one after the other, has a key of a unique index under another `_id` than the
+/// one that it stands under. Fails where memory is wanting.
+pub(crate) fn updates_clash(
+    alloc: Global,
+    collection: &IndexedCollection,
+    updates: &Updates,
+) -> Result<bool, NoMemory>
+    requires placed { ArePlaced collection.now.documents (map put (map (after_of updates.now.name) updates.now.each.items)) }
+    requires standing { AreUpdatesOf collection.now.documents updates.now.name updates.now.each.items }
+    ensures { IfOk result (λ clash. clash ≡ breaks collection.now.indexes (map put (map (after_of updates.now.name) updates.now.each.items)) collection.now.documents) }
+{
+    if !collection.has_unique() {
+        return Ok(false);
+    }
+    let afters = afters_of(alloc, updates)?;
+    let pairs = replacings(alloc, &updates.each, &afters)?;
+    collection.replacing_clashes(&pairs)
+}
+
+/// The documents that come in the places of those that are updated. Fails where memory is wanting.
+fn afters_of(alloc: Global, updates: &Updates) -> Result<Vec<Document>, NoMemory>
+    ensures { IfOk result (λ afters. afters.items ≡ map (after_of updates.now.name) updates.now.each.items) }
+{
+    let mut afters = Vec::with_capacity(alloc, updates.each.len())?;
+    'documents: for document in &updates.each {
+        afters.push(document.after(updates.name.as_str())?)?;
+    }
+    Ok(afters)
+}
+
+/// Each document that is updated with the one that comes in its place. Fails where memory is wanting.
+fn replacings<'d>(
+    alloc: Global,
+    each: &'d [Updated],
+    afters: &'d [Document],
+) -> Result<Vec<Replacing<'d>>, NoMemory>
+    requires { length afters.now ≡ length each.now }
+    ensures before { IfOk result (λ pairs. documents_before pairs.items ≡ map (λ u. u.before) each.now) }
+    ensures after { IfOk result (λ pairs. documents_after pairs.items ≡ afters.now) }
+{
+    let mut pairs = Vec::with_capacity(alloc, each.len())?;
+    'documents: for (document, after) in each.iter().zip(afters) {
+        let before = &document.before;
+        pairs.push(Replacing { before, after })?;
+    }
+    Ok(pairs)
 }
 
 /// Puts what documents become in their places, where they are, until memory is wanting, and answers how many were put. Values

@@ -3,11 +3,12 @@ use Rattle.std.proofs.Common.{◌≡◌, ◌⊎◌, ◌<◌, ◌≤◌, ◌==◌
 use Rattle.std.proofs.lemmas.List.Sums.{passes_at_first, split_at_first}
 use Rattle.std.specs.List.{after_first, before_first, position_or_len}
 use Rattle.dv_bson.specs.Tree.{Field}
-use Rattle.dv_catalog.specs.Changes.{Change, Effect, apply, changes_of, put}
+use Rattle.dv_catalog.specs.Changes.{Change, Effect, apply, changes_of, done_to, put}
+use Rattle.dv_catalog.specs.EffectLaws.{done_so}
 use Rattle.dv_catalog.specs.Effects.{put_new}
 use Rattle.dv_catalog.specs.Marks.{AreMarkedBy}
 use Rattle.dv_catalog.specs.Parts.{Makes, one}
-use Rattle.dv_catalog.specs.State.{documents_of, is_view, lists_of}
+use Rattle.dv_catalog.specs.State.{Collection, collection_of, is_view, lists_of}
 use Rattle.dv_catalog.specs.declared.stopped.Stopped.{Stopped}
 use Rattle.dv_coll.specs.Collection.{found, id_key}
 use Rattle.dv_command.specs.Asked.{Asked, asked_by}
@@ -27,6 +28,7 @@ use Rattle.dv_core.specs.Statements.{Write, nothing_written, with_result}
 use Rattle.dv_core.specs.Step.{Answer, answer_to, answered, carried_out, step, write_answer}
 use Rattle.dv_core.specs.Storable.{storable}
 use Rattle.dv_core.specs.Writes.{insert_one, write_by}
+use Rattle.dv_core.proofs.Done.{changes_done}
 use Rattle.dv_core.proofs.Marking.{none_changed}
 
 -- ---- one statement
@@ -65,25 +67,25 @@ module _ (old : State) (namespace : List ℕ) (ordered : Bool) where
       λ i. record { reply = write_reply 0 (document_of (write_error 0 (same i)) ∷ []); state = old }
 
 module _ (old : State) (session : ℕ) (command : Command) (asked : asking.Write) (d : List Field) (asks : asked_by command ≡ Ok (asking.write asked)) where
-  does : Result Effect Refusal
-  does = insert_one d (documents_of asked.namespace old.catalog.namespaces)
+  abbrev c : Collection
+  c = collection_of asked.namespace old.catalog.namespaces
 
   carried : step old session command ≡ answered old (carried_out old (write_by asked))
   carried = ap (λ (r : Result Asked Refusal). answered old (r >>= answer_to old session)) asks
 
   module _ (inserts : asked.kind ≡ Insert) (alone : asked.entries ≡ d ∷ []) where
-    answers : step old session command ≡ answer_by old asked.namespace asked.ordered (is_view asked.namespace old.catalog.views) (insert_one d (documents_of asked.namespace old.catalog.namespaces))
+    answers : step old session command ≡ answer_by old asked.namespace asked.ordered (is_view asked.namespace old.catalog.views) (done_to c (insert_one d))
     answers = carried ∙ (λ i. answered old (carried_out old (write_by (record asked { kind = inserts i; entries = alone i }))))
 
     pub load_stored : (new : State) → insert_alone asked.namespace d old ≡ Ok new → step old session command ≡ record { reply = write_reply 1 []; state = new }
     load_stored new is =
-        answers ∙ stored_by old asked.namespace asked.ordered (is_view asked.namespace old.catalog.views) _ new is (λ effect made. one_matched (storable d) (documents_of asked.namespace old.catalog.namespaces) effect made)
+        answers ∙ stored_by old asked.namespace asked.ordered (is_view asked.namespace old.catalog.views) _ new is (λ effect made. one_matched (storable d) c.documents effect (done_so c (insert_one d) effect made).0)
 
     pub load_refused : (refusal : Refusal) → is_view asked.namespace old.catalog.views ≡ false → insert_alone asked.namespace d old ≡ Err refusal
         → step old session command ≡ record { reply = write_reply 0 (document_of (write_error 0 refusal) ∷ []); state = old }
     load_refused refusal on is =
         answers
-        ∙ ap (λ (b : Bool). answer_by old asked.namespace asked.ordered b (insert_one d (documents_of asked.namespace old.catalog.namespaces))) on
+        ∙ ap (λ (b : Bool). answer_by old asked.namespace asked.ordered b (done_to c (insert_one d))) on
         ∙ refused_by old asked.namespace asked.ordered _ refusal (rw on at is)
 
   pub load_on_view : is_view asked.namespace old.catalog.views ≡ true → (insert_alone asked.namespace d old ≡ Err OnView) × (step old session command ≡ record { reply = refusal_reply OnView; state = old })
@@ -133,8 +135,11 @@ few_put false d = omega arith
 
 module _ (text namespace : List ℕ) (d stored : List Field) (old new : State) (named : namespace_in text ≡ Ok namespace) (on : is_view namespace old.catalog.views ≡ false) (stores : storable d ≡ Ok stored)
     (views : new.catalog.views ≡ old.catalog.views) (cursors : new.cursors ≡ old.cursors) where
+  abbrev there : Collection
+  there = collection_of namespace old.catalog.namespaces
+
   abbrev puts : Result Effect Refusal
-  puts = put_new stored (documents_of namespace old.catalog.namespaces)
+  puts = done_to there (put_new stored)
 
   abbrev MarkedBy : List Change → Type 0
   MarkedBy changes = AreMarkedBy namespace changes (lists_of old.catalog.namespaces) old.catalog.views old.marks new.marks
@@ -158,7 +163,7 @@ module _ (text namespace : List ℕ) (d stored : List Field) (old new : State) (
       → MarkedBy (take stopped.done (changes_of puts)) → ((loaded text d old ≡ Err stopped.refusal) ⊎ (stopped.refusal ≡ WantOfMemory)) × (new ≡ old)
   load_stopped stopped (inl refused) marked = (inl (loads_so _ refused.so), kept stopped.done refused.none refused.kept marked)
   load_stopped stopped (inr cut) marked =
-      let few = few_put (is_some (found (id_key stored) (documents_of namespace old.catalog.namespaces))) stored in
+      let few = changes_done there (put_new stored) (λ changes. length changes ≤ 1) (omega arith) (few_put (is_some (found (id_key stored) there.documents)) stored) in
       let none : stopped.done ≡ 0 = none_done few cut.fewer in
       (inr cut.so, kept stopped.done none (cut.made ∙ ap (λ (n : ℕ). apply namespace (take n (changes_of puts)) old.catalog.namespaces) none) marked)
     where

@@ -14,19 +14,18 @@ use Rattle.dv_command.specs.declared.command.Command.{Command}
 use Rattle.dv_fields.specs.declared.refusal.Refusal.{Refusal}
 use Rattle.dv_core.specs.declared.outcome.Outcome.{Outcome}
 use Rattle.dv_core.specs.declared.outcome.Outcome.TheVariants.{Reply, Wanting, NoReply}
-use Rattle.dv_catalog.specs.Changes.{Effect}
+use Rattle.dv_catalog.specs.Changes.{Effect, Statement, done_to}
 use Rattle.dv_core.specs.Find.{are_too_large, first_batch, kept, left_behind, replied, found, gathered}
 use Rattle.dv_core.specs.Indexes.{form_asked, index_count}
 use Rattle.dv_core.specs.More.{next_batch, next_of, number_of, rows_asked}
 use Rattle.dv_cursor.specs.Batch.{batch}
 use Rattle.dv_cursor.specs.Cursors.{Cursors}
 use Rattle.dv_catalog.specs.IndexMaking.{indexes_created, indexes_dropped}
-use Rattle.dv_catalog.specs.State.{Namespaces, documents_of, is_view}
+use Rattle.dv_catalog.specs.State.{Namespaces, collection_of, is_view}
 use Rattle.dv_catalog.specs.State as stored
 use Rattle.dv_core.specs.State.{State, marked}
 use Rattle.dv_core.specs.Stats.{view_told}
 use Rattle.dv_catalog.specs.Views.{aggregated, created, dropped}
-use Rattle.dv_catalog.specs.Changes.{Statement}
 use Rattle.dv_core.specs.Statements.{Write, Written, nothing_written, carry_out, with_all, with_next, with_result, is_due, IsCut}
 use Rattle.dv_core.specs.Step.{Answer, answered, read_answer, write_answer, on_catalog, on_cursors, answer_to, step, write_of, makes, moves}
 use Rattle.dv_core.specs.Writes.{reply_by, write_by}
@@ -307,7 +306,7 @@ module _ (write : Write) (ordered : write.ordered ≡ true) where
   one_next : (so_far : Written) (statement : Statement) → length so_far.errors ≤ 1 → length (with_next write.namespace write.ordered so_far statement).errors ≤ 1
   one_next so_far statement few = by_due (is_due write.ordered so_far.errors) refl
     where
-      by_due : (b : Bool) → is_due write.ordered so_far.errors ≡ b → length (cond b (with_result write.namespace write.ordered so_far (statement (documents_of write.namespace so_far.namespaces))) so_far).errors ≤ 1
+      by_due : (b : Bool) → is_due write.ordered so_far.errors ≡ b → length (cond b (with_result write.namespace write.ordered so_far (done_to (collection_of write.namespace so_far.namespaces) statement)) so_far).errors ≤ 1
       by_due true due = one_result so_far _ (due_none write.ordered so_far.errors ordered due)
       by_due false due = few
 

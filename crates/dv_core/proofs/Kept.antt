@@ -1,9 +1,6 @@
--- What statements keep of the documents of each namespace.
-use Rattle.std.proofs.Common.{ℕ, zero, suc, Bool, true, false, cond, List, [], ◌∷◌, ◌++◌, length, map, not, take, Option, Some, Result, Ok, Err, is_some, if◌then◌else◌, ◌≡◌, ◌⊎◌, inl, inr, refl, sym, subst}
-use Rattle.std.proofs.lemmas.Slice.Eq.{bytes_eq-Decides}
+-- What statements keep of the collection of each namespace.
+use Rattle.std.proofs.Common.{ℕ, zero, suc, Bool, true, false, cond, List, [], ◌∷◌, ◌++◌, length, map, not, take, Some, Result, Ok, Err, is_some, if◌then◌else◌, ◌≡◌, inl, inr, refl, subst}
 use Rattle.std.specs.List.{AllByRecursion}
-use Rattle.std.specs.FinMap as finite
-use Rattle.std.specs.Str.{bytes_eq}
 use Rattle.dv_bson.specs.Tree.{Field}
 use Rattle.dv_coll.specs.Collection.{found, id_key}
 use Rattle.dv_order.specs.Key.{KeyTree}
@@ -14,35 +11,34 @@ use Rattle.dv_fields.specs.declared.refusal.Refusal.{Refusal}
 use Rattle.dv_fields.specs.declared.refusal.Refusal.TheVariants.{DuplicateKey}
 use Rattle.dv_fields.specs.Refusals.{◌>>=◌}
 use Rattle.dv_core.specs.declared.outcome.Outcome.{Outcome}
-use Rattle.dv_catalog.specs.Changes.{Change, put, gone, Effect, Statement, apply, with_change, with_changes, changes_of}
+use Rattle.dv_catalog.specs.Changes.{Change, put, gone, Effect, Statement, apply, breaks, changes_of, clashes_by, done_to, with_change, with_changes}
 use Rattle.dv_update.specs.Update as form
 use Rattle.dv_catalog.specs.Effects.{changed_by, delete_chosen, put_new, update_chosen}
 use Rattle.dv_catalog.specs.Scan.{matching}
-use Rattle.dv_catalog.specs.State.{Standing, Namespaces, Collection, collection_at, collection_of, documents_of, with_documents, collection}
+use Rattle.dv_catalog.specs.State.{Namespaces, Collection, collection_of, documents_of, indexes_of}
 use Rattle.dv_core.specs.State.{State}
 use Rattle.dv_core.specs.Statements.{Write, Written, nothing_written, with_all, with_next, with_result, is_due}
 use Rattle.dv_core.specs.Step.{Answer, write_of}
 use Rattle.dv_core.specs.Storable.{storable}
-use Rattle.dv_catalog.specs.StateLaws.{get-insert}
 use Rattle.dv_core.specs.Writes.{insert_one, update_one, delete_one}
 use Rattle.dv_core.proofs.Bare.{BareStep}
-use Rattle.dv_core.proofs.Changed.{Did, outcome_may, Made, MayWrite}
-use Rattle.dv_core.proofs.Made.{made_documents}
+use Rattle.dv_core.proofs.Changed.{Did, outcome_may, MayWrite}
+use Rattle.dv_core.proofs.Done.{changes_done, changes_unbroken, front_unbroken, neither}
+use Rattle.dv_core.proofs.Standing.{IsKeptBy, Stands, made_stands, put_stands}
 use Rattle.dv_catalog.specs.EffectLaws.{IsGoodAfter, chosen_good, matching_good, all_changed_good}
 
--- of a property of the documents of a namespace, and changes that keep it
-module _ (P : List ℕ → List (List Field) → Type 0) (IsGood : Change → Type 0)
-    (keeps : (namespace : List ℕ) (documents : List (List Field)) (change : Change) → P namespace documents → IsGood change → P namespace (with_change documents change)) where
-  abbrev pub Holds : Namespaces → Type 0
-  Holds namespaces = (namespace : List ℕ) → P namespace (documents_of namespace namespaces)
-
+-- of a property of the collection of a namespace, and changes that keep it where they put no key of a unique index under two `_id`s
+module _ (P : List ℕ → Collection → Type 0) (IsGood : Change → Type 0)
+    (keeps : (namespace : List ℕ) (c : Collection) (change : Change) → P namespace c → IsGood change → clashes_by c.indexes change c.documents ≡ false → P namespace (record c { documents = with_change c.documents change })) where
   -- a statement that makes no others
   pub record Keeps (statement : Statement) : Type 0 where
-    pub good : (namespace : List ℕ) (documents : List (List Field)) → P namespace documents → AllByRecursion IsGood (changes_of (statement documents))
+    pub good : (namespace : List ℕ) (c : Collection) → P namespace c → AllByRecursion IsGood (changes_of (statement c.documents))
 
-  changes_hold : (namespace : List ℕ) (documents : List (List Field)) (changes : List Change) → P namespace documents → AllByRecursion IsGood changes → P namespace (with_changes documents changes)
-  changes_hold namespace documents [] h good = h
-  changes_hold namespace documents (change ∷ changes) h good = changes_hold namespace (with_change documents change) changes (keeps namespace documents change h good.0) good.1
+  changes_hold : (namespace : List ℕ) (c : Collection) (changes : List Change) → P namespace c → AllByRecursion IsGood changes → breaks c.indexes changes c.documents ≡ false → P namespace (record c { documents = with_changes c.documents changes })
+  changes_hold namespace c [] h good unbroken = h
+  changes_hold namespace c (change ∷ changes) h good unbroken =
+      let (here, later) = neither (clashes_by c.indexes change c.documents) (breaks c.indexes changes (with_change c.documents change)) unbroken in
+      changes_hold namespace (record c { documents = with_change c.documents change }) changes (keeps namespace c change h good.0 here) good.1 later
 
   first_good : (made : ℕ) (changes : List Change) → AllByRecursion IsGood changes → AllByRecursion IsGood (take made changes)
   first_good zero [] good = tt
@@ -50,35 +46,34 @@ module _ (P : List ℕ → List (List Field) → Type 0) (IsGood : Change → Ty
   first_good (suc made) [] good = tt
   first_good (suc made) (change ∷ changes) good = (good.0, first_good made changes good.1)
 
-  put_holds : (other : List ℕ) (b : Bool) (there : Option Standing) (c : Collection) → P other (collection_at there).documents → (b ≡ true → P other c.documents) → P other (collection_at (cond b (Some (collection c)) there)).documents
-  put_holds other true there c h i = i refl
-  put_holds other false there c h i = h
+  pub apply_holds : (namespace : List ℕ) (changes : List Change) (namespaces : Namespaces) → Stands P namespaces → AllByRecursion IsGood changes
+      → breaks (indexes_of namespace namespaces) changes (documents_of namespace namespaces) ≡ false → Stands P (apply namespace changes namespaces)
+  apply_holds namespace [] namespaces h good unbroken = h
+  apply_holds namespace (change ∷ changes) namespaces h good unbroken =
+      let c : Collection = collection_of namespace namespaces in
+      put_stands P namespace (record c { documents = with_changes c.documents (change ∷ changes) }) namespaces h (changes_hold namespace c (change ∷ changes) (h namespace) good unbroken)
 
-  with_holds : (namespace : List ℕ) (documents : List (List Field)) (namespaces : Namespaces) → Holds namespaces → P namespace documents → Holds (with_documents namespace documents namespaces)
-  with_holds namespace documents namespaces h i other =
-      subst (λ (there : Option Standing). P other (collection_at there).documents) (sym (get-insert namespaces namespace (collection (record (collection_of namespace namespaces) { documents = documents })) other))
-      (put_holds other (bytes_eq namespace other) (finite.get namespaces other) (record (collection_of namespace namespaces) { documents = documents }) (h other) (λ same. subst (λ (name : List ℕ). P name documents) ((bytes_eq-Decides namespace other).0 same) i))
-
-  pub apply_holds : (namespace : List ℕ) (changes : List Change) (namespaces : Namespaces) → Holds namespaces → AllByRecursion IsGood changes → Holds (apply namespace changes namespaces)
-  apply_holds namespace [] namespaces h good = h
-  apply_holds namespace (change ∷ changes) namespaces h good =
-      with_holds namespace (with_changes (documents_of namespace namespaces) (change ∷ changes)) namespaces h (changes_hold namespace (documents_of namespace namespaces) (change ∷ changes) (h namespace) good)
+  -- what a statement does to a collection
+  pub does_good : (namespace : List ℕ) (c : Collection) (statement : Statement) → Keeps statement → P namespace c → AllByRecursion IsGood (changes_of (done_to c statement))
+  does_good namespace c statement keep h = changes_done c statement (AllByRecursion IsGood) tt (keep.good namespace c h)
 
   module _ (namespace : List ℕ) (ordered : Bool) where
-    result_holds : (so_far : Written) (result : Result Effect Refusal) → Holds so_far.namespaces → AllByRecursion IsGood (changes_of result) → Holds (with_result namespace ordered so_far result).namespaces
-    result_holds so_far (Ok effect) h good = apply_holds namespace effect.changes so_far.namespaces h good
-    result_holds so_far (Err refusal) h good = h
+    result_holds : (so_far : Written) (result : Result Effect Refusal) → Stands P so_far.namespaces → AllByRecursion IsGood (changes_of result)
+        → breaks (indexes_of namespace so_far.namespaces) (changes_of result) (documents_of namespace so_far.namespaces) ≡ false → Stands P (with_result namespace ordered so_far result).namespaces
+    result_holds so_far (Ok effect) h good unbroken = apply_holds namespace effect.changes so_far.namespaces h good unbroken
+    result_holds so_far (Err refusal) h good unbroken = h
 
-    looked_holds : (b : Bool) (one other : Written) → Holds one.namespaces → Holds other.namespaces → Holds (cond b one other).namespaces
+    looked_holds : (b : Bool) (one other : Written) → Stands P one.namespaces → Stands P other.namespaces → Stands P (cond b one other).namespaces
     looked_holds true one other h i = h
     looked_holds false one other h i = i
 
-    next_holds : (so_far : Written) (statement : Statement) → Holds so_far.namespaces → Keeps statement → Holds (with_next namespace ordered so_far statement).namespaces
+    next_holds : (so_far : Written) (statement : Statement) → Stands P so_far.namespaces → Keeps statement → Stands P (with_next namespace ordered so_far statement).namespaces
     next_holds so_far statement h keep =
-        looked_holds (is_due ordered so_far.errors) (with_result namespace ordered so_far (statement (documents_of namespace so_far.namespaces))) so_far
-        (result_holds so_far (statement (documents_of namespace so_far.namespaces)) h (keep.good namespace (documents_of namespace so_far.namespaces) (h namespace))) h
+        let c : Collection = collection_of namespace so_far.namespaces in
+        looked_holds (is_due ordered so_far.errors) (with_result namespace ordered so_far (done_to c statement)) so_far
+        (result_holds so_far (done_to c statement) h (does_good namespace c statement keep (h namespace)) (changes_unbroken c statement)) h
 
-    all_holds : (so_far : Written) (statements : List Statement) → Holds so_far.namespaces → AllByRecursion Keeps statements → Holds (with_all namespace ordered so_far statements).namespaces
+    all_holds : (so_far : Written) (statements : List Statement) → Stands P so_far.namespaces → AllByRecursion Keeps statements → Stands P (with_all namespace ordered so_far statements).namespaces
     all_holds so_far [] h keep = h
     all_holds so_far (statement ∷ statements) h keep = all_holds (with_next namespace ordered so_far statement) statements (next_holds so_far statement h keep.0) keep.1
 
@@ -86,36 +81,31 @@ module _ (P : List ℕ → List (List Field) → Type 0) (IsGood : Change → Ty
   split_keep [] statement behind keep = (tt, keep.0)
   split_keep (s ∷ before) statement behind keep = let rest = split_keep before statement behind keep.1 in ((keep.0, rest.0), rest.1)
 
-  did_holds : (write : Write) (old : State) (did : Written) → AllByRecursion Keeps write.statements → Did write old did → Holds old.catalog.namespaces → Holds did.namespaces
+  did_holds : (write : Write) (old : State) (did : Written) → AllByRecursion Keeps write.statements → Did write old did → Stands P old.catalog.namespaces → Stands P did.namespaces
   did_holds write old did keep (inl whole) h = rw whole (all_holds write.namespace write.ordered (nothing_written old.catalog.namespaces) write.statements h keep)
-  did_holds write old did keep (inr c) h =
-      let keeps : AllByRecursion Keeps (c.before ++ c.statement ∷ c.behind) = subst (AllByRecursion Keeps) c.stands keep in
-      let parts = split_keep c.before c.statement c.behind keeps in
-      let before : Written = with_all write.namespace write.ordered (nothing_written old.catalog.namespaces) c.before in
-      let held : Holds before.namespaces = all_holds write.namespace write.ordered (nothing_written old.catalog.namespaces) c.before h parts.0 in
-      let changes : List Change = changes_of (c.statement (documents_of write.namespace before.namespaces)) in
-      rw c.left_so (apply_holds write.namespace (take c.made changes) before.namespaces held (first_good c.made changes (parts.1.good write.namespace (documents_of write.namespace before.namespaces) (held write.namespace))))
+  did_holds write old did keep (inr cuts) h =
+      let parts = split_keep cuts.before cuts.statement cuts.behind (subst (AllByRecursion Keeps) cuts.stands keep) in
+      let before : Written = with_all write.namespace write.ordered (nothing_written old.catalog.namespaces) cuts.before in
+      let held : Stands P before.namespaces = all_holds write.namespace write.ordered (nothing_written old.catalog.namespaces) cuts.before h parts.0 in
+      let c : Collection = collection_of write.namespace before.namespaces in
+      let changes : List Change = changes_of (done_to c cuts.statement) in
+      rw cuts.left_so
+      (apply_holds write.namespace (take cuts.made changes) before.namespaces held (first_good cuts.made changes (does_good write.namespace c cuts.statement parts.1 (held write.namespace)))
+      (front_unbroken c.indexes cuts.made changes c.documents (changes_unbroken c cuts.statement)))
 
-  made_holds : (old new : State) (what : Asked) → ((namespace : List ℕ) → P namespace []) → Made old what new → Holds old.catalog.namespaces → Holds new.catalog.namespaces
-  made_holds old new what none made h name = either (made_documents old new what made name)
-    where
-      either : (documents_of name new.catalog.namespaces ≡ documents_of name old.catalog.namespaces) ⊎ (documents_of name new.catalog.namespaces ≡ []) → P name (documents_of name new.catalog.namespaces)
-      either (inl same) = rw same (h name)
-      either (inr empty) = rw empty (none name)
-
-  may_hold : (old : State) (asked : Result Asked Refusal) (answer : Answer) → ((namespace : List ℕ) → P namespace []) → ((what : Asked) (write : Write) → asked ≡ Ok what → write_of what ≡ Some write → AllByRecursion Keeps write.statements)
-      → MayWrite old asked answer → Holds old.catalog.namespaces → Holds answer.state.catalog.namespaces
-  may_hold old asked answer none keep (inl same) h = rw same h
-  may_hold old asked answer none keep (inr (inl w)) h = rw w.answers (did_holds w.write old w.did (keep w.what w.write w.asks w.is_write) w.did_so h)
-  may_hold old asked answer none keep (inr (inr m)) h = made_holds old answer.state m.what none m.made h
+  may_hold : (old : State) (asked : Result Asked Refusal) (answer : Answer) → ((what : Asked) → IsKeptBy P what) → ((what : Asked) (write : Write) → asked ≡ Ok what → write_of what ≡ Some write → AllByRecursion Keeps write.statements)
+      → MayWrite old asked answer → Stands P old.catalog.namespaces → Stands P answer.state.catalog.namespaces
+  may_hold old asked answer kept keep (inl same) h = rw same h
+  may_hold old asked answer kept keep (inr (inl w)) h = rw w.answers (did_holds w.write old w.did (keep w.what w.write w.asks w.is_write) w.did_so h)
+  may_hold old asked answer kept keep (inr (inr m)) h = made_stands P old answer.state m.what (kept m.what) m.made h
 
   -- a step whose statements keep it does
-  pub step_holds : (old new : State) (session : ℕ) (command : Command) (outcome : Outcome) → ((namespace : List ℕ) → P namespace [])
+  pub step_holds : (old new : State) (session : ℕ) (command : Command) (outcome : Outcome) → ((what : Asked) → IsKeptBy P what)
       → ((what : Asked) (write : Write) → asked_by command ≡ Ok what → write_of what ≡ Some write → AllByRecursion Keeps write.statements)
-      → Holds old.catalog.namespaces → BareStep old session command outcome new → Holds new.catalog.namespaces
-  step_holds old new session command outcome none keep h steps =
+      → Stands P old.catalog.namespaces → BareStep old session command outcome new → Stands P new.catalog.namespaces
+  step_holds old new session command outcome kept keep h steps =
       let (answer, may, stands) = outcome_may old new session command outcome steps in
-      rw stands (may_hold old (asked_by command) answer none keep may h)
+      rw stands (may_hold old (asked_by command) answer kept keep may h)
 
   -- ---- the statements of an insert
 
@@ -130,7 +120,7 @@ module _ (P : List ℕ → List (List Field) → Type 0) (IsGood : Change → Ty
 
   -- one that puts what is stored
   pub insert_keeps : (d : List Field) → ((stored : List Field) → storable d ≡ Ok stored → IsGood (put stored)) → Keeps (insert_one d)
-  insert_keeps d good = record { good = λ namespace documents h. stored_good d (storable d) refl good documents }
+  insert_keeps d good = record { good = λ namespace c h. stored_good d (storable d) refl good c.documents }
 
   -- ---- the statements of a delete
 
@@ -145,7 +135,7 @@ module _ (P : List ℕ → List (List Field) → Type 0) (IsGood : Change → Ty
 
     pub deletes_keep : (entries : List (List Field)) → AllByRecursion Keeps (map delete_one entries)
     deletes_keep [] = tt
-    deletes_keep (entry ∷ entries) = (record { good = λ namespace documents h. entry_good (deletion_of entry) documents }, deletes_keep entries)
+    deletes_keep (entry ∷ entries) = (record { good = λ namespace c h. entry_good (deletion_of entry) c.documents }, deletes_keep entries)
 
   -- ---- the statements of an update
 
@@ -164,18 +154,18 @@ module _ (P : List ℕ → List (List Field) → Type 0) (IsGood : Change → Ty
 
   -- of updates of a sort
   module _ (IsGoodUpdate : form.Update → Type 0)
-      (good_after : (update : form.Update) → IsGoodUpdate update → (namespace : List ℕ) (documents : List (List Field)) → P namespace documents → AllByRecursion (PutsGood update) documents) where
+      (good_after : (update : form.Update) → IsGoodUpdate update → (namespace : List ℕ) (c : Collection) → P namespace c → AllByRecursion (PutsGood update) c.documents) where
     -- an entry that asks one
     abbrev pub AsksGood : List Field → Type 0
     AsksGood entry = (updating : Updating) → updating_of entry ≡ Ok updating → IsGoodUpdate updating.update
 
-    entry_updated : (entry : List Field) (result : Result Updating Refusal) → updating_of entry ≡ result → AsksGood entry → (namespace : List ℕ) (documents : List (List Field)) → P namespace documents
-        → AllByRecursion IsGood (changes_of (result >>= λ updating. update_chosen updating documents))
-    entry_updated entry (Ok updating) is asks namespace documents h =
+    entry_updated : (entry : List Field) (result : Result Updating Refusal) → updating_of entry ≡ result → AsksGood entry → (namespace : List ℕ) (c : Collection) → P namespace c
+        → AllByRecursion IsGood (changes_of (result >>= λ updating. update_chosen updating c.documents))
+    entry_updated entry (Ok updating) is asks namespace c h =
         updated_good updating _ _ refl
-        (chosen_good (PutsGood updating.update) (not updating.multi) (matching updating.filter documents) (matching_good (PutsGood updating.update) updating.filter documents (good_after updating.update (asks updating is) namespace documents h)))
-    entry_updated entry (Err refusal) is asks namespace documents h = tt
+        (chosen_good (PutsGood updating.update) (not updating.multi) (matching updating.filter c.documents) (matching_good (PutsGood updating.update) updating.filter c.documents (good_after updating.update (asks updating is) namespace c h)))
+    entry_updated entry (Err refusal) is asks namespace c h = tt
 
     pub updates_keep : (entries : List (List Field)) → AllByRecursion AsksGood entries → AllByRecursion Keeps (map update_one entries)
     updates_keep [] asks = tt
-    updates_keep (entry ∷ entries) asks = (record { good = λ namespace documents h. entry_updated entry (updating_of entry) refl asks.0 namespace documents h }, updates_keep entries asks.1)
+    updates_keep (entry ∷ entries) asks = (record { good = λ namespace c h. entry_updated entry (updating_of entry) refl asks.0 namespace c h }, updates_keep entries asks.1)

@@ -9,6 +9,9 @@ mod Bare
 mod Changed
 mod Cursored
 mod Made
+mod Standing
+mod Done
+mod Unique
 mod Marking
 mod Marked
 mod Kept

@@ -11,7 +11,7 @@ use Rattle.dv_core.specs.Indexes.{form_asked}
 use Rattle.dv_core.specs.State as core
 use Rattle.dv_catalog.specs.StateLaws.{get-insert, get-remove}
 use Rattle.dv_catalog.specs.Views.{created, dropped, made, with_view, with_views}
-use Rattle.dv_command.specs.Asked.{Asked, Create, Drop, ViewOn, find, aggregate, get_more, kill_cursors, create, drop, create_indexes, drop_indexes, asked_by}
+use Rattle.dv_command.specs.Asked.{Asked, Create, Drop, ViewOn, create, drop, create_indexes, drop_indexes, asked_by}
 use Rattle.dv_command.specs.declared.command.Command.{Command}
 use Rattle.dv_core.specs.declared.outcome.Outcome.{Outcome}
 use Rattle.dv_core.specs.Step.{write_of, indexes}
@@ -62,9 +62,9 @@ indexes_so old new namespace (Err refusal) is = absurd cc
 pub created_so : (old new : State) (namespace : List ℕ) (entries : List IndexForm) → indexes_created namespace entries old ≡ Ok new → LeavesDocuments old new
 created_so old new namespace entries is = by_view (is_view namespace old.views) is
   where
-    by_view : (b : Bool) → (if b then Err OnView else with_indexes_so namespace (with_all entries (indexes_of namespace old.namespaces)) old) ≡ Ok new → LeavesDocuments old new
+    by_view : (b : Bool) → (if b then Err OnView else with_indexes_so namespace (with_all entries (collection_of namespace old.namespaces)) old) ≡ Ok new → LeavesDocuments old new
     by_view true is = absurd cc
-    by_view false is = indexes_so old new namespace (with_all entries (indexes_of namespace old.namespaces)) is
+    by_view false is = indexes_so old new namespace (with_all entries (collection_of namespace old.namespaces)) is
 
 pub dropped_so : (old new : State) (namespace name : List ℕ) → indexes_dropped namespace name old ≡ Ok new → LeavesDocuments old new
 dropped_so old new namespace name is = by_there (is_view namespace old.views) (is_collection namespace old.namespaces) is
@@ -117,28 +117,6 @@ dropped_documents old new namespace is name = by_collection (is_collection names
         ∙ ap (λ (there : Option Standing). (collection_at there).documents) (get-remove old.namespaces namespace name) ∙ at_name (bytes_eq namespace name)
         )
     by_collection false is = inr (by_view (is_view namespace old.views) is)
-
--- what is made leaves the documents of each namespace, or none
-none_or_same : (b : Bool) (now before : List (List Field)) → now ≡ (if b then [] else before) → (now ≡ before) ⊎ (now ≡ [])
-none_or_same true now before is = inr is
-none_or_same false now before is = inl is
-
-pub made_documents : (old new : core.State) (what : Asked) → Made old what new → (name : List ℕ)
-    → (documents_of name new.catalog.namespaces ≡ documents_of name old.catalog.namespaces) ⊎ (documents_of name new.catalog.namespaces ≡ [])
-made_documents old new (create c) made name = inl (created_documents old.catalog new.catalog c.namespace c.view made.0 name)
-made_documents old new (drop d) made name = either (dropped_documents old.catalog new.catalog d.namespace made.0 name)
-  where
-    either : documents_of name new.catalog.namespaces ≡ (if bytes_eq d.namespace name then [] else documents_of name old.catalog.namespaces) ⊎ (documents_of name new.catalog.namespaces ≡ documents_of name old.catalog.namespaces)
-        → (documents_of name new.catalog.namespaces ≡ documents_of name old.catalog.namespaces) ⊎ (documents_of name new.catalog.namespaces ≡ [])
-    either (inl is) = none_or_same (bytes_eq d.namespace name) (documents_of name new.catalog.namespaces) (documents_of name old.catalog.namespaces) is
-    either (inr is) = inl is
-made_documents old new (create_indexes c) made name = inl ((created_so old.catalog new.catalog c.namespace (map form_asked c.indexes) made.0).documents name)
-made_documents old new (drop_indexes d) made name = inl ((dropped_so old.catalog new.catalog d.namespace d.index made.0).documents name)
-made_documents old new (find f) made name = inl (ap (λ (s : State). documents_of name s.namespaces) made)
-made_documents old new (aggregate a) made name = inl (ap (λ (s : State). documents_of name s.namespaces) made)
-made_documents old new (get_more g) made name = inl (ap (λ (s : State). documents_of name s.namespaces) made)
-made_documents old new (kill_cursors k) made name = inl (ap (λ (s : State). documents_of name s.namespaces) made)
-made_documents old new what made name = absurd made
 
 pub dropped_others : (old new : State) (namespace name : List ℕ) → dropped namespace old ≡ Ok new → bytes_eq namespace name ≡ false → documents_of name new.namespaces ≡ documents_of name old.namespaces
 dropped_others old new namespace name is other = either (dropped_documents old new namespace is name)

@@ -1,5 +1,5 @@
 -- The indexes of each namespace keep names that can be told, and so the index by which a find is explained has one.
-use Rattle.std.proofs.Common.{◌≡◌, inl, inr, ℕ, zero, suc, not, Bool, true, false, cond, if◌then◌else◌, List, [], ◌∷◌, ◌++◌, map, take, Option, Some, None, Result, Ok, Err, nat_lt, length, refl, sym, ap, subst, ◌∙◌, arith}
+use Rattle.std.proofs.Common.{◌≡◌, inl, inr, ℕ, zero, suc, not, Bool, true, false, cond, if◌then◌else◌, List, [], ◌∷◌, ◌++◌, drop, map, take, Option, Some, None, Result, Ok, Err, nat_lt, length, refl, sym, ap, subst, ◌∙◌, arith}
 use Rattle.std.proofs.lemmas.Slice.Eq.{bytes_eq-Decides}
 use Rattle.std.specs.Prelude.{codes}
 use Rattle.std.specs.FinMap as finite
@@ -9,13 +9,12 @@ use Rattle.std.specs.List.{AllByRecursion, list_any, slice_get}
 use Rattle.std.specs.Option.{option_map}
 use Rattle.std.specs.Str.{bytes_eq}
 use Rattle.dv_bson.specs.Tree.{Field}
-use Rattle.dv_catalog.specs.Changes.{Change, Effect, Statement, apply, changes_of}
-use Rattle.dv_catalog.specs.IndexMaking.{over_view, explained, explained_at, is_alike, is_made, way_by, indexes_created, indexes_dropped, with_all as with_all_entries, with_entries, with_index, with_indexes_so, within_limit, without_named, index_limit}
-use Rattle.dv_catalog.specs.State.{Standing, Namespaces, collection, collection_at, collection_of, indexes_of, documents_of, with_documents, with_indexes, without_view, is_collection, is_there, is_view}
+use Rattle.dv_catalog.specs.Changes.{Change, Effect, Statement, apply, changes_of, done_to}
+use Rattle.dv_catalog.specs.IndexMaking.{over_view, explained, explained_at, is_alike, is_made, way_by, unless_broken, with_all as with_all_entries, with_entries, with_index, within_limit, without_named, index_limit}
+use Rattle.dv_catalog.specs.State.{Collection, Standing, Namespaces, collection, collection_at, collection_of, indexes_of, with_documents, is_view}
 use Rattle.dv_catalog.specs.State as stored
-use Rattle.dv_catalog.specs.StateLaws.{get-insert, get-remove}
-use Rattle.dv_catalog.specs.Views.{made, with_view}
-use Rattle.dv_command.specs.Asked.{Asked, ViewOn, find, aggregate, get_more, kill_cursors, create, drop, create_indexes, drop_indexes, asked_by}
+use Rattle.dv_catalog.specs.StateLaws.{get-insert}
+use Rattle.dv_command.specs.Asked.{Asked, create_indexes, drop_indexes, asked_by}
 use Rattle.dv_command.specs.Entries.{IndexAsked}
 use Rattle.dv_command.specs.Sound.{AreIndexes, IsIndexName, IsSoundlyAsked}
 use Rattle.dv_command.specs.declared.command.Command.{Command}
@@ -27,15 +26,16 @@ use Rattle.dv_core.specs.Step.{Answer}
 use Rattle.dv_core.specs.declared.outcome.Outcome.{Outcome}
 use Rattle.dv_core.proofs.Bare.{BareStep}
 use Rattle.dv_core.proofs.Asking.{AsksSoundly, body_size, soundly_asked}
-use Rattle.dv_core.proofs.Changed.{Did, Made, MayWrite, outcome_may}
-use Rattle.dv_core.proofs.Made.{views_only}
+use Rattle.dv_core.proofs.Changed.{Did, MayWrite, outcome_may}
+use Rattle.dv_core.proofs.Standing.{IsKeptBy, indexes_by, made_stands}
 use Rattle.dv_core.proofs.Texts.{IsUtf8-ascii}
 use Rattle.dv_fields.specs.Refusals.{◌>>=◌}
 use Rattle.dv_fields.specs.declared.refusal.Refusal.{Refusal}
-use Rattle.dv_fields.specs.declared.refusal.Refusal.TheVariants.{BadValue, ConflictingUpdateOperators, IndexNotFound, LimitReached, NamespaceExists, NamespaceNotFound, OnView}
+use Rattle.dv_fields.specs.declared.refusal.Refusal.TheVariants.{BadValue, ConflictingUpdateOperators, DuplicateKey, IndexNotFound, LimitReached}
 use Rattle.dv_index.specs.Index.{IndexForm, id_form}
 use Rattle.dv_index.specs.Indexed.{index_chosen, is_dropped, name_at, paths_of, without_index}
 use Rattle.dv_index.specs.Choice.{chosen}
+use Rattle.dv_index.specs.Unique.{are_broken}
 use Rattle.dv_match.specs.Filter.{Condition, Members}
 
 abbrev pub Named : List IndexForm → Type 0
@@ -70,10 +70,10 @@ module _ (namespace : List ℕ) (ordered : Bool) (name : List ℕ) where
   next_leaves so_far statement = by_due (is_due ordered so_far.errors)
     where
       result : Written
-      result = with_result namespace ordered so_far (statement (documents_of namespace so_far.namespaces))
+      result = with_result namespace ordered so_far (done_to (collection_of namespace so_far.namespaces) statement)
 
       by_due : (b : Bool) → indexes_of name (cond b result so_far).namespaces ≡ indexes_of name so_far.namespaces
-      by_due true = result_leaves so_far (statement (documents_of namespace so_far.namespaces))
+      by_due true = result_leaves so_far (done_to (collection_of namespace so_far.namespaces) statement)
       by_due false = refl
 
   all_leave : (so_far : Written) (statements : List Statement) → indexes_of name (with_all namespace ordered so_far statements).namespaces ≡ indexes_of name so_far.namespaces
@@ -85,7 +85,7 @@ did_leave write old did (inl whole) name = ap (λ (w : Written). indexes_of name
 did_leave write old did (inr c) name =
     let before : Written = with_all write.namespace write.ordered (nothing_written old.catalog.namespaces) c.before in
     ap (λ (w : Written). indexes_of name w.namespaces) c.left_so
-    ∙ apply_leaves write.namespace (take c.made (changes_of (c.statement (documents_of write.namespace before.namespaces)))) before.namespaces name
+    ∙ apply_leaves write.namespace (take c.made (changes_of (done_to (collection_of write.namespace before.namespaces) c.statement))) before.namespaces name
     ∙ all_leave write.namespace write.ordered name (nothing_written old.catalog.namespaces) c.before
 
 -- ---- indexes that are made and dropped
@@ -127,8 +127,15 @@ limit_named : (b : Bool) (indexes : List IndexForm) → Named indexes → IfMade
 limit_named true indexes named = tt
 limit_named false indexes named = named
 
-all_named : (entries indexes : List IndexForm) → Named entries → Named indexes → IfMade (with_all_entries entries indexes)
-all_named entries indexes are named = then_made (with_entries entries indexes) within_limit (entries_named entries indexes are named) (λ more also. limit_named (nat_lt index_limit (length more)) more also)
+unbroken_named : (b : Bool) (indexes : List IndexForm) → Named indexes → IfMade (if b then Err DuplicateKey else Ok indexes)
+unbroken_named true indexes named = tt
+unbroken_named false indexes named = named
+
+all_named : (entries : List IndexForm) (c : Collection) → Named entries → Named c.indexes → IfMade (with_all_entries entries c)
+all_named entries c are named =
+    then_made (with_entries entries c.indexes >>= within_limit) (unless_broken c)
+    (then_made (with_entries entries c.indexes) within_limit (entries_named entries c.indexes are named) (λ more also. limit_named (nat_lt index_limit (length more)) more also))
+    (λ more also. unbroken_named (are_broken (drop (length c.indexes) more) c.documents) more also)
 
 left_named : (name : List ℕ) (indexes : List IndexForm) → Named indexes → IfMade (without_named name indexes)
 left_named name indexes named = by_tests (bytes_eq name (codes "*")) (bytes_eq name id_form.name) (list_any (is_dropped name) indexes)
@@ -145,81 +152,18 @@ asked_named (x ∷ asked) sound = (sound.0, asked_named asked sound.1)
 
 -- ---- what stands under namespaces
 
-abbrev AllNamed : Namespaces → Type 0
-AllNamed namespaces = (name : List ℕ) → Named (indexes_of name namespaces)
+abbrev HasNames : List ℕ → Collection → Type 0
+HasNames namespace c = Named c.indexes
 
-either_named : (b : Bool) (new old : Option Standing) → Named (collection_at new).indexes → Named (collection_at old).indexes → Named (collection_at (cond b new old)).indexes
-either_named true new old named all = named
-either_named false new old named all = all
-
-indexes_put : (old : Namespaces) (namespace : List ℕ) (indexes : List IndexForm) → Named indexes → AllNamed old → AllNamed (with_indexes namespace indexes old)
-indexes_put old namespace indexes named all name =
-    let now : Standing = collection (record (collection_of namespace old) { indexes = indexes }) in
-    subst (λ (there : Option Standing). Named (collection_at there).indexes) (sym (get-insert old namespace now name)) (either_named (bytes_eq namespace name) (Some now) (finite.get old name) named (all name))
-
-one_removed : (old : Namespaces) (namespace : List ℕ) → AllNamed old → AllNamed (finite.remove old namespace)
-one_removed old namespace all name =
-    subst (λ (there : Option Standing). Named (collection_at there).indexes) (sym (get-remove old namespace name)) (either_named (bytes_eq namespace name) None (finite.get old name) id_named (all name))
-
-rows_put : (old : Namespaces) (namespace : List ℕ) (documents : List (List Field)) → AllNamed old → AllNamed (with_documents namespace documents old)
-rows_put old namespace documents all name = subst Named (sym (documents_put old namespace documents name)) (all name)
-
-module _ (old new : stored.State) (all : AllNamed old.namespaces) where
-  as_made : (state : stored.State) → state ≡ new → AllNamed state.namespaces → AllNamed new.namespaces
-  as_made state same named = subst (λ (s : stored.State). AllNamed s.namespaces) same named
-
-  indexed_so : (namespace : List ℕ) (made : Result (List IndexForm) Refusal) → IfMade made → with_indexes_so namespace made old ≡ Ok new → AllNamed new.namespaces
-  indexed_so namespace (Ok indexes) named is =
-      let same : record old { namespaces = with_indexes namespace indexes old.namespaces } ≡ new = cc in
-      as_made (record old { namespaces = with_indexes namespace indexes old.namespaces }) same (indexes_put old.namespaces namespace indexes named all)
-  indexed_so namespace (Err refusal) named is = absurd cc
-
-  indexes_made : (namespace : List ℕ) (entries : List IndexForm) → Named entries → indexes_created namespace entries old ≡ Ok new → AllNamed new.namespaces
-  indexes_made namespace entries are is = by_view (is_view namespace old.views) is
-    where
-      by_view : (b : Bool) → (if b then Err OnView else with_indexes_so namespace (with_all_entries entries (indexes_of namespace old.namespaces)) old) ≡ Ok new → AllNamed new.namespaces
-      by_view true is = absurd cc
-      by_view false is = indexed_so namespace (with_all_entries entries (indexes_of namespace old.namespaces)) (all_named entries (indexes_of namespace old.namespaces) are (all namespace)) is
-
-  indexes_left : (namespace name : List ℕ) → indexes_dropped namespace name old ≡ Ok new → AllNamed new.namespaces
-  indexes_left namespace name is = by_there (is_view namespace old.views) (is_collection namespace old.namespaces) is
-    where
-      by_there : (b there : Bool) → (if b then Err OnView else if there then with_indexes_so namespace (without_named name (indexes_of namespace old.namespaces)) old else Err NamespaceNotFound) ≡ Ok new → AllNamed new.namespaces
-      by_there true there is = absurd cc
-      by_there false true is = indexed_so namespace (without_named name (indexes_of namespace old.namespaces)) (left_named name (indexes_of namespace old.namespaces) (all namespace)) is
-      by_there false false is = absurd cc
-
-  created_named : (namespace : List ℕ) (view : Option ViewOn) (b : Bool) → (if b then Err NamespaceExists else made namespace view old) ≡ Ok new → AllNamed new.namespaces
-  created_named namespace view true is = absurd cc
-  created_named namespace None false is =
-      let same : record old { namespaces = with_documents namespace [] old.namespaces } ≡ new = cc in
-      as_made (record old { namespaces = with_documents namespace [] old.namespaces }) same (rows_put old.namespaces namespace [] all)
-  created_named namespace (Some on) false is =
-      subst AllNamed (sym (views_only old new (with_view (record { name = namespace; source = on.source; stages = on.stages }) old.views) is)) all
-
-  dropped_named : (namespace : List ℕ) (a b : Bool)
-      → (if a then Ok (record old { namespaces = finite.remove old.namespaces namespace }) else if b then Ok (record old { views = without_view namespace old.views }) else Err NamespaceNotFound) ≡ Ok new → AllNamed new.namespaces
-  dropped_named namespace true b is =
-      let same : record old { namespaces = finite.remove old.namespaces namespace } ≡ new = cc in
-      as_made (record old { namespaces = finite.remove old.namespaces namespace }) same (one_removed old.namespaces namespace all)
-  dropped_named namespace false true is = let same : record old { views = without_view namespace old.views } ≡ new = cc in as_made (record old { views = without_view namespace old.views }) same all
-  dropped_named namespace false false is = absurd cc
+names_kept : (size : ℕ) (what : Asked) → IsSoundlyAsked size what → IsKeptBy HasNames what
+names_kept size what asked = record { none = λ name. id_named; emptied = λ name c named. named; indexed = λ name c indexes is named. subst IfMade is (left what asked c named) }
+  where
+    left : (what : Asked) → IsSoundlyAsked size what → (c : Collection) → Named c.indexes → IfMade (indexes_by what c)
+    left (create_indexes a) asked c named = all_named (map form_asked a.indexes) c (asked_named a.indexes asked.1) named
+    left (drop_indexes a) asked c named = left_named a.index c.indexes named
+    left what asked c named = named
 
 -- ---- each step
-
-same_indexes : (old new : State) → new.catalog ≡ old.catalog → AreSoundIndexes old → AreSoundIndexes new
-same_indexes old new same all = subst (λ (s : stored.State). AllNamed s.namespaces) (sym same) all
-
-made_indexes : (old new : State) (size : ℕ) (what : Asked) → IsSoundlyAsked size what → Made old what new → AreSoundIndexes old → AreSoundIndexes new
-made_indexes old new size (create c) asked made all = created_named old.catalog new.catalog all c.namespace c.view (is_there c.namespace old.catalog) made.0
-made_indexes old new size (drop d) asked made all = dropped_named old.catalog new.catalog all d.namespace (is_collection d.namespace old.catalog.namespaces) (is_view d.namespace old.catalog.views) made.0
-made_indexes old new size (create_indexes c) asked made all = indexes_made old.catalog new.catalog all c.namespace (map form_asked c.indexes) (asked_named c.indexes asked.1) made.0
-made_indexes old new size (drop_indexes d) asked made all = indexes_left old.catalog new.catalog all d.namespace d.index made.0
-made_indexes old new size (find f) asked made all = same_indexes old new made all
-made_indexes old new size (aggregate a) asked made all = same_indexes old new made all
-made_indexes old new size (get_more g) asked made all = same_indexes old new made all
-made_indexes old new size (kill_cursors k) asked made all = same_indexes old new made all
-made_indexes old new size what asked made all = absurd made
 
 pub steps_named : AsksSoundly → (old new : State) (session : ℕ) (command : Command) (outcome : Outcome) → IsSoundCommand command → AreSoundIndexes old → BareStep old session command outcome new → AreSoundIndexes new
 steps_named asks old new session command outcome sound all steps =
@@ -229,7 +173,7 @@ steps_named asks old new session command outcome sound all steps =
     stay : (answer : Answer) → MayWrite old (asked_by command) answer → AreSoundIndexes answer.state
     stay answer (inl same) = subst AreSoundIndexes (sym same) all
     stay answer (inr (inl w)) = subst (λ (a : Answer). AreSoundIndexes a.state) (sym w.answers) (λ name. subst Named (sym (did_leave w.write old w.did w.did_so name)) (all name))
-    stay answer (inr (inr m)) = made_indexes old answer.state (body_size command) m.what (soundly_asked asks command m.what sound m.asks) m.made all
+    stay answer (inr (inr m)) = made_stands HasNames old answer.state m.what (names_kept (body_size command) m.what (soundly_asked asks command m.what sound m.asks)) m.made all
 
 -- ---- the first state
 

@@ -1,4 +1,4 @@
--- The documents of each namespace stay in the order of their `_id`s, and sound.
+-- The documents of each namespace stay in the order of their `_id`s, and sound, and no key of a unique index stands in two of them.
 use Rattle.std.proofs.Common.{◌≡◌, ℕ, Bool, true, false, cond, not, List, [], ◌∷◌, map, Option, Some, None, Result, Ok, Err, if◌then◌else◌, is_some, refl, sym, subst}
 use Rattle.std.specs.Prelude.{codes}
 use Rattle.std.specs.Cmp.Lexicographic.{slice_cmp}
@@ -22,14 +22,14 @@ use Rattle.dv_command.specs.declared.command.Command.{Command}
 use Rattle.dv_fields.specs.declared.refusal.Refusal.{Refusal}
 use Rattle.dv_fields.specs.declared.refusal.Refusal.TheVariants.{BadValue, OnView, TooLarge}
 use Rattle.dv_core.specs.declared.outcome.Outcome.{Outcome}
-use Rattle.dv_catalog.specs.Changes.{Change, Effect, put, gone, with_change, changes_of}
+use Rattle.dv_catalog.specs.Changes.{Change, Effect, put, gone, breaks, changes_of, clashes_by, done_to, with_change}
 use Rattle.dv_update.specs.Apply.{applied}
 use Rattle.dv_update.specs.Parsing.{update_of}
 use Rattle.dv_update.specs.Update as form
 use Rattle.dv_catalog.specs.Effects.{after}
-use Rattle.dv_core.specs.Sound.{IsSoundDocument, AreSound, AreSoundDocuments, IsSoundCommand}
+use Rattle.dv_core.specs.Sound.{IsSoundDocument, AreSound, IsSoundCommand}
 use Rattle.dv_core.specs.Load.{insert_alone, left_by, loaded, namespace_in}
-use Rattle.dv_catalog.specs.State.{documents_of, is_view, AreOrdered, IsOrdered}
+use Rattle.dv_catalog.specs.State.{AreOrdered, Collection, IsOrdered, Standing, collection_at, collection_of, documents_of, indexes_of, is_view}
 use Rattle.dv_core.specs.State.{State, empty_state}
 use Rattle.dv_core.specs.Statements.{Write}
 use Rattle.dv_core.specs.Step.{write_of}
@@ -38,8 +38,13 @@ use Rattle.dv_core.specs.Storable.{id_in, is_within_limits, storable, with_id_fi
 use Rattle.dv_core.specs.Writes.{insert_one, statement_of, write_by}
 use Rattle.dv_core.proofs.Bare.{BareStep}
 use Rattle.dv_core.proofs.Asking.{AsksSoundly, soundly_asked}
+use Rattle.dv_core.proofs.Done.{changes_unbroken}
+use Rattle.dv_core.proofs.Standing.{IsKeptBy, Stands, documents_kept}
+use Rattle.dv_core.proofs.Unique.{UniqueLaws, change_unbroken, indexes_unbroken}
+use Rattle.dv_index.specs.Indexed.{empty_indexed}
+use Rattle.dv_index.specs.Unique.{are_broken}
 use Rattle.dv_catalog.specs.StateLaws.{documents_there}
-use Rattle.dv_core.proofs.Kept.{Keeps, apply_holds, insert_keeps, updates_keep, deletes_keep, step_holds}
+use Rattle.dv_core.proofs.Kept.{Keeps, apply_holds, does_good, insert_keeps, updates_keep, deletes_keep, step_holds}
 use Rattle.dv_core.proofs.Stored.{storable_fits}
 use Rattle.dv_catalog.specs.EffectLaws.{KeepsId, told_after, after_id}
 use Rattle.dv_core.proofs.Valid.{storable_valid}
@@ -54,11 +59,22 @@ none_ordered = (tt, tt)
 none_sound : AreSound []
 none_sound = (none_ordered, tt)
 
+-- the documents of a collection are sound, and no key of a unique index stands in two of them
+pub record IsWhole (namespace : List ℕ) (c : Collection) : Type 0 where
+  pub documents : AreSound c.documents
+  pub unique : are_broken c.indexes c.documents ≡ false
+
+abbrev pub AreWhole : State → Type 0
+AreWhole state = Stands IsWhole state.catalog.namespaces
+
 pub empty_ordered : IsOrdered empty_state.catalog
 empty_ordered namespace = subst AreOrdered (nothing_there namespace) none_ordered
 
-pub empty_sound : AreSoundDocuments empty_state
-empty_sound namespace = subst AreSound (nothing_there namespace) none_sound
+none_whole : (namespace : List ℕ) → IsWhole namespace empty_indexed
+none_whole namespace = record { documents = none_sound; unique = refl }
+
+pub empty_whole : AreWhole empty_state
+empty_whole namespace = subst (λ (there : Option Standing). IsWhole namespace (collection_at there)) (sym (finite.get-empty (slice_cmp nat_cmp) namespace)) (none_whole namespace)
 
 -- ---- what is stored begins with its `_id`
 
@@ -121,41 +137,49 @@ abbrev pub IsSoundChange : Change → Type 0
 IsSoundChange (put d) = HasId d × IsSoundDocument d
 IsSoundChange (gone k) = Unit {0}
 
+-- the documents of a collection are in order
+abbrev IsInOrder : List ℕ → Collection → Type 0
+IsInOrder namespace c = AreOrdered c.documents
+
 module _ (laws : CollectionLaws) where
   put_ordered : (d : List Field) (ds : List (List Field)) (there : Option (List Field)) → found (id_key d) ds ≡ there → HasId d → AreOrdered ds → AreOrdered (cond (is_some there) (replaced d ds) (inserted d ds))
   put_ordered d ds None none has_id ordered = (laws.inserted_ascend d ds ordered.0 none, laws.inserted_ids d ds has_id ordered.1)
   put_ordered d ds (Some e) there has_id ordered = (laws.replaced_ascend d ds has_id ordered.1 ordered.0, laws.replaced_ids d ds has_id ordered.1)
 
-  changes_order : (namespace : List ℕ) (ds : List (List Field)) (change : Change) → AreOrdered ds → BeginsWithId change → AreOrdered (with_change ds change)
-  changes_order namespace ds (put d) ordered has_id = put_ordered d ds (found (id_key d) ds) refl has_id ordered
-  changes_order namespace ds (gone k) ordered good = (laws.removed_ascend k ds ordered.0, laws.removed_ids k ds ordered.1)
+  change_ordered : (ds : List (List Field)) (change : Change) → AreOrdered ds → BeginsWithId change → AreOrdered (with_change ds change)
+  change_ordered ds (put d) ordered has_id = put_ordered d ds (found (id_key d) ds) refl has_id ordered
+  change_ordered ds (gone k) ordered good = (laws.removed_ascend k ds ordered.0, laws.removed_ids k ds ordered.1)
+
+  changes_order : (namespace : List ℕ) (c : Collection) (change : Change) → IsInOrder namespace c → BeginsWithId change → clashes_by c.indexes change c.documents ≡ false → AreOrdered (with_change c.documents change)
+  changes_order namespace c change ordered good apart = change_ordered c.documents change ordered good
 
   abbrev KeepsOrder : Write → Type 0
-  KeepsOrder write = AllByRecursion (Keeps (λ namespace ds. AreOrdered ds) BeginsWithId changes_order) write.statements
+  KeepsOrder write = AllByRecursion (Keeps IsInOrder BeginsWithId changes_order) write.statements
 
-  inserts_order : (documents : List (List Field)) → AllByRecursion (Keeps (λ namespace ds. AreOrdered ds) BeginsWithId changes_order) (map insert_one documents)
+  inserts_order : (documents : List (List Field)) → AllByRecursion (Keeps IsInOrder BeginsWithId changes_order) (map insert_one documents)
   inserts_order [] = tt
-  inserts_order (d ∷ ds) = (insert_keeps (λ namespace ds. AreOrdered ds) BeginsWithId changes_order d (λ stored is. stored_id d stored is), inserts_order ds)
+  inserts_order (d ∷ ds) = (insert_keeps IsInOrder BeginsWithId changes_order d (λ stored is. stored_id d stored is), inserts_order ds)
 
   asks_any : (entries : List (List Field)) → AllByRecursion (λ entry. (updating : Updating) → updating_of entry ≡ Ok updating → Unit {0}) entries
   asks_any [] = tt
   asks_any (entry ∷ entries) = ((λ updating is. tt), asks_any entries)
 
-  statements_order : (kind : WriteKind) (entries : List (List Field)) → AllByRecursion (Keeps (λ namespace ds. AreOrdered ds) BeginsWithId changes_order) (map (statement_of kind) entries)
+  statements_order : (kind : WriteKind) (entries : List (List Field)) → AllByRecursion (Keeps IsInOrder BeginsWithId changes_order) (map (statement_of kind) entries)
   statements_order Insert entries = inserts_order entries
   statements_order Update entries =
-      updates_keep (λ namespace ds. AreOrdered ds) BeginsWithId changes_order (λ form. Unit {0}) (λ form any namespace ds ordered. afters_ids laws.id_stays form ds ordered.1) entries (asks_any entries)
-  statements_order Delete entries = deletes_keep (λ namespace ds. AreOrdered ds) BeginsWithId changes_order (λ k. tt) entries
+      updates_keep IsInOrder BeginsWithId changes_order (λ form. Unit {0}) (λ form any namespace c ordered. afters_ids laws.id_stays form c.documents ordered.1) entries (asks_any entries)
+  statements_order Delete entries = deletes_keep IsInOrder BeginsWithId changes_order (λ k. tt) entries
 
   writes_order : (what : Asked) (write : Write) → write_of what ≡ Some write → KeepsOrder write
   writes_order (asking.write w) write is = let same : write_by w ≡ write = cc in subst KeepsOrder same (statements_order w.kind w.entries)
   writes_order what write is = absurd cc
 
   pub steps_ordered : (old new : State) (session : ℕ) (command : Command) (outcome : Outcome) → IsOrdered old.catalog → BareStep old session command outcome new → IsOrdered new.catalog
-  steps_ordered old new session command outcome h steps = step_holds (λ namespace ds. AreOrdered ds) BeginsWithId changes_order old new session command outcome (λ namespace. none_ordered) (λ what write asks is. writes_order what write is) h steps
+  steps_ordered old new session command outcome h steps = step_holds IsInOrder BeginsWithId changes_order old new session command outcome (documents_kept (λ namespace ds. AreOrdered ds) (λ namespace. none_ordered)) (λ what write asks is. writes_order what write is) h steps
 
-  -- ---- and sound, if the documents of commands are
+-- ---- and sound, if the documents of commands are, and no key of a unique index comes into two of them
 
+module _ (laws : CollectionLaws) (unique_laws : UniqueLaws) where
   by_order : (b : Bool) (d e : List Field) (ds after : List (List Field)) → IsSoundDocument d → AllByRecursion IsSoundDocument (e ∷ ds) → AllByRecursion IsSoundDocument after → AllByRecursion IsSoundDocument (cond b (d ∷ e ∷ ds) (e ∷ after))
   by_order true d e ds after sound all rest = (sound, all)
   by_order false d e ds after sound all rest = (all.0, rest)
@@ -184,17 +208,23 @@ module _ (laws : CollectionLaws) where
   put_sound true d ds sound all = all_replaced d ds sound all
   put_sound false d ds sound all = all_inserted d ds sound all
 
-  changes_sound : (namespace : List ℕ) (ds : List (List Field)) (change : Change) → AreSound ds → IsSoundChange change → AreSound (with_change ds change)
-  changes_sound namespace ds (put d) sound good = (changes_order namespace ds (put d) sound.0 good.0, put_sound (is_some (found (id_key d) ds)) d ds good.1 sound.1)
-  changes_sound namespace ds (gone k) sound good = (changes_order namespace ds (gone k) sound.0 tt, all_removed k ds sound.1)
+  change_sound : (ds : List (List Field)) (change : Change) → AreSound ds → IsSoundChange change → AreSound (with_change ds change)
+  change_sound ds (put d) sound good = (change_ordered laws ds (put d) sound.0 good.0, put_sound (is_some (found (id_key d) ds)) d ds good.1 sound.1)
+  change_sound ds (gone k) sound good = (change_ordered laws ds (gone k) sound.0 tt, all_removed k ds sound.1)
+
+  change_whole : (namespace : List ℕ) (c : Collection) (change : Change) → IsWhole namespace c → IsSoundChange change → clashes_by c.indexes change c.documents ≡ false → IsWhole namespace (record c { documents = with_change c.documents change })
+  change_whole namespace c change whole good apart = record {
+    documents = change_sound c.documents change whole.documents good;
+    unique = change_unbroken unique_laws c.indexes change c.documents whole.documents.0 whole.unique apart;
+  }
 
   abbrev KeepsSound : Write → Type 0
-  KeepsSound write = AllByRecursion (Keeps (λ namespace ds. AreSound ds) IsSoundChange changes_sound) write.statements
+  KeepsSound write = AllByRecursion (Keeps IsWhole IsSoundChange change_whole) write.statements
 
-  inserts_sound : (documents : List (List Field)) → AreValid documents → AllByRecursion (Keeps (λ namespace ds. AreSound ds) IsSoundChange changes_sound) (map insert_one documents)
+  inserts_sound : (documents : List (List Field)) → AreValid documents → AllByRecursion (Keeps IsWhole IsSoundChange change_whole) (map insert_one documents)
   inserts_sound [] valid = tt
   inserts_sound (d ∷ ds) valid = (
-    insert_keeps (λ namespace ds. AreSound ds) IsSoundChange changes_sound d (λ stored is. (stored_id d stored is, record { valid = storable_valid d stored valid.0 is; fits = storable_fits d stored is })),
+    insert_keeps IsWhole IsSoundChange change_whole d (λ stored is. (stored_id d stored is, record { valid = storable_valid d stored valid.0 is; fits = storable_fits d stored is })),
     inserts_sound ds valid.1,
   )
 
@@ -213,11 +243,11 @@ module _ (laws : CollectionLaws) where
     entries_sound [] valid = tt
     entries_sound (entry ∷ entries) valid = ((λ updating is. sound_laws.of_entries entry updating valid.0 is), entries_sound entries valid.1)
 
-    statements_sound : (kind : WriteKind) (entries : List (List Field)) → AreValid entries → AllByRecursion (Keeps (λ namespace ds. AreSound ds) IsSoundChange changes_sound) (map (statement_of kind) entries)
+    statements_sound : (kind : WriteKind) (entries : List (List Field)) → AreValid entries → AllByRecursion (Keeps IsWhole IsSoundChange change_whole) (map (statement_of kind) entries)
     statements_sound Insert entries valid = inserts_sound entries valid
     statements_sound Update entries valid =
-        updates_keep (λ namespace ds. AreSound ds) IsSoundChange changes_sound IsSoundUpdate (λ form asked namespace ds all. afters_sound form asked ds all.0.1 all.1) entries (entries_sound entries valid)
-    statements_sound Delete entries valid = deletes_keep (λ namespace ds. AreSound ds) IsSoundChange changes_sound (λ k. tt) entries
+        updates_keep IsWhole IsSoundChange change_whole IsSoundUpdate (λ form asked namespace c whole. afters_sound form asked c.documents whole.documents.0.1 whole.documents.1) entries (entries_sound entries valid)
+    statements_sound Delete entries valid = deletes_keep IsWhole IsSoundChange change_whole (λ k. tt) entries
 
     writes_sound : (command : Command) → IsSoundCommand command → (what : Asked) (write : Write) → asked_by command ≡ Ok what → write_of what ≡ Some write → KeepsSound write
     writes_sound command sound (asking.write w) write asked is =
@@ -225,27 +255,38 @@ module _ (laws : CollectionLaws) where
         subst KeepsSound same (statements_sound w.kind w.entries (soundly_asked asks command (asking.write w) sound asked).1)
     writes_sound command sound what write asked is = absurd cc
 
-    pub steps_sound : (old new : State) (session : ℕ) (command : Command) (outcome : Outcome) → IsSoundCommand command → AreSoundDocuments old → BareStep old session command outcome new → AreSoundDocuments new
-    steps_sound old new session command outcome sound h steps = step_holds (λ namespace ds. AreSound ds) IsSoundChange changes_sound old new session command outcome (λ namespace. none_sound) (writes_sound command sound) h steps
+    -- a collection without documents is whole, and a command leaves it with indexes that are
+    whole_kept : (what : Asked) → IsKeptBy IsWhole what
+    whole_kept what = record {
+      none = none_whole;
+      emptied = λ namespace c whole. record { documents = none_sound; unique = unique_laws.none_apart c.indexes };
+      indexed = λ namespace c indexes is whole. record { documents = whole.documents; unique = indexes_unbroken unique_laws c what indexes is whole.unique };
+    }
+
+    pub steps_sound : (old new : State) (session : ℕ) (command : Command) (outcome : Outcome) → IsSoundCommand command → AreWhole old → BareStep old session command outcome new → AreWhole new
+    steps_sound old new session command outcome sound h steps = step_holds IsWhole IsSoundChange change_whole old new session command outcome whole_kept (writes_sound command sound) h steps
 
   -- ---- and so after a load of a sound document
 
-  alone_sound : (old new : State) (namespace : List ℕ) (d : List Field) (does : Result Effect Refusal) → AllByRecursion IsSoundChange (changes_of does) → AreSoundDocuments old → (does >>= λ effect. Ok (left_by namespace old effect)) ≡ Ok new → AreSoundDocuments new
-  alone_sound old new namespace d (Ok effect) good h is =
+  alone_sound : (old new : State) (namespace : List ℕ) (does : Result Effect Refusal) → AllByRecursion IsSoundChange (changes_of does)
+      → breaks (indexes_of namespace old.catalog.namespaces) (changes_of does) (documents_of namespace old.catalog.namespaces) ≡ false → AreWhole old → (does >>= λ effect. Ok (left_by namespace old effect)) ≡ Ok new → AreWhole new
+  alone_sound old new namespace (Ok effect) good unbroken h is =
       let leaves : left_by namespace old effect ≡ new = cc in
-      subst AreSoundDocuments leaves (apply_holds (λ namespace ds. AreSound ds) IsSoundChange changes_sound namespace effect.changes old.catalog.namespaces h good)
-  alone_sound old new namespace d (Err refusal) good h is = absurd cc
+      subst AreWhole leaves (apply_holds IsWhole IsSoundChange change_whole namespace effect.changes old.catalog.namespaces h good unbroken)
+  alone_sound old new namespace (Err refusal) good unbroken h is = absurd cc
 
-  loaded_in : (old new : State) (named : Result (List ℕ) Refusal) (d : List Field) → IsSoundDocument d → AreSoundDocuments old → (named >>= λ namespace. insert_alone namespace d old) ≡ Ok new → AreSoundDocuments new
+  loaded_in : (old new : State) (named : Result (List ℕ) Refusal) (d : List Field) → IsSoundDocument d → AreWhole old → (named >>= λ namespace. insert_alone namespace d old) ≡ Ok new → AreWhole new
   loaded_in old new (Err refusal) d sound h is = absurd cc
   loaded_in old new (Ok namespace) d sound h is = by_view (is_view namespace old.catalog.views) is
     where
-      keeps : Keeps (λ namespace ds. AreSound ds) IsSoundChange changes_sound (insert_one d)
+      keeps : Keeps IsWhole IsSoundChange change_whole (insert_one d)
       keeps = (inserts_sound (d ∷ []) (sound.valid, tt)).0
 
-      by_view : (b : Bool) → (if b then Err OnView else (insert_one d (documents_of namespace old.catalog.namespaces) >>= λ effect. Ok (left_by namespace old effect))) ≡ Ok new → AreSoundDocuments new
+      by_view : (b : Bool) → (if b then Err OnView else (done_to (collection_of namespace old.catalog.namespaces) (insert_one d) >>= λ effect. Ok (left_by namespace old effect))) ≡ Ok new → AreWhole new
       by_view true is = absurd cc
-      by_view false is = alone_sound old new namespace d _ (keeps.good namespace (documents_of namespace old.catalog.namespaces) (h namespace)) h is
+      by_view false is =
+          alone_sound old new namespace (done_to (collection_of namespace old.catalog.namespaces) (insert_one d)) (does_good IsWhole IsSoundChange change_whole namespace (collection_of namespace old.catalog.namespaces) (insert_one d) keeps (h namespace))
+          (changes_unbroken (collection_of namespace old.catalog.namespaces) (insert_one d)) h is
 
-  pub loaded_sound : (old new : State) (text : List ℕ) (d : List Field) → IsSoundDocument d → AreSoundDocuments old → loaded text d old ≡ Ok new → AreSoundDocuments new
+  pub loaded_sound : (old new : State) (text : List ℕ) (d : List Field) → IsSoundDocument d → AreWhole old → loaded text d old ≡ Ok new → AreWhole new
   loaded_sound old new text d sound h is = loaded_in old new (namespace_in text) d sound h is

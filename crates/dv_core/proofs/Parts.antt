@@ -9,15 +9,16 @@ use Rattle.dv_command.specs.declared.asking.WriteKind.{WriteKind}
 use Rattle.dv_command.specs.declared.asking.WriteKind.TheVariants.{Delete}
 use Rattle.dv_command.specs.declared.command.Command.{Command}
 use Rattle.dv_core.specs.declared.outcome.Outcome.{Outcome}
-use Rattle.dv_catalog.specs.Changes.{Change, Statement, put, gone, with_change}
+use Rattle.dv_catalog.specs.Changes.{Change, Statement, clashes_by, put, gone, with_change}
 use Rattle.dv_core.specs.Part.{IsPart}
-use Rattle.dv_catalog.specs.State.{documents_of}
+use Rattle.dv_catalog.specs.State.{Collection, documents_of}
 use Rattle.dv_core.specs.State.{State}
 use Rattle.dv_core.specs.Statements.{Write}
 use Rattle.dv_core.specs.Step.{write_of}
 use Rattle.dv_core.specs.Writes.{statement_of, write_by}
 use Rattle.dv_core.proofs.Bare.{BareStep}
 use Rattle.dv_core.proofs.Kept.{Keeps, deletes_keep, step_holds}
+use Rattle.dv_core.proofs.Standing.{documents_kept}
 
 abbrev IsGone : Change → Type 0
 IsGone (put d) = ⊥
@@ -44,24 +45,27 @@ module _ (old : State) where
   abbrev LeftOf : List ℕ → List (List Field) → Type 0
   LeftOf namespace documents = IsPart documents (documents_of namespace old.catalog.namespaces)
 
-  goes : (namespace : List ℕ) (documents : List (List Field)) (change : Change) → LeftOf namespace documents → IsGone change → LeftOf namespace (with_change documents change)
-  goes namespace documents (put d) part good = absurd good
-  goes namespace documents (gone k) (stays, is) good =
+  abbrev IsLeft : List ℕ → Collection → Type 0
+  IsLeft namespace c = LeftOf namespace c.documents
+
+  goes : (namespace : List ℕ) (c : Collection) (change : Change) → IsLeft namespace c → IsGone change → clashes_by c.indexes change c.documents ≡ false → IsLeft namespace (record c { documents = with_change c.documents change })
+  goes namespace c (put d) part good apart = absurd good
+  goes namespace c (gone k) (stays, is) good apart =
       ((λ d. stays d && not (has_key k d)), ap (removed k) is ∙ filter_both (λ d. not (has_key k d)) stays (documents_of namespace old.catalog.namespaces))
 
   abbrev Go : List Statement → Type 0
-  Go statements = AllByRecursion (Keeps LeftOf IsGone goes) statements
+  Go statements = AllByRecursion (Keeps IsLeft IsGone goes) statements
 
   deletes_go : (asked : asking.Write) (what : Asked) (write : Write) → asking.write asked ≡ what → asked.kind ≡ Delete → write_of what ≡ Some write → Go write.statements
   deletes_go asked what write is deletes writes =
       let same : write_by asked ≡ write = cc (ap write_of is, writes) in
       let go : Go (map (statement_of asked.kind) asked.entries) =
-      subst (λ (kind : WriteKind). Go (map (statement_of kind) asked.entries)) (sym deletes) (deletes_keep LeftOf IsGone goes (λ k. tt) asked.entries) in
+      subst (λ (kind : WriteKind). Go (map (statement_of kind) asked.entries)) (sym deletes) (deletes_keep IsLeft IsGone goes (λ k. tt) asked.entries) in
       subst (λ (w : Write). Go w.statements) same go
 
   pub delete_leaves : (new : State) (session : ℕ) (command : Command) (asked : asking.Write) (outcome : Outcome) → asked_by command ≡ Ok (asking.write asked) → asked.kind ≡ Delete → BareStep old session command outcome new
       → (namespace : List ℕ) → IsPart (documents_of namespace new.catalog.namespaces) (documents_of namespace old.catalog.namespaces)
   delete_leaves new session command asked outcome asks deletes steps =
-      step_holds LeftOf IsGone goes old new session command outcome (λ namespace. ((λ d. false), filter_none (documents_of namespace old.catalog.namespaces)))
+      step_holds IsLeft IsGone goes old new session command outcome (documents_kept LeftOf (λ namespace. ((λ d. false), filter_none (documents_of namespace old.catalog.namespaces))))
       (λ what write is writes. deletes_go asked what write (cc (asks, is)) deletes writes)
       (λ namespace. ((λ d. true), filter_whole (documents_of namespace old.catalog.namespaces))) steps

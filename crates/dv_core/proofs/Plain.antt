@@ -23,9 +23,10 @@ use Rattle.dv_fields.specs.Fields.{Table, update_in, check_false, optional, bool
 use Rattle.dv_command.specs.Tables.{updating_table, deletion_table}
 use Rattle.dv_command.specs.Forms.{filter_of, update_of, is_replacement}
 use Rattle.dv_command.specs.Entries.{Updating, deletion_of, updating_of, check_multi}
-use Rattle.dv_catalog.specs.Changes.{put, Effect, Statement}
+use Rattle.dv_catalog.specs.Changes.{put, Effect, Statement, breaks, done_to, unless_it_breaks}
 use Rattle.dv_catalog.specs.Effects.{after, all_or_first, changed_by, delete_chosen, put_new, update_chosen}
 use Rattle.dv_catalog.specs.Scan.{matching}
+use Rattle.dv_catalog.specs.State.{Collection}
 use Rattle.dv_path.specs.Names.{has_bad_name}
 use Rattle.dv_core.specs.Storable.{without_field, id_in, is_within_limits, with_id_first, storable}
 use Rattle.dv_core.specs.Writes.{insert_one, update_one, delete_one}
@@ -50,6 +51,11 @@ then_plainly (Err refusal) f plain rest = plain
 test_plainly : {A : Type 0} (b : Bool) (r s : Result A Refusal) → IsPlainly r → IsPlainly s → IsPlainly (cond b r s)
 test_plainly true r s plain other = plain
 test_plainly false r s plain other = other
+
+-- and whatever unique indexes there are
+pub done_plainly : (c : Collection) (statement : Statement) → IsPlainStatement statement → IsPlainly (done_to c statement)
+done_plainly c statement is =
+    then_plainly (statement c.documents) (unless_it_breaks c) (is.plain c.documents) (λ effect. test_plainly (breaks c.indexes effect.changes c.documents) (Err DuplicateKey) (Ok effect) tt tt)
 
 -- ---- what is read out of an entry
 

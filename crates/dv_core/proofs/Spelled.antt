@@ -28,10 +28,10 @@ use Rattle.dv_command.specs.declared.command.Command.{Command}
 use Rattle.dv_core.specs.declared.outcome.Outcome.TheVariants.{Wanting}
 use Rattle.dv_fields.specs.declared.refusal.Refusal.{Refusal}
 use Rattle.dv_fields.specs.declared.refusal.Refusal.TheVariants.{BadValue, FailedToParse, TypeMismatch, InvalidBson, PathNotViable, ConflictingUpdateOperators, ImmutableField, CommandNotFound, DuplicateKey, WantOfMemory, TooLarge, LimitReached, NamespaceNotFound, IndexNotFound, CursorNotFound, NamespaceExists, OnView, ReadByView}
-use Rattle.dv_catalog.specs.Changes.{Effect}
+use Rattle.dv_catalog.specs.Changes.{Effect, Statement, done_to}
 use Rattle.dv_catalog.specs.Scan.{scan}
-use Rattle.dv_catalog.specs.IndexMaking.{Explained, Way, over_view, by_index, over_all, explained, indexes_created, indexes_dropped, with_all as with_all_entries, with_entries, with_index, without_named, within_limit}
-use Rattle.dv_catalog.specs.State.{Namespaces, ViewForm, documents_of, indexes_of, is_collection, is_there, is_view, rows_of}
+use Rattle.dv_catalog.specs.IndexMaking.{Explained, Way, over_view, by_index, over_all, explained, indexes_created, indexes_dropped, with_all as with_all_entries, unless_broken, with_entries, with_index, without_named, within_limit}
+use Rattle.dv_catalog.specs.State.{Collection, Namespaces, ViewForm, collection_of, documents_of, indexes_of, is_collection, is_there, is_view, rows_of}
 use Rattle.dv_core.specs.State.{State, marked}
 use Rattle.dv_core.specs.Stats.{told_of}
 use Rattle.dv_catalog.specs.Marks.{Stats, stats_of}
@@ -42,7 +42,6 @@ use Rattle.dv_index.specs.Index.{IndexForm, id_form}
 use Rattle.dv_index.specs.Indexed.{is_dropped, without_index}
 use Rattle.dv_catalog.specs.State as states
 use Rattle.dv_catalog.specs.Views.{created, dropped, looks_into_view, made, with_view, with_views}
-use Rattle.dv_catalog.specs.Changes.{Statement}
 use Rattle.dv_core.specs.Statements.{Write, Written, nothing_written, is_due, with_result, with_next, with_all, carry_out, IsCut}
 use Rattle.dv_core.specs.Step.{Answer, answered, read_answer, write_answer, on_catalog, on_cursors, answer_to, step, write_of}
 use Rattle.dv_command.specs.Sound.{AreValid, AreIds, IsNamespace, IsSoundlyAsked}
@@ -51,7 +50,7 @@ use Rattle.dv_core.proofs.Bare.{BareCut, BareStep, BareWriteCut}
 use Rattle.dv_core.proofs.Viewed.{PipesStayValid, gathered_valid, rows_valid}
 use Rattle.dv_core.proofs.Named.{IsNamed, explained_named}
 use Rattle.dv_core.proofs.Asking.{AsksSoundly, body_fits, body_size, soundly_asked}
-use Rattle.dv_core.proofs.Plain.{IsPlain, IsPlainly, IsPlainStatement, inserts_plain, updates_plain, deletes_plain}
+use Rattle.dv_core.proofs.Plain.{IsPlain, IsPlainly, IsPlainStatement, done_plainly, inserts_plain, updates_plain, deletes_plain}
 use Rattle.dv_catalog.specs.ScanLaws.{all_scanned}
 use Rattle.dv_core.specs.Find.{are_too_large, found, gathered, kept, kept_under, left_behind, replied}
 use Rattle.dv_core.specs.Indexes.{explained_reply, form_asked, index_count, index_name}
@@ -311,8 +310,8 @@ module _ (namespace : List ℕ) (ordered : Bool) where
       → AreFew (count + length statements) (with_all namespace ordered w statements)
   few_all count w [] within plain few = record { statements = omega (arith, few.statements); errors = omega (arith, few.errors); small = few.small }
   few_all count w (statement ∷ statements) within plain few =
-      let documents : List (List Field) = documents_of namespace w.namespaces in
-      let next = few_looked (is_due ordered w.errors) count (with_result namespace ordered w (statement documents)) w (few_result count w (statement documents) (omega arith) few (plain.0.plain documents)) few in
+      let does : Result Effect Refusal = done_to (collection_of namespace w.namespaces) statement in
+      let next = few_looked (is_due ordered w.errors) count (with_result namespace ordered w does) w (few_result count w does (omega arith) few (done_plainly (collection_of namespace w.namespaces) statement plain.0)) few in
       let rest = few_all (suc count) (with_next namespace ordered w statement) statements (omega arith) plain.1 next in
       record { statements = omega (arith, rest.statements); errors = omega (arith, rest.errors); small = rest.small }
 
@@ -680,14 +679,20 @@ limit_told : (b : Bool) (indexes : List IndexForm) → IsToldOf (if b then Err L
 limit_told true indexes = tt
 limit_told false indexes = tt
 
+broken_told : (b : Bool) (indexes : List IndexForm) → IsToldOf (if b then Err DuplicateKey else Ok indexes)
+broken_told true indexes = tt
+broken_told false indexes = tt
+
 view_or : {A : Type 0} (b : Bool) (result : Result A Refusal) → IsToldOf result → IsToldOf (if b then Err OnView else result)
 view_or true result told = tt
 view_or false result told = told
 
 indexed_told : (namespace : List ℕ) (entries : List IndexForm) (state : states.State) → IsToldOf (indexes_created namespace entries state)
 indexed_told namespace entries state =
+    let c : Collection = collection_of namespace state.namespaces in
+    let within = then_told (with_entries entries c.indexes) within_limit (with_entries_told entries c.indexes) (λ made. limit_told _ made) in
     view_or (is_view namespace state.views) _
-    (then_told (with_all_entries entries (indexes_of namespace state.namespaces)) _ (then_told (with_entries entries (indexes_of namespace state.namespaces)) within_limit (with_entries_told entries (indexes_of namespace state.namespaces)) (λ made. limit_told _ made)) (λ made. tt))
+    (then_told (with_all_entries entries c) _ (then_told (with_entries entries c.indexes >>= within_limit) (unless_broken c) within (λ made. broken_told _ made)) (λ made. tt))
 
 without_told : (a b c : Bool) (one other : List IndexForm) → IsToldOf (if a then Ok one else if b then Err BadValue else if c then Ok other else Err IndexNotFound)
 without_told true b c one other = tt

@@ -9,9 +9,8 @@ use Rattle.dv_core.specs.declared.outcome.Outcome.TheVariants.{Reply, Wanting, N
 use Rattle.dv_core.specs.declared.next.Next.{Next}
 use Rattle.dv_core.specs.declared.next.Next.TheVariants.{Due, Ended}
 use Rattle.dv_catalog.specs.Marks.{AreMarkedBy, Marked, Marks}
-use Rattle.dv_catalog.specs.State.{Namespaces, ViewForm, documents_of, lists_of}
-use Rattle.dv_catalog.specs.Changes.{Change, Effect, apply, changes_of}
-use Rattle.dv_catalog.specs.Changes.{Statement}
+use Rattle.dv_catalog.specs.State.{Namespaces, ViewForm, collection_of, lists_of}
+use Rattle.dv_catalog.specs.Changes.{Change, Effect, Statement, apply, changes_of, done_to}
 use Rattle.dv_core.specs.Statements.{Write, Written, nothing_written, with_next, with_all, with_result, is_due, next_changes, cut, AreCut, IsCut}
 use Rattle.dv_catalog.specs.Parts as Parts
 use Rattle.dv_catalog.specs.declared.stopped.Stopped.{Stopped}
@@ -33,7 +32,7 @@ module _ (namespace : List ℕ) (ordered : Bool) (views : List ViewForm) where
 
   module _ (so_far now : Written) (statement : Statement) (before after : Marks) where
     -- it was carried out
-    pub next_made : (matched : ℕ) (changes : List Change) → is_due ordered so_far.errors ≡ true → statement (documents_of namespace so_far.namespaces) ≡ Ok (record { matched = matched; changes = changes })
+    pub next_made : (matched : ℕ) (changes : List Change) → is_due ordered so_far.errors ≡ true → done_to (collection_of namespace so_far.namespaces) statement ≡ Ok (record { matched = matched; changes = changes })
         → now ≡ record { statements = suc so_far.statements; n = so_far.n + matched; changed = so_far.changed + length changes; errors = so_far.errors; namespaces = apply namespace changes so_far.namespaces }
         → StandBy so_far (next_changes namespace ordered so_far statement) before after → NextStep namespace ordered views so_far statement before (Ok Due) now after
     next_made matched changes due made is marked = record { is_next = rw (due, made) is; behind = rw is due; marked = marked }
@@ -47,7 +46,7 @@ module _ (namespace : List ℕ) (ordered : Bool) (views : List ViewForm) where
   -- a refusal that is noted, or for which there was no memory
   module _ (so_far : Written) (statement : Statement) (new : Namespaces) (before after : Marks) where
     abbrev does : Result Effect Refusal
-    does = statement (documents_of namespace so_far.namespaces)
+    does = done_to (collection_of namespace so_far.namespaces) statement
 
     abbrev Stops : Stopped → Type 0
     Stops stopped = Parts.IsRefused does so_far.namespaces stopped new ⊎ Parts.IsCut namespace does so_far.namespaces stopped new

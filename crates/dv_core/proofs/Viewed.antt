@@ -3,8 +3,8 @@ use Rattle.std.proofs.Common.{◌≡◌, inl, inr, ◌||◌, not, ℕ, Bool, tru
 use Rattle.std.specs.List.{AllByRecursion}
 use Rattle.dv_bson.specs.Spelling.{AreElements, AreFields}
 use Rattle.dv_bson.specs.Tree.{Tree, Field, elements_of, fields_of}
-use Rattle.dv_catalog.specs.State.{Namespaces, ViewForm, documents_of, indexes_of, has_name, is_collection, is_there, is_view, lists_of, rows_at, rows_of, view_named, with_documents, without_view}
-use Rattle.dv_catalog.specs.Changes.{Effect}
+use Rattle.dv_catalog.specs.State.{Namespaces, ViewForm, collection_of, documents_of, indexes_of, has_name, is_collection, is_there, is_view, lists_of, rows_at, rows_of, view_named, with_documents, without_view}
+use Rattle.dv_catalog.specs.Changes.{Effect, done_to}
 use Rattle.dv_catalog.specs.State as stored
 use Rattle.dv_catalog.specs.Views.{made, reads, reads_name, reads_view, view_limit, with_view, with_views}
 use Rattle.dv_command.specs.Asked.{Asked, ViewOn, find, aggregate, get_more, kill_cursors, create, drop, create_indexes, drop_indexes, asked_by}
@@ -158,9 +158,9 @@ alone_leaves old new namespace (Err refusal) is = absurd cc
 pub loaded_leaves : (old new : State) (text : List ℕ) (d : List Field) → loaded text d old ≡ Ok new → LeavesOthers old new
 loaded_leaves old new text d is = by_name (namespace_in text) is
   where
-    by_view : (namespace : List ℕ) (b : Bool) → (if b then Err OnView else (insert_one d (documents_of namespace old.catalog.namespaces) >>= λ effect. Ok (left_by namespace old effect))) ≡ Ok new → LeavesOthers old new
+    by_view : (namespace : List ℕ) (b : Bool) → (if b then Err OnView else (done_to (collection_of namespace old.catalog.namespaces) (insert_one d) >>= λ effect. Ok (left_by namespace old effect))) ≡ Ok new → LeavesOthers old new
     by_view namespace true e = absurd cc
-    by_view namespace false e = alone_leaves old new namespace (insert_one d (documents_of namespace old.catalog.namespaces)) e
+    by_view namespace false e = alone_leaves old new namespace (done_to (collection_of namespace old.catalog.namespaces) (insert_one d)) e
 
     by_name : (named : Result (List ℕ) Refusal) → (named >>= λ namespace. insert_alone namespace d old) ≡ Ok new → LeavesOthers old new
     by_name (Ok namespace) e = by_view namespace (is_view namespace old.catalog.views) e

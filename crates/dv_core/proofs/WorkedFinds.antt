@@ -16,7 +16,7 @@ use Rattle.dv_match.specs.Filter.{Members, no_members, more_members, at_path, in
 use Rattle.dv_match.specs.Match.{matches, matches_member, meets_all, meets}
 use Rattle.dv_match.specs.Parsing.{filter_in, conditions_in, operators_in, member_named, operator_named}
 use Rattle.dv_sort.specs.Sorting.{stable}
-use Rattle.dv_catalog.specs.Changes.{Change, gone, apply, with_changes}
+use Rattle.dv_catalog.specs.Changes.{Change, gone, apply, done_to, with_changes}
 use Rattle.dv_command.specs.Asked as asking
 use Rattle.dv_command.specs.declared.asking.WriteKind.TheVariants.{Delete}
 use Rattle.dv_core.specs.Examples.{only, one_field, number, deletion, holding, three, bounded, nulls, keyed, DeleteExamples, FindExamples}
@@ -29,17 +29,17 @@ use Rattle.dv_core.specs.State.{empty_state}
 use Rattle.dv_core.specs.Statements.{nothing_written, with_next}
 use Rattle.dv_core.specs.Step.{answered, on_cursors, write_answer}
 use Rattle.dv_core.specs.Writes.{delete_one, write_by}
-use Rattle.dv_core.proofs.Worked.{t_c, nothing_in, put_there, put_twice, wrote, wrote_so, looked_at}
+use Rattle.dv_core.proofs.Worked.{t_c, nothing_there, put_in, put_there, put_twice, with_only, wrote, wrote_so, looked_at}
 
 -- one entry that takes documents out of c
 module _ (documents after : List (List Field)) (entry : List Field) (matched : ℕ) (change : Change) (changes : List Change) where
-  deletes_there : delete_one entry documents ≡ Ok (record { matched = matched; changes = change ∷ changes }) → length (change ∷ changes) ≡ matched → with_changes documents (change ∷ changes) ≡ after
+  deletes_there : done_to (with_only documents) (delete_one entry) ≡ Ok (record { matched = matched; changes = change ∷ changes }) → length (change ∷ changes) ≡ matched → with_changes documents (change ∷ changes) ≡ after
       → with_next t_c true (nothing_written (holding documents).catalog.namespaces) (delete_one entry) ≡ wrote 1 (0 + matched) [] (holding after).catalog.namespaces
   deletes_there does many leaves =
-      looked_at t_c true (nothing_written (holding documents).catalog.namespaces) documents (put_there documents empty_state.catalog.namespaces) refl (delete_one entry) _ does
+      looked_at t_c true (nothing_written (holding documents).catalog.namespaces) documents (put_there documents) refl (delete_one entry) _ does
       ∙ ap (λ (n : ℕ). wrote_so 1 (0 + matched) (0 + n) [] (apply t_c (change ∷ changes) (holding documents).catalog.namespaces)) many
       ∙ ap (wrote 1 (0 + matched) [])
-      (ap (λ (ds : List (List Field)). with_documents t_c (with_changes ds (change ∷ changes)) (holding documents).catalog.namespaces) (put_there documents empty_state.catalog.namespaces)
+      (ap (λ (ds : List (List Field)). with_documents t_c (with_changes ds (change ∷ changes)) (holding documents).catalog.namespaces) (put_in documents)
       ∙ ap (λ (ds : List (List Field)). with_documents t_c ds (holding documents).catalog.namespaces) leaves ∙ put_twice after documents empty_state.catalog.namespaces)
 
 -- the document with this number as its `_id` goes
@@ -56,7 +56,7 @@ deletes = record {
   first = λ session. ap (write_answer (holding three) (write_by no_entries)) (deletes_there three (only 2 ∷ only 3 ∷ []) (deletion [] 1) 1 (goes 1) [] refl refl refl);
   greater = λ session. ap (write_answer (holding three) (write_by no_entries)) (deletes_there three (only 1 ∷ []) (deletion (one_field (codes "_id") (document_of (one_field (codes "$gt") (number 1)))) 0) 2 (goes 2) (goes 3 ∷ []) refl refl refl);
   all = λ session. ap (write_answer (holding three) (write_by no_entries)) (deletes_there three [] (deletion [] 0) 3 (goes 1) (goes 2 ∷ goes 3 ∷ []) refl refl refl);
-  nothing = λ session. ap (write_answer empty_state (write_by no_entries)) (looked_at t_c true (nothing_written empty_state.catalog.namespaces) [] (nothing_in t_c) refl (delete_one (deletion [] 0)) (Ok (record { matched = 0; changes = [] })) refl);
+  nothing = λ session. ap (write_answer empty_state (write_by no_entries)) (looked_at t_c true (nothing_written empty_state.catalog.namespaces) [] (nothing_there t_c) refl (delete_one (deletion [] 0)) (Ok (record { matched = 0; changes = [] })) refl);
   no_limit = λ session. refl;
   two = λ session. refl;
 }
@@ -70,7 +70,7 @@ found_in : (documents : List (List Field)) (form : Members) (parts : List Part) 
     → answered (holding documents) (on_cursors (holding documents) (first_batch session t_c 101 false (scan form parts skip limit (documents_of t_c (holding documents).catalog.namespaces)) no_cursors))
     ≡ answered (holding documents) (on_cursors (holding documents) (first_batch session t_c 101 false (scan form parts skip limit documents) no_cursors))
 found_in documents form parts skip limit session =
-    ap (λ (ds : List (List Field)). answered (holding documents) (on_cursors (holding documents) (first_batch session t_c 101 false (scan form parts skip limit ds) no_cursors))) (put_there documents empty_state.catalog.namespaces)
+    ap (λ (ds : List (List Field)). answered (holding documents) (on_cursors (holding documents) (first_batch session t_c 101 false (scan form parts skip limit ds) no_cursors))) (put_in documents)
 
 pub finds : FindExamples
 unfolding filter_in conditions_in operators_in member_named operator_named matches matches_member meets_all meets path_of index_of whole leaves sort_key stable digits framed element_spelling payload counted batch

@@ -27,7 +27,7 @@ use Rattle.dv_core.specs.Examples.{holding, two, viewing, MarkExamples, ViewExam
 use Rattle.dv_core.specs.Find.{first_batch}
 use Rattle.dv_cursor.specs.Batch.{batch}
 use Rattle.dv_core.specs.Step.{answered, on_catalog, on_cursors, read_answer, replying}
-use Rattle.dv_core.proofs.Worked.{t_c, nothing_in, put_there}
+use Rattle.dv_core.proofs.Worked.{t_c, nothing_in, put_in}
 
 -- ---- what stands where
 
@@ -98,8 +98,8 @@ views = record {
   collection_again = λ session. creates (holding two) t_c true two_there None;
   written = λ session. refl;
   empty = λ session. shows bare [] session (nothing_in t_c);
-  found = λ session. shows full two session (put_there two empty_state.catalog.namespaces);
-  aggregated = λ session. shows_all full two session (put_there two empty_state.catalog.namespaces);
+  found = λ session. shows full two session (put_in two);
+  aggregated = λ session. shows_all full two session (put_in two);
   source_dropped = λ session. drops full t_c true two_there ∙ ap (λ (ns : Namespaces). answered full (on_catalog full (replying (drop_reply t_c) (Ok (record full.catalog { namespaces = ns }))))) put_and_gone;
   dropped = λ session. drops bare (codes "t.v") false (none_there (codes "t.v"));
   nothing_there = λ session. drops empty_state (codes "t.v") false (none_there (codes "t.v"));
@@ -110,7 +110,7 @@ views = record {
 pub marks : MarkExamples
 unfolding framed element_spelling payload counted filter_in pipeline_of through
 marks = record {
-  told_live = λ session. ap (λ (rows : List (List Field)). answered full (read_answer full (Ok (view_stats_reply true (length rows) 0)))) (put_there two empty_state.catalog.namespaces);
+  told_live = λ session. ap (λ (rows : List (List Field)). answered full (read_answer full (Ok (view_stats_reply true (length rows) 0)))) (put_in two);
   told_stale = λ session. refl;
   no_view = λ session. refl;
   created = rw (none_there (codes "t.v")) refl;

@@ -37,8 +37,8 @@ pub(crate) fn new_indexes(
 {
     let mut made = Vec::with_capacity(alloc, indexes.len())?;
     'indexes: for asked in indexes {
-        let IndexAsked { name, path } = asked;
-        made.push(NewIndex { name, path })?;
+        let IndexAsked { name, path, unique } = asked;
+        made.push(NewIndex { name, path, unique })?;
     }
     Ok(made)
 }

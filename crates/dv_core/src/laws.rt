@@ -101,9 +101,9 @@ pub fn documents_stay_in_order()
 }
 
 /// Every state that is reached is sound, if the documents that commands bring, and those that are loaded, are: its documents,
-/// the names of its indexes, its views, which were asked by valid values, and its cursors, whose rows that are still to come
-/// are valid and none of them over the limits. So it is before the first command, and so after each command, each load and
-/// each end of a session.
+/// the names of its indexes, its unique indexes, of which no key stands in two documents, its views, which were asked by valid
+/// values, and its cursors, whose rows that are still to come are valid and none of them over the limits. So it is before the
+/// first command, and so after each command, each load and each end of a session.
 pub fn states_stay_sound()
     ensures before { IsSound empty_state }
     ensures after { (old new : State) (session : ℕ) (command : Command) (outcome : Outcome) → IsSoundCommand command → IsSound old
@@ -124,6 +124,12 @@ pub fn states_stay_sound()
     dv_command::laws::the_update_of_an_entry_is_sound();
     dv_cursor::laws::a_batch_is_a_front();
     dv_cursor::laws::a_change_leaves_other_cursors();
+    dv_index::laws::an_insert_without_a_clash_breaks_nothing();
+    dv_index::laws::a_replacement_without_a_clash_breaks_nothing();
+    dv_index::laws::a_removal_breaks_nothing();
+    dv_index::laws::nothing_is_broken_by_no_document();
+    dv_index::laws::fewer_indexes_break_no_more();
+    dv_index::laws::indexes_break_one_by_one();
     dv_pipe::laws::what_comes_out_is_valid();
 }
 

@@ -107,7 +107,8 @@ impl Store {
         }
     }
 
-    /// Carries out a write.
+    /// Carries out a write. A statement one of whose changes, made one after the other, would find one of its keys of a
+    /// unique index under another `_id` is refused before the first of them.
     fn write(&mut self, write: Write<'_>) -> Outcome
         ensures { WritesOn (write_by (write_seen write.entry)) self.old result self.new }
     {
@@ -253,8 +254,8 @@ impl Store {
     /// document alone does, beside any session. Refused with a code, the first of these that holds: 2 where the text is no
     /// namespace, which is the name of a database, a dot and the name of a collection, at most 120 bytes in all; 902 where a
     /// view stands there; 2 where the document can't be stored for its names or its `_id`; 901 where it is over 16,777,216
-    /// bytes or 100 levels; 11000 where a document has an equal `_id`; and 900 where memory is wanting. Then nothing is
-    /// changed.
+    /// bytes or 100 levels; 11000 where a document has an equal `_id`, or one has a key of it under the path of a unique index;
+    /// and 900 where memory is wanting. Then nothing is changed.
     pub fn load(&mut self, namespace: &str, document: Document) -> Result<(), i32>
         ensures loaded { OnOk result (loading.IsLoaded namespace.now document self.old self.new) }
         ensures code { IfErr result (λ code. loading.IsCodeOf (loading.loaded namespace.now document self.old) code) }

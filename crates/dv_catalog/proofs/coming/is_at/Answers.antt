@@ -12,4 +12,4 @@ returns-in-Some c = λ is.
     let others = c.args.others.now in
     let lookup = c.in-Some.ensures.lookup in
     any_at (λ y. is_same x (form_of_new y)) others c.args.place there (sym (slice_get_read others (length others) c.args.place there refl lookup.3.0 lookup.1))
-    (ap (λ name. is_same x (record { name = name; path = there.path })) (sym c.as_str.ensures) ∙ sym c.is_same.ensures ∙ is)
+    (ap (λ name. is_same x (record { name = name; path = there.path; unique = there.unique })) (sym c.as_str.ensures) ∙ sym c.is_same.ensures ∙ is)

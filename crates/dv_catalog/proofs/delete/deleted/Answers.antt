@@ -1,8 +1,12 @@
-use Rattle.std.proofs.Common.{◌≡◌, length, ◌∙◌, sym, arith}
+use Rattle.std.proofs.Common.{◌≡◌, length, map, ◌∙◌, sym, arith}
 use Rattle.std.proofs.lemmas.Grind.{common_steps}
 use Rattle.std.proofs.lemmas.List.{length-map}
 use Rattle.dv_command.specs.View.{deletion_seen}
 use Rattle.dv_pipe.specs.Sources.{referred}
+use Rattle.dv_catalog.specs.Changes.{gone}
+use Rattle.dv_catalog.specs.EffectLaws.{done_unbroken}
+use Rattle.dv_catalog.specs.Effects.{delete_chosen}
+use Rattle.dv_catalog.proofs.Breaking.{gone_breaks_nothing}
 use Rattle.dv_catalog.proofs.Deleted.{deletes, deletes_placed, deletes_identified}
 use Rattle.dv_catalog.proofs.Keys.{before_ascending}
 use Rattle.dv_catalog.proofs.delete.deleted.Goals as goal
@@ -15,8 +19,11 @@ pub returns-clause-effect : goal.returns-clause-effect
 returns-clause-effect c =
     let keyed = rw c.deref.ensures.value at c.in_ok-keys.ensures in
     let many : c.len-2.result ≡ length c.in_ok-documents.documents.items = grind (arith, common_steps, c.len-2.ensures) in
-    deletes (deletion_seen c.args.deletion.now) c.args.collection.now.documents (referred c.in_ok-documents.documents.items) c.in_ok-documents.ensures c.in_ok-keys.keys.items keyed c.len-2.result
-    (many ∙ sym (length-map c.in_ok-documents.documents.items (λ r. r.now)))
+    let old = c.args.collection.now in
+    let keys = c.in_ok-keys.keys.items in
+    let asked = deletion_seen c.args.deletion.now in
+    let does = deletes asked old.documents (referred c.in_ok-documents.documents.items) c.in_ok-documents.ensures keys keyed c.len-2.result (many ∙ sym (length-map c.in_ok-documents.documents.items (λ r. r.now))) in
+    done_unbroken old (delete_chosen asked) (record { matched = c.len-2.result; changes = map gone keys }) does (gone_breaks_nothing old.indexes keys old.documents)
 
 pub returns-clause-placed : goal.returns-clause-placed
 returns-clause-placed c =

@@ -4,7 +4,7 @@ use Rattle.dv_index.specs.View.{form_of_new}
 use Rattle.dv_catalog.specs.CatalogParts.{form_of, state_of}
 use Rattle.dv_catalog.specs.IndexMaking.{with_all}
 use Rattle.dv_catalog.specs.Parts.{Leaves}
-use Rattle.dv_catalog.specs.State.{State, indexes_of, is_view}
+use Rattle.dv_catalog.specs.State.{State, collection_of, is_view}
 use Rattle.dv_catalog.proofs.Keeping.{view_forms}
 use Rattle.dv_catalog.proofs.MadeIndexes.{created_on_collection, kept_indexes, not_created_on_view, state_leaves}
 use Rattle.dv_catalog.proofs.catalog.Catalog.create_indexes.Goals as goal
@@ -20,7 +20,7 @@ invariant_of-self c =
     let name = c.args.namespace.now in
     let old = c.self.inside.collections in
     let none : is_view name (map form_of c.self.inside.views) ≡ false = view_forms c.self.inside.views name ∙ sym c.has.ensures ∙ c.if-has.false in
-    kept_indexes c.what_is_not_read_does_not_matter.ensures name old c.self.inside.views none (with_all (map form_of_new c.args.entries.items) (indexes_of name old)) c.create_indexes.result c.create_indexes.new.self c.create_indexes.ensures.made c.self.invariant
+    kept_indexes c.what_is_not_read_does_not_matter.ensures name old c.self.inside.views none (with_all (map form_of_new c.args.entries.items) (collection_of name old)) c.create_indexes.result c.create_indexes.new.self c.create_indexes.ensures.made c.self.invariant
 
 pub returns-clause-made : goal.returns-clause-made
 returns-clause-made c =
@@ -30,4 +30,4 @@ returns-clause-made c =
     let none : is_view name (map form_of vs) ≡ false = view_forms vs name ∙ sym c.has.ensures ∙ c.if-has.false in
     rw (← c.self.view_is)
     (subst (λ (r : Result State Refusal). Leaves r (state_of old vs) c.create_indexes.result (state_of c.create_indexes.new.self vs)) (sym (created_on_collection name (state_of old vs) (map form_of_new c.args.entries.items) none))
-    (state_leaves name old c.create_indexes.new.self vs (with_all (map form_of_new c.args.entries.items) (indexes_of name old)) c.create_indexes.result c.create_indexes.ensures.made))
+    (state_leaves name old c.create_indexes.new.self vs (with_all (map form_of_new c.args.entries.items) (collection_of name old)) c.create_indexes.result c.create_indexes.ensures.made))

@@ -25,7 +25,7 @@ returns-clause-made c =
     let is : is_collection name old ≡ true = ap is_some (get-standing c.self.inside.collections name ∙ ap (option_map standing_seen) (sym there)) in
     rw (← c.self.view_is)
     (dropped_there name c.args.name.now old _ c.drop_named.result (is_collection name old) is
-    (leaves_there old name _ (collection-there c.self.inside.collections name _ there) (without_named c.args.name.now) c.drop_named.result written _ (same-written c.self.inside.collections name _ there) c.drop_named.ensures.made now))
+    (leaves_there old name _ (collection-there c.self.inside.collections name _ there) (λ x. without_named c.args.name.now x.indexes) c.drop_named.result written _ (same-written c.self.inside.collections name _ there) c.drop_named.ensures.made now))
 
 pub returns-clause-count : goal.returns-clause-count
 returns-clause-count c =

@@ -1,0 +1,46 @@
+-- What a statement does to a collection: what it does to its documents, unless that is refused for a unique key.
+use Rattle.std.proofs.Common.{◌≡◌, ◌⊎◌, inl, inr, ℕ, zero, suc, ◌||◌, Bool, true, false, List, [], ◌∷◌, take, Result, Ok, Err, refl, sym, subst}
+use Rattle.dv_bson.specs.Tree.{Field}
+use Rattle.dv_catalog.specs.Changes.{Change, Effect, Statement, breaks, changes_of, clashes_by, done_to, with_change}
+use Rattle.dv_catalog.specs.EffectLaws.{done_changes, done_so}
+use Rattle.dv_catalog.specs.State.{Collection}
+use Rattle.dv_fields.specs.declared.refusal.Refusal.{Refusal}
+use Rattle.dv_index.specs.Index.{IndexForm}
+
+-- ---- none of two
+
+pub neither : (a b : Bool) → (a || b) ≡ false → (a ≡ false) × (b ≡ false)
+neither true b is = absurd cc
+neither false b is = (refl, is)
+
+pub both_false : (a b : Bool) → a ≡ false → b ≡ false → (a || b) ≡ false
+both_false true b is others = absurd cc
+both_false false b is others = others
+
+-- ---- the changes of a statement
+
+module _ (c : Collection) (statement : Statement) where
+  -- what holds of those that it makes of the documents, and of none, holds of those to the collection
+  pub changes_done : (P : List Change → Type 0) → P [] → P (changes_of (statement c.documents)) → P (changes_of (done_to c statement))
+  changes_done P none has = either (done_changes c statement)
+    where
+      either : (changes_of (done_to c statement) ≡ changes_of (statement c.documents)) ⊎ (changes_of (done_to c statement) ≡ []) → P (changes_of (done_to c statement))
+      either (inl same) = subst P (sym same) has
+      either (inr nothing) = subst P (sym nothing) none
+
+  -- they put no key of a unique index under two `_id`s
+  pub changes_unbroken : breaks c.indexes (changes_of (done_to c statement)) c.documents ≡ false
+  changes_unbroken = by_result (done_to c statement) refl
+    where
+      by_result : (r : Result Effect Refusal) → done_to c statement ≡ r → breaks c.indexes (changes_of r) c.documents ≡ false
+      by_result (Ok effect) is = (done_so c statement effect is).1
+      by_result (Err refusal) is = refl
+
+-- nor do the first so many of them
+pub front_unbroken : (indexes : List IndexForm) (made : ℕ) (changes : List Change) (documents : List (List Field)) → breaks indexes changes documents ≡ false → breaks indexes (take made changes) documents ≡ false
+front_unbroken indexes zero [] documents is = refl
+front_unbroken indexes zero (change ∷ changes) documents is = refl
+front_unbroken indexes (suc made) [] documents is = refl
+front_unbroken indexes (suc made) (change ∷ changes) documents is =
+    let (here, later) = neither (clashes_by indexes change documents) (breaks indexes changes (with_change documents change)) is in
+    both_false (clashes_by indexes change documents) (breaks indexes (take made changes) (with_change documents change)) here (front_unbroken indexes made changes (with_change documents change) later)
