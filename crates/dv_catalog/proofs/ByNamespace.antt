@@ -1,5 +1,5 @@
 -- What stands under namespaces, in a map under texts.
-use Rattle.std.proofs.Common.{◌≡◌, ◌⊎◌, inl, inr, ℕ, Bool, true, false, List, [], ◌∷◌, Option, Some, None, Result, Ok, Err, IsSome, IsErrOf, map, cond, refl, ap, sym, ◌∙◌, arith}
+use Rattle.std.proofs.Common.{◌≡◌, ◌⊎◌, inl, inr, ℕ, Bool, true, false, List, [], ◌∷◌, Option, Some, None, Result, Ok, Err, map, cond, refl, ap, sym, ◌∙◌, arith}
 use Rattle.std.proofs.lemmas.Map.Text.{btree_map_updates_text}
 use Rattle.std.proofs.lemmas.Slice.Eq.{bytes_eq-Decides}
 use Rattle.std.specs.BTreeMap.{BTreeMap, is_at, get_by_text, UpdatesBy, WritesThrough}
@@ -17,7 +17,7 @@ use Rattle.dv_fields.specs.declared.refusal.Refusal.{Refusal}
 use Rattle.dv_fields.specs.declared.refusal.Refusal.TheVariants.{WantOfMemory}
 use Rattle.dv_catalog.specs.Changes.{Change, Effect, apply, done_to, put, with_changes, with_put}
 use Rattle.dv_catalog.specs.Effects.{put_new}
-use Rattle.dv_catalog.specs.State.{Collection, Standing, Namespaces, collection_at, collection_of, documents_of, with_documents}
+use Rattle.dv_catalog.specs.State.{Collection, Standing, Namespaces, collection_at, collection_of, with_documents}
 use Rattle.dv_index.specs.Indexed.{empty_indexed}
 use Rattle.dv_catalog.specs.View.{standing_seen, standing_by_namespace}
 use Rattle.dv_catalog.specs.Parts.{Makes, one}

@@ -3,11 +3,12 @@ use Rattle.std.proofs.Common.{◌≡◌, ◌||◌, ℕ, Bool, true, false, if◌
 use Rattle.std.specs.FinMap as finite
 use Rattle.dv_bson.specs.Tree.{Field}
 use Rattle.dv_match.specs.Filter.{Members}
-use Rattle.dv_views.specs.Views.{Mark, View, Views, has_name, has_view, kept_rows, live, rows_shown, stale, view_named}
-use Rattle.dv_catalog.specs.CatalogParts.{form_of, is_stale, is_stale_mark, is_stale_view, rows_kept, rows_or, state_of}
+use Rattle.dv_views.specs.Views.{View, Views, form_of, has_name, has_view, rows_shown, view_named}
+use Rattle.dv_catalog.specs.CatalogParts.{AreLive, rows_kept, rows_or, state_of}
 use Rattle.dv_catalog.specs.IndexMaking.{explained, explained_at, over_view}
 use Rattle.dv_catalog.specs.State.{Namespaces, documents_of, is_view, rows_of}
 use Rattle.dv_catalog.proofs.Keeping.{view_forms}
+use Rattle.dv_catalog.proofs.Refreshed.{none_shown}
 
 named_is_there : (name : List ℕ) (vs : Views) (v : View) → view_named name vs ≡ Some v → has_view name vs ≡ true
 named_is_there name [] v is = absurd cc
@@ -17,25 +18,9 @@ named_is_there name (w ∷ vs) v is = by_name (has_name name w) (named_is_there 
     by_name true rest is = refl
     by_name false rest is = rest is
 
-none_is_named : (name : List ℕ) (vs : Views) → view_named name vs ≡ None → has_view name vs ≡ false
-none_is_named name [] none = refl
-none_is_named name (w ∷ vs) none = by_name (has_name name w) (none_is_named name vs) none
-  where
-    by_name : (b : Bool) → (view_named name vs ≡ None → has_view name vs ≡ false) → (if b then Some w else view_named name vs) ≡ None → b || has_view name vs ≡ false
-    by_name true rest none = absurd cc
-    by_name false rest none = rest none
-
 shown_by : (name : List ℕ) (vs : Views) (there : Option View) → view_named name vs ≡ there → (rows : List (List Field)) → rows_shown name vs ≡ Some rows → has_view name vs ≡ true
 shown_by name vs None is rows shown = let none : rows_shown name vs ≡ None = rw is refl in absurd (cc (none, shown))
 shown_by name vs (Some v) is rows shown = named_is_there name vs v is
-
-live_is_shown : (mark : Mark) → is_stale_mark mark ≡ false → kept_rows mark ≡ None → ⊥
-live_is_shown (live kept) fresh none = cc
-live_is_shown stale fresh none = cc
-
-none_by : (name : List ℕ) (vs : Views) (there : Option View) → view_named name vs ≡ there → is_stale name vs ≡ false → rows_shown name vs ≡ None → has_view name vs ≡ false
-none_by name vs None is fresh none = none_is_named name vs is
-none_by name vs (Some v) is fresh none = absurd (live_is_shown v.mark (sym (ap is_stale_view is) ∙ fresh) (rw is at none))
 
 module _ (name : List ℕ) (filter : Members) (namespaces : Namespaces) (before after : Views) (forms : map form_of after ≡ map form_of before) where
   same_view : is_view name (map form_of before) ≡ has_view name after
@@ -50,5 +35,5 @@ module _ (name : List ℕ) (filter : Members) (namespaces : Namespaces) (before 
       let are : rows ≡ rows_of name (state_of namespaces before) = sym (ap (λ (r : Option (List (List Field))). rows_or r (documents_of name namespaces)) shown) ∙ kept in
       by_view true (same_view ∙ shown_by name after (view_named name after) refl rows shown) ∙ (λ i. record { way = over_view; documents = length (sym are i) })
 
-  pub collection_explained : is_stale name after ≡ false → rows_shown name after ≡ None → explained name filter (state_of namespaces before) ≡ explained_at filter (finite.get namespaces name)
-  collection_explained fresh none = by_view false (same_view ∙ none_by name after (view_named name after) refl fresh none)
+  pub collection_explained : AreLive (name ∷ []) after → rows_shown name after ≡ None → explained name filter (state_of namespaces before) ≡ explained_at filter (finite.get namespaces name)
+  collection_explained all none = by_view false (same_view ∙ none_shown name after all none)

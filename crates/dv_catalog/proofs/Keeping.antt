@@ -8,20 +8,25 @@ use Rattle.std.specs.Str.{bytes_eq}
 use Rattle.dv_bson.specs.Tree.{Field}
 use Rattle.dv_change.specs.declared.change.Change as flow
 use Rattle.dv_pipe.specs.Stages.{Lists}
-use Rattle.dv_views.specs.Changed.{AreAfterChange, AreMade, IsAfterChange, changed, with_changed}
-use Rattle.dv_views.specs.Views.{AreRight, View, Views}
+use Rattle.dv_views.specs.Changed.{AreMade, changed, with_changed}
+use Rattle.dv_views.specs.Forms.{ViewForm}
+use Rattle.dv_views.specs.Views.{AreRight, Views, form_of}
 use Rattle.dv_views.specs.Views as views
-use Rattle.dv_catalog.specs.CatalogParts.{IsKept, form_of}
+use Rattle.dv_catalog.specs.CatalogParts.{IsKept}
 use Rattle.dv_catalog.specs.Changes.{Change, Effect, put, gone, apply, changes_of, with_change, with_changes}
 use Rattle.dv_catalog.specs.EffectView.{AreAble, ArePlaced, BeginsWithId, IsAble, IsPlaced}
 use Rattle.dv_catalog.specs.Effects.{put_new}
 use Rattle.dv_coll.specs.Collection.{found, id_key}
 use Rattle.dv_fields.specs.declared.refusal.Refusal.{Refusal}
 use Rattle.dv_fields.specs.declared.refusal.Refusal.TheVariants.{DuplicateKey}
-use Rattle.dv_catalog.specs.State.{AreOrdered, Collection, Namespaces, Standing, ViewForm, collection, collection_at, collection_of, documents_of, is_collection, is_view, lists_of}
+use Rattle.dv_catalog.specs.State.{AreOrdered, Collection, Namespaces, Standing, collection, collection_at, collection_of, documents_of, is_collection, is_view, lists_of}
 use Rattle.dv_catalog.specs.StateLaws.{get-insert}
 use Rattle.dv_catalog.specs.Told.{AreTold, told}
 use Rattle.dv_catalog.specs.Views.{reads_name}
+
+pub neither : (a b : Bool) → a || b ≡ false → (a ≡ false) × (b ≡ false)
+neither true b is = absurd cc
+neither false b is = (refl, is)
 
 -- ---- views and their forms
 
@@ -32,15 +37,6 @@ reads_forms (v ∷ vs) name = ap (λ (b : Bool). views.reads v name || b) (reads
 pub view_forms : (registry : Views) (name : List ℕ) → is_view name (map form_of registry) ≡ views.has_view name registry
 view_forms [] name = refl
 view_forms (v ∷ vs) name = ap (λ (b : Bool). bytes_eq name v.name || b) (view_forms vs name)
-
-same_form : (namespace : List ℕ) (v w : View) → IsAfterChange namespace v w → form_of w ≡ form_of v
-same_form namespace v w after = λ i. record { name = after.name i; source = after.source i; stages = after.stages i }
-
-pub same_forms : (namespace : List ℕ) (before after : Views) → AreAfterChange namespace before after → map form_of after ≡ map form_of before
-same_forms namespace [] [] all = refl
-same_forms namespace [] (w ∷ ws) all = absurd all
-same_forms namespace (v ∷ vs) [] all = absurd all
-same_forms namespace (v ∷ vs) (w ∷ ws) all = λ i. same_form namespace v w all.0 i ∷ same_forms namespace vs ws all.1 i
 
 -- ---- what changes leave under each namespace
 
@@ -107,7 +103,7 @@ StaysRight namespace tell before after = (lists : Lists) → AreMade tell (lists
 module _ (made : MadeAsTold) (unread : UnreadIsNoMatter) (old new : Namespaces) (before after : Views) (namespace : List ℕ) (changes : List Change) (tell : List flow.Change) (kept : IsKept old before)
     (ordered : AreOrdered (documents_of namespace old)) (able : AreAble (documents_of namespace old) changes)
     (documents : (name : List ℕ) → documents_of name new ≡ cond (bytes_eq namespace name) (with_changes (documents_of namespace old) changes) (documents_of name old)) (are : AreTold namespace before changes tell)
-    (right : StaysRight namespace tell before after) (others : AreAfterChange namespace before after) where
+    (right : StaysRight namespace tell before after) (forms : map form_of after ≡ map form_of before) where
   told_lists : (b : Bool) (name : List ℕ) → bytes_eq namespace name ≡ b → changed (map told changes) (documents_of namespace old) ≡ with_changes (documents_of namespace old) changes
       → (if b then changed (map told changes) (documents_of name old) else documents_of name old) ≡ cond b (with_changes (documents_of namespace old) changes) (documents_of name old)
   told_lists true name e is = ap (λ (n : List ℕ). changed (map told changes) (documents_of n old)) (sym (is_same namespace name e)) ∙ is
@@ -125,7 +121,7 @@ module _ (made : MadeAsTold) (unread : UnreadIsNoMatter) (old new : Namespaces) 
       → changed [] (documents_of namespace old) ≡ documents_of namespace old
       → (if b then changed [] (documents_of name old) else documents_of name old) ≡ cond b (with_changes (documents_of namespace old) changes) (documents_of name old)
   nothing_told true name e not_read read is =
-      let same : views.reads_name after name ≡ views.reads_name before name = sym (reads_forms after name) ∙ ap (λ (forms : List ViewForm). reads_name forms name) (same_forms namespace before after others) ∙ reads_forms before name in
+      let same : views.reads_name after name ≡ views.reads_name before name = sym (reads_forms after name) ∙ ap (λ (vs : List ViewForm). reads_name vs name) forms ∙ reads_forms before name in
       let here : views.reads_name before name ≡ false = subst (λ (n : List ℕ). views.reads_name before n ≡ false) (is_same namespace name e) not_read in
       absurd (cc (same, here, read))
   nothing_told false name e not_read read is = refl
@@ -157,12 +153,10 @@ module _ (made : MadeAsTold) (unread : UnreadIsNoMatter) (old new : Namespaces) 
       by_there false e = refl
 
   pub kept_after : is_view namespace (map form_of before) ≡ false → ((name : List ℕ) → is_collection name new ≡ true → (bytes_eq namespace name ≡ true) ⊎ (is_collection name old ≡ true)) → IsKept new after
-  kept_after no_view collections =
-      let forms = same_forms namespace before after others in
-      record {
-        right = right_after;
-        apart = λ name view. apart_after no_view collections name (subst (λ (fs : List ViewForm). is_view name fs ≡ true) forms view);
-      }
+  kept_after no_view collections = record {
+    right = right_after;
+    apart = λ name view. apart_after no_view collections name (subst (λ (fs : List ViewForm). is_view name fs ≡ true) forms view);
+  }
 
 -- ---- a collection put under a namespace with the documents that stand there
 

@@ -18,3 +18,4 @@ mod Sourced
 mod Making
 mod Kept
 mod MadeIndexes
+mod Stale

@@ -6,9 +6,9 @@ use Rattle.std.specs.Str.{bytes_eq}
 use Rattle.dv_fields.specs.declared.refusal.Refusal.{Refusal}
 use Rattle.dv_fields.specs.declared.refusal.Refusal.TheVariants.{NamespaceNotFound, OnView, WantOfMemory}
 use Rattle.dv_index.specs.Index.{IndexForm}
-use Rattle.dv_views.specs.Views.{Views}
+use Rattle.dv_views.specs.Views.{Views, form_of}
 use Rattle.dv_catalog.specs.declared.indexing.IndexCounts.{IndexCounts}
-use Rattle.dv_catalog.specs.CatalogParts.{IsKept, form_of, state_of}
+use Rattle.dv_catalog.specs.CatalogParts.{IsKept, state_of}
 use Rattle.dv_catalog.specs.IndexMaking.{indexes_created, indexes_dropped, with_all, with_indexes_so, without_named}
 use Rattle.dv_catalog.specs.IndexParts.{collection_so, namespaces_so}
 use Rattle.dv_catalog.specs.Parts.{Leaves}

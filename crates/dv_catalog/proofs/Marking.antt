@@ -1,18 +1,15 @@
--- How views stand behind changes, and behind the reading of one.
-use Rattle.std.proofs.Common.{◌≡◌, ◌⊎◌, ◌<◌, inl, inr, ◌||◌, is_some, take, arith, ℕ, Bool, true, false, if◌then◌else◌, List, [], ◌∷◌, ◌++◌, not, map, fold, length, Option, Some, None, Result, Ok, Err, OnOk, refl, sym, ap, subst, ◌∙◌}
-use Rattle.std.specs.List.{AllByRecursion}
-use Rattle.std.specs.Option.{option_map}
+-- How views stand behind changes.
+use Rattle.std.proofs.Common.{◌≡◌, ◌⊎◌, ◌<◌, inl, inr, is_some, take, arith, ℕ, Bool, true, false, if◌then◌else◌, List, [], ◌∷◌, not, map, length, Result, Ok, Err, refl, sym, ap, subst, ◌∙◌}
+use Rattle.dv_change.specs.Raised.{raised}
 use Rattle.dv_change.specs.declared.change.Change as flow
-use Rattle.dv_change.specs.declared.input.Input.{Input}
-use Rattle.dv_pipe.specs.Stages.{Lists, is_read}
-use Rattle.dv_pipe.specs.declared.stage.Stage.{Stage}
-use Rattle.dv_views.specs.Changed.{AreAfterChange, IsAfterChange}
-use Rattle.dv_views.specs.Counted.{AreCounted, IsCounted, IsMarked, inputs_at, kept_behind, kept_through}
-use Rattle.dv_views.specs.Placed.{places_of}
-use Rattle.dv_views.specs.Views.{AreKept, AreNamedApart, AreRight, IsRight, Kept, View, Views, has_name, kept_anew, made_anew, mark_anew, refreshed, rows_of_view, taken_from, view_named, without}
+use Rattle.dv_pipe.specs.Stages.{Lists}
+use Rattle.dv_views.specs.Changed.{AreMade}
+use Rattle.dv_views.specs.Counted.{AreCounted, IsCounted}
+use Rattle.dv_views.specs.Flow.{Share, nothing, shares}
+use Rattle.dv_views.specs.Forms.{ViewForm, is_read_by}
+use Rattle.dv_views.specs.Views.{AreRight, View, Views, form_of, has_name, is_stale, ticks_in, without}
 use Rattle.dv_views.specs.Views as views
-use Rattle.dv_views.specs.declared.state.ViewState.TheVariants as states
-use Rattle.dv_catalog.specs.CatalogParts.{form_of, is_stale, is_stale_mark, is_stale_view, mark_of, marks_of}
+use Rattle.dv_catalog.specs.CatalogParts.{mark_of, marks_of}
 use Rattle.dv_bson.specs.Tree.{Field}
 use Rattle.dv_coll.specs.Collection.{found, id_key}
 use Rattle.dv_command.specs.Entries.{Deletion, Updating}
@@ -22,156 +19,95 @@ use Rattle.dv_fields.specs.declared.refusal.Refusal.TheVariants.{DuplicateKey}
 use Rattle.dv_catalog.specs.declared.stopped.Stopped.{Stopped}
 use Rattle.dv_catalog.specs.Changes.{Change, Effect, Statement, changes_of, done_to, put}
 use Rattle.dv_catalog.specs.EffectLaws.{done_changes}
+use Rattle.dv_catalog.specs.EffectView.{AreAble}
 use Rattle.dv_catalog.specs.Effects.{all_or_first, changed_by, delete_chosen, put_new, update_chosen, without as all_going}
 use Rattle.dv_catalog.specs.Parts.{IsCut, IsRefused, StandBy, changes_made}
-use Rattle.dv_catalog.specs.Marks.{AreMarkedBy, AreMarkedByDrop, AreMarkedWhere, IsMarkedBy, Mark, Marked, Marks, all_gone, counted, live, mark_counted, mark_read, marks_read, marks_without, stale}
-use Rattle.dv_catalog.specs.State.{Collection, Namespaces, State, ViewForm, documents_of, is_collection, lists_of}
+use Rattle.dv_catalog.specs.Marks.{AreMarkedBy, AreMarkedByDrop, AreMarkedSo, AreMarkedWhere, IsMarkedBy, Mark, Marked, Marks, all_gone, live, mark_counted, marks_without, stale}
+use Rattle.dv_catalog.specs.State.{AreOrdered, Collection, Namespaces, State, documents_of, is_collection, lists_of}
 use Rattle.dv_catalog.specs.Told.{AreTold, told}
 use Rattle.dv_catalog.proofs.Breaking.{idle_done}
-use Rattle.dv_catalog.proofs.Refreshed.{all_named}
+use Rattle.dv_catalog.proofs.Keeping.{MadeAsTold, reads_forms}
 use Rattle.dv_catalog.proofs.Stopping.{take_none}
 
 -- ---- behind changes
 
+shown_mark : (m : views.Mark) → mark_of m ≡ (if is_stale m then stale else live (ticks_in m))
+shown_mark (views.live kept) = refl
+shown_mark (views.anew rows) = refl
+shown_mark views.stale = refl
+
+-- a view
+module _ (share : Share) (v w : View) (counts : IsCounted share v w) where
+  abbrev before : Bool → Mark
+  before b = if b then stale else live (ticks_in v.mark)
+
+  abbrev after : Bool → Mark
+  after b = if b then stale else live (ticks_in w.mark)
+
+  is_reached : is_stale v.mark ≡ false → is_stale w.mark ≡ true → (b : Bool) → share.reached ≡ b → b ≡ true
+  is_reached was is true reached = refl
+  is_reached was is false reached = let same = ap (λ (u : View). is_stale u.mark) (counts.unread reached) in absurd (cc (was, is, same))
+
+  by_marks : (a b : Bool) → is_stale v.mark ≡ a → is_stale w.mark ≡ b → IsMarkedBy share (before a) (after b)
+  by_marks true true was is = inl refl
+  by_marks true false was is = let still = counts.stale was in absurd (cc (still, is))
+  by_marks false true was is = inr (record { stale = refl; reached = is_reached was is share.reached refl })
+  by_marks false false was is = inl (ap live (counts.ticks is))
+
+  marked_one : IsMarkedBy share (mark_of v.mark) (mark_of w.mark)
+  marked_one =
+      subst (λ (m : Mark). IsMarkedBy share m (mark_of w.mark)) (sym (shown_mark v.mark))
+      (subst (λ (m : Mark). IsMarkedBy share (before (is_stale v.mark)) m) (sym (shown_mark w.mark)) (by_marks (is_stale v.mark) (is_stale w.mark) refl refl))
+
+marked_each : (all : List Share) (vs ws : Views) → AreCounted all vs ws → AreMarkedSo all (marks_of vs) (marks_of ws)
+marked_each [] [] [] counts = refl
+marked_each [] [] (w ∷ ws) counts = absurd counts
+marked_each [] (v ∷ vs) ws counts = absurd counts
+marked_each (s ∷ all) [] ws counts = absurd counts
+marked_each (s ∷ all) (v ∷ vs) [] counts = absurd counts
+marked_each (s ∷ all) (v ∷ vs) (w ∷ ws) counts = (marked_one s v w counts.0, marked_each all vs ws counts.1)
+
 -- what dv_views's law says of what isn't read
-abbrev pub UnreadComesToNone : Type 0
-UnreadComesToNone = (stages : List Stage) (source namespace : List ℕ) → is_read stages source namespace ≡ false → inputs_at stages source namespace ≡ []
+abbrev pub UnreadIsNotCounted : Type 0
+UnreadIsNotCounted = (namespace : List ℕ) (changes : List flow.Change) (lists : Lists) (forms : List ViewForm) → is_read_by forms namespace ≡ false → shares namespace changes lists forms ≡ map (λ v. nothing) forms
 
-neither : (a b : Bool) → a || b ≡ false → (a ≡ false) × (b ≡ false)
-neither true b is = absurd cc
-neither false b is = (refl, is)
+abbrev pub CountsWork : List ℕ → List flow.Change → Views → Views → Type 0
+CountsWork namespace tell before after = (lists : Lists) → AreMade tell (lists namespace) → AreRight lists before → AreCounted (shares namespace tell lists (map form_of before)) before after
 
--- changes that come to no input are counted nowhere
-none_behind : (stages : List Stage) (changes : List flow.Change) (kept : Kept) (inputs : List Input) → inputs ≡ [] → fold (kept_behind stages inputs) kept changes ≡ kept
-none_behind stages [] kept inputs none = refl
-none_behind stages (c ∷ cs) kept inputs none = ap (λ (is : List Input). fold (kept_behind stages inputs) (kept_behind stages is kept c) cs) none ∙ none_behind stages cs kept inputs none
-
-module _ (law : UnreadComesToNone) (lists : Lists) (namespace : List ℕ) (changes : List Change) where
-  abbrev BecomesSo : View → views.Mark → views.Mark → Type 0
-  BecomesSo v before after = IsMarkedBy namespace changes lists (form_of v) (mark_of before) (mark_of after)
-
-  unread_counted : (v : View) (mark : views.Mark) → views.reads v namespace ≡ false → mark_counted namespace changes lists (form_of v) (mark_of mark) ≡ mark_of mark
-  unfolding counted
-  unread_counted v (views.live kept) unread =
-      let anew : Kept = record (kept_anew v.stages v.source lists) { ticks = kept.ticks } in
-      ap (λ (k : Kept). live k.ticks) (none_behind v.stages (map told changes) anew (inputs_at v.stages v.source namespace) (law v.stages v.source namespace unread))
-  unread_counted v views.stale unread = refl
-
-  kept_counted : (v : View) (kept : Kept) → AreKept (views.live kept) (taken_from v.stages v.source (places_of lists)) (rows_of_view v lists)
-      → (kept_through v.stages v.source namespace (map told changes) kept).ticks ≡ counted namespace changes lists (form_of v) kept.ticks
-  unfolding counted
-  kept_counted v kept right =
-      let anew : kept ≡ record (kept_anew v.stages v.source lists) { ticks = kept.ticks } = λ i. record { taken = right.0 i; rows = right.1 i; ticks = kept.ticks } in
-      ap (λ (k : Kept). (kept_through v.stages v.source namespace (map told changes) k).ticks) anew
-
-  -- changes that are told
-  module _ (v w : View) (counts : IsCounted namespace (map told changes) v w) (after : IsAfterChange namespace v w) where
-    is_struck : (kept : Kept) → v.mark ≡ views.live kept → w.mark ≡ views.stale → w ≡ v → ⊥
-    is_struck kept was is same = let not : views.stale ≡ views.live kept = sym is ∙ ap (λ (u : View). u.mark) same ∙ was in absurd cc
-
-    told_by : (before now : views.Mark) → v.mark ≡ before → w.mark ≡ now → AreKept before (taken_from v.stages v.source (places_of lists)) (rows_of_view v lists)
-        → IsMarked v.stages v.source namespace (map told changes) before now → BecomesSo v before now
-    told_by (views.live kept) now was is right (inl so) = inl (ap mark_of so ∙ ap live (kept_counted v kept right))
-    told_by (views.live kept) now was is right (inr so) = inr (record {
-      stale = ap mark_of so;
-      changed = λ none. is_struck kept was (is ∙ so) (counts.unchanged (ap (map told) none));
-      read = by_read (views.reads v namespace) refl;
-    })
-      where
-        by_read : (b : Bool) → views.reads v namespace ≡ b → b ≡ true
-        by_read true read = refl
-        by_read false read = absurd (is_struck kept was (is ∙ so) (after.unread read))
-    told_by views.stale now was is right so = inl (ap mark_of so)
-
-    told_one : IsRight lists v → BecomesSo v v.mark w.mark
-    told_one right = told_by v.mark w.mark refl refl right counts.marked
-
-  told_each : (vs ws : Views) → AreRight lists vs → AreCounted namespace (map told changes) vs ws → AreAfterChange namespace vs ws → AreMarkedBy namespace changes lists (map form_of vs) (marks_of vs) (marks_of ws)
-  told_each [] [] right counts after = refl
-  told_each [] (w ∷ ws) right counts after = absurd after
-  told_each (v ∷ vs) [] right counts after = absurd after
-  told_each (v ∷ vs) (w ∷ ws) right counts after = (told_one v w counts.0 after.0 right.0, told_each vs ws right.1 counts.1 after.1)
-
-  -- changes of what no view reads
-  unread_each : (vs ws : Views) → AreAfterChange namespace vs ws → views.reads_name vs namespace ≡ false → AreMarkedBy namespace changes lists (map form_of vs) (marks_of vs) (marks_of ws)
-  unread_each [] [] after unread = refl
-  unread_each [] (w ∷ ws) after unread = absurd after
-  unread_each (v ∷ vs) [] after unread = absurd after
-  unread_each (v ∷ vs) (w ∷ ws) after unread =
-      let both = neither (views.reads v namespace) (views.reads_name vs namespace) unread in
-      (inl (ap (λ (u : View). mark_of u.mark) (after.0.unread both.0) ∙ sym (unread_counted v v.mark both.0)), unread_each vs ws after.1 both.1)
-
+module _ (made : MadeAsTold) (unread : UnreadIsNotCounted) (lists : Lists) (namespace : List ℕ) (changes : List Change) (tell : List flow.Change) (vs ws : Views) (ordered : AreOrdered (lists namespace)) where
   -- how views stand behind changes of which they were told
-  pub are_marked : (tell : List flow.Change) (vs ws : Views) → AreTold namespace vs changes tell → AreRight lists vs → AreCounted namespace tell vs ws → AreAfterChange namespace vs ws
-      → AreMarkedBy namespace changes lists (map form_of vs) (marks_of vs) (marks_of ws)
-  are_marked tell vs ws (inl is) right counts after = told_each vs ws right (subst (λ (cs : List flow.Change). AreCounted namespace cs vs ws) is counts) after
-  are_marked tell vs ws (inr (is, unread)) right counts after = unread_each vs ws after unread
+  pub are_marked : AreAble (lists namespace) changes → AreTold namespace vs changes tell → AreRight lists vs → CountsWork namespace tell vs ws → AreMarkedBy namespace changes lists (map form_of vs) (marks_of vs) (marks_of ws)
+  are_marked able (inl is) right counts =
+      let all = subst (λ (cs : List flow.Change). AreMade cs (lists namespace)) (sym is) (made (lists namespace) changes ordered able).0 in
+      marked_each (shares namespace (map told changes) lists (map form_of vs)) vs ws (subst (λ (cs : List flow.Change). AreCounted (shares namespace cs lists (map form_of vs)) vs ws) is (counts lists all right))
+  are_marked able (inr (is, not_read)) right counts =
+      let none : is_read_by (map form_of vs) namespace ≡ false = reads_forms vs namespace ∙ not_read in
+      let all = subst (λ (cs : List flow.Change). AreMade cs (lists namespace)) (sym is) (made (lists namespace) [] ordered tt).0 in
+      let same = unread namespace tell lists (map form_of vs) none ∙ sym (unread namespace (map told changes) lists (map form_of vs) none) in
+      marked_each (shares namespace (map told changes) lists (map form_of vs)) vs ws (subst (λ (ss : List Share). AreCounted ss vs ws) same (counts lists all right))
 
 -- without changes they stand as they stood
-nothing_counted : (namespace : List ℕ) (lists : Lists) (v : ViewForm) (mark : Mark) → mark_counted namespace [] lists v mark ≡ mark
-unfolding counted
-nothing_counted namespace lists v (live ticks) = refl
-nothing_counted namespace lists v stale = refl
+nothing_more : (n : ℕ) → raised n 0 ≡ n
+nothing_more n = omega arith
 
-pub unmarked : (namespace : List ℕ) (changes : List Change) (lists : Lists) (views : List ViewForm) (marks : Marks) → changes ≡ [] → AreMarkedBy namespace changes lists views marks marks
-unmarked namespace changes lists [] marks none = refl
-unmarked namespace changes lists (v ∷ views) [] none = refl
-unmarked namespace changes lists (v ∷ views) (mark ∷ marks) none =
-    (inl (sym (ap (λ (cs : List Change). mark_counted namespace cs lists v mark) none ∙ nothing_counted namespace lists v mark)), unmarked namespace changes lists views marks none)
+nothing_counted : (mark : Mark) → mark_counted nothing mark ≡ mark
+nothing_counted (live ticks) = ap live (nothing_more ticks)
+nothing_counted stale = refl
 
--- ---- behind a reading
+no_shares : (namespace : List ℕ) (lists : Lists) (forms : List ViewForm) → shares namespace [] lists forms ≡ map (λ v. nothing) forms
+unfolding shares
+no_shares namespace lists forms = refl
 
-anew_marked : (stages : List Stage) (source : List ℕ) (lists : Lists) (mark : views.Mark) → mark_of (mark_anew stages source lists mark) ≡ mark_read (mark_of mark)
-anew_marked stages source lists (views.live kept) = refl
-anew_marked stages source lists views.stale = refl
+unmarked_by : (forms : List ViewForm) (marks : Marks) → AreMarkedSo (map (λ v. nothing) forms) marks marks
+unmarked_by [] marks = refl
+unmarked_by (v ∷ forms) [] = refl
+unmarked_by (v ∷ forms) (mark ∷ marks) = (inl (sym (nothing_counted mark)), unmarked_by forms marks)
 
-refreshed_one : (lists : Lists) (v : View) (b : Bool) → mark_of (if b then made_anew lists v else v).mark ≡ (if b then mark_read (mark_of v.mark) else mark_of v.mark)
-refreshed_one lists v true = anew_marked v.stages v.source lists v.mark
-refreshed_one lists v false = refl
+unmarked : (namespace : List ℕ) (changes : List Change) (lists : Lists) (forms : List ViewForm) (marks : Marks) → changes ≡ [] → AreMarkedBy namespace changes lists forms marks marks
+unmarked namespace changes lists forms marks none =
+    subst (λ (all : List Share). AreMarkedSo all marks marks) (sym (ap (λ (cs : List Change). shares namespace (map told cs) lists forms) none ∙ no_shares namespace lists forms)) (unmarked_by forms marks)
 
-refreshed_marked : (name : List ℕ) (lists : Lists) (vs : Views) → marks_of (refreshed name lists vs) ≡ marks_read name (map form_of vs) (marks_of vs)
-refreshed_marked name lists [] = refl
-refreshed_marked name lists (v ∷ vs) = λ i. refreshed_one lists v (has_name name v) i ∷ refreshed_marked name lists vs i
-
-still_live : (mark : views.Mark) → is_stale_mark mark ≡ false → mark_read (mark_of mark) ≡ mark_of mark
-still_live (views.live kept) is = refl
-still_live views.stale is = absurd cc
-
-stands_one : (v : View) (b : Bool) → (b ≡ true → is_stale_mark v.mark ≡ false) → (if b then mark_read (mark_of v.mark) else mark_of v.mark) ≡ mark_of v.mark
-stands_one v true fresh = still_live v.mark (fresh refl)
-stands_one v false fresh = refl
-
-stand_each : (name : List ℕ) (vs : Views) → AllByRecursion (λ v. has_name name v ≡ true → is_stale_mark v.mark ≡ false) vs → marks_read name (map form_of vs) (marks_of vs) ≡ marks_of vs
-stand_each name [] all = refl
-stand_each name (v ∷ vs) all = λ i. stands_one v (has_name name v) all.0 i ∷ stand_each name vs all.1 i
-
--- where the view of a name isn't stale, reading it leaves all as they stand
-pub fresh_marked : (name : List ℕ) (vs : Views) → AreNamedApart vs → is_stale name vs ≡ false → marks_of vs ≡ marks_read name (map form_of vs) (marks_of vs)
-fresh_marked name vs apart fresh =
-    sym (stand_each name vs (all_named (λ v. is_stale_mark v.mark ≡ false) name vs (view_named name vs) apart refl (λ v is. sym (ap is_stale_view is) ∙ fresh)))
-
-pub none_stale : (name : List ℕ) (vs : Views) → length vs ≡ 0 → is_stale name vs ≡ false
-none_stale name [] none = refl
-none_stale name (v ∷ vs) none = absurd cc
-
-pub unstale : (there : Option View) → (option_map (λ v. views.state_of v.mark) there ≡ Some states.Stale → ⊥) → is_stale_view there ≡ false
-unstale None not = refl
-unstale (Some v) not = by_mark v.mark refl
-  where
-    by_mark : (mark : views.Mark) → v.mark ≡ mark → is_stale_mark mark ≡ false
-    by_mark (views.live kept) is = refl
-    by_mark views.stale is = absurd (not (ap (λ (m : views.Mark). Some (views.state_of m)) is))
-
--- a refresh that is done, of what was refreshed
-pub read_if_done : {T E : Type 0} (name : List ℕ) (lists : Lists) (result : Result T E) (new old : Views) → OnOk result (new ≡ refreshed name lists old) → OnOk result (marks_of new ≡ marks_read name (map form_of old) (marks_of old))
-read_if_done name lists (Ok x) new old ok = ap marks_of ok ∙ refreshed_marked name lists old
-read_if_done name lists (Err e) new old ok = tt
-
--- ---- with a view more, and with one less
-
-pub marks_more : (vs : Views) (v : View) → marks_of (vs ++ v ∷ []) ≡ marks_of vs ++ mark_of v.mark ∷ []
-marks_more [] v = refl
-marks_more (w ∷ vs) v = ap (λ (rest : List Mark). mark_of w.mark ∷ rest) (marks_more vs v)
+-- ---- with a view less
 
 less_one : (b : Bool) (v : View) (vs : Views) (rest : List Mark) → marks_of vs ≡ rest → marks_of (if not b then v ∷ vs else vs) ≡ (if b then rest else mark_of v.mark ∷ rest)
 less_one true v vs rest is = is
@@ -229,22 +165,22 @@ put_stops d c namespace old new stopped (inr cut) = no_more stopped.done d c cut
 
 -- ---- where there is no document, nothing is done
 
-abbrev nothing : Result Effect Refusal
-nothing = Ok (record { matched = 0; changes = [] })
+abbrev none_done : Result Effect Refusal
+none_done = Ok (record { matched = 0; changes = [] })
 
-idle : (statement : Statement) (c : Collection) → c.documents ≡ [] → statement [] ≡ nothing → done_to c statement ≡ nothing
+idle : (statement : Statement) (c : Collection) → c.documents ≡ [] → statement [] ≡ none_done → done_to c statement ≡ none_done
 idle statement c none so = idle_done c statement (ap statement none ∙ so)
 
-pub nothing_updated : (asked : Updating) (c : Collection) → c.documents ≡ [] → done_to c (update_chosen asked) ≡ nothing
+pub nothing_updated : (asked : Updating) (c : Collection) → c.documents ≡ [] → done_to c (update_chosen asked) ≡ none_done
 nothing_updated asked c none = idle (update_chosen asked) c none (by_number (not asked.multi))
   where
-    by_number : (b : Bool) → (changed_by asked.update (all_or_first b []) >>= λ changed. Ok (record { matched = length (all_or_first b []); changes = map put changed })) ≡ nothing
+    by_number : (b : Bool) → (changed_by asked.update (all_or_first b []) >>= λ changed. Ok (record { matched = length (all_or_first b []); changes = map put changed })) ≡ none_done
     by_number true = refl
     by_number false = refl
 
-pub nothing_deleted : (asked : Deletion) (c : Collection) → c.documents ≡ [] → done_to c (delete_chosen asked) ≡ nothing
+pub nothing_deleted : (asked : Deletion) (c : Collection) → c.documents ≡ [] → done_to c (delete_chosen asked) ≡ none_done
 nothing_deleted asked c none = idle (delete_chosen asked) c none (by_number asked.only_first)
   where
-    by_number : (b : Bool) → (let r : Result Effect Refusal = Ok (all_going (all_or_first b [])) in r) ≡ nothing
+    by_number : (b : Bool) → (let r : Result Effect Refusal = Ok (all_going (all_or_first b [])) in r) ≡ none_done
     by_number true = refl
     by_number false = refl

@@ -1,165 +1,190 @@
 -- Views that are made anew, and what they show.
-use Rattle.std.proofs.Common.{◌≡◌, ℕ, Bool, true, false, if◌then◌else◌, List, [], ◌∷◌, map, Option, Some, None, Result, Ok, Err, OnOk, OnErr, refl, sym, ap, subst, ◌∙◌}
+use Rattle.std.proofs.Common.{◌≡◌, inl, inr, ◌||◌, ℕ, Bool, true, false, if◌then◌else◌, List, [], ◌∷◌, map, Option, Some, None, Result, Ok, Err, OnOk, OnErr, refl, sym, ap, subst, ◌∙◌}
 use Rattle.std.proofs.lemmas.Slice.Eq.{bytes_eq-Decides}
-use Rattle.std.specs.List.{AllByRecursion, IsDistinct}
-use Rattle.std.specs.Option.{option_map}
+use Rattle.std.specs.List.{list_any}
+use Rattle.std.specs.Option.{option_and_then}
+use Rattle.std.specs.Result.{IsErr}
 use Rattle.std.specs.Str.{bytes_eq}
-use Rattle.dv_pipe.specs.Sources as pipes
-use Rattle.dv_pipe.specs.Stages.{Lists, evaluated, is_read}
-use Rattle.dv_pipe.specs.declared.stage.Stage.{Stage}
-use Rattle.dv_views.specs.Placed.{places_of}
-use Rattle.dv_views.specs.Views.{AreNamedApart, AreRight, IsRight, Kept, Mark, View, Views, has_name, kept_anew, live, made_anew, mark_anew, refreshed, rows_of_view, stale, taken_from, view_named}
+use Rattle.dv_bson.specs.Tree.{Field}
+use Rattle.dv_pipe.specs.Stages.{Lists}
+use Rattle.dv_views.specs.Forms.{ViewForm, is_among, needed, rows_over}
+use Rattle.dv_views.specs.Made.{AreAlike}
+use Rattle.dv_views.specs.Views.{AreNamedApart, ArePartlyRefreshed, AreRefreshed, AreRight, IsFresh, IsPartlyRefreshed, View, Views, form_of, has_name, has_view, is_stale, kept_rows, rows_shown, view_named}
 use Rattle.dv_views.specs.Views as views
-use Rattle.dv_catalog.specs.CatalogParts.{form_of, is_stale, is_stale_mark, is_stale_view, rows_kept, state_of}
-use Rattle.dv_catalog.specs.SourceParts.{AreFor}
-use Rattle.dv_catalog.specs.State as states
-use Rattle.dv_catalog.specs.State.{Namespaces, ViewForm, documents_of, lists_of, rows_of}
+use Rattle.dv_catalog.specs.CatalogParts.{AreLive, mark_of, marked_of, marks_of, rows_kept, rows_or, state_of}
+use Rattle.dv_catalog.specs.Marks.{ArePartlyNamed, ArePartlyRead, IsPartlyRead, Marked, Marks, live, mark_read, marks_named, marks_read, stale}
+use Rattle.dv_catalog.specs.Parts.{Reads}
+use Rattle.dv_catalog.specs.State.{Namespaces, State, documents_of, lists_of, rows_of}
+use Rattle.dv_catalog.proofs.Keeping.{neither, view_forms}
 
-abbrev pub Agreeing : Type 0
-Agreeing = (stages : List Stage) (source : List ℕ) (lists others : Lists) → ((name : List ℕ) → is_read stages source name ≡ true → lists name ≡ others name) → evaluated stages source lists ≡ evaluated stages source others
+pub same_state : (namespaces : Namespaces) (before after : Views) → map form_of after ≡ map form_of before → state_of namespaces after ≡ state_of namespaces before
+same_state namespaces before after forms = λ i. record { namespaces = namespaces; views = forms i }
 
--- what dv_views's law says of what is kept
-abbrev pub KeptAgreeing : Type 0
-KeptAgreeing = (stages : List Stage) (source : List ℕ) (lists others : Lists) → ((name : List ℕ) → is_read stages source name ≡ true → lists name ≡ others name) → kept_anew stages source lists ≡ kept_anew stages source others
+-- ---- marks
 
--- ---- the view of a name is the only one
+pub fresh_mark : (m : views.Mark) → IsFresh m → mark_of m ≡ live 0
+fresh_mark (views.live kept) fresh = ap live fresh.ticks
+fresh_mark (views.anew rows) fresh = refl
+fresh_mark views.stale fresh = absurd (cc (fresh.live))
 
-is_same : (a b : List ℕ) → bytes_eq a b ≡ true → a ≡ b
-is_same a b e = (bytes_eq-Decides a b).0 e
+stale_mark : (m : views.Mark) → is_stale m ≡ true → mark_of m ≡ stale
+stale_mark (views.live kept) is = absurd cc
+stale_mark (views.anew rows) is = absurd cc
+stale_mark views.stale is = refl
 
-apart_names : (name : List ℕ) (w : View) (vs : Views) → has_name name w ≡ true → AllByRecursion (λ n. bytes_eq w.name n ≡ false) (map (λ v. v.name) vs) → AllByRecursion (λ v. has_name name v ≡ false) vs
-apart_names name w [] e all = tt
-apart_names name w (v ∷ vs) e all = (subst (λ (n : List ℕ). bytes_eq n v.name ≡ false) (sym (is_same name w.name e)) all.0, apart_names name w vs e all.1)
+live_mark : (m : views.Mark) → is_stale m ≡ false → mark_read (mark_of m) ≡ mark_of m
+live_mark (views.live kept) is = refl
+live_mark (views.anew rows) is = refl
+live_mark views.stale is = absurd cc
 
--- what holds of the view of a name holds of each that has it
-module _ (P : View → Type 0) (name : List ℕ) where
-  abbrev Named : View → Type 0
-  Named v = has_name name v ≡ true → P v
+stands_one : (v : View) (b : Bool) → (b ≡ true → is_stale v.mark ≡ false) → (if b then mark_read (mark_of v.mark) else mark_of v.mark) ≡ mark_of v.mark
+stands_one v true live_now = live_mark v.mark (live_now refl)
+stands_one v false live_now = refl
 
-  others_named : (vs : Views) → AllByRecursion (λ v. has_name name v ≡ false) vs → AllByRecursion Named vs
-  others_named [] all = tt
-  others_named (v ∷ vs) all = ((λ e. absurd (cc (all.0, e))), others_named vs all.1)
+module _ (names : List (List ℕ)) where
+  form_one : (v w : View) → IsPartlyRefreshed names v w → form_of w ≡ form_of v
+  form_one v w (inl same) = ap form_of same
+  form_one v w (inr (named, made)) = made.form
 
-  pub all_named : (vs : Views) (there : Option View) → AreNamedApart vs → view_named name vs ≡ there → ((v : View) → there ≡ Some v → P v) → AllByRecursion Named vs
-  unfolding IsDistinct
-  all_named [] there apart is h = tt
-  all_named (w ∷ vs) there apart is h = by_name (λ rest. all_named vs there apart.1 rest h) (has_name name w) refl is
+  pub partly_forms : (vs ws : Views) → ArePartlyRefreshed names vs ws → map form_of ws ≡ map form_of vs
+  partly_forms [] [] all = refl
+  partly_forms [] (w ∷ ws) all = absurd all
+  partly_forms (v ∷ vs) [] all = absurd all
+  partly_forms (v ∷ vs) (w ∷ ws) all = λ i. form_one v w all.0 i ∷ partly_forms vs ws all.1 i
+
+  -- a view that was stale has its rows now
+  made_mark : (v w : View) → views.IsMadeAnew v w → mark_of w.mark ≡ mark_read (mark_of v.mark)
+  made_mark v w made = fresh_mark w.mark made.fresh ∙ sym (ap mark_read (stale_mark v.mark made.stale))
+
+  mark_one : (v w : View) → IsPartlyRefreshed names v w → (is_among w.name names ≡ true → is_stale w.mark ≡ false) → mark_of w.mark ≡ (if is_among v.name names then mark_read (mark_of v.mark) else mark_of v.mark)
+  mark_one v w (inl same) live_now =
+      ap (λ (u : View). mark_of u.mark) same ∙ sym (stands_one v (is_among v.name names) (subst (λ (u : View). is_among u.name names ≡ true → is_stale u.mark ≡ false) same live_now))
+  mark_one v w (inr (named, made)) live_now = made_mark v w made ∙ ap (λ (b : Bool). if b then mark_read (mark_of v.mark) else mark_of v.mark) (sym named)
+
+  pub refreshed_marks : (vs ws : Views) → ArePartlyRefreshed names vs ws → AreLive names ws → marks_of ws ≡ marks_named names (map form_of vs) (marks_of vs)
+  refreshed_marks [] [] all live_now = refl
+  refreshed_marks [] (w ∷ ws) all live_now = absurd all
+  refreshed_marks (v ∷ vs) [] all live_now = absurd all
+  refreshed_marks (v ∷ vs) (w ∷ ws) all live_now = λ i. mark_one v w all.0 live_now.0 i ∷ refreshed_marks vs ws all.1 live_now.1 i
+
+  partly_one : (v w : View) → IsPartlyRefreshed names v w → IsPartlyRead (is_among v.name names) (mark_of v.mark) (mark_of w.mark)
+  partly_one v w (inl same) = inl (ap (λ (u : View). mark_of u.mark) same)
+  partly_one v w (inr (named, made)) = inr (named, made_mark v w made)
+
+  pub partly_marks : (vs ws : Views) → ArePartlyRefreshed names vs ws → ArePartlyNamed names (map form_of vs) (marks_of vs) (marks_of ws)
+  partly_marks [] [] all = refl
+  partly_marks [] (w ∷ ws) all = absurd all
+  partly_marks (v ∷ vs) [] all = absurd all
+  partly_marks (v ∷ vs) (w ∷ ws) all = (partly_one v w all.0, partly_marks vs ws all.1)
+
+  -- where none is made anew
+  pub unread_marks : (forms : List ViewForm) (marks : Marks) → ArePartlyNamed names forms marks marks
+  unread_marks [] marks = refl
+  unread_marks (v ∷ forms) [] = refl
+  unread_marks (v ∷ forms) (mark ∷ marks) = (inl refl, unread_marks forms marks)
+
+  -- where all are
+  read_marks : (forms : List ViewForm) (marks : Marks) → ArePartlyNamed names forms marks (marks_named names forms marks)
+  read_marks [] marks = refl
+  read_marks (v ∷ forms) [] = refl
+  read_marks (v ∷ forms) (mark ∷ marks) = (by_name (is_among v.name names), read_marks forms marks)
     where
-      by_name : (view_named name vs ≡ there → AllByRecursion Named vs) → (b : Bool) → has_name name w ≡ b → (if b then Some w else view_named name vs) ≡ there → AllByRecursion Named (w ∷ vs)
-      by_name others true e is = ((λ _. h w (sym is)), others_named vs (apart_names name w vs e apart.0))
-      by_name others false e is = ((λ f. absurd (cc (e, f))), others is)
+      by_name : (b : Bool) → IsPartlyRead b mark (if b then mark_read mark else mark)
+      by_name true = inr (refl, refl)
+      by_name false = inl refl
 
--- ---- one made anew
+  -- where none is stale
+  live_marks : (vs : Views) → AreLive names vs → marks_named names (map form_of vs) (marks_of vs) ≡ marks_of vs
+  live_marks [] all = refl
+  live_marks (v ∷ vs) all = λ i. stands_one v (is_among v.name names) all.0 i ∷ live_marks vs all.1 i
 
-abbrev IsAgreed : Lists → Lists → View → Type 0
-IsAgreed lists others v = kept_anew v.stages v.source lists ≡ kept_anew v.stages v.source others
+  pub none_stale : (vs : Views) → list_any (λ v. is_stale v.mark) vs ≡ false → AreLive names vs
+  none_stale [] none = tt
+  none_stale (v ∷ vs) none = let both = neither (is_stale v.mark) (list_any (λ w. is_stale w.mark) vs) none in ((λ _. both.0), none_stale vs both.1)
 
-anew_right : (lists others : Lists) (v : View) (m : Mark) → IsAgreed lists others v → views.AreKept m (taken_from v.stages v.source (places_of others)) (rows_of_view v others)
-    → views.AreKept (mark_anew v.stages v.source lists m) (taken_from v.stages v.source (places_of others)) (rows_of_view v others)
-anew_right lists others v (live kept) same right = right
-anew_right lists others v stale same right = (ap (λ (k : Kept). k.taken) same, ap (λ (k : Kept). k.rows) same)
+  pub fewer_live : (others : List (List ℕ)) → ((name : List ℕ) → is_among name names ≡ true → is_among name others ≡ true) → (vs : Views) → AreLive others vs → AreLive names vs
+  fewer_live others among [] all = tt
+  fewer_live others among (v ∷ vs) all = ((λ named. all.0 (among v.name named)), fewer_live others among vs all.1)
 
-refreshed_one : (lists others : Lists) (v : View) (b : Bool) → (b ≡ true → IsAgreed lists others v) → IsRight others v → IsRight others (if b then made_anew lists v else v)
-refreshed_one lists others v true same right = anew_right lists others v v.mark (same refl) right
-refreshed_one lists others v false same right = right
+-- ---- a reading
 
-pub refreshed_right : (name : List ℕ) (lists others : Lists) (vs : Views) → AllByRecursion (λ v. has_name name v ≡ true → IsAgreed lists others v) vs → AreRight others vs → AreRight others (refreshed name lists vs)
-refreshed_right name lists others [] same right = tt
-refreshed_right name lists others (v ∷ vs) same right = (refreshed_one lists others v (has_name name v) same.0 right.0, refreshed_right name lists others vs same.1 right.1)
+abbrev pub AskedIsNeeded : Type 0
+AskedIsNeeded = (forms : List ViewForm) (names : List (List ℕ)) (name : List ℕ) → is_among name names ≡ true → is_among name (needed forms names) ≡ true
 
-form_anew : (lists : Lists) (v : View) (b : Bool) → form_of (if b then made_anew lists v else v) ≡ form_of v
-form_anew lists v true = refl
-form_anew lists v false = refl
+module _ (names : List (List ℕ)) where
+  module _ (namespaces : Namespaces) (vs : Views) where
+    -- where none that is needed is stale
+    pub read_live : AreLive (needed (map form_of vs) names) vs → marked_of namespaces vs ≡ record (marked_of namespaces vs) { marks = marks_read names (map form_of vs) (marks_of vs) }
+    read_live all = λ i. record { state = state_of namespaces vs; marks = sym (live_marks (needed (map form_of vs) names) vs all) i }
 
-pub refreshed_forms : (name : List ℕ) (lists : Lists) (vs : Views) → map form_of (refreshed name lists vs) ≡ map form_of vs
-refreshed_forms name lists [] = refl
-refreshed_forms name lists (v ∷ vs) = λ i. form_anew lists v (has_name name v) i ∷ refreshed_forms name lists vs i
+    -- where none is
+    pub read_none_stale : list_any (λ v. is_stale v.mark) vs ≡ false → marked_of namespaces vs ≡ record (marked_of namespaces vs) { marks = marks_read names (map form_of vs) (marks_of vs) }
+    read_none_stale none = read_live (none_stale (needed (map form_of vs) names) vs none)
 
-anew_live : (lists : Lists) (v : View) (m : Mark) → is_stale_mark (mark_anew v.stages v.source lists m) ≡ false
-anew_live lists v (live kept) = refl
-anew_live lists v stale = refl
+    pub live_needed : AskedIsNeeded → AreLive (needed (map form_of vs) names) vs → AreLive names vs
+    live_needed law all = fewer_live names (needed (map form_of vs) names) (law (map form_of vs) names) vs all
 
-pub refreshed_fresh : (name : List ℕ) (lists : Lists) (vs : Views) → is_stale name (refreshed name lists vs) ≡ false
-refreshed_fresh name lists [] = refl
-refreshed_fresh name lists (v ∷ vs) = by_name (refreshed_fresh name lists vs) (has_name name v) refl
-  where
-    by_name : is_stale name (refreshed name lists vs) ≡ false → (b : Bool) → has_name name v ≡ b → is_stale name ((if b then made_anew lists v else v) ∷ refreshed name lists vs) ≡ false
-    by_name rest true e = rw e (anew_live lists v v.mark)
-    by_name rest false e = rw e rest
+    -- where memory is wanting before
+    pub reads_nothing : {B E : Type 0} (result : Result B E) → IsErr result → Reads names (marked_of namespaces vs) result (marked_of namespaces vs)
+    reads_nothing (Ok x) is = absurd cc
+    reads_nothing (Err e) is = (refl, unread_marks (needed (map form_of vs) names) (map form_of vs) (marks_of vs))
 
--- ---- over the lists that its pipeline reads
+    module _ (those : List (List ℕ)) (are : those ≡ needed (map form_of vs) names) (ws : Views) where
+      pub reads_refreshed : {B E : Type 0} (result : Result B E) → OnOk result (AreRefreshed those vs ws) → OnErr result (ArePartlyRefreshed those vs ws) → Reads names (marked_of namespaces vs) result (marked_of namespaces ws)
+      reads_refreshed (Ok x) ok err =
+          let all : AreRefreshed (needed (map form_of vs) names) vs ws = subst (λ (ns : List (List ℕ)). AreRefreshed ns vs ws) are ok in
+          λ i. record { state = same_state namespaces vs ws (partly_forms those vs ws ok.0) i; marks = refreshed_marks (needed (map form_of vs) names) vs ws all.0 all.1 i }
+      reads_refreshed (Err e) ok err =
+          (same_state namespaces vs ws (partly_forms those vs ws err), partly_marks (needed (map form_of vs) names) vs ws (subst (λ (ns : List (List ℕ)). ArePartlyRefreshed ns vs ws) are err))
 
-own_rows : (b : Bool) (source name : List ℕ) (namespaces : Namespaces) → bytes_eq source name ≡ b → (if b then documents_of source namespaces else documents_of name namespaces) ≡ documents_of name namespaces
-own_rows true source name namespaces e = ap (λ (n : List ℕ). documents_of n namespaces) (is_same source name e)
-own_rows false source name namespaces e = refl
+      pub live_refreshed : {B E : Type 0} → AskedIsNeeded → (result : Result B E) → OnOk result (AreRefreshed those vs ws) → OnOk result (AreLive names ws)
+      live_refreshed law (Ok x) ok = fewer_live names those (λ name among. subst (λ (ns : List (List ℕ)). is_among name ns ≡ true) (sym are) (law (map form_of vs) names name among)) ws ok.1
+      live_refreshed law (Err e) ok = tt
 
-pub over_sources : KeptAgreeing → (stages : List Stage) (source : List ℕ) (namespaces : Namespaces) (sources : List pipes.Source) → AreFor stages source (documents_of source namespaces) namespaces sources
-    → kept_anew stages source (pipes.lists_of sources) ≡ kept_anew stages source (lists_of namespaces)
-over_sources agree stages source namespaces sources are = agree stages source (pipes.lists_of sources) (lists_of namespaces) (λ name read. are name read ∙ own_rows (bytes_eq source name) source name namespaces refl)
-
-module _ (agree : KeptAgreeing) (namespaces : Namespaces) (sources : List pipes.Source) (name source : List ℕ) (stages : List Stage) (vs : Views) where
-  is_form : (there : Option View) → Some source ≡ option_map (λ v. v.source) there → Some stages ≡ option_map (λ v. v.stages) there → (v : View) → there ≡ Some v → (source ≡ v.source) × (stages ≡ v.stages)
-  is_form None s t v is = absurd cc
-  is_form (Some w) s t v is =
-      let same : w ≡ v = cc in
-      let a : source ≡ w.source = cc in
-      let b : stages ≡ w.stages = cc in
-      (a ∙ ap (λ (u : View). u.source) same, b ∙ ap (λ (u : View). u.stages) same)
-
-  pub refresh_right : AreNamedApart vs → Some source ≡ option_map (λ v. v.source) (view_named name vs) → Some stages ≡ option_map (λ v. v.stages) (view_named name vs)
-      → AreFor stages source (documents_of source namespaces) namespaces sources → AreRight (lists_of namespaces) vs → AreRight (lists_of namespaces) (refreshed name (pipes.lists_of sources) vs)
-  refresh_right apart s t are right =
-      let over = over_sources agree stages source namespaces sources are in
-      refreshed_right name (pipes.lists_of sources) (lists_of namespaces) vs
-      (all_named (λ v. IsAgreed (pipes.lists_of sources) (lists_of namespaces) v) name vs (view_named name vs) apart refl
-      (λ v is.
-      let same = is_form (view_named name vs) s t v is in
-      subst (λ (p : List Stage). kept_anew p v.source (pipes.lists_of sources) ≡ kept_anew p v.source (lists_of namespaces)) same.1
-      (subst (λ (n : List ℕ). kept_anew stages n (pipes.lists_of sources) ≡ kept_anew stages n (lists_of namespaces)) same.0 over)))
-      right
+  -- what goes on behind it changes nothing
+  pub reads_on : {A B E : Type 0} (old new : Marked) (x : A) → Reads {E = E} names old (Ok x) new → (result : Result B E) → Reads names old result new
+  reads_on old new x is (Ok y) = is
+  reads_on old new x is (Err e) =
+      (ap (λ (m : Marked). m.state) is, subst (λ (marks : Marks). ArePartlyRead names old.state.views old.marks marks) (sym (ap (λ (m : Marked). m.marks) is)) (read_marks (needed old.state.views names) old.state.views old.marks))
 
 -- ---- what stands under a name
 
-named_form : (b : Bool) (v : View) (there : Option View) → (if b then Some (form_of v) else option_map form_of there) ≡ option_map form_of (if b then Some v else there)
-named_form true v there = refl
-named_form false v there = refl
+abbrev pub ShownIsRight : Type 0
+ShownIsRight = (name : List ℕ) (lists : Lists) (vs : Views) (rows : List (List Field)) → AreNamedApart vs → AreRight lists vs → rows_shown name vs ≡ Some rows → rows ≡ rows_over (map form_of vs) lists name
 
-pub form_named : (name : List ℕ) (vs : Views) → states.view_named name (map form_of vs) ≡ option_map form_of (view_named name vs)
-form_named name [] = refl
-form_named name (v ∷ vs) = ap (λ (there : Option ViewForm). if bytes_eq name v.name then Some (form_of v) else there) (form_named name vs) ∙ named_form (bytes_eq name v.name) v (view_named name vs)
+abbrev pub UnnamedIsLeft : Type 0
+UnnamedIsLeft = (name : List ℕ) (lists : Lists) (forms : List ViewForm) → list_any (λ v. bytes_eq name v.name) forms ≡ false → rows_over forms lists name ≡ lists name
 
-pub right_named : (name : List ℕ) (lists : Lists) (vs : Views) → AreRight lists vs → (v : View) → view_named name vs ≡ Some v → IsRight lists v
-right_named name lists [] right v is = absurd cc
-right_named name lists (w ∷ vs) right v is = by_name (right_named name lists vs right.1 v) (has_name name w) is
+live_is_shown : (m : views.Mark) → is_stale m ≡ false → kept_rows m ≡ None → ⊥
+live_is_shown (views.live kept) is none = cc
+live_is_shown (views.anew rows) is none = cc
+live_is_shown views.stale is none = cc
+
+pub none_shown : (name : List ℕ) (vs : Views) → AreLive (name ∷ []) vs → rows_shown name vs ≡ None → has_view name vs ≡ false
+none_shown name [] all none = refl
+none_shown name (v ∷ vs) all none = by_name (has_name name v) refl (none_shown name vs all.1) none
   where
-    by_name : (view_named name vs ≡ Some v → IsRight lists v) → (b : Bool) → (if b then Some w else view_named name vs) ≡ Some v → IsRight lists v
-    by_name rest true is = let same : w ≡ v = cc in subst (IsRight lists) same right.0
-    by_name rest false is = rest is
+    by_name : (b : Bool) → has_name name v ≡ b → (rows_shown name vs ≡ None → has_view name vs ≡ false) → option_and_then (λ (w : View). kept_rows w.mark) (if b then Some v else view_named name vs) ≡ None → b || has_view name vs ≡ false
+    by_name true named rest none =
+        let same : is_among v.name (name ∷ []) ≡ true = subst (λ (n : List ℕ). is_among n (name ∷ []) ≡ true) ((bytes_eq-Decides name v.name).0 named) (ap (λ (b : Bool). b || false) ((bytes_eq-Decides name name).1 refl)) in
+        absurd (live_is_shown v.mark (all.0 same) none)
+    by_name false named rest none = rest none
 
-shown : (name : List ℕ) (namespaces : Namespaces) (v : View) (m : Mark) → v.mark ≡ m → is_stale_mark m ≡ false → views.AreKept m (taken_from v.stages v.source (places_of (lists_of namespaces))) (rows_of_view v (lists_of namespaces))
-    → views.kept_rows m ≡ Some (evaluated v.stages v.source (lists_of namespaces))
-shown name namespaces v (live kept) is fresh right = ap Some right.1
-shown name namespaces v stale is fresh right = absurd cc
-
-pub rows_shown_are : (name : List ℕ) (namespaces : Namespaces) (vs : Views) → AreRight (lists_of namespaces) vs → is_stale name vs ≡ false → rows_kept name namespaces vs ≡ rows_of name (state_of namespaces vs)
-rows_shown_are name namespaces vs right fresh = by_view (view_named name vs) refl
+pub kept_is_right : ShownIsRight → UnnamedIsLeft → (name : List ℕ) (namespaces : Namespaces) (vs : Views) → AreNamedApart vs → AreRight (lists_of namespaces) vs → AreLive (name ∷ []) vs → rows_kept name namespaces vs ≡ rows_of name (state_of namespaces vs)
+kept_is_right shown unnamed name namespaces vs apart right all = by_rows (rows_shown name vs) refl
   where
-    by_view : (there : Option View) → view_named name vs ≡ there → rows_kept name namespaces vs ≡ rows_of name (state_of namespaces vs)
-    by_view None is =
-        let none : states.view_named name (map form_of vs) ≡ None = form_named name vs ∙ ap (option_map form_of) is in
-        rw (none, is) refl
-    by_view (Some v) is =
-        let form : states.view_named name (map form_of vs) ≡ Some (form_of v) = form_named name vs ∙ ap (option_map form_of) is in
-        let live_now : is_stale_mark v.mark ≡ false = sym (ap is_stale_view is) ∙ fresh in
-        let kept : views.kept_rows v.mark ≡ Some (evaluated v.stages v.source (lists_of namespaces)) = shown name namespaces v v.mark refl live_now (right_named name (lists_of namespaces) vs right v is) in
-        rw (form, is, kept) refl
+    by_rows : (there : Option (List (List Field))) → rows_shown name vs ≡ there → rows_or there (documents_of name namespaces) ≡ rows_of name (state_of namespaces vs)
+    by_rows None is = sym (unnamed name (lists_of namespaces) (map form_of vs) (view_forms vs name ∙ none_shown name vs all is))
+    by_rows (Some rows) is = shown name (lists_of namespaces) vs rows apart right is
 
--- ---- what a refresh leaves, be it for want of memory
+-- what is kept under names whose views have their rows
+pub kept_alike : (names : List (List ℕ)) (lists : Lists) (namespaces : Namespaces) (vs : Views) (state : State) → ((name : List ℕ) → AreLive (name ∷ []) vs → rows_kept name namespaces vs ≡ rows_of name (state_of namespaces vs))
+    → state_of namespaces vs ≡ state → AreLive names vs → AreAlike names lists (λ name. rows_kept name namespaces vs) → AreAlike names lists (λ name. rows_of name state)
+kept_alike names lists namespaces vs state right is all alike = λ name among. alike name among ∙ right name (fewer_live (name ∷ []) names (λ n e. by_name n name e among) vs all) ∙ ap (rows_of name) is
+  where
+    first : (b : Bool) → b || false ≡ true → b ≡ true
+    first true e = refl
+    first false e = absurd cc
 
-pub anew_or_same : {T E : Type 0} (P : Views → Type 0) (result : Result T E) (new anew old : Views) → OnOk result (new ≡ anew) → OnErr result (new ≡ old) → P anew → P old → P new
-anew_or_same P (Ok x) new anew old ok err made left = subst P (sym ok) made
-anew_or_same P (Err e) new anew old ok err made left = subst P (sym err) left
-
-pub fresh_if_done : {T E : Type 0} (name : List ℕ) (result : Result T E) (new anew : Views) → OnOk result (new ≡ anew) → is_stale name anew ≡ false → OnOk result (is_stale name new ≡ false)
-fresh_if_done name (Ok x) new anew ok fresh = ap (is_stale name) ok ∙ fresh
-fresh_if_done name (Err e) new anew ok fresh = tt
+    by_name : (n name : List ℕ) → is_among n (name ∷ []) ≡ true → is_among name names ≡ true → is_among n names ≡ true
+    by_name n name e among = subst (λ (m : List ℕ). is_among m names ≡ true) (sym ((bytes_eq-Decides n name).0 (first (bytes_eq n name) e))) among

@@ -1,16 +1,16 @@
 -- How views stand, beside what they show: how much work changes took since a view was made, or that memory was wanting for one.
-use Rattle.std.specs.Prelude.{◌≡◌, ◌≢◌, ◌⊎◌, ℕ, Bool, true, false, List, [], ◌∷◌, ◌++◌, length, map, Option, Some, None, if◌then◌else◌}
+use Rattle.std.specs.Prelude.{◌≡◌, ◌⊎◌, ℕ, Bool, true, false, List, [], ◌∷◌, ◌++◌, length, map, Option, Some, None, if◌then◌else◌}
 use Rattle.std.specs.Option.{option_map}
 use Rattle.dv_bson.specs.Tree.{Field}
 use Rattle.dv_coll.specs.Collection.{id_key}
 use Rattle.dv_command.specs.Asked.{ViewOn}
 use Rattle.dv_pipe.specs.Stages.{Lists}
-use Rattle.dv_views.specs.Counted.{kept_through}
-use Rattle.dv_views.specs.Views.{kept_anew}
+use Rattle.dv_change.specs.Raised.{raised}
+use Rattle.dv_views.specs.Flow.{Share, shares}
+use Rattle.dv_views.specs.Forms.{ViewForm, is_among, names_read, needed}
 use Rattle.dv_catalog.specs.Changes.{Change, gone}
-use Rattle.dv_catalog.specs.State.{State, ViewForm, documents_of, empty_state, has_name, is_collection, lists_of, rows_of}
+use Rattle.dv_catalog.specs.State.{State, documents_of, empty_state, has_name, is_collection, lists_of, rows_of}
 use Rattle.dv_catalog.specs.Told.{told}
-use Rattle.dv_catalog.specs.Views.{reads}
 
 -- a view is live, and counts the work that changes took since it was made; or it is stale, where memory was wanting for it, until it is read
 pub data Mark : Type 0 where
@@ -31,39 +31,41 @@ nothing_marked = record { state = empty_state; marks = [] }
 
 -- ---- changes
 
--- What a view counts behind changes of the documents of a namespace, by what the lists held before: each change goes to the view's source and
--- to each list that a stage looks into, where they stand under the namespace, one after the other.
-unfoldable pub counted : List ℕ → List Change → Lists → ViewForm → ℕ → ℕ
-counted namespace changes lists v ticks =
-    (kept_through v.stages v.source namespace (map told changes) (record (kept_anew v.stages v.source lists) { ticks = ticks })).ticks
+-- what changes of the documents of a namespace are to each view, by what the lists held before
+abbrev pub shares_told : List ℕ → List Change → Lists → List ViewForm → List Share
+shares_told namespace changes lists views = shares namespace (map told changes) lists views
 
--- a stale view counts nothing
-abbrev pub mark_counted : List ℕ → List Change → Lists → ViewForm → Mark → Mark
-mark_counted namespace changes lists v (live ticks) = live (counted namespace changes lists v ticks)
-mark_counted namespace changes lists v stale = stale
+-- a live view counts its share of the work, and a stale one nothing
+abbrev pub mark_counted : Share → Mark → Mark
+mark_counted share (live ticks) = live (raised ticks share.work)
+mark_counted share stale = stale
+
+abbrev pub all_counted : List Share → Marks → Marks
+all_counted [] marks = marks
+all_counted (share ∷ rest) [] = []
+all_counted (share ∷ rest) (mark ∷ marks) = mark_counted share mark ∷ all_counted rest marks
 
 -- where memory is wanting for no view
 abbrev pub marks_counted : List ℕ → List Change → Lists → List ViewForm → Marks → Marks
-marks_counted namespace changes lists [] marks = marks
-marks_counted namespace changes lists (v ∷ views) [] = []
-marks_counted namespace changes lists (v ∷ views) (mark ∷ marks) = mark_counted namespace changes lists v mark ∷ marks_counted namespace changes lists views marks
+marks_counted namespace changes lists views marks = all_counted (shares_told namespace changes lists views) marks
 
--- memory is wanting for a view: only behind changes, and only where it reads what they change
-pub record IsStruck (namespace : List ℕ) (changes : List Change) (v : ViewForm) (after : Mark) : Type 0 where
+-- memory is wanting for a view: only where changes come to it
+pub record IsStruck (share : Share) (after : Mark) : Type 0 where
   pub stale : after ≡ stale
-  pub changed : changes ≢ []
-  pub read : reads v namespace ≡ true
+  pub reached : share.reached ≡ true
 
-abbrev pub IsMarkedBy : List ℕ → List Change → Lists → ViewForm → Mark → Mark → Type 0
-IsMarkedBy namespace changes lists v before after = (after ≡ mark_counted namespace changes lists v before) ⊎ IsStruck namespace changes v after
+abbrev pub IsMarkedBy : Share → Mark → Mark → Type 0
+IsMarkedBy share before after = (after ≡ mark_counted share before) ⊎ IsStruck share after
+
+abbrev pub AreMarkedSo : List Share → Marks → Marks → Type 0
+AreMarkedSo [] before after = after ≡ before
+AreMarkedSo (share ∷ rest) [] after = after ≡ []
+AreMarkedSo (share ∷ rest) (mark ∷ before) [] = ⊥
+AreMarkedSo (share ∷ rest) (mark ∷ before) (now ∷ after) = IsMarkedBy share mark now × AreMarkedSo rest before after
 
 -- how views may stand behind changes: each counts the work, or memory is wanting for it
 abbrev pub AreMarkedBy : List ℕ → List Change → Lists → List ViewForm → Marks → Marks → Type 0
-AreMarkedBy namespace changes lists [] before after = after ≡ before
-AreMarkedBy namespace changes lists (v ∷ views) [] after = after ≡ []
-AreMarkedBy namespace changes lists (v ∷ views) (mark ∷ before) [] = ⊥
-AreMarkedBy namespace changes lists (v ∷ views) (mark ∷ before) (now ∷ after) =
-    IsMarkedBy namespace changes lists v mark now × AreMarkedBy namespace changes lists views before after
+AreMarkedBy namespace changes lists views before after = AreMarkedSo (shares_told namespace changes lists views) before after
 
 -- ---- views that are read, made, and taken out
 
@@ -72,16 +74,38 @@ abbrev pub mark_read : Mark → Mark
 mark_read (live ticks) = live ticks
 mark_read stale = live 0
 
--- behind the reading of what stands under a namespace
-abbrev pub marks_read : List ℕ → List ViewForm → Marks → Marks
-marks_read namespace [] marks = marks
-marks_read namespace (v ∷ views) [] = []
-marks_read namespace (v ∷ views) (mark ∷ marks) = (if has_name namespace v then mark_read mark else mark) ∷ marks_read namespace views marks
+-- the marks of views of some names are read
+abbrev pub marks_named : List (List ℕ) → List ViewForm → Marks → Marks
+marks_named names [] marks = marks
+marks_named names (v ∷ views) [] = []
+marks_named names (v ∷ views) (mark ∷ marks) = (if is_among v.name names then mark_read mark else mark) ∷ marks_named names views marks
 
--- with a view more, or a collection
-abbrev pub marks_made : Option ViewOn → Marks → Marks
-marks_made None marks = marks
-marks_made (Some on) marks = marks ++ live 0 ∷ []
+-- behind the reading of what stands under some names: views that are needed for that are made anew
+abbrev pub marks_read : List (List ℕ) → List ViewForm → Marks → Marks
+marks_read names views marks = marks_named (needed views names) views marks
+
+-- where the reading ends for want of memory, some of them are
+abbrev pub IsPartlyRead : Bool → Mark → Mark → Type 0
+IsPartlyRead named before after = (after ≡ before) ⊎ ((named ≡ true) × (after ≡ mark_read before))
+
+abbrev pub ArePartlyNamed : List (List ℕ) → List ViewForm → Marks → Marks → Type 0
+ArePartlyNamed names [] before after = after ≡ before
+ArePartlyNamed names (v ∷ views) [] after = after ≡ []
+ArePartlyNamed names (v ∷ views) (mark ∷ before) [] = ⊥
+ArePartlyNamed names (v ∷ views) (mark ∷ before) (now ∷ after) = IsPartlyRead (is_among v.name names) mark now × ArePartlyNamed names views before after
+
+abbrev pub ArePartlyRead : List (List ℕ) → List ViewForm → Marks → Marks → Type 0
+ArePartlyRead names views before after = ArePartlyNamed (needed views names) views before after
+
+-- the names that a new view reads; a collection reads none
+abbrev pub names_of_new : Option ViewOn → List (List ℕ)
+names_of_new None = []
+names_of_new (Some on) = names_read on.stages on.source
+
+-- with a view more, which has read what it stands over, or a collection
+abbrev pub marks_made : Option ViewOn → List ViewForm → Marks → Marks
+marks_made None views marks = marks
+marks_made (Some on) views marks = marks_read (names_read on.stages on.source) views marks ++ live 0 ∷ []
 
 -- without that of a view
 abbrev pub marks_without : List ℕ → List ViewForm → Marks → Marks

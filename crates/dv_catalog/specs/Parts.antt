@@ -5,7 +5,7 @@ use Rattle.dv_fields.specs.declared.refusal.Refusal.TheVariants.{WantOfMemory}
 use Rattle.dv_catalog.specs.declared.counted.Counted.{Counted}
 use Rattle.dv_catalog.specs.declared.stopped.Stopped.{Stopped}
 use Rattle.dv_catalog.specs.State.{Namespaces, collection_of, lists_of}
-use Rattle.dv_catalog.specs.Marks.{AreMarkedBy, Marked, Marks, marks_read}
+use Rattle.dv_catalog.specs.Marks.{AreMarkedBy, ArePartlyRead, Marked, Marks, marks_read}
 use Rattle.dv_catalog.specs.Changes.{Change, Effect, Statement, apply, changes_of, done_to}
 
 -- a statement that is refused changes nothing
@@ -60,7 +60,13 @@ abbrev pub StandSo : {B E : Type 0} → (Marks → Type 0) → Marks → Result 
 StandSo So before (Ok x) after = So after
 StandSo So before (Err e) after = after ≡ before
 
--- a reading, which may find no memory, changes nothing but that a stale view which is read is made anew
-abbrev pub Reads : {B E : Type 0} → List ℕ → Marked → Result B E → Marked → Type 0
-Reads namespace old (Ok x) new = new ≡ record old { marks = marks_read namespace old.state.views old.marks }
-Reads namespace old (Err e) new = (new ≡ old) ⊎ (new ≡ record old { marks = marks_read namespace old.state.views old.marks })
+-- a reading of what stands under some names, which may find no memory, changes nothing but that stale views which it needs are made anew
+abbrev pub Reads : {B E : Type 0} → List (List ℕ) → Marked → Result B E → Marked → Type 0
+Reads names old (Ok x) new = new ≡ record old { marks = marks_read names old.state.views old.marks }
+Reads names old (Err e) new = (new.state ≡ old.state) × ArePartlyRead names old.state.views old.marks new.marks
+
+-- behind the making of what stands over some names: so, where it is done; where memory is wanting, some of the stale views that it needs
+-- may be made anew; and where it is refused for another cause, views are as they were
+abbrev pub StandMade : {B : Type 0} → List (List ℕ) → Marks → Marked → Result B Refusal → Marks → Type 0
+StandMade names made old (Ok x) after = after ≡ made
+StandMade names made old (Err refusal) after = ((refusal ≡ WantOfMemory) × ArePartlyRead names old.state.views old.marks after) ⊎ (after ≡ old.marks)

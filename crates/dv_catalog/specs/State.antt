@@ -12,8 +12,8 @@ use Rattle.dv_bson.specs.Tree.{Field}
 use Rattle.dv_coll.specs.Collection.{HasId, IsAscending}
 use Rattle.dv_index.specs.Index.{IndexForm}
 use Rattle.dv_index.specs.Indexed.{IndexedTree, empty_indexed}
-use Rattle.dv_pipe.specs.declared.stage.Stage.{Stage}
-use Rattle.dv_pipe.specs.Stages.{Lists, evaluated}
+use Rattle.dv_pipe.specs.Stages.{Lists}
+use Rattle.dv_views.specs.Forms.{ViewForm, rows_over}
 
 -- a collection: its documents, in the order of their `_id`s, and the names and paths of its indexes, in the order in which they were
 -- made, that on `_id` first. What an index holds is no part of it
@@ -27,12 +27,6 @@ pub data Standing : Type 0 where
 -- from the namespaces under which something is kept to what it is
 abbrev pub Namespaces : Type 0
 Namespaces = finite.FinMap (slice_cmp nat_cmp) Standing
-
--- a view: the namespace that it stands under, the one that its rows come from, and the stages that they go through
-pub record ViewForm : Type 0 where
-  pub name : List ℕ
-  pub source : List ℕ
-  pub stages : List Stage
 
 -- collections, and views in the order in which they were made; nothing stands under a namespace twice
 pub record State : Type 0 where
@@ -103,11 +97,7 @@ is_there namespace state = is_collection namespace state.namespaces || is_view n
 abbrev pub without_view : List ℕ → List ViewForm → List ViewForm
 without_view namespace views = filter (λ v. not (has_name namespace v)) views
 
--- the rows of a view are its stages over what the collections hold; those of another namespace are its documents
-abbrev pub rows_at : Option ViewForm → List ℕ → Namespaces → List (List Field)
-rows_at (Some v) namespace namespaces = evaluated v.stages v.source (lists_of namespaces)
-rows_at None namespace namespaces = documents_of namespace namespaces
-
--- the rows that stand under a namespace; none where nothing does
+-- the rows that stand under a namespace: a collection's documents, or those of a view's pipeline over what stands there; none where
+-- nothing stands
 abbrev pub rows_of : List ℕ → State → List (List Field)
-rows_of namespace state = rows_at (view_named namespace state.views) namespace state.namespaces
+rows_of namespace state = rows_over state.views (lists_of state.namespaces) namespace

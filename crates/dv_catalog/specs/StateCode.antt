@@ -6,7 +6,8 @@ use Rattle.dv_index.specs.Indexed.{coded_indexed}
 use Rattle.dv_pipe.specs.contracts.pipeline.Pipeline as pipelines
 use Rattle.dv_pipe.specs.declared.stage.Stage.{Stage}
 use Rattle.dv_catalog.specs.Marks.{Mark, Marked, live, stale}
-use Rattle.dv_catalog.specs.State.{Collection, Standing, collection, Namespaces, ViewForm, State}
+use Rattle.dv_views.specs.Forms.{ViewForm}
+use Rattle.dv_catalog.specs.State.{Collection, Standing, collection, Namespaces, State}
 
 abbrev collection_in : Standing → Collection
 collection_in (collection c) = c

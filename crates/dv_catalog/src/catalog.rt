@@ -1,7 +1,7 @@
 //! Collections and views together.
 
 ghost use Rattle.std.specs.Prelude.{◌≡◌};
-ghost use Rattle.dv_catalog.specs.CatalogParts.{view_refusal};
+ghost use Rattle.dv_catalog.specs.Views.{view_refusal};
 
 use crate::collections::Collections;
 use crate::counted::Counted;
@@ -12,18 +12,18 @@ use crate::indexing::IndexCounts;
 use crate::laws::told_changes_are_made;
 use crate::scan::scan;
 use crate::searched::searched_in;
-use crate::sources::{references, sources_of};
+use crate::sources::{documents_under, rows_under};
 use crate::stats::{Stats, is_live};
 use crate::stopped::Stopped;
 use crate::told::{all_told_gone, one_told, told};
 use crate::update::updated_in;
-use crate::upkeep::{looks_into_view, refresh, rows_in};
+use crate::upkeep::{refresh_read, refresh_under, shown_rows_are_right};
 use dv_bson::{Document, NoMemory};
 use dv_command::{Aggregate, Create, Deletion, Find, Refusal, Updating, ViewOn};
 use dv_index::NewIndex;
 use dv_match::Filter;
 use dv_pipe::evaluate;
-use dv_views::{Registry, ViewFault};
+use dv_views::{Registry, ViewFault, names_read};
 use std::alloc::Global;
 use std::marker::Model;
 
@@ -33,8 +33,9 @@ const NOTHING: Counted = Counted {
     changed: 0,
 };
 
-/// Collections, and views over them in the order in which they were made. Each view that isn't stale keeps the rows of
-/// its pipeline over the documents of the collections, as they are at this moment, and counts the work that changes took.
+/// Collections, and views over them and over older views, in the order in which they were made. Each view that isn't stale
+/// keeps the rows of its pipeline over what stands under the names that it reads, as it is at this moment, and counts the
+/// work that changes took.
 #[derive(Debug, Drop)]
 pub struct Catalog {
     alloc: Global,
@@ -59,21 +60,21 @@ impl Model for Catalog {
 impl Catalog {
     ghost use Rattle.std.specs.FinMap as finite;
     ghost use Rattle.std.specs.Option.{option_map};
-    ghost use Rattle.std.specs.Prelude.{◌≡◌, ◌≤◌, true, false, map, take, Ok, Some, IfOk, OnOk, OnErr, length};
+    ghost use Rattle.std.specs.Prelude.{◌≡◌, ◌≤◌, ◌∷◌, [], true, false, map, take, Ok, Some, IfOk, OnOk, OnErr, length};
     ghost use Rattle.dv_coll.specs.Collection.{HasId};
-    ghost use Rattle.dv_fields.specs.Refusals.{UnlessWanting};
     ghost use Rattle.dv_command.specs.View.{aggregate_seen, create_seen, deletion_seen, find_seen, updating_seen, view_on_seen};
     ghost use Rattle.dv_catalog.specs.Changes.{apply};
     ghost use Rattle.dv_catalog.specs.Effects as effects;
     ghost use Rattle.dv_catalog.specs.EffectView.{ArePlaced, StandsFor, changes_seen, effect_seen};
     ghost use Rattle.dv_catalog.specs.IndexMaking as indexing;
     ghost use Rattle.dv_catalog.specs.IndexParts.{explained_seen};
-    ghost use Rattle.dv_catalog.specs.Marks.{AreMarkedBy, AreMarkedByDrop, all_gone, marks_made, nothing_marked, stats_of};
-    ghost use Rattle.dv_catalog.specs.Parts.{Leaves, Makes, MakesSo, Reads, StandBehind, StandBy, StandSo, one};
+    ghost use Rattle.dv_catalog.specs.Marks.{AreMarkedBy, AreMarkedByDrop, all_gone, marks_made, names_of_new, nothing_marked, stats_of};
+    ghost use Rattle.dv_catalog.specs.Parts.{Leaves, Makes, MakesSo, Reads, StandBehind, StandBy, StandMade, StandSo, one};
     ghost use Rattle.dv_catalog.specs.StatsView.{stats_seen};
     ghost use Rattle.dv_catalog.specs.Scan as scans;
     ghost use Rattle.dv_catalog.specs.State.{AreOrdered, documents_of, indexes_of, is_collection, is_there, is_view, lists_of, rows_of};
     ghost use Rattle.dv_index.specs.View.{form_of_new};
+    ghost use Rattle.dv_views.specs.Forms as forms;
     ghost use Rattle.dv_catalog.specs.Views as making;
 
     /// Nothing.
@@ -195,19 +196,20 @@ impl Catalog {
         Ok(done)
     }
 
-    /// The rows under a namespace that a find is for, in its order. A stale view is rebuilt first. Fails where memory is
-    /// wanting.
+    /// The rows under a namespace that a find is for, in its order. Stale views that it needs are made anew first. Fails
+    /// where memory is wanting; then some of these may be made anew.
     pub fn find(&mut self, find: &Find) -> Result<Vec<Document>, NoMemory>
         ensures rows { let asked = find_seen find.now in
             IfOk result (λ rows. rows.items ≡ scans.scan asked.filter asked.sort asked.skip asked.limit (rows_of asked.namespace self.old.state)) }
-        ensures marks { Reads (find_seen find.now).namespace self.old result self.new }
+        ensures marks { Reads ((find_seen find.now).namespace ∷ []) self.old result self.new }
     {
-        refresh(
+        refresh_under(
             self.alloc,
             &self.collections,
             &mut self.views,
             &find.namespace,
         )?;
+        shown_rows_are_right(&self.views);
         scan(
             self.alloc,
             searched_in(&self.collections, &self.views, &find.namespace),
@@ -215,50 +217,52 @@ impl Catalog {
         )
     }
 
-    /// How the rows under a namespace that match a filter are found, and how many are looked at. A stale view is rebuilt
-    /// first. Fails where memory is wanting.
+    /// How the rows under a namespace that match a filter are found, and how many are looked at. Stale views that they need
+    /// are made anew first. Fails where memory is wanting; then some of these may be made anew.
     pub fn explain(&mut self, namespace: &str, filter: &Filter) -> Result<Explained, NoMemory>
         ensures explained { IfOk result (λ told. explained_seen told ≡ indexing.explained namespace.now filter.now self.old.state) }
-        ensures marks { Reads namespace.now self.old result self.new }
+        ensures marks { Reads (namespace.now ∷ []) self.old result self.new }
     {
-        refresh(self.alloc, &self.collections, &mut self.views, namespace)?;
+        refresh_under(self.alloc, &self.collections, &mut self.views, namespace)?;
+        shown_rows_are_right(&self.views);
         if let Some(rows) = self.views.rows(namespace) {
             return Ok(explained_view(rows));
         }
         explained_in(self.alloc, &self.collections, namespace, filter)
     }
 
-    /// The rows of a pipeline over what stands under a namespace. A stale view is rebuilt first. Refused with `OnView`
-    /// where the pipeline looks into a view, and where memory is wanting.
-    pub fn aggregate(&mut self, aggregate: &Aggregate) -> Result<Vec<Document>, Refusal>
+    /// The rows of a pipeline over what stands under a namespace. Stale views that it needs are made anew first. Fails where
+    /// memory is wanting; then some of these may be made anew.
+    pub fn aggregate(&mut self, aggregate: &Aggregate) -> Result<Vec<Document>, NoMemory>
         ensures rows { let asked = aggregate_seen aggregate.now in
-            UnlessWanting (λ rows. rows.items) (making.aggregated asked.stages asked.namespace self.old.state) result }
-        ensures marks { Reads (aggregate_seen aggregate.now).namespace self.old result self.new }
-        ensures refused { let asked = aggregate_seen aggregate.now in
-            making.looks_into_view asked.stages asked.namespace self.old.state.views ≡ true → self.new ≡ self.old }
+            IfOk result (λ rows. rows.items ≡ making.aggregated asked.stages asked.namespace self.old.state) }
+        ensures marks { let asked = aggregate_seen aggregate.now in
+            Reads (forms.names_read asked.stages asked.namespace) self.old result self.new }
     {
         let Aggregate {
             namespace,
             pipeline,
             ..
         } = aggregate;
-        if looks_into_view(self.alloc, &self.views, namespace, pipeline)? {
-            return Err(Refusal::OnView);
-        }
-        refresh(self.alloc, &self.collections, &mut self.views, namespace)?;
-        dv_pipe::laws::what_is_not_read_does_not_matter();
-        let rows = references(
+        refresh_read(
             self.alloc,
-            rows_in(&self.collections, &self.views, namespace),
+            &self.collections,
+            &mut self.views,
+            namespace,
+            pipeline,
         )?;
-        let sources = sources_of(self.alloc, &self.collections, pipeline, namespace, rows)?;
-        Ok(evaluate(self.alloc, pipeline, namespace, &sources)?)
+        shown_rows_are_right(&self.views);
+        dv_pipe::laws::what_is_not_read_does_not_matter();
+        let names = names_read(self.alloc, namespace, pipeline)?;
+        let sources = rows_under(self.alloc, &self.collections, &self.views, &names)?;
+        evaluate(self.alloc, pipeline, namespace, &sources)
     }
 
     /// How the view of a namespace stands; none where no view stands there. A stale view is left so. Takes no memory.
     pub fn stats(&self, namespace: &str) -> Option<Stats>
         ensures { option_map stats_seen result ≡ stats_of namespace.now self.now }
     {
+        shown_rows_are_right(&self.views);
         let state = self.views.state(namespace)?;
         let rows = self.views.row_count(namespace)?;
         let ticks = self.views.ticks(namespace)?;
@@ -269,13 +273,15 @@ impl Catalog {
         })
     }
 
-    /// Makes a collection without documents, or a view, which has its rows from then on. Refused with `NamespaceExists`
-    /// where something stands under the namespace; then, for a view, with `OnView` where it would read a view, with
-    /// `ReadByView` where a view reads the namespace or it would read itself, and with `LimitReached` where there are
-    /// 1,000 views; and with `WantOfMemory`. Then nothing is changed.
+    /// Makes a collection without documents, or a view, which has its rows from then on; stale views that it needs are made
+    /// anew. Refused with `NamespaceExists` where something stands under the namespace; then, for a view, with `ReadByView`
+    /// where a view reads the namespace or it would read itself, and with `LimitReached` where there are 1,000 views, or it
+    /// would stand higher than 8, one over collections alone standing at 1, and another one higher than all that it reads; and
+    /// with `WantOfMemory`. Then nothing is changed, but that where memory is wanting some of these stale views may be made
+    /// anew.
     pub fn create(&mut self, create: Create) -> Result<(), Refusal>
         ensures made { let asked = create_seen create in Leaves (making.created asked.namespace asked.view self.old.state) self.old.state result self.new.state }
-        ensures marks { let asked = create_seen create in StandSo (λ marks. marks ≡ marks_made asked.view self.old.marks) self.old.marks result self.new.marks }
+        ensures marks { let asked = create_seen create in StandMade (names_of_new asked.view) (marks_made asked.view self.old.state.views self.old.marks) self.old result self.new.marks }
     {
         let Create { namespace, view } = create;
         if self.collections.has(&namespace) || self.views.has(&namespace) {
@@ -294,13 +300,12 @@ impl Catalog {
     fn create_view(&mut self, namespace: &str, view: ViewOn) -> Result<(), Refusal>
         requires { is_there namespace.now self.old.state ≡ false }
         ensures made { Leaves (making.made namespace.now (Some (view_on_seen view)) self.old.state) self.old.state result self.new.state }
-        ensures marks { StandSo (λ marks. marks ≡ marks_made (Some (view_on_seen view)) self.old.marks) self.old.marks result self.new.marks }
+        ensures marks { let asked = Some (view_on_seen view) in StandMade (names_of_new asked) (marks_made asked self.old.state.views self.old.marks) self.old result self.new.marks }
     {
         let ViewOn { source, pipeline } = view;
-        dv_views::laws::what_is_not_read_is_not_kept();
-        dv_views::laws::a_new_view_leaves_views_right();
-        let rows = references(self.alloc, self.collections.rows(&source))?;
-        let sources = sources_of(self.alloc, &self.collections, &pipeline, &source, rows)?;
+        let names = names_read(self.alloc, &source, &pipeline)?;
+        let needed = self.views.needed(names)?;
+        let sources = documents_under(self.alloc, &self.collections, &needed)?;
         match self.views.create(namespace, &source, pipeline, &sources) {
             Ok(()) => Ok(()),
             Err(fault) => Err(refusal_of(fault)),
@@ -308,8 +313,8 @@ impl Catalog {
     }
 
     /// Takes out what stands under a namespace: a collection, without which the views that read it find it empty, or a
-    /// view. Refused with `NamespaceNotFound` where nothing stands there, and with `WantOfMemory`; then nothing is
-    /// changed.
+    /// view. Refused with `NamespaceNotFound` where nothing stands there, with `ReadByView` where a view reads the one that
+    /// stands there, and with `WantOfMemory`; then nothing is changed.
     pub fn remove(&mut self, namespace: &str) -> Result<(), Refusal>
         ensures made { Leaves (making.dropped namespace.now self.old.state) self.old.state result self.new.state }
         ensures marks { StandSo (AreMarkedByDrop namespace.now self.old.state self.old.marks) self.old.marks result self.new.marks }
@@ -317,11 +322,15 @@ impl Catalog {
         if self.collections.has(namespace) {
             return Ok(self.remove_collection(namespace)?);
         }
-        dv_views::laws::a_removed_view_leaves_views_right();
-        if self.views.remove(namespace) {
-            return Ok(());
+        if !self.views.has(namespace) {
+            return Err(Refusal::NamespaceNotFound);
         }
-        Err(Refusal::NamespaceNotFound)
+        if self.views.is_read(namespace) {
+            return Err(Refusal::ReadByView);
+        }
+        dv_views::laws::a_removed_view_leaves_views_right();
+        self.views.remove(namespace);
+        Ok(())
     }
 
     /// Takes out the collection of a namespace, which is there. Fails where memory is wanting; then nothing is changed.
@@ -388,7 +397,6 @@ fn refusal_of(fault: ViewFault) -> Refusal
     match fault {
         ViewFault::Exists => Refusal::NamespaceExists,
         ViewFault::ReadByView => Refusal::ReadByView,
-        ViewFault::OnView => Refusal::OnView,
         ViewFault::LimitReached => Refusal::LimitReached,
         ViewFault::NoMemory => Refusal::WantOfMemory,
     }

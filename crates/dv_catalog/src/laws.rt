@@ -1,14 +1,16 @@
 //! What holds of changes, each the contract of a function that does nothing.
 
-ghost use Rattle.std.specs.Prelude.{◌≡◌, ◌++◌, ◌∷◌, [], false, length, List, map, Ok, Err};
+ghost use Rattle.std.specs.Prelude.{◌≡◌, ◌<◌, ◌≤◌, ◌++◌, ◌∷◌, [], false, length, List, map, Ok, Err};
 ghost use Rattle.dv_bson.specs.Tree.{Field};
 ghost use Rattle.dv_catalog.specs.Changes.{Change, with_change, with_changes};
 ghost use Rattle.dv_catalog.specs.EffectView.{AreAble, BeginsWithId};
-ghost use Rattle.dv_catalog.specs.State.{AreOrdered, ViewForm};
+ghost use Rattle.dv_catalog.specs.State.{AreOrdered, is_view};
 ghost use Rattle.dv_catalog.specs.Told.{told};
-ghost use Rattle.dv_catalog.specs.Views.{reads, reads_name, reads_view, with_view};
+ghost use Rattle.dv_catalog.specs.Views.{reads_name, with_view};
 ghost use Rattle.dv_fields.specs.declared.refusal.Refusal.TheVariants.{LimitReached};
+ghost use Rattle.dv_pipe.specs.Stages.{is_read};
 ghost use Rattle.dv_views.specs.Changed.{AreMade, changed};
+ghost use Rattle.dv_views.specs.Forms.{ViewForm, height_over, heights};
 
 /// Documents stay in the order of their `_id`s after a change, if a document that is put begins with its `_id`.
 pub fn changes_keep_the_order()
@@ -34,8 +36,9 @@ pub(crate) fn told_changes_are_made()
     dv_views::laws::changes_follow_on();
 }
 
-/// There may be a thousand views.
+/// There may be a thousand views, of which none stands higher than 8.
 pub fn there_may_be_a_thousand_views()
-    ensures room { (v : ViewForm) (views : List ViewForm) → length views ≡ 999 → reads_view views v ≡ false → reads_name views v.name ≡ false → reads v v.name ≡ false → with_view v views ≡ Ok (views ++ v ∷ []) }
-    ensures full { (v : ViewForm) (views : List ViewForm) → length views ≡ 1000 → reads_view views v ≡ false → reads_name views v.name ≡ false → reads v v.name ≡ false → with_view v views ≡ Err LimitReached }
+    ensures room { (v : ViewForm) (views : List ViewForm) → length views ≡ 999 → is_view v.name views ≡ false → reads_name views v.name ≡ false → is_read v.stages v.source v.name ≡ false → height_over (heights views) v.stages v.source ≤ 8 → with_view v views ≡ Ok (views ++ v ∷ []) }
+    ensures full { (v : ViewForm) (views : List ViewForm) → length views ≡ 1000 → is_view v.name views ≡ false → reads_name views v.name ≡ false → is_read v.stages v.source v.name ≡ false → with_view v views ≡ Err LimitReached }
+    ensures high { (v : ViewForm) (views : List ViewForm) → is_view v.name views ≡ false → reads_name views v.name ≡ false → is_read v.stages v.source v.name ≡ false → 8 < height_over (heights views) v.stages v.source → with_view v views ≡ Err LimitReached }
 {}

@@ -1,44 +1,85 @@
-//! The lists that a pipeline reads.
+//! The lists that pipelines and views read.
 
-ghost use Rattle.std.specs.Prelude.{◌≡◌, IfOk};
+ghost use Rattle.std.specs.Prelude.{◌≡◌, IfOk, OnOk};
 ghost use Rattle.std.specs.List.{AllByRecursion};
+ghost use Rattle.dv_pipe.specs.Sources as pipes;
 ghost use Rattle.dv_pipe.specs.Sources.{referred};
-ghost use Rattle.dv_catalog.specs.SourceParts.{AreFor};
-ghost use Rattle.dv_catalog.specs.State.{AreOrdered};
+ghost use Rattle.dv_views.specs.Made.{AreAlike};
+ghost use Rattle.dv_catalog.specs.CatalogParts.{rows_kept};
+ghost use Rattle.dv_catalog.specs.SourceParts.{with_list};
+ghost use Rattle.dv_catalog.specs.State.{AreOrdered, lists_of};
 
 use crate::collections::Collections;
 use crate::rows::Rows;
-use dv_bson::{Document, NoMemory};
-use dv_pipe::{Pipeline, Sources};
-use dv_views::beside;
+use dv_bson::{Document, NoMemory, Str};
+use dv_pipe::Sources;
+use dv_views::Registry;
 use std::alloc::Global;
 
-/// The lists that a pipeline over `source` reads, where these are the rows of `source`, and others are those of
-/// collections. Fails where memory is wanting.
-pub(crate) fn sources_of<'a>(
+/// Under each of the names, the documents of the collection that stands there: none where a view does, or nothing. Fails
+/// where memory is wanting.
+pub(crate) fn documents_under<'a>(
     alloc: Global,
     collections: &'a Collections,
-    pipeline: &Pipeline,
-    source: &str,
-    rows: Vec<&'a Document>,
+    names: &[Str],
 ) -> Result<Sources<'a>, NoMemory>
-    ensures lists { IfOk result (λ sources. AreFor pipeline.now source.now (referred rows.entry.items) collections.now sources) }
-    ensures ordered { IfOk result (λ sources. AreOrdered (referred rows.entry.items) → AllByRecursion (λ list. AreOrdered list.1) sources) }
+    ensures alike { IfOk result (λ sources. AreAlike names.now (pipes.lists_of sources) (lists_of collections.now)) }
+    ensures ordered { IfOk result (λ sources. AllByRecursion (λ name. AreOrdered (pipes.lists_of sources name)) names.now) }
 {
     let mut sources = Sources::new(alloc);
-    sources.add(source, rows)?;
-    'stages: for stage in pipeline.stages() {
-        if let Some(collection) = stage.foreign() {
-            let namespace = beside(alloc, source, collection)?;
-            let rows = references(alloc, collections.rows(&namespace))?;
-            sources.add(&namespace, rows)?;
-        }
+    'names: for name in names {
+        let rows = collections.rows(name.as_str());
+        add_rows(alloc, &mut sources, name.as_str(), rows)?;
     }
     Ok(sources)
 }
 
+/// Under each of the names, the rows that stand there: those of a view that isn't stale, or else a collection's documents.
+/// Fails where memory is wanting.
+pub(crate) fn rows_under<'a>(
+    alloc: Global,
+    collections: &'a Collections,
+    registry: &'a Registry,
+    names: &[Str],
+) -> Result<Sources<'a>, NoMemory>
+    ensures { IfOk result (λ sources. AreAlike names.now (pipes.lists_of sources) (λ name. rows_kept name collections.now registry.now)) }
+{
+    let mut sources = Sources::new(alloc);
+    'names: for name in names {
+        let rows = rows_in(collections, registry, name.as_str());
+        add_rows(alloc, &mut sources, name.as_str(), rows)?;
+    }
+    Ok(sources)
+}
+
+/// The rows that stand under a namespace; those of a stale view aren't there.
+fn rows_in<'a>(collections: &'a Collections, registry: &'a Registry, namespace: &str) -> Rows<'a>
+    ensures { result ≡ rows_kept namespace.now collections.now registry.now }
+{
+    match registry.rows(namespace) {
+        Some(rows) => Rows::of_view(rows),
+        None => collections.rows(namespace),
+    }
+}
+
+/// Adds the rows under a name, unless rows are there, since several views may read the same. Fails where memory is wanting.
+fn add_rows<'a>(
+    alloc: Global,
+    sources: &mut Sources<'a>,
+    name: &str,
+    rows: Rows<'a>,
+) -> Result<(), NoMemory>
+    ensures { OnOk result (sources.new ≡ with_list name.now rows.entry sources.old) }
+{
+    if !sources.get(name).is_empty() {
+        return Ok(());
+    }
+    let rows = references(alloc, rows)?;
+    sources.add(name, rows)
+}
+
 /// References to the rows. Fails where memory is wanting.
-pub(crate) fn references<'a>(alloc: Global, rows: Rows<'a>) -> Result<Vec<&'a Document>, NoMemory>
+fn references<'a>(alloc: Global, rows: Rows<'a>) -> Result<Vec<&'a Document>, NoMemory>
     ensures { IfOk result (λ references. referred references.items ≡ rows.entry) }
 {
     let mut references = Vec::new(alloc);

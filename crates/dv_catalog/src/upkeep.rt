@@ -1,76 +1,113 @@
-//! Views, kept over collections.
+//! Views, kept over what stands under namespaces.
 
-ghost use Rattle.std.specs.Prelude.{◌≡◌, false, map, IfOk, OnErr, OnOk};
+ghost use Rattle.std.specs.Prelude.{◌≡◌, ◌∷◌, [], false, ℕ, List, Some, OnOk};
+ghost use Rattle.dv_bson.specs.Tree.{Field};
+ghost use Rattle.dv_views.specs.Forms as forms;
 ghost use Rattle.dv_views.specs.Views as views;
-ghost use Rattle.dv_catalog.specs.CatalogParts.{form_of, is_stale, marks_of, rows_kept};
-ghost use Rattle.dv_catalog.specs.Marks.{marks_read};
-ghost use Rattle.dv_catalog.specs.State.{lists_of};
-ghost use Rattle.dv_catalog.specs.Views as making;
+ghost use Rattle.dv_catalog.specs.CatalogParts as parts;
+ghost use Rattle.dv_catalog.specs.CatalogParts.{AreLive, marked_of, rows_kept, state_of};
+ghost use Rattle.dv_catalog.specs.Parts.{Reads};
+ghost use Rattle.dv_catalog.specs.State.{Namespaces, lists_of, rows_of};
 
 use crate::collections::Collections;
-use crate::rows::Rows;
-use crate::sources::{references, sources_of};
-use dv_bson::NoMemory;
+use crate::sources::documents_under;
+use dv_bson::{NoMemory, Str};
 use dv_pipe::Pipeline;
-use dv_views::{Registry, ViewState, beside};
+use dv_views::{Registry, ViewState, names_read};
 use std::alloc::Global;
 
-/// Rebuilds the view of this name where it is stale. Fails where memory is wanting; then it stays so.
-pub(crate) fn refresh(
+/// Makes stale views anew that what stands under the namespace needs. Fails where memory is wanting; then some of them may
+/// be made anew.
+pub(crate) fn refresh_under(
     alloc: Global,
     collections: &Collections,
     registry: &mut Registry,
-    name: &str,
+    namespace: &str,
 ) -> Result<(), NoMemory>
     ensures right { views.AreRight (lists_of collections.now) registry.old → views.AreRight (lists_of collections.now) registry.new }
-    ensures forms { map form_of registry.new ≡ map form_of registry.old }
-    ensures fresh { OnOk result (is_stale name.now registry.new ≡ false) }
-    ensures marks { OnOk result (marks_of registry.new ≡ marks_read name.now (map form_of registry.old) (marks_of registry.old)) }
-    ensures err { OnErr result (registry.new ≡ registry.old) }
+    ensures live { OnOk result (AreLive (namespace.now ∷ []) registry.new) }
+    ensures marks { Reads (namespace.now ∷ []) (marked_of collections.now registry.old) result (marked_of collections.now registry.new) }
 {
-    dv_views::laws::what_is_not_read_is_not_kept();
-    // Most stores have no view.
-    if registry.len() == 0 || !matches!(registry.state(name), Some(ViewState::Stale)) {
+    if !registry.has_stale() {
         return Ok(());
     }
-    let (Some(source), Some(pipeline)) = (registry.source(name), registry.pipeline(name)) else {
-        return Ok(());
-    };
-    let rows = references(alloc, collections.rows(source))?;
-    let sources = sources_of(alloc, collections, pipeline, source, rows)?;
-    registry.refresh(name, &sources)
+    let mut names = Vec::with_capacity(alloc, 1)?;
+    names.push(Str::of(String::from_str(alloc, namespace)?))?;
+    refresh_needed(alloc, collections, registry, names)
 }
 
-/// The rows that stand under a namespace; those of a stale view aren't there.
-pub(crate) fn rows_in<'a>(
-    collections: &'a Collections,
-    registry: &'a Registry,
-    namespace: &str,
-) -> Rows<'a>
-    ensures { result ≡ rows_kept namespace.now collections.now registry.now }
-{
-    match registry.rows(namespace) {
-        Some(rows) => Rows::of_view(rows),
-        None => collections.rows(namespace),
-    }
-}
-
-/// Whether a pipeline over `source` looks into a view. Fails where memory is wanting.
-pub(crate) fn looks_into_view(
+/// Makes stale views anew that what a pipeline over `source` reads needs. Fails where memory is wanting; then some of them
+/// may be made anew.
+pub(crate) fn refresh_read(
     alloc: Global,
-    registry: &Registry,
+    collections: &Collections,
+    registry: &mut Registry,
     source: &str,
     pipeline: &Pipeline,
-) -> Result<bool, NoMemory>
-    ensures { IfOk result (λ looks. looks ≡ making.looks_into_view pipeline.now source.now (map form_of registry.now)) }
+) -> Result<(), NoMemory>
+    ensures right { views.AreRight (lists_of collections.now) registry.old → views.AreRight (lists_of collections.now) registry.new }
+    ensures live { OnOk result (AreLive (forms.names_read pipeline.now source.now) registry.new) }
+    ensures marks { Reads (forms.names_read pipeline.now source.now) (marked_of collections.now registry.old) result (marked_of collections.now registry.new) }
 {
-    'stages: for stage in pipeline.stages() {
-        if let Some(collection) = stage.foreign() {
-            let namespace = beside(alloc, source, collection)?;
-            if registry.has(&namespace) {
-                return Ok(true);
-            }
+    if !registry.has_stale() {
+        return Ok(());
+    }
+    let names = names_read(alloc, source, pipeline)?;
+    refresh_needed(alloc, collections, registry, names)
+}
+
+/// Makes stale views anew that what stands under the names needs. Fails where memory is wanting; then some of them may be
+/// made anew.
+fn refresh_needed(
+    alloc: Global,
+    collections: &Collections,
+    registry: &mut Registry,
+    names: Vec<Str>,
+) -> Result<(), NoMemory>
+    ensures right { views.AreRight (lists_of collections.now) registry.old → views.AreRight (lists_of collections.now) registry.new }
+    ensures live { OnOk result (AreLive names.items registry.new) }
+    ensures marks { Reads names.items (marked_of collections.now registry.old) result (marked_of collections.now registry.new) }
+{
+    dv_views::laws::what_is_asked_for_is_needed();
+    let needed = registry.needed(names)?;
+    if !is_one_stale(registry, &needed) {
+        return Ok(());
+    }
+    let sources = documents_under(alloc, collections, &needed)?;
+    registry.refresh(&needed, &sources)
+}
+
+/// Whether a view of one of the names is stale. Takes no memory.
+fn is_one_stale(registry: &Registry, names: &[Str]) -> bool
+    ensures stale { result ≡ parts.is_one_stale names.now registry.now }
+    ensures live { result ≡ false → AreLive names.now registry.now }
+{
+    // No two views have one name.
+    let _ = registry.len();
+    'names: for name in names {
+        if is_stale(registry, name.as_str()) {
+            return true;
         }
     }
-    Ok(false)
+    false
+}
+
+/// Whether there is a view of this name, and it is stale. Takes no memory.
+fn is_stale(registry: &Registry, name: &str) -> bool
+    ensures { result ≡ parts.is_stale_view (views.view_named name.now registry.now) }
+{
+    match registry.state(name) {
+        Some(ViewState::Stale) => true,
+        Some(ViewState::Live) | None => false,
+    }
+}
+
+/// A law: the rows that a right view shows are those that stand under its name.
+pub(crate) fn shown_rows_are_right(registry: &Registry)
+    ensures shown { (namespaces : Namespaces) (name : List ℕ) (rows : List (List Field)) → views.AreRight (lists_of namespaces) registry.now → views.rows_shown name registry.now ≡ Some rows → rows ≡ rows_of name (state_of namespaces registry.now) }
+    ensures kept { (namespaces : Namespaces) (name : List ℕ) → views.AreRight (lists_of namespaces) registry.now → AreLive (name ∷ []) registry.now → rows_kept name namespaces registry.now ≡ rows_of name (state_of namespaces registry.now) }
+{
+    dv_views::laws::what_is_shown_is_right();
+    // No two views have one name.
+    let _ = registry.len();
 }

@@ -1,12 +1,12 @@
 //! Rows that are kept by changes.
 
-ghost use Rattle.std.specs.Prelude.{◌≡◌, ◌↔◌, [], length, IfOk, IsTrue, OnOk};
+ghost use Rattle.std.specs.Prelude.{◌≡◌, ◌↔◌, ◌++◌, [], length, IfOk, IsTrue, OnOk};
 ghost use Rattle.std.specs.List.{AllByRecursion};
 ghost use Rattle.dv_change.specs.Changes.{Positioned, forget, with_change, with_changes};
 ghost use Rattle.dv_change.specs.Inputs.{left_after};
 ghost use Rattle.dv_change.specs.Linked.{HasTaken, IsLinked, first_left, forms_of};
 ghost use Rattle.dv_change.specs.Raised.{raised};
-ghost use Rattle.dv_change.specs.Work.{HasAny, forms_after, work_in};
+ghost use Rattle.dv_change.specs.Work.{HasAny, forms_after, pass_in, work_in};
 
 use crate::chain::Chain;
 use crate::change::Change;
@@ -17,7 +17,7 @@ use crate::turn::Turn;
 use dv_bson::{Document, NoMemory};
 use std::alloc::Global;
 use std::collections::BTreeMap;
-use std::collections::btree_map::Values;
+use std::collections::btree_map::{Iter, Values};
 
 /// The rows that come out of a chain of turns, and the count of the work that its changes took.
 #[derive(Drop)]
@@ -45,19 +45,27 @@ impl<T: Turn + Drop> Live<T> {
         }
     }
 
-    /// Takes in a change of an input. Fails where memory is wanting; then all is dropped.
-    pub fn take(self, input: Input, change: Change) -> Result<Self, NoMemory>
+    /// Takes in a change of an input, and puts what changes of its rows behind what is in `told`. Fails where memory is
+    /// wanting; then all is dropped, and `told` may have grown at its end.
+    pub fn take(
+        self,
+        input: Input,
+        change: Change,
+        told: &mut Vec<Change>,
+    ) -> Result<Self, NoMemory>
         requires linked { IsLinked T.left T.others T.makes T.sound self.chain (first_left T.left T.others T.makes T.sound self.chain) }
         requires input { HasAny input (forms_of T.left T.others T.makes T.sound self.chain) }
         ensures forms { IfOk result (λ live. forms_of T.left T.others T.makes T.sound live.chain ≡ forms_after input change (forms_of T.left T.others T.makes T.sound self.chain)) }
         ensures linked { IfOk result (λ live. IsLinked T.left T.others T.makes T.sound live.chain (first_left T.left T.others T.makes T.sound live.chain)) }
         ensures taken { IfOk result (λ live. (rows : Positioned) → HasTaken T.left T.others T.makes T.sound self.chain self.rows.entries rows → HasTaken T.left T.others T.makes T.sound live.chain live.rows.entries (left_after input change rows)) }
         ensures ticks { IfOk result (λ live. (rows : Positioned) → HasTaken T.left T.others T.makes T.sound self.chain self.rows.entries rows → live.ticks ≡ raised self.ticks (work_in input change (forms_of T.left T.others T.makes T.sound self.chain) rows)) }
+        ensures told { IfOk result (λ live. (rows : Positioned) → HasTaken T.left T.others T.makes T.sound self.chain self.rows.entries rows → told.new.items ≡ told.old.items ++ pass_in input change (forms_of T.left T.others T.makes T.sound self.chain) rows) }
+        ensures leads { IfOk result (λ live. (rows : Positioned) → HasTaken T.left T.others T.makes T.sound self.chain self.rows.entries rows → live.rows.entries ≡ with_changes self.rows.entries (pass_in input change (forms_of T.left T.others T.makes T.sound self.chain) rows)) }
     {
         let mut live = self;
         let mut out = Vec::new(live.alloc);
         live.chain.change(input, change, &mut live.ticks, &mut out)?;
-        put_all(&mut live.rows, out)?;
+        put_all(&mut live.rows, out, told)?;
         Ok(live)
     }
 
@@ -77,6 +85,13 @@ impl<T: Turn + Drop> Live<T> {
         ensures { result ≡ forget self.now.rows.entries }
     {
         self.rows.values()
+    }
+
+    /// The rows, each with its position, in the order of these.
+    pub fn entries(&self) -> Iter<'_, Pos, Document>
+        ensures { result ≡ self.now.rows.entries }
+    {
+        self.rows.iter()
     }
 
     /// How many rows there are.
@@ -102,12 +117,18 @@ impl<T: Turn + Drop> Live<T> {
     }
 }
 
-/// Carries the changes out, one after the other.
-fn put_all(rows: &mut BTreeMap<Pos, Document>, changes: Vec<Change>) -> Result<(), NoMemory>
-    ensures { OnOk result (rows.new.entries ≡ with_changes rows.old.entries changes.items) }
+/// Carries the changes out, one after the other, and puts them behind what is in `told`.
+fn put_all(
+    rows: &mut BTreeMap<Pos, Document>,
+    changes: Vec<Change>,
+    told: &mut Vec<Change>,
+) -> Result<(), NoMemory>
+    ensures rows { OnOk result (rows.new.entries ≡ with_changes rows.old.entries changes.items) }
+    ensures told { OnOk result (told.new.items ≡ told.old.items ++ changes.items) }
 {
     'changes: for change in changes {
-        put(rows, change)?;
+        put(rows, change.try_clone()?)?;
+        told.push(change)?;
     }
     Ok(())
 }

@@ -15,7 +15,7 @@ use Rattle.dv_fields.specs.declared.refusal.Refusal.{Refusal}
 use Rattle.dv_core.specs.declared.outcome.Outcome.{Outcome}
 use Rattle.dv_core.specs.declared.outcome.Outcome.TheVariants.{Reply, Wanting, NoReply}
 use Rattle.dv_catalog.specs.Changes.{Effect, Statement, done_to}
-use Rattle.dv_core.specs.Find.{are_too_large, first_batch, kept, left_behind, replied, found, gathered}
+use Rattle.dv_core.specs.Find.{are_too_large, replied, found, gathered}
 use Rattle.dv_core.specs.Indexes.{form_asked, index_count}
 use Rattle.dv_core.specs.More.{next_batch, next_of, number_of, rows_asked}
 use Rattle.dv_cursor.specs.Batch.{batch}
@@ -25,7 +25,7 @@ use Rattle.dv_catalog.specs.State.{Namespaces, collection_of, is_view}
 use Rattle.dv_catalog.specs.State as stored
 use Rattle.dv_core.specs.State.{State, marked}
 use Rattle.dv_core.specs.Stats.{view_told}
-use Rattle.dv_catalog.specs.Views.{aggregated, created, dropped}
+use Rattle.dv_catalog.specs.Views.{created, dropped}
 use Rattle.dv_core.specs.Statements.{Write, Written, nothing_written, carry_out, with_all, with_next, with_result, is_due, IsCut}
 use Rattle.dv_core.specs.Step.{Answer, answered, read_answer, write_answer, on_catalog, on_cursors, answer_to, step, write_of, makes, moves}
 use Rattle.dv_core.specs.Writes.{reply_by, write_by}
@@ -113,10 +113,6 @@ first_told : (namespace : List ℕ) (count : ℕ) (rows : List (List Field)) (ke
 first_told namespace count rows (Ok id) = replied_told namespace count rows id (are_too_large rows)
 first_told namespace count rows (Err refusal) = λ done is. absurd cc
 
-gathered_told : (session : ℕ) (namespace : List ℕ) (count : ℕ) (cursors : Cursors) (rows : Result (List (List Field)) Refusal) → IsTold (rows >>= λ found. first_batch session namespace count false found cursors)
-gathered_told session namespace count cursors (Ok rows) = first_told namespace count rows (kept session namespace (left_behind count false rows) cursors)
-gathered_told session namespace count cursors (Err refusal) = λ done is. absurd cc
-
 next_told : (session : ℕ) (namespace : List ℕ) (id count : ℕ) (rows : Option (List (List Field))) (cursors : Cursors) → IsTold (next_of session namespace id count rows cursors)
 next_told session namespace id count None cursors done is = absurd cc
 next_told session namespace id count (Some rows) cursors done is = ap (λ (r : Result (List Field × Cursors) Refusal). told_in r) (sym is)
@@ -131,7 +127,7 @@ step_may old session (Ok hello) = inl refl
 step_may old session (Ok ping) = inl refl
 step_may old session (Ok (asking.write w)) = carried_may old (asking.write w) (write_by w) refl (is_view w.namespace old.catalog.views)
 step_may old session (Ok (find f)) = cursors_may old (find f) (found session f old.catalog old.cursors) (first_told f.namespace f.batch_size _ _) (λ done. refl)
-step_may old session (Ok (aggregate a)) = cursors_may old (aggregate a) (gathered session a old.catalog old.cursors) (gathered_told session a.namespace a.batch_size old.cursors (aggregated a.stages a.namespace old.catalog)) (λ done. refl)
+step_may old session (Ok (aggregate a)) = cursors_may old (aggregate a) (gathered session a old.catalog old.cursors) (first_told a.namespace a.batch_size _ _) (λ done. refl)
 step_may old session (Ok (get_more g)) =
     cursors_may old (get_more g) (next_batch session g old.cursors) (next_told session g.namespace (number_of g.id) g.batch_size (rows_asked session g.namespace g.id old.cursors) old.cursors) (λ done. refl)
 step_may old session (Ok (kill_cursors k)) = inr (inr (record { what = kill_cursors k; asks = refl; made = refl; tells = refl }))

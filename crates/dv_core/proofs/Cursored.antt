@@ -128,10 +128,6 @@ module _ (laws : CursorLaws) (session id : ℕ) where
     first_moves namespace count rows (Ok told) moves = replied_moves namespace count rows (are_too_large rows) _ told.1 (moves told refl)
     first_moves namespace count rows (Err refusal) moves = unmoved session id state.cursors state.cursors refl
 
-    gathered_moves : (other : ℕ) (namespace : List ℕ) (count : ℕ) (rows : Result Rows Refusal) → id < state.cursors.next → Leaves (rows >>= λ found. first_batch other namespace count false found state.cursors) [] false
-    gathered_moves other namespace count (Ok rows) new = first_moves namespace count rows (kept other namespace (left_behind count false rows) state.cursors) (kept_moves other namespace (left_behind count false rows) state.cursors new)
-    gathered_moves other namespace count (Err refusal) new = unmoved session id state.cursors state.cursors refl
-
     -- ---- more of a cursor is asked
 
     record FoundCursor (namespace : List ℕ) (there : Option Cursor) (rows : Rows) : Type 0 where
@@ -234,7 +230,7 @@ module _ (laws : CursorLaws) (session id : ℕ) where
   command_moves state other (Ok ping) new = unmoved session id state.cursors state.cursors refl
   command_moves state other (Ok (asking.write w)) new = unmoved session id state.cursors _ (write_cursors state _ _ _ refl)
   command_moves state other (Ok (find f)) new = first_moves state f.namespace f.batch_size _ (kept other f.namespace _ state.cursors) (kept_moves other f.namespace _ state.cursors new)
-  command_moves state other (Ok (aggregate a)) new = gathered_moves state other a.namespace a.batch_size (aggregated a.stages a.namespace state.catalog) new
+  command_moves state other (Ok (aggregate a)) new = first_moves state a.namespace a.batch_size _ (kept other a.namespace _ state.cursors) (kept_moves other a.namespace _ state.cursors new)
   command_moves state other (Ok (get_more g)) new = more_moves state other g.namespace g.id g.batch_size (rows_asked other g.namespace g.id state.cursors) refl
   command_moves state other (Ok (kill_cursors k)) new = gone_moves state.cursors _ (each_gone other k.namespace k.ids state.cursors)
   command_moves state other (Ok (create c)) new = unmoved session id state.cursors _ (catalog_cursors state _)
@@ -408,15 +404,14 @@ module _ (laws : CursorLaws) where
       subst (λ (r : Result Asked Refusal). Shows session asked.namespace asked.batch_size asked.single_batch rows state (answered state (r >>= answer_to state session))) (sym asks)
       (shown session asked.namespace asked.batch_size rows asked.single_batch state (above_zero before empty_state (omega arith)) _ refl)
 
-  pub pipeline_told : (before : List Move) (session : ℕ) (command : Command) (asked : Aggregate) (rows : Rows) → asked_by command ≡ Ok (aggregate asked)
-      → aggregated asked.stages asked.namespace (state_behind_all before empty_state).catalog ≡ Ok rows
-      → Shows session asked.namespace asked.batch_size false rows (state_behind_all before empty_state) (step (state_behind_all before empty_state) session command)
-  pipeline_told before session command asked rows asks gives =
+  pub pipeline_told : (before : List Move) (session : ℕ) (command : Command) (asked : Aggregate) → asked_by command ≡ Ok (aggregate asked)
+      → Shows session asked.namespace asked.batch_size false (aggregated asked.stages asked.namespace (state_behind_all before empty_state).catalog)
+      (state_behind_all before empty_state) (step (state_behind_all before empty_state) session command)
+  pipeline_told before session command asked asks =
       let state : State = state_behind_all before empty_state in
+      let rows : Rows = aggregated asked.stages asked.namespace state.catalog in
       subst (λ (r : Result Asked Refusal). Shows session asked.namespace asked.batch_size false rows state (answered state (r >>= answer_to state session))) (sym asks)
-      (subst (λ (made : Result Rows Refusal). Shows session asked.namespace asked.batch_size false rows state
-      (answered state (on_cursors state (made >>= λ found. first_batch session asked.namespace asked.batch_size false found state.cursors)))) (sym gives)
-      (shown session asked.namespace asked.batch_size rows false state (above_zero before empty_state (omega arith)) _ refl))
+      (shown session asked.namespace asked.batch_size rows false state (above_zero before empty_state (omega arith)) _ refl)
 
   -- ---- what a getMore replies
 

@@ -3,20 +3,20 @@ use Rattle.std.proofs.Common.{◌≡◌, ◌⊎◌, inl, inr, ℕ, ◌||◌, Boo
 use Rattle.std.proofs.lemmas.Slice.Eq.{bytes_eq-Decides}
 use Rattle.std.specs.FinMap as finite
 use Rattle.std.specs.Str.{bytes_eq}
-use Rattle.dv_bson.specs.Tree.{Field}
-use Rattle.dv_catalog.specs.State.{State, Standing, Namespaces, ViewForm, collection, collection_at, collection_of, documents_of, indexes_of, with_documents, with_indexes, without_view, is_collection, is_view, is_there}
+use Rattle.dv_views.specs.Forms.{ViewForm}
+use Rattle.dv_catalog.specs.State.{State, Standing, Namespaces, collection, collection_at, collection_of, documents_of, indexes_of, with_documents, with_indexes, without_view, is_collection, is_view, is_there}
 use Rattle.dv_catalog.specs.IndexMaking.{indexes_created, indexes_dropped, with_all, without_named, with_indexes_so}
 use Rattle.dv_index.specs.Index.{IndexForm}
 use Rattle.dv_core.specs.Indexes.{form_asked}
 use Rattle.dv_core.specs.State as core
 use Rattle.dv_catalog.specs.StateLaws.{get-insert, get-remove}
-use Rattle.dv_catalog.specs.Views.{created, dropped, made, with_view, with_views}
+use Rattle.dv_catalog.specs.Views.{created, dropped, made, reads_name, with_view, with_views}
 use Rattle.dv_command.specs.Asked.{Asked, Create, Drop, ViewOn, create, drop, create_indexes, drop_indexes, asked_by}
 use Rattle.dv_command.specs.declared.command.Command.{Command}
 use Rattle.dv_core.specs.declared.outcome.Outcome.{Outcome}
 use Rattle.dv_core.specs.Step.{write_of, indexes}
 use Rattle.dv_fields.specs.declared.refusal.Refusal.{Refusal}
-use Rattle.dv_fields.specs.declared.refusal.Refusal.TheVariants.{NamespaceExists, NamespaceNotFound, OnView}
+use Rattle.dv_fields.specs.declared.refusal.Refusal.TheVariants.{NamespaceExists, NamespaceNotFound, OnView, ReadByView}
 use Rattle.dv_core.proofs.Bare.{BareStep}
 use Rattle.dv_core.proofs.Changed.{Made, others_made}
 
@@ -104,11 +104,13 @@ dropped_documents old new namespace is name = by_collection (is_collection names
     at_name true = refl
     at_name false = refl
 
-    by_view : (b : Bool) → (if b then Ok (record old { views = without_view namespace old.views }) else Err NamespaceNotFound) ≡ Ok new → documents_of name new.namespaces ≡ documents_of name old.namespaces
-    by_view true is = let same : new ≡ record old { views = without_view namespace old.views } = cc in ap (λ (s : State). documents_of name s.namespaces) same
-    by_view false is = absurd cc
+    by_view : (b read : Bool) → (if b then (if read then Err ReadByView else Ok (record old { views = without_view namespace old.views })) else Err NamespaceNotFound) ≡ Ok new → documents_of name new.namespaces ≡ documents_of name old.namespaces
+    by_view true true is = absurd cc
+    by_view true false is = let same : new ≡ record old { views = without_view namespace old.views } = cc in ap (λ (s : State). documents_of name s.namespaces) same
+    by_view false read is = absurd cc
 
-    by_collection : (b : Bool) → (if b then Ok (record old { namespaces = finite.remove old.namespaces namespace }) else if is_view namespace old.views then Ok (record old { views = without_view namespace old.views }) else Err NamespaceNotFound) ≡ Ok new
+    by_collection : (b : Bool)
+        → (if b then Ok (record old { namespaces = finite.remove old.namespaces namespace }) else if is_view namespace old.views then (if reads_name old.views namespace then Err ReadByView else Ok (record old { views = without_view namespace old.views })) else Err NamespaceNotFound) ≡ Ok new
         → documents_of name new.namespaces ≡ (if bytes_eq namespace name then [] else documents_of name old.namespaces) ⊎ (documents_of name new.namespaces ≡ documents_of name old.namespaces)
     by_collection true is =
         let same : new ≡ record old { namespaces = finite.remove old.namespaces namespace } = cc in
@@ -116,7 +118,7 @@ dropped_documents old new namespace is name = by_collection (is_collection names
         ap (λ (s : State). documents_of name s.namespaces) same
         ∙ ap (λ (there : Option Standing). (collection_at there).documents) (get-remove old.namespaces namespace name) ∙ at_name (bytes_eq namespace name)
         )
-    by_collection false is = inr (by_view (is_view namespace old.views) is)
+    by_collection false is = inr (by_view (is_view namespace old.views) (reads_name old.views namespace) is)
 
 pub dropped_others : (old new : State) (namespace name : List ℕ) → dropped namespace old ≡ Ok new → bytes_eq namespace name ≡ false → documents_of name new.namespaces ≡ documents_of name old.namespaces
 dropped_others old new namespace name is other = either (dropped_documents old new namespace is name)

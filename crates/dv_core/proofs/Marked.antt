@@ -3,10 +3,10 @@ use Rattle.std.proofs.Common.{◌≡◌, ◌⊎◌, ℕ, suc, Bool, true, false,
 use Rattle.std.proofs.lemmas.List.{length-append}
 use Rattle.std.specs.FinMap as finite
 use Rattle.dv_bson.specs.Tree.{Field, int32}
-use Rattle.dv_catalog.specs.Marks.{AreMarkedWhere, Marks, all_gone, live, marks_counted, marks_made, marks_without}
-use Rattle.dv_catalog.specs.State.{ViewForm, documents_of, is_collection, is_there, is_view, lists_of, without_view}
+use Rattle.dv_catalog.specs.Marks.{AreMarkedWhere, Marks, all_gone, live, marks_counted, marks_made, marks_read, marks_without}
+use Rattle.dv_catalog.specs.State.{documents_of, is_collection, is_there, is_view, lists_of, without_view}
 use Rattle.dv_catalog.specs.State as stored
-use Rattle.dv_catalog.specs.Views.{created, dropped, made, with_view, with_views}
+use Rattle.dv_catalog.specs.Views.{created, dropped, made, reads_name, with_view, with_view_by, with_views}
 use Rattle.dv_command.specs.Asked.{Asked, Create, Drop, ViewOn, hello, ping, find, aggregate, get_more, kill_cursors, create, drop, create_indexes, drop_indexes, explain, view_stats, asked_by}
 use Rattle.dv_command.specs.Asked as asking
 use Rattle.dv_command.specs.Replies.{drop_reply, reply_of}
@@ -14,12 +14,14 @@ use Rattle.dv_command.specs.declared.command.Command.{Command}
 use Rattle.dv_cursor.specs.Cursors.{Cursors}
 use Rattle.dv_fields.specs.Refusals.{◌>>=◌}
 use Rattle.dv_fields.specs.declared.refusal.Refusal.{Refusal}
-use Rattle.dv_fields.specs.declared.refusal.Refusal.TheVariants.{LimitReached, NamespaceExists, NamespaceNotFound, OnView, ReadByView}
+use Rattle.dv_fields.specs.declared.refusal.Refusal.TheVariants.{NamespaceExists, NamespaceNotFound, OnView, ReadByView}
+use Rattle.dv_views.specs.Forms.{ViewForm, fault_of_new, names_read}
+use Rattle.dv_views.specs.declared.fault.ViewFault.{ViewFault}
 use Rattle.dv_core.specs.declared.outcome.Outcome.{Outcome}
 use Rattle.dv_core.specs.declared.outcome.Outcome.TheVariants.{Reply, Wanting, NoReply}
 use Rattle.dv_core.specs.Indexes.{find_explained}
 use Rattle.dv_core.specs.Load.{IsLoaded}
-use Rattle.dv_core.specs.Marks.{AreMarked, AreMarkedAll, AreMarkedByWrite, AreMarkedForWant, AreMarkedWhereDropped, marks_behind, marks_behind_all, marks_of_drop, marks_where_made, marks_where_read, marks_written, read_by}
+use Rattle.dv_core.specs.Marks.{AreMarked, AreMarkedAll, AreMarkedByWrite, AreMarkedForWant, AreMarkedWhereDropped, marks_behind, marks_behind_all, marks_of_drop, marks_where_made, marks_written, read_by}
 use Rattle.dv_core.specs.Runs.{carries, stands, state_behind, state_behind_all, wants}
 use Rattle.dv_core.specs.State.{State, marked, standing}
 use Rattle.dv_core.specs.Stats.{view_told}
@@ -31,7 +33,7 @@ use Rattle.dv_core.proofs.Changed.{refused_leave, told, views_stay, want_leaves,
 use Rattle.dv_core.proofs.Cursored.{memory_moves}
 use Rattle.dv_core.proofs.Made.{indexing_leaves}
 use Rattle.dv_core.proofs.Viewed.{loaded_leaves}
-use Rattle.dv_core.proofs.Marking.{counted_marked, cut_length, each_length, marked_length, read_length, without_length, written_marked}
+use Rattle.dv_core.proofs.Marking.{counted_marked, cut_length, each_length, marked_length, partly_length, read_length, where_read, where_read_length, without_length, written_marked}
 
 -- ---- the answer leaves them
 
@@ -105,20 +107,14 @@ counted_steps state session command =
 
 -- ---- one for each view
 
-more_by : (a b c : Bool) (v : ViewForm) (views after : List ViewForm) → (if a then Err OnView else if b then Err ReadByView else if c then Ok (views ++ v ∷ []) else Err LimitReached) ≡ Ok after → length after ≡ suc (length views)
-more_by true b c v views after is = absurd cc
-more_by false true c v views after is = absurd cc
-more_by false false true v views after is = let same : views ++ v ∷ [] ≡ after = cc in ap length (sym same) ∙ length-append views (v ∷ []) ∙ omega arith
-more_by false false false v views after is = absurd cc
+more_by : (fault : Option ViewFault) (v : ViewForm) (views after : List ViewForm) → with_view_by v views fault ≡ Ok after → length after ≡ suc (length views)
+more_by None v views after is = let same : views ++ v ∷ [] ≡ after = cc in ap length (sym same) ∙ length-append views (v ∷ []) ∙ omega arith
+more_by (Some fault) v views after is = absurd cc
 
 one_more : (v : ViewForm) (views after : List ViewForm) → with_view v views ≡ Ok after → length after ≡ suc (length views)
-one_more v views after is = more_by _ _ _ v views after is
+one_more v views after is = more_by (fault_of_new views v.name v.source v.stages) v views after is
 
 module _ (old : State) (each : length old.marks ≡ length old.catalog.views) where
-  read_each : (read : Option (List ℕ)) → length (marks_where_read read old) ≡ length old.marks
-  read_each None = refl
-  read_each (Some namespace) = read_length namespace old.catalog.views old.marks
-
   write_each : (b : Bool) (write : Write) (marks : Marks) → AreMarkedByWrite b write old marks → length marks ≡ length old.marks
   write_each true write marks marked = ap length marked
   write_each false write marks marked = each_length write.namespace write.ordered old.catalog.views (nothing_written old.catalog.namespaces) write.statements old.marks marks marked
@@ -130,11 +126,11 @@ module _ (old : State) (each : length old.marks ≡ length old.catalog.views) wh
   stay_each (drop d) marks (inr index) marked = absurd cc
   stay_each (create c) marks (inl idle) marked = absurd cc
   stay_each (create c) marks (inr index) marked = absurd cc
-  stay_each asked marks stays marked = ap length marked ∙ read_each (read_by asked old.catalog.views)
+  stay_each asked marks stays marked = ap length marked ∙ where_read_length (read_by asked) old
 
   want_each : (asked : Result Asked Refusal) (marks : Marks) → AreMarkedForWant old asked marks → length marks ≡ length old.catalog.views
   want_each (Ok asked) marks (inl same) = ap length same ∙ each
-  want_each (Ok asked) marks (inr read) = ap length read ∙ read_each (read_by asked old.catalog.views) ∙ each
+  want_each (Ok asked) marks (inr some) = partly_length (read_by asked) old.catalog.views old.marks marks some ∙ each
   want_each (Err refusal) marks same = ap length same ∙ each
 
   cut_each : (asked : Result Asked Refusal) (answer : Answer) (marks : Marks) → Cut old asked answer marks → length marks ≡ length answer.state.catalog.views
@@ -152,36 +148,39 @@ module _ (old : State) (each : length old.marks ≡ length old.catalog.views) wh
   wants_each command answer marks (inr cut) = cut_each (asked_by command) answer marks cut
 
   -- a create, and a drop
-  with_each : (result : Result (List ViewForm) Refusal) (reply : List Field) → ((views : List ViewForm) → result ≡ Ok views → length views ≡ suc (length old.catalog.views)) → (marks : Marks)
-      → marks ≡ marks_where_made (with_views old.catalog result) (old.marks ++ live 0 ∷ []) old.marks → length marks ≡ length (answered old (on_catalog old (replying reply (with_views old.catalog result)))).state.catalog.views
-  with_each (Ok views) reply more marks marked = ap length marked ∙ length-append old.marks (live 0 ∷ []) ∙ omega (arith, each, more views refl)
-  with_each (Err refusal) reply more marks marked = ap length marked ∙ each
+  with_each : (result : Result (List ViewForm) Refusal) (names : List (List ℕ)) (reply : List Field) → ((views : List ViewForm) → result ≡ Ok views → length views ≡ suc (length old.catalog.views)) → (marks : Marks)
+      → marks ≡ marks_where_made (with_views old.catalog result) (marks_read names old.catalog.views old.marks ++ live 0 ∷ []) old.marks
+      → length marks ≡ length (answered old (on_catalog old (replying reply (with_views old.catalog result)))).state.catalog.views
+  with_each (Ok views) names reply more marks marked =
+      ap length marked ∙ length-append (marks_read names old.catalog.views old.marks) (live 0 ∷ []) ∙ omega (arith, each, more views refl, read_length names old.catalog.views old.marks)
+  with_each (Err refusal) names reply more marks marked = ap length marked ∙ each
 
   create_each : (b : Bool) (view : Option ViewOn) (namespace : List ℕ) (reply : List Field) (marks : Marks)
-      → marks ≡ marks_where_made (if b then Err NamespaceExists else made namespace view old.catalog) (marks_made view old.marks) old.marks
+      → marks ≡ marks_where_made (if b then Err NamespaceExists else made namespace view old.catalog) (marks_made view old.catalog.views old.marks) old.marks
       → length marks ≡ length (answered old (on_catalog old (replying reply (if b then Err NamespaceExists else made namespace view old.catalog)))).state.catalog.views
   create_each true view namespace reply marks marked = ap length marked ∙ each
   create_each false None namespace reply marks marked = ap length marked ∙ each
   create_each false (Some on) namespace reply marks marked =
       let v : ViewForm = record { name = namespace; source = on.source; stages = on.stages } in
-      with_each (with_view v old.catalog.views) reply (λ views is. one_more v old.catalog.views views is) marks marked
+      with_each (with_view v old.catalog.views) (names_read on.stages on.source) reply (λ views is. one_more v old.catalog.views views is) marks marked
 
-  -- by whether a collection stands there, and a view
-  abbrev left_where : Bool → Bool → List ℕ → Result stored.State Refusal
-  left_where b c namespace =
+  -- by whether a collection stands there, and a view, and whether a view reads it
+  abbrev left_where : Bool → Bool → Bool → List ℕ → Result stored.State Refusal
+  left_where b c read namespace =
       if b then Ok (record old.catalog { namespaces = finite.remove old.catalog.namespaces namespace })
-      else if c then Ok (record old.catalog { views = without_view namespace old.catalog.views })
+      else if c then (if read then Err ReadByView else Ok (record old.catalog { views = without_view namespace old.catalog.views }))
       else Err NamespaceNotFound
 
-  drop_each : (b c : Bool) (namespace : List ℕ) (reply : List Field) (marks : Marks) → is_collection namespace old.catalog.namespaces ≡ b → AreMarkedWhereDropped (left_where b c namespace) namespace old marks
-      → length marks ≡ length (answered old (on_catalog old (replying reply (left_where b c namespace)))).state.catalog.views
-  drop_each true c namespace reply marks there marked =
+  drop_each : (b c read : Bool) (namespace : List ℕ) (reply : List Field) (marks : Marks) → is_collection namespace old.catalog.namespaces ≡ b → AreMarkedWhereDropped (left_where b c read namespace) namespace old marks
+      → length marks ≡ length (answered old (on_catalog old (replying reply (left_where b c read namespace)))).state.catalog.views
+  drop_each true c read namespace reply marks there marked =
       marked_length namespace (lists_of old.catalog.namespaces) (all_gone (documents_of namespace old.catalog.namespaces)) old.catalog.views old.marks marks
       (subst (λ (d : Bool). AreMarkedWhere d namespace old.catalog old.marks marks) there marked) ∙ each
-  drop_each false true namespace reply marks there marked =
+  drop_each false true true namespace reply marks there marked = ap length marked ∙ each
+  drop_each false true false namespace reply marks there marked =
       let without : marks ≡ marks_without namespace old.catalog.views old.marks = subst (λ (d : Bool). AreMarkedWhere d namespace old.catalog old.marks marks) there marked in
       ap length without ∙ without_length namespace old.catalog.views old.marks each
-  drop_each false false namespace reply marks there marked = ap length marked ∙ each
+  drop_each false false read namespace reply marks there marked = ap length marked ∙ each
 
   module _ (session : ℕ) (command : Command) where
     views_same : (asked : Asked) → asked_by command ≡ Ok asked → (makes asked ≡ false) ⊎ (indexes asked ≡ true) → (step old session command).state.catalog.views ≡ old.catalog.views
@@ -197,7 +196,7 @@ module _ (old : State) (each : length old.marks ≡ length old.catalog.views) wh
         (create_each (is_there c.namespace old.catalog) c.view c.namespace (reply_of []) marks marked)
     by_asked (Ok (drop d)) marks asks marked =
         subst (λ (r : Result Asked Refusal). length marks ≡ length (answered old (r >>= answer_to old session)).state.catalog.views) (sym asks)
-        (drop_each (is_collection d.namespace old.catalog.namespaces) (is_view d.namespace old.catalog.views) d.namespace (drop_reply d.namespace) marks refl marked)
+        (drop_each (is_collection d.namespace old.catalog.namespaces) (is_view d.namespace old.catalog.views) (reads_name old.catalog.views d.namespace) d.namespace (drop_reply d.namespace) marks refl marked)
     by_asked (Ok (create_indexes c)) marks asks marked = stays (create_indexes c) marks asks (inr refl) marked
     by_asked (Ok (drop_indexes d)) marks asks marked = stays (drop_indexes d) marks asks (inr refl) marked
     by_asked (Ok asked) marks asks marked = stays asked marks asks (inl refl) marked
@@ -242,9 +241,9 @@ module _ (old : State) where
   asked_left session (asking.write w) marks refused marked =
       let did = carry_out (write_by w) old.catalog.namespaces in
       inl (write_left (is_view w.namespace old.catalog.views) (asking.write w) (write_by w) (write_answer old (write_by w) did) marks (write_told (asking.write w) (write_by w) refl did.n did.changed did.errors) refused marked)
-  asked_left session (create c) marks refused marked = inl (create_left (created c.namespace c.view old.catalog) (marks_made c.view old.marks) marks (reply_of []) refl refused marked)
+  asked_left session (create c) marks refused marked = inl (create_left (created c.namespace c.view old.catalog) (marks_made c.view old.catalog.views old.marks) marks (reply_of []) refl refused marked)
   asked_left session (drop d) marks refused marked = inl (drop_left (dropped d.namespace old.catalog) d.namespace marks (drop_reply d.namespace) refl refused marked)
-  asked_left session asked marks refused marked = inr marked
+  asked_left session asked marks refused marked = where_read (read_by asked) old marks marked
 
   all_left : (session : ℕ) (asked : Result Asked Refusal) (marks : Marks) → IsRefused (answered old (asked >>= answer_to old session)) → AreMarkedAll old asked marks → AreMarkedForWant old asked marks
   all_left session (Ok asked) marks refused marked = asked_left session asked marks refused marked

@@ -1,52 +1,67 @@
 -- How views stand behind changes, and behind the statements of a write.
-use Rattle.std.proofs.Common.{◌≡◌, ℕ, suc, Bool, true, false, cond, not, List, [], ◌∷◌, ◌++◌, length, take, Result, Err, refl, sym, ap, subst, ◌∙◌, inl, inr}
+use Rattle.std.proofs.Common.{◌≡◌, ◌⊎◌, ℕ, suc, Bool, true, false, cond, not, List, [], ◌∷◌, ◌++◌, length, take, Result, Err, refl, sym, ap, subst, ◌∙◌, arith, inl, inr}
 use Rattle.dv_catalog.specs.Changes.{Change, Effect, Statement}
-use Rattle.dv_catalog.specs.Marks.{AreMarkedBy, IsMarkedBy, Mark, Marked, Marks, counted, live, mark_counted, marks_counted, marks_read, marks_without, stale}
-use Rattle.dv_catalog.specs.State.{Namespaces, ViewForm, has_name, lists_of, without_view}
+use Rattle.dv_catalog.specs.Marks.{AreMarkedBy, AreMarkedSo, ArePartlyNamed, ArePartlyRead, IsMarkedBy, IsPartlyRead, Mark, Marked, Marks, all_counted, live, mark_counted, mark_read, marks_counted, marks_named, marks_read, marks_without, shares_told, stale}
+use Rattle.dv_catalog.specs.State.{Namespaces, has_name, lists_of, without_view}
 use Rattle.dv_catalog.specs.Parts.{StandBy}
 use Rattle.dv_catalog.specs.declared.stopped.Stopped.{Stopped}
 use Rattle.dv_fields.specs.declared.refusal.Refusal.{Refusal}
 use Rattle.dv_pipe.specs.Stages.{Lists}
-use Rattle.dv_core.specs.Marks.{AreMarkedByCut, AreMarkedByEach, due_changes, marks_written}
+use Rattle.dv_views.specs.Flow.{Share, nothing, shares}
+use Rattle.dv_views.specs.Forms.{ViewForm, is_among, needed}
+use Rattle.dv_core.specs.Marks.{AreMarkedByCut, AreMarkedByEach, due_changes, marks_where_read, marks_written}
+use Rattle.dv_core.specs.State.{State}
 use Rattle.dv_core.specs.Statements.{AreCut, Written, is_due, next_changes, nothing_written, with_all, with_next}
 
 -- ---- changes
 
+-- as where memory is wanting for no view
+counted_so : (all : List Share) (marks : Marks) → AreMarkedSo all marks (all_counted all marks)
+counted_so [] marks = refl
+counted_so (share ∷ rest) [] = refl
+counted_so (share ∷ rest) (mark ∷ marks) = (inl refl, counted_so rest marks)
+
+so_length : (all : List Share) (before after : Marks) → AreMarkedSo all before after → length after ≡ length before
+so_length [] before after marked = ap length marked
+so_length (share ∷ rest) [] after marked = ap length marked
+so_length (share ∷ rest) (mark ∷ before) [] marked = absurd marked
+so_length (share ∷ rest) (mark ∷ before) (now ∷ after) marked = ap suc (so_length rest before after marked.1)
+
+-- no changes leave each mark
+nothing_counted : (mark : Mark) → mark_counted nothing mark ≡ mark
+nothing_counted (live ticks) = ap live (omega arith)
+nothing_counted stale = refl
+
+nothing_left : (before after : Mark) → IsMarkedBy nothing before after → after ≡ before
+nothing_left before after (inl is) = is ∙ nothing_counted before
+nothing_left before after (inr struck) = absurd (cc struck.reached)
+
 module _ (namespace : List ℕ) (lists : Lists) where
-  module _ (changes : List Change) where
-    -- as where memory is wanting for no view
-    pub counted_marked : (views : List ViewForm) (marks : Marks) → AreMarkedBy namespace changes lists views marks (marks_counted namespace changes lists views marks)
-    counted_marked [] marks = refl
-    counted_marked (v ∷ views) [] = refl
-    counted_marked (v ∷ views) (mark ∷ marks) = (inl refl, counted_marked views marks)
+  module _ (changes : List Change) (views : List ViewForm) where
+    pub counted_marked : (marks : Marks) → AreMarkedBy namespace changes lists views marks (marks_counted namespace changes lists views marks)
+    counted_marked marks = counted_so (shares_told namespace changes lists views) marks
 
-    pub marked_length : (views : List ViewForm) (before after : Marks) → AreMarkedBy namespace changes lists views before after → length after ≡ length before
-    marked_length [] before after marked = ap length marked
-    marked_length (v ∷ views) [] after marked = ap length marked
-    marked_length (v ∷ views) (mark ∷ before) [] marked = absurd marked
-    marked_length (v ∷ views) (mark ∷ before) (now ∷ after) marked = ap suc (marked_length views before after marked.1)
-
-  -- no changes leave each mark
-  none_counted : (v : ViewForm) (mark : Mark) → mark_counted namespace [] lists v mark ≡ mark
-  unfolding counted
-  none_counted v (live ticks) = refl
-  none_counted v stale = refl
+    pub marked_length : (before after : Marks) → AreMarkedBy namespace changes lists views before after → length after ≡ length before
+    marked_length before after marked = so_length (shares_told namespace changes lists views) before after marked
 
   pub none_marked : (views : List ViewForm) (marks : Marks) → AreMarkedBy namespace [] lists views marks marks
+  unfolding shares
   none_marked [] marks = refl
   none_marked (v ∷ views) [] = refl
-  none_marked (v ∷ views) (mark ∷ marks) = (inl (sym (none_counted v mark)), none_marked views marks)
-
-  none_left : (v : ViewForm) (before after : Mark) → IsMarkedBy namespace [] lists v before after → after ≡ before
-  none_left v before after (inl is) = is ∙ none_counted v before
-  none_left v before after (inr struck) = absurd (struck.changed refl)
+  none_marked (v ∷ views) (mark ∷ marks) = (inl (sym (nothing_counted mark)), none_marked views marks)
 
   pub none_changed : (views : List ViewForm) (before after : Marks) → AreMarkedBy namespace [] lists views before after → after ≡ before
+  unfolding shares
   none_changed [] before after marked = marked
   none_changed (v ∷ views) [] after marked = marked
   none_changed (v ∷ views) (mark ∷ before) [] marked = absurd marked
-  none_changed (v ∷ views) (mark ∷ before) (now ∷ after) marked =
-      λ i. none_left v mark now marked.0 i ∷ none_changed views before after marked.1 i
+  none_changed (v ∷ views) (mark ∷ before) (now ∷ after) marked = λ i. nothing_left mark now marked.0 i ∷ none_changed views before after marked.1 i
+
+-- where there is no view
+pub no_view_marked : (namespace : List ℕ) (changes : List Change) (lists : Lists) → AreMarkedBy namespace changes lists [] [] []
+unfolding shares
+no_view_marked namespace [] lists = refl
+no_view_marked namespace (change ∷ changes) lists = refl
 
 -- behind a statement that stopped before its first change
 pub unmade_stands : {B : Type 0} (namespace : List ℕ) (does : Result Effect Refusal) (old : Marked) (result : Result B Stopped) (stopped : Stopped) → result ≡ Err stopped → stopped.done ≡ 0 → StandBy namespace does old result old.marks
@@ -96,12 +111,50 @@ module _ (namespace : List ℕ) (ordered : Bool) (views : List ViewForm) where
     rw stopped (each_stopped so_far statements marks stopped),
   )
 
--- ---- views that are read, and taken out
+-- ---- views that are read
 
-pub read_length : (namespace : List ℕ) (views : List ViewForm) (marks : Marks) → length (marks_read namespace views marks) ≡ length marks
-read_length namespace [] marks = refl
-read_length namespace (v ∷ views) [] = refl
-read_length namespace (v ∷ views) (mark ∷ marks) = ap suc (read_length namespace views marks)
+module _ (names : List (List ℕ)) where
+  named_length : (views : List ViewForm) (marks : Marks) → length (marks_named names views marks) ≡ length marks
+  named_length [] marks = refl
+  named_length (v ∷ views) [] = refl
+  named_length (v ∷ views) (mark ∷ marks) = ap suc (named_length views marks)
+
+  some_length : (views : List ViewForm) (before after : Marks) → ArePartlyNamed names views before after → length after ≡ length before
+  some_length [] before after some = ap length some
+  some_length (v ∷ views) [] after some = ap length some
+  some_length (v ∷ views) (mark ∷ before) [] some = absurd some
+  some_length (v ∷ views) (mark ∷ before) (now ∷ after) some = ap suc (some_length views before after some.1)
+
+  -- all of them
+  all_some : (views : List ViewForm) (marks : Marks) → ArePartlyNamed names views marks (marks_named names views marks)
+  all_some [] marks = refl
+  all_some (v ∷ views) [] = refl
+  all_some (v ∷ views) (mark ∷ marks) = (one (is_among v.name names) refl, all_some views marks)
+    where
+      one : (b : Bool) → is_among v.name names ≡ b → IsPartlyRead (is_among v.name names) mark (cond b (mark_read mark) mark)
+      one true named = inr (named, refl)
+      one false named = inl refl
+
+module _ (names : List (List ℕ)) (views : List ViewForm) where
+  pub read_length : (marks : Marks) → length (marks_read names views marks) ≡ length marks
+  read_length marks = named_length (needed views names) views marks
+
+  pub partly_length : (before after : Marks) → ArePartlyRead names views before after → length after ≡ length before
+  partly_length before after some = some_length (needed views names) views before after some
+
+  all_partly : (before after : Marks) → after ≡ marks_read names views before → ArePartlyRead names views before after
+  all_partly before after read = subst (ArePartlyRead names views before) (sym read) (all_some (needed views names) views before)
+
+-- behind a command
+pub where_read_length : (names : List (List ℕ)) (old : State) → length (marks_where_read names old) ≡ length old.marks
+where_read_length [] old = refl
+where_read_length (name ∷ names) old = read_length (name ∷ names) old.catalog.views old.marks
+
+pub where_read : (names : List (List ℕ)) (old : State) (marks : Marks) → marks ≡ marks_where_read names old → (marks ≡ old.marks) ⊎ ArePartlyRead names old.catalog.views old.marks marks
+where_read [] old marks read = inl read
+where_read (name ∷ names) old marks read = inr (all_partly (name ∷ names) old.catalog.views old.marks marks read)
+
+-- ---- views that are taken out
 
 without_one : (b : Bool) (v : ViewForm) (views : List ViewForm) (mark : Mark) (marks : Marks) → length marks ≡ length views → length (cond b marks (mark ∷ marks)) ≡ length (cond (not b) (v ∷ views) views)
 without_one true v views mark marks same = same

@@ -10,7 +10,6 @@ use Rattle.dv_catalog.specs.Scan.{scan}
 use Rattle.dv_catalog.specs.ScanLaws.{all_scanned}
 use Rattle.dv_catalog.specs.State as stored
 use Rattle.dv_catalog.specs.State.{rows_of}
-use Rattle.dv_catalog.specs.Views.{looks_into_view}
 use Rattle.dv_command.specs.Asked.{Asked, hello, ping, find, aggregate, get_more, kill_cursors, create, drop, create_indexes, drop_indexes, explain, view_stats, asked_by}
 use Rattle.dv_command.specs.Asked as asking
 use Rattle.dv_command.specs.Sound.{AreValid, IsSoundlyAsked}
@@ -20,7 +19,7 @@ use Rattle.dv_cursor.specs.Cursors.{Cursor, Cursors, added, advanced, closed, cu
 use Rattle.dv_cursor.specs.Runs.{is_place}
 use Rattle.dv_fields.specs.Refusals.{◌>>=◌}
 use Rattle.dv_fields.specs.declared.refusal.Refusal.{Refusal}
-use Rattle.dv_fields.specs.declared.refusal.Refusal.TheVariants.{OnView, TooLarge}
+use Rattle.dv_fields.specs.declared.refusal.Refusal.TheVariants.{TooLarge}
 use Rattle.dv_core.specs.Find.{are_too_large, found, first_batch, gathered, kept, kept_under, left_behind, replied}
 use Rattle.dv_core.specs.Load.{loaded}
 use Rattle.dv_core.specs.More.{next_of, number_of, rows_asked, wanted, without, without_each}
@@ -128,10 +127,6 @@ module _ (laws : CursorLaws) where
       first_shown : (single : Bool) → Leaves (first_batch session namespace count single rows cursors)
       first_shown single = kept_shown (left_behind count single rows) (left_shown count single rows)
 
-    gathered_shown : (count : ℕ) (b : Bool) (rows : Rows) → AreValid rows → Leaves ((if b then Err OnView else Ok rows) >>= λ found. first_batch session namespace count false found cursors)
-    gathered_shown count true rows valid = tt
-    gathered_shown count false rows valid = first_shown count rows valid false
-
     next_shown : (id count : ℕ) (rows : Option Rows) → Leaves (next_of session namespace id count rows cursors)
     next_shown id count None = tt
     next_shown id count (Some rows) = advanced_shown session id (length (batch (wanted count rows) rows)) cursors all
@@ -155,7 +150,7 @@ module _ (laws : CursorLaws) where
         (all_scanned (λ d. AreFields (fields_of d)) f.filter f.sort f.skip f.limit rows (rows_valid pipes old documents views f.namespace)) f.single_batch)
     asked_shown size (aggregate a) sound =
         left_by_command old (gathered session a old.catalog old.cursors) all
-        (gathered_shown session a.namespace old.cursors all a.batch_size (looks_into_view a.stages a.namespace old.catalog.views) _ (gathered_valid pipes old documents views a.stages a.namespace sound.1))
+        (first_shown session a.namespace old.cursors all a.batch_size _ (gathered_valid pipes old documents views a.stages a.namespace sound.1) false)
     asked_shown size (get_more g) sound =
         left_by_command old (next_of session g.namespace (number_of g.id) g.batch_size (rows_asked session g.namespace g.id old.cursors) old.cursors) all
         (next_shown session g.namespace old.cursors all (number_of g.id) g.batch_size (rows_asked session g.namespace g.id old.cursors))

@@ -31,7 +31,11 @@ use Rattle.dv_fields.specs.declared.refusal.Refusal.TheVariants.{BadValue, Faile
 use Rattle.dv_catalog.specs.Changes.{Effect, Statement, done_to}
 use Rattle.dv_catalog.specs.Scan.{scan}
 use Rattle.dv_catalog.specs.IndexMaking.{Explained, Way, over_view, by_index, over_all, explained, indexes_created, indexes_dropped, with_all as with_all_entries, unless_broken, with_entries, with_index, without_named, within_limit}
-use Rattle.dv_catalog.specs.State.{Collection, Namespaces, ViewForm, collection_of, documents_of, indexes_of, is_collection, is_there, is_view, rows_of}
+use Rattle.dv_views.specs.Forms.{ViewForm}
+use Rattle.dv_views.specs.declared.fault.ViewFault.{ViewFault}
+use Rattle.dv_views.specs.declared.fault.ViewFault.TheVariants.{Exists, NoMemory}
+use Rattle.dv_views.specs.declared.fault.ViewFault.TheVariants as faults
+use Rattle.dv_catalog.specs.State.{Collection, Namespaces, collection_of, documents_of, indexes_of, is_collection, is_there, is_view, rows_of}
 use Rattle.dv_core.specs.State.{State, marked}
 use Rattle.dv_core.specs.Stats.{told_of}
 use Rattle.dv_catalog.specs.Marks.{Stats, stats_of}
@@ -41,7 +45,7 @@ use Rattle.dv_cursor.specs.Runs.{IsWithin}
 use Rattle.dv_index.specs.Index.{IndexForm, id_form}
 use Rattle.dv_index.specs.Indexed.{is_dropped, without_index}
 use Rattle.dv_catalog.specs.State as states
-use Rattle.dv_catalog.specs.Views.{created, dropped, looks_into_view, made, with_view, with_views}
+use Rattle.dv_catalog.specs.Views.{aggregated, created, dropped, made, reads_name, with_view, with_view_by, with_views}
 use Rattle.dv_core.specs.Statements.{Write, Written, nothing_written, is_due, with_result, with_next, with_all, carry_out, IsCut}
 use Rattle.dv_core.specs.Step.{Answer, answered, read_answer, write_answer, on_catalog, on_cursors, answer_to, step, write_of}
 use Rattle.dv_command.specs.Sound.{AreValid, AreIds, IsNamespace, IsSoundlyAsked}
@@ -551,11 +555,6 @@ module _ (laws : BatchLaws) (namespace : List ℕ) (named : IsNamespace namespac
   id_fits id [] fits = omega arith
   id_fits id (row ∷ left) fits = fits
 
-gathered_spelled : BatchLaws → (session : ℕ) (namespace : List ℕ) → IsNamespace namespace → (count : ℕ) (b : Bool) (rows : List (List Field)) (cursors : Cursors) → AreValid rows
-    → IsSpelledSo ((if b then Err OnView else Ok rows) >>= λ found. kept session namespace (left_behind count false found) cursors >>= replied namespace count found)
-gathered_spelled laws session namespace named count true _ cursors valid = is_refused OnView tt
-gathered_spelled laws session namespace named count false rows cursors valid = first_spelled laws namespace named count rows valid session (left_behind count false rows) cursors
-
 -- an id that an int64 holds
 number_small : (id : ℤ) → IsValue (int64 id) → number_of id < 2 ^ 63
 number_small (pos n) fits = omega arith
@@ -632,11 +631,12 @@ catalog_spelled : (old : State) (reply : states.State → List Field) (made : Re
 catalog_spelled old reply (Ok new) spelt told = spelt new
 catalog_spelled old reply (Err refusal) spelt told = refusal_spelled refusal told
 
-view_told : (a b c : Bool) (views : List ViewForm) → IsToldOf (if a then Err OnView else if b then Err ReadByView else if c then Ok views else Err LimitReached)
-view_told true b c views = tt
-view_told false true c views = tt
-view_told false false true views = tt
-view_told false false false views = tt
+view_told : (fault : Option ViewFault) (v : ViewForm) (views : List ViewForm) → IsToldOf (with_view_by v views fault)
+view_told None v views = tt
+view_told (Some Exists) v views = tt
+view_told (Some faults.ReadByView) v views = tt
+view_told (Some faults.LimitReached) v views = tt
+view_told (Some NoMemory) v views = tt
 
 with_views_told : (state : states.State) (result : Result (List ViewForm) Refusal) → IsToldOf result → IsToldOf (with_views state result)
 with_views_told state (Ok views) told = tt
@@ -644,16 +644,17 @@ with_views_told state (Err refusal) told = told
 
 made_told : (namespace : List ℕ) (view : Option ViewOn) (state : states.State) → IsToldOf (made namespace view state)
 made_told namespace None state = tt
-made_told namespace (Some on) state = with_views_told state (with_view (record { name = namespace; source = on.source; stages = on.stages }) state.views) (view_told _ _ _ _)
+made_told namespace (Some on) state = with_views_told state (with_view (record { name = namespace; source = on.source; stages = on.stages }) state.views) (view_told _ _ _)
 
 created_told : (b : Bool) (namespace : List ℕ) (view : Option ViewOn) (state : states.State) → IsToldOf (if b then Err NamespaceExists else made namespace view state)
 created_told true namespace view state = tt
 created_told false namespace view state = made_told namespace view state
 
-dropped_told : (a b : Bool) (one other : states.State) → IsToldOf (if a then Ok one else if b then Ok other else Err NamespaceNotFound)
-dropped_told true b one other = tt
-dropped_told false true one other = tt
-dropped_told false false one other = tt
+dropped_told : (a b c : Bool) (one other : states.State) → IsToldOf (if a then Ok one else if b then (if c then Err ReadByView else Ok other) else Err NamespaceNotFound)
+dropped_told true b c one other = tt
+dropped_told false true true one other = tt
+dropped_told false true false one other = tt
+dropped_told false false c one other = tt
 
 drop_spelled : (namespace : List ℕ) → IsNamespace namespace → HasSpelling (drop_reply namespace)
 drop_spelled namespace named =
@@ -781,7 +782,9 @@ module _ (asks : AsksSoundly) (counts : CountsAreValid) (laws : BatchLaws) (pipe
       cursors_spelled state (found session f state.catalog state.cursors)
       (first_spelled laws f.namespace sound f.batch_size shown (all_scanned (λ d. AreFields (fields_of d)) f.filter f.sort f.skip f.limit rows (rows_valid pipes state all.documents all.views f.namespace)) session (left_behind f.batch_size f.single_batch shown) state.cursors)
   asked_spelled state session size (aggregate a) fits sound all =
-      cursors_spelled state (gathered session a state.catalog state.cursors) (gathered_spelled laws session a.namespace sound.0 a.batch_size (looks_into_view a.stages a.namespace state.catalog.views) _ state.cursors (gathered_valid pipes state all.documents all.views a.stages a.namespace sound.1))
+      let rows : List (List Field) = aggregated a.stages a.namespace state.catalog in
+      cursors_spelled state (gathered session a state.catalog state.cursors)
+      (first_spelled laws a.namespace sound.0 a.batch_size rows (gathered_valid pipes state all.documents all.views a.stages a.namespace sound.1) session (left_behind a.batch_size false rows) state.cursors)
   asked_spelled state session size (get_more g) fits sound all =
       cursors_spelled state (next_of session g.namespace (number_of g.id) g.batch_size (rows_asked session g.namespace g.id state.cursors) state.cursors)
       (next_spelled laws session g.namespace sound.0 (number_of g.id) g.batch_size (number_small g.id sound.1) (rows_asked session g.namespace g.id state.cursors) state.cursors (asked_shown session g.namespace g.id state all.cursors))
@@ -791,7 +794,7 @@ module _ (asks : AsksSoundly) (counts : CountsAreValid) (laws : BatchLaws) (pipe
   asked_spelled state session size (create c) fits sound all =
       catalog_spelled state (λ left. reply_of []) (created c.namespace c.view state.catalog) (λ left. ping_spelled) (created_told (is_there c.namespace state.catalog) c.namespace c.view state.catalog)
   asked_spelled state session size (drop d) fits sound all =
-      catalog_spelled state (λ left. drop_reply d.namespace) (dropped d.namespace state.catalog) (λ left. drop_spelled d.namespace sound) (dropped_told (is_collection d.namespace state.catalog.namespaces) (is_view d.namespace state.catalog.views) _ _)
+      catalog_spelled state (λ left. drop_reply d.namespace) (dropped d.namespace state.catalog) (λ left. drop_spelled d.namespace sound) (dropped_told (is_collection d.namespace state.catalog.namespaces) (is_view d.namespace state.catalog.views) (reads_name state.catalog.views d.namespace) _ _)
   asked_spelled state session size (create_indexes c) fits sound all =
       catalog_spelled state (λ left. create_indexes_reply (index_count c.namespace state.catalog) (index_count c.namespace left)) (indexes_created c.namespace (map form_asked c.indexes) state.catalog) (λ left. made_indexes_spelled counts _ _)
       (indexed_told c.namespace (map form_asked c.indexes) state.catalog)

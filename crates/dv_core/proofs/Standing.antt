@@ -5,16 +5,16 @@ use Rattle.std.specs.FinMap as finite
 use Rattle.std.specs.Str.{bytes_eq}
 use Rattle.dv_bson.specs.Tree.{Field}
 use Rattle.dv_catalog.specs.IndexMaking.{indexes_created, indexes_dropped, with_all, with_indexes_so, without_named}
-use Rattle.dv_catalog.specs.State.{Collection, Namespaces, Standing, State, collection, collection_at, collection_of, documents_of, indexes_of, is_collection, is_there, is_view, with_documents, with_indexes, without_view}
+use Rattle.dv_catalog.specs.State.{Collection, Namespaces, Standing, State, collection, collection_at, collection_of, indexes_of, is_collection, is_there, is_view, with_documents, with_indexes, without_view}
 use Rattle.dv_catalog.specs.StateLaws.{get-insert, get-remove}
-use Rattle.dv_catalog.specs.Views.{created, dropped, made, with_view}
+use Rattle.dv_catalog.specs.Views.{made, reads_name, with_view}
 use Rattle.dv_command.specs.Asked.{Asked, ViewOn, find, aggregate, get_more, kill_cursors, create, drop, create_indexes, drop_indexes}
 use Rattle.dv_core.specs.Indexes.{form_asked}
 use Rattle.dv_core.specs.State as core
 use Rattle.dv_core.proofs.Changed.{Made}
 use Rattle.dv_core.proofs.Made.{views_only}
 use Rattle.dv_fields.specs.declared.refusal.Refusal.{Refusal}
-use Rattle.dv_fields.specs.declared.refusal.Refusal.TheVariants.{NamespaceExists, NamespaceNotFound, OnView}
+use Rattle.dv_fields.specs.declared.refusal.Refusal.TheVariants.{NamespaceExists, NamespaceNotFound, OnView, ReadByView}
 use Rattle.dv_index.specs.Index.{IndexForm}
 use Rattle.dv_index.specs.Indexed.{empty_indexed}
 
@@ -83,13 +83,15 @@ module _ (P : List ℕ → Collection → Type 0) where
     created_stands namespace (Some on) false emptied is =
         subst Stands (sym (views_only old new (with_view (record { name = namespace; source = on.source; stages = on.stages }) old.views) is)) all
 
-    dropped_stands : (namespace : List ℕ) (a b : Bool) → ((name : List ℕ) → P name empty_indexed)
-        → (if a then Ok (record old { namespaces = finite.remove old.namespaces namespace }) else if b then Ok (record old { views = without_view namespace old.views }) else Err NamespaceNotFound) ≡ Ok new → Stands new.namespaces
-    dropped_stands namespace true b none is =
+    dropped_stands : (namespace : List ℕ) (a b read : Bool) → ((name : List ℕ) → P name empty_indexed)
+        → (if a then Ok (record old { namespaces = finite.remove old.namespaces namespace }) else if b then (if read then Err ReadByView else Ok (record old { views = without_view namespace old.views })) else Err NamespaceNotFound) ≡ Ok new
+        → Stands new.namespaces
+    dropped_stands namespace true b read none is =
         let same : record old { namespaces = finite.remove old.namespaces namespace } ≡ new = cc in
         as_made (record old { namespaces = finite.remove old.namespaces namespace }) same (removed_stands namespace old.namespaces none all)
-    dropped_stands namespace false true none is = let same : record old { views = without_view namespace old.views } ≡ new = cc in as_made (record old { views = without_view namespace old.views }) same all
-    dropped_stands namespace false false none is = absurd cc
+    dropped_stands namespace false true true none is = absurd cc
+    dropped_stands namespace false true false none is = let same : record old { views = without_view namespace old.views } ≡ new = cc in as_made (record old { views = without_view namespace old.views }) same all
+    dropped_stands namespace false false read none is = absurd cc
 
   -- a collection keeps it where it is new, without its documents, and with the indexes that a command leaves it with
   pub record IsKeptBy (what : Asked) : Type 0 where
@@ -100,7 +102,7 @@ module _ (P : List ℕ → Collection → Type 0) where
   pub made_stands : (old new : core.State) (what : Asked) → IsKeptBy what → Made old what new → Stands old.catalog.namespaces → Stands new.catalog.namespaces
   made_stands old new (create c) keeps made all =
       created_stands old.catalog new.catalog all c.namespace c.view (is_there c.namespace old.catalog) (keeps.emptied c.namespace (collection_of c.namespace old.catalog.namespaces) (all c.namespace)) made.0
-  made_stands old new (drop d) keeps made all = dropped_stands old.catalog new.catalog all d.namespace (is_collection d.namespace old.catalog.namespaces) (is_view d.namespace old.catalog.views) keeps.none made.0
+  made_stands old new (drop d) keeps made all = dropped_stands old.catalog new.catalog all d.namespace (is_collection d.namespace old.catalog.namespaces) (is_view d.namespace old.catalog.views) (reads_name old.catalog.views d.namespace) keeps.none made.0
   made_stands old new (create_indexes c) keeps made all =
       indexes_made old.catalog new.catalog all c.namespace (map form_asked c.indexes)
       (λ indexes is. keeps.indexed c.namespace (collection_of c.namespace old.catalog.namespaces) indexes is (all c.namespace)) made.0

@@ -9,7 +9,8 @@ use Rattle.dv_core.specs.declared.outcome.Outcome.TheVariants.{Reply, Wanting, N
 use Rattle.dv_core.specs.declared.next.Next.{Next}
 use Rattle.dv_core.specs.declared.next.Next.TheVariants.{Due, Ended}
 use Rattle.dv_catalog.specs.Marks.{AreMarkedBy, Marked, Marks}
-use Rattle.dv_catalog.specs.State.{Namespaces, ViewForm, collection_of, lists_of}
+use Rattle.dv_catalog.specs.State.{Namespaces, collection_of, lists_of}
+use Rattle.dv_views.specs.Forms.{ViewForm}
 use Rattle.dv_catalog.specs.Changes.{Change, Effect, Statement, apply, changes_of, done_to}
 use Rattle.dv_core.specs.Statements.{Write, Written, nothing_written, with_next, with_all, with_result, is_due, next_changes, cut, AreCut, IsCut}
 use Rattle.dv_catalog.specs.Parts as Parts

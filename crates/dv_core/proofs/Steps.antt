@@ -1,8 +1,8 @@
 -- What carrying out a command gives is a step of the machine.
 use Rattle.std.proofs.Common.{◌≡◌, ◌⊎◌, ℕ, Bool, true, false, List, Result, Ok, Err, if◌then◌else◌, inl, inr, refl, sym, ap, subst, ◌∙◌}
 use Rattle.dv_bson.specs.Tree.{Field}
-use Rattle.dv_catalog.specs.Marks.{AreMarkedByDrop, Marks, marks_made}
-use Rattle.dv_catalog.specs.Parts.{StandSo}
+use Rattle.dv_catalog.specs.Marks.{AreMarkedByDrop, Marks, marks_made, names_of_new}
+use Rattle.dv_catalog.specs.Parts.{StandMade, StandSo}
 use Rattle.dv_catalog.specs.State.{is_view}
 use Rattle.dv_catalog.specs.State as stored
 use Rattle.dv_core.specs.State.{State, marked, standing}
@@ -22,6 +22,7 @@ use Rattle.dv_core.specs.Step.{Answer, answered, read_answer, write_answer, on_c
 use Rattle.dv_core.specs.StepParts.{Ends, Gives, Refuses, StandRead, Tells, TellsOrNot}
 use Rattle.dv_core.specs.WriteParts.{CarriesOut, CutsWrite, Writes, WritesOn, WritesWhere}
 use Rattle.dv_core.specs.Writes.{write_by}
+use Rattle.dv_core.proofs.Marking.{where_read}
 
 abbrev answer_of : List Field → State → Answer
 answer_of reply state = record { reply = reply; state = state }
@@ -106,11 +107,10 @@ module _ (old : State) (session : ℕ) (command : Command) where
     same_by (Err refusal) marks same left = (inr (left same), inl same)
 
     -- behind a reading
-    pub read_by_so : (told : Result (List Field) Refusal) (marks : Marks) → StandRead (marks_where_read (read_by asked old.catalog.views) old) old.marks told marks
-        → (marks ≡ marks_where_read (read_by asked old.catalog.views) old → AreMarked old asked marks) → StandBy asked told marks
+    pub read_by_so : (told : Result (List Field) Refusal) (marks : Marks) → StandRead asked old told marks → (marks ≡ marks_where_read (read_by asked) old → AreMarked old asked marks) → StandBy asked told marks
     read_by_so (Ok reply) marks read so = so read
-    read_by_so (Err refusal) marks (inl read) so = (inr (so read), inr read)
-    read_by_so (Err refusal) marks (inr (want, same)) so = (inl want, inl same)
+    read_by_so (Err refusal) marks (inl read) so = (inr (so read), where_read (read_by asked) old marks read)
+    read_by_so (Err refusal) marks (inr (want, some)) so = (inl want, inr some)
 
     -- what stands under namespaces
     catalog_steps : (new : State) (defined : Result (List Field × stored.State) Refusal) (outcome : Outcome) → answer_to old session asked ≡ on_catalog old defined → new.cursors ≡ old.cursors
@@ -163,14 +163,15 @@ module _ (old : State) (session : ℕ) (command : Command) where
 
   -- ---- a create, and a drop
 
-  -- what is refused leaves views as they stood
+  -- what is refused leaves views as they stood, unless memory is wanting
   pub create_stands : (c : Create) (reply : List Field) (told : Result (List Field) Refusal) (before after : stored.State) (made : Result stored.State Refusal) (marks : Marks) → created c.namespace c.view old.catalog ≡ made → Gives (replying reply made) before told after
-      → StandSo (λ marks. marks ≡ marks_made c.view old.marks) old.marks told marks → StandBy (create c) told marks
+      → StandMade (names_of_new c.view) (marks_made c.view old.catalog.views old.marks) (marked old) told marks → StandBy (create c) told marks
   create_stands c reply (Ok told) before after (Ok state) marks is gives so = rw is so
   create_stands c reply (Ok told) before after (Err refusal) marks is gives so = absurd cc
-  create_stands c reply (Err refusal) before after (Ok state) marks is (inl e, kept) same = absurd cc
-  create_stands c reply (Err refusal) before after (Err other) marks is (inl e, kept) same = (inr (rw is same), inl same)
-  create_stands c reply (Err refusal) before after made marks is (inr want, kept) same = (inl want, inl same)
+  create_stands c reply (Err refusal) before after made marks is gives (inl (want, some)) = (inl want, inr some)
+  create_stands c reply (Err refusal) before after (Ok state) marks is (inl e, kept) (inr same) = absurd cc
+  create_stands c reply (Err refusal) before after (Err other) marks is (inl e, kept) (inr same) = (inr (rw is same), inl same)
+  create_stands c reply (Err refusal) before after made marks is (inr want, kept) (inr same) = (inl want, inl same)
 
   pub drop_stands : (d : Drop) (reply : List Field) (told : Result (List Field) Refusal) (before after : stored.State) (made : Result stored.State Refusal) (marks : Marks) → dropped d.namespace old.catalog ≡ made → Gives (replying reply made) before told after
       → StandSo (AreMarkedByDrop d.namespace old.catalog old.marks) old.marks told marks → StandBy (drop d) told marks

@@ -1,12 +1,13 @@
 -- The stages of views stay sound, and so the rows that stand under each namespace are valid.
-use Rattle.std.proofs.Common.{◌≡◌, inl, inr, ◌||◌, not, ℕ, Bool, true, false, cond, if◌then◌else◌, List, [], ◌∷◌, ◌++◌, map, Option, Some, None, Result, Ok, Err, nat_lt, length, refl, sym, ap, subst, ◌∙◌}
+use Rattle.std.proofs.Common.{◌≡◌, inl, inr, not, ℕ, Bool, true, false, cond, if◌then◌else◌, List, [], ◌∷◌, ◌++◌, map, Option, Some, None, Result, Ok, Err, refl, sym, ap, subst, ◌∙◌}
 use Rattle.std.specs.List.{AllByRecursion}
+use Rattle.std.specs.Str.{bytes_eq}
 use Rattle.dv_bson.specs.Spelling.{AreElements, AreFields}
 use Rattle.dv_bson.specs.Tree.{Tree, Field, elements_of, fields_of}
-use Rattle.dv_catalog.specs.State.{Namespaces, ViewForm, collection_of, documents_of, indexes_of, has_name, is_collection, is_there, is_view, lists_of, rows_at, rows_of, view_named, with_documents, without_view}
+use Rattle.dv_catalog.specs.State.{Namespaces, collection_of, documents_of, indexes_of, has_name, is_collection, is_there, is_view, lists_of, rows_of, with_documents, without_view}
 use Rattle.dv_catalog.specs.Changes.{Effect, done_to}
 use Rattle.dv_catalog.specs.State as stored
-use Rattle.dv_catalog.specs.Views.{made, reads, reads_name, reads_view, view_limit, with_view, with_views}
+use Rattle.dv_catalog.specs.Views.{made, reads_name, with_view, with_view_by, with_views}
 use Rattle.dv_command.specs.Asked.{Asked, ViewOn, find, aggregate, get_more, kill_cursors, create, drop, create_indexes, drop_indexes, asked_by}
 use Rattle.dv_command.specs.Sound.{AreValid, IsSoundPipeline, IsSoundView, IsSoundlyAsked}
 use Rattle.dv_command.specs.declared.command.Command.{Command}
@@ -24,10 +25,12 @@ use Rattle.dv_core.proofs.Made.{created_so, dropped_so}
 use Rattle.dv_core.proofs.Named.{Named, apply_leaves}
 use Rattle.dv_fields.specs.Refusals.{◌>>=◌}
 use Rattle.dv_fields.specs.declared.refusal.Refusal.{Refusal}
-use Rattle.dv_fields.specs.declared.refusal.Refusal.TheVariants.{LimitReached, NamespaceExists, NamespaceNotFound, OnView, ReadByView}
+use Rattle.dv_fields.specs.declared.refusal.Refusal.TheVariants.{NamespaceExists, NamespaceNotFound, OnView, ReadByView}
 use Rattle.dv_pipe.specs.StageParsing.{pipeline_of}
 use Rattle.dv_pipe.specs.Stages.{Lists, evaluated}
 use Rattle.dv_pipe.specs.declared.stage.Stage.{Stage}
+use Rattle.dv_views.specs.Forms.{ViewForm, fault_of_new, rows_over, with_rows}
+use Rattle.dv_views.specs.declared.fault.ViewFault.{ViewFault}
 
 abbrev Sound : List ViewForm → Type 0
 Sound views = AllByRecursion (λ v. IsSoundPipeline v.stages) views
@@ -47,13 +50,11 @@ one_less namespace [] all = tt
 one_less namespace (v ∷ views) all = kept_or_not (not (has_name namespace v)) v (without_view namespace views) all.0 (one_less namespace views all.1)
 
 with_view_sound : (v : ViewForm) (views more : List ViewForm) → with_view v views ≡ Ok more → Sound views → IsSoundPipeline v.stages → Sound more
-with_view_sound v views more is all sound = by_tests (reads_view views v) (reads_name views v.name || reads v v.name) (nat_lt (length views) view_limit) is
+with_view_sound v views more is all sound = by_fault (fault_of_new views v.name v.source v.stages) is
   where
-    by_tests : (a b c : Bool) → (if a then Err OnView else if b then Err ReadByView else if c then Ok (views ++ v ∷ []) else Err LimitReached) ≡ Ok more → Sound more
-    by_tests true b c e = absurd cc
-    by_tests false true c e = absurd cc
-    by_tests false false true e = let same : views ++ v ∷ [] ≡ more = cc in subst Sound same (one_more views v all sound)
-    by_tests false false false e = absurd cc
+    by_fault : (fault : Option ViewFault) → with_view_by v views fault ≡ Ok more → Sound more
+    by_fault None e = let same : views ++ v ∷ [] ≡ more = cc in subst Sound same (one_more views v all sound)
+    by_fault (Some fault) e = absurd cc
 
 module _ (old new : stored.State) (all : Sound old.views) where
   as_before : (state : stored.State) → state ≡ new → Sound state.views → Sound new.views
@@ -73,13 +74,14 @@ module _ (old new : stored.State) (all : Sound old.views) where
   created_sound namespace view true sound is = absurd cc
   created_sound namespace view false sound is = made_sound namespace view sound is
 
-  dropped_sound : (namespace : List ℕ) (collection : Namespaces) (a b : Bool)
-      → (if a then Ok (record old { namespaces = collection }) else if b then Ok (record old { views = without_view namespace old.views }) else Err NamespaceNotFound) ≡ Ok new → Sound new.views
-  dropped_sound namespace collection true b is = let same : record old { namespaces = collection } ≡ new = cc in as_before (record old { namespaces = collection }) same all
-  dropped_sound namespace collection false true is =
+  dropped_sound : (namespace : List ℕ) (collection : Namespaces) (a b read : Bool)
+      → (if a then Ok (record old { namespaces = collection }) else if b then (if read then Err ReadByView else Ok (record old { views = without_view namespace old.views })) else Err NamespaceNotFound) ≡ Ok new → Sound new.views
+  dropped_sound namespace collection true b read is = let same : record old { namespaces = collection } ≡ new = cc in as_before (record old { namespaces = collection }) same all
+  dropped_sound namespace collection false true true is = absurd cc
+  dropped_sound namespace collection false true false is =
       let same : record old { views = without_view namespace old.views } ≡ new = cc in
       as_before (record old { views = without_view namespace old.views }) same (one_less namespace old.views all)
-  dropped_sound namespace collection false false is = absurd cc
+  dropped_sound namespace collection false false read is = absurd cc
 
 -- ---- each step
 
@@ -88,7 +90,7 @@ same_views old new same all = subst (λ (s : stored.State). Sound s.views) (sym 
 
 made_views : (old new : State) (size : ℕ) (what : Asked) → IsSoundlyAsked size what → Made old what new → Sound old.catalog.views → Sound new.catalog.views
 made_views old new size (create c) asked made all = created_sound old.catalog new.catalog all c.namespace c.view (is_there c.namespace old.catalog) asked.1 made.0
-made_views old new size (drop d) asked made all = dropped_sound old.catalog new.catalog all d.namespace _ (is_collection d.namespace old.catalog.namespaces) (is_view d.namespace old.catalog.views) made.0
+made_views old new size (drop d) asked made all = dropped_sound old.catalog new.catalog all d.namespace _ (is_collection d.namespace old.catalog.namespaces) (is_view d.namespace old.catalog.views) (reads_name old.catalog.views d.namespace) made.0
 made_views old new size (create_indexes c) asked made all = subst Sound (sym (created_so old.catalog new.catalog c.namespace (map form_asked c.indexes) made.0).views) all
 made_views old new size (drop_indexes d) asked made all = subst Sound (sym (dropped_so old.catalog new.catalog d.namespace d.index made.0).views) all
 made_views old new size (find f) asked made all = same_views old new made all
@@ -114,25 +116,25 @@ PipesStayValid =
     (list : List Tree) (stages : List Stage) (source : List ℕ) (lists : Lists) → AreElements (elements_of list) → pipeline_of list ≡ Ok stages → ((name : List ℕ) → AllByRecursion (λ d. AreFields (fields_of d)) (lists name))
     → AllByRecursion (λ d. AreFields (fields_of d)) (evaluated stages source lists)
 
-abbrev SoundIf : Option ViewForm → Type 0
-SoundIf None = Unit {0}
-SoundIf (Some v) = IsSoundPipeline v.stages
+abbrev ValidLists : Lists → Type 0
+ValidLists lists = (name : List ℕ) → AreValid (lists name)
 
-first_sound : (b : Bool) (v : ViewForm) (others : Option ViewForm) → IsSoundPipeline v.stages → SoundIf others → SoundIf (cond b (Some v) others)
-first_sound true v others sound rest = sound
-first_sound false v others sound rest = rest
+module _ (pipes : PipesStayValid) where
+  with_valid : (v : ViewForm) (lists : Lists) → IsSoundPipeline v.stages → ValidLists lists → ValidLists (with_rows v lists)
+  with_valid v lists sound valid name = by_name (bytes_eq name v.name)
+    where
+      by_name : (b : Bool) → AreValid (if b then evaluated v.stages v.source lists else lists name)
+      by_name true = pipes sound.list v.stages v.source lists sound.valid sound.is valid
+      by_name false = valid name
 
-named_sound : (namespace : List ℕ) (views : List ViewForm) → Sound views → SoundIf (view_named namespace views)
-named_sound namespace [] all = tt
-named_sound namespace (v ∷ views) all = first_sound (has_name namespace v) v (view_named namespace views) all.0 (named_sound namespace views all.1)
+  -- each view reads what the older ones make of the lists
+  over_valid : (views : List ViewForm) (lists : Lists) → Sound views → ValidLists lists → ValidLists (rows_over views lists)
+  over_valid [] lists all valid = valid
+  over_valid (v ∷ views) lists all valid = over_valid views (with_rows v lists) all.1 (with_valid v lists all.0 valid)
 
 module _ (pipes : PipesStayValid) (state : State) (sound : AreSoundDocuments state) (views : AreSoundViews state) where
   pub rows_valid : (namespace : List ℕ) → AreValid (rows_of namespace state.catalog)
-  rows_valid namespace = of_view (view_named namespace state.catalog.views) (named_sound namespace state.catalog.views views)
-    where
-      of_view : (o : Option ViewForm) → SoundIf o → AreValid (rows_at o namespace state.catalog.namespaces)
-      of_view None h = documents_valid (documents_of namespace state.catalog.namespaces) (sound namespace).1
-      of_view (Some v) h = pipes h.list v.stages v.source (lists_of state.catalog.namespaces) h.valid h.is (λ name. documents_valid (documents_of name state.catalog.namespaces) (sound name).1)
+  rows_valid namespace = over_valid pipes state.catalog.views (lists_of state.catalog.namespaces) views (λ name. documents_valid (documents_of name state.catalog.namespaces) (sound name).1) namespace
 
   pub gathered_valid : (stages : List Stage) (source : List ℕ) → IsSoundPipeline stages → AreValid (evaluated stages source (λ name. rows_of name state.catalog))
   gathered_valid stages source h = pipes h.list stages source (λ name. rows_of name state.catalog) h.valid h.is rows_valid

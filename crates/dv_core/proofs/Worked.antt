@@ -1,5 +1,5 @@
 -- The worked examples, computed: statement by statement, over the documents that each finds.
-use Rattle.std.proofs.Common.{◌≡◌, ℕ, suc, ◌+◌, Bool, true, false, cond, List, [], ◌∷◌, ◌++◌, map, pos, Option, None, Result, Ok, Err, inl, inr, refl, sym, ap, ◌∙◌}
+use Rattle.std.proofs.Common.{◌≡◌, ℕ, suc, ◌+◌, Bool, true, false, cond, List, [], ◌∷◌, ◌++◌, map, take, pos, Option, None, Result, Ok, Err, inl, inr, refl, sym, ap, ◌∙◌}
 use Rattle.std.specs.Cmp.Lexicographic.{slice_cmp, nat_list_cmp_total}
 use Rattle.std.specs.Prelude.{codes}
 use Rattle.std.specs.FinMap as finite
@@ -20,15 +20,16 @@ use Rattle.dv_fields.specs.declared.refusal.Refusal.TheVariants.{DuplicateKey, W
 use Rattle.dv_catalog.specs.Changes.{put, Effect, Statement, done_to, unless_it_breaks, with_put}
 use Rattle.dv_core.specs.Examples.{only, one_field, number, holding, letters, InsertExamples, ReadExamples, RefusalExamples, WantExamples}
 use Rattle.dv_core.specs.Find.{first_batch}
-use Rattle.dv_core.specs.Marks.{AreMarkedByCut, AreMarkedForWant}
+use Rattle.dv_core.specs.Marks.{AreMarkedByCut, AreMarkedForWant, due_changes}
 use Rattle.dv_cursor.specs.Batch.{batch}
 use Rattle.dv_catalog.specs.Scan.{scan}
-use Rattle.dv_catalog.specs.State.{Collection, Standing, Namespaces, collection, collection_at, collection_of, documents_of, with_documents}
+use Rattle.dv_catalog.specs.State.{Collection, Standing, Namespaces, collection, collection_at, collection_of, documents_of, lists_of, with_documents}
 use Rattle.dv_core.specs.State.{State, empty_state}
-use Rattle.dv_core.specs.Statements.{Written, nothing_written, is_due, with_result, with_next, with_all, cut, IsCut}
+use Rattle.dv_core.specs.Statements.{Written, nothing_written, is_due, with_result, with_next, with_all, next_changes, cut, IsCut}
 use Rattle.dv_core.specs.Step.{Answer, answered, on_cursors, write_answer}
 use Rattle.dv_catalog.specs.StateLaws.{same_namespaces}
 use Rattle.dv_core.specs.Writes.{insert_one, write_by}
+use Rattle.dv_core.proofs.Marking.{no_view_marked}
 use Rattle.dv_index.specs.Indexed.{empty_indexed}
 
 -- ---- what stands under t.c
@@ -219,7 +220,12 @@ left_marked state (Err refusal) = refl
 
 no_marks : AreMarkedByCut t_c true [] (write_by two).statements empty_state.catalog.namespaces left cut_second [] []
 unfolding cut_second
-no_marks = ([], ([], refl, refl), refl)
+no_marks =
+    let five = with_all t_c true nothing (insert_one (only 5) ∷ []) in (
+      [],
+      ([], no_view_marked t_c (due_changes t_c true [] nothing (insert_one (only 5))) (lists_of nothing.namespaces), refl),
+      no_view_marked t_c (take 0 (next_changes t_c true five (insert_one (only 6)))) (lists_of five.namespaces),
+    )
 
 pub wants : WantExamples
 wants = record {

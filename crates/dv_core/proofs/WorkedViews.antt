@@ -1,5 +1,5 @@
 -- The worked examples of views, computed.
-use Rattle.std.proofs.Common.{◌≡◌, ◌||◌, ℕ, Bool, true, false, cond, if◌then◌else◌, List, [], Option, Some, None, Result, Ok, Err, is_some, length, refl, sym, ap, ◌∙◌}
+use Rattle.std.proofs.Common.{◌≡◌, ◌||◌, ℕ, Bool, true, false, cond, if◌then◌else◌, List, [], ◌∷◌, Option, Some, None, Result, Ok, Err, is_some, length, take, refl, sym, ap, ◌∙◌}
 use Rattle.std.specs.Cmp.Lexicographic.{slice_cmp, nat_list_cmp_total}
 use Rattle.std.specs.FinMap as finite
 use Rattle.std.specs.Ordering.{nat_cmp}
@@ -9,25 +9,34 @@ use Rattle.dv_bson.specs.Spelling.{framed, element_spelling, payload, counted}
 use Rattle.dv_bson.specs.Tree.{Field}
 use Rattle.dv_match.specs.Filter.{no_members}
 use Rattle.dv_match.specs.Match.{matches}
+use Rattle.dv_path.specs.Candidates.{whole}
+use Rattle.dv_path.specs.SortKey.{sort_key}
+use Rattle.dv_views.specs.Flow.{Share, shares}
+use Rattle.dv_catalog.specs.Marks.{Marks, all_counted, live, marks_counted, stale}
+use Rattle.dv_catalog.specs.Changes.{Change, changes_of, done_to, put}
+use Rattle.dv_core.specs.Statements.{next_changes, nothing_written}
+use Rattle.dv_core.specs.Writes.{insert_one}
+use Rattle.dv_views.specs.Placed.{stage_at}
 use Rattle.dv_match.specs.Parsing.{filter_in}
 use Rattle.dv_pipe.specs.StageParsing.{pipeline_of}
-use Rattle.dv_pipe.specs.Stages.{through}
+use Rattle.dv_pipe.specs.Stages.{Lists, stage, through}
 use Rattle.dv_sort.specs.Sorting.{stable}
 use Rattle.dv_catalog.specs.Scan.{scan}
-use Rattle.dv_catalog.specs.State.{Standing, Namespaces, collection, collection_of, documents_of, is_collection, is_view, without_view}
+use Rattle.dv_catalog.specs.State.{Collection, Standing, Namespaces, collection, collection_of, lists_of, documents_of, is_collection, is_view, without_view}
 use Rattle.dv_catalog.specs.State as stored
 use Rattle.dv_core.specs.State.{State, empty_state}
 use Rattle.dv_catalog.specs.StateLaws.{same_namespaces, get-insert, get-remove}
-use Rattle.dv_catalog.specs.Views.{created, dropped, made}
+use Rattle.dv_catalog.specs.Views.{created, dropped, made, reads_name}
 use Rattle.dv_command.specs.Asked.{ViewOn}
 use Rattle.dv_command.specs.Replies.{reply_of, drop_reply, view_stats_reply}
 use Rattle.dv_fields.specs.declared.refusal.Refusal.{Refusal}
-use Rattle.dv_fields.specs.declared.refusal.Refusal.TheVariants.{NamespaceExists, NamespaceNotFound}
-use Rattle.dv_core.specs.Examples.{holding, two, viewing, MarkExamples, ViewExamples}
+use Rattle.dv_fields.specs.declared.refusal.Refusal.TheVariants.{NamespaceExists, NamespaceNotFound, ReadByView}
+use Rattle.dv_path.specs.declared.direction.Direction.TheVariants.{Descending}
+use Rattle.dv_core.specs.Examples.{chained, holding, limiting, nesting, only, two, viewing, MarkExamples, ViewExamples}
 use Rattle.dv_core.specs.Find.{first_batch}
 use Rattle.dv_cursor.specs.Batch.{batch}
 use Rattle.dv_core.specs.Step.{answered, on_catalog, on_cursors, read_answer, replying}
-use Rattle.dv_core.proofs.Worked.{t_c, nothing_in, put_in}
+use Rattle.dv_core.proofs.Worked.{t_c, nothing_in, nothing_there, put_in}
 
 -- ---- what stands where
 
@@ -61,24 +70,30 @@ module _ (old : State) (namespace : List ℕ) (b : Bool) (there : is_collection 
   abbrev left_by : Bool → Result stored.State Refusal
   left_by c =
       if c then Ok (record old.catalog { namespaces = finite.remove old.catalog.namespaces namespace })
-      else if is_view namespace old.catalog.views then Ok (record old.catalog { views = without_view namespace old.catalog.views })
+      else if is_view namespace old.catalog.views then (if reads_name old.catalog.views namespace then Err ReadByView else Ok (record old.catalog { views = without_view namespace old.catalog.views }))
       else Err NamespaceNotFound
 
   drops : answered old (on_catalog old (replying (drop_reply namespace) (dropped namespace old.catalog))) ≡ answered old (on_catalog old (replying (drop_reply namespace) (left_by b)))
   drops = ap (λ (c : Bool). answered old (on_catalog old (replying (drop_reply namespace) (left_by c)))) there
 
--- a view of c without stages, and one of another collection
-abbrev over : List ℕ → Option ViewOn
-over source = Some (record { source = source; stages = [] })
+-- a view without stages
+abbrev on : List ℕ → Option ViewOn
+on source = Some (record { source = source; stages = [] })
 
--- the rows that c has
-shows : (old : State) (documents : List (List Field)) (session : ℕ) → documents_of t_c old.catalog.namespaces ≡ documents
-    → answered old (on_cursors old (first_batch session (codes "t.v") 101 false (scan no_members [] 0 0 (documents_of t_c old.catalog.namespaces)) old.cursors)) ≡ answered old (on_cursors old (first_batch session (codes "t.v") 101 false (scan no_members [] 0 0 documents) old.cursors))
-shows old documents session are = ap (λ (ds : List (List Field)). answered old (on_cursors old (first_batch session (codes "t.v") 101 false (scan no_members [] 0 0 ds) old.cursors))) are
+-- what a view makes of the documents that c has, in the reply to a find, and in that to a pipeline without stages
+module _ (name : List ℕ) (makes : List (List Field) → List (List Field)) (old : State) (documents : List (List Field)) (session : ℕ) (are : documents_of t_c old.catalog.namespaces ≡ documents) where
+  shows : answered old (on_cursors old (first_batch session name 101 false (scan no_members [] 0 0 (makes (documents_of t_c old.catalog.namespaces))) old.cursors))
+      ≡ answered old (on_cursors old (first_batch session name 101 false (scan no_members [] 0 0 (makes documents)) old.cursors))
+  shows = ap (λ (ds : List (List Field)). answered old (on_cursors old (first_batch session name 101 false (scan no_members [] 0 0 (makes ds)) old.cursors))) are
 
-shows_all : (old : State) (documents : List (List Field)) (session : ℕ) → documents_of t_c old.catalog.namespaces ≡ documents
-    → answered old (on_cursors old (first_batch session (codes "t.v") 101 false (documents_of t_c old.catalog.namespaces) old.cursors)) ≡ answered old (on_cursors old (first_batch session (codes "t.v") 101 false documents old.cursors))
-shows_all old documents session are = ap (λ (ds : List (List Field)). answered old (on_cursors old (first_batch session (codes "t.v") 101 false ds old.cursors))) are
+  shows_all : answered old (on_cursors old (first_batch session name 101 false (makes (documents_of t_c old.catalog.namespaces)) old.cursors)) ≡ answered old (on_cursors old (first_batch session name 101 false (makes documents) old.cursors))
+  shows_all = ap (λ (ds : List (List Field)). answered old (on_cursors old (first_batch session name 101 false (makes ds) old.cursors))) are
+
+abbrev all_of : List (List Field) → List (List Field)
+all_of documents = documents
+
+abbrev greatest_of : List (List Field) → List (List Field)
+greatest_of documents = take 1 (stable ((codes "_id" ∷ [], Descending) ∷ []) documents)
 
 abbrev bare : State
 bare = viewing empty_state
@@ -87,25 +102,49 @@ abbrev full : State
 full = viewing (holding two)
 
 pub views : ViewExamples
-unfolding framed element_spelling payload counted filter_in matches stable pipeline_of through batch
+unfolding framed element_spelling payload counted filter_in matches stable sort_key whole pipeline_of through stage batch
 views = record {
-  created = λ session. creates empty_state (codes "t.v") false (none_there (codes "t.v")) (over t_c);
-  read = λ session. creates bare t_c false (none_there t_c) (over (codes "t.d"));
+  created = λ session. creates empty_state (codes "t.v") false (none_there (codes "t.v")) (on t_c);
+  read = λ session. creates bare t_c false (none_there t_c) (on (codes "t.d"));
   collection = λ session. creates bare t_c false (none_there t_c) None;
-  itself = λ session. creates bare (codes "t.w") false (none_there (codes "t.w")) (over (codes "t.w"));
-  over_view = λ session. creates bare (codes "t.w") false (none_there (codes "t.w")) (over (codes "t.v"));
-  again = λ session. creates bare (codes "t.v") false (none_there (codes "t.v")) (over t_c);
+  itself = λ session. creates bare (codes "t.w") false (none_there (codes "t.w")) (on (codes "t.w"));
+  over_view = λ session. creates bare (codes "t.w") false (none_there (codes "t.w")) (on (codes "t.v"));
+  ninth = λ session. creates (chained empty_state) (codes "t.9") false (none_there (codes "t.9")) (on (codes "t.8"));
+  again = λ session. creates bare (codes "t.v") false (none_there (codes "t.v")) (on t_c);
   collection_again = λ session. creates (holding two) t_c true two_there None;
   written = λ session. refl;
-  empty = λ session. shows bare [] session (nothing_in t_c);
-  found = λ session. shows full two session (put_in two);
-  aggregated = λ session. shows_all full two session (put_in two);
+  empty = λ session. shows (codes "t.v") all_of bare [] session (nothing_in t_c);
+  found = λ session. shows (codes "t.v") all_of full two session (put_in two);
+  aggregated = λ session. shows_all (codes "t.v") all_of full two session (put_in two);
+  nested = λ session. shows (codes "t.w") greatest_of (nesting (holding two)) two session (put_in two);
+  read_dropped = λ session. drops (nesting empty_state) (codes "t.v") false (none_there (codes "t.v"));
   source_dropped = λ session. drops full t_c true two_there ∙ ap (λ (ns : Namespaces). answered full (on_catalog full (replying (drop_reply t_c) (Ok (record full.catalog { namespaces = ns }))))) put_and_gone;
   dropped = λ session. drops bare (codes "t.v") false (none_there (codes "t.v"));
   nothing_there = λ session. drops empty_state (codes "t.v") false (none_there (codes "t.v"));
 }
 
 -- ---- how they stand
+
+-- a stale view counts nothing of its share
+stale_counted : (all : List Share) → all_counted all (stale ∷ []) ≡ stale ∷ []
+stale_counted [] = refl
+stale_counted (share ∷ []) = refl
+stale_counted (share ∷ other ∷ rest) = refl
+
+-- a document comes into nothing, through both views
+five_put : next_changes t_c true (nothing_written empty_state.catalog.namespaces) (insert_one (only 5)) ≡ put (only 5) ∷ []
+unfolding payload framed element_spelling
+five_put = ap (λ (c : Collection). changes_of (done_to c (insert_one (only 5)))) (nothing_there t_c) ∙ refl
+
+abbrev counted_behind : List Change → Lists → Marks
+counted_behind changes lists = marks_counted t_c changes lists (limiting empty_state).catalog.views (live 0 ∷ live 0 ∷ [])
+
+five_passed : counted_behind (put (only 5) ∷ []) (λ name. []) ≡ live 2 ∷ live 2 ∷ []
+unfolding shares stage_at
+five_passed = refl
+
+five_counted : counted_behind (next_changes t_c true (nothing_written empty_state.catalog.namespaces) (insert_one (only 5))) (lists_of empty_state.catalog.namespaces) ≡ live 2 ∷ live 2 ∷ []
+five_counted = (λ i. counted_behind (five_put i) (λ name. nothing_in name i)) ∙ five_passed
 
 pub marks : MarkExamples
 unfolding framed element_spelling payload counted filter_in pipeline_of through
@@ -118,5 +157,9 @@ marks = record {
   read = refl;
   aggregated = refl;
   source_read = refl;
-  written = refl;
+  nested = refl;
+  below = refl;
+  created_over = rw (none_there (codes "t.w")) refl;
+  passed = five_counted;
+  written = stale_counted _;
 }

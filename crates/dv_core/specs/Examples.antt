@@ -10,6 +10,10 @@ use Rattle.dv_core.specs.declared.outcome.Outcome.TheVariants.{Reply, Wanting, N
 use Rattle.dv_catalog.specs.Marks.{Marks, live, stale}
 use Rattle.dv_catalog.specs.State.{with_documents}
 use Rattle.dv_fields.specs.declared.refusal.Refusal.TheVariants.{BadValue, DuplicateKey, OnView}
+use Rattle.dv_path.specs.declared.direction.Direction.TheVariants.{Descending}
+use Rattle.dv_pipe.specs.declared.stage.Stage.{Stage}
+use Rattle.dv_pipe.specs.declared.stage.Stage.TheVariants.{Limit, Sort}
+use Rattle.dv_views.specs.Forms.{ViewForm}
 use Rattle.dv_core.specs.Load.{loaded, namespace_in}
 use Rattle.dv_core.specs.Marks.{marks_behind_all}
 use Rattle.dv_core.specs.State.{State, empty_state, standing}
@@ -227,9 +231,32 @@ pub record RefusalExamples : Type 0 where
 abbrev pub two : List (List Field)
 two = only 1 ∷ only 2 ∷ []
 
--- with a view v over c, which has no stages, and has counted nothing
+-- a view over what stands under another name, through stages
+abbrev pub over : List ℕ → List ℕ → List Stage → ViewForm
+over name source stages = record { name = codes "t." ++ name; source = codes "t." ++ source; stages = stages }
+
+-- with these views, each of which has counted nothing
+abbrev pub with_views : List ViewForm → State → State
+with_views views state = record state { catalog = record state.catalog { views = views }; marks = map (λ v. live 0) views }
+
+-- with a view v over c, which has no stages
 abbrev pub viewing : State → State
-viewing state = record state { catalog = record state.catalog { views = record { name = codes "t.v"; source = codes "t.c"; stages = [] } ∷ [] }; marks = live 0 ∷ [] }
+viewing state = with_views (over (codes "v") (codes "c") [] ∷ []) state
+
+-- with a view v of the documents of c from the greatest `_id` on, and a view w of its first row
+abbrev pub nesting : State → State
+nesting state = with_views (over (codes "v") (codes "c") (Sort ((codes "_id" ∷ [], Descending) ∷ []) ∷ []) ∷ over (codes "w") (codes "v") (Limit 1 ∷ []) ∷ []) state
+
+-- with a view v of the first two documents of c, and a view w of its first row
+abbrev pub limiting : State → State
+limiting state = with_views (over (codes "v") (codes "c") (Limit 2 ∷ []) ∷ over (codes "w") (codes "v") (Limit 1 ∷ []) ∷ []) state
+
+-- with eight views, each over the one before, the first over c
+abbrev pub chained : State → State
+chained state =
+    with_views
+    (over (codes "1") (codes "c") [] ∷ over (codes "2") (codes "1") [] ∷ over (codes "3") (codes "2") [] ∷ over (codes "4") (codes "3") [] ∷ over (codes "5") (codes "4") [] ∷ over (codes "6") (codes "5") []
+    ∷ over (codes "7") (codes "6") [] ∷ over (codes "8") (codes "7") [] ∷ []) state
 
 abbrev pub create : List ℕ → List Field
 create name = on (codes "t") ((codes "create", string name) ∷ [])
@@ -280,9 +307,12 @@ pub record ViewExamples : Type 0 where
   -- a view reads c, which isn't there; so no view may stand there, but a collection may
   pub read : Does (viewing empty_state) (create_view (codes "c") (codes "d")) (refusal 904 (codes "ReadByView")) (viewing empty_state)
   pub collection : Does (viewing empty_state) (create (codes "c")) done (viewing (holding []))
-  -- a view over itself, one over a view, and one where a view stands
+  -- a view over itself, one over a view, and one over the eighth of a chain
   pub itself : Does (viewing empty_state) (create_view (codes "w") (codes "w")) (refusal 904 (codes "ReadByView")) (viewing empty_state)
-  pub over_view : Does (viewing empty_state) (create_view (codes "w") (codes "v")) (refusal 902 (codes "OnView")) (viewing empty_state)
+  pub over_view : Does (viewing empty_state) (create_view (codes "w") (codes "v")) done
+      (standing (live 0 ∷ []) (with_views (over (codes "v") (codes "c") [] ∷ over (codes "w") (codes "v") [] ∷ []) empty_state))
+  pub ninth : Does (chained empty_state) (create_view (codes "9") (codes "8")) (refusal 903 (codes "LimitReached")) (chained empty_state)
+  -- a view where a view stands
   pub again : Does (viewing empty_state) (create_view (codes "v") (codes "c")) (refusal 48 (codes "NamespaceExists")) (viewing empty_state)
   -- a collection where a collection stands
   pub collection_again : Does (holding two) (create (codes "c")) (refusal 48 (codes "NamespaceExists")) (holding two)
@@ -292,6 +322,10 @@ pub record ViewExamples : Type 0 where
   pub empty : Does (viewing empty_state) (find_in (codes "v")) (find_reply (codes "t.v") []) (viewing empty_state)
   pub found : Does (viewing (holding two)) (find_in (codes "v")) (find_reply (codes "t.v") two) (viewing (holding two))
   pub aggregated : Does (viewing (holding two)) (aggregate (codes "v")) (find_reply (codes "t.v") two) (viewing (holding two))
+  -- a view over it has what its stages make of those rows
+  pub nested : Does (nesting (holding two)) (find_in (codes "w")) (find_reply (codes "t.w") (only 2 ∷ [])) (nesting (holding two))
+  -- it can't be dropped while a view reads it
+  pub read_dropped : Does (nesting empty_state) (drop (codes "v")) (refusal 904 (codes "ReadByView")) (nesting empty_state)
   pub source_dropped : Does (viewing (holding two)) (drop (codes "c")) (drop_reply (codes "t.c")) (viewing empty_state)
   pub dropped : Does (viewing empty_state) (drop (codes "v")) (drop_reply (codes "t.v")) (standing (live 0 ∷ []) empty_state)
   pub nothing_there : Does empty_state (drop (codes "v")) (refusal 26 (codes "NamespaceNotFound")) empty_state
@@ -323,7 +357,14 @@ pub record MarkExamples : Type 0 where
   pub read : Marking (struck (holding two)) (find_in (codes "v")) (live 0 ∷ [])
   pub aggregated : Marking (struck (holding two)) (aggregate (codes "v")) (live 0 ∷ [])
   pub source_read : Marking (struck (holding two)) (find_in (codes "c")) (stale ∷ [])
-  -- it counts no work until then
+  -- so are stale views that it reads, and not those that read it
+  pub nested : Marking (standing (stale ∷ stale ∷ []) (nesting (holding two))) (find_in (codes "w")) (live 0 ∷ live 0 ∷ [])
+  pub below : Marking (standing (stale ∷ stale ∷ []) (nesting (holding two))) (find_in (codes "v")) (live 0 ∷ stale ∷ [])
+  -- a new view reads what it stands over
+  pub created_over : Marking (struck empty_state) (create_view (codes "w") (codes "v")) (live 0 ∷ live 0 ∷ [])
+  -- a change passes from view to view: one comes to the stage of v, which hands one on, and this to that of w, which hands one on
+  pub passed : Marking (limiting empty_state) (insert (only 5 ∷ [])) (live 2 ∷ live 2 ∷ [])
+  -- a stale view counts no work
   pub written : Marking (struck empty_state) (insert (only 5 ∷ [])) (stale ∷ [])
 
 -- what is told of want of memory

@@ -48,4 +48,4 @@ found session asked state cursors =
 -- what an aggregate replies: the rows of its pipeline
 abbrev pub gathered : ℕ → Aggregate → State → Cursors → Result (List Field × Cursors) Refusal
 gathered session asked state cursors =
-    aggregated asked.stages asked.namespace state >>= λ rows. first_batch session asked.namespace asked.batch_size false rows cursors
+    first_batch session asked.namespace asked.batch_size false (aggregated asked.stages asked.namespace state) cursors

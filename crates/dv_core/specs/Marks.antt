@@ -1,13 +1,14 @@
 -- How views stand behind a command: what each counted of its work, and for which memory was wanting.
-use Rattle.std.specs.Prelude.{◌≡◌, ◌⊎◌, ℕ, Bool, true, false, List, [], ◌∷◌, take, Option, Some, None, Result, Ok, Err, if◌then◌else◌}
+use Rattle.std.specs.Prelude.{◌≡◌, ◌⊎◌, ℕ, Bool, true, false, List, [], ◌∷◌, take, Result, Ok, Err, if◌then◌else◌}
 use Rattle.dv_command.specs.Asked.{Asked, find, aggregate, create, drop, explain}
 use Rattle.dv_command.specs.Asked as asking
 use Rattle.dv_catalog.specs.Changes.{Change, Statement}
-use Rattle.dv_catalog.specs.Marks.{AreMarkedBy, AreMarkedByDrop, Marks, all_gone, marks_counted, marks_made, marks_read, marks_without}
-use Rattle.dv_catalog.specs.State.{Namespaces, ViewForm, documents_of, is_collection, is_view, lists_of}
+use Rattle.dv_catalog.specs.Marks.{AreMarkedBy, AreMarkedByDrop, ArePartlyRead, Marks, all_gone, marks_counted, marks_made, marks_read, marks_without, names_of_new}
+use Rattle.dv_catalog.specs.State.{Namespaces, documents_of, is_collection, is_view, lists_of}
 use Rattle.dv_catalog.specs.State as stored
-use Rattle.dv_catalog.specs.Views.{created, dropped, looks_into_view}
+use Rattle.dv_catalog.specs.Views.{created, dropped}
 use Rattle.dv_fields.specs.declared.refusal.Refusal.{Refusal}
+use Rattle.dv_views.specs.Forms.{ViewForm, names_read}
 use Rattle.dv_core.specs.State.{State}
 use Rattle.dv_core.specs.Statements.{AreCut, Write, Written, is_due, next_changes, nothing_written, with_all, with_next}
 use Rattle.dv_core.specs.Writes.{write_by}
@@ -40,16 +41,17 @@ module _ (namespace : List ℕ) (ordered : Bool) (views : List ViewForm) where
 
 -- ---- a command
 
--- the namespace whose rows it reads, where it reads rows: a stale view is made anew then
-abbrev pub read_by : Asked → List ViewForm → Option (List ℕ)
-read_by (find asked) views = Some asked.namespace
-read_by (aggregate asked) views = if looks_into_view asked.stages asked.namespace views then None else Some asked.namespace
-read_by (explain asked) views = Some asked.find.namespace
-read_by asked views = None
+-- the names under which it reads rows: stale views that are needed for these are made anew then
+abbrev pub read_by : Asked → List (List ℕ)
+read_by (find asked) = asked.namespace ∷ []
+read_by (aggregate asked) = names_read asked.stages asked.namespace
+read_by (explain asked) = asked.find.namespace ∷ []
+read_by (create asked) = names_of_new asked.view
+read_by asked = []
 
-abbrev pub marks_where_read : Option (List ℕ) → State → Marks
-marks_where_read None old = old.marks
-marks_where_read (Some namespace) old = marks_read namespace old.catalog.views old.marks
+abbrev pub marks_where_read : List (List ℕ) → State → Marks
+marks_where_read [] old = old.marks
+marks_where_read (name ∷ names) old = marks_read (name ∷ names) old.catalog.views old.marks
 
 -- so, where something is made, and else as they stood
 abbrev pub marks_where_made : Result stored.State Refusal → Marks → Marks → Marks
@@ -70,9 +72,9 @@ marks_of_write write old =
 -- behind a command that is carried out, where memory is wanting for no view
 abbrev pub marks_behind : State → Asked → Marks
 marks_behind old (asking.write asked) = marks_of_write (write_by asked) old
-marks_behind old (create asked) = marks_where_made (created asked.namespace asked.view old.catalog) (marks_made asked.view old.marks) old.marks
+marks_behind old (create asked) = marks_where_made (created asked.namespace asked.view old.catalog) (marks_made asked.view old.catalog.views old.marks) old.marks
 marks_behind old (drop asked) = marks_where_made (dropped asked.namespace old.catalog) (marks_of_drop asked.namespace old.catalog old.marks) old.marks
-marks_behind old asked = marks_where_read (read_by asked old.catalog.views) old
+marks_behind old asked = marks_where_read (read_by asked) old
 
 abbrev pub AreMarkedByWrite : Bool → Write → State → Marks → Type 0
 AreMarkedByWrite true write old marks = marks ≡ old.marks
@@ -97,7 +99,8 @@ abbrev pub AreMarkedAll : State → Result Asked Refusal → Marks → Type 0
 AreMarkedAll old (Ok asked) marks = AreMarked old asked marks
 AreMarkedAll old (Err refusal) marks = marks ≡ old.marks
 
--- behind one that is refused for want of memory: nothing changed, but that a stale view which it reads may have been made anew before
+-- behind one that is refused for want of memory: nothing changed, or of the stale views that are needed for what it reads some were made
+-- anew before
 abbrev pub AreMarkedForWant : State → Result Asked Refusal → Marks → Type 0
-AreMarkedForWant old (Ok asked) marks = (marks ≡ old.marks) ⊎ (marks ≡ marks_where_read (read_by asked old.catalog.views) old)
+AreMarkedForWant old (Ok asked) marks = (marks ≡ old.marks) ⊎ ArePartlyRead (read_by asked) old.catalog.views old.marks marks
 AreMarkedForWant old (Err refusal) marks = marks ≡ old.marks

@@ -150,7 +150,7 @@ TellsOfWant (Reply reply) = ⊥
 TellsOfWant (Wanting reply) = Unit {0}
 TellsOfWant NoReply = Unit {0}
 
--- nothing changed, but that a stale view which a command reads may have been made anew
+-- nothing changed, but that of the stale views which are needed for what a command reads some may have been made anew
 abbrev pub IsLeft : State → Result Asked Refusal → State → Type 0
 IsLeft old asked new = (new.catalog ≡ old.catalog) × (new.cursors ≡ old.cursors) × AreMarkedForWant old asked new.marks
 

@@ -3,9 +3,11 @@ use Rattle.std.specs.Prelude.{◌≡◌, ◌≢◌, ◌⊎◌, ℕ, List, Result
 use Rattle.dv_bson.specs.Tree.{Field}
 use Rattle.dv_fields.specs.declared.refusal.Refusal.{Refusal}
 use Rattle.dv_fields.specs.declared.refusal.Refusal.TheVariants.{WantOfMemory}
+use Rattle.dv_command.specs.Asked.{Asked}
 use Rattle.dv_command.specs.Replies.{refusal_reply}
-use Rattle.dv_catalog.specs.Marks.{Marks}
+use Rattle.dv_catalog.specs.Marks.{ArePartlyRead, Marks}
 use Rattle.dv_core.specs.Load.{IsLoaded, loaded}
+use Rattle.dv_core.specs.Marks.{marks_where_read, read_by}
 use Rattle.dv_core.specs.State.{State}
 use Rattle.dv_core.specs.declared.outcome.Outcome.{Outcome}
 use Rattle.dv_core.specs.declared.outcome.Outcome.TheVariants.{Reply, Wanting, NoReply}
@@ -38,10 +40,10 @@ Ends {S} defined old outcome new =
     ((done : List Field × S) × (defined ≡ Ok done) × (new ≡ done.1) × TellsOrNot done.0 outcome)
     ⊎ ((refusal : Refusal) × ((defined ≡ Err refusal) ⊎ (refusal ≡ WantOfMemory)) × Refuses refusal outcome × (new ≡ old))
 
--- how views stand behind a command that reads: as behind what it reads, or as they stood, where memory is wanting for it
-abbrev pub StandRead : {B : Type 0} → Marks → Marks → Result B Refusal → Marks → Type 0
-StandRead read before (Ok x) after = after ≡ read
-StandRead read before (Err refusal) after = (after ≡ read) ⊎ ((refusal ≡ WantOfMemory) × (after ≡ before))
+-- how views stand behind a command that reads: as behind what it reads, or, where memory is wanting, with some made anew
+abbrev pub StandRead : {B : Type 0} → Asked → State → Result B Refusal → Marks → Type 0
+StandRead asked old (Ok x) after = after ≡ marks_where_read (read_by asked) old
+StandRead asked old (Err refusal) after = (after ≡ marks_where_read (read_by asked) old) ⊎ ((refusal ≡ WantOfMemory) × ArePartlyRead (read_by asked) old.catalog.views old.marks after)
 
 -- a document is loaded, or it is refused, if only for want of memory; then all is left as it is
 abbrev pub Loads : {B : Type 0} → List ℕ → List Field → State → Result B Refusal → State → Type 0

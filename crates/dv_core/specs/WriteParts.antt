@@ -14,8 +14,9 @@ use Rattle.dv_core.specs.declared.next.Next.{Next}
 use Rattle.dv_core.specs.declared.next.Next.TheVariants.{Due, Ended, Cut}
 use Rattle.dv_catalog.specs.declared.stopped.Stopped.{Stopped}
 use Rattle.dv_catalog.specs.Marks.{AreMarkedBy, Marked, Marks}
-use Rattle.dv_catalog.specs.State.{Namespaces, ViewForm, is_view, lists_of}
+use Rattle.dv_catalog.specs.State.{Namespaces, is_view, lists_of}
 use Rattle.dv_core.specs.Marks.{AreMarkedByCut, AreMarkedByEach}
+use Rattle.dv_views.specs.Forms.{ViewForm}
 use Rattle.dv_core.specs.State.{State, marked}
 use Rattle.dv_catalog.specs.Changes.{Statement}
 use Rattle.dv_core.specs.StepParts.{Refuses}

@@ -32,8 +32,8 @@ ghost use Rattle.dv_core.specs.Statements.{Write, Written, carry_out, IsCut};
 ghost use Rattle.dv_core.specs.Step.{IsLeft, MemoryStep, counted_step, step, write_of, makes, moves, indexes, end_session};
 ghost use Rattle.dv_core.specs.Storable.{storable, is_within_limits};
 
-/// A command that is told as refused, with `ok: 0`, changed nothing, be it for want of memory; but a stale view that it
-/// reads may have been made anew.
+/// A command that is told as refused, with `ok: 0`, changed nothing, be it for want of memory; but stale views that are
+/// needed for what it reads may have been made anew.
 pub fn a_refused_command_changes_nothing()
     ensures plain { (old new : State) (session : ℕ) (command : Command) (reply : List Field) → MemoryStep old session command (Reply reply) new
         → value_under (codes "ok") reply ≡ Some (int32 (pos 0)) → IsLeft old (asked_by command) new }
@@ -164,10 +164,9 @@ pub fn a_cursors_batches_are_a_front()
     ensures find { (before : List Move) (session : ℕ) (command : Command) (asked : Find) → asked_by command ≡ Ok (find asked)
         → let state = state_behind_all before empty_state in
         Shows session asked.namespace asked.batch_size asked.single_batch (scan asked.filter asked.sort asked.skip asked.limit (rows_of asked.namespace state.catalog)) state (step state session command) }
-    ensures pipeline { (before : List Move) (session : ℕ) (command : Command) (asked : Aggregate) (rows : List (List Field)) → asked_by command ≡ Ok (aggregate asked)
+    ensures pipeline { (before : List Move) (session : ℕ) (command : Command) (asked : Aggregate) → asked_by command ≡ Ok (aggregate asked)
         → let state = state_behind_all before empty_state in
-        aggregated asked.stages asked.namespace state.catalog ≡ Ok rows
-        → Shows session asked.namespace asked.batch_size false rows state (step state session command) }
+        Shows session asked.namespace asked.batch_size false (aggregated asked.stages asked.namespace state.catalog) state (step state session command) }
     ensures replies { (state : State) (session id : ℕ) (command : Command) (asked : GetMore) (rows : List (List Field)) → asked_by command ≡ Ok (get_more asked) → asked.id ≡ pos id
         → rows_to_come session asked.namespace id state.cursors ≡ Some rows
         → (step state session command).reply ≡ next_batch_reply asked.namespace (if tells_last session id (carries session command) state then 0 else id) (map document_of (rows_told session id (carries session command) state)) }

@@ -22,8 +22,8 @@ use std::alloc::Global;
 use std::marker::Model;
 
 /// All that commands read and change: collections, and views, each of which keeps at every moment the rows of its pipeline
-/// over the collections' documents, or, where memory was wanting for them, none. And the cursors of all sessions, with the
-/// rows that they have still to tell.
+/// over documents of collections and rows of older views, or, where memory was wanting for them, none. And the cursors of all
+/// sessions, with the rows that they have still to tell.
 #[derive(Debug, Drop)]
 pub struct Store {
     alloc: Global,
@@ -47,8 +47,8 @@ impl Model for Store {
 impl Store {
     ghost use Rattle.std.specs.Prelude.{◌≡◌, [], Ok, IfErr, OnErr, OnOk};
     ghost use Rattle.dv_bson.specs.declared.fault.BsonFault.TheVariants.{NoMemory};
-    ghost use Rattle.dv_catalog.specs.Marks.{AreMarkedByDrop, marks_made};
-    ghost use Rattle.dv_catalog.specs.Parts.{StandSo};
+    ghost use Rattle.dv_catalog.specs.Marks.{AreMarkedByDrop, marks_made, names_of_new};
+    ghost use Rattle.dv_catalog.specs.Parts.{StandMade, StandSo};
     ghost use Rattle.dv_catalog.specs.Views as views;
     ghost use Rattle.dv_command.specs.declared.command.Command.TheVariants.{Invalid};
     ghost use Rattle.dv_fields.specs.Refusals.{UnlessWanting};
@@ -59,7 +59,6 @@ impl Store {
     ghost use Rattle.dv_core.specs.Indexes as indexing;
     ghost use Rattle.dv_core.specs.More as more;
     ghost use Rattle.dv_core.specs.Load as loading;
-    ghost use Rattle.dv_core.specs.Marks.{marks_where_read, read_by};
     ghost use Rattle.dv_core.specs.State.{empty_state, marked, standing};
     ghost use Rattle.dv_core.specs.Stats as telling;
     ghost use Rattle.dv_core.specs.Step.{MemoryStep, TellsOfWant, end_session, replying};
@@ -122,7 +121,7 @@ impl Store {
     fn find(&mut self, session: u32, find: Find) -> Result<Document, Refusal>
         ensures catalog { self.new.catalog ≡ self.old.catalog }
         ensures reply { Gives (finding.found session (find_seen find) self.old.catalog self.old.cursors) self.old.cursors result self.new.cursors }
-        ensures marks { StandRead (marks_where_read (read_by (asking.find (find_seen find)) self.old.catalog.views) self.old) self.old.marks result self.new.marks }
+        ensures marks { StandRead (asking.find (find_seen find)) self.old result self.new.marks }
     {
         let rows = self.catalog.find(&find)?;
         let Find {
@@ -144,7 +143,7 @@ impl Store {
     fn aggregate(&mut self, session: u32, aggregate: Aggregate) -> Result<Document, Refusal>
         ensures catalog { self.new.catalog ≡ self.old.catalog }
         ensures reply { Gives (finding.gathered session (aggregate_seen aggregate) self.old.catalog self.old.cursors) self.old.cursors result self.new.cursors }
-        ensures marks { StandRead (marks_where_read (read_by (asking.aggregate (aggregate_seen aggregate)) self.old.catalog.views) self.old) self.old.marks result self.new.marks }
+        ensures marks { StandRead (asking.aggregate (aggregate_seen aggregate)) self.old result self.new.marks }
     {
         let rows = self.catalog.aggregate(&aggregate)?;
         let Aggregate {
@@ -182,7 +181,7 @@ impl Store {
     fn create(&mut self, create: Create) -> Result<Document, Refusal>
         ensures cursors { self.new.cursors ≡ self.old.cursors }
         ensures reply { let asked = create_seen create in Gives (replying (replies.reply_of []) (views.created asked.namespace asked.view self.old.catalog)) self.old.catalog result self.new.catalog }
-        ensures marks { StandSo (λ marks. marks ≡ marks_made (create_seen create).view self.old.marks) self.old.marks result self.new.marks }
+        ensures marks { let view = (create_seen create).view in StandMade (names_of_new view) (marks_made view self.old.catalog.views self.old.marks) (marked self.old) result self.new.marks }
     {
         // Behind the change nothing may want memory.
         let reply = reply_of(Document::new(self.alloc))?;
@@ -233,7 +232,7 @@ impl Store {
     fn explain(&mut self, asked: Explain) -> Result<Document, Refusal>
         ensures same { standing self.old.marks self.new ≡ self.old }
         ensures reply { UnlessWanting (λ reply. reply) (Ok (indexing.find_explained (explain_seen asked) self.old.catalog)) result }
-        ensures marks { StandRead (marks_where_read (read_by (asking.explain (explain_seen asked)) self.old.catalog.views) self.old) self.old.marks result self.new.marks }
+        ensures marks { StandRead (asking.explain (explain_seen asked)) self.old result self.new.marks }
     {
         let Explain { find } = asked;
         let told = self.catalog.explain(&find.namespace, &find.filter)?;

@@ -252,16 +252,17 @@ fn rows_are_kept_behind_a_match_a_sort_and_a_limit(rt: HostRuntime) -> Result<()
     turns.push(SimpleTurn::Match(matching))?;
     turns.push(SimpleTurn::Sort(sort))?;
     turns.push(SimpleTurn::Limit(LimitTurn::new(alloc, 2)))?;
+    let mut told = Vec::new(alloc);
     let live = Live::new(alloc, turns);
-    let live = live.take(Input::Left, put_row(alloc, 1, 1, 1)?)?;
+    let live = live.take(Input::Left, put_row(alloc, 1, 1, 1)?, &mut told)?;
     assert_eq!(rt; live.ticks(), 6);
-    let live = live.take(Input::Left, put_row(alloc, 2, 1, 2)?)?;
+    let live = live.take(Input::Left, put_row(alloc, 2, 1, 2)?, &mut told)?;
     assert_eq!(rt; live.ticks(), 12);
-    let live = live.take(Input::Left, put_row(alloc, 3, 1, 3)?)?;
+    let live = live.take(Input::Left, put_row(alloc, 3, 1, 3)?, &mut told)?;
     assert_eq!(rt; live.ticks(), 19);
-    let live = live.take(Input::Left, put_row(alloc, 4, 0, 4)?)?;
+    let live = live.take(Input::Left, put_row(alloc, 4, 0, 4)?, &mut told)?;
     assert_eq!(rt; live.ticks(), 20);
-    let live = live.take(Input::Left, put_row(alloc, 3, 1, 0)?)?;
+    let live = live.take(Input::Left, put_row(alloc, 3, 1, 0)?, &mut told)?;
     assert_eq!(rt; live.ticks(), 29);
     assert_eq!(rt; numbers(alloc, &live)?.as_slice(), [2, 1].as_slice());
     Ok(())
@@ -274,12 +275,13 @@ fn a_row_comes_back_behind_a_sort_and_a_limit(rt: HostRuntime) -> Result<(), Fai
     let mut turns = Vec::new(alloc);
     turns.push(SimpleTurn::Sort(sort))?;
     turns.push(SimpleTurn::Limit(LimitTurn::new(alloc, 2)))?;
+    let mut told = Vec::new(alloc);
     let live = Live::new(alloc, turns);
-    let live = live.take(Input::Left, put_row(alloc, 1, 1, 10)?)?;
-    let live = live.take(Input::Left, put_row(alloc, 2, 1, 20)?)?;
-    let live = live.take(Input::Left, put_row(alloc, 3, 1, 30)?)?;
+    let live = live.take(Input::Left, put_row(alloc, 1, 1, 10)?, &mut told)?;
+    let live = live.take(Input::Left, put_row(alloc, 2, 1, 20)?, &mut told)?;
+    let live = live.take(Input::Left, put_row(alloc, 3, 1, 30)?, &mut told)?;
     assert_eq!(rt; live.ticks(), 11);
-    let live = live.take(Input::Left, put_row(alloc, 1, 1, 15)?)?;
+    let live = live.take(Input::Left, put_row(alloc, 1, 1, 15)?, &mut told)?;
     assert_eq!(rt; live.ticks(), 20);
     assert_eq!(rt; numbers(alloc, &live)?.as_slice(), [15, 20].as_slice());
     Ok(())

@@ -7,30 +7,15 @@ use Rattle.std.specs.Option.{option_copied, option_map}
 use Rattle.std.specs.Str.{bytes_eq}
 use Rattle.std.specs.String.{string_bytes, string_eq}
 use Rattle.std.specs.declared.string.String.{String}
-use Rattle.dv_pipe.specs.Stages.{Lists, is_read}
-use Rattle.dv_pipe.specs.declared.stage.Stage.{Stage}
-use Rattle.dv_views.specs.Seen.{seen}
-use Rattle.dv_views.specs.Views.{AreNamedApart, Body, View, Views, has_name, has_view, made_anew, named, new_body, new_view, reads_name, reads_view, refreshed, view_named, without}
-
--- an entry of the map
-abbrev pub Entries : Type 0 → Type 0
-Entries Y = List (String Y × Body)
+use Rattle.dv_pipe.specs.Stages.{is_read}
+use Rattle.dv_views.specs.Body.{Body}
+use Rattle.dv_views.specs.Older.{Entries, is_called, views}
+use Rattle.dv_views.specs.Seen.{named, seen}
+use Rattle.dv_views.specs.Views.{AreNamedApart, View, Views, has_name, has_view, is_stale, reads_name, view_named, without}
 
 there-met : (b : Bool) (w : Body) (s : Option Body) (r : Bool) → r ≡ is_some s → b || r ≡ is_some (cond b (Some w) s)
 there-met true w s r rest = refl
 there-met false w s r rest = rest
-
-absent : (b : Bool) (w : Body) (s : Option Body) → cond b (Some w) s ≡ None → (b ≡ false) × (s ≡ None)
-absent true w s e = absurd cc
-absent false w s e = (refl, e)
-
-found-here : (b : Bool) (w old : Body) (s : Option Body) → cond b (Some w) s ≡ Some old → b ≡ true → w ≡ old
-found-here true w old s e here = cc
-found-here false w old s e here = absurd cc
-
-found-later : (b : Bool) (w old : Body) (s : Option Body) → cond b (Some w) s ≡ Some old → b ≡ false → s ≡ Some old
-found-later true w old s e away = absurd cc
-found-later false w old s e away = e
 
 found-met : (name n : List ℕ) (w : Body) (b : Bool) (s : Option Body) (r : Option View) → (b ≡ true → name ≡ n) → option_map (named name) s ≡ r → option_map (named name) (cond b (Some w) s) ≡ cond b (Some (named n w)) r
 found-met name n w true s r same rest = ap (λ m. Some (named m w)) (same refl)
@@ -45,13 +30,6 @@ no-some None e = refl
 no-some (Some w) e = absurd cc
 
 module _ {Y : Type 0} where
-  abbrev pub views : Entries Y → Views
-  views es = map seen es
-
-  -- what a look-up by a name asks of a key
-  abbrev pub is_called : List ℕ → String Y → Bool
-  is_called name k = bytes_eq name (string_bytes k)
-
   -- ---- looking up
 
   pub found_seen : (name : List ℕ) (es : Entries Y) → option_map (named name) (lookup (is_called name) es) ≡ view_named name (views es)
@@ -71,9 +49,9 @@ module _ {Y : Type 0} where
   read_seen namespace [] = refl
   read_seen namespace (e ∷ es) = ap (λ b. is_read e.1.stages e.1.source namespace || b) (read_seen namespace es)
 
-  pub over_seen : (source : List ℕ) (stages : List Stage) (es : Entries Y) → list_any (λ k. is_read stages source (string_bytes k)) (keys_of es) ≡ reads_view (views es) source stages
-  over_seen source stages [] = refl
-  over_seen source stages (e ∷ es) = ap (λ b. is_read stages source (string_bytes e.0) || b) (over_seen source stages es)
+  pub stale_seen : (es : Entries Y) → list_any (λ w. is_stale w.mark) (values_of es) ≡ list_any (λ v. is_stale v.mark) (views es)
+  stale_seen [] = refl
+  stale_seen (e ∷ es) = ap (λ b. is_stale e.1.mark || b) (stale_seen es)
 
   -- ---- names
 
@@ -111,60 +89,8 @@ module _ {Y : Type 0} where
   taken_out name (e ∷ es) apart =
       out-met name (is_called name e.0) e es (remove_entry (is_called name) es) (λ here. none-out name es (others name (string_bytes e.0) es here apart.0)) (taken_out name es apart.1)
 
-  -- ---- writing
-
-  none-anew : (name : List ℕ) (lists : Lists) (es : Entries Y) → AreOthers name es → refreshed name lists (views es) ≡ views es
-  none-anew name lists [] h = refl
-  none-anew name lists (e ∷ es) h = (λ i. cond (h.0 i) (made_anew lists (seen e)) (seen e) ∷ refreshed name lists (views es)) ∙ ap (λ vs. seen e ∷ vs) (none-anew name lists es h.1)
-
-  pub anew_absent : (name : List ℕ) (lists : Lists) (es : Entries Y) → lookup (is_called name) es ≡ None → refreshed name lists (views es) ≡ views es
-  anew_absent name lists es none = none-anew name lists es (all-others es none)
-    where
-      all-others : (fs : Entries Y) → lookup (is_called name) fs ≡ None → AreOthers name fs
-      all-others [] e = tt
-      all-others (f ∷ fs) e = let p = absent (is_called name f.0) f.1 (lookup (is_called name) fs) e in (p.0, all-others fs p.1)
-
-  module _ (name : List ℕ) (lists : Lists) (old new : Body) (made : (n : List ℕ) → named n new ≡ made_anew lists (named n old)) where
-    anew-met : (b : Bool) (e : String Y × Body) (es rest : Entries Y) → (b ≡ true → refreshed name lists (views es) ≡ views es) → (b ≡ true → e.1 ≡ old) → (b ≡ false → refreshed name lists (views es) ≡ views rest)
-        → cond b (made_anew lists (seen e)) (seen e) ∷ refreshed name lists (views es) ≡ views (cond b ((e.0, new) ∷ es) (e ∷ rest))
-    anew-met true e es rest only was same = λ i. (ap (λ w. made_anew lists (named (string_bytes e.0) w)) (was refl) ∙ sym (made (string_bytes e.0))) i ∷ only refl i
-    anew-met false e es rest only was same = ap (λ vs. seen e ∷ vs) (same refl)
-
-    pub anew_written : (es : Entries Y) → AreNamedApart (views es) → lookup (is_called name) es ≡ Some old → refreshed name lists (views es) ≡ views (set_value (is_called name) es new)
-    unfolding IsDistinct
-    anew_written [] apart e = absurd cc
-    anew_written (e ∷ es) apart there =
-        anew-met (is_called name e.0) e es (set_value (is_called name) es new)
-        (λ here. none-anew name lists es (others name (string_bytes e.0) es here apart.0))
-        (found-here (is_called name e.0) e.1 old (lookup (is_called name) es) there)
-        (λ away. anew_written es apart.1 (found-later (is_called name e.0) e.1 old (lookup (is_called name) es) there away))
-
-  same-met : (test : Bool) (e : String Y × Body) (old : Body) (es rest : Entries Y) (s : Option Body) → cond test (Some e.1) s ≡ Some old → (s ≡ Some old → rest ≡ es) → cond test ((e.0, old) ∷ es) (e ∷ rest) ≡ e ∷ es
-  same-met true e old es rest s there same = let was : e.1 ≡ old = cc in ap (λ w. (e.0, w) ∷ es) (sym was)
-  same-met false e old es rest s there same = ap (λ fs. e ∷ fs) (same there)
-
-  -- writing what is there changes nothing
-  pub written_same : (name : List ℕ) (old : Body) (es : Entries Y) → lookup (is_called name) es ≡ Some old → set_value (is_called name) es old ≡ es
-  written_same name old [] e = refl
-  written_same name old (e ∷ es) there = same-met (is_called name e.0) e old es (set_value (is_called name) es old) (lookup (is_called name) es) there (written_same name old es)
-
   -- ---- adding
 
   pub seen_last : (es : Entries Y) (e : String Y × Body) → views (es ++ e ∷ []) ≡ views es ++ seen e ∷ []
   seen_last [] e = refl
   seen_last (f ∷ es) e = ap (λ vs. seen f ∷ vs) (seen_last es e)
-
--- what is added
-pub new_seen : (k name source : List ℕ) (w : Body) (stages : List Stage) (lists : Lists) → k ≡ name → w ≡ new_body source stages lists → named k w ≡ new_view name source stages lists
-new_seen k name source w stages lists called is = λ i. named (called i) (is i)
-
--- ---- the map after a view was asked to make its rows anew
-
-module _ {Y X E : Type 0} (name : List ℕ) (es left : Entries Y) (old new : Body) (written : left ≡ set_value (is_called name) es new) (there_is : lookup (is_called name) es ≡ Some old) where
-  pub anew_made : (lists : Lists) (r : Result X E) → AreNamedApart (views es) → OnOk r ((n : List ℕ) → named n new ≡ made_anew lists (named n old)) → OnOk r (views left ≡ refreshed name lists (views es))
-  anew_made lists (Ok x) apart made = ap views written ∙ sym (anew_written name lists old new made es apart there_is)
-  anew_made lists (Err e) apart made = tt
-
-  pub anew_refused : (r : Result X E) → OnErr r (new ≡ old) → OnErr r (views left ≡ views es)
-  anew_refused (Ok x) same = tt
-  anew_refused (Err e) same = ap views (written ∙ ap (set_value (is_called name) es) same ∙ written_same name old es there_is)

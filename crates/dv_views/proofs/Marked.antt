@@ -1,60 +1,280 @@
--- Views of which some of the first have taken in a change.
-use Rattle.std.proofs.Common.{◌≡◌, ℕ, zero, suc, ◌+◌, ◌≤◌, List, [], ◌∷◌, map, length, Some, slice_get, refl, ap, sym, subst, ◌∙◌, arith}
-use Rattle.std.specs.List.{AllByRecursion, IsDistinct}
+-- Views in memory of which some of the first have taken in a change.
+use Rattle.std.proofs.Common.{◌≡◌, ◌≤◌, ◌<◌, ◌+◌, ◌||◌, ◌++◌, drop, get_or, ℕ, zero, suc, Bool, true, false, List, [], ◌∷◌, map, take, fold, length, Option, Some, None, is_some, slice_get, refl, ap, sym, subst, ◌∙◌, arith, inl, inr}
+use Rattle.std.specs.List.{AllByRecursion, IsDistinct, list_any}
 use Rattle.std.specs.Map.{values_of}
 use Rattle.std.specs.Str.{bytes_eq}
 use Rattle.std.specs.String.{string_bytes}
 use Rattle.indexmap.specs.IndexMap.{set_value_at}
 use Rattle.dv_change.specs.declared.change.Change.{Change}
-use Rattle.dv_views.specs.Seen.{AreTakenBy, IsTakenBy, seen}
-use Rattle.dv_views.specs.Views.{AreNamedApart, Body, View, Views, named}
-use Rattle.dv_views.proofs.Entries.{Entries, views}
+use Rattle.dv_change.specs.declared.live.Live.{Live}
+use Rattle.dv_views.specs.declared.turner.Turner.{Turner}
+use Rattle.dv_views.specs.Body.{Body}
+use Rattle.dv_views.specs.Flow.{Told, arrivals, is_reached, outs_made, told_at, with_told}
+use Rattle.dv_views.specs.Forms.{is_among, names_read}
+use Rattle.dv_views.specs.Ground.{IsLive, IsLiveView}
+use Rattle.dv_views.specs.Keeping.{Turns, kept_seen}
+use Rattle.dv_views.specs.Older.{Entries, told_before, told_else, told_found, told_named, told_over, views, views_before}
+use Rattle.dv_views.specs.Passing.{IsTakenAt}
+use Rattle.dv_views.specs.Seen.{IsWellKept, named, seen, telling}
+use Rattle.dv_views.specs.Turned.{AreTakenBy, HasTurned, HaveTaken, IsTakenBy, Telling}
+use Rattle.dv_views.specs.Views.{AreNamedApart, Mark, View, Views, anew, distance, distances_of, form_of, live, no_distance, stale, view_named, with_distance}
+use Rattle.dv_pipe.specs.declared.stage.Stage.{Stage}
+use Rattle.dv_views.proofs.Before.{found_is_before}
+use Rattle.dv_views.proofs.Joining.{each_among}
+use Rattle.dv_views.proofs.Rolling.{rows_are_made}
+use Rattle.dv_views.proofs.Shown.{distance_at, distance_named}
+use Rattle.dv_views.proofs.WellKept.{AreWellKept}
 
-module _ (namespace : List ℕ) (c : Change) where
-  -- the first n of the views have taken in the change, and the others are as they were
-  abbrev pub HaveTaken : ℕ → Views → Views → Type 0
-  HaveTaken zero vs ws = ws ≡ vs
-  HaveTaken (suc n) [] ws = ws ≡ []
-  HaveTaken (suc n) (v ∷ vs) [] = ⊥
-  HaveTaken (suc n) (v ∷ vs) (w ∷ ws) = IsTakenBy namespace c v w × HaveTaken n vs ws
+-- ---- what is no view, or a live one
 
-  module _ {Y : Type 0} (old new : Body) (taken : (name : List ℕ) → IsTakenBy namespace c (named name old) (named name new)) where
-    next : (n : ℕ) (es : Entries Y) (before : Views) → HaveTaken n before (views es) → slice_get (values_of es) n ≡ Some old → HaveTaken (suc n) before (views (set_value_at es n new))
-    next zero [] before e there = absurd cc
-    next zero (e ∷ es) [] is there = absurd cc
-    next zero (e ∷ es) (v ∷ vs) is there =
+near : (m : Mark) → IsLive m → distance m ≡ 0
+near (live k) is = refl
+near (anew rows) is = absurd is
+near stale is = absurd is
+
+nearest : (o : Option View) → IsLiveView o → distance_named o ≡ 0
+nearest None is = refl
+nearest (Some v) is = near v.mark is
+
+-- ---- some of names, from one to the next
+
+pub any_next : (p : List ℕ → Bool) (name : List ℕ) (names : List (List ℕ)) (i : ℕ) → i < length names → name ≡ get_or names i name → list_any p (drop i names) ≡ (p name || list_any p (drop (i + 1) names))
+any_next p name names i h is = at names i h is ∙ (let more : suc i ≡ i + 1 = omega arith in ap (λ (n : ℕ). p name || list_any p (drop n names)) more)
+  where
+    at : (names : List (List ℕ)) (i : ℕ) → i < length names → name ≡ get_or names i name → list_any p (drop i names) ≡ (p name || list_any p (drop (suc i) names))
+    at [] i h is = absurd (omega arith)
+    at (n ∷ ns) zero h is = ap (λ (m : List ℕ). p m || list_any p ns) (sym is)
+    at (n ∷ ns) (suc i) h is = at ns i (omega arith) is
+
+pub there_at : (name : List ℕ) (names : List (List ℕ)) (i : ℕ) → i < length names → name ≡ get_or names i name → slice_get names i ≡ Some name
+there_at name [] i h is = absurd (omega arith)
+there_at name (n ∷ ns) zero h is = ap (λ (m : List ℕ). Some m) (sym is)
+there_at name (n ∷ ns) (suc i) h is = there_at name ns i (omega arith) is
+
+pub take_last : (names : List (List ℕ)) (i : ℕ) (name : List ℕ) → slice_get names i ≡ Some name → take (i + 1) names ≡ take i names ++ name ∷ []
+take_last names i name there = (let more : i + 1 ≡ suc i = omega arith in ap (λ (n : ℕ). take n names) more) ∙ at names i there
+  where
+    at : (names : List (List ℕ)) (i : ℕ) → slice_get names i ≡ Some name → take (suc i) names ≡ take i names ++ name ∷ []
+    at [] i there = absurd cc
+    at (n ∷ ns) zero there = let same : n ≡ name = cc in ap (λ (m : List ℕ). m ∷ []) same
+    at (n ∷ ns) (suc i) there = ap (λ (ms : List (List ℕ)). n ∷ ms) (at ns i there)
+
+pub take_count : (names : List (List ℕ)) (i : ℕ) → i < length names → length (take i names) ≡ i
+take_count names zero h = refl
+take_count [] (suc i) h = let no : suc i < 0 = h in absurd (omega arith)
+take_count (n ∷ ns) (suc i) h = let less : suc i < suc (length ns) = h in ap suc (take_count ns i (omega arith))
+
+module _ {Y : Type 0} where
+  -- ---- one after the other
+
+  -- the first n views have taken in what was told, and the others are as they were
+  abbrev pub HaveFirst : ℕ → Told → (List ℕ → ℕ) → Views → Entries Y → Type 0
+  HaveFirst zero come distances before es = views es ≡ before
+  HaveFirst (suc n) come distances [] es = es ≡ []
+  HaveFirst (suc n) come distances (v ∷ before) [] = ⊥
+  HaveFirst (suc n) come distances (v ∷ before) (e ∷ es) = IsTakenBy come distances v (telling e) × HaveFirst n (with_told v.name e.1.told come) (with_distance (seen e) distances) before es
+
+  module _ (old new : Body) where
+    next : (n : ℕ) (come : Told) (distances : List ℕ → ℕ) (before : Views) (es : Entries Y) → HaveFirst n come distances before es → slice_get (values_of es) n ≡ Some old
+        → ((name : List ℕ) → IsTakenBy (told_over come (take n es)) (fold (λ below v. with_distance v below) distances (views (take n es))) (named name old) (record { view = named name new; told = new.told }))
+        → HaveFirst (suc n) come distances before (set_value_at es n new)
+    next zero come distances before [] first there taken = absurd cc
+    next zero come distances [] (e ∷ es) first there taken = absurd cc
+    next zero come distances (v ∷ before) (e ∷ es) first there taken =
         let was : e.1 ≡ old = cc in
         let same : seen e ≡ v = cc in
-        let rest : views es ≡ vs = cc in
-        (subst (λ (u : View). IsTakenBy namespace c u (named (string_bytes e.0) new)) (ap (named (string_bytes e.0)) (sym was) ∙ same) (taken (string_bytes e.0)), rest)
-    next (suc n) [] before h there = absurd cc
-    next (suc n) (e ∷ es) [] h there = absurd cc
-    next (suc n) (e ∷ es) (v ∷ vs) h there = (h.0, next n es vs h.1 there)
+        let rest : views es ≡ before = cc in
+        (subst (λ (u : View). IsTakenBy come distances u (record { view = named (string_bytes e.0) new; told = new.told })) (ap (named (string_bytes e.0)) (sym was) ∙ same) (taken (string_bytes e.0)), rest)
+    next (suc n) come distances [] es first there taken = absurd (none es first there)
+      where
+        none : (es : Entries Y) → es ≡ [] → slice_get (values_of es) (suc n) ≡ Some old → ⊥
+        none [] is there = cc
+        none (e ∷ es) is there = cc
+    next (suc n) come distances (v ∷ before) [] first there taken = absurd first
+    next (suc n) come distances (v ∷ before) (e ∷ es) first there taken =
+        let called : string_bytes e.0 ≡ v.name = ap (λ f. f.name) first.0.form in
+        (
+          first.0,
+          next n (with_told v.name e.1.told come) (with_distance (seen e) distances) before es first.1 there
+              (subst
+              (λ (name : List ℕ). (m : List ℕ) → IsTakenBy (told_over (with_told name e.1.told come) (take n es)) (fold (λ below v. with_distance v below) (with_distance (seen e) distances) (views (take n es))) (named m old) (record { view = named m new; told = new.told }))
+              called taken),
+        )
 
-    pub taken_next : (n : ℕ) (es : Entries Y) (before : Views) → HaveTaken n before (views es) → slice_get (values_of es) n ≡ Some old → HaveTaken (n + 1) before (views (set_value_at es n new))
-    taken_next n es before h there =
-        let more : suc n ≡ n + 1 = omega arith in
-        subst (λ (m : ℕ). HaveTaken m before (views (set_value_at es n new))) more (next n es before h there)
+  pub taken_next : (namespace : List ℕ) (changes : List Change) (n : ℕ) (before : Views) (es left : Entries Y) → HaveFirst n (told_at namespace changes) no_distance before es → IsTakenAt namespace changes n es left
+      → HaveFirst (n + 1) (told_at namespace changes) no_distance before left
+  taken_next namespace changes n before es left first at =
+      let more : suc n ≡ n + 1 = omega arith in
+      subst (λ (fs : Entries Y). HaveFirst (n + 1) (told_at namespace changes) no_distance before fs) (sym at.left)
+          (subst (λ (m : ℕ). HaveFirst m (told_at namespace changes) no_distance before (set_value_at es n at.new)) more (next at.old at.new n (told_at namespace changes) no_distance before es first at.there at.taken))
 
-  all-taken : (vs ws : Views) → HaveTaken (length vs) vs ws → AreTakenBy namespace c vs ws
-  all-taken [] ws h = subst (λ (us : Views). AreTakenBy namespace c [] us) (sym h) tt
-  all-taken (v ∷ vs) [] h = h
-  all-taken (v ∷ vs) (w ∷ ws) h = (h.0, all-taken vs ws h.1)
+  all-taken : (come : Told) (distances : List ℕ → ℕ) (before : Views) (es : Entries Y) → HaveFirst (length before) come distances before es → AreTakenBy come distances before (map telling es)
+  all-taken come distances [] es first = subst (λ (fs : Entries Y). AreTakenBy come distances [] (map telling fs)) (sym (none es first)) tt
+    where
+      none : (es : Entries Y) → views es ≡ [] → es ≡ []
+      none [] is = refl
+      none (e ∷ es) is = absurd cc
+  all-taken come distances (v ∷ before) [] first = absurd first
+  all-taken come distances (v ∷ before) (e ∷ es) first = (first.0, all-taken (with_told v.name e.1.told come) (with_distance (seen e) distances) before es first.1)
 
-  pub all_taken : (n end : ℕ) (vs ws : Views) → length vs ≡ end → n ≤ end → end ≤ n → HaveTaken n vs ws → AreTakenBy namespace c vs ws
-  all_taken n end vs ws all within stop h =
-      let is : n ≡ length vs = omega arith in
-      all-taken vs ws (subst (λ (m : ℕ). HaveTaken m vs ws) is h)
+  told-views : (es : Entries Y) → map (λ t. t.view) (map telling es) ≡ views es
+  told-views [] = refl
+  told-views (e ∷ es) = ap (λ (vs : Views). seen e ∷ vs) (told-views es)
 
-  -- names stay apart
-  names-taken : (vs ws : Views) → AreTakenBy namespace c vs ws → map (λ v. v.name) ws ≡ map (λ v. v.name) vs
-  names-taken [] [] h = refl
-  names-taken [] (w ∷ ws) h = absurd h
-  names-taken (v ∷ vs) [] h = absurd h
-  names-taken (v ∷ vs) (w ∷ ws) h = λ i. h.0.name i ∷ names-taken vs ws h.1 i
+  pub all_taken : (come : Told) (n end : ℕ) (before : Views) (es : Entries Y) → length before ≡ end → n ≤ end → end ≤ n → HaveFirst n come no_distance before es → HaveTaken come before (views es)
+  all_taken come n end before es all within stop first =
+      let is : n ≡ length before = omega arith in
+      record { tellings = map telling es; views = told-views es; taken = all-taken come no_distance before es (subst (λ (m : ℕ). HaveFirst m come no_distance before es) is first) }
 
-  pub apart_taken : (vs ws : Views) → AreTakenBy namespace c vs ws → AreNamedApart vs → AreNamedApart ws
-  apart_taken vs ws h apart = subst (λ (names : List (List ℕ)). IsDistinct bytes_eq names) (sym (names-taken vs ws h)) apart
+  -- ---- entries written at a place
+
+  pub take_written : (n : ℕ) (es : Entries Y) (b : Body) → take n (set_value_at es n b) ≡ take n es
+  take_written zero es b = refl
+  take_written (suc n) [] b = refl
+  take_written (suc n) (e ∷ es) b = ap (λ (fs : Entries Y). e ∷ fs) (take_written n es b)
+
+  pub length_written : (n : ℕ) (es : Entries Y) (b : Body) → length (set_value_at es n b) ≡ length es
+  length_written n [] b = refl
+  length_written zero (e ∷ es) b = refl
+  length_written (suc n) (e ∷ es) b = ap suc (length_written n es b)
+
+  pub written_twice : (n : ℕ) (es : Entries Y) (a b : Body) → set_value_at (set_value_at es n a) n b ≡ set_value_at es n b
+  written_twice n [] a b = refl
+  written_twice zero (e ∷ es) a b = refl
+  written_twice (suc n) (e ∷ es) a b = ap (λ (fs : Entries Y). e ∷ fs) (written_twice n es a b)
+
+  pub there_written : (n : ℕ) (es : Entries Y) (a old : Body) → slice_get (values_of es) n ≡ Some old → slice_get (values_of (set_value_at es n a)) n ≡ Some a
+  there_written n [] a old there = absurd cc
+  there_written zero (e ∷ es) a old there = refl
+  there_written (suc n) (e ∷ es) a old there = there_written n es a old there
+
+  -- what is told is no part of a view
+  pub views_silent : (n : ℕ) (es : Entries Y) (old new : Body) → slice_get (values_of es) n ≡ Some old → ((name : List ℕ) → named name new ≡ named name old) → views (set_value_at es n new) ≡ views es
+  views_silent n [] old new there same = refl
+  views_silent zero (e ∷ es) old new there same = let was : e.1 ≡ old = cc in ap (λ (v : View). v ∷ views es) (same (string_bytes e.0) ∙ ap (named (string_bytes e.0)) (sym was))
+  views_silent (suc n) (e ∷ es) old new there same = ap (λ (vs : Views). seen e ∷ vs) (views_silent n es old new there same)
+
+  pub kept_there : (n : ℕ) (es : Entries Y) (old : Body) → AreWellKept es → slice_get (values_of es) n ≡ Some old → IsWellKept old.stages old.mark
+  kept_there n [] old kept there = absurd cc
+  kept_there zero (e ∷ es) old kept there = let was : e.1 ≡ old = cc in subst (λ (b : Body). IsWellKept b.stages b.mark) was kept.0
+  kept_there (suc n) (e ∷ es) old kept there = kept_there n es old kept.1 there
+
+  apart-take : (n : ℕ) (es : Entries Y) → AreNamedApart (views es) → AreNamedApart (views_before n es)
+  unfolding IsDistinct
+  apart-take zero es apart = tt
+  apart-take (suc n) [] apart = tt
+  apart-take (suc n) (e ∷ es) apart = (some n es apart.0, apart-take n es apart.1)
+    where
+      some : (n : ℕ) (fs : Entries Y) → AllByRecursion (λ m. bytes_eq (string_bytes e.0) m ≡ false) (map (λ (v : View). v.name) (views fs)) → AllByRecursion (λ m. bytes_eq (string_bytes e.0) m ≡ false) (map (λ (v : View). v.name) (views_before n fs))
+      some zero fs all = tt
+      some (suc n) [] all = tt
+      some (suc n) (f ∷ fs) all = (all.0, some n fs all.1)
+
+  names-written : (n : ℕ) (es : Entries Y) (b : Body) → map (λ (v : View). v.name) (views (set_value_at es n b)) ≡ map (λ (v : View). v.name) (views es)
+  names-written n [] b = refl
+  names-written zero (e ∷ es) b = refl
+  names-written (suc n) (e ∷ es) b = ap (λ (ns : List (List ℕ)). string_bytes e.0 ∷ ns) (names-written n es b)
+
+  pub apart_written : (n : ℕ) (es left : Entries Y) (b : Body) → left ≡ set_value_at es n b → AreNamedApart (views es) → AreNamedApart (views left)
+  apart_written n es left b is apart = subst (λ (ns : List (List ℕ)). IsDistinct bytes_eq ns) (sym (ap (λ (fs : Entries Y). map (λ (v : View). v.name) (views fs)) is ∙ names-written n es b)) apart
+
+  -- ---- what is made of the view at a place
+
+  module _ (namespace : List ℕ) (changes : List Change) (n : ℕ) (es left : Entries Y) (old new : Body) (there : slice_get (values_of es) n ≡ Some old) (written : left ≡ set_value_at es n new) where
+    abbrev come : Told
+    come = told_before namespace changes n es
+
+    pub left_alone : is_reached old.stages old.source come ≡ false → new ≡ record old { told = None } → IsTakenAt namespace changes n es left
+    left_alone away is = record {
+      old = old;
+      new = new;
+      there = there;
+      left = written;
+      taken = λ name. subst (λ (b : Body). IsTakenBy come (distances_of (views_before n es)) (named name old) (record { view = named name b; told = b.told })) (sym is) (record {
+        form = refl;
+        tells = sym away;
+        unread = λ _. refl;
+        turned = λ reached. absurd (cc (sym away ∙ reached));
+        live = λ reached. absurd (cc (sym away ∙ reached));
+      });
+      well = λ well. subst (λ (b : Body). IsWellKept b.stages b.mark) (sym is) well;
+    }
+
+    pub made_stale : is_reached old.stages old.source come ≡ true → new ≡ record old { mark = stale; told = Some [] } → IsTakenAt namespace changes n es left
+    made_stale reached is = record {
+      old = old;
+      new = new;
+      there = there;
+      left = written;
+      taken = λ name. subst (λ (b : Body). IsTakenBy come (distances_of (views_before n es)) (named name old) (record { view = named name b; told = b.told })) (sym is) (record {
+        form = refl;
+        tells = sym reached;
+        unread = λ away. absurd (cc (sym away ∙ reached));
+        turned = λ _. inl refl;
+        live = λ _ fresh. absurd cc;
+      });
+      well = λ _. subst (λ (b : Body). IsWellKept b.stages b.mark) (sym is) tt;
+    }
+
+    module _ (before after : Live Turner) (told : List Change) (apart : AreNamedApart (views es)) (turns : Turns old.stages (arrivals old.stages old.source come) before [] after told)
+        (lives : AllByRecursion (λ name. IsLiveView (view_named name (views_before n es))) (names_read old.stages old.source)) where
+      pub turned_on : is_reached old.stages old.source come ≡ true → old.mark ≡ live (kept_seen before) → new ≡ record old { mark = live (kept_seen after); told = Some told } → IsTakenAt namespace changes n es left
+      turned_on reached was is = record {
+        old = old;
+        new = new;
+        there = there;
+        left = written;
+        taken = λ name. subst (λ (b : Body). IsTakenBy come (distances_of (views_before n es)) (named name old) (record { view = named name b; told = b.told })) (sym is) (record {
+          form = refl;
+          tells = sym reached;
+          unread = λ away. absurd (cc (sym away ∙ reached));
+          turned = λ _. inr (kept_seen before, was, record {
+            kept = ap live turns.kept;
+            tells = ap Some turns.told;
+            leads = turns.leads ∙ ap (λ k. outs_made old.stages k.taken) turns.kept;
+          });
+          live = λ _ _ other among.
+              distance_at other (views_before n es) (apart-take n es apart) ∙ nearest (view_named other (views_before n es)) (each_among (λ m. IsLiveView (view_named m (views_before n es))) (names_read old.stages old.source) other lives among);
+        });
+        well = λ _. subst (λ (b : Body). IsWellKept b.stages b.mark) (sym is) (rows_are_made old.stages after turns.sound, turns.sound.positioned);
+      }
+
+  -- the view that is read at a place is the one that was written there
+  pub read_written : (n : ℕ) (es : Entries Y) (a old now : Body) → slice_get (values_of es) n ≡ Some old → slice_get (values_of (set_value_at es n a)) n ≡ Some now → now ≡ a
+  read_written n es a old now there is = let both : Some now ≡ Some a = sym is ∙ there_written n es a old there in cc
+
+  module _ (namespace : List ℕ) (changes : List Change) (n : ℕ) (es : Entries Y) (apart : AreNamedApart (views es)) where
+    found-is : told_found namespace changes n es ≡ told_before namespace changes n es
+    found-is = found_is_before namespace changes n es (apart-take n es apart)
+
+    found-written : (a : Body) → told_found namespace changes n (set_value_at es n a) ≡ told_before namespace changes n es
+    found-written a = (λ i name. told_else (told_named name (take_written n es a i)) (told_at namespace changes name)) ∙ found-is
+
+    module _ (old : Body) (there : slice_get (values_of es) n ≡ Some old) where
+      pub alone_at : (new : Body) → false ≡ is_reached old.stages old.source (told_found namespace changes n es) → new ≡ record old { told = None } → IsTakenAt namespace changes n es (set_value_at es n new)
+      alone_at new away is = left_alone namespace changes n es (set_value_at es n new) old new there refl (sym (away ∙ ap (is_reached old.stages old.source) found-is)) is
+
+      pub stale_at : (new : Body) → true ≡ is_reached old.stages old.source (told_found namespace changes n es) → new ≡ record old { mark = stale; told = Some [] } → IsTakenAt namespace changes n es (set_value_at es n new)
+      stale_at new reached is = made_stale namespace changes n es (set_value_at es n new) old new there refl (sym (reached ∙ ap (is_reached old.stages old.source) found-is)) is
+
+      pub turned_at : (a b : Body) (before after : Live Turner) (told : List Change) (stages : List Stage) (source : List ℕ) → true ≡ is_reached old.stages old.source (told_found namespace changes n es) → a ≡ record old { mark = stale; told = Some [] }
+          → stages ≡ a.stages → source ≡ a.source → old.mark ≡ live (kept_seen before) → Turns stages (arrivals stages source (told_found namespace changes n (set_value_at es n a))) before [] after told
+          → AllByRecursion (λ name. IsLiveView (view_named name (views_before n (set_value_at es n a)))) (names_read stages source) → b ≡ record a { mark = live (kept_seen after); told = Some told }
+          → IsTakenAt namespace changes n es (set_value_at (set_value_at es n a) n b)
+      turned_at a b before after told stages source reached was same_stages same_source kept turns lives is =
+          let stages_is : stages ≡ old.stages = same_stages ∙ ap (λ (x : Body). x.stages) was in
+          let source_is : source ≡ old.source = same_source ∙ ap (λ (x : Body). x.source) was in
+          let come = told_before namespace changes n es in
+          let turned =
+          subst (λ (s : List Stage). Turns s (arrivals s old.source come) before [] after told) stages_is
+          (subst (λ (s : List ℕ). Turns stages (arrivals stages s come) before [] after told) source_is
+          (subst (λ (c : Told). Turns stages (arrivals stages source c) before [] after told) (found-written a) turns)) in
+          let live_ones =
+          subst (λ (s : List Stage). AllByRecursion (λ name. IsLiveView (view_named name (views_before n es))) (names_read s old.source)) stages_is
+          (subst (λ (s : List ℕ). AllByRecursion (λ name. IsLiveView (view_named name (views_before n es))) (names_read stages s)) source_is
+          (subst (λ (fs : Entries Y). AllByRecursion (λ name. IsLiveView (view_named name (views fs))) (names_read stages source)) (take_written n es a) lives)) in
+          turned_on namespace changes n es (set_value_at (set_value_at es n a) n b) old b there (written_twice n es a b) before after told apart turned live_ones (sym (reached ∙ ap (is_reached old.stages old.source) found-is)) kept
+          (is ∙ ap (λ (x : Body). record x { mark = live (kept_seen after); told = Some told }) was)
 
 pub length_views : {Y : Type 0} (es : Entries Y) → length (views es) ≡ length es
 length_views [] = refl

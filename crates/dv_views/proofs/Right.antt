@@ -1,23 +1,21 @@
 -- Views that are right stay right.
-use Rattle.std.proofs.Common.{◌≡◌, ◌||◌, ℕ, Bool, true, false, not, List, [], ◌∷◌, ◌++◌, map, Option, Some, None, is_some, cond, refl, ap, ◌∙◌}
+use Rattle.std.proofs.Common.{◌≡◌, ◌||◌, ℕ, Bool, true, false, not, List, [], ◌∷◌, ◌++◌, map, Option, Some, None, cond, refl, ap, sym, subst, ◌∙◌}
 use Rattle.std.specs.Bool.{if◌then◌else◌}
-use Rattle.std.specs.Option.{option_and_then}
 use Rattle.std.specs.List.{list_any}
 use Rattle.std.specs.Str.{bytes_eq}
+use Rattle.std.proofs.lemmas.Bool.Decides.{same_from_decides}
 use Rattle.std.proofs.lemmas.Slice.Eq.{bytes_eq-Decides}
+use Rattle.dv_change.specs.Work.{through}
 use Rattle.dv_pipe.specs.Sources.{Row}
 use Rattle.dv_pipe.specs.Stages.{Lists, evaluated, is_named, is_read, looked_into}
 use Rattle.dv_pipe.specs.declared.stage.Stage.{Stage}
-use Rattle.dv_views.specs.Placed.{lookups_of, places_of, positioned, with_name}
-use Rattle.dv_views.specs.Views.{AreKept, AreRight, IsRight, Mark, Taken, live, stale, View, Views, has_name, has_view, kept_anew, kept_rows, made_anew, mark_anew, new_view, reads, reads_name, refreshed, rows_of_view, rows_shown, taken_from, view_named, without}
+use Rattle.dv_views.specs.Forms.{ViewForm, is_among, names_read, outs_of, places_over, rows_over, with_places, with_rows}
+use Rattle.dv_views.specs.Placed.{Places, forms, lookups_of, places_of, positioned, with_name}
+use Rattle.dv_views.specs.Views.{AreKept, AreRight, AreRightOver, IsRight, Mark, Taken, live, anew, stale, View, Views, form_of, reads, reads_name, taken_from, without}
 
 -- what dv_pipe's law says of pipelines
 abbrev pub UnreadDoesNotMatter : Type 0
 UnreadDoesNotMatter = (stages : List Stage) (source : List ℕ) (lists others : Lists) → ((name : List ℕ) → is_read stages source name ≡ true → lists name ≡ others name) → evaluated stages source lists ≡ evaluated stages source others
-
-kept-same : (m : Mark) (t u : Taken) (rows others : List Row) → t ≡ u → rows ≡ others → AreKept m t rows → AreKept m u others
-kept-same (live kept) t u rows others taken same h = (h.0 ∙ taken, h.1 ∙ same)
-kept-same stale t u rows others taken same h = tt
 
 pub or-left : (a b : Bool) → a ≡ true → a || b ≡ true
 or-left true b e = refl
@@ -27,93 +25,136 @@ pub or-right : (a b : Bool) → b ≡ true → a || b ≡ true
 or-right true b e = refl
 or-right false b e = e
 
--- ---- what is read
+pub neither : (a b : Bool) → a || b ≡ false → (a ≡ false) × (b ≡ false)
+neither true b e = absurd cc
+neither false b e = (refl, e)
+
+-- ---- names
 
 pub itself : (name : List ℕ) → bytes_eq name name ≡ true
 itself name = (bytes_eq-Decides name name).1 refl
 
-module _ (source : List ℕ) (lists others : Lists) where
-  same-lookups : (ss : List Stage) → ((name : List ℕ) → list_any (λ s. is_named name (looked_into s source)) ss ≡ true → lists name ≡ others name) → map (places_of lists) (lookups_of ss source) ≡ map (places_of others) (lookups_of ss source)
+pub either-way : (a b : List ℕ) → bytes_eq a b ≡ bytes_eq b a
+either-way a b = same_from_decides _ _ (bytes_eq-Decides a b) ((λ e. sym ((bytes_eq-Decides b a).0 e)), λ e. (bytes_eq-Decides b a).1 (sym e))
+
+lookups-among : (ss : List Stage) (source name : List ℕ) → list_any (λ s. is_named name (looked_into s source)) ss ≡ is_among name (lookups_of ss source)
+lookups-among [] source name = refl
+lookups-among (s ∷ ss) source name = by (looked_into s source) (lookups-among ss source name)
+  where
+    by : (o : Option (List ℕ)) → list_any (λ t. is_named name (looked_into t source)) ss ≡ is_among name (lookups_of ss source) → is_named name o || list_any (λ t. is_named name (looked_into t source)) ss ≡ is_among name (with_name o (lookups_of ss source))
+    by None rest = rest
+    by (Some other) rest = ap (λ (b : Bool). bytes_eq name other || b) rest
+
+-- what is read is among the names that are read
+pub read_among : (stages : List Stage) (source name : List ℕ) → is_read stages source name ≡ is_among name (names_read stages source)
+read_among stages source name = λ i. either-way source name i || lookups-among stages source name i
+
+-- ---- what is read at places
+
+module _ (source : List ℕ) (places others : Places) where
+  same-lookups : (ss : List Stage) → ((name : List ℕ) → list_any (λ s. is_named name (looked_into s source)) ss ≡ true → places name ≡ others name) → map places (lookups_of ss source) ≡ map others (lookups_of ss source)
   same-lookups [] same = refl
   same-lookups (s ∷ ss) same =
       by (looked_into s source)
       (λ name h. same name (or-left (is_named name (looked_into s source)) (list_any (λ t. is_named name (looked_into t source)) ss) h))
       (same-lookups ss (λ name h. same name (or-right (is_named name (looked_into s source)) (list_any (λ t. is_named name (looked_into t source)) ss) h)))
     where
-      by : (o : Option (List ℕ)) → ((name : List ℕ) → is_named name o ≡ true → lists name ≡ others name) → map (places_of lists) (lookups_of ss source) ≡ map (places_of others) (lookups_of ss source)
-          → map (places_of lists) (with_name o (lookups_of ss source)) ≡ map (places_of others) (with_name o (lookups_of ss source))
+      by : (o : Option (List ℕ)) → ((name : List ℕ) → is_named name o ≡ true → places name ≡ others name) → map places (lookups_of ss source) ≡ map others (lookups_of ss source)
+          → map places (with_name o (lookups_of ss source)) ≡ map others (with_name o (lookups_of ss source))
       by None here rest = rest
-      by (Some name) here rest = λ i. positioned (here name (itself name) i) ∷ rest i
+      by (Some name) here rest = λ i. here name (itself name) i ∷ rest i
 
-  pub same_taken : (stages : List Stage) → ((name : List ℕ) → is_read stages source name ≡ true → lists name ≡ others name) → taken_from stages source (places_of lists) ≡ taken_from stages source (places_of others)
+  pub same_taken : (stages : List Stage) → ((name : List ℕ) → is_read stages source name ≡ true → places name ≡ others name) → taken_from stages source places ≡ taken_from stages source others
   same_taken stages same =
       let left = same source (or-left (bytes_eq source source) (list_any (λ s. is_named source (looked_into s source)) stages) (itself source)) in
       let named = same-lookups stages (λ name h. same name (or-right (bytes_eq source name) (list_any (λ s. is_named name (looked_into s source)) stages) h)) in
-      λ i. record { left = positioned (left i); named = named i }
+      λ i. record { left = left i; named = named i }
 
-pub kept_over_others : UnreadDoesNotMatter → (stages : List Stage) (source : List ℕ) (lists others : Lists) → ((name : List ℕ) → is_read stages source name ≡ true → lists name ≡ others name) → kept_anew stages source lists ≡ kept_anew stages source others
-kept_over_others unread stages source lists others same =
-    let taken = same_taken source lists others stages same in
-    let rows = unread stages source lists others same in
-    λ i. record { taken = taken i; rows = rows i; ticks = 0 }
+  pub same_outs : (stages : List Stage) → ((name : List ℕ) → is_read stages source name ≡ true → places name ≡ others name) → outs_of stages source places ≡ outs_of stages source others
+  same_outs stages same = ap (λ (t : Taken). through (forms stages t.named) t.left) (same_taken stages same)
 
-pub right_over_others : UnreadDoesNotMatter → (views : Views) (lists others : Lists) → ((name : List ℕ) → reads_name views name ≡ true → lists name ≡ others name) → AreRight lists views → AreRight others views
-right_over_others unread [] lists others same right = tt
-right_over_others unread (v ∷ vs) lists others same right = (
-  kept-same v.mark (taken_from v.stages v.source (places_of lists)) (taken_from v.stages v.source (places_of others)) (rows_of_view v lists) (rows_of_view v others)
-      (same_taken v.source lists others v.stages (λ name h. same name (or-left (reads v name) (reads_name vs name) h)))
-      (unread v.stages v.source lists others (λ name h. same name (or-left (reads v name) (reads_name vs name) h))) right.0,
-  right_over_others unread vs lists others (λ name h. same name (or-right (reads v name) (reads_name vs name) h)) right.1,
-)
+-- ---- one view over places and lists that are the same where it reads
 
-pub right_with_new : (name source : List ℕ) (stages : List Stage) (lists : Lists) (views : Views) → AreRight lists views → AreRight lists (views ++ new_view name source stages lists ∷ [])
-right_with_new name source stages lists [] right = ((refl, refl), tt)
-right_with_new name source stages lists (v ∷ vs) right = (right.0, right_with_new name source stages lists vs right.1)
+-- a view's rightness depends on its form and its mark alone
+pub same_form : (places : Places) (lists : Lists) (v w : View) → form_of v ≡ form_of w → v.mark ≡ w.mark → IsRight places lists v → IsRight places lists w
+same_form places lists v w form mark right =
+    subst (λ (p : ViewForm × Mark). AreKept p.1 (taken_from p.0.stages p.0.source places) (evaluated p.0.stages p.0.source lists)) (λ i. (form i, mark i)) right
 
-right-left : (lists : Lists) (b : Bool) (v : View) (vs : Views) → IsRight lists v → AreRight lists vs → AreRight lists (cond b (v ∷ vs) vs)
-right-left lists true v vs here rest = (here, rest)
-right-left lists false v vs here rest = rest
+pub kept_same : (m : Mark) (t u : Taken) (rows others : List Row) → t ≡ u → rows ≡ others → AreKept m t rows → AreKept m u others
+kept_same (live kept) t u rows others taken same h = (h.0 ∙ taken, h.1 ∙ same)
+kept_same (anew shown) t u rows others taken same h = h ∙ same
+kept_same stale t u rows others taken same h = tt
 
-pub right_without : (name : List ℕ) (lists : Lists) (views : Views) → AreRight lists views → AreRight lists (without name views)
-right_without name lists [] right = tt
-right_without name lists (v ∷ vs) right = right-left lists (not (has_name name v)) v (without name vs) right.0 (right_without name lists vs right.1)
+-- the same stands under a name in both
+abbrev pub IsSame : Places → Places → Lists → Lists → List ℕ → Type 0
+IsSame places others lists rows name = (places name ≡ others name) × (lists name ≡ rows name)
 
-anew-right : (lists : Lists) (v : View) (m : Mark) → AreKept m (taken_from v.stages v.source (places_of lists)) (rows_of_view v lists) → AreKept (mark_anew v.stages v.source lists m) (taken_from v.stages v.source (places_of lists)) (rows_of_view v lists)
-anew-right lists v (live kept) right = right
-anew-right lists v stale right = (refl, refl)
+module _ (unread : UnreadDoesNotMatter) (places others : Places) (lists rows : Lists) where
+  right-same : (v : View) → ((name : List ℕ) → reads v name ≡ true → IsSame places others lists rows name) → IsRight places lists v → IsRight others rows v
+  right-same v same right =
+      kept_same v.mark (taken_from v.stages v.source places) (taken_from v.stages v.source others) (evaluated v.stages v.source lists) (evaluated v.stages v.source rows)
+      (same_taken v.source places others v.stages (λ name h. (same name h).0)) (unread v.stages v.source lists rows (λ name h. (same name h).1)) right
 
-refreshed-right : (lists : Lists) (b : Bool) (v : View) → IsRight lists v → IsRight lists (if b then made_anew lists v else v)
-refreshed-right lists true v right = anew-right lists v v.mark right
-refreshed-right lists false v right = right
+  -- behind the view the same stands under its name, and elsewhere where it did
+  with-same : (v : View) → ((name : List ℕ) → reads v name ≡ true → IsSame places others lists rows name) → (name : List ℕ) → (bytes_eq name v.name ≡ false → IsSame places others lists rows name)
+      → IsSame (with_places (form_of v) places) (with_places (form_of v) others) (with_rows (form_of v) lists) (with_rows (form_of v) rows) name
+  with-same v same name here = by (bytes_eq name v.name) here
+    where
+      by : (b : Bool) → (b ≡ false → IsSame places others lists rows name)
+          → ((if b then outs_of v.stages v.source places else places name) ≡ (if b then outs_of v.stages v.source others else others name))
+          × ((if b then evaluated v.stages v.source lists else lists name) ≡ (if b then evaluated v.stages v.source rows else rows name))
+      by true here = (same_outs v.source places others v.stages (λ name h. (same name h).0), unread v.stages v.source lists rows (λ name h. (same name h).1))
+      by false here = here refl
 
-pub right_refreshed : (name : List ℕ) (lists : Lists) (views : Views) → AreRight lists views → AreRight lists (refreshed name lists views)
-right_refreshed name lists [] right = tt
-right_refreshed name lists (v ∷ vs) right = (refreshed-right lists (has_name name v) v right.0, right_refreshed name lists vs right.1)
+-- ---- all views
 
--- ---- what is shown
-kept-shown : (m : Mark) (t : Taken) (rows shown : List Row) → AreKept m t rows → kept_rows m ≡ Some shown → shown ≡ rows
-kept-shown (live kept) t rows shown right is = (let same : shown ≡ kept.rows = cc in same) ∙ right.1
-kept-shown stale t rows shown right is = absurd cc
+module _ (unread : UnreadDoesNotMatter) where
+  pub right_same : (vs : Views) (places others : Places) (lists rows : Lists) → ((name : List ℕ) → reads_name vs name ≡ true → IsSame places others lists rows name) → AreRightOver places lists vs → AreRightOver others rows vs
+  right_same [] places others lists rows same right = tt
+  right_same (v ∷ vs) places others lists rows same right =
+      let here : (name : List ℕ) → reads v name ≡ true → IsSame places others lists rows name = λ name h. same name (or-left (reads v name) (reads_name vs name) h) in (
+        right-same unread places others lists rows v here right.0,
+        right_same vs (with_places (form_of v) places) (with_places (form_of v) others) (with_rows (form_of v) lists) (with_rows (form_of v) rows)
+            (λ name h. with-same unread places others lists rows v here name (λ _. same name (or-right (reads v name) (reads_name vs name) h))) right.1,
+      )
 
-named-shown : (lists : Lists) (b : Bool) (v w : View) (rest : Option View) (rows : List Row) → IsRight lists v → (rest ≡ Some w → option_and_then (λ u. kept_rows u.mark) rest ≡ Some rows → rows ≡ rows_of_view w lists)
-    → cond b (Some v) rest ≡ Some w → option_and_then (λ u. kept_rows u.mark) (cond b (Some v) rest) ≡ Some rows → rows ≡ rows_of_view w lists
-named-shown lists true v w rest rows right later is shown =
-    let same : v ≡ w = cc in
-    kept-shown v.mark (taken_from v.stages v.source (places_of lists)) (rows_of_view v lists) rows right shown ∙ ap (λ u. rows_of_view u lists) same
-named-shown lists false v w rest rows right later is shown = later is shown
+  pub right_over_others : (views : Views) (lists others : Lists) → ((name : List ℕ) → reads_name views name ≡ true → lists name ≡ others name) → AreRight lists views → AreRight others views
+  right_over_others views lists others same = right_same views (places_of lists) (places_of others) lists others (λ name h. (ap positioned (same name h), same name h))
 
-pub right_shown : (name : List ℕ) (lists : Lists) (views : Views) (v : View) (rows : List Row) → AreRight lists views → view_named name views ≡ Some v → rows_shown name views ≡ Some rows → rows ≡ rows_of_view v lists
-right_shown name lists [] v rows right is shown = absurd cc
-right_shown name lists (u ∷ us) v rows right is shown = named-shown lists (has_name name u) u v (view_named name us) rows right.0 (right_shown name lists us v rows right.1) is shown
+  -- ---- one is taken out
 
-anew-shown : (lists : Lists) (v : View) (m : Mark) → is_some (kept_rows (mark_anew v.stages v.source lists m)) ≡ true
-anew-shown lists v (live kept) = refl
-anew-shown lists v stale = refl
+  right-without : (gone : List ℕ) (vs : Views) (places others : Places) (lists rows : Lists) → ((name : List ℕ) → bytes_eq name gone ≡ false → IsSame places others lists rows name) → reads_name vs gone ≡ false
+      → AreRightOver places lists vs → AreRightOver others rows (without gone vs)
+  right-without gone [] places others lists rows same away right = tt
+  right-without gone (v ∷ vs) places others lists rows same away right =
+      let both = neither (reads v gone) (reads_name vs gone) away in
+      by (bytes_eq gone v.name) refl
+      (λ name h. read-elsewhere name both.0 h (bytes_eq name gone) refl)
+      (λ places others lists rows same right. right-without gone vs places others lists rows same both.1 right)
+    where
+      read-elsewhere : (name : List ℕ) → reads v gone ≡ false → reads v name ≡ true → (b : Bool) → bytes_eq name gone ≡ b → IsSame places others lists rows name
+      read-elsewhere name here h true is = let same : name ≡ gone = (bytes_eq-Decides name gone).0 is in absurd (cc (ap (reads v) same))
+      read-elsewhere name here h false is = same name is
 
-refreshed-shown : (name : List ℕ) (lists : Lists) (b : Bool) (v : View) (after : Views) (known : Bool) → has_name name v ≡ b → is_some (rows_shown name after) ≡ known → is_some (rows_shown name ((if b then made_anew lists v else v) ∷ after)) ≡ b || known
-refreshed-shown name lists true v after known e rest = ap (λ b. is_some (option_and_then (λ (u : View). kept_rows u.mark) (cond b (Some (made_anew lists v)) (view_named name after)))) e ∙ anew-shown lists v v.mark
-refreshed-shown name lists false v after known e rest = ap (λ b. is_some (option_and_then (λ (u : View). kept_rows u.mark) (cond b (Some v) (view_named name after)))) e ∙ rest
+      past : bytes_eq gone v.name ≡ true → (name : List ℕ) → bytes_eq name gone ≡ false → IsSame (with_places (form_of v) places) others (with_rows (form_of v) lists) rows name
+      past is name off =
+          let other : bytes_eq name v.name ≡ false = ap (bytes_eq name) (sym ((bytes_eq-Decides gone v.name).0 is)) ∙ off in
+          (ap (λ (b : Bool). if b then outs_of v.stages v.source places else places name) other ∙ (same name off).0, ap (λ (b : Bool). if b then evaluated v.stages v.source lists else lists name) other ∙ (same name off).1)
 
-pub shown_refreshed : (name : List ℕ) (lists : Lists) (views : Views) → is_some (rows_shown name (refreshed name lists views)) ≡ has_view name views
-shown_refreshed name lists [] = refl
-shown_refreshed name lists (v ∷ vs) = refreshed-shown name lists (has_name name v) v (refreshed name lists vs) (has_view name vs) refl (shown_refreshed name lists vs)
+      by : (b : Bool) → bytes_eq gone v.name ≡ b → ((name : List ℕ) → reads v name ≡ true → IsSame places others lists rows name)
+          → ((places others : Places) (lists rows : Lists) → ((name : List ℕ) → bytes_eq name gone ≡ false → IsSame places others lists rows name) → AreRightOver places lists vs → AreRightOver others rows (without gone vs))
+          → AreRightOver others rows (cond (not b) (v ∷ without gone vs) (without gone vs))
+      by true is here rest = rest (with_places (form_of v) places) others (with_rows (form_of v) lists) rows (past is) right.1
+      by false is here rest = (
+        right-same unread places others lists rows v here right.0,
+        rest (with_places (form_of v) places) (with_places (form_of v) others) (with_rows (form_of v) lists) (with_rows (form_of v) rows) (λ name off. with-same unread places others lists rows v here name (λ _. same name off)) right.1,
+      )
+
+  pub right_without : (name : List ℕ) (lists : Lists) (views : Views) → reads_name views name ≡ false → AreRight lists views → AreRight lists (without name views)
+  right_without name lists views away right = right-without name views (places_of lists) (places_of lists) lists lists (λ other off. (refl, refl)) away right
+
+-- ---- one comes
+
+pub right_append : (places : Places) (lists : Lists) (vs : Views) (w : View) → AreRightOver places lists vs → IsRight (places_over (map form_of vs) places) (rows_over (map form_of vs) lists) w → AreRightOver places lists (vs ++ w ∷ [])
+right_append places lists [] w right here = (here, tt)
+right_append places lists (v ∷ vs) w right here = (right.0, right_append (with_places (form_of v) places) (with_rows (form_of v) lists) vs w right.1 here)

@@ -1,24 +1,28 @@
 -- Rows that are kept by changes: turners that are the stages stay so, and keep what they are defined to keep.
-use Rattle.std.proofs.Common.{◌≡◌, ◌+◌, ◌-◌, ◌<◌, ◌≤◌, ℕ, zero, suc, Bool, true, false, if◌then◌else◌, List, [], ◌∷◌, ◌++◌, length, take, drop, Option, Some, None, refl, ap, sym, subst, ◌∙◌, arith}
+use Rattle.std.proofs.Common.{◌≡◌, map, ◌+◌, ◌-◌, ◌<◌, ◌≤◌, ℕ, zero, suc, Bool, true, false, if◌then◌else◌, List, [], ◌∷◌, ◌++◌, length, take, drop, Option, Some, None, refl, ap, sym, subst, ◌∙◌, arith, append_assoc, append-nil}
 use Rattle.std.specs.Prelude.{IfOk, Result, Ok, Err, nat_lt}
 use Rattle.std.proofs.lemmas.Bool.{le-ltb, ltb-false, ltb-true}
 use Rattle.std.specs.List.{AllByRecursion, flat_map}
+use Rattle.std.proofs.lemmas.List.Sums.{fold-append}
 use Rattle.std.specs.Option.{option_map}
 use Rattle.dv_change.specs.declared.change.Change.{Change}
 use Rattle.dv_change.specs.declared.input.Input.{Input}
 use Rattle.dv_change.specs.declared.input.Input.TheVariants.{Left, Named}
 use Rattle.dv_change.specs.declared.live.Live.{Live}
 use Rattle.dv_change.specs.Changes.{IsExactChange, IsPositioned, Positioned, forget, with_changes}
+use Rattle.dv_change.specs.DiffLaws.{with_changes-both}
 use Rattle.dv_change.specs.Inputs.{HasInput, changed_at, left_after, others_after}
 use Rattle.dv_change.specs.Linked.{HasTaken, IsLinked, first_left, forms_of}
 use Rattle.dv_change.specs.Raised.{raised}
-use Rattle.dv_change.specs.Work.{Form, HasAny, forms_after, forms_named, named_in, through, work_in}
+use Rattle.dv_change.specs.Work.{Form, HasAny, forms_after, forms_named, named_in, pass_in, through, work_in}
 use Rattle.dv_pipe.specs.declared.stage.Stage.{Stage}
 use Rattle.dv_pipe.specs.Sources.{Row}
 use Rattle.dv_pipe.specs.Stages.{beside, from_of}
 use Rattle.dv_views.specs.declared.turner.Turner.{Turner}
-use Rattle.dv_views.specs.Counted.{kept_after, rows_made, taken_after, work_of}
-use Rattle.dv_views.specs.Keeping.{IsSoundLive, kept_seen, left_of, lists_of_all, named_of}
+use Rattle.dv_views.specs.Flow.{Arrival, arriving, arriving_at_lists, handed_by, outs_made, taken_after, work_of}
+use Rattle.dv_views.specs.Keeping.{IsSoundLive, Turns, kept_seen, left_of, lists_of_all, named_of}
+use Rattle.dv_views.specs.Turned.{kept_after, kept_behind, rows_made}
+use Rattle.dv_views.specs.Views.{Kept}
 use Rattle.dv_views.specs.Placed.{forms, listed, lists_in, lookups_of, stage_at, with_name}
 use Rattle.dv_views.specs.Turning.{AreFresh, IsFresh, IsSoundTurner, empty_lists, turner_left, turner_makes, turner_others}
 
@@ -155,13 +159,30 @@ abbrev left_in : Live Turner → Positioned
 left_in live = left_of live.chain live.rows.entries
 
 -- rows that are kept are those that the stages make of what was taken in
+pub entries_are : (stages : List Stage) (live : Live Turner) → IsSoundLive stages live → live.rows.entries ≡ outs_made stages (kept_seen live).taken
+entries_are stages live sound = sound.taken.1 ∙ ap (λ (fs : List Form). through fs (left_in live)) sound.forms
+
 pub rows_are_made : (stages : List Stage) (live : Live Turner) → IsSoundLive stages live → (kept_seen live).rows ≡ rows_made stages (kept_seen live).taken
-rows_are_made stages live sound = ap forget (sound.taken.1 ∙ ap (λ (fs : List Form). through fs (left_in live)) sound.forms)
+rows_are_made stages live sound = ap forget (entries_are stages live sound)
+
+-- each input stays
+pub input_stays : (stages : List Stage) (before after : Live Turner) (input : Input) → IsSoundLive stages before → IsSoundLive stages after → HasInput input (kept_seen before).taken.named → HasInput input (kept_seen after).taken.named
+input_stays stages before after Left b a h = tt
+input_stays stages before after (Named i) b a h =
+    let few = b.count in
+    let many = a.count in
+    omega (arith, few, many)
+
+abbrev pub arrival : Input → Change → Arrival
+arrival input change = record { input = input; change = change }
 
 module _ (stay : StayPositioned) (stages : List Stage) (before after : Live Turner) (input : Input) (c : Change) (exact : IsExactChange c) (sound : IsSoundLive stages before)
     (forms_now : forms_in after.chain ≡ forms_after input c (forms_in before.chain))
     (taken_now : (rows : Positioned) → HaveTaken before.chain before.rows.entries rows → HaveTaken after.chain after.rows.entries (left_after input c rows))
-    (ticks_now : (rows : Positioned) → HaveTaken before.chain before.rows.entries rows → after.ticks ≡ raised before.ticks (work_in input c (forms_in before.chain) rows)) where
+    (ticks_now : (rows : Positioned) → HaveTaken before.chain before.rows.entries rows → after.ticks ≡ raised before.ticks (work_in input c (forms_in before.chain) rows))
+    (first now : List Change)
+    (told_now : (rows : Positioned) → HaveTaken before.chain before.rows.entries rows → now ≡ first ++ pass_in input c (forms_in before.chain) rows)
+    (leads_now : (rows : Positioned) → HaveTaken before.chain before.rows.entries rows → after.rows.entries ≡ with_changes before.rows.entries (pass_in input c (forms_in before.chain) rows)) where
   taken : HaveTaken after.chain after.rows.entries (left_after input c (left_in before))
   taken = taken_now (left_in before) sound.taken
 
@@ -174,7 +195,7 @@ module _ (stay : StayPositioned) (stages : List Stage) (before after : Live Turn
   forms-now : forms_in after.chain ≡ forms stages (others_after input c (named_of before.chain))
   forms-now = forms_now ∙ ap (forms_after input c) sound.forms ∙ forms-after input c stages (named_of before.chain)
 
-  pub sound_after : IsSoundLive stages after
+  sound_after : IsSoundLive stages after
   sound_after = record {
     forms = forms-now ∙ ap (forms stages) (sym named);
     taken = subst (HaveTaken after.chain after.rows.entries) (sym left) taken;
@@ -191,12 +212,26 @@ module _ (stay : StayPositioned) (stages : List Stage) (before after : Live Turn
   ticks-after : after.ticks ≡ raised before.ticks (work_of stages input c (kept_seen before).taken)
   ticks-after = ticks_now (left_in before) sound.taken ∙ ap (λ (fs : List Form). raised before.ticks (work_in input c fs (left_in before))) sound.forms
 
-  pub kept_is : kept_seen after ≡ kept_after stages c (kept_seen before) input
-  kept_is = λ i. record { taken = taken-after i; rows = rows-after i; ticks = ticks-after i }
+  abbrev handed : List Change
+  handed = handed_by stages (arrival input c ∷ []) (kept_seen before).taken
+
+  passed : pass_in input c (forms_in before.chain) (left_in before) ≡ handed
+  passed = ap (λ (fs : List Form). pass_in input c fs (left_in before)) sound.forms ∙ sym (append-nil (pass_in input c (forms stages (named_of before.chain)) (left_in before)))
+
+  pub turns_once : Turns stages (arrival input c ∷ []) before first after now
+  turns_once = record {
+    sound = sound_after;
+    kept = λ i. record { taken = taken-after i; rows = rows-after i; ticks = ticks-after i };
+    told = told_now (left_in before) sound.taken ∙ ap (λ (cs : List Change). first ++ cs) passed;
+    leads =
+        (λ i. with_changes (sym (entries_are stages before sound) i) (sym passed i))
+        ∙ sym (leads_now (left_in before) sound.taken)
+        ∙ entries_are stages after sound_after;
+  }
 
 -- ---- the same of what a call answers
 
-module _ (stay : StayPositioned) (stages : List Stage) (before : Live Turner) (input : Input) (c d : Change) (same : d ≡ c) (exact : IsExactChange c) (sound : IsSoundLive stages before) where
+module _ (stay : StayPositioned) (stages : List Stage) (before : Live Turner) (input : Input) (c d : Change) (same : d ≡ c) (exact : IsExactChange c) (sound : IsSoundLive stages before) (first now : List Change) where
   abbrev FormsNow : Live Turner → Change → Type 0
   FormsNow after e = forms_in after.chain ≡ forms_after input e (forms_in before.chain)
 
@@ -206,13 +241,75 @@ module _ (stay : StayPositioned) (stages : List Stage) (before : Live Turner) (i
   abbrev TicksNow : Live Turner → Change → Type 0
   TicksNow after e = (rows : Positioned) → HaveTaken before.chain before.rows.entries rows → after.ticks ≡ raised before.ticks (work_in input e (forms_in before.chain) rows)
 
-  pub result_sound : {E : Type 0} (r : Result (Live Turner) E) → IfOk r (λ (after : Live Turner). FormsNow after d) → IfOk r (λ (after : Live Turner). TakenNow after d) → IfOk r (λ (after : Live Turner). TicksNow after d) → IfOk r (λ after. IsSoundLive stages after)
-  result_sound (Ok after) formed took ticked = sound_after stay stages before after input c exact sound (subst (FormsNow after) same formed) (subst (TakenNow after) same took) (subst (TicksNow after) same ticked)
-  result_sound (Err e) formed took ticked = tt
+  abbrev ToldNow : Live Turner → Change → Type 0
+  ToldNow after e = (rows : Positioned) → HaveTaken before.chain before.rows.entries rows → now ≡ first ++ pass_in input e (forms_in before.chain) rows
 
-  pub result_kept : {E : Type 0} (r : Result (Live Turner) E) → IfOk r (λ (after : Live Turner). FormsNow after d) → IfOk r (λ (after : Live Turner). TakenNow after d) → IfOk r (λ (after : Live Turner). TicksNow after d) → IfOk r (λ after. kept_seen after ≡ kept_after stages c (kept_seen before) input)
-  result_kept (Ok after) formed took ticked = kept_is stay stages before after input c exact sound (subst (FormsNow after) same formed) (subst (TakenNow after) same took) (subst (TicksNow after) same ticked)
-  result_kept (Err e) formed took ticked = tt
+  abbrev LeadsNow : Live Turner → Change → Type 0
+  LeadsNow after e = (rows : Positioned) → HaveTaken before.chain before.rows.entries rows → after.rows.entries ≡ with_changes before.rows.entries (pass_in input e (forms_in before.chain) rows)
+
+  pub result_turns : {E : Type 0} (r : Result (Live Turner) E) → IfOk r (λ (after : Live Turner). FormsNow after d) → IfOk r (λ (after : Live Turner). TakenNow after d) → IfOk r (λ (after : Live Turner). TicksNow after d)
+      → IfOk r (λ (after : Live Turner). ToldNow after d) → IfOk r (λ (after : Live Turner). LeadsNow after d) → IfOk r (λ (after : Live Turner). Turns stages (arrival input c ∷ []) before first after now)
+  result_turns (Ok after) formed took ticked told leads =
+      turns_once stay stages before after input c exact sound (subst (FormsNow after) same formed) (subst (TakenNow after) same took) (subst (TicksNow after) same ticked) first now (subst (ToldNow after) same told)
+      (subst (LeadsNow after) same leads)
+  result_turns (Err e) formed took ticked told leads = tt
+
+-- ---- one after the other
+
+handed-both : (stages : List Stage) (xs ys : List Arrival) (kept : Kept) → handed_by stages (xs ++ ys) kept.taken ≡ handed_by stages xs kept.taken ++ handed_by stages ys (kept_behind stages xs kept).taken
+handed-both stages [] ys kept = refl
+handed-both stages (x ∷ xs) ys kept =
+    let one = pass_in x.input x.change (forms stages kept.taken.named) kept.taken.left in
+    ap (λ (cs : List Change). one ++ cs) (handed-both stages xs ys (kept_after stages kept x))
+    ∙ sym (append_assoc one (handed_by stages xs (taken_after x.input x.change kept.taken)) (handed_by stages ys (kept_behind stages xs (kept_after stages kept x)).taken))
+
+pub turns_none : (stages : List Stage) (live : Live Turner) (first : List Change) → IsSoundLive stages live → Turns stages [] live first live first
+turns_none stages live first sound = record { sound = sound; kept = refl; told = sym (append-nil first); leads = refl }
+
+module _ (stages : List Stage) (xs ys : List Arrival) (before mid after : Live Turner) (first told now : List Change) where
+  pub turns_then : Turns stages xs before first mid told → Turns stages ys mid told after now → Turns stages (xs ++ ys) before first after now
+  turns_then one two =
+      let k = kept_seen before in
+      let b = kept_seen mid in
+      let hx = handed_by stages xs k.taken in
+      let hy = handed_by stages ys b.taken in
+      let handed : handed_by stages (xs ++ ys) k.taken ≡ hx ++ hy = handed-both stages xs ys k ∙ ap (λ (m : Kept). hx ++ handed_by stages ys m.taken) (sym one.kept) in
+      record {
+        sound = two.sound;
+        kept = two.kept ∙ ap (kept_behind stages ys) one.kept ∙ sym (fold-append (kept_after stages) k xs ys);
+        told = two.told ∙ ap (λ (cs : List Change). cs ++ hy) one.told ∙ append_assoc first hx hy ∙ ap (λ (cs : List Change). first ++ cs) (sym handed);
+        leads =
+            ap (with_changes (outs_made stages k.taken)) handed
+            ∙ with_changes-both (outs_made stages k.taken) hx hy
+            ∙ ap (λ (rows : Positioned). with_changes rows hy) one.leads
+            ∙ two.leads;
+      }
+
+map-last : (input : Input) (cs : List Change) (c : Change) → map (arrival input) (cs ++ c ∷ []) ≡ map (arrival input) cs ++ arrival input c ∷ []
+map-last input [] c = refl
+map-last input (d ∷ cs) c = ap (λ (all : List Arrival). arrival input d ∷ all) (map-last input cs c)
+
+module _ (stages : List Stage) (before mid after : Live Turner) (first told now : List Change) where
+  pub turns_more : (input : Input) (cs more : List Change) (c : Change) → more ≡ cs ++ c ∷ [] → Turns stages (map (arrival input) cs) before first mid told → Turns stages (arrival input c ∷ []) mid told after now
+      → Turns stages (map (arrival input) more) before first after now
+  turns_more input cs more c is one two =
+      subst (λ (all : List Arrival). Turns stages all before first after now) (sym (ap (map (arrival input)) is ∙ map-last input cs c)) (turns_then stages (map (arrival input) cs) (arrival input c ∷ []) before mid after first told now one two)
+
+lists-last : (i : ℕ) (names : List (List ℕ)) (name : List ℕ) (told : List ℕ → Option (List Change)) → arriving_at_lists i (names ++ name ∷ []) told ≡ arriving_at_lists i names told ++ arriving (Named (i + length names)) (told name)
+lists-last i [] name told = append-nil (arriving (Named i) (told name)) ∙ ap (λ n. arriving (Named n) (told name)) (let e : i ≡ i + 0 = omega arith in e)
+lists-last i (n ∷ names) name told =
+    let one = arriving (Named i) (told n) in
+    let more : suc i + length names ≡ i + suc (length names) = omega arith in
+    ap (λ (all : List Arrival). one ++ all) (lists-last (suc i) names name told ∙ ap (λ m. arriving_at_lists (suc i) names told ++ arriving (Named m) (told name)) more)
+    ∙ sym (append_assoc one (arriving_at_lists (suc i) names told) (arriving (Named (i + suc (length names))) (told name)))
+
+module _ (stages : List Stage) (before mid after : Live Turner) (first now next : List Change) where
+  pub turns_list : (told : List ℕ → Option (List Change)) (names more : List (List ℕ)) (name : List ℕ) (place : ℕ) → more ≡ names ++ name ∷ [] → length names ≡ place → Turns stages (arriving_at_lists 0 names told) before first mid now
+      → Turns stages (arriving (Named place) (told name)) mid now after next → Turns stages (arriving_at_lists 0 more told) before first after next
+  turns_list told names more name place is count one two =
+      let all : arriving_at_lists 0 more told ≡ arriving_at_lists 0 names told ++ arriving (Named place) (told name) =
+      ap (λ (ns : List (List ℕ)). arriving_at_lists 0 ns told) is ∙ lists-last 0 names name told ∙ ap (λ n. arriving_at_lists 0 names told ++ arriving (Named n) (told name)) (let e : 0 + length names ≡ place = omega (arith, count) in e) in
+      subst (λ (arrived : List Arrival). Turns stages arrived before first after next) (sym all) (turns_then stages (arriving_at_lists 0 names told) (arriving (Named place) (told name)) before mid after first now next one two)
 
 -- ---- turners that have taken in nothing
 

@@ -1,6 +1,8 @@
 -- What stages make at positions is, without these, what they make.
-use Rattle.std.proofs.Common.{◌≡◌, ℕ, List, [], ◌∷◌, map, length, take, drop, Option, Some, None, refl, ap, ◌∙◌}
+use Rattle.std.proofs.Common.{◌≡◌, ◌||◌, ℕ, Bool, true, false, List, [], ◌∷◌, map, length, take, drop, Option, Some, None, refl, ap, ◌∙◌}
 use Rattle.std.specs.Prelude.{filter}
+use Rattle.std.proofs.lemmas.Slice.Eq.{bytes_eq-Decides}
+use Rattle.std.specs.Str.{bytes_eq}
 use Rattle.std.specs.List.{AllByRecursion, flat_map}
 use Rattle.std.specs.Map.{keys_of}
 use Rattle.std.specs.Option.{option_map}
@@ -33,10 +35,8 @@ use Rattle.dv_row.specs.declared.unwind.Unwind as unwinds
 use Rattle.dv_row.specs.Projecting.{projected}
 use Rattle.dv_row.specs.Unwinding.{unwound}
 use Rattle.dv_sort.specs.Sorting.{stable}
-use Rattle.dv_views.specs.Counted.{rows_made}
-use Rattle.dv_views.specs.Placed.{forms, listed, lists_in, lookups_of, places_of, positioned, stage_at, with_name}
-use Rattle.dv_views.specs.Views.{taken_from}
-use Rattle.dv_views.proofs.Made.{forgotten}
+use Rattle.dv_views.specs.Forms.{is_among, names_read, outs_of}
+use Rattle.dv_views.specs.Placed.{Places, forms, listed, lists_in, lookups_of, positioned, stage_at, with_name}
 
 -- what the crates of the stages say
 pub record StageLaws : Type 0 where
@@ -70,15 +70,49 @@ even_stage (Limit count) named rows are one = limit_even count rows one
 even_stage (Group g) named rows are one = group_even g rows are one
 even_stage (Lookup l) named rows are one = looked_up_even l (first_of named) rows one
 
+-- ---- all stages, by what they keep of positions
+
+pub ordered_outs : (stages : List Stage) (named : List Positioned) (rows : Positioned) → IsPositioned rows → IsPositioned (work.through (forms stages named) rows)
+ordered_outs [] named rows are = are
+ordered_outs (s ∷ ss) named rows are = ordered_outs ss (drop (lists_in s) named) (stage_at s (take (lists_in s) named) rows) (ordered_stage s (take (lists_in s) named) rows are)
+
+pub even_outs : (stages : List Stage) (named : List Positioned) (rows : Positioned) → IsPositioned rows → HaveOneLength rows → HaveOneLength (work.through (forms stages named) rows)
+even_outs [] named rows are one = one
+even_outs (s ∷ ss) named rows are one =
+    let own = take (lists_in s) named in
+    even_outs ss (drop (lists_in s) named) (stage_at s own rows) (ordered_stage s own rows are) (even_stage s own rows are one)
+
+own_length : (ds : List Row) → AllByRecursion (λ (pos : PosTree). length pos ≡ 1) (keys_of (positioned ds))
+own_length [] = tt
+own_length (d ∷ ds) = (refl, own_length ds)
+
+pub one_length : (ds : List Row) → HaveOneLength (positioned ds)
+one_length ds = (1, own_length ds)
+
 -- ---- the lists that stages look into
 
-own_list : (lists : Lists) (source : List ℕ) (o : Option (List ℕ)) (names : List (List ℕ)) → forget (first_of (take (listed o) (map (places_of lists) (with_name (option_map (beside source) o) names)))) ≡ rows_at (option_map (beside source) o) lists
-own_list lists source None names = refl
-own_list lists source (Some collection) names = forgotten (lists (beside source collection))
+among-first : (name : List ℕ) (names : List (List ℕ)) → is_among name (name ∷ names) ≡ true
+among-first name names = ap (λ b. b || is_among name names) ((bytes_eq-Decides name name).1 refl)
 
-other_lists : (lists : Lists) (source : List ℕ) (o : Option (List ℕ)) (names : List (List ℕ)) → drop (listed o) (map (places_of lists) (with_name (option_map (beside source) o) names)) ≡ map (places_of lists) names
-other_lists lists source None names = refl
-other_lists lists source (Some collection) names = refl
+among-next : (name other : List ℕ) (names : List (List ℕ)) → is_among name names ≡ true → is_among name (other ∷ names) ≡ true
+among-next name other names is = by (bytes_eq name other)
+  where
+    by : (b : Bool) → b || is_among name names ≡ true
+    by true = refl
+    by false = is
+
+among-more : (name : List ℕ) (o : Option (List ℕ)) (names : List (List ℕ)) → is_among name names ≡ true → is_among name (with_name o names) ≡ true
+among-more name None names is = is
+among-more name (Some other) names is = among-next name other names is
+
+other_lists : (places : Places) (source : List ℕ) (o : Option (List ℕ)) (names : List (List ℕ)) → drop (listed o) (map places (with_name (option_map (beside source) o) names)) ≡ map places names
+other_lists places source None names = refl
+other_lists places source (Some collection) names = refl
+
+own_list : (places : Places) (lists : Lists) (source : List ℕ) (o : Option (List ℕ)) (names : List (List ℕ)) → ((name : List ℕ) → is_among name (with_name (option_map (beside source) o) names) ≡ true → forget (places name) ≡ lists name)
+    → forget (first_of (take (listed o) (map places (with_name (option_map (beside source) o) names)))) ≡ rows_at (option_map (beside source) o) lists
+own_list places lists source None names same = refl
+own_list places lists source (Some collection) names same = same (beside source collection) (among-first (beside source collection) names)
 
 module _ (laws : StageLaws) where
   forget_stage : (s : Stage) (named : List Positioned) (rows : Positioned) → IsPositioned rows → HaveOneLength rows → forget (stage_at s named rows) ≡ stage s (forget rows) (forget (first_of named))
@@ -93,21 +127,18 @@ module _ (laws : StageLaws) where
 
   -- ---- all stages
 
-  forget_through : (ss : List Stage) (source : List ℕ) (lists : Lists) (rows : Positioned) → IsPositioned rows → HaveOneLength rows
-      → forget (work.through (forms ss (map (places_of lists) (lookups_of ss source))) rows) ≡ pipes.through ss source lists (forget rows)
+  forget_through : (ss : List Stage) (source : List ℕ) (places : Places) (lists : Lists) (rows : Positioned) → IsPositioned rows → HaveOneLength rows
+      → ((name : List ℕ) → is_among name (lookups_of ss source) ≡ true → forget (places name) ≡ lists name) → forget (work.through (forms ss (map places (lookups_of ss source))) rows) ≡ pipes.through ss source lists (forget rows)
   unfolding pipes.through
-  forget_through [] source lists rows are one = refl
-  forget_through (s ∷ ss) source lists rows are one =
-      let named = map (places_of lists) (with_name (looked_into s source) (lookups_of ss source)) in
+  forget_through [] source places lists rows are one same = refl
+  forget_through (s ∷ ss) source places lists rows are one same =
+      let named = map places (with_name (looked_into s source) (lookups_of ss source)) in
       let own = take (lists_in s) named in
-      ap (λ (others : List Positioned). forget (work.through (forms ss others) (stage_at s own rows))) (other_lists lists source (from_of s) (lookups_of ss source))
-      ∙ forget_through ss source lists (stage_at s own rows) (ordered_stage s own rows are) (even_stage s own rows are one)
-      ∙ ap (pipes.through ss source lists) (forget_stage s own rows are one ∙ ap (stage s (forget rows)) (own_list lists source (from_of s) (lookups_of ss source)))
+      ap (λ (others : List Positioned). forget (work.through (forms ss others) (stage_at s own rows))) (other_lists places source (from_of s) (lookups_of ss source))
+      ∙ forget_through ss source places lists (stage_at s own rows) (ordered_stage s own rows are) (even_stage s own rows are one) (λ name is. same name (among-more name (looked_into s source) (lookups_of ss source) is))
+      ∙ ap (pipes.through ss source lists) (forget_stage s own rows are one ∙ ap (stage s (forget rows)) (own_list places lists source (from_of s) (lookups_of ss source) same))
 
-  one_length : (ds : List Row) → AllByRecursion (λ (pos : PosTree). length pos ≡ 1) (keys_of (positioned ds))
-  one_length [] = tt
-  one_length (d ∷ ds) = (refl, one_length ds)
-
-  pub from_scratch : (stages : List Stage) (source : List ℕ) (lists : Lists) → IsPositioned (places_of lists source) → rows_made stages (taken_from stages source (places_of lists)) ≡ evaluated stages source lists
-  from_scratch stages source lists are =
-      forget_through stages source lists (places_of lists source) are (1, one_length (lists source)) ∙ ap (pipes.through stages source lists) (forgotten (lists source))
+  pub from_scratch : (stages : List Stage) (source : List ℕ) (places : Places) (lists : Lists) → IsPositioned (places source) → HaveOneLength (places source) → ((name : List ℕ) → is_among name (names_read stages source) ≡ true → forget (places name) ≡ lists name)
+      → forget (outs_of stages source places) ≡ evaluated stages source lists
+  from_scratch stages source places lists are one same =
+      forget_through stages source places lists (places source) are one (λ name is. same name (among-next name source (lookups_of stages source) is)) ∙ ap (pipes.through stages source lists) (same source (among-first source (lookups_of stages source)))

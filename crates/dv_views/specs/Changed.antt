@@ -1,6 +1,6 @@
 -- What changes of a collection make of its documents, and what they may make of views.
-use Rattle.std.specs.Prelude.{◌≡◌, ℕ, false, List, [], ◌∷◌, IsSome, if◌then◌else◌, ⊤}
-use Rattle.std.specs.List.{AllByRecursion, AllZip}
+use Rattle.std.specs.Prelude.{◌≡◌, ℕ, List, [], ◌∷◌, IsSome, if◌then◌else◌, ⊤}
+use Rattle.std.specs.List.{AllByRecursion}
 use Rattle.std.specs.Str.{bytes_eq}
 use Rattle.dv_coll.specs.Collection.{HasId, IsAscending, found}
 use Rattle.dv_change.specs.declared.change.Change.{Change}
@@ -10,7 +10,6 @@ use Rattle.dv_change.specs.Changes.{with_changes, forget}
 use Rattle.dv_pipe.specs.Sources.{Row}
 use Rattle.dv_pipe.specs.Stages.{Lists}
 use Rattle.dv_views.specs.Placed.{own_position, positioned}
-use Rattle.dv_views.specs.Views.{View, Views, stale, reads}
 
 -- a collection's documents after changes
 abbrev pub changed : List Change → List Row → List Row
@@ -35,16 +34,3 @@ pub record AreMade (changes : List Change) (documents : List Row) : Type 0 where
   pub ascending : IsAscending documents
   pub identified : AllByRecursion HasId documents
   pub in_turn : AreMadeInTurn changes documents
-
--- what a view may be after changes at a namespace: the same but for its mark, the very same where it doesn't read the namespace,
--- and no more live than before
-pub record IsAfterChange (namespace : List ℕ) (before after : View) : Type 0 where
-  pub name : after.name ≡ before.name
-  pub source : after.source ≡ before.source
-  pub stages : after.stages ≡ before.stages
-  pub unread : reads before namespace ≡ false → after ≡ before
-  pub stale : before.mark ≡ stale → after.mark ≡ stale
-
--- the same of views, one by one
-abbrev pub AreAfterChange : List ℕ → Views → Views → Type 0
-AreAfterChange namespace before after = AllZip (IsAfterChange namespace) before after

@@ -1,12 +1,13 @@
 -- What a view is in memory, and what it stands for.
 use Rattle.std.specs.Prelude.{◌≡◌}
+use Rattle.std.specs.Option.{option_map}
 use Rattle.dv_views.specs.declared.view.View.TheInside.{Inside}
+use Rattle.dv_views.specs.Body.{Body}
 use Rattle.dv_views.specs.MarkView.{IsSoundMark, mark_seen}
 use Rattle.dv_views.specs.Placed.{lookups_of}
-use Rattle.dv_views.specs.Views.{Body}
 
 abbrev pub body_seen : Inside → Body
-body_seen v = record { source = v.source; stages = v.pipeline; mark = mark_seen v.mark }
+body_seen v = record { source = v.source; stages = v.pipeline; mark = mark_seen v.mark; told = option_map (λ all. all.items) v.told }
 
 -- its lists are those that its stages look into, and what it keeps is kept by these stages
 pub record IsSoundView (v : Inside) : Type 0 where

@@ -1,13 +1,16 @@
 -- What rows that are kept by changes stand for.
-use Rattle.std.specs.Prelude.{◌≡◌, ℕ, ◌+◌, List, [], ◌∷◌, length}
+use Rattle.std.specs.Prelude.{◌≡◌, ℕ, ◌+◌, List, [], ◌∷◌, ◌++◌, length}
 use Rattle.std.specs.List.{flat_map}
 use Rattle.dv_change.specs.declared.live.Live.{Live}
-use Rattle.dv_change.specs.Changes.{IsPositioned, Positioned, forget}
+use Rattle.dv_change.specs.declared.change.Change.{Change}
+use Rattle.dv_change.specs.Changes.{IsPositioned, Positioned, forget, with_changes}
 use Rattle.dv_change.specs.Linked.{HasTaken, forms_of}
 use Rattle.dv_pipe.specs.declared.stage.Stage.{Stage}
 use Rattle.dv_views.specs.declared.turner.Turner.{Turner}
 use Rattle.dv_views.specs.Placed.{forms, lists_in}
 use Rattle.dv_views.specs.Turning.{IsSoundTurner, turner_left, turner_makes, turner_others}
+use Rattle.dv_views.specs.Flow.{Arrival, handed_by, outs_made}
+use Rattle.dv_views.specs.Turned.{kept_behind}
 use Rattle.dv_views.specs.Views.{Kept}
 
 -- the rows that came to turners; where there is none, those that come out
@@ -40,3 +43,10 @@ pub record IsSoundChain (stages : List Stage) (turners : List Turner) (rows : Po
 
 abbrev pub IsSoundLive : List Stage → Live Turner → Type 0
 IsSoundLive stages live = IsSoundChain stages live.chain live.rows.entries
+
+-- rows behind all that comes, and what was told of it behind what was told before
+pub record Turns (stages : List Stage) (all : List Arrival) (before : Live Turner) (first : List Change) (after : Live Turner) (now : List Change) : Type 0 where
+  pub sound : IsSoundLive stages after
+  pub kept : kept_seen after ≡ kept_behind stages all (kept_seen before)
+  pub told : now ≡ first ++ handed_by stages all (kept_seen before).taken
+  pub leads : with_changes (outs_made stages (kept_seen before).taken) (handed_by stages all (kept_seen before).taken) ≡ outs_made stages (kept_seen after).taken

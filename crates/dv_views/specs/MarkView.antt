@@ -3,17 +3,15 @@ use Rattle.std.specs.Prelude.{List, ⊤}
 use Rattle.dv_pipe.specs.declared.stage.Stage.{Stage}
 use Rattle.dv_views.specs.declared.view.Mark as marks
 use Rattle.dv_views.specs.declared.view.Mark.TheVariants.{Live, Made, Stale}
-use Rattle.dv_views.specs.Anew.{made_kept}
 use Rattle.dv_views.specs.Keeping.{IsSoundLive, kept_seen}
-use Rattle.dv_views.specs.Seen.{IsWellKept}
-use Rattle.dv_views.specs.Views.{Mark, live, stale}
+use Rattle.dv_views.specs.Views.{Mark, anew, live, stale}
 
 abbrev pub mark_seen : marks.Mark → Mark
 mark_seen (Live rows) = live (kept_seen rows)
-mark_seen (Made rows) = live (made_kept rows)
+mark_seen (Made rows) = anew rows.items
 mark_seen Stale = stale
 
 abbrev pub IsSoundMark : List Stage → marks.Mark → Type 0
 IsSoundMark stages (Live rows) = IsSoundLive stages rows
-IsSoundMark stages (Made rows) = IsWellKept stages (live (made_kept rows))
+IsSoundMark stages (Made rows) = ⊤
 IsSoundMark stages Stale = ⊤

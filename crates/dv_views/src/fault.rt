@@ -14,9 +14,7 @@ pub enum ViewFault {
     Exists,
     /// A view reads the name, or the new view would read its own name.
     ReadByView,
-    /// What the new view would read is a view.
-    OnView,
-    /// There are a thousand views.
+    /// There are a thousand views, or the new one would stand over views of which one stands at height 8.
     LimitReached,
     /// Memory is wanting.
     NoMemory,
@@ -25,14 +23,13 @@ pub enum ViewFault {
 impl ViewFault {
     ghost use Rattle.dv_views.specs.Fault.{fault_number};
 
-    /// The fault's number, from 1 in the order in which the faults are declared.
+    /// The fault's number.
     pub fn number(&self) -> u8
         ensures { result ≡ fault_number self.now }
     {
         match self {
             ViewFault::Exists => 1,
             ViewFault::ReadByView => 2,
-            ViewFault::OnView => 3,
             ViewFault::LimitReached => 4,
             ViewFault::NoMemory => 5,
         }
@@ -49,7 +46,6 @@ impl fmt::Display for ViewFault {
         match *self {
             ViewFault::Exists => write!(f, "Exists"),
             ViewFault::ReadByView => write!(f, "ReadByView"),
-            ViewFault::OnView => write!(f, "OnView"),
             ViewFault::LimitReached => write!(f, "LimitReached"),
             ViewFault::NoMemory => write!(f, "NoMemory"),
         }

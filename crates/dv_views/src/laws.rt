@@ -1,22 +1,24 @@
 //! What holds of changes and of views, each the contract of a function that does nothing.
 
-ghost use Rattle.std.specs.Prelude.{◌≡◌, ◌≢◌, ◌++◌, ◌∷◌, [], ℕ, List, length, Some, None, true, false, codes, is_some, if◌then◌else◌};
-ghost use Rattle.std.specs.List.{AllByRecursion};
+ghost use Rattle.std.specs.Prelude.{◌≡◌, ◌≢◌, ◌≤◌, ◌++◌, ◌∷◌, [], ℕ, List, length, map, Some, None, true, false, codes, is_some, if◌then◌else◌};
+ghost use Rattle.std.specs.List.{AllByRecursion, list_any};
+ghost use Rattle.std.specs.Str.{bytes_eq};
 ghost use Rattle.dv_coll.specs.Collection.{HasId, IsAscending, found, id_key, inserted, removed, replaced};
 ghost use Rattle.dv_change.specs.declared.position.Part.TheVariants.{Up};
+ghost use Rattle.dv_change.specs.declared.change.Change.{Change};
 ghost use Rattle.dv_change.specs.declared.change.Change.TheVariants.{Put, Gone};
+ghost use Rattle.dv_change.specs.Changes.{HaveOneLength, IsPositioned, forget};
 ghost use Rattle.dv_order.specs.Key.{KeyTree};
 ghost use Rattle.dv_pipe.specs.Sources.{Row};
-ghost use Rattle.dv_pipe.specs.Stages.{Lists, evaluated, is_read};
+ghost use Rattle.dv_pipe.specs.Stages.{Lists, evaluated};
 ghost use Rattle.dv_pipe.specs.declared.stage.Stage.{Stage};
 ghost use Rattle.dv_views.specs.Changed.{AreMade, AreMadeInTurn, changed};
-ghost use Rattle.dv_change.specs.Changes.{IsPositioned};
-ghost use Rattle.dv_views.specs.Counted.{inputs_at, rows_made};
-ghost use Rattle.dv_views.specs.Placed.{own_position, places_of};
-ghost use Rattle.dv_views.specs.Views.{AreRight, View, Views, fault_of_new, has_view, kept_anew, new_view, reads_name, refreshed, rows_shown, taken_from, view_named, without};
-ghost use Rattle.dv_views.specs.declared.fault.ViewFault.TheVariants.{Exists, LimitReached, OnView, ReadByView};
-
-use dv_change::Change;
+ghost use Rattle.dv_views.specs.Examples.{over, seven};
+ghost use Rattle.dv_views.specs.Flow.{nothing, shares};
+ghost use Rattle.dv_views.specs.Forms.{ViewForm, fault_of_new, height_over, heights, is_among, is_read_by, names_read, needed, outs_of, rows_over};
+ghost use Rattle.dv_views.specs.Placed.{Places, own_position};
+ghost use Rattle.dv_views.specs.Views.{AreNamedApart, AreRight, Views, form_of, reads_name, rows_shown, without};
+ghost use Rattle.dv_views.specs.declared.fault.ViewFault.TheVariants.{Exists, LimitReached, ReadByView};
 
 /// A document that is put at its own position stands in place of the one that has an equal `_id`, where there is one,
 /// and else it comes in its place.
@@ -46,10 +48,11 @@ pub fn changes_follow_on()
     dv_order::laws::equal_keys_are_one();
 }
 
-/// What stages make at positions, of lists that stand at the positions of their documents, are the rows of the pipeline from
-/// scratch: so what a live view keeps by changes is what it would have if it were made anew.
+/// What stages make at positions are, without these, the rows of the pipeline from scratch, where each name that they read has
+/// the same rows with positions and without them: so what a live view keeps by changes is what it would have if it were made
+/// anew.
 pub fn kept_rows_are_those_from_scratch()
-    ensures { (stages : List Stage) (source : List ℕ) (lists : Lists) → IsPositioned (places_of lists source) → rows_made stages (taken_from stages source (places_of lists)) ≡ evaluated stages source lists }
+    ensures { (stages : List Stage) (source : List ℕ) (places : Places) (lists : Lists) → IsPositioned (places source) → HaveOneLength (places source) → ((name : List ℕ) → is_among name (names_read stages source) ≡ true → forget (places name) ≡ lists name) → forget (outs_of stages source places) ≡ evaluated stages source lists }
 {
     dv_flow::laws::matched_rows_are_the_filter();
     dv_flow::laws::shown_rows_are_each_row_as_it_is_shown();
@@ -68,58 +71,55 @@ pub fn what_is_not_read_does_not_matter()
     dv_pipe::laws::what_is_not_read_does_not_matter();
 }
 
-/// What a view keeps as it is made is the same over lists that are the same wherever its pipeline reads.
-#[tactic(auto, using(crate::proofs::Right::kept_over_others))]
-pub fn what_is_not_read_is_not_kept()
-    ensures { (stages : List Stage) (source : List ℕ) (lists others : Lists) → ((name : List ℕ) → is_read stages source name ≡ true → lists name ≡ others name) → kept_anew stages source lists ≡ kept_anew stages source others }
+/// Changes of what no view reads come to none, so they count no work.
+#[tactic(auto, using(crate::proofs::Unread::no_shares))]
+pub fn what_is_not_read_is_not_counted()
+    ensures { (namespace : List ℕ) (changes : List Change) (lists : Lists) (views : List ViewForm) → is_read_by views namespace ≡ false → shares namespace changes lists views ≡ map (λ v. nothing) views }
+{}
+
+/// Each view has one share of changes.
+#[tactic(auto, using(crate::proofs::Unread::shares_length))]
+pub fn each_view_has_its_share()
+    ensures { (namespace : List ℕ) (changes : List Change) (lists : Lists) (views : List ViewForm) → length (shares namespace changes lists views) ≡ length views }
+{}
+
+/// Views stay right where one is taken out that none reads.
+#[tactic(auto, using(crate::proofs::Right::right_without))]
+pub fn a_removed_view_leaves_views_right()
+    ensures { (name : List ℕ) (lists : Lists) (views : Views) → reads_name views name ≡ false → AreRight lists views → AreRight lists (without name views) }
 {
     dv_pipe::laws::what_is_not_read_does_not_matter();
 }
 
-/// Changes of what a pipeline doesn't read come to none of its inputs, so they count no work.
-#[tactic(auto, using(crate::proofs::Behind::no_inputs))]
-pub fn what_is_not_read_is_not_counted()
-    ensures { (stages : List Stage) (source namespace : List ℕ) → is_read stages source namespace ≡ false → inputs_at stages source namespace ≡ [] }
-{}
-
-/// Views stay right where one more is made.
-#[tactic(auto, using(crate::proofs::Right::right_with_new))]
-pub fn a_new_view_leaves_views_right()
-    ensures { (name source : List ℕ) (stages : List Stage) (lists : Lists) (views : Views) → AreRight lists views → AreRight lists (views ++ new_view name source stages lists ∷ []) }
-{}
-
-/// Views stay right where one is taken out.
-#[tactic(auto, using(crate::proofs::Right::right_without))]
-pub fn a_removed_view_leaves_views_right()
-    ensures { (name : List ℕ) (lists : Lists) (views : Views) → AreRight lists views → AreRight lists (without name views) }
-{}
-
-/// Views stay right where one is made anew.
-#[tactic(auto, using(crate::proofs::Right::right_refreshed))]
-pub fn a_refreshed_view_leaves_views_right()
-    ensures { (name : List ℕ) (lists : Lists) (views : Views) → AreRight lists views → AreRight lists (refreshed name lists views) }
-{}
-
-/// What a right view shows are the rows of its pipeline; and a view shows rows once it is made anew.
-#[tactic(auto, using(crate::proofs::Right::right_shown, crate::proofs::Right::shown_refreshed))]
+/// What a right view shows are the rows that stand under its name; and under another name stands what the list holds.
+#[tactic(auto, using(crate::proofs::Shown::right_shown, crate::proofs::Shown::no_rows))]
 pub fn what_is_shown_is_right()
-    ensures rows { (name : List ℕ) (lists : Lists) (views : Views) (v : View) (rows : List Row) → AreRight lists views → view_named name views ≡ Some v → rows_shown name views ≡ Some rows → rows ≡ evaluated v.stages v.source lists }
-    ensures shown { (name : List ℕ) (lists : Lists) (views : Views) → is_some (rows_shown name (refreshed name lists views)) ≡ has_view name views }
+    ensures rows { (name : List ℕ) (lists : Lists) (views : Views) (rows : List Row) → AreNamedApart views → AreRight lists views → rows_shown name views ≡ Some rows → rows ≡ rows_over (map form_of views) lists name }
+    ensures none { (name : List ℕ) (lists : Lists) (views : List ViewForm) → list_any (λ v. bytes_eq name v.name) views ≡ false → rows_over views lists name ≡ lists name }
 {}
 
-/// Beside the view `v` of `c` there is no second one, none over it, and none in place of what it reads, told in this order;
-/// nor is there one over itself.
+/// What is asked for is needed, and where nothing is, nothing else is.
+#[tactic(auto, using(crate::proofs::Needed::asked, crate::proofs::Needed::none_needed))]
+pub fn what_is_asked_for_is_needed()
+    ensures asked { (views : List ViewForm) (names : List (List ℕ)) (name : List ℕ) → is_among name names ≡ true → is_among name (needed views names) ≡ true }
+    ensures none { (views : List ViewForm) → needed views [] ≡ [] }
+{}
+
+/// Beside the view `v` of `c` there is no second one, and none in place of what it reads, told in this order; nor is there one
+/// over itself; one over `v` there is, and eight of which each stands over the one before, and no ninth.
 pub fn refusals_by_example()
-    ensures exists { (lists : Lists) → fault_of_new (new_view (codes "v") (codes "c") [] lists ∷ []) (codes "v") (codes "v") [] ≡ Some Exists }
-    ensures on_view { (lists : Lists) → fault_of_new (new_view (codes "v") (codes "c") [] lists ∷ []) (codes "c") (codes "v") [] ≡ Some OnView }
-    ensures read_by_view { (lists : Lists) → fault_of_new (new_view (codes "v") (codes "c") [] lists ∷ []) (codes "c") (codes "d") [] ≡ Some ReadByView }
+    ensures exists { fault_of_new (over (codes "v") (codes "c") ∷ []) (codes "v") (codes "v") [] ≡ Some Exists }
+    ensures read_by_view { fault_of_new (over (codes "v") (codes "c") ∷ []) (codes "c") (codes "d") [] ≡ Some ReadByView }
     ensures itself { fault_of_new [] (codes "w") (codes "w") [] ≡ Some ReadByView }
-    ensures beside { (lists : Lists) → fault_of_new (new_view (codes "v") (codes "c") [] lists ∷ []) (codes "w") (codes "c") [] ≡ None }
+    ensures beside { fault_of_new (over (codes "v") (codes "c") ∷ []) (codes "w") (codes "c") [] ≡ None }
+    ensures on_view { fault_of_new (over (codes "v") (codes "c") ∷ []) (codes "w") (codes "v") [] ≡ None }
+    ensures eighth { fault_of_new seven (codes "8") (codes "7") [] ≡ None }
+    ensures ninth { fault_of_new (seven ++ over (codes "8") (codes "7") ∷ []) (codes "9") (codes "8") [] ≡ Some LimitReached }
 {}
 
 /// The thousandth view isn't one too many, and the next is.
 #[tactic(auto, using(crate::proofs::Limit::thousandth, crate::proofs::Limit::one_more))]
 pub fn there_are_a_thousand_views_at_most()
-    ensures thousandth { (views : Views) (name source : List ℕ) (stages : List Stage) → length views ≡ 999 → fault_of_new views name source stages ≢ Some LimitReached }
-    ensures one_more { (views : Views) (name source : List ℕ) (stages : List Stage) → length views ≡ 1000 → fault_of_new views name source stages ≢ None }
+    ensures thousandth { (views : List ViewForm) (name source : List ℕ) (stages : List Stage) → length views ≡ 999 → height_over (heights views) stages source ≤ 8 → fault_of_new views name source stages ≢ Some LimitReached }
+    ensures one_more { (views : List ViewForm) (name source : List ℕ) (stages : List Stage) → length views ≡ 1000 → fault_of_new views name source stages ≢ None }
 {}

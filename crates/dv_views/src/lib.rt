@@ -1,21 +1,23 @@
-//! Views: pipelines under names of their own, each with rows that are kept by changes of what it reads, or, where a group is too
-//! large for its `$push`, made anew behind them.
+//! Views: pipelines under names of their own, over collections and over older views, each with rows that are kept by changes of what
+//! it reads, or, where a group is too large for its `$push`, made anew behind them.
 #![tactic(auto)]
 
 mod fault;
 mod keeping;
 pub mod laws;
 mod lookups;
+mod making;
+mod older;
+mod passing;
 mod places;
 mod registry;
-mod remade;
 mod rows;
 mod state;
 mod turner;
 mod view;
 
 pub use fault::ViewFault;
-pub use lookups::beside;
+pub use lookups::{beside, names_read};
 pub use places::{document_gone, document_put, key_of_id};
 pub use registry::Registry;
 pub use rows::Rows;

@@ -3,6 +3,7 @@
 ghost use Rattle.std.specs.Prelude.{◌≡◌, IfOk};
 ghost use Rattle.std.specs.String.{string_bytes};
 ghost use Rattle.dv_pipe.specs.Stages as pipes;
+ghost use Rattle.dv_views.specs.Forms as forms;
 ghost use Rattle.dv_views.specs.Placed as defined;
 
 use dv_bson::{NoMemory, Str};
@@ -24,6 +25,25 @@ pub(crate) fn lookups_of(
         }
     }
     Ok(lookups)
+}
+
+/// The names that the pipeline over `source` reads: it, and each that a stage looks into, in their order. Fails where memory is
+/// wanting.
+pub fn names_read(
+    alloc: Global,
+    source: &str,
+    pipeline: &Pipeline,
+) -> Result<Vec<Str>, NoMemory>
+    ensures { IfOk result (λ names. names.items ≡ forms.names_read pipeline.now source.now) }
+{
+    let mut names = Vec::new(alloc);
+    names.push(Str::of(String::from_str(alloc, source)?))?;
+    'stages: for stage in pipeline.stages() {
+        if let Some(collection) = stage.foreign() {
+            names.push(Str::of(beside(alloc, source, collection)?))?;
+        }
+    }
+    Ok(names)
 }
 
 /// The namespace of the collection in the database of `source`. Fails where memory is wanting.

@@ -1,29 +1,43 @@
 //! The views by their names.
 
-ghost use Rattle.std.specs.Prelude.{◌≡◌, ◌++◌, ◌∷◌, [], false, length, slice_get, Some, OnOk, OnErr};
+ghost use Rattle.std.specs.Prelude.{◌≡◌, ◌≢◌, ◌||◌, ◌<◌, ◌≤◌, ◌++◌, ◌∷◌, [], suc, false, true, fold, length, map, max, slice_get, take, None, IfOk, OnOk, OnErr};
+ghost use Rattle.std.specs.List.{AllByRecursion, list_any};
 ghost use Rattle.std.specs.Option.{option_copied, option_map};
 ghost use Rattle.dv_pipe.specs.Sources.{lists_of};
-ghost use Rattle.dv_pipe.specs.Stages.{Lists};
-ghost use Rattle.dv_views.specs.Changed.{AreAfterChange, AreMade, with_changed};
+ghost use Rattle.dv_pipe.specs.Stages.{Lists, is_read};
+ghost use Rattle.dv_views.specs.Changed.{AreMade, with_changed};
 ghost use Rattle.dv_views.specs.Counted.{AreCounted};
-ghost use Rattle.dv_views.specs.Seen.{AreTakenBy};
-ghost use Rattle.dv_views.specs.Views as defined;
-ghost use Rattle.dv_views.specs.Views.{AreNamedApart, AreReadable, AreRight, IsRefusedFor, fault_of_new, has_view, named, new_view, reads_name, reads_view, refreshed, rows_in, rows_shown, state_of, ticks_in, view_named, without};
+ghost use Rattle.dv_views.specs.Flow.{shares, told_at};
+ghost use Rattle.dv_views.specs.Forms as forms;
+ghost use Rattle.dv_views.specs.Forms.{is_among, names_read};
+ghost use Rattle.dv_views.specs.Made.{AreAlike, IsAdded, IsCreated, IsNoStale, IsRefreshedAt};
+ghost use Rattle.dv_views.specs.Older.{height_of_name};
+ghost use Rattle.dv_views.specs.Seen.{IsSoundRegistry, named};
+ghost use Rattle.dv_views.specs.Turned.{HaveTaken};
+ghost use Rattle.dv_views.specs.Views.{AreInOrder, AreNamedApart, ArePartlyRefreshed, AreRefreshed, AreRight, IsRefusedFor, form_of, has_view, is_stale, reads_name, rows_in, rows_shown, state_of, ticks_in, view_named, without};
 
 use crate::fault::ViewFault;
 use crate::laws;
+use crate::lookups::{lookups_of, names_read};
+use crate::making::{Ground, mark_over};
+use crate::older::place_before;
+use crate::passing::take_at;
 use crate::rows::Rows;
 use crate::state::ViewState;
 use crate::view::View;
-use dv_bson::NoMemory;
+use dv_bson::{NoMemory, Str};
 use dv_change::Change;
 use dv_pipe::{Pipeline, Sources};
 use indexmap::IndexMap;
 use std::alloc::Global;
 use std::marker::Model;
+use std::slice::from_ref;
 
 /// How many views there are at most.
 const MOST_VIEWS: usize = 1000;
+
+/// How high a view stands at most: one over collections alone stands at 1, and another one higher than all that it reads.
+const MOST_HEIGHT: usize = 8;
 
 /// Views in creation order, each under a name of its own. A view is found by its name in constant time.
 #[derive(Debug, Drop)]
@@ -82,29 +96,25 @@ impl Registry {
         Some(name.as_str())
     }
 
-    /// The namespace whose documents the view of this name has as its rows at first. None where there is no such view.
-    /// Takes no memory.
-    pub fn source(&self, name: &str) -> Option<&str>
-        ensures { option_copied result ≡ option_map (λ v. v.source) (view_named name.now self.now) }
-    {
-        let view = self.view(name)?;
-        Some(view.source())
-    }
-
-    /// The pipeline of the view of this name. None where there is no such view. Takes no memory.
-    pub fn pipeline(&self, name: &str) -> Option<&Pipeline>
-        ensures { option_copied result ≡ option_map (λ v. v.stages) (view_named name.now self.now) }
-    {
-        let view = self.view(name)?;
-        Some(view.pipeline())
-    }
-
     /// Whether the view of this name has its rows. None where there is no such view. Takes no memory.
     pub fn state(&self, name: &str) -> Option<ViewState>
         ensures { result ≡ option_map (λ v. state_of v.mark) (view_named name.now self.now) }
     {
         let view = self.view(name)?;
         Some(view.state())
+    }
+
+    /// Whether some view is stale. Takes no memory.
+    #[tactic(auto, using(crate::proofs::Entries::stale_seen))]
+    pub fn has_stale(&self) -> bool
+        ensures { result ≡ list_any (λ v. is_stale v.mark) self.now }
+    {
+        'views: for view in self.views.values() {
+            if view.is_stale() {
+                return true;
+            }
+        }
+        false
     }
 
     /// The rows that the view of this name keeps, in order. None where there is no such view, or a stale one. Takes no
@@ -154,40 +164,51 @@ impl Registry {
         false
     }
 
-    /// Whether the pipeline over `source` reads a view.
-    #[tactic(auto, using(crate::proofs::Entries::over_seen))]
-    fn is_over_view(&self, source: &str, pipeline: &Pipeline) -> bool
-        ensures { result ≡ reads_view self.now source.now pipeline.now }
+    /// The names that are needed for these: these, and behind them what each view that is needed reads. Fails where memory is
+    /// wanting.
+    pub fn needed(&self, names: Vec<Str>) -> Result<Vec<Str>, NoMemory>
+        ensures needed { IfOk result (λ all. all.items ≡ forms.needed (map form_of self.now) names.items) }
+        ensures closed { IfOk result (λ all. forms.IsClosed all.items (map form_of self.now)) }
     {
-        'views: for name in self.views.keys() {
-            if pipeline.reads(source, name.as_str()) {
-                return true;
+        let mut needed = names;
+        let mut place = self.views.len();
+        'views: while place > 0 {
+            place -= 1;
+            if let Some((name, view)) = self.views.get_index(place) {
+                if is_listed(&needed, name.as_str()) {
+                    push_names_read(&mut needed, view)?;
+                }
             }
         }
-        false
+        Ok(needed)
     }
 
-    /// Why there can be no such view, if there is a reason other than memory: the first that holds.
-    fn fault_of_new(&self, name: &str, source: &str, pipeline: &Pipeline) -> Option<ViewFault>
-        ensures { result ≡ fault_of_new self.now name.now source.now pipeline.now }
+    /// Why there can be no such view, if there is a reason other than memory: the first that holds. Fails where memory is
+    /// wanting.
+    fn fault_of_new(
+        &self,
+        name: &str,
+        source: &str,
+        pipeline: &Pipeline,
+    ) -> Result<Option<ViewFault>, NoMemory>
+        ensures { IfOk result (λ fault. fault ≡ forms.fault_of_new (map form_of self.now) name.now source.now pipeline.now) }
     {
         if self.has(name) {
-            Some(ViewFault::Exists)
-        } else if self.is_over_view(source, pipeline) {
-            Some(ViewFault::OnView)
-        } else if self.is_read(name) || pipeline.reads(source, name) {
-            Some(ViewFault::ReadByView)
-        } else if self.len() < MOST_VIEWS {
-            None
-        } else {
-            Some(ViewFault::LimitReached)
+            return Ok(Some(ViewFault::Exists));
         }
+        if self.is_read(name) || pipeline.reads(source, name) {
+            return Ok(Some(ViewFault::ReadByView));
+        }
+        if self.len() < MOST_VIEWS && self.height_over(source, pipeline)? <= MOST_HEIGHT {
+            return Ok(None);
+        }
+        Ok(Some(ViewFault::LimitReached))
     }
 
-    /// Adds a view behind the others, with the rows that its pipeline gives over `sources`, which hold what stands under
-    /// the namespaces that it reads. Refused with the first fault that holds of `Exists`, `OnView`, `ReadByView` and
-    /// `LimitReached`, and else with `NoMemory` where memory is wanting; then nothing is changed, and the pipeline is
-    /// dropped.
+    /// Adds a view behind the others, with the rows that its pipeline gives over what stands under the names that it reads:
+    /// views, of which the stale ones that are needed are made anew first, and `sources`. Refused with the first fault that
+    /// holds of `Exists`, `ReadByView` and `LimitReached`; then nothing is changed. Else refused with `NoMemory` where memory
+    /// is wanting; then views that were made anew before stay so. The pipeline is dropped.
     pub fn create(
         &mut self,
         name: &str,
@@ -195,18 +216,24 @@ impl Registry {
         pipeline: Pipeline,
         sources: &Sources<'_>,
     ) -> Result<(), ViewFault>
-        requires { AreReadable pipeline source.now (lists_of sources.now) }
-        ensures fault { IsRefusedFor (fault_of_new self.old name.now source.now pipeline) result }
-        ensures ok { OnOk result (self.new ≡ self.old ++ new_view name.now source.now pipeline (lists_of sources.now) ∷ []) }
-        ensures err { OnErr result (self.new ≡ self.old) }
+        requires { AllByRecursion (λ n. AreInOrder (lists_of sources.now n)) (forms.needed (map form_of self.old) (names_read pipeline source.now)) }
+        ensures fault { IsRefusedFor (forms.fault_of_new (map form_of self.old) name.now source.now pipeline) result }
+        ensures refused { forms.fault_of_new (map form_of self.old) name.now source.now pipeline ≢ None → self.new ≡ self.old }
+        ensures ok { OnOk result (IsCreated name.now source.now pipeline self.old self.new) }
+        ensures err { OnErr result (ArePartlyRefreshed (forms.needed (map form_of self.old) (names_read pipeline source.now)) self.old self.new) }
+        ensures right { (lists : Lists) → AreAlike (forms.needed (map form_of self.old) (names_read pipeline source.now)) (lists_of sources.now) lists → AreRight lists self.old → AreRight lists self.new }
     {
-        match self.fault_of_new(name, source, &pipeline) {
-            Some(fault) => Err(fault),
-            None => Ok(self.add(name, source, pipeline, sources)?),
+        if let Some(fault) = self.fault_of_new(name, source, &pipeline)? {
+            return Err(fault);
         }
+        let names = names_read(self.alloc, source, &pipeline)?;
+        let needed = self.needed(names)?;
+        self.refresh(&needed, sources)?;
+        Ok(self.add(name, source, pipeline, sources)?)
     }
 
-    /// Adds a view under a new name behind the others. Fails where memory is wanting; then nothing is changed.
+    /// Adds a view under a new name behind the others, none of which that it reads is stale. Fails where memory is wanting;
+    /// then nothing is changed.
     fn add(
         &mut self,
         name: &str,
@@ -215,62 +242,197 @@ impl Registry {
         sources: &Sources<'_>,
     ) -> Result<(), NoMemory>
         requires new { has_view name.now self.old ≡ false }
-        requires read { AreReadable pipeline source.now (lists_of sources.now) }
-        ensures ok { OnOk result (self.new ≡ self.old ++ new_view name.now source.now pipeline (lists_of sources.now) ∷ []) }
+        requires unread { (forms.is_read_by (map form_of self.old) name.now || is_read pipeline source.now name.now) ≡ false }
+        requires read { AllByRecursion (λ n. AreInOrder (lists_of sources.now n)) (names_read pipeline source.now) }
+        requires live { AllByRecursion (λ n. IsNoStale (view_named n self.old)) (names_read pipeline source.now) }
+        ensures ok { OnOk result (IsAdded name.now source.now pipeline self.old self.new) }
         ensures err { OnErr result (self.new ≡ self.old) }
+        ensures right { (lists : Lists) → AreAlike (names_read pipeline source.now) (lists_of sources.now) lists → AreRight lists self.old → AreRight lists self.new }
     {
-        let view = View::new(self.alloc, source, pipeline, sources)?;
+        laws::kept_rows_are_those_from_scratch();
+        dv_pipe::laws::what_is_not_read_does_not_matter();
+        let lookups = lookups_of(self.alloc, source, &pipeline)?;
+        let ground = Ground {
+            views: &self.views,
+            place: self.views.len(),
+            sources,
+        };
+        let mark = mark_over(self.alloc, &ground, &pipeline, source, &lookups)?;
+        let source = Str::of(String::from_str(self.alloc, source)?);
+        let view = View::new(source, pipeline, lookups, mark);
         let name = String::from_str(self.alloc, name)?;
         self.views.insert(name, view)?;
         Ok(())
     }
 
-    /// Takes out the view of this name, and answers whether there was one. The others keep their order. Takes no memory.
+    /// Takes out the view of this name, which none reads, and answers whether there was one. The others keep their order.
+    /// Takes no memory.
     pub fn remove(&mut self, name: &str) -> bool
+        requires { reads_name self.old name.now ≡ false }
         ensures there { result ≡ has_view name.now self.old }
         ensures views { self.new ≡ without name.now self.old }
     {
         self.views.shift_remove(name).is_some()
     }
 
-    /// Carries changes that were made to the documents under the namespace on to the views that read it: each change goes to
-    /// each view in creation order, and there to the source first and then to each list that a stage looks into. A view counts
-    /// the work that this takes. One that finds no memory drops what it keeps and is stale, which takes none; so does one with
-    /// a `$push` over a group of more than 256 rows, whose rows are made anew.
+    /// Carries changes that were made to the documents under the namespace on to the views that stand over it: each change
+    /// goes to each view in creation order before the next one, and there to the source first and then to each list that a
+    /// stage looks into; what changes of a view's rows goes to the views that read it, one change after the other. A view
+    /// counts the work that this takes. One that finds no memory drops what it keeps and is stale, which takes none, and so
+    /// is each that reads it; so is one with a `$push` over a group of more than 256 rows, whose rows are made anew.
     pub fn apply(&mut self, namespace: &str, changes: &[Change])
+        ensures forms { map form_of self.new ≡ map form_of self.old }
         ensures right { (lists : Lists) → AreMade changes.now (lists namespace.now) → AreRight lists self.old → AreRight (with_changed namespace.now changes.now lists) self.new }
-        ensures others { AreAfterChange namespace.now self.old self.new }
-        ensures counted { AreCounted namespace.now changes.now self.old self.new }
+        ensures counted { (lists : Lists) → AreMade changes.now (lists namespace.now) → AreRight lists self.old → AreCounted (shares namespace.now changes.now lists (map form_of self.old)) self.old self.new }
     {
         laws::kept_rows_are_those_from_scratch();
+        dv_pipe::laws::what_is_not_read_does_not_matter();
         dv_order::laws::equal_keys_are_one();
         'changes: for change in changes {
-            self.take(namespace, change);
+            self.take(namespace, from_ref(change));
         }
-        let _ = &self.views;
     }
 
     /// Hands a change on to each view, in creation order.
-    fn take(&mut self, namespace: &str, change: &Change)
-        ensures { AreTakenBy namespace.now change.now self.old self.new }
+    fn take(&mut self, namespace: &str, change: &[Change])
+        ensures taken { HaveTaken (told_at namespace.now change.now) self.old self.new }
+        ensures sound { IsSoundRegistry self.new }
+    {
+        'views: for place in 0..self.views.len() {
+            take_at(self.alloc, &mut self.views, place, namespace, change);
+        }
+        self.fall_silent();
+    }
+
+    /// Lets go what views told of a change.
+    fn fall_silent(&mut self)
+        ensures { self.new ≡ self.old }
     {
         'views: for place in 0..self.views.len() {
             let view = &mut self.views[place];
-            view.take(namespace, change);
+            view.leave();
         }
     }
 
-    /// Makes the rows of the view of this name over `sources`, which hold what stands under the namespaces that it reads,
-    /// where it is stale. At another name, and at a view that has its rows, nothing is done. Fails where memory is
-    /// wanting; then nothing is changed.
-    pub fn refresh(&mut self, name: &str, sources: &Sources<'_>) -> Result<(), NoMemory>
-        requires { (v : defined.View) → view_named name.now self.old ≡ Some v → AreReadable v.stages v.source (lists_of sources.now) }
-        ensures ok { OnOk result (self.new ≡ refreshed name.now (lists_of sources.now) self.old) }
-        ensures err { OnErr result (self.new ≡ self.old) }
+    /// Makes the stale views of these names anew, in creation order, over older views and `sources`. The names are such as
+    /// `needed` gives: with each view those that it reads. Fails where memory is wanting; then views that were made anew
+    /// before stay so.
+    pub fn refresh(&mut self, names: &[Str], sources: &Sources<'_>) -> Result<(), NoMemory>
+        requires closed { forms.IsClosed names.now (map form_of self.old) }
+        requires read { AllByRecursion (λ n. AreInOrder (lists_of sources.now n)) names.now }
+        ensures ok { OnOk result (AreRefreshed names.now self.old self.new) }
+        ensures err { OnErr result (ArePartlyRefreshed names.now self.old self.new) }
+        ensures right { (lists : Lists) → AreAlike names.now (lists_of sources.now) lists → AreRight lists self.old → AreRight lists self.new }
     {
-        match self.views.get_mut(name) {
-            Some(view) => view.make_anew(self.alloc, sources),
-            None => Ok(()),
+        'views: for place in 0..self.views.len() {
+            self.refresh_at(place, names, sources)?;
+        }
+        Ok(())
+    }
+
+    /// Makes the view at a place anew, where it is stale and its name is one of these. Fails where memory is wanting; then
+    /// nothing is changed.
+    fn refresh_at(
+        &mut self,
+        place: usize,
+        names: &[Str],
+        sources: &Sources<'_>,
+    ) -> Result<(), NoMemory>
+        requires place { place < length self.old }
+        requires closed { forms.IsClosed names.now (map form_of self.old) }
+        requires read { AllByRecursion (λ n. AreInOrder (lists_of sources.now n)) names.now }
+        requires fresh { AllByRecursion (λ v. is_among v.name names.now ≡ true → is_stale v.mark ≡ false) (take place self.old) }
+        ensures ok { OnOk result (IsRefreshedAt place names.now self.old self.new) }
+        ensures err { OnErr result (self.new ≡ self.old) }
+        ensures right { (lists : Lists) → AreAlike names.now (lists_of sources.now) lists → AreRight lists self.old → AreRight lists self.new }
+    {
+        laws::kept_rows_are_those_from_scratch();
+        dv_pipe::laws::what_is_not_read_does_not_matter();
+        let Some((name, view)) = self.views.get_index(place) else {
+            unreachable!()
+        };
+        if !view.is_stale() || !is_listed(names, name.as_str()) {
+            return Ok(());
+        }
+        let ground = Ground {
+            views: &self.views,
+            place,
+            sources,
+        };
+        let mark = mark_over(
+            self.alloc,
+            &ground,
+            view.pipeline(),
+            view.source(),
+            view.lookups(),
+        )?;
+        let view = &mut self.views[place];
+        view.keep(mark);
+        Ok(())
+    }
+
+    /// How high a view of the pipeline over `source` would stand. Fails where memory is wanting.
+    fn height_over(&self, source: &str, pipeline: &Pipeline) -> Result<usize, NoMemory>
+        ensures { IfOk result (λ height. height ≡ forms.height_over (forms.heights (map form_of self.now)) pipeline.now source.now) }
+    {
+        let mut heights = Vec::with_capacity(self.alloc, self.views.len())?;
+        'views: for place in 0..self.views.len() {
+            let view = &self.views[place];
+            let height = height_at(&self.views, &heights, view.source(), view.lookups());
+            heights.push(height)?;
+        }
+        let lookups = lookups_of(self.alloc, source, pipeline)?;
+        Ok(height_at(&self.views, &heights, source, &lookups))
+    }
+}
+
+/// One more than the highest of these names, where the first views are so high, and others aren't there.
+fn height_at(
+    views: &IndexMap<String, View>,
+    heights: &[usize],
+    source: &str,
+    lookups: &[Str],
+) -> usize
+    requires { AllByRecursion (λ height. height ≤ length heights.now) heights.now }
+    ensures { result ≡ suc (fold (λ high name. max high (height_of_name views.now.entries heights.now name)) 0 (source.now ∷ lookups.now)) }
+{
+    let mut highest = height_of(views, heights, source);
+    'lists: for name in lookups {
+        highest = highest.max(height_of(views, heights, name.as_str()));
+    }
+    highest + 1
+}
+
+/// How high the view of a name stands, where it is among the first, which are so high; 0 where it isn't.
+fn height_of(views: &IndexMap<String, View>, heights: &[usize], name: &str) -> usize
+    ensures { result ≡ height_of_name views.now.entries heights.now name.now }
+{
+    match place_before(views, heights.len(), name) {
+        Some(place) => heights[place],
+        None => 0,
+    }
+}
+
+/// Whether the name is one of these.
+fn is_listed(names: &[Str], name: &str) -> bool
+    ensures { result ≡ is_among name.now names.now }
+{
+    'names: for other in names {
+        if other.as_str() == name {
+            return true;
         }
     }
+    false
+}
+
+/// Puts the names that the view reads behind the others. Fails where memory is wanting.
+fn push_names_read(names: &mut Vec<Str>, view: &View) -> Result<(), NoMemory>
+    ensures { OnOk result (names.new.items ≡ names.old.items ++ names_read view.now.stages view.now.source) }
+{
+    let alloc = *names.allocator();
+    names.push(Str::of(String::from_str(alloc, view.source())?))?;
+    'lists: for name in view.lookups() {
+        names.push(name.try_clone()?)?;
+    }
+    Ok(())
 }

@@ -1,28 +1,24 @@
 //! Views in memory.
 
-ghost use Rattle.std.specs.Prelude.{◌≡◌, ℕ, List, IfOk, OnOk, OnErr};
-ghost use Rattle.dv_pipe.specs.Sources.{lists_of};
+ghost use Rattle.std.specs.Prelude.{◌≡◌, ◌≢◌, [], Some, None, List, IfSome, false, true};
+ghost use Rattle.std.specs.Option.{option_map};
 ghost use Rattle.dv_pipe.specs.Stages.{is_read};
+ghost use Rattle.dv_views.specs.Keeping.{IsSoundLive, kept_seen};
+ghost use Rattle.dv_views.specs.MarkView.{IsSoundMark, mark_seen};
 ghost use Rattle.dv_views.specs.Placed as defined;
-ghost use Rattle.dv_views.specs.Seen.{IsTakenBy, IsWellKept};
-ghost use Rattle.dv_views.specs.Views.{AreReadable, kept_anew, kept_rows, live, made_anew, named, new_body, rows_in, state_of, ticks_in};
+ghost use Rattle.dv_views.specs.Views.{is_stale, kept_rows, live, rows_in, stale, state_of, ticks_in};
 
-use crate::keeping::{made, taken};
-use crate::laws;
-use crate::lookups::lookups_of;
-use crate::remade::Made;
 use crate::rows::Rows;
 use crate::state::ViewState;
 use crate::turner::Turner;
-use dv_bson::{NoMemory, Str};
+use dv_bson::{Document, Str};
 use dv_change::{Change, Live};
-use dv_pipe::{Pipeline, Sources};
-use std::alloc::Global;
+use dv_pipe::Pipeline;
 use std::fmt;
 use std::marker::Model;
 use std::mem::replace;
 
-/// A view: what its rows are made of, and what it keeps.
+/// A view: what its rows are made of, what it keeps, and what it tells of the change that views hand on.
 #[derive(Debug, Drop)]
 pub(crate) struct View {
     source: Str,
@@ -30,61 +26,34 @@ pub(crate) struct View {
     /// The namespaces that its stages look into, in their order.
     lookups: Vec<Str>,
     mark: Mark,
+    /// Its own changes, where the change comes to it.
+    told: Option<Vec<Change>>,
 }
 
 /// What a view keeps.
 #[derive(Drop)]
-enum Mark {
+pub(crate) enum Mark {
     /// Its rows, kept by changes.
     Live(Live<Turner>),
     /// Its rows, made anew behind a change.
-    Made(Made),
+    Made(Vec<Document>),
     /// Nothing, since its rows have to be made anew.
     Stale,
-}
-
-impl Mark {
-    ghost use Rattle.dv_views.specs.MarkView.{IsSoundMark, mark_seen};
-
-    /// What the pipeline over `source` makes of the lists that it reads, of which `lookups` are those that its stages look
-    /// into. Fails where memory is wanting.
-    fn new(
-        alloc: Global,
-        pipeline: &Pipeline,
-        source: &str,
-        lookups: &[Str],
-        sources: &Sources<'_>,
-    ) -> Result<Self, NoMemory>
-        requires lookups { lookups.now ≡ defined.lookups_of pipeline.now source.now }
-        requires read { AreReadable pipeline.now source.now (lists_of sources.now) }
-        ensures kept { IfOk result (λ mark. mark_seen mark ≡ live (kept_anew pipeline.now source.now (lists_of sources.now))) }
-        ensures sound { IfOk result (λ mark. IsSoundMark pipeline.now mark) }
-    {
-        laws::kept_rows_are_those_from_scratch();
-        match made(alloc, pipeline, source, lookups, sources) {
-            Ok(live) => Ok(Mark::Live(live)),
-            // A group is too large for its `$push`, or there is no memory for more than the rows.
-            Err(_) => {
-                let rows = Made::new(alloc, pipeline, source, lookups, sources)?;
-                Ok(Mark::Made(rows))
-            }
-        }
-    }
 }
 
 impl fmt::Debug for Mark {
     fn fmt<W: fmt::Write>(&self, f: &mut fmt::Formatter<W>) -> fmt::Result {
         match self {
             Mark::Live(live) => write!(f, "Live({})", live.len()),
-            Mark::Made(made) => write!(f, "Made({})", made.rows().len()),
+            Mark::Made(made) => write!(f, "Made({})", made.len()),
             Mark::Stale => write!(f, "Stale"),
         }
     }
 }
 
 impl Model for View {
+    ghost use Rattle.dv_views.specs.Body.{Body};
     ghost use Rattle.dv_views.specs.Code.{coded_body};
-    ghost use Rattle.dv_views.specs.Views.{Body};
 
     ghost Value = { Body };
 
@@ -98,25 +67,19 @@ impl Model for View {
 }
 
 impl View {
-    /// A view with the rows that the pipeline over `source` makes of the lists. Fails where memory is wanting.
-    pub(crate) fn new(
-        alloc: Global,
-        source: &str,
-        pipeline: Pipeline,
-        sources: &Sources<'_>,
-    ) -> Result<Self, NoMemory>
-        requires { AreReadable pipeline source.now (lists_of sources.now) }
-        ensures new { IfOk result (λ view. view ≡ new_body source.now pipeline (lists_of sources.now)) }
-        ensures kept { IfOk result (λ view. IsWellKept view.stages view.mark) }
+    /// A view that keeps this.
+    pub(crate) fn new(source: Str, pipeline: Pipeline, lookups: Vec<Str>, mark: Mark) -> Self
+        requires lookups { lookups.items ≡ defined.lookups_of pipeline source }
+        requires sound { IsSoundMark pipeline mark }
+        ensures { result ≡ record { source = source; stages = pipeline; mark = mark_seen mark; told = None } }
     {
-        let lookups = lookups_of(alloc, source, &pipeline)?;
-        let mark = Mark::new(alloc, &pipeline, source, &lookups, sources)?;
-        Ok(View {
-            source: Str::of(String::from_str(alloc, source)?),
+        View {
+            source,
             pipeline,
             lookups,
             mark,
-        })
+            told: None,
+        }
     }
 
     /// The namespace whose documents it has as its rows at first.
@@ -131,6 +94,13 @@ impl View {
         ensures { result.now ≡ self.now.stages }
     {
         &self.pipeline
+    }
+
+    /// The namespaces that its stages look into, in their order.
+    pub(crate) fn lookups(&self) -> &[Str]
+        ensures { result.now ≡ defined.lookups_of self.now.stages self.now.source }
+    {
+        self.lookups.as_slice()
     }
 
     /// Whether the view reads the namespace.
@@ -150,13 +120,20 @@ impl View {
         }
     }
 
+    /// Whether the view has no rows.
+    pub(crate) fn is_stale(&self) -> bool
+        ensures { result ≡ is_stale self.now.mark }
+    {
+        matches!(self.mark, Mark::Stale)
+    }
+
     /// The rows that the view keeps.
     pub(crate) fn rows(&self) -> Option<Rows<'_>>
         ensures { result ≡ kept_rows self.now.mark }
     {
         match &self.mark {
             Mark::Live(live) => Some(Rows::of_kept(live)),
-            Mark::Made(made) => Some(Rows::of_made(made.rows())),
+            Mark::Made(made) => Some(Rows::of_made(made.as_slice())),
             Mark::Stale => None,
         }
     }
@@ -167,7 +144,7 @@ impl View {
     {
         match &self.mark {
             Mark::Live(live) => live.len(),
-            Mark::Made(made) => made.rows().len(),
+            Mark::Made(made) => made.len(),
             Mark::Stale => 0,
         }
     }
@@ -182,47 +159,63 @@ impl View {
         }
     }
 
-    /// Takes in a change of what stands under the namespace, where the view reads it. Where memory is wanting, and where its
-    /// rows are made anew, it drops what it keeps and is stale, which takes none.
-    pub(crate) fn take(&mut self, namespace: &str, change: &Change)
-        ensures taken { (name : List ℕ) → IsTakenBy namespace.now change.now (named name self.old) (named name self.new) }
-        ensures kept { IsWellKept self.new.stages self.new.mark }
+    /// Its rows, where they are kept by changes.
+    pub(crate) fn live(&self) -> Option<&Live<Turner>>
+        ensures kept { IfSome result (λ rows. self.now.mark ≡ live (kept_seen rows.now)) }
+        ensures sound { IfSome result (λ rows. IsSoundLive self.now.stages rows.now) }
     {
-        if !self.reads(namespace) {
-            return;
-        }
-        let Mark::Live(live) = replace(&mut self.mark, Mark::Stale) else {
-            return;
-        };
-        let live = taken(
-            live,
-            &self.pipeline,
-            self.source.as_str(),
-            &self.lookups,
-            namespace,
-            change,
-        );
-        if let Ok(live) = live {
-            self.mark = Mark::Live(live);
+        match &self.mark {
+            Mark::Live(live) => Some(live),
+            Mark::Made(_) | Mark::Stale => None,
         }
     }
 
-    /// Makes the rows, where the view has none. Fails where memory is wanting; then nothing is changed.
-    pub(crate) fn make_anew(&mut self, alloc: Global, sources: &Sources<'_>) -> Result<(), NoMemory>
-        requires { AreReadable self.old.stages self.old.source (lists_of sources.now) }
-        ensures ok { OnOk result ((name : List ℕ) → named name self.new ≡ made_anew (lists_of sources.now) (named name self.old)) }
-        ensures err { OnErr result (self.new ≡ self.old) }
-        ensures kept { IsWellKept self.new.stages self.new.mark }
+    /// What it tells of the change that views hand on; none where the change doesn't come to it.
+    pub(crate) fn told(&self) -> Option<&[Change]>
+        ensures { option_map (λ all. all.now) result ≡ self.now.told }
     {
-        if let Mark::Stale = self.mark {
-            self.mark = Mark::new(
-                alloc,
-                &self.pipeline,
-                self.source.as_str(),
-                &self.lookups,
-                sources,
-            )?;
+        match &self.told {
+            Some(told) => Some(told.as_slice()),
+            None => None,
         }
-        Ok(())
+    }
+
+    /// Tells nothing.
+    pub(crate) fn leave(&mut self)
+        ensures { self.new ≡ record self.old { told = None } }
+    {
+        self.told = None;
+    }
+
+    /// Takes out the rows that are kept by changes, where they are, for a change that comes to the view: it is stale then, and
+    /// tells of no change.
+    pub(crate) fn take_out(&mut self, nothing: Vec<Change>) -> Option<Live<Turner>>
+        requires { nothing.items ≡ [] }
+        ensures left { self.new ≡ record self.old { mark = stale; told = Some [] } }
+        ensures kept { IfSome result (λ rows. self.old.mark ≡ live (kept_seen rows)) }
+        ensures sound { IfSome result (λ rows. IsSoundLive self.old.stages rows) }
+    {
+        self.told = Some(nothing);
+        match replace(&mut self.mark, Mark::Stale) {
+            Mark::Live(live) => Some(live),
+            Mark::Made(_) | Mark::Stale => None,
+        }
+    }
+
+    /// Puts back the rows behind a change, and what is told of it.
+    pub(crate) fn put_back(&mut self, rows: Live<Turner>, told: Vec<Change>)
+        requires { IsSoundLive self.old.stages rows }
+        ensures { self.new ≡ record self.old { mark = live (kept_seen rows); told = Some told.items } }
+    {
+        self.mark = Mark::Live(rows);
+        self.told = Some(told);
+    }
+
+    /// Keeps this from now on.
+    pub(crate) fn keep(&mut self, mark: Mark)
+        requires { IsSoundMark self.old.stages mark }
+        ensures { self.new ≡ record self.old { mark = mark_seen mark } }
+    {
+        self.mark = mark;
     }
 }

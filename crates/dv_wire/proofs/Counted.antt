@@ -1,8 +1,8 @@
 -- How views stand behind a step that leaves all of them live: each has counted the step's work.
 use Rattle.std.proofs.Common.{◌≡◌, ℕ, Bool, true, false, List, [], ◌∷◌, ◌++◌, Option, Some, None, Result, Ok, Err, refl, ap, ap₂, subst, ◌∙◌, inl, inr, if◌then◌else◌}
-use Rattle.dv_catalog.specs.Changes.{Change, Statement}
-use Rattle.dv_catalog.specs.Marks.{AreMarkedBy, AreMarkedWhere, IsMarkedBy, Mark, Marks, all_gone, live, mark_counted, mark_read, marks_counted, marks_made, marks_read, marks_without, stale}
-use Rattle.dv_catalog.specs.State.{Namespaces, ViewForm, documents_of, has_name, is_collection, is_view, lists_of}
+use Rattle.dv_catalog.specs.Changes.{Statement}
+use Rattle.dv_catalog.specs.Marks.{AreMarkedSo, AreMarkedWhere, IsMarkedBy, Mark, Marks, all_counted, all_gone, live, mark_counted, mark_read, marks_counted, marks_made, marks_named, marks_read, marks_without, shares_told, stale}
+use Rattle.dv_catalog.specs.State.{documents_of, has_name, is_collection, is_view, lists_of}
 use Rattle.dv_catalog.specs.State as stored
 use Rattle.dv_catalog.specs.Views.{created, dropped}
 use Rattle.dv_command.specs.Asked as asking
@@ -12,29 +12,29 @@ use Rattle.dv_core.specs.Marks.{AreMarkedAll, AreMarkedByEach, AreMarkedByWrite,
 use Rattle.dv_core.specs.State.{State}
 use Rattle.dv_core.specs.Statements.{Write, Written, nothing_written, with_next}
 use Rattle.dv_core.specs.Writes.{write_by}
+use Rattle.dv_views.specs.Flow.{Share}
+use Rattle.dv_views.specs.Forms.{ViewForm, is_among, names_read, needed}
 use Rattle.dv_wire.specs.Standing.{AreLive}
 
 -- ---- behind changes
 
-module _ (namespace : List ℕ) (changes : List Change) (namespaces : Namespaces) where
-  mark_is : (v : ViewForm) (before after : Mark) → IsMarkedBy namespace changes (lists_of namespaces) v before after → (after ≡ stale → ⊥) → after ≡ mark_counted namespace changes (lists_of namespaces) v before
-  mark_is v before after (inl is) not_stale = is
-  mark_is v before after (inr struck) not_stale = absurd (not_stale struck.stale)
+mark_is : (share : Share) (before after : Mark) → IsMarkedBy share before after → (after ≡ stale → ⊥) → after ≡ mark_counted share before
+mark_is share before after (inl is) not_stale = is
+mark_is share before after (inr struck) not_stale = absurd (not_stale struck.stale)
 
-  mark_was : (v : ViewForm) (before after : Mark) → IsMarkedBy namespace changes (lists_of namespaces) v before after → (after ≡ stale → ⊥) → before ≡ stale → ⊥
-  mark_was v before after marked not_stale was = not_stale (mark_is v before after marked not_stale ∙ ap (mark_counted namespace changes (lists_of namespaces) v) was)
+mark_was : (share : Share) (before after : Mark) → IsMarkedBy share before after → (after ≡ stale → ⊥) → before ≡ stale → ⊥
+mark_was share before after marked not_stale was = not_stale (mark_is share before after marked not_stale ∙ ap (mark_counted share) was)
 
-  -- they were live before, too
-  counted_by : (views : List ViewForm) (before after : Marks) → AreMarkedBy namespace changes (lists_of namespaces) views before after → AreLive after
-      → AreLive before × (after ≡ marks_counted namespace changes (lists_of namespaces) views before)
-  counted_by [] before after is are_live = (subst AreLive is are_live, is)
-  counted_by (v ∷ views) [] after is are_live = (tt, is)
-  counted_by (v ∷ views) (mark ∷ before) [] marked are_live = absurd marked
-  counted_by (v ∷ views) (mark ∷ before) (now ∷ after) marked are_live =
-      let others = counted_by views before after marked.1 are_live.1 in (
-        (mark_was v mark now marked.0 are_live.0, others.0),
-        ap₂ (λ (m : Mark) (ms : Marks). m ∷ ms) (mark_is v mark now marked.0 are_live.0) others.1,
-      )
+-- they were live before, too
+counted_by : (shares : List Share) (before after : Marks) → AreMarkedSo shares before after → AreLive after → AreLive before × (after ≡ all_counted shares before)
+counted_by [] before after is are_live = (subst AreLive is are_live, is)
+counted_by (share ∷ rest) [] after is are_live = (tt, is)
+counted_by (share ∷ rest) (mark ∷ before) [] marked are_live = absurd marked
+counted_by (share ∷ rest) (mark ∷ before) (now ∷ after) marked are_live =
+    let others = counted_by rest before after marked.1 are_live.1 in (
+      (mark_was share mark now marked.0 are_live.0, others.0),
+      ap₂ (λ (m : Mark) (ms : Marks). m ∷ ms) (mark_is share mark now marked.0 are_live.0) others.1,
+    )
 
 -- ---- behind statements
 
@@ -45,7 +45,7 @@ module _ (namespace : List ℕ) (ordered : Bool) (views : List ViewForm) where
   each_counted so_far (statement ∷ statements) before after (mid, first, others) are_live =
       let next = with_next namespace ordered so_far statement in
       let later = each_counted next statements mid after others are_live in
-      let here = counted_by namespace (due_changes namespace ordered views so_far statement) so_far.namespaces views before mid first later.0 in
+      let here = counted_by (shares_told namespace (due_changes namespace ordered views so_far statement) (lists_of so_far.namespaces) views) before mid first later.0 in
       (here.0, later.1 ∙ ap (marks_written namespace ordered views next statements) here.1)
 
 -- ---- behind a command
@@ -58,7 +58,7 @@ module _ (old : State) (marks : Marks) (are_live : AreLive marks) where
 
   where_counted : (collection : Bool) (namespace : List ℕ) (state : stored.State) → AreMarkedWhere collection namespace state old.marks marks
       → marks ≡ (if collection then marks_counted namespace (all_gone (documents_of namespace state.namespaces)) (lists_of state.namespaces) state.views old.marks else marks_without namespace state.views old.marks)
-  where_counted true namespace state marked = (counted_by namespace (all_gone (documents_of namespace state.namespaces)) state.namespaces state.views old.marks marks marked are_live).1
+  where_counted true namespace state marked = (counted_by (shares_told namespace (all_gone (documents_of namespace state.namespaces)) (lists_of state.namespaces) state.views) old.marks marks marked are_live).1
   where_counted false namespace state is = is
 
   drop_counted : (result : Result stored.State Refusal) (namespace : List ℕ) → AreMarkedWhereDropped result namespace old marks
@@ -74,15 +74,14 @@ module _ (old : State) (marks : Marks) (are_live : AreLive marks) where
 
 -- ---- views that are live stay so, where each counts
 
-live_mark : (namespace : List ℕ) (changes : List Change) (namespaces : Namespaces) (v : ViewForm) (mark : Mark) → (mark ≡ stale → ⊥) → mark_counted namespace changes (lists_of namespaces) v mark ≡ stale → ⊥
-live_mark namespace changes namespaces v (live ticks) not_stale e = absurd cc
-live_mark namespace changes namespaces v stale not_stale e = not_stale refl
+live_mark : (share : Share) (mark : Mark) → (mark ≡ stale → ⊥) → mark_counted share mark ≡ stale → ⊥
+live_mark share (live ticks) not_stale e = absurd cc
+live_mark share stale not_stale e = not_stale refl
 
-live_counted : (namespace : List ℕ) (changes : List Change) (namespaces : Namespaces) (views : List ViewForm) (marks : Marks) → AreLive marks → AreLive (marks_counted namespace changes (lists_of namespaces) views marks)
-live_counted namespace changes namespaces [] marks are_live = are_live
-live_counted namespace changes namespaces (v ∷ views) [] are_live = tt
-live_counted namespace changes namespaces (v ∷ views) (mark ∷ marks) are_live =
-    (live_mark namespace changes namespaces v mark are_live.0, live_counted namespace changes namespaces views marks are_live.1)
+live_counted : (shares : List Share) (marks : Marks) → AreLive marks → AreLive (all_counted shares marks)
+live_counted [] marks are_live = are_live
+live_counted (share ∷ rest) [] are_live = tt
+live_counted (share ∷ rest) (mark ∷ marks) are_live = (live_mark share mark are_live.0, live_counted rest marks are_live.1)
 
 live_written : (namespace : List ℕ) (ordered : Bool) (views : List ViewForm) (so_far : Written) (statements : List Statement) (marks : Marks) → AreLive marks
     → AreLive (marks_written namespace ordered views so_far statements marks)
@@ -90,29 +89,32 @@ live_written namespace ordered views so_far [] marks are_live = are_live
 live_written namespace ordered views so_far (statement ∷ statements) marks are_live =
     live_written namespace ordered views (with_next namespace ordered so_far statement) statements
     (marks_counted namespace (due_changes namespace ordered views so_far statement) (lists_of so_far.namespaces) views marks)
-    (live_counted namespace (due_changes namespace ordered views so_far statement) so_far.namespaces views marks are_live)
+    (live_counted (shares_told namespace (due_changes namespace ordered views so_far statement) (lists_of so_far.namespaces) views) marks are_live)
 
 live_one : (here : Bool) (mark : Mark) → (mark ≡ stale → ⊥) → (if here then mark_read mark else mark) ≡ stale → ⊥
 live_one true (live ticks) not_stale e = absurd cc
 live_one true stale not_stale e = not_stale refl
 live_one false mark not_stale e = not_stale e
 
-live_read : (namespace : List ℕ) (views : List ViewForm) (marks : Marks) → AreLive marks → AreLive (marks_read namespace views marks)
-live_read namespace [] marks are_live = are_live
-live_read namespace (v ∷ views) [] are_live = tt
-live_read namespace (v ∷ views) (mark ∷ marks) are_live = (live_one (has_name namespace v) mark are_live.0, live_read namespace views marks are_live.1)
+live_named : (names : List (List ℕ)) (views : List ViewForm) (marks : Marks) → AreLive marks → AreLive (marks_named names views marks)
+live_named names [] marks are_live = are_live
+live_named names (v ∷ views) [] are_live = tt
+live_named names (v ∷ views) (mark ∷ marks) are_live = (live_one (is_among v.name names) mark are_live.0, live_named names views marks are_live.1)
 
-live_where_read : (read : Option (List ℕ)) (old : State) → AreLive old.marks → AreLive (marks_where_read read old)
-live_where_read None old are_live = are_live
-live_where_read (Some namespace) old are_live = live_read namespace old.catalog.views old.marks are_live
+live_read : (names : List (List ℕ)) (views : List ViewForm) (marks : Marks) → AreLive marks → AreLive (marks_read names views marks)
+live_read names views marks are_live = live_named (needed views names) views marks are_live
+
+live_where_read : (names : List (List ℕ)) (old : State) → AreLive old.marks → AreLive (marks_where_read names old)
+live_where_read [] old are_live = are_live
+live_where_read (name ∷ names) old are_live = live_read (name ∷ names) old.catalog.views old.marks are_live
 
 live_last : (marks : Marks) → AreLive marks → AreLive (marks ++ live 0 ∷ [])
 live_last [] are_live = ((λ e. absurd cc), tt)
 live_last (mark ∷ marks) are_live = (are_live.0, live_last marks are_live.1)
 
-live_made : (view : Option ViewOn) (marks : Marks) → AreLive marks → AreLive (marks_made view marks)
-live_made None marks are_live = are_live
-live_made (Some on) marks are_live = live_last marks are_live
+live_made : (view : Option ViewOn) (views : List ViewForm) (marks : Marks) → AreLive marks → AreLive (marks_made view views marks)
+live_made None views marks are_live = are_live
+live_made (Some on) views marks are_live = live_last (marks_read (names_read on.stages on.source) views marks) (live_read (names_read on.stages on.source) views marks are_live)
 
 live_but : (here : Bool) (mark : Mark) (others : Marks) → (mark ≡ stale → ⊥) → AreLive others → AreLive (if here then others else mark ∷ others)
 live_but true mark others not_stale are_live = are_live
@@ -137,13 +139,13 @@ live_behind old (Ok (asking.write asked)) are_live =
     either_live (is_view write.namespace old.catalog.views) old.marks _ are_live
     (live_written write.namespace write.ordered old.catalog.views (nothing_written old.catalog.namespaces) write.statements old.marks are_live)
 live_behind old (Ok (create asked)) are_live =
-    live_where_made (created asked.namespace asked.view old.catalog) (marks_made asked.view old.marks) old.marks (live_made asked.view old.marks are_live) are_live
+    live_where_made (created asked.namespace asked.view old.catalog) (marks_made asked.view old.catalog.views old.marks) old.marks (live_made asked.view old.catalog.views old.marks are_live) are_live
 live_behind old (Ok (drop asked)) are_live =
     let namespace = asked.namespace in
     live_where_made (dropped namespace old.catalog) (marks_of_drop namespace old.catalog old.marks) old.marks
     (either_live (is_collection namespace old.catalog.namespaces) _ _
-    (live_counted namespace (all_gone (documents_of namespace old.catalog.namespaces)) old.catalog.namespaces old.catalog.views old.marks are_live)
+    (live_counted (shares_told namespace (all_gone (documents_of namespace old.catalog.namespaces)) (lists_of old.catalog.namespaces) old.catalog.views) old.marks are_live)
     (live_without namespace old.catalog.views old.marks are_live))
     are_live
-live_behind old (Ok asked) are_live = live_where_read (read_by asked old.catalog.views) old are_live
+live_behind old (Ok asked) are_live = live_where_read (read_by asked) old are_live
 live_behind old (Err refusal) are_live = are_live

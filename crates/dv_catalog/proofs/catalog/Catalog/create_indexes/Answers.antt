@@ -1,7 +1,8 @@
 use Rattle.std.proofs.Common.{◌≡◌, false, Result, inl, map, refl, sym, subst, ◌∙◌}
 use Rattle.dv_fields.specs.declared.refusal.Refusal.{Refusal}
 use Rattle.dv_index.specs.View.{form_of_new}
-use Rattle.dv_catalog.specs.CatalogParts.{form_of, state_of}
+use Rattle.dv_views.specs.Views.{form_of}
+use Rattle.dv_catalog.specs.CatalogParts.{state_of}
 use Rattle.dv_catalog.specs.IndexMaking.{with_all}
 use Rattle.dv_catalog.specs.Parts.{Leaves}
 use Rattle.dv_catalog.specs.State.{State, collection_of, is_view}

@@ -1,9 +1,8 @@
 use Rattle.std.proofs.Common.{take, ap, ◌∙◌}
-use Rattle.dv_catalog.specs.CatalogParts.{form_of}
 use Rattle.dv_catalog.specs.EffectView.{changes_seen}
 use Rattle.dv_catalog.specs.State.{Namespaces, documents_of, lists_of}
 use Rattle.dv_catalog.specs.Told.{AreTold}
-use Rattle.dv_catalog.proofs.Keeping.{all_able, all_begin, collections_after, documents_after, kept_after, same_forms, told_first}
+use Rattle.dv_catalog.proofs.Keeping.{all_able, all_begin, collections_after, documents_after, kept_after, told_first}
 use Rattle.dv_catalog.proofs.Marking.{are_marked}
 use Rattle.dv_catalog.proofs.Stopping.{first_placed}
 use Rattle.dv_catalog.proofs.catalog.Catalog.make.Goals as goal
@@ -22,10 +21,10 @@ invariant_of-self c =
     let placed = first_placed (documents_of name old) changes c.make-done.result (rw (← c.self.view_is) at c.requires.placed) in
     kept_after c.told_changes_are_made.ensures c.what_is_not_read_does_not_matter.ensures old c.make-done.new.self before c.apply.new.self name made c.truncate.new.self.items c.self.invariant (rw (← c.self.view_is) at c.requires.ordered)
     (all_able (documents_of name old) made placed) (λ n. ap (λ (ns : Namespaces). documents_of n ns) c.make-done.ensures.made ∙ documents_after old name made n) first (rw c.deref.ensures.value at c.apply.ensures.right)
-    c.apply.ensures.others (rw (← c.self.view_is) at c.requires.collection) (λ n e. collections_after old name made n (rw c.make-done.ensures.made at e))
+    c.apply.ensures.forms (rw (← c.self.view_is) at c.requires.collection) (λ n e. collections_after old name made n (rw c.make-done.ensures.made at e))
 
 pub returns-clause-views : goal.returns-clause-views
-returns-clause-views c = rw (← c.self.view_is) (same_forms c.args.namespace.now c.self.inside.views c.apply.new.self c.apply.ensures.others)
+returns-clause-views c = rw (← c.self.view_is) c.apply.ensures.forms
 
 pub returns-clause-marks : goal.returns-clause-marks
 returns-clause-marks c =
@@ -35,5 +34,7 @@ returns-clause-marks c =
     let changes = changes_seen c.args.changes in
     let made = take c.make-done.result changes in
     let first : AreTold name before made c.truncate.new.self.items = rw c.truncate.ensures.items (told_first c.make-done.result name before changes c.in_ok-told.told.items c.in_ok-told.ensures) in
+    let placed = first_placed (documents_of name old) changes c.make-done.result (rw (← c.self.view_is) at c.requires.placed) in
     rw (← c.self.view_is)
-    (are_marked c.what_is_not_read_is_not_counted.ensures (lists_of old) name made c.truncate.new.self.items before c.apply.new.self first c.self.invariant.right (rw c.deref.ensures.value at c.apply.ensures.counted) c.apply.ensures.others)
+    (are_marked c.told_changes_are_made.ensures c.what_is_not_read_is_not_counted.ensures (lists_of old) name made c.truncate.new.self.items before c.apply.new.self (rw (← c.self.view_is) at c.requires.ordered)
+    (all_able (documents_of name old) made placed) first c.self.invariant.right (rw c.deref.ensures.value at c.apply.ensures.counted))

@@ -1,11 +1,9 @@
-use Rattle.std.proofs.Common.{◌≡◌, true, sym, subst, ◌∙◌}
+use Rattle.std.proofs.Common.{◌≡◌, true}
 use Rattle.std.specs.FinMap as finite
-use Rattle.dv_catalog.specs.CatalogParts.{form_of}
 use Rattle.dv_catalog.specs.Marks.{all_gone}
 use Rattle.dv_catalog.specs.State.{documents_of, is_collection, lists_of}
 use Rattle.dv_catalog.specs.Told.{AreTold}
-use Rattle.dv_catalog.proofs.Keeping.{same_forms}
-use Rattle.dv_catalog.proofs.Kept.{kept_without}
+use Rattle.dv_catalog.proofs.Kept.{all_can_go, kept_without}
 use Rattle.dv_catalog.proofs.Marking.{are_marked}
 use Rattle.dv_catalog.proofs.catalog.Catalog.remove_collection.Goals as goal
 
@@ -18,12 +16,12 @@ invariant_of-self c =
     let are : AreTold name before (all_gone (documents_of name old)) c.in_ok-told.told.items = rw c.rows-gone.ensures.documents at c.in_ok-told.ensures in
     rw c.remove.ensures
     (kept_without c.told_changes_are_made.ensures c.what_is_not_read_does_not_matter.ensures c.removed_document_is_not_found.ensures old before c.apply.new.self name c.in_ok-told.told.items c.self.invariant c.ordered.ensures there are
-    (rw c.deref.ensures.value at c.apply.ensures.right) c.apply.ensures.others)
+    (rw c.deref.ensures.value at c.apply.ensures.right) c.apply.ensures.forms)
 
 pub returns-clause-ok : goal.returns-clause-ok
 returns-clause-ok c =
     rw (← c.self.view_is, c.remove.ensures)
-    (λ i. record { namespaces = finite.remove c.self.inside.collections c.args.namespace.now; views = same_forms c.args.namespace.now c.self.inside.views c.apply.new.self c.apply.ensures.others i })
+    (λ i. record { namespaces = finite.remove c.self.inside.collections c.args.namespace.now; views = c.apply.ensures.forms i })
 
 pub returns-clause-marks : goal.returns-clause-marks
 returns-clause-marks c =
@@ -32,4 +30,5 @@ returns-clause-marks c =
     let before = c.self.inside.views in
     let are : AreTold name before (all_gone (documents_of name old)) c.in_ok-told.told.items = rw c.rows-gone.ensures.documents at c.in_ok-told.ensures in
     rw (← c.self.view_is)
-    (are_marked c.what_is_not_read_is_not_counted.ensures (lists_of old) name (all_gone (documents_of name old)) c.in_ok-told.told.items before c.apply.new.self are c.self.invariant.right (rw c.deref.ensures.value at c.apply.ensures.counted) c.apply.ensures.others)
+    (are_marked c.told_changes_are_made.ensures c.what_is_not_read_is_not_counted.ensures (lists_of old) name (all_gone (documents_of name old)) c.in_ok-told.told.items before c.apply.new.self c.ordered.ensures
+    (all_can_go c.removed_document_is_not_found.ensures old name c.ordered.ensures) are c.self.invariant.right (rw c.deref.ensures.value at c.apply.ensures.counted))

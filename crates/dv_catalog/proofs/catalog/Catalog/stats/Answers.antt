@@ -1,4 +1,4 @@
-use Rattle.std.proofs.Common.{◌≡◌, None, ap, sym, ◌∙◌, refl}
+use Rattle.std.proofs.Common.{ap, sym, ◌∙◌, refl}
 use Rattle.std.specs.Option.{option_map}
 use Rattle.dv_views.specs.Views.{view_named}
 use Rattle.dv_catalog.specs.StatsView.{stats_seen}
@@ -11,5 +11,8 @@ returns-in_err-state c =
 
 pub returns : goal.returns
 returns c =
+    let name = c.args.namespace.now in
+    let collections = c.self.inside.collections in
+    let vs = c.self.inside.views in
     rw (← c.self.view_is, c.is_live.ensures)
-    (stats_are c.args.namespace.now c.self.inside.collections c.self.inside.views c.self.invariant.right (view_named c.args.namespace.now c.self.inside.views) refl c.in_ok-state.state c.in_ok-rows.rows c.in_ok-ticks.ticks c.in_ok-state.ensures c.in_ok-rows.ensures c.in_ok-ticks.ensures)
+    (stats_are name collections vs (λ rows shown. c.shown_rows_are_right.ensures.shown collections name rows c.self.invariant.right shown) (view_named name vs) refl c.in_ok-state.state c.in_ok-rows.rows c.in_ok-ticks.ticks c.in_ok-state.ensures c.in_ok-rows.ensures c.in_ok-ticks.ensures)

@@ -1,26 +1,76 @@
-use Rattle.std.proofs.Common.{◌++◌, [], ◌∷◌, ap, sym, subst, ◌∙◌}
+use Rattle.std.proofs.Common.{◌≡◌, ◌++◌, ◌∷◌, ◌||◌, [], false, List, ℕ, map, ap, subst, sym, ◌∙◌}
+use Rattle.std.specs.List.{AllByRecursion}
 use Rattle.std.specs.String.{string_bytes, string_eq}
 use Rattle.indexmap.proofs.CallerLemmas.{insert_entry-new}
 use Rattle.dv_pipe.specs.Sources.{lists_of}
-use Rattle.dv_views.proofs.Entries.{named_apart, new_seen, none_there, seen_last, views}
-use Rattle.dv_views.proofs.WellKept.{AreWellKept, kept_last}
+use Rattle.dv_pipe.specs.Stages.{is_read}
+use Rattle.dv_views.specs.Forms.{is_read_by, names_read}
+use Rattle.dv_views.specs.Ground.{IsBuilt}
+use Rattle.dv_views.specs.Made.{IsAdded, IsNoStale}
+use Rattle.dv_views.specs.MarkView.{mark_seen}
+use Rattle.dv_views.specs.Older.{views}
+use Rattle.dv_views.specs.Seen.{IsSoundRegistry, named, seen}
+use Rattle.dv_views.specs.Views.{AreNamedApart, AreRight, View, Views, form_of, view_named}
+use Rattle.dv_views.proofs.Entries.{named_apart, none_there, seen_last}
+use Rattle.dv_views.proofs.Refreshing.{is_added, right_added, sound_added, views_all}
 use Rattle.dv_views.proofs.registry.Registry.add.Goals as goal
 
 pub invariant_of-self-2 : goal.invariant_of-self-2
 invariant_of-self-2 c =
     let es = c.self.inside.views.entries in
-    let name = c.in_ok-name.name in
-    let w = c.in_ok-view.view in
-    let fresh = none_there (string_bytes name) es (rw (c.in_ok-name.ensures.ok, c.self.view_is) c.requires.new) in
-    let left = c.in_ok-insert.ensures.entries ∙ insert_entry-new string_eq c.self.inside.views name w fresh in
-    record { apart = named_apart c.insert.new.self.entries c.in_ok-insert.ensures.unique; kept = subst AreWellKept (sym left) (kept_last es (name, w) c.self.invariant.kept c.in_ok-view.ensures.kept) }
+    let key = c.in_ok-name.name in
+    let body = c.new-view.result in
+    let name = c.args.name.now in
+    let source = c.args.source.now in
+    let stages = c.args.pipeline in
+    let lists = lists_of c.args.sources.now in
+    let mark = mark_seen c.in_ok-mark.mark in
+    let absent = none_there (string_bytes key) es (rw (c.in_ok-name.ensures.ok, c.self.view_is) c.requires.new) in
+    let left = c.in_ok-insert.ensures.entries ∙ insert_entry-new string_eq c.self.inside.views key body absent in
+    let view : View = record { name = name; source = source; stages = stages; mark = mark } in
+    let same : seen (key, body) ≡ view = (λ i. named (c.in_ok-name.ensures.ok i) (c.new-view.ensures i)) ∙ ap (λ (s : List ℕ). record { name = name; source = s; stages = stages; mark = mark }) (c.of-source.ensures ∙ c.in_ok-from_str.ensures.ok) in
+    let whole : views c.insert.new.self.entries ≡ views es ++ view ∷ [] = ap views left ∙ seen_last es (key, body) ∙ ap (λ (v : View). views es ++ v ∷ []) same in
+    let built : IsBuilt stages source (views es) lists mark = subst (λ (vs : Views). IsBuilt stages source vs lists mark) (views_all c.len.result es c.len.ensures.len) c.in_ok-mark.ensures.built in
+    subst (λ (vs : Views). IsSoundRegistry vs) (sym whole)
+    (sound_added (views es) name source stages mark lists built c.self.invariant (subst (λ (vs : Views). AllByRecursion (λ n. IsNoStale (view_named n vs)) (names_read stages source)) (sym c.self.view_is) c.requires.live)
+    (subst (λ (vs : Views). AreNamedApart vs) whole (named_apart c.insert.new.self.entries c.in_ok-insert.ensures.unique))
+    (subst (λ (vs : Views). is_read_by (map form_of vs) name || is_read stages source name ≡ false) (sym c.self.view_is) c.requires.unread))
 
 pub returns-clause-ok : goal.returns-clause-ok
 returns-clause-ok c =
     let es = c.self.inside.views.entries in
-    let name = c.in_ok-name.name in
-    let w = c.in_ok-view.view in
-    let fresh = none_there (string_bytes name) es (rw (c.in_ok-name.ensures.ok, c.self.view_is) c.requires.new) in
-    let left = c.in_ok-insert.ensures.entries ∙ insert_entry-new string_eq c.self.inside.views name w fresh in
-    let same = new_seen (string_bytes name) c.args.name.now c.args.source.now w c.args.pipeline (lists_of c.args.sources.now) c.in_ok-name.ensures.ok c.in_ok-view.ensures.new in
-    rw (← c.self.view_is) (ap views left ∙ seen_last es (name, w) ∙ ap (λ v. views es ++ v ∷ []) same)
+    let key = c.in_ok-name.name in
+    let body = c.new-view.result in
+    let name = c.args.name.now in
+    let source = c.args.source.now in
+    let stages = c.args.pipeline in
+    let lists = lists_of c.args.sources.now in
+    let mark = mark_seen c.in_ok-mark.mark in
+    let absent = none_there (string_bytes key) es (rw (c.in_ok-name.ensures.ok, c.self.view_is) c.requires.new) in
+    let left = c.in_ok-insert.ensures.entries ∙ insert_entry-new string_eq c.self.inside.views key body absent in
+    let view : View = record { name = name; source = source; stages = stages; mark = mark } in
+    let same : seen (key, body) ≡ view = (λ i. named (c.in_ok-name.ensures.ok i) (c.new-view.ensures i)) ∙ ap (λ (s : List ℕ). record { name = name; source = s; stages = stages; mark = mark }) (c.of-source.ensures ∙ c.in_ok-from_str.ensures.ok) in
+    let whole : views c.insert.new.self.entries ≡ views es ++ view ∷ [] = ap views left ∙ seen_last es (key, body) ∙ ap (λ (v : View). views es ++ v ∷ []) same in
+    let built : IsBuilt stages source (views es) lists mark = subst (λ (vs : Views). IsBuilt stages source vs lists mark) (views_all c.len.result es c.len.ensures.len) c.in_ok-mark.ensures.built in
+    subst (λ (vs : Views). IsAdded name source stages vs (views c.insert.new.self.entries)) c.self.view_is
+    (subst (λ (ws : Views). IsAdded name source stages (views es) ws) (sym whole) (is_added (views es) name source stages mark lists built))
+
+pub returns-clause-right : goal.returns-clause-right
+returns-clause-right c = λ others alike right.
+    let es = c.self.inside.views.entries in
+    let key = c.in_ok-name.name in
+    let body = c.new-view.result in
+    let name = c.args.name.now in
+    let source = c.args.source.now in
+    let stages = c.args.pipeline in
+    let lists = lists_of c.args.sources.now in
+    let mark = mark_seen c.in_ok-mark.mark in
+    let absent = none_there (string_bytes key) es (rw (c.in_ok-name.ensures.ok, c.self.view_is) c.requires.new) in
+    let left = c.in_ok-insert.ensures.entries ∙ insert_entry-new string_eq c.self.inside.views key body absent in
+    let view : View = record { name = name; source = source; stages = stages; mark = mark } in
+    let same : seen (key, body) ≡ view = (λ i. named (c.in_ok-name.ensures.ok i) (c.new-view.ensures i)) ∙ ap (λ (s : List ℕ). record { name = name; source = s; stages = stages; mark = mark }) (c.of-source.ensures ∙ c.in_ok-from_str.ensures.ok) in
+    let whole : views c.insert.new.self.entries ≡ views es ++ view ∷ [] = ap views left ∙ seen_last es (key, body) ∙ ap (λ (v : View). views es ++ v ∷ []) same in
+    let built : IsBuilt stages source (views es) lists mark = subst (λ (vs : Views). IsBuilt stages source vs lists mark) (views_all c.len.result es c.len.ensures.len) c.in_ok-mark.ensures.built in
+    let live : AllByRecursion (λ n. IsNoStale (view_named n (views es))) (names_read stages source) = subst (λ (vs : Views). AllByRecursion (λ n. IsNoStale (view_named n vs)) (names_read stages source)) (sym c.self.view_is) c.requires.live in
+    subst (λ (ws : Views). AreRight others ws) (sym whole)
+    (right_added (views es) name source stages mark lists built c.self.invariant live c.kept_rows_are_those_from_scratch.ensures c.what_is_not_read_does_not_matter.ensures others alike (subst (AreRight others) (sym c.self.view_is) right))

@@ -1,51 +1,28 @@
-use Rattle.std.proofs.Common.{◌≡◌, Some, ap, sym, subst, ◌∙◌}
-use Rattle.std.specs.Option.{option_map}
-use Rattle.dv_pipe.specs.Sources.{lists_of}
-use Rattle.dv_views.specs.Views.{Views, named, view_named}
-use Rattle.dv_views.proofs.Entries.{anew_absent, anew_made, anew_refused, found_seen, is_called, named_apart, views}
-use Rattle.dv_views.proofs.WellKept.{AreWellKept, kept_written}
+use Rattle.std.proofs.Common.{◌<◌, List, length, ap, subst, sym, ◌∙◌, arith}
+use Rattle.dv_views.specs.Forms.{IsClosed, ViewForm}
+use Rattle.dv_views.proofs.Marked.{length_views}
+use Rattle.dv_views.proofs.Refreshing.{length_at, more_fresh, more_refreshed, none_refreshed, same_forms}
 use Rattle.dv_views.proofs.registry.Registry.refresh.Goals as goal
-use Rattle.dv_views.proofs.registry.Registry.refresh.Goals.{in-Some, in-None}
 
-pub invariant_of-self : goal.invariant_of-self
-invariant_of-self c =
-    elim c.match-get_mut.branch [
-      | in-Some w ↦
-          let written = c.get_mut.follows.holds w.make_anew.new.self in
-          rw w.self-inside-is
-          (record {
-            apart = named_apart _ written.4;
-            kept = subst AreWellKept (sym written.0) (kept_written (is_called c.args.name.now) c.self.inside.views.entries w.make_anew.new.self c.self.invariant.kept w.make_anew.ensures.kept);
-          })
-      | in-None w ↦ rw w.self-inside-is (rw c.get_mut.follows.holds-at-none c.self.invariant)
-    ]
+pub views-init : goal.views-init
+views-init c = record {
+  partly = none_refreshed c.args.names.now c.args.self.now;
+  fresh = tt;
+  right = λ lists alike right. right;
+  count = ap length (sym c.self.view_is) ∙ length_views c.self.inside.views.entries ∙ sym c.len-place-end.ensures.len;
+}
 
-pub returns-clause-ok : goal.returns-clause-ok
-returns-clause-ok c =
-    elim c.match-get_mut.branch [
-      | in-Some w ↦
-          let written = c.get_mut.follows.holds w.make_anew.new.self in
-          rw (w.result-is, w.self-inside-is, ← c.self.view_is)
-          (anew_made c.args.name.now c.self.inside.views.entries _ _ w.make_anew.new.self written.0 (sym w.in-Some.ensures.value) (lists_of c.args.sources.now) w.make_anew.result c.self.invariant.apart w.make_anew.ensures.ok)
-      | in-None w ↦
-          rw (w.result-is, w.self-inside-is, ← c.self.view_is)
-          (rw c.get_mut.follows.holds-at-none (sym (anew_absent c.args.name.now (lists_of c.args.sources.now) c.self.inside.views.entries (sym w.in-None.ensures.value))))
-    ]
+pub refresh_at-requires-clause-closed : goal.refresh_at-requires-clause-closed
+refresh_at-requires-clause-closed c = subst (λ (forms : List ViewForm). IsClosed c.args.names.now forms) (sym (same_forms c.args.names.now c.args.self.now c.views.self c.views.invariant.partly)) c.requires.closed
 
-pub returns-clause-err : goal.returns-clause-err
-returns-clause-err c =
-    elim c.match-get_mut.branch [
-      | in-Some w ↦
-          let written = c.get_mut.follows.holds w.make_anew.new.self in
-          rw (w.result-is, w.self-inside-is, ← c.self.view_is)
-          (anew_refused c.args.name.now c.self.inside.views.entries _ _ w.make_anew.new.self written.0 (sym w.in-Some.ensures.value) w.make_anew.result w.make_anew.ensures.err)
-      | in-None w ↦ rw w.result-is tt
-    ]
-
-pub make_anew-requires : goal.make_anew-requires
-make_anew-requires c =
-    let name = c.args.name.now in
-    let es = c.self.inside.views.entries in
-    let v = named name c.in-Some.view.now in
-    let there : view_named name (views es) ≡ Some v = sym (found_seen name es) ∙ ap (option_map (named name)) (sym c.in-Some.ensures.value) in
-    c.requires v (subst (λ (vs : Views). view_named name vs ≡ Some v) c.self.view_is there)
+pub views-preserved : goal.views-preserved
+views-preserved c =
+    let names = c.args.names.now in
+    let at = c.in_ok-refresh_at.ensures.ok in
+    let within : c.views.place < length c.views.self = let less : c.views.place < c.len-place-end.result = c.views-test.true in let many = c.views.invariant.count in omega (arith, less, many) in
+    record {
+      partly = more_refreshed names c.views.place c.args.self.now c.views.self c.refresh_at.new.self c.views.invariant.partly at;
+      fresh = more_fresh names c.views.place c.views.self c.refresh_at.new.self c.views.invariant.fresh at within;
+      right = λ lists alike right. c.in_ok-refresh_at.ensures.right lists alike (c.views.invariant.right lists alike right);
+      count = length_at names c.views.place c.views.self c.refresh_at.new.self at ∙ c.views.invariant.count;
+    }

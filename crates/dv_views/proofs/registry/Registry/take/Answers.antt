@@ -1,26 +1,58 @@
-use Rattle.std.proofs.Common.{◌<◌, subst, ◌∙◌, arith}
-use Rattle.indexmap.proofs.CallerLemmas.{index_map_len-with_value_at}
-use Rattle.dv_views.specs.Views.{AreNamedApart}
-use Rattle.dv_views.proofs.Marked.{all_taken, apart_taken, taken_next}
-use Rattle.dv_views.proofs.WellKept.{kept_at}
+use Rattle.std.proofs.Common.{◌<◌, subst, sym, ap, length, ◌∙◌, arith}
+use Rattle.dv_views.specs.Flow.{told_at}
+use Rattle.dv_views.specs.Older.{views}
+use Rattle.dv_views.specs.Seen.{IsSoundRegistry}
+use Rattle.dv_views.specs.Turned.{HaveTaken}
+use Rattle.dv_views.specs.Views.{AreNamedApart, Views}
+use Rattle.dv_views.proofs.Behind.{founded_after, over_after}
+use Rattle.dv_views.proofs.Marked.{all_taken, apart_written, kept_there, length_written, taken_next}
+use Rattle.dv_views.proofs.WellKept.{AreWellKept, kept_at}
 use Rattle.dv_views.proofs.registry.Registry.take.Goals as goal
 
 pub views-preserved : goal.views-preserved
-views-preserved c = record {
-  taken = taken_next c.args.namespace.now c.args.change.now _ c.take.new.self c.take.ensures.taken c.views.place c.views.self-inside.views.entries c.args.self.now c.views.invariant.taken c.index_mut-view.ensures.value;
-  kept = kept_at c.views.place c.views.self-inside.views.entries c.take.new.self c.views.invariant.kept c.take.ensures.kept;
-  count = index_map_len-with_value_at c.views.self-inside.views c.views.place c.take.new.self ∙ c.views.invariant.count;
-  all = c.views.invariant.all;
-  within = let more : c.views.place < c.len-place-end.result = c.views-test.true in omega arith;
-}
+views-preserved c =
+    let es = c.views.self-inside.views.entries in
+    let at = c.take_at.ensures in
+    let left = c.take_at.new.views.entries in
+    let place = c.views.place in
+    record {
+      taken = taken_next c.args.namespace.now c.args.change.now place c.args.self.now es left c.views.invariant.taken at;
+      kept = subst AreWellKept (sym at.left) (kept_at place es at.new c.views.invariant.kept (at.well (kept_there place es at.old c.views.invariant.kept at.there)));
+      apart = apart_written place es left at.new at.left c.views.invariant.apart;
+      count = ap length at.left ∙ length_written place es at.new ∙ c.views.invariant.count;
+      all = c.views.invariant.all;
+      within = let more : place < c.len-place-end.result = c.views-test.true in omega arith;
+    }
 
 pub invariant_of-self : goal.invariant_of-self
 invariant_of-self c =
-    let done = all_taken c.args.namespace.now c.args.change.now c.views.place _ c.args.self.now _ c.views.invariant.all c.views.invariant.within c.views-test.false c.views.invariant.taken in
+    let come = told_at c.args.namespace.now c.args.change.now in
+    let es = c.views.self-inside.views.entries in
+    let done = all_taken come c.views.place c.len-place-end.result c.args.self.now es c.views.invariant.all c.views.invariant.within c.views-test.false c.views.invariant.taken in
+    let sound = subst (λ (vs : Views). IsSoundRegistry vs) c.self.view_is c.self.invariant in
     record {
-      apart = apart_taken c.args.namespace.now c.args.change.now c.args.self.now _ done (subst AreNamedApart c.self.view_is c.self.invariant.apart);
+      apart = c.views.invariant.apart;
       kept = c.views.invariant.kept;
+      live = over_after come c.args.self.now (views es) sound.live done;
+      founded = founded_after come c.args.self.now (views es) sound.founded done;
     }
 
-pub returns : goal.returns
-returns c = all_taken c.args.namespace.now c.args.change.now c.views.place _ c.args.self.now _ c.views.invariant.all c.views.invariant.within c.views-test.false c.views.invariant.taken
+pub returns-clause-taken : goal.returns-clause-taken
+returns-clause-taken c =
+    let come = told_at c.args.namespace.now c.args.change.now in
+    let es = c.views.self-inside.views.entries in
+    let done = all_taken come c.views.place c.len-place-end.result c.args.self.now es c.views.invariant.all c.views.invariant.within c.views-test.false c.views.invariant.taken in
+    subst (HaveTaken come c.args.self.now) (sym c.fall_silent.ensures) done
+
+pub returns-clause-sound : goal.returns-clause-sound
+returns-clause-sound c =
+    let come = told_at c.args.namespace.now c.args.change.now in
+    let es = c.views.self-inside.views.entries in
+    let done = all_taken come c.views.place c.len-place-end.result c.args.self.now es c.views.invariant.all c.views.invariant.within c.views-test.false c.views.invariant.taken in
+    let sound = subst (λ (vs : Views). IsSoundRegistry vs) c.self.view_is c.self.invariant in
+    subst (λ (vs : Views). IsSoundRegistry vs) (sym c.fall_silent.ensures) (record {
+      apart = c.views.invariant.apart;
+      kept = c.views.invariant.kept;
+      live = over_after come c.args.self.now (views es) sound.live done;
+      founded = founded_after come c.args.self.now (views es) sound.founded done;
+    })

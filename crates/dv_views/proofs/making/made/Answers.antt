@@ -1,0 +1,48 @@
+use Rattle.std.proofs.Common.{ℕ, List, ap, length, subst, sym, ◌∙◌}
+use Rattle.std.specs.List.{AllByRecursion}
+use Rattle.dv_change.specs.RowLaws.{positioned-none}
+use Rattle.dv_pipe.specs.Sources.{lists_of}
+use Rattle.dv_pipe.specs.declared.stage.Stage.{Stage}
+use Rattle.dv_views.specs.Filled.{lists_in_turn}
+use Rattle.dv_views.specs.Ground.{IsPlaced, outs_below}
+use Rattle.dv_views.specs.Keeping.{kept_seen}
+use Rattle.dv_views.specs.Older.{views_before}
+use Rattle.dv_views.specs.Turning.{AreFresh}
+use Rattle.dv_views.specs.Views.{AreInOrder}
+use Rattle.dv_views.proofs.Building.{built}
+use Rattle.dv_views.proofs.Rolling.{fresh_named, fresh_turners, left_fresh, lookups_count, sound_fresh}
+use Rattle.dv_views.proofs.making.made.Goals as goal
+
+pub new-fresh-requires : goal.new-fresh-requires
+new-fresh-requires c = fresh_turners c.args.pipeline.now c.in_ok-turners.turners.items (subst (λ (ss : List Stage). AreFresh ss c.in_ok-turners.turners.items) c.stages.ensures c.in_ok-turners.ensures)
+
+pub filled_lists-requires-clause-sound : goal.filled_lists-requires-clause-sound
+filled_lists-requires-clause-sound c =
+    let stages = c.args.pipeline.now in
+    let fresh = subst (AreFresh stages) (sym c.new-fresh.ensures.turns) (subst (λ (ss : List Stage). AreFresh ss c.in_ok-turners.turners.items) c.stages.ensures c.in_ok-turners.ensures) in
+    sound_fresh positioned-none stages c.new-fresh.result fresh c.new-fresh.ensures.taken
+
+pub filled_lists-requires-clause-count : goal.filled_lists-requires-clause-count
+filled_lists-requires-clause-count c = ap length c.requires.lookups ∙ lookups_count c.args.pipeline.now c.args.source.now
+
+pub filled_lists-requires-clause-ordered : goal.filled_lists-requires-clause-ordered
+filled_lists-requires-clause-ordered c =
+    let lists = lists_of c.args.ground.now.sources.now in
+    subst (λ (names : List (List ℕ)). AllByRecursion (λ name. AreInOrder (lists name)) names) (sym c.requires.lookups) c.requires.read.1
+
+pub filled-requires-clause-ordered : goal.filled-requires-clause-ordered
+filled-requires-clause-ordered c = c.requires.read.0
+
+pub returns-clause-built : goal.returns-clause-built
+returns-clause-built c =
+    let stages = c.args.pipeline.now in
+    let source = c.args.source.now in
+    let lists = lists_of c.args.ground.now.sources.now in
+    let older = views_before c.args.ground.now.place c.args.ground.now.views.now.entries in
+    let live = c.new-fresh.result in
+    let fresh = subst (AreFresh stages) (sym c.new-fresh.ensures.turns) (subst (λ (ss : List Stage). AreFresh ss c.in_ok-turners.turners.items) c.stages.ensures c.in_ok-turners.ensures) in
+    let placed = subst (λ (names : List (List ℕ)). AllByRecursion (IsPlaced older lists) names) c.requires.lookups c.in_ok-some.ensures.placed in
+    built older lists stages source placed c.in_ok-whole.ensures.placed (kept_seen live).taken (kept_seen c.in_ok-some.some).taken c.in_ok-whole.whole c.counted_anew.result
+    (λ i. record { left = left_fresh positioned-none stages live fresh c.new-fresh.ensures.taken i; named = fresh_named stages live.chain fresh i })
+    (c.in_ok-some.ensures.taken ∙ ap (λ (names : List (List ℕ)). lists_in_turn 0 names (outs_below older lists) (kept_seen live).taken) c.requires.lookups)
+    c.in_ok-whole.ensures.taken c.in_ok-whole.ensures.sound c.counted_anew.ensures.chain c.counted_anew.ensures.rows c.counted_anew.ensures.ticks

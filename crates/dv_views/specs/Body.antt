@@ -1,0 +1,12 @@
+-- What a view is in memory, and what it stands for.
+use Rattle.std.specs.Prelude.{◌≡◌, ℕ, List, Option}
+use Rattle.dv_change.specs.declared.change.Change.{Change}
+use Rattle.dv_pipe.specs.declared.stage.Stage.{Stage}
+use Rattle.dv_views.specs.Views.{Mark}
+
+-- a view but for its name, and what it tells of the change that is handed on
+pub record Body : Type 0 where
+  pub source : List ℕ
+  pub stages : List Stage
+  pub mark : Mark
+  pub told : Option (List Change)

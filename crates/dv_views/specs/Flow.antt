@@ -1,0 +1,119 @@
+-- What one change of what stands under a namespace tells under each name, from view to view in creation order, and the work that it takes.
+use Rattle.std.specs.Prelude.{ℕ, suc, ◌+◌, ◌||◌, Bool, false, List, [], ◌∷◌, ◌++◌, map, Option, Some, None, is_some, if◌then◌else◌}
+use Rattle.std.specs.List.{list_any}
+use Rattle.std.specs.Str.{bytes_eq}
+use Rattle.dv_change.specs.declared.change.Change.{Change}
+use Rattle.dv_change.specs.declared.input.Input.{Input}
+use Rattle.dv_change.specs.declared.input.Input.TheVariants.{Left, Named}
+use Rattle.dv_change.specs.Changes.{Positioned}
+use Rattle.dv_change.specs.Inputs.{left_after, others_after}
+use Rattle.dv_change.specs.Work.{pass_in, through, work_in}
+use Rattle.dv_pipe.specs.declared.stage.Stage.{Stage}
+use Rattle.dv_pipe.specs.Stages.{Lists}
+use Rattle.dv_views.specs.Changed.{with_changed}
+use Rattle.dv_views.specs.Forms.{ViewForm, names_read, with_places}
+use Rattle.dv_views.specs.Placed.{Places, forms, lookups_of, places_of}
+use Rattle.dv_views.specs.Views.{Taken, taken_from}
+
+-- ---- what comes to a view
+
+-- what is told under each name: nothing, where a change doesn't come there, or the changes of what stands there, one after the other
+abbrev pub Told : Type 0
+Told = List ℕ → Option (List Change)
+
+-- a change is told under its namespace alone
+abbrev pub told_at : List ℕ → List Change → Told
+told_at namespace changes name = if bytes_eq namespace name then Some changes else None
+
+-- a change that comes to an input
+pub record Arrival : Type 0 where
+  pub input : Input
+  pub change : Change
+
+abbrev pub arriving : Input → Option (List Change) → List Arrival
+arriving input None = []
+arriving input (Some changes) = map (λ change. record { input = input; change = change }) changes
+
+-- what comes to lists that are looked into, which are counted from a number
+abbrev pub arriving_at_lists : ℕ → List (List ℕ) → Told → List Arrival
+arriving_at_lists i [] told = []
+arriving_at_lists i (name ∷ names) told = arriving (Named i) (told name) ++ arriving_at_lists (suc i) names told
+
+-- what comes to stages over a source, one after the other: first to the source, then to each list that a stage looks into
+abbrev pub arrivals : List Stage → List ℕ → Told → List Arrival
+arrivals stages source told = arriving Left (told source) ++ arriving_at_lists 0 (lookups_of stages source) told
+
+-- whether the change comes there
+abbrev pub is_reached : List Stage → List ℕ → Told → Bool
+is_reached stages source told = list_any (λ name. is_some (told name)) (names_read stages source)
+
+-- ---- what a view makes of it
+
+abbrev pub taken_after : Input → Change → Taken → Taken
+taken_after input change t = record { left = left_after input change t.left; named = others_after input change t.named }
+
+-- what the stages make of what was taken in, at positions
+abbrev pub outs_made : List Stage → Taken → Positioned
+outs_made stages t = through (forms stages t.named) t.left
+
+-- the work that a change of an input takes: for each stage 1 for each change that comes to it, and 1 for each that it hands on
+abbrev pub work_of : List Stage → Input → Change → Taken → ℕ
+work_of stages input change t = work_in input change (forms stages t.named) t.left
+
+-- what is handed on, and the work, for all that comes, one after the other
+abbrev pub handed_by : List Stage → List Arrival → Taken → List Change
+handed_by stages [] t = []
+handed_by stages (a ∷ all) t = pass_in a.input a.change (forms stages t.named) t.left ++ handed_by stages all (taken_after a.input a.change t)
+
+abbrev pub work_by : List Stage → List Arrival → Taken → ℕ
+work_by stages [] t = 0
+work_by stages (a ∷ all) t = work_of stages a.input a.change t + work_by stages all (taken_after a.input a.change t)
+
+-- ---- from view to view
+
+-- what stood under each name before the change, and what it tells there
+pub record Flow : Type 0 where
+  pub places : Places
+  pub told : Told
+
+-- what stages over a source tell
+abbrev pub told_by : List Stage → List ℕ → Flow → Option (List Change)
+told_by stages source flow = if is_reached stages source flow.told then Some (handed_by stages (arrivals stages source flow.told) (taken_from stages source flow.places)) else None
+
+abbrev pub with_told : List ℕ → Option (List Change) → Told → Told
+with_told name changes told other = if bytes_eq other name then changes else told other
+
+-- behind a view, which stands there and tells what it makes of the change
+abbrev pub flow_through : Flow → ViewForm → Flow
+flow_through flow v = record { places = with_places v flow.places; told = with_told v.name (told_by v.stages v.source flow) flow.told }
+
+-- ---- what changes are to each view
+
+-- whether they come to a view, and the work that it takes
+pub record Share : Type 0 where
+  pub reached : Bool
+  pub work : ℕ
+
+abbrev pub nothing : Share
+nothing = record { reached = false; work = 0 }
+
+abbrev pub together : Share → Share → Share
+together a b = record { reached = a.reached || b.reached; work = a.work + b.work }
+
+abbrev pub all_together : List Share → List Share → List Share
+all_together [] others = []
+all_together (a ∷ some) [] = []
+all_together (a ∷ some) (b ∷ others) = together a b ∷ all_together some others
+
+-- one change, which views hand on in creation order
+abbrev pub shares_of : Flow → List ViewForm → List Share
+shares_of flow [] = []
+shares_of flow (v ∷ views) =
+    record { reached = is_reached v.stages v.source flow.told; work = work_by v.stages (arrivals v.stages v.source flow.told) (taken_from v.stages v.source flow.places) }
+    ∷ shares_of (flow_through flow v) views
+
+-- changes of what stands under a namespace, one after the other, each through all views before the next
+unfoldable pub shares : List ℕ → List Change → Lists → List ViewForm → List Share
+shares namespace [] lists views = map (λ v. nothing) views
+shares namespace (change ∷ changes) lists views =
+    all_together (shares_of (record { places = places_of lists; told = told_at namespace (change ∷ []) }) views) (shares namespace changes (with_changed namespace (change ∷ []) lists) views)

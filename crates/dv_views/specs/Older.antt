@@ -1,0 +1,58 @@
+-- Entries of views, of which some stand before a place: words of bodies.
+use Rattle.std.specs.Prelude.{ℕ, suc, Bool, List, [], ◌∷◌, take, map, Option, None, Some, if◌then◌else◌}
+use Rattle.std.specs.Option.{option_map}
+use Rattle.std.specs.declared.string.String.{String}
+use Rattle.std.specs.String.{string_bytes}
+use Rattle.std.specs.Str.{bytes_eq}
+use Rattle.dv_change.specs.declared.change.Change.{Change}
+use Rattle.dv_views.specs.Body.{Body}
+use Rattle.dv_views.specs.Flow.{Told, told_at, with_told}
+use Rattle.dv_views.specs.Seen.{seen}
+use Rattle.dv_views.specs.Views.{Views, distances_of}
+
+abbrev pub Entries : Type 0 → Type 0
+Entries Y = List (String Y × Body)
+
+-- what a look-up by a name asks of a key
+abbrev pub is_called : {Y : Type 0} → List ℕ → String Y → Bool
+is_called name k = bytes_eq name (string_bytes k)
+
+abbrev pub views : {Y : Type 0} → Entries Y → Views
+views es = map seen es
+
+-- the place of the first entry of a name
+abbrev pub place_of : {Y : Type 0} → List ℕ → Entries Y → Option ℕ
+place_of name [] = None
+place_of name (e ∷ es) = if is_called name e.0 then Some 0 else option_map suc (place_of name es)
+
+-- the views before a place
+abbrev pub views_before : {Y : Type 0} → ℕ → Entries Y → Views
+views_before place es = views (take place es)
+
+-- what views tell of a change, beside what is told already
+abbrev pub told_over : {Y : Type 0} → Told → Entries Y → Told
+told_over told [] = told
+told_over told (e ∷ es) = told_over (with_told (string_bytes e.0) e.1.told told) es
+
+-- what is told under each name to the view at a place
+abbrev pub told_before : {Y : Type 0} → List ℕ → List Change → ℕ → Entries Y → Told
+told_before namespace changes place es = told_over (told_at namespace changes) (take place es)
+
+-- what the first view of a name tells
+abbrev pub told_named : {Y : Type 0} → List ℕ → Entries Y → Option (Option (List Change))
+told_named name [] = None
+told_named name (e ∷ es) = if is_called name e.0 then Some e.1.told else told_named name es
+
+abbrev pub told_else : Option (Option (List Change)) → Option (List Change) → Option (List Change)
+told_else None other = other
+told_else (Some told) other = told
+
+-- what is told under a name to the view at a place, as it is looked up
+abbrev pub told_found : {Y : Type 0} → List ℕ → List Change → ℕ → Entries Y → Told
+told_found namespace changes place es name = told_else (told_named name (take place es)) (told_at namespace changes name)
+
+-- the height of the view of a name, where the first views are so high; 0 where it isn't among them
+abbrev pub height_of_name : {Y : Type 0} → Entries Y → List ℕ → List ℕ → ℕ
+height_of_name [] heights name = 0
+height_of_name (e ∷ es) [] name = 0
+height_of_name (e ∷ es) (height ∷ heights) name = if bytes_eq name (string_bytes e.0) then height else height_of_name es heights name

@@ -1,0 +1,35 @@
+//! Views among others in creation order: a view knows the older ones alone.
+
+ghost use Rattle.std.specs.Prelude.{◌≡◌, map, take};
+ghost use Rattle.std.specs.Option.{option_map};
+ghost use Rattle.dv_views.specs.Older.{place_of, told_named};
+ghost use Rattle.dv_views.specs.Seen.{named, seen};
+ghost use Rattle.dv_views.specs.Views.{view_named};
+
+use crate::view::View;
+use indexmap::IndexMap;
+
+/// The place of the view of this name, where it stands before a place.
+pub(crate) fn place_before(
+    views: &IndexMap<String, View>,
+    place: usize,
+    name: &str,
+) -> Option<usize>
+    ensures { result ≡ place_of name.now (take place views.now.entries) }
+{
+    let found = views.get_index_of(name)?;
+    if found < place { Some(found) } else { None }
+}
+
+/// The view of this name, where it stands before a place.
+pub(crate) fn older<'a>(
+    views: &'a IndexMap<String, View>,
+    place: usize,
+    name: &str,
+) -> Option<&'a View>
+    ensures view { option_map (λ view. named name.now view.now) result ≡ view_named name.now (map seen (take place views.now.entries)) }
+    ensures told { option_map (λ view. view.now.told) result ≡ told_named name.now (take place views.now.entries) }
+{
+    let found = place_before(views, place, name)?;
+    Some(&views[found])
+}

@@ -1,0 +1,189 @@
+//! A change of what stands under a namespace, which views hand on in creation order.
+
+ghost use Rattle.std.specs.Prelude.{◌≡◌, ◌<◌, [], length, map, slice_get, is_some, Some, IfOk, IsTrue};
+ghost use Rattle.std.specs.List.{AllByRecursion, list_any};
+ghost use Rattle.std.specs.Map.{values_of};
+ghost use Rattle.std.specs.Option.{option_map};
+ghost use Rattle.dv_views.specs.Body.{Body};
+ghost use Rattle.dv_views.specs.Flow as flow;
+ghost use Rattle.dv_views.specs.Flow.{arrivals, arriving_at_lists};
+ghost use Rattle.dv_views.specs.Forms.{names_read};
+ghost use Rattle.dv_views.specs.Ground.{IsLiveView};
+ghost use Rattle.dv_views.specs.Keeping.{IsSoundLive, Turns, kept_seen, lists_of_all};
+ghost use Rattle.dv_views.specs.Older.{told_found, views_before};
+ghost use Rattle.dv_views.specs.Passing.{IsTakenAt};
+ghost use Rattle.dv_views.specs.Placed as defined;
+ghost use Rattle.dv_views.specs.Seen.{seen};
+ghost use Rattle.dv_views.specs.Views.{AreNamedApart, view_named};
+
+use crate::keeping::taken_in_told;
+use crate::older::older;
+use crate::turner::Turner;
+use crate::view::View;
+use dv_bson::{NoMemory, Str};
+use dv_change::{Change, Input, Live};
+use dv_pipe::Pipeline;
+use indexmap::IndexMap;
+use std::alloc::{AllocError, Global};
+
+/// A change of what stands under a namespace, as it comes to the view at a place: views, of which those before the place tell
+/// what it makes of their rows.
+#[derive(Drop)]
+pub(crate) struct Passing<'a> {
+    pub(crate) views: &'a IndexMap<String, View>,
+    pub(crate) place: usize,
+    pub(crate) namespace: &'a str,
+    pub(crate) changes: &'a [Change],
+}
+
+impl<'a> Passing<'a> {
+    /// What is told under a name: nothing, where the change doesn't come there.
+    fn told(&self, name: &str) -> Option<&'a [Change]>
+        ensures { option_map (λ all. all.now) result ≡ told_found self.now.namespace.now self.now.changes.now self.now.place self.now.views.now.entries name.now }
+    {
+        match older(self.views, self.place, name) {
+            Some(view) => view.told(),
+            None if name == self.namespace => Some(self.changes),
+            None => None,
+        }
+    }
+
+    /// Whether the change comes to the name.
+    fn comes_to(&self, name: &str) -> bool
+        ensures { result ≡ is_some (told_found self.now.namespace.now self.now.changes.now self.now.place self.now.views.now.entries name.now) }
+    {
+        self.told(name).is_some()
+    }
+
+    /// Whether the change comes to one of these names.
+    fn reaches(&self, names: &[Str]) -> bool
+        ensures { result ≡ list_any (λ name. is_some (told_found self.now.namespace.now self.now.changes.now self.now.place self.now.views.now.entries name)) names.now }
+    {
+        'names: for name in names {
+            if self.comes_to(name.as_str()) {
+                return true;
+            }
+        }
+        false
+    }
+
+    /// Whether each of these names that is a view's is that of a live one.
+    fn are_live(&self, names: &[Str]) -> bool
+        ensures { IsTrue result → AllByRecursion (λ name. IsLiveView (view_named name (views_before self.now.place self.now.views.now.entries))) names.now }
+    {
+        'names: for name in names {
+            if !self.is_live(name.as_str()) {
+                return false;
+            }
+        }
+        true
+    }
+
+    /// Whether the name, if it is a view's, is that of a live one.
+    fn is_live(&self, name: &str) -> bool
+        ensures { IsTrue result → IsLiveView (view_named name.now (views_before self.now.place self.now.views.now.entries)) }
+    {
+        match older(self.views, self.place, name) {
+            Some(view) => view.live().is_some(),
+            None => true,
+        }
+    }
+
+    /// Takes in what comes to the source and to each list that a stage looks into, and tells what changes of the rows. Fails
+    /// where memory is wanting, and where a view that is read isn't live any more; then the rows are dropped.
+    fn turned(
+        &self,
+        alloc: Global,
+        live: Live<Turner>,
+        pipeline: &Pipeline,
+        source: &str,
+        lookups: &[Str],
+    ) -> Result<(Live<Turner>, Vec<Change>), NoMemory>
+        requires sound { IsSoundLive pipeline.now live }
+        requires lookups { lookups.now ≡ defined.lookups_of pipeline.now source.now }
+        ensures turns { IfOk result (λ r. Turns pipeline.now (arrivals pipeline.now source.now (told_found self.now.namespace.now self.now.changes.now self.now.place self.now.views.now.entries)) live [] r.0 r.1.items) }
+        ensures live { IfOk result (λ _. AllByRecursion (λ name. IsLiveView (view_named name (views_before self.now.place self.now.views.now.entries))) (names_read pipeline.now source.now)) }
+    {
+        if !self.is_live(source) || !self.are_live(lookups) {
+            return Err(AllocError);
+        }
+        let mut told = Vec::new(alloc);
+        let come = self.told(source);
+        let some = taken_in_told(live, pipeline, Input::Left, come, &mut told)?;
+        let rows = self.taken_by_lists(some, pipeline, lookups, &mut told)?;
+        Ok((rows, told))
+    }
+
+    /// Takes in what comes to each list.
+    fn taken_by_lists(
+        &self,
+        live: Live<Turner>,
+        pipeline: &Pipeline,
+        lookups: &[Str],
+        told: &mut Vec<Change>,
+    ) -> Result<Live<Turner>, NoMemory>
+        requires sound { IsSoundLive pipeline.now live }
+        requires count { length lookups.now ≡ lists_of_all pipeline.now }
+        ensures { IfOk result (λ after. Turns pipeline.now (arriving_at_lists 0 lookups.now (told_found self.now.namespace.now self.now.changes.now self.now.place self.now.views.now.entries)) live told.old.items after told.new.items) }
+    {
+        let mut live = live;
+        'lists: for (place, name) in lookups.iter().enumerate() {
+            let come = self.told(name.as_str());
+            live = taken_in_told(live, pipeline, Input::Named(place), come, told)?;
+        }
+        Ok(live)
+    }
+}
+
+/// Hands a change on to the view at a place: it takes it in where it comes to what the view reads, and tells what it makes of
+/// its rows. A view that finds no memory, or of which one that it reads isn't live any more, drops what it keeps and is stale.
+pub(crate) fn take_at(
+    alloc: Global,
+    views: &mut IndexMap<String, View>,
+    place: usize,
+    namespace: &str,
+    changes: &[Change],
+)
+    requires place { place < length views.old.entries }
+    requires apart { AreNamedApart (map seen views.old.entries) }
+    ensures { IsTakenAt namespace.now changes.now place views.old.entries views.new.entries }
+{
+    if !is_reached(views, place, namespace, changes) {
+        views[place].leave();
+        return;
+    }
+    let Some(live) = views[place].take_out(Vec::new(alloc)) else {
+        return;
+    };
+    let passing = Passing {
+        views,
+        place,
+        namespace,
+        changes,
+    };
+    let view = &views[place];
+    let turned = passing.turned(alloc, live, view.pipeline(), view.source(), view.lookups());
+    if let Ok((live, told)) = turned {
+        views[place].put_back(live, told);
+    }
+}
+
+/// Whether the change comes to what the view at a place reads.
+fn is_reached(
+    views: &IndexMap<String, View>,
+    place: usize,
+    namespace: &str,
+    changes: &[Change],
+) -> bool
+    requires { place < length views.now.entries }
+    ensures { (view : Body) → slice_get (values_of views.now.entries) place ≡ Some view → result ≡ flow.is_reached view.stages view.source (told_found namespace.now changes.now place views.now.entries) }
+{
+    let passing = Passing {
+        views,
+        place,
+        namespace,
+        changes,
+    };
+    let view = &views[place];
+    passing.comes_to(view.source()) || passing.reaches(view.lookups())
+}
