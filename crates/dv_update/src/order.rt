@@ -9,9 +9,8 @@ ghost use Rattle.std.specs.declared.cmp.Ordering.TheVariants.{Less};
 ghost use Rattle.dv_update.specs.Parsing as defined;
 ghost use Rattle.dv_update.specs.Parsing.{Gives};
 ghost use Rattle.dv_update.specs.PathOrder.{begins as begins_with, component_order, path_order};
-ghost use Rattle.dv_update.specs.Collected.{last_begins};
+ghost use Rattle.dv_update.specs.Collected.{Steps, last_begins};
 ghost use Rattle.dv_update.specs.PathOrderLaws.{path_order_total};
-ghost use Rattle.dv_update.specs.Shortened.{Steps};
 ghost use Rattle.dv_update.specs.Update.{operators};
 ghost use Rattle.dv_update.specs.View.{edit, edit as seen, entry};
 ghost use Rattle.dv_update.specs.declared.fault.UpdateFault.TheVariants.{Conflict, NoMemory};
@@ -120,8 +119,13 @@ fn compare_paths(a: &[Component], b: &[Component]) -> Ordering
 pub(crate) fn begins(a: &Path, b: &Path) -> bool
     ensures { result ≡ begins_with a.now b.now }
 {
-    let xs = a.components();
-    let ys = b.components();
+    is_beginning(a.components(), b.components())
+}
+
+/// The same of the components of two paths.
+pub(crate) fn is_beginning(xs: &[Component], ys: &[Component]) -> bool
+    ensures { result ≡ begins_with xs.now ys.now }
+{
     'components: for (x, y) in xs.iter().zip(ys) {
         if x.as_str() != y.as_str() {
             return false;
