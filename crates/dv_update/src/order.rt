@@ -152,7 +152,7 @@ pub(crate) fn are_apart(edits: &[Edit]) -> bool
 }
 
 /// Whether the path `a` stands before the path `b`, and doesn't begin it.
-pub(crate) fn parts_from(a: &Path, b: &Path) -> bool
+fn parts_from(a: &Path, b: &Path) -> bool
     ensures { IsTrue result → (path_order a.now b.now ≡ Less) × (begins_with a.now b.now ≡ false) }
 {
     compare_paths(a.components(), b.components()).is_lt() && !begins(a, b)
@@ -212,7 +212,7 @@ fn listed(alloc: Global, places: BTreeMap<PathKey, Operation>) -> Result<Edits, 
 }
 
 /// Whether the last edit's path begins this one.
-pub(crate) fn follows_its_beginning(edits: &[Edit], path: &Path) -> bool
+fn follows_its_beginning(edits: &[Edit], path: &Path) -> bool
     ensures { result ≡ last_begins path.now (map edit edits.now) }
 {
     match edits.last() {
