@@ -5,7 +5,8 @@ use Rattle.dv_bson.specs.Spelling.{payload}
 use Rattle.dv_bson.specs.Tree.{Tree, array, Elements, elements_of, list_of_elements}
 use Rattle.dv_update.specs.Filling.{elements_least, least}
 use Rattle.dv_update.proofs.AlikeDown.{length-array, length-item}
-use Rattle.dv_update.proofs.Putting.{items, elements-back}
+use Rattle.dv_update.proofs.PutThere.{elements-again}
+use Rattle.dv_update.proofs.Putting.{items}
 
 -- as many digits as a number has at least
 record Digits (n : ℕ) (digits : List ℕ) : Type 0 where
@@ -87,7 +88,7 @@ array-long place vs filled =
     let count : ℕ = min place 100000 + 1 in
     let same : 0 + count ≡ count = omega arith in
     let long : elements_least count ≤ items 0 ws + elements_least 0 = rw (← same) (elements-long count 0 ws (omega arith) (omega arith)) in
-    let back : length (payload (array (elements_of ws))) ≡ length (payload (array vs)) = ap (λ us. length (payload (array us))) (elements-back vs) in
+    let back : length (payload (array (elements_of ws))) ≡ length (payload (array vs)) = ap (λ us. length (payload (array us))) (elements-again vs) in
     sums (least place) (items 0 ws) _ _ long (length-array (elements_of ws)) back
   where
     sums : (all items whole same : ℕ) → all ≤ items + 0 → whole ≡ items + 5 → whole ≡ same → all ≤ same

@@ -19,11 +19,11 @@ pub blocked-stays : (names : List (List ℕ)) (v : Tree) → slot_behind names b
 blocked-stays [] v e = cc
 blocked-stays (name ∷ names) v e = blocked-stays names v e
 
-fields-again : (fs : Fields) → fields_of (list_of_fields fs) ≡ fs
+pub fields-again : (fs : Fields) → fields_of (list_of_fields fs) ≡ fs
 fields-again no_fields = refl
 fields-again (field name v fs) = ap (field name v) (fields-again fs)
 
-elements-again : (vs : Elements) → elements_of (list_of_elements vs) ≡ vs
+pub elements-again : (vs : Elements) → elements_of (list_of_elements vs) ≡ vs
 elements-again no_elements = refl
 elements-again (element v vs) = ap (element v) (elements-again vs)
 
