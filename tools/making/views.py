@@ -75,4 +75,5 @@ class Views(Pipelines):
             functions, _ = pipeline_of([stage])
         except Refusal:
             return []
-        return rows_of(functions, rows, lambda name: self.store.rows(b"t." + name))[:MOST_ROWS]
+        look = self.store.reader()
+        return rows_of(functions, rows, lambda name: look(b"t." + name))[:MOST_ROWS]
