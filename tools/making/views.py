@@ -30,7 +30,7 @@ CHAINS = [line.split() for line in """
     $sort $unwind $group $project
     $match $lookup $unwind $group $sort $limit
 """.strip().splitlines()]
-# Those of views in towers, which are to leave rows for the next ones.
+# Those of views in towers, which are to leave rows for the next ones; from the fourth on they hold hardly anything back.
 FEW = [line.split() for line in """
     $match
     $sort
@@ -41,6 +41,7 @@ FEW = [line.split() for line in """
     $lookup
     $unwind $group
 """.strip().splitlines()] + [[], []]
+HARDLY = [[], [], ["$sort"], ["$sort"], ["$project"], ["$match"], ["$lookup"]]
 MOST_ROWS = 20  # along which a stage is made
 TOWER = [b"v%d" % place for place in range(1, 10)]
 
@@ -118,4 +119,4 @@ class Views(Pipelines):
         """A command that makes the view at a place of a tower."""
         over, looked_into = below
         source, *others = [b"c" if one is None else TOWER[one] for one in [over, *looked_into]]
-        return self.view(TOWER[place], FEW, source, others)
+        return self.view(TOWER[place], FEW if place < 3 else HARDLY, source, others)
