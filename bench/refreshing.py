@@ -75,14 +75,24 @@ class Postgres:
             lines.append(line.strip())
         sys.exit("bench: PostgreSQL has ended its session")
 
-    def refreshed(self, case, count):
-        """The least seconds that a refresh of a case's view takes."""
-        self.ask("DROP MATERIALIZED VIEW IF EXISTS v; DROP TABLE IF EXISTS c; DROP TABLE IF EXISTS d;")
+    def fill(self, case, count):
+        """Makes the tables of a case, in place of what is there."""
+        self.ask("DROP TABLE IF EXISTS c, d CASCADE;")
         for name, documents in (("c", case.documents(count)), ("d", case.foreign(count))):
             columns = ["%s %s" % (column, TYPES.get(column, "integer")) for column in COLUMNS[name]]
             self.ask("CREATE TABLE %s (%s, PRIMARY KEY (id));" % (name, ", ".join(columns)))
             rows = "\n".join("\t".join(one) for one in rows_of(documents, name, as_copied))
             self.ask("COPY %s FROM STDIN;\n%s\n\\." % (name, rows) if rows else "")
-        self.ask("CREATE INDEX ON d (code); ANALYZE; CREATE MATERIALIZED VIEW v AS %s;" % case.query[1])
-        times = max(1, 20_000 // count)
-        return least(lambda: self.ask("REFRESH MATERIALIZED VIEW v;" * times), lambda: processor_time(self.backend)) / times
+        self.ask("CREATE INDEX ON d (code); ANALYZE;")
+
+    def refreshed(self, case, count):
+        """The least seconds that a refresh of a case's view takes."""
+        return self.chain_refreshed(case, [("v", case.query[1])], count)
+
+    def chain_refreshed(self, case, views, count):
+        """The least seconds that a refresh of some views takes, one after the other, each of which has a name and a query."""
+        self.fill(case, count)
+        for view in views:
+            self.ask("CREATE MATERIALIZED VIEW %s AS %s;" % view)
+        times, refreshes = max(1, 20_000 // count), "".join("REFRESH MATERIALIZED VIEW %s;" % name for name, _ in views)
+        return least(lambda: self.ask(refreshes * times), lambda: processor_time(self.backend)) / times

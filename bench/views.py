@@ -7,6 +7,12 @@ same run, on the same values: SQLite in process, where triggers keep a table by 
 by an aggregate of docd and by a query of SQLite; and PostgreSQL's REFRESH MATERIALIZED VIEW, where its server is installed
 (`apt-get install postgresql`). Behind the largest size stand the bytes that the view keeps for a document of its collection.
 
+A table of its own has the chain of eight views of bench/view_chain.py: a write, and one with a read of the last view. Beside them
+stands what the eight take by themselves, added up: of each what a write takes with it, less what it takes without it, where it is
+the only view, over a collection of the rows that its source has in the chain. A row that moves in the chain's sort goes and comes
+for the views behind it, and is only changed in these collections. SQLite's triggers set off one another; PostgreSQL refreshes the
+eight in their order.
+
 All times are processor time, the least of some runs in turn; docd's hold the reading of its messages and the writing of
 its replies, SQLite's the making of the statement and of Python's rows, PostgreSQL's that of its own process.
 
@@ -28,7 +34,8 @@ from measuring import heads, in_turn, inserts, load, row
 from memory import resident
 from picture import Line, drawn
 from refreshing import Postgres
-from view_cases import CASES, COLUMNS, SHOWN, as_json, rows_of
+from view_cases import CASES, COLUMNS, MOST, PART, SHOWN, as_json, rows_of
+from view_chain import CHAIN, CHANGED, FIRST, LEVELS, NAMES, POSTGRES
 
 READS = 200  # in a run
 LARGEST = 200_000  # documents that a run goes through, about, in which rows are made anew
@@ -63,10 +70,11 @@ class Docd:
     def make(self):
         self.answered({"create": "v", "viewOn": "c", "pipeline": self.case.stages})
 
-    def writes(self, changes):
-        """An action that makes the next of these lists of changes, each time."""
-        streams = iter([measuring.stream_of([self.update(*one) for one in some]) for some in changes])
-        return lambda: self.docd.send(next(streams), len(changes[0]))
+    def writes(self, changes, *behind):
+        """An action that makes the next of these lists of changes, each time, with these commands behind each change."""
+        commands = [[command for one in some for command in (self.update(*one), *behind)] for some in changes]
+        streams = iter([measuring.stream_of(some) for some in commands])
+        return lambda: self.docd.send(next(streams), len(commands[0]))
 
     def update(self, identity, fields):
         return {"update": self.case.changed, "updates": [{"q": {"_id": identity}, "u": {"$set": fields}}]}
@@ -104,12 +112,14 @@ class Sqlite:
             self.base.execute(statement)
         self.base.commit()
 
-    def writes(self, changes):
+    def writes(self, changes, *behind):
         lists = iter([[self.update(*one) for one in some] for some in changes])
 
         def write():
             for statement, values in next(lists):
                 self.base.execute(statement, values)
+                for query in behind:
+                    self.rows(query)
             self.base.commit()
         return write
 
@@ -185,6 +195,77 @@ def check(docd, base):
         sys.exit("bench: %s: SQLite keeps other rows" % docd.case.name)
 
 
+# The chain.
+
+# What was measured of the chain over so many documents: seconds of a write without it, of one with it, and of one with a read of
+# the last view; of the eight views by themselves; of the same rows anew; and of eight REFRESH. Of each but the eight and the
+# REFRESH a pair: docd's and SQLite's.
+Chained = namedtuple("Chained", "count bare write both alone anew refresh")
+
+
+class Chain(Docd):
+    """A running docd with the documents of the chain."""
+
+    def make(self):
+        for name, source, level in zip(NAMES, ["c", *NAMES], LEVELS):
+            self.answered({"create": name, "viewOn": source, "pipeline": level.stages})
+
+    def find(self):
+        return {"find": NAMES[-1], "limit": SHOWN}
+
+    def all_rows(self, name):
+        return self.rows({"find": name, "batchSize": measuring.ALL})
+
+
+def changes_of(level, writes):
+    """Lists of so many changes of rows of a view's source, those of the groups that stay among the first."""
+    rng, most, least = random.Random(writes), FIRST, PART * MOST
+    if level.field == "amount":
+        most, least = CHANGED, MOST
+    return [[(rng.randrange(most), {level.field: least + rng.randrange(least)}) for _ in range(writes)]
+            for _ in range(measuring.RUNS)]
+
+
+def own(level, rows, others, writes):
+    """What a write takes with a view of the chain that is the only one, less what it takes without it; over these rows."""
+    held = CHAIN._replace(stages=level.stages, documents=lambda count: rows, foreign=lambda count: others)
+    pair, lists = [Docd(held, len(rows), has_view) for has_view in (False, True)], changes_of(level, writes)
+    bare, write = each(writes, *((docd.writes(lists), docd.docd.clock) for docd in pair))
+    for docd in pair:
+        docd.docd.close()
+    return write - bare
+
+
+def chained(count, writes, postgres):
+    """What is measured of the chain."""
+    times = max(1, LARGEST // count)
+    docd, base, changes = Chain(CHAIN, count), Sqlite(CHAIN, count), Changes(CHAIN, count)
+    changes.changed = min(count, CHANGED)
+    clock = docd.docd.clock
+    bare = written(docd, base, changes.lists(writes))
+    anew = each(times, (docd.asks(docd.aggregate(), times), clock), (base.asks(CHAIN.query[0], times), time.thread_time))
+    docd.make()
+    base.make()
+    write = written(docd, base, changes.lists(writes))
+    lists = changes.lists(writes)
+    both = each(writes, (docd.writes(lists, docd.find()), clock), (base.writes(lists, CHAIN.read), time.thread_time))
+    check(docd, base)
+    sources = [docd.all_rows(name) for name in ["c", *NAMES[:-1]]]
+    docd.docd.close()
+    alone = sum(own(level, rows, CHAIN.foreign(count), writes) for level, rows in zip(LEVELS, sources))
+    return Chained(count, bare, write, both, alone, anew, postgres and postgres.chain_refreshed(CHAIN, POSTGRES, count))
+
+
+def tell_chain(sizes, writes, postgres):
+    heads("the chain, microseconds", "documents", "a write without it", "a write", "SQLite", "less the one without",
+          "the eight by themselves", "a write and a read", "SQLite", "anew: docd", "SQLite", "PostgreSQL: eight REFRESH")
+    for count in sizes:
+        it = chained(count, writes, postgres)
+        told = [it.bare[0], *it.write, it.write[0] - it.bare[0], it.alone, *it.both, *it.anew, it.refresh]
+        row(CHAIN.name, "%d" % count, *map(microseconds, told))
+    print()
+
+
 def kept_bytes(case, count):
     """The bytes that a view keeps for a document."""
     taken = []
@@ -226,6 +307,10 @@ def main():
     with Postgres() as postgres:
         print(postgres.told if postgres.told else "PostgreSQL has refreshed its views.")
         print(load() + "\n")
+        if any(word in CHAIN.name for word in words):
+            tell_chain(sizes, given.writes, None if postgres.told else postgres)
+        if not chosen:
+            return
         heads("a view, microseconds", "documents", "a write without it", "a write", "SQLite", "a read", "SQLite", "anew: docd",
               "SQLite", "PostgreSQL: REFRESH", "bytes kept for a document")
         for case in chosen:

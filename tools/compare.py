@@ -19,7 +19,7 @@ from collections import Counter
 import machine
 from making.edges import edges
 from model.messages import HEADER
-from model.refusals import DUPLICATE_KEY
+from model.refusals import DUPLICATE_KEY, READ_BY_VIEW
 from model.values import ARRAY, BsonFault, DOCUMENT, read_document, spelling
 from notation import shown
 from program import parsed
@@ -147,6 +147,7 @@ def count_replies(output, seen):
         elif b"code" in reply:
             seen["refusals"] += 1
             seen["unique indexes that aren't made"] += reply[b"code"][1] == DUPLICATE_KEY
+            seen["refusals since a view reads what is named"] += reply[b"code"][1] == READ_BY_VIEW
 
 
 def main():

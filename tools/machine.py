@@ -15,7 +15,7 @@ import sys
 
 from model.commands import answer_to
 from model.messages import Closing, message, take_message
-from model.store import Collection, Store
+from model.store import Store
 from model.writes import done_to, insert_one
 
 LONGEST_LINE = 131_200
@@ -47,7 +47,7 @@ class Machine:
 
     def load(self, place, document):
         """Inserts a document in front of the script, beside any session."""
-        self.store.change(place, done_to(self.store.collections.get(place, Collection()), insert_one, document).changes)
+        self.store.change(place, done_to(self.store.collection(place), insert_one, document).changes)
 
     def session(self, number):
         """The session of this number, which is opened if it isn't open."""

@@ -11,7 +11,7 @@ applied any more.
     tools/planted.py                        all crates, lowest first
     tools/planted.py dv_coll dv_index       these
     tools/planted.py --alone dv_coll        each edit alone
-    tools/planted.py --list                 only lists what the gate and this tool try, as docs/PLANTED.md has it
+    tools/planted.py --list                 only lists what the gate tries, as docs/PLANTED.md has it
 """
 import argparse
 import os
@@ -138,19 +138,18 @@ def planted(crate):
 
 
 def listed(crates):
-    """What is tried of each crate, as lines of docs/PLANTED.md: the edits of the gate by name, and how many others there are."""
+    """The edits that the gate tries, by name, as lines of docs/PLANTED.md."""
     for crate in crates:
         of_gate = [it.stem.replace("_", " ") for it in sorted(pathlib.Path(crate.folder, "must-fail").glob("*.edit"))]
-        others = len(planted(crate))
-        if of_gate or others:
-            yield f"- `{crate.name}`: " + "; ".join([*of_gate, *[f"{others} in `planted/{crate.name}`"] * bool(others)])
+        if of_gate:
+            yield f"- `{crate.name}`: " + "; ".join(of_gate)
 
 
 def main():
     words = argparse.ArgumentParser(description=__doc__, formatter_class=argparse.RawDescriptionHelpFormatter)
     words.add_argument("crates", nargs="*", metavar="CRATE")
     words.add_argument("--alone", action="store_true", help="try each edit alone, which takes longer")
-    words.add_argument("--list", action="store_true", help="only list the edits")
+    words.add_argument("--list", action="store_true", help="only list the edits of the gate")
     words.add_argument("--jobs", type=int, default=2, help="processors for a check")
     given = words.parse_args()
     engine = part("rt") or sys.exit("planted: no command `rt` is found: put the folder bin of the Rattle kit on the PATH")

@@ -48,9 +48,10 @@ class Maker(Commands):
         return data
 
     def views(self):
-        """Views of what is there, in some scripts, and another collection into which they may look."""
+        """Views of what is there, in some scripts, and another collection into which they may look; and towers of views."""
         names = [b"v", b"w", b"x"][:self.rng.choice([0, 1, 2, 3])]
-        return ([self.first(b"d")] if names else []) + [self.asked(self.view(name)) for name in names]
+        made = ([self.first(b"d")] if names else []) + [self.asked(self.view(name)) for name in names]
+        return made + ([self.asked(self.of_tower(*one)) for one in enumerate(self.tower())] if self.often(0.25) else [])
 
     def views_of_each_stage(self):
         """The commands that make a view of each stage, named after it. No random command has such a name."""
@@ -64,9 +65,14 @@ class Maker(Commands):
             [(b"aggregate", source), pipeline, (b"cursor", document([(b"batchSize", ALL)]))])]
 
     def shown(self):
-        """For each view that is there what it tells of itself, and a find of all its rows."""
-        names = [place.partition(b".")[2] for place in self.store.views if place.startswith(b"t.")]
+        """For each view that is there, in any order, what it tells of itself, and a find of all its rows."""
+        names = self.rng.sample(self.standing, len(self.standing))
         return [self.asked([(command, text(name))]) for name in names for command in (b"viewStats", b"find")]
+
+    def taken_down(self):
+        """Drops of views that are read or not, as often as there are any, and of the collection."""
+        names = [self.rng.choice(self.standing) for _ in self.standing] + [b"c"]
+        return [self.asked([(b"drop", text(name))]) for name in names if self.often(0.9)]
 
     def written(self):
         """A write, and what the views show in front of it and behind it."""
@@ -162,6 +168,7 @@ class Maker(Commands):
         for _ in range(self.rng.randint(1, 25)):
             made.append(self.message())
             made += self.written() if self.often(0.1) else []
+        made += self.taken_down() if self.often(0.2) else []
         made += [self.asked([(b"find", text(b"c"))]), *self.shown()]  # what stands in the end
         if self.often(0.5):
             made.append(self.asked([(b"createIndexes", text(b"c")), (b"indexes", array([]))]))  # how many indexes there are

@@ -11,7 +11,7 @@ first, second, .. request refused, until a run meets no refusal. What a run prin
   made, fewer than all, and what the statements before it did stands;
 - a session is closed with 6: its last command has come to any of these ends, or to its usual one;
 - a view is stale behind a write, as viewStats tells, and is made anew before it is read; one that finds no memory for more than
-  its rows where it is made is stale behind the next write.
+  its rows where it is made is stale behind the next write. So are the views that read one like that.
 
 The finds of a later session show what stands then, each view beside an aggregate of its pipeline, and each index beside a
 scan. In a run that meets no refusal every view is live at the end.
@@ -86,13 +86,15 @@ def find(name, session=0, **others):
     return Message(session, {"find": name, **others, "$db": "t"})
 
 
-def under(views, *commands):
-    """Commands on two collections of which the first has these views, and what these tell and all hold afterwards."""
+def under(views, *commands, sources=()):
+    """Commands on two collections of which the first has these views, or a view that is named as one's source, and what these
+    tell and all hold afterwards."""
     there = [{"_id": place, "n": 7 - place, "tags": ["t%d" % place, "all"]} for place in range(1, 4)]
-    made = [Message(0, {"create": name, "viewOn": "c", "pipeline": stages, "$db": "t"}) for name, stages in views.items()]
+    over = {**dict.fromkeys(views, "c"), **dict(sources)}
+    made = [Message(0, {"create": name, "viewOn": over[name], "pipeline": stages, "$db": "t"}) for name, stages in views.items()]
     told = [Message(1, {"viewStats": name, "$db": "t"}) for name in views]
     finds = [find(name, 1) for name in (*views, "c", list(views)[0])]
-    anew = [Message(1, aggregate(stages)) for stages in views.values()]
+    anew = [Message(1, {**aggregate(stages), "aggregate": over[name]}) for name, stages in views.items()]
     return [Message(0, insert("c", there)), *made, *commands, End(0), *told, *finds, *told, *anew, End(1)]
 
 
@@ -120,6 +122,14 @@ def itself(*commands):
     looked = {"from": "c", "localField": "n", "foreignField": "_id", "as": "o"}
     return under({"v": [{"$lookup": looked}],
                   "w": [{"$unwind": "$tags"}, {"$sort": {"tags": 1, "n": -1}}, {"$limit": 2}]}, *commands)
+
+
+def stacked(*commands):
+    """Commands under three views, of which one is over the first, and one looks into it."""
+    looked = {"from": "v", "localField": "tags", "foreignField": "_id", "as": "o"}
+    return under({"v": [{"$unwind": "$tags"}, {"$group": {"_id": "$tags", "n": {"$sum": "$n"}}}],
+                  "w": [{"$match": {"n": {"$gte": 5}}}, {"$sort": {"n": -1}}], "x": [{"$lookup": looked}]},
+                 *commands, sources={"w": "v"})
 
 
 BY_INDEX = {"n": {"$gte": 0}}, {"tags": "all"}, {"tags": {"$gte": ""}}
@@ -210,6 +220,12 @@ SCRIPTS = {
         update({"q": {"_id": {"$gt": 1}}, "u": {"$inc": {"n": -2}, "$push": {"tags": "all"}}, "multi": True}), find("v"),
         delete({"q": {"_id": 3}, "limit": 1}), find("w")),
     "a drop of what a view looks into": gathered(Message(0, {"drop": "d", "$db": "t"}), find("w")),
+    "views on a view, and an insert": stacked(Message(0, insert("c", [{"_id": 9, "n": 5, "tags": ["new", "all"]}])), find("w")),
+    "views on a view, and an update": stacked(update({"q": {"_id": {"$gt": 1}}, "u": {"$inc": {"n": 2}}, "multi": True}), find("x")),
+    "views on a view, and drops": stacked(Message(0, {"drop": "v", "$db": "t"}), Message(0, {"drop": "c", "$db": "t"})),
+    "a view on views, and a delete": stacked(
+        Message(0, {"create": "y", "viewOn": "w", "pipeline": [{"$limit": 1}], "$db": "t"}), delete({"q": {"_id": 1}, "limit": 1}),
+        find("y"), Message(0, aggregate([{"$lookup": {"from": "w", "localField": "tags", "foreignField": "_id", "as": "o"}}]))),
     "an insert under indexes": indexed(Message(0, insert("c", [{"_id": 9, "n": 5, "tags": ["new", "all"]}]))),
     "an update under indexes": indexed(update({"q": {"n": {"$gt": 3}}, "u": {"$set": {"tags": [1, "all"]}}, "multi": True})),
     "a delete under indexes": indexed(delete({"q": {"tags": "all"}, "limit": 0})),
@@ -250,11 +266,12 @@ SCRIPTS = {
 
 def without_memory(store, usual, step):
     """The ends that a command may come to where memory is wanting, in place of the usual one: the reply, and the store then.
-    Of a command that is refused no more stands than that a view was made anew."""
+    Of a command that is refused no more stands than that views were made anew, older ones first."""
     yield refused(WANT_OF_MEMORY), store
+    after = store
     for place, view in store.views.items():
         if not view.is_live() and place in usual.views and usual.views[place].is_live():
-            after = copy.deepcopy(store)
+            after = copy.deepcopy(after)
             after.refresh(place)
             yield refused(WANT_OF_MEMORY), after
     fields = read_document(body(step))
@@ -273,8 +290,18 @@ def without_rows(store, after):
     for place, view in after.views.items():
         for how in ways_without_rows(store.views.get(place), view):
             other = copy.deepcopy(after)
-            other.views[place].how, other.views[place].ticks = how, 0
+            put(other, place, how)
             yield other
+
+
+def put(store, place, how):
+    """Has a view its rows so, and each that reads it."""
+    view = store.views[place]
+    if view.is_live():
+        view.how, view.ticks = how, 0
+        for name, other in store.views.items():
+            if place in other.reads:
+                put(store, name, how)
 
 
 def ways_without_rows(old, view):

@@ -2,14 +2,15 @@
 """Lets one served docd work for an hour, and looks whether its views stay right and its memory stays bounded.
 
 Needs the built program (run ./docd once), and Linux, which tells a process's memory in /proc. A client inserts, updates,
-deletes and drops at random in two collections with indexes, one of them unique, under views of every stage, and reads between
-(`tools/making/orders.py`). The number of documents stays between bounds. Behind every thousand writes
+deletes and drops at random in two collections with indexes, one of them unique, under views of every stage and views over these,
+and reads between (`tools/making/orders.py`). The number of documents stays between bounds. Behind every thousand writes
 
 - each view's rows, by a find and all its batches, have to be those of an aggregate of the same pipeline;
-- viewStats has to tell `live` and so many rows; in front of the find it may tell `stale` of a `$push` over more than 256 rows;
+- viewStats has to tell `live` and so many rows; in front of the find it may tell `stale` of a `$push` over more than 256 rows,
+  and of a view over that;
 - a find by each index has to give what a `$match` gives;
 - no two documents share a key of the unique index;
-- a view is dropped and made anew, and another connection takes over.
+- a view that none reads is dropped and made anew, and another connection takes over.
 
 Every reply has to be right, but for an `_id` or a key of the unique index that is there. The memory that is resident is looked
 at every hundred writes; its greatest in the last quarter of the time may be 5 % over that of the second. The first difference
@@ -25,7 +26,7 @@ import sys
 import time
 from collections import Counter
 
-from making.orders import INDEXES, LARGE, Orders, UNIQUE, VIEWS, indexing, making
+from making.orders import INDEXES, LARGE, Orders, READ, UNIQUE, VIEWS, indexing, making
 from program import parsed
 from served import Served, free_port
 
@@ -172,8 +173,8 @@ class Soak:
         return int(reply["rows"]["$numberLong"])
 
     def begin_anew(self):
-        """A view is made anew, and another connection takes over, whose session has no cursors yet."""
-        view = self.orders.rng.choice(list(VIEWS))
+        """A view that none reads is made anew, and another connection takes over, whose session has no cursors yet."""
+        view = self.orders.rng.choice([one for one in VIEWS if one not in READ])
         self.docd.ask({"drop": view})
         self.docd.ask(making(view))
         self.docd.connect_anew()

@@ -43,7 +43,7 @@ FOR_EACH = re.compile(r"\(each of ((?:[^()]|\([^()]*\))*?) as @: ([^()]*)\)")
 BYTES = re.compile(r"([0-9]+|every session) (end|(?:bytes )?[0-9A-Fa-f][0-9A-Fa-f |]*)")
 PRINTED = re.compile(r"=> (\d+) (?:(end \d+|closed \d)|([0-9a-f ]+))")
 COMMAND = re.compile(r"(?:(\d+)> )?(?:(first \d+ of|next \d+|rest|quietly|exactly) ?)?(.*)")
-SHORT = re.compile(r"([a-z]+)(?: ([a-z]+))?(?: (?=[{[])(.*))?")
+SHORT = re.compile(r"([a-z]+)(?: ([a-z]+[0-9]?))?(?: on ([a-z]+[0-9]?))?(?: (?=[{[])(.*))?")
 QUIET = 2  # the flag of a message that wants no reply
 
 # The fields of a command that a line may begin with, in the order in which their values stand there.
@@ -69,12 +69,12 @@ def command_of(written):
         identity, update = values(written.partition(" ")[2])
         entry = document((b"q", document((b"_id", identity))), (b"u", update))
         return [(b"update", text("c")), (b"updates", (ARRAY, [entry]))]
-    word, name, rest = SHORT.fullmatch(written).groups()
+    word, name, source, rest = SHORT.fullmatch(written).groups()
     on, given = text(name or "c"), values(rest or "")
     if word == "stats":
         return [(b"viewStats", on)]
     if word == "view":
-        return [(b"create", on), (b"viewOn", text("c")), (b"pipeline", *given)]
+        return [(b"create", on), (b"viewOn", text(source or "c")), (b"pipeline", *given)]
     if word == "explain":
         return [(b"explain", document((b"find", on), (b"filter", *given)))]
     return [(word.encode(), on), *zip(FIELDS[word], given)]

@@ -23,8 +23,8 @@ def cursors_to_kill(count):
     yield command(b"killCursors", (b"cursors", array(map(number, range(count)))))
 
 
-def view(name, *stages):
-    return [(b"create", text(name)), (b"viewOn", text(b"c")), (b"pipeline", array(stages))]
+def view(name, *stages, of=b"c"):
+    return [(b"create", text(name)), (b"viewOn", text(of)), (b"pipeline", array(stages))]
 
 
 @case(1_000)

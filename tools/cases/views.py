@@ -159,3 +159,20 @@ def sixteen_stages_in_a_row(count, writes):
     turn = [there, stage(b"$project", document([(b"a", ONE)])), stage(b"$sort", document([(b"a", number(-1))]))]
     yield view(b"v", *turn * 5, stage(b"$limit", number(10)))
     yield from coming_and_going(writes, b"c", (b"a", number(count)))
+
+
+@case(100_000, writes=50_000)
+def eight_views_on_one_another(count, writes):
+    yield from plain(count)
+    there = stage(b"$match", document([(b"a", document([(b"$gte", number(0))]))]))
+    falling = stage(b"$sort", document([(b"a", number(-1))]))
+    chain = [there, grouped_alone(), there, falling, lookup(b"a", b"_id"), stage(b"$project", document([(b"a", ONE)])), falling,
+             stage(b"$limit", number(10))]
+    for place, one in enumerate(chain):
+        yield view(b"v%d" % place, one, of=b"v%d" % (place - 1) if place else b"c")
+    yield from coming_and_going(writes, b"c", (b"a", number(count)))
+
+
+def grouped_alone():
+    """Each row a group of its own."""
+    return stage(b"$group", document([(b"_id", text(b"$_id")), (b"a", document([(b"$max", text(b"$a"))]))]))

@@ -1,6 +1,6 @@
 """Random commands, good ones and ones with faults."""
 from making.values import distinct
-from making.views import Views
+from making.views import TOWER, Views
 from model.paths import whole
 from model.unique import are_apart, unique_paths
 from model.values import DOCUMENT
@@ -19,6 +19,10 @@ class Commands(Views):
                   self.aggregate: 7, self.create: 2, self.drop: 1, self.create_indexes: 3, self.drop_indexes: 1,
                   self.explain: 4, self.get_more: 6, self.kill_cursors: 1, self.view_stats: 3}
         self.makers = [maker for maker, share in shares.items() for _ in range(share)]
+
+    def readable(self):
+        """A collection, or a view that is there."""
+        return text(self.rng.choice(self.standing)) if self.standing and self.often(0.2) else self.collection()
 
     def collection(self):
         if self.often(0.96):
@@ -48,7 +52,7 @@ class Commands(Views):
         return [(b"ordered", boolean(self.often(0.4)))] * self.often(0.5)
 
     def find(self):
-        fields = [(b"find", self.collection())]
+        fields = [(b"find", self.readable())]
         others = [(b"filter", self.filter_by_index())] * self.often(0.85) + [(b"sort", self.sort())] * self.often(0.4)
         others += [(b"skip", self.natural())] * self.often(0.15) + [(b"limit", self.natural())] * self.often(0.3)
         others += [(b"projection", document([]))] * self.often(0.03) + self.batch(0.4)
@@ -148,20 +152,20 @@ class Commands(Views):
         return fields + self.ordered()
 
     def aggregate(self):
-        fields = [(b"aggregate", self.collection()), (b"pipeline", self.pipeline())]
+        fields = [(b"aggregate", self.readable()), (b"pipeline", self.pipeline())]
         fields += [(b"cursor", document([field for field in self.batch(0.6) if field[0] == b"batchSize"]))] * self.often(0.5)
         fields += [(b"allowDiskUse", self.value(3))] * self.often(0.05)
         return fields + [(b"cursor", document([(b"x", number(1))]))] * self.often(0.01)
 
     def create(self):
         if self.often(0.3):
-            return self.view(self.rng.choice([b"v", b"w"]))
+            return self.view(self.rng.choice([b"v", b"w", *TOWER]))
         name = text(self.rng.choice([b"v", b"v", b"w", b"c", b"d"])) if self.often(0.9) else self.collection()
-        others = [(b"viewOn", self.collection()), (b"pipeline", self.pipeline())] * self.often(0.9)
+        others = [(b"viewOn", self.readable()), (b"pipeline", self.pipeline())] * self.often(0.9)
         return [(b"create", name)] + (others if self.often(0.95) else others[:1])
 
     def drop(self):
-        name = self.rng.choice([b"c", b"d", b"d", b"v", b"v", b"w", b"w"])
+        name = self.rng.choice([b"c", b"d", b"d", b"v", b"v", b"w", b"w", *self.standing])
         return [(b"drop", text(name) if self.often(0.9) else self.collection())]
 
     def create_indexes(self):
@@ -202,8 +206,8 @@ class Commands(Views):
 
     def view_stats(self):
         """Of a view that is there, mostly."""
-        names = [place.partition(b".")[2] for place in self.store.views]
-        return [(b"viewStats", text(self.rng.choice(names)) if names and self.often(0.7) else self.collection())]
+        is_there = self.standing and self.often(0.7)
+        return [(b"viewStats", text(self.rng.choice(self.standing)) if is_there else self.collection())]
 
     def cursor(self):
         """The id of a cursor that is there, was there, or never was, and its collection, if it is there."""

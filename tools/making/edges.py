@@ -1,5 +1,7 @@
 """Scripts at the limits of sizes and counts."""
-from spelled import array, boolean, document, lines_of, number, text
+import random
+
+from spelled import NOTHING, array, boolean, document, lines_of, number, text
 
 FIND = [(b"find", text(b"c"))]
 ALL = b"q", document([])
@@ -29,6 +31,7 @@ def edges():
     yield from delete_edges()
     yield from update_edges()
     yield from view_edges()
+    yield from tower_edges()
 
 
 def delete_edges():
@@ -81,3 +84,38 @@ def view_edges():
     yield lines_of(0, view, rows(0, 512), told, read, rows(512, 514), told, read, told, gone, told, read, rows(514, 520), gone,
                    read, told)
     yield lines_of(0, rows(0, 1_000), view, told, read, gone, told, rows(1_000, 1_002), read, told)
+
+
+def tower_edges():
+    """Views over one with a $push over a group of about as many rows as are kept by changes: written below, read and told of."""
+    for seed in range(12):
+        rng = random.Random(seed)
+        there = insert([document([(b"_id", number(i)), (b"k", number(i % 2))]) for i in range(rng.choice([255, 256, 257]))])
+        views = [made_view(*one) for one in [
+            (b"v", b"c", [(b"$group", document([(b"_id", NOTHING), (b"all", document([(b"$push", text(b"$k"))]))]))]),
+            (b"w", b"v", rng.choice([[], [(b"$project", document([(b"_id", number(1))]))]])),
+            (b"x", b"d", [looking_into(rng.choice([b"v", b"w"]))]), (b"y", rng.choice([b"w", b"x"]), [looking_into(b"d")]),
+            (b"z", b"c", [(b"$match", document([(b"k", number(1))]))]), (b"a", b"z", [looking_into(b"w"), (b"$limit", number(2))])]]
+        yield lines_of(0, there, *views, *(one_of_tower(rng) for _ in range(60)))
+
+
+def made_view(name, source, stages):
+    return [(b"create", text(name)), (b"viewOn", text(source)), (b"pipeline", array(document([stage]) for stage in stages))]
+
+
+def looking_into(name):
+    fields = {b"from": name, b"localField": b"k", b"foreignField": b"_id", b"as": b"o"}
+    return b"$lookup", document([(field, text(held)) for field, held in fields.items()])
+
+
+def one_of_tower(rng):
+    """A write below such views, or what reads one or tells of it."""
+    name, on = text(rng.choice([b"v", b"w", b"x", b"y", b"z", b"a"])), text(rng.choice([b"c", b"c", b"d"]))
+    identity, some = document([(b"_id", number(rng.choice([-3, -2, -1, 0, 1, 2])))]), [(b"k", number(rng.randrange(3)))]
+    return rng.choice([
+        [(b"insert", on), (b"documents", array([document([*identity[1], *some])]))],
+        [(b"delete", on), (b"deletes", array([document([(b"q", identity), (b"limit", number(1))])]))],
+        [(b"update", on), (b"updates", array([document([(b"q", identity), (b"u", document([(b"$set", document(some))]))])]))],
+        [(b"viewStats", name)], [(b"viewStats", name)], [(b"find", name), (b"limit", number(2))],
+        [(b"explain", document([(b"find", name)]))],
+        [(b"aggregate", on), (b"pipeline", array([document([looking_into(name[1])]), document([(b"$limit", number(1))])]))]])

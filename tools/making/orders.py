@@ -15,7 +15,7 @@ def joined(source, local, foreign, name):
     return {"$lookup": {"from": source, "localField": local, "foreignField": foreign, "as": name}}
 
 
-# The collection that each view is over, and its pipeline.
+# The collection or the view that each view is over, and its pipeline.
 VIEWS = {
     "dear": ("orders", [{"$match": {"n": {"$gte": LARGEST // 2}}}, {"$project": {"n": 1, "place": "$shelf"}}]),
     "tagged": ("orders", [{"$unwind": "$tags"}]),
@@ -28,9 +28,16 @@ VIEWS = {
     "pairs": ("orders", [joined("orders", "next", "_id", "next")]),
     "chain": ("orders", [{"$unwind": "$tags"}, {"$group": {"_id": "$tags", "n": {"$sum": "$n"}}}, {"$sort": {"n": -1}},
                          {"$limit": 5}, joined("orders", "_id", "tags", "orders"), {"$project": {"orders": "$orders._id"}}]),
+    "crowded": ("by_shelf", [{"$match": {"orders": {"$gte": 10}}}, {"$sort": {"sum": -1}}]),
+    "shelf_sums": ("shelves", [joined("crowded", "_id", "_id", "row"), {"$project": {"sum": "$row.sum", "floor": 1}}]),
+    "floor_sums": ("shelf_sums", [{"$unwind": "$sum"}, {"$group": {"_id": "$floor", "sum": {"$sum": "$sum"}}}]),
+    "all_together": ("together", [{"$unwind": "$all"}, {"$limit": 5}]),
 }
-# A $push over more than 256 rows, behind whose changes its view is stale.
-LARGE = {"together"}
+# A $push over more than 256 rows, behind whose changes its view is stale, and with it what is over that.
+LARGE = {"together", "all_together"}
+# The views that others read.
+READ = VIEWS.keys() & {name for source, stages in VIEWS.values()
+                       for name in [source, *(stage["$lookup"]["from"] for stage in stages if "$lookup" in stage)]}
 
 
 class Orders:

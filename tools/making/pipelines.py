@@ -79,7 +79,8 @@ class Pipelines(Updates):
         return document(distinct(fields))
 
     def lookup(self):
-        fields = [(b"from", text(self.rng.choice([b"c", b"c", b"d", b"c.d", b"none", b"v", b"x" * 130]))),
+        names = [b"c", b"c", b"d", b"c.d", b"none", b"v", b"x" * 130, *self.standing[-3:]]
+        fields = [(b"from", text(self.rng.choice(names))),
                   (b"localField", text(self.path()[0])), (b"foreignField", text(self.path()[0])),
                   (b"as", text(self.rng.choice([b"o", b"o", b"a", b"", b"_id"])))]
         if self.often(0.04):

@@ -24,6 +24,11 @@ class Values:
         collection = self.store.collections.get(b"t.c")
         return self.along or collection and collection.documents or self.made
 
+    @property
+    def standing(self):
+        """The names of the views that are there, in the order in which they were made."""
+        return [place.partition(b".")[2] for place in self.store.views if place.startswith(b"t.")]
+
     def often(self, share):
         return self.rng.random() < share
 

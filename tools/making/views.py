@@ -1,4 +1,4 @@
-"""Random views, whose stages have something to do at most writes."""
+"""Random views, whose stages have something to do at most writes, and views over views."""
 from making.pipelines import Pipelines
 from making.values import distinct
 from model.pipelines import pipeline_of, rows_of
@@ -30,42 +30,64 @@ CHAINS = [line.split() for line in """
     $sort $unwind $group $project
     $match $lookup $unwind $group $sort $limit
 """.strip().splitlines()]
+# Those of views in towers, which are to leave rows for the next ones; from the fourth on they hold hardly anything back.
+FEW = [line.split() for line in """
+    $match
+    $sort
+    $sort $limit
+    $project
+    $unwind
+    $group
+    $lookup
+    $unwind $group
+""".strip().splitlines()] + [[], []]
+HARDLY = [[], [], ["$sort"], ["$sort"], ["$project"], ["$match"], ["$lookup"]]
 MOST_ROWS = 20  # along which a stage is made
+TOWER = [b"v%d" % place for place in range(1, 10)]
 
 
 class Views(Pipelines):
     """Makes views."""
 
-    def view(self, name, chains=CHAINS):
-        """A command that makes a view, mostly of the collection `c`, by one of these chains of stages."""
-        source = self.rng.choice([b"c"] * 9 + [b"d"])
-        return [(b"create", text(name)), (b"viewOn", text(source)), (b"pipeline", array(self.chain(chains)))]
+    def view(self, name, chains=CHAINS, source=None, others=()):
+        """A command that makes a view by one of these chains of stages, behind lookups into some others; mostly of the
+        collection `c`, where no source is named."""
+        source = source or self.rng.choice([b"c"] * 9 + [b"d"] + self.standing[-3:])
+        return [(b"create", text(name)), (b"viewOn", text(source)), (b"pipeline", array(self.chain(chains, source, others)))]
 
-    def chain(self, chains):
+    def chain(self, chains, source, others):
         """Stages of which each is made along the rows that those before it make."""
-        stages, rows = [], self.documents[:MOST_ROWS]
-        for name in self.rng.choice(chains):
+        stages, rows = [], self.rows_under(source)
+        for name in [*others, *self.rng.choice(chains)]:
             self.along = rows or None
-            stages.append(self.kept_stage(name))
+            stages.append(self.kept_stage(name, source))
             rows = self.rows_behind(stages[-1], rows)
         self.along = None
         return stages
 
-    def kept_stage(self, name):
-        makers = {b"$unwind": self.unwinding_arrays, b"$lookup": self.lookup_of_equals}
-        name = name.encode()
-        return document([(name, makers[name]())]) if name in makers else self.stage(name)
+    def rows_under(self, name):
+        """The rows of a view; documents, where it is none."""
+        return (self.store.reader()(b"t." + name) if name in self.standing else self.documents)[:MOST_ROWS]
+
+    def kept_stage(self, name, source):
+        """A stage of the view of a source: of this kind, or a lookup into what has this name."""
+        if isinstance(name, bytes):
+            return document([(b"$lookup", self.lookup_of_equals(name))])
+        if name == "$lookup":
+            others = [b"c", b"c", b"d", *self.standing[-3:], source]
+            return document([(b"$lookup", self.lookup_of_equals(self.rng.choice(others)))])
+        return document([(b"$unwind", self.unwinding_arrays())]) if name == "$unwind" else self.stage(name.encode())
 
     def unwinding_arrays(self):
         path = text(b"$" + self.path_to([ARRAY], self.documents)[0])
         preserving = b"preserveNullAndEmptyArrays", boolean(self.often(0.5))
         return document([(b"path", path), preserving]) if self.often(0.4) else path
 
-    def lookup_of_equals(self):
-        """A lookup by a path that both sides have, mostly: into the view's own collection, or into another."""
-        local = self.path()[0]
-        fields = [(b"from", text(self.rng.choice([b"c", b"c", b"d"]))), (b"localField", text(local)),
-                  (b"foreignField", text(self.rng.choice([local, local, b"_id", self.path()[0]]))),
+    def lookup_of_equals(self, name):
+        """A lookup by a path that both sides have, mostly."""
+        local, foreign = self.path()[0], self.path(self.rows_under(name))[0]
+        fields = [(b"from", text(name)), (b"localField", text(local)),
+                  (b"foreignField", text(self.rng.choice([local, local, b"_id", foreign]))),
                   (b"as", text(self.rng.choice([b"o", b"o", b"p", b"a"])))]
         return document(distinct(fields))
 
@@ -75,4 +97,26 @@ class Views(Pipelines):
             functions, _ = pipeline_of([stage])
         except Refusal:
             return []
-        return rows_of(functions, rows, lambda name: self.store.rows(b"t." + name))[:MOST_ROWS]
+        look = self.store.reader()
+        return rows_of(functions, rows, lambda name: look(b"t." + name))[:MOST_ROWS]
+
+    # Views over views: for each the place of the one that it is over, and those of the ones that it looks into first. None is
+    # the collection.
+
+    def tower(self):
+        """A chain of views, up to the greatest height and past it, mostly with some that look into others; two views of one
+        collection and one that joins them, and one on top; one that reads another twice; or any."""
+        count = self.rng.choice([2, 3, 4, 7, 8, 9, 9])
+        chain = [(place - 1 if place else None, []) for place in range(count)]
+        mixed = [(self.below(place), [self.below(place) for _ in range(self.rng.choice([0, 0, 1]))]) for place in range(count)]
+        joined = [(None, []), (None, []), (0, [1]), (2, [])]
+        return self.rng.choice([chain, chain, mixed, joined, [(None, []), (0, [0]), (1, [1])]])
+
+    def below(self, place):
+        return self.rng.choice([None, *range(place)[-3:]])
+
+    def of_tower(self, place, below):
+        """A command that makes the view at a place of a tower."""
+        over, looked_into = below
+        source, *others = [b"c" if one is None else TOWER[one] for one in [over, *looked_into]]
+        return self.view(TOWER[place], FEW if place < 3 else HARDLY, source, others)

@@ -10,6 +10,7 @@ from model.values import INT32, INT64, TEXT
 from model.views import View
 
 MOST_VIEWS = 1_000
+MOST_HEIGHT = 8
 
 
 def create(store, database, fields):
@@ -24,22 +25,24 @@ def create(store, database, fields):
     if not is_view:
         store.collections[place] = Collection()
         return [OK]
-    if any(name in store.views for name in reads):
-        raise Refusal(ON_VIEW)
-    if any(place in names for names in [reads, *(view.reads for view in store.views.values())]):
+    if place in reads or store.is_read(place):
         raise Refusal(READ_BY_VIEW)
-    if len(store.views) == MOST_VIEWS:
+    height = 1 + max(map(store.height, reads))
+    if len(store.views) == MOST_VIEWS or height > MOST_HEIGHT:
         raise Refusal(LIMIT_REACHED)
-    store.views[place] = View(reads, functions, fields[b"pipeline"][1])
+    store.views[place] = View(reads, functions, fields[b"pipeline"][1], height)
     store.refresh(place)
     return [OK]
 
 
 def drop(store, database, fields):
     place = namespace(database, fields[b"drop"][1])
-    store.empty(place)
-    if store.collections.pop(place, None) is None and store.views.pop(place, None) is None:
+    if place not in store.collections and place not in store.views:
         raise Refusal(NAMESPACE_NOT_FOUND)
+    if place in store.views and store.is_read(place):
+        raise Refusal(READ_BY_VIEW)
+    store.empty(place)
+    (store.views if place in store.views else store.collections).pop(place)
     return [(b"ns", (TEXT, place)), OK]
 
 

@@ -1,6 +1,6 @@
 """Aggregation pipelines: a list of stages becomes a function from rows to rows, or is refused.
 
-A stage is a function of the rows and of `look`, which gives the documents under a collection's name.
+A stage is a function of the rows and of `look`, which gives what stands under a name in the database.
 """
 from model.filters import filter_of
 from model.paths import (MISSING, as_null, components_of, expression_value, field_of, leaf_keys, put, removed, slot, sort_of,
@@ -18,7 +18,7 @@ def wanted(is_right):
 
 
 def pipeline_of(stages):
-    """The stages' functions, and the collections' names that lookups read."""
+    """The stages' functions, and the names that lookups read."""
     functions, names = [], []
     for place, (kind, held) in enumerate(stages):
         if place == MOST_STAGES:
@@ -235,7 +235,11 @@ def lookup(operand):
         keys = keys_of(row)
         matches = [(DOCUMENT, other) for other in others if keys & others_keys(other)]
         return with_field(row, target, (ARRAY, matches))
-    return lambda rows, look: [joined(row, look(name)) for row in rows]
+
+    def looked_up(rows, look):
+        others = look(name)
+        return [joined(row, others) for row in rows]
+    return looked_up
 
 
 def is_collection_name(name):

@@ -5,7 +5,7 @@ from model.indexes import covered, plan_of
 from model.namespaces import joined, namespace
 from model.paths import sort_of, sorted_rows
 from model.pipelines import pipeline_of, rows_of
-from model.refusals import OK, ON_VIEW, Refusal, TOO_LARGE
+from model.refusals import OK, Refusal, TOO_LARGE
 from model.values import ARRAY, BOOLEAN, DOCUMENT, INT32, INT64, TEXT, fits
 
 
@@ -58,9 +58,10 @@ def kill_cursors(store, session, database, fields):
 def aggregate(store, session, database, fields):
     place = namespace(database, fields[b"aggregate"][1])
     functions, names = pipeline_of(fields[b"pipeline"][1])
-    if any(joined(database, name) in store.views for name in names):
-        raise Refusal(ON_VIEW)
-    rows = rows_of(functions, store.rows(place), store.looker(place))
+    for one in [place, *(joined(database, name) for name in names)]:
+        store.refresh(one)
+    look = store.reader()
+    rows = rows_of(functions, look(place), lambda name: look(joined(database, name)))
     return first_answer(store, Cursor(session, place, rows), dict(fields.get(b"cursor", (DOCUMENT, []))[1]), False)
 
 

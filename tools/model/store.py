@@ -1,10 +1,13 @@
 """What a machine holds: collections, views and cursors."""
 import bisect
+from functools import cache
 
 from model.cursors import Cursors
 from model.indexes import ON_ID
 from model.namespaces import joined
 from model.pipelines import rows_of
+from model.views import MADE
+from model.work import through
 
 
 class Collection:
@@ -25,41 +28,76 @@ class Collection:
         self.keys[at:end] = [] if document is None else [wanted]
         self.documents[at:end] = [] if document is None else [document]
 
+    def placed(self):
+        """The documents at their positions."""
+        return [((wanted,), document) for wanted, document in zip(self.keys, self.documents)]
+
 
 class Store:
-    """The collections and views by namespace, and the cursors."""
+    """The collections and views by namespace, and the cursors. A view reads older ones alone."""
 
     def __init__(self):
         self.collections, self.views, self.cursors = {}, {}, Cursors()
 
+    def collection(self, place):
+        """The collection under a namespace; where it isn't there, an empty one."""
+        return self.collections.get(place, Collection())
+
     def rows(self, place):
-        """The documents of a collection or a view; none under any other name."""
-        if place in self.views:
+        """The documents of a collection or the rows of a view; none under any other name."""
+        self.refresh(place)
+        return self.reader()(place)
+
+    def reader(self):
+        """What gives the rows under a namespace, where no view that is needed is stale. A view's rows are made once."""
+        @cache
+        def rows(place):
+            if place not in self.views:
+                return list(self.collection(place).documents)
             view = self.views[place]
-            self.refresh(place)
-            return rows_of(view.functions, self.rows(view.reads[0]), self.looker(place))
-        return list(self.collections[place].documents) if place in self.collections else []
+            return rows_of(view.functions, rows(view.reads[0]), lambda name: rows(joined(place.split(b".")[0], name)))
+        return rows
 
-    def looker(self, place):
-        """The rows under a collection's name in the database of a namespace."""
-        return lambda name: self.rows(joined(place.split(b".")[0], name))
-
-    def placed(self, place):
-        """The documents of a collection at their positions; none under any other name."""
-        collection = self.collections.get(place, Collection())
-        return [((wanted,), document) for wanted, document in zip(collection.keys, collection.documents)]
+    def placer(self):
+        """What gives the same at positions, where each view that is needed is kept by changes."""
+        @cache
+        def placed(place):
+            if place not in self.views:
+                return self.collection(place).placed()
+            view = self.views[place]
+            return through(view.stages, map(placed, view.reads))
+        return placed
 
     def refresh(self, place):
-        """Makes a view anew, where it is stale."""
-        self.views[place].refresh(self.placed)
+        """Makes the view under a namespace anew, where it is stale, behind those that it reads."""
+        view = self.views.get(place)
+        if view and not view.is_live():
+            for name in view.reads:
+                self.refresh(name)
+            view.refresh(any(self.views[name].how == MADE for name in view.reads if name in self.views), self.placer())
+
+    def is_read(self, place):
+        """Whether a view reads what stands under a namespace."""
+        return any(place in view.reads for view in self.views.values())
+
+    def height(self, place):
+        """How many views stand on one another under a namespace, at most; none where it is no view."""
+        return self.views[place].height if place in self.views else 0
 
     def empty(self, place):
         """Takes the documents out of a collection, if one is there, in their order."""
-        self.change(place, [(*position, None) for position, _ in self.placed(place)])
+        self.change(place, [(*position, None) for position, _ in self.collection(place).placed()])
 
     def change(self, place, changes):
-        """Makes the changes of a collection, each of which the views that read it count."""
+        """Makes the changes of a collection, each of which goes through all views before the next one."""
         for wanted, document in changes:
-            for view in self.views.values():
-                view.take(place, ((wanted,), document), self.placed)
+            self.tell(place, ((wanted,), document))
             self.collections.setdefault(place, Collection()).change(wanted, document)
+
+    def tell(self, place, change):
+        """Tells a change to the views that stand over a namespace, in the order in which they were made: what one hands on of it
+        comes to those that read it."""
+        told, look = {place: [change]}, self.placer()
+        for name, view in self.views.items():
+            if any(other in told for other in view.reads):
+                told[name] = view.take([told.get(other, []) for other in view.reads], look)

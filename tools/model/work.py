@@ -2,8 +2,8 @@
 
 A row stands at a position, a tuple: a document of a collection under the key of its `_id`, and a row behind a stage where
 that puts it. A list of rows is one of pairs of a position and a row, in the order of positions. A change is such a pair too:
-the row is put at the position, or the one there goes where it is None. Nothing is kept from one write to the next: what a
-stage makes of all its rows is made in front of each change and behind it, and the differences are counted.
+the row is put at the position, or the one there goes where it is None. Nothing is kept from one change to the next: what a
+stage makes of all its rows is made in front of each change and behind it, and hands on the differences, which are counted.
 """
 import bisect
 from collections import namedtuple
@@ -133,7 +133,7 @@ def has_push(stages):
     return any(held[0][0] == b"$group" and pushes(held[0][1]) for _, held in stages)
 
 
-# The work: for each stage 1 for each change that comes to it, and 1 for each that it hands on.
+# What comes to each stage, one after the other, and what the last one hands on: a list of lists of changes.
 
 
 def handed(makes, rows, changes):
@@ -146,25 +146,24 @@ def handed(makes, rows, changes):
     return told
 
 
-def work(stages, named, rows, changes):
-    """The work of changes of the rows that come to the first of these stages. `named` are the lists that the stages look
-    into, in their order."""
+def flow(stages, named, rows, changes):
+    """What changes of the rows that come to the first of these stages make. `named` are the lists that the stages look into,
+    in their order."""
     if not stages or not changes:
-        return 0
+        return [changes]
     makes, rest = over(stages[0], named)
     told = handed(makes, rows, changes)
-    return len(changes) + len(told) + work(stages[1:], rest, makes(rows), told)
+    return [changes, *flow(stages[1:], rest, makes(rows), told)]
 
 
-def work_of_list(stages, named, at, rows, change):
-    """The work of a change of the list at a place among those that the stages look into."""
+def flow_of_list(stages, named, at, rows, change):
+    """What a change makes of the list at a place among those that the stages look into."""
     stage, others = stages[0], stages[1:]
     makes, rest = over(stage, named)
     if not stage.looks or at > 0:
-        return work_of_list(others, rest, at - stage.looks, makes(rows), change)
+        return flow_of_list(others, rest, at - stage.looks, makes(rows), change)
     after, _ = over(stage, [with_change(named[0], change)])
-    told = difference(makes(rows), after(rows))
-    return 1 + len(told) + work(others, rest, makes(rows), told)
+    return [[change], *flow(others, rest, makes(rows), difference(makes(rows), after(rows)))]
 
 
 def over(stage, named):
@@ -182,7 +181,12 @@ def through(stages, lists):
     return rows
 
 
-def work_at(stages, lists, at, change):
-    """The work of a change of one of the lists that a view reads: the source's, and then each that its stages look into."""
+def flow_at(stages, lists, at, change):
+    """What a change makes of one of the lists that a view reads: the source's, and then each that its stages look into."""
     source, *named = lists
-    return work_of_list(stages, named, at - 1, source, change) if at else work(stages, named, source, [change])
+    return flow_of_list(stages, named, at - 1, source, change) if at else flow(stages, named, source, [change])
+
+
+def work(flows):
+    """For each stage 1 for each change that comes to it, and 1 for each that it hands on."""
+    return sum(len(coming) + len(going) for coming, going in zip(flows, flows[1:]))

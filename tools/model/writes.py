@@ -7,7 +7,6 @@ from model.filters import filter_of
 from model.paths import field_of
 from model.refusals import (BAD_VALUE, DUPLICATE_KEY, FAILED_TO_PARSE, LIMIT_REACHED, OK, ON_VIEW, Refusal, TOO_LARGE,
                             WANT_OF_MEMORY)
-from model.store import Collection
 from model.unique import check_changes
 from model.updates import is_replacement, update_of
 from model.values import ARRAY, BOOLEAN, DOCUMENT, INT32, INT64, TEXT, fits, is_storable, key
@@ -38,7 +37,7 @@ def write(store, place, name, fields, cut):
     matched, modified, errors, is_cut = 0, 0, [], False
     for index, statement in enumerate(statements):
         try:
-            effect = done_to(store.collections.get(place, Collection()), effect_of, statement)
+            effect = done_to(store.collection(place), effect_of, statement)
         except Refusal as fault:
             effect = fault
         if cut is not None and cut[0] == index:

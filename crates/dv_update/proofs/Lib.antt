@@ -21,5 +21,9 @@ pub mod Valid
 pub mod RemovalsLast
 pub mod StandingIn
 pub mod Stepwise
-pub mod Losses
-pub mod Shortening
+pub mod Putting
+pub mod Filled
+pub mod Elements
+pub mod Counted
+pub mod Meeting
+pub mod Unfilled

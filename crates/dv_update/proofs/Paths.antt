@@ -1,5 +1,5 @@
 -- The order of paths, and paths that begin others.
-use Rattle.std.proofs.Common.{◌≡◌, ◌∙◌, ap, ap₂, sym, refl, List, [], ◌∷◌, ℕ, Bool, true, false, ◌&&◌}
+use Rattle.std.proofs.Common.{◌≡◌, ◌∙◌, ap, ap₂, sym, refl, List, [], ◌∷◌, take, ℕ, zero, suc, Bool, true, false, ◌&&◌}
 use Rattle.std.specs.Cmp.{tied_itself}
 use Rattle.std.specs.Cmp.Lexicographic.{slice_cmp}
 use Rattle.std.specs.Ordering.{ordering_then, ordering_reverse, nat_cmp, bool_cmp}
@@ -70,12 +70,26 @@ both-less Less s t e f = cc
 both-less Equal s t e f = (refl, e, f)
 both-less Greater s t e f = cc
 
+-- what begins two paths begins each one that stands between
+pub begins-between-both : (e p q r : Path) → path_order p q ≡ Less → path_order q r ≡ Less → begins e p ≡ true → begins e r ≡ true → begins e q ≡ true
+begins-between-both [] p q r l m h g = refl
+begins-between-both (e ∷ es) [] q r l m h g = cc
+begins-between-both (e ∷ es) (a ∷ p) [] r l m h g = cc
+begins-between-both (e ∷ es) (a ∷ p) (b ∷ q) [] l m h g = cc
+begins-between-both (e ∷ es) (a ∷ p) (b ∷ q) (c ∷ r) l m h g =
+    let here : e ≡ a = same-component e a es p h in
+    let same : a ≡ c = sym here ∙ same-component e c es r g in
+    let back : component_order b c ≡ ordering_reverse (component_order a b) = ap (component_order b) (sym same) ∙ component_order_total.antisymm b a in
+    let split = both-less (component_order a b) (path_order p q) (path_order q r) l (ap (λ o. ordering_then o (path_order q r)) (sym back) ∙ m) in
+    ap₂ (λ x y. x && y) ((bytes_eq-Decides e b).1 (here ∙ component-exact a b split.0)) (begins-between-both es p q r split.1 split.2 (and-right (bytes_eq e a) (begins es p) h) (and-right (bytes_eq e c) (begins es r) g))
+
 -- what begins a path begins each one that stands between
 pub begins-between : (p q r : Path) → path_order p q ≡ Less → path_order q r ≡ Less → begins p r ≡ true → begins p q ≡ true
-begins-between [] q r l m e = refl
-begins-between (a ∷ p) [] r l m e = cc
-begins-between (a ∷ p) (b ∷ q) [] l m e = cc
-begins-between (a ∷ p) (b ∷ q) (c ∷ r) l m e =
-    let back : component_order b c ≡ ordering_reverse (component_order a b) = ap (component_order b) (sym (same-component a c p r e)) ∙ component_order_total.antisymm b a in
-    let split = both-less (component_order a b) (path_order p q) (path_order q r) l (ap (λ o. ordering_then o (path_order q r)) (sym back) ∙ m) in
-    ap₂ (λ x y. x && y) ((bytes_eq-Decides a b).1 (component-exact a b split.0)) (begins-between p q r split.1 split.2 (and-right (bytes_eq a c) (begins p r) e))
+begins-between p q r l m e = begins-between-both p p q r l m (begins-itself p) e
+
+-- what begins the beginning of a path begins the path
+pub begins-more : (p q : Path) (n : ℕ) → begins p (take n q) ≡ true → begins p q ≡ true
+begins-more [] q n e = refl
+begins-more (a ∷ p) q zero e = cc
+begins-more (a ∷ p) [] (suc n) e = cc
+begins-more (a ∷ p) (b ∷ q) (suc n) e = ap₂ (λ x y. x && y) (and-left (bytes_eq a b) (begins p (take n q)) e) (begins-more p q n (and-right (bytes_eq a b) (begins p (take n q)) e))

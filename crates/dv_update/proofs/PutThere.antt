@@ -11,19 +11,19 @@ use Rattle.dv_path.specs.declared.fault.PathFault.{PathFault}
 use Rattle.dv_path.specs.declared.fault.PathFault.TheVariants.{IndexTooLarge}
 use Rattle.dv_path.specs.Slots.{taken, free, blocked, slot_of, element_slot, slot_behind, slot}
 
-free-stays : (names : List (List ℕ)) (v : Tree) → slot_behind names free ≡ taken v → ⊥
+pub free-stays : (names : List (List ℕ)) (v : Tree) → slot_behind names free ≡ taken v → ⊥
 free-stays [] v e = cc
 free-stays (name ∷ names) v e = free-stays names v e
 
-blocked-stays : (names : List (List ℕ)) (v : Tree) → slot_behind names blocked ≡ taken v → ⊥
+pub blocked-stays : (names : List (List ℕ)) (v : Tree) → slot_behind names blocked ≡ taken v → ⊥
 blocked-stays [] v e = cc
 blocked-stays (name ∷ names) v e = blocked-stays names v e
 
-fields-again : (fs : Fields) → fields_of (list_of_fields fs) ≡ fs
+pub fields-again : (fs : Fields) → fields_of (list_of_fields fs) ≡ fs
 fields-again no_fields = refl
 fields-again (field name v fs) = ap (field name v) (fields-again fs)
 
-elements-again : (vs : Elements) → elements_of (list_of_elements vs) ≡ vs
+pub elements-again : (vs : Elements) → elements_of (list_of_elements vs) ≡ vs
 elements-again no_elements = refl
 elements-again (element v vs) = ap (element v) (elements-again vs)
 

@@ -1,10 +1,10 @@
 -- Edits each of which parts from the next one.
-use Rattle.std.proofs.Common.{◌≡◌, refl, List, [], ◌∷◌, false, length, map, arith}
+use Rattle.std.proofs.Common.{◌≡◌, refl, List, [], ◌∷◌, ℕ, false, length, map, arith}
 use Rattle.std.specs.List.{list_any, AllByRecursion}
 use Rattle.std.specs.declared.cmp.Ordering.TheVariants.{Less}
 use Rattle.dv_update.specs.Parsing.{conflicts, has_conflict}
 use Rattle.dv_update.specs.PathOrder.{path_order, begins}
-use Rattle.dv_update.specs.Shortened.{Steps}
+use Rattle.dv_update.specs.Collected.{Steps}
 use Rattle.dv_update.specs.Update.{Edit}
 use Rattle.dv_update.specs.View.{edit}
 use Rattle.dv_update.specs.declared.form.Edit as memory
@@ -16,24 +16,42 @@ all-through : (e d : Edit) → path_order e.0 d.0 ≡ Less → (es : List Edit) 
 all-through e d l [] h = tt
 all-through e d l (x ∷ es) h = (through e.0 d.0 x.0 l h.0, all-through e d l es h.1)
 
-rises : (es : List Edit) → Steps es → Rises es
+pub rises : (es : List Edit) → Steps es → Rises es
 rises [] s = tt
 rises (e ∷ []) s = (tt, tt)
 rises (e ∷ d ∷ es) s =
     let up = rises (d ∷ es) s.2 in
     ((s.0, all-through e d s.0 es up.0), up)
 
-apart-all : (e d : Edit) → path_order e.0 d.0 ≡ Less → begins e.0 d.0 ≡ false → (es : List Edit) → AllByRecursion (λ x. path_order d.0 x.0 ≡ Less) es → list_any (conflicts e) es ≡ false
-apart-all e d l none [] h = refl
-apart-all e d l none (x ∷ es) h =
-    let not-x : begins e.0 x.0 ≡ false = is-false (begins e.0 x.0) (λ b. clash (begins e.0 d.0) none (begins-between e.0 d.0 x.0 l h.0 b)) in
-    or-none _ _ (apart-below e x (through e.0 d.0 x.0 l h.0) not-x) (apart-all e d l none es h.1)
+-- a path stands before another one, and doesn't begin it
+abbrev pub Before : List (List ℕ) → List (List ℕ) → Type 0
+Before p q = (path_order p q ≡ Less) × (begins p q ≡ false)
+
+abbrev pub AllBefore : List Edit → Type 0
+AllBefore [] = Unit {0}
+AllBefore (e ∷ es) = AllByRecursion (λ x. Before e.0 x.0) es × AllBefore es
+
+before-each : (e d : Edit) → Before e.0 d.0 → (es : List Edit) → AllByRecursion (λ x. path_order d.0 x.0 ≡ Less) es → AllByRecursion (λ x. Before e.0 x.0) es
+before-each e d first [] h = tt
+before-each e d first (x ∷ es) h =
+    let not-x : begins e.0 x.0 ≡ false = is-false (begins e.0 x.0) (λ b. clash (begins e.0 d.0) first.1 (begins-between e.0 d.0 x.0 first.0 h.0 b)) in
+    ((through e.0 d.0 x.0 first.0 h.0, not-x), before-each e d first es h.1)
+
+pub all-before : (es : List Edit) → Steps es → AllBefore es
+all-before [] s = tt
+all-before (e ∷ []) s = (tt, tt)
+all-before (e ∷ d ∷ es) s = (((s.0, s.1), before-each e d (s.0, s.1) es (rises (d ∷ es) s.2).0), all-before (d ∷ es) s.2)
+
+apart-each : (e : Edit) (es : List Edit) → AllByRecursion (λ x. Before e.0 x.0) es → list_any (conflicts e) es ≡ false
+apart-each e [] h = refl
+apart-each e (x ∷ es) h = or-none _ _ (apart-below e x h.0.0 h.0.1) (apart-each e es h.1)
+
+none-conflict : (es : List Edit) → AllBefore es → has_conflict es ≡ false
+none-conflict [] h = refl
+none-conflict (e ∷ es) h = or-none _ _ (apart-each e es h.0) (none-conflict es h.1)
 
 pub no_conflict : (es : List Edit) → Steps es → has_conflict es ≡ false
-no_conflict [] s = refl
-no_conflict (e ∷ []) s = refl
-no_conflict (e ∷ d ∷ es) s =
-    or-none _ _ (or-none _ _ (apart-below e d s.0 s.1) (apart-all e d s.0 s.1 es (rises (d ∷ es) s.2).0)) (no_conflict (d ∷ es) s.2)
+no_conflict es s = none-conflict es (all-before es s)
 
 pub none-left : (edits : List memory.Edit) → length edits ≡ 0 → Steps (map edit edits)
 none-left [] none = tt

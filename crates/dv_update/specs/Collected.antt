@@ -1,6 +1,7 @@
 -- Edits one behind the other: words that bodies need.
-use Rattle.std.specs.Prelude.{ℕ, Bool, false, List, [], ◌∷◌, ◌++◌, Result, Ok, Err}
-use Rattle.dv_update.specs.PathOrder.{begins}
+use Rattle.std.specs.Prelude.{◌≡◌, ℕ, Bool, false, List, [], ◌∷◌, ◌++◌, Result, Ok, Err, ⊤}
+use Rattle.std.specs.declared.cmp.Ordering.TheVariants.{Less}
+use Rattle.dv_update.specs.PathOrder.{path_order, begins}
 use Rattle.dv_update.specs.Update.{Edit}
 use Rattle.dv_update.specs.declared.fault.UpdateFault.{UpdateFault}
 
@@ -14,3 +15,9 @@ abbrev pub last_begins : List (List ℕ) → List Edit → Bool
 last_begins path [] = false
 last_begins path (e ∷ []) = begins e.0 path
 last_begins path (e ∷ es) = last_begins path es
+
+-- each edit stands before the next one, and its path doesn't begin that one's
+abbrev pub Steps : List Edit → Type 0
+Steps [] = ⊤
+Steps (e ∷ []) = ⊤
+Steps (e ∷ d ∷ es) = (path_order e.0 d.0 ≡ Less) × (begins e.0 d.0 ≡ false) × Steps (d ∷ es)

@@ -14,4 +14,5 @@ pub mod UpdateCode
 pub mod UpdateView
 pub mod View
 pub mod Removals
-pub mod Shortened
+pub mod Filling
+pub mod FillView

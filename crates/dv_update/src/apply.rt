@@ -13,8 +13,8 @@ ghost use Rattle.dv_update.specs.UpdateView.{update};
 ghost use Rattle.dv_update.specs.declared.fault.UpdateFault.TheVariants.{NoMemory as wanting};
 
 use crate::fault::UpdateFault;
+use crate::filling::refuse_too_large;
 use crate::form::Update;
-use crate::shortened::refuse_too_large;
 use crate::stand_in::edited_or_alike;
 use dv_bson::{BsonFault, Document, NoMemory, Value, fits, size};
 use dv_order::is_same;

@@ -48,27 +48,16 @@ pub(crate) fn lead_far(edits: &[Edit]) -> bool {
 pub(crate) fn beginning(alloc: Global, path: &Path) -> Result<Option<Path>, NoMemory>
     ensures { IfOk result (λ found. IfSome found (λ beginning. (length beginning ≡ 1000) × (begins_with beginning path.now ≡ true))) }
 {
-    let Some(beginning) = first_components(alloc, path.components(), MOST_COMPONENTS)? else {
-        return Ok(None);
+    let text = joined(alloc, path.components())?;
+    let beginning = match Path::parse(alloc, text.as_str()) {
+        Ok(beginning) => beginning,
+        Err(PathFault::NoMemory) => return Err(AllocError),
+        Err(_) => return Ok(None),
     };
     if beginning.components().len() == MOST_COMPONENTS && begins(&beginning, path) {
         Ok(Some(beginning))
     } else {
         Ok(None)
-    }
-}
-
-/// The path of so many first components, where there are any. Fails where memory is wanting.
-pub(crate) fn first_components(
-    alloc: Global,
-    components: &[Component],
-    count: usize,
-) -> Result<Option<Path>, NoMemory> {
-    let text = joined(alloc, components, count)?;
-    match Path::parse(alloc, text.as_str()) {
-        Ok(beginning) => Ok(Some(beginning)),
-        Err(PathFault::NoMemory) => Err(AllocError),
-        Err(_) => Ok(None),
     }
 }
 
@@ -81,10 +70,10 @@ pub(crate) fn further(path: &Path) -> &[Component]
     &components[MOST_COMPONENTS..]
 }
 
-/// So many first components, with dots between them. Fails where memory is wanting.
-fn joined(alloc: Global, components: &[Component], count: usize) -> Result<String, NoMemory> {
+/// As many first components as are made, with dots between them. Fails where memory is wanting.
+fn joined(alloc: Global, components: &[Component]) -> Result<String, NoMemory> {
     let mut text = String::new(alloc);
-    'components: for component in components.iter().take(count) {
+    'components: for component in components.iter().take(MOST_COMPONENTS) {
         if !text.is_empty() {
             text.push_str(".")?;
         }

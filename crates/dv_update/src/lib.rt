@@ -6,6 +6,7 @@ mod edit;
 mod edits;
 mod far;
 mod fault;
+mod filling;
 mod form;
 pub mod laws;
 mod number;
@@ -15,7 +16,6 @@ mod order;
 mod outcome;
 mod parsing;
 mod pieces;
-mod shortened;
 mod stand_in;
 
 pub use fault::UpdateFault;

@@ -9,9 +9,8 @@ ghost use Rattle.std.specs.declared.cmp.Ordering.TheVariants.{Less};
 ghost use Rattle.dv_update.specs.Parsing as defined;
 ghost use Rattle.dv_update.specs.Parsing.{Gives};
 ghost use Rattle.dv_update.specs.PathOrder.{begins as begins_with, component_order, path_order};
-ghost use Rattle.dv_update.specs.Collected.{last_begins};
+ghost use Rattle.dv_update.specs.Collected.{Steps, last_begins};
 ghost use Rattle.dv_update.specs.PathOrderLaws.{path_order_total};
-ghost use Rattle.dv_update.specs.Shortened.{Steps};
 ghost use Rattle.dv_update.specs.Update.{operators};
 ghost use Rattle.dv_update.specs.View.{edit, edit as seen, entry};
 ghost use Rattle.dv_update.specs.declared.fault.UpdateFault.TheVariants.{Conflict, NoMemory};
@@ -120,8 +119,13 @@ fn compare_paths(a: &[Component], b: &[Component]) -> Ordering
 pub(crate) fn begins(a: &Path, b: &Path) -> bool
     ensures { result ≡ begins_with a.now b.now }
 {
-    let xs = a.components();
-    let ys = b.components();
+    is_beginning(a.components(), b.components())
+}
+
+/// The same of the components of two paths.
+pub(crate) fn is_beginning(xs: &[Component], ys: &[Component]) -> bool
+    ensures { result ≡ begins_with xs.now ys.now }
+{
     'components: for (x, y) in xs.iter().zip(ys) {
         if x.as_str() != y.as_str() {
             return false;
@@ -148,7 +152,7 @@ pub(crate) fn are_apart(edits: &[Edit]) -> bool
 }
 
 /// Whether the path `a` stands before the path `b`, and doesn't begin it.
-pub(crate) fn parts_from(a: &Path, b: &Path) -> bool
+fn parts_from(a: &Path, b: &Path) -> bool
     ensures { IsTrue result → (path_order a.now b.now ≡ Less) × (begins_with a.now b.now ≡ false) }
 {
     compare_paths(a.components(), b.components()).is_lt() && !begins(a, b)
@@ -208,7 +212,7 @@ fn listed(alloc: Global, places: BTreeMap<PathKey, Operation>) -> Result<Edits, 
 }
 
 /// Whether the last edit's path begins this one.
-pub(crate) fn follows_its_beginning(edits: &[Edit], path: &Path) -> bool
+fn follows_its_beginning(edits: &[Edit], path: &Path) -> bool
     ensures { result ≡ last_begins path.now (map edit edits.now) }
 {
     match edits.last() {

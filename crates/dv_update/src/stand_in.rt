@@ -337,7 +337,7 @@ fn pulls_shallow(alloc: Global, document: &Document, edit: &Edit) -> Result<bool
 
 impl Operation {
     /// Whether something comes where nothing stands.
-    fn is_new(&self) -> bool
+    pub(crate) fn is_new(&self) -> bool
         ensures { result ≡ is_some (new_value (operation self.now)) }
     {
         match self {
