@@ -1,5 +1,5 @@
 -- Views that stand before a place.
-use Rattle.std.proofs.Common.{◌≡◌, ◌<◌, ◌≤◌, ◌+◌, ℕ, zero, suc, Bool, true, false, List, [], ◌∷◌, map, take, length, Option, Some, None, cond, refl, ap, sym, subst, ◌∙◌, arith, slice_get}
+use Rattle.std.proofs.Common.{◌≡◌, ◌<◌, ◌≤◌, ◌+◌, ℕ, zero, suc, Bool, true, false, List, [], ◌∷◌, map, take, length, Option, Some, None, cond, refl, ap, sym, ◌∙◌, arith, slice_get}
 use Rattle.std.specs.Prelude.{nat_lt}
 use Rattle.std.specs.Bool.{if◌then◌else◌}
 use Rattle.std.specs.Str.{bytes_eq}
@@ -40,8 +40,10 @@ module _ {Y : Type 0} (name : List ℕ) where
     where
       more : (n : ℕ) → (i + 1) + n ≡ i + suc n
       more n = omega arith
+
       same : i ≡ i + 0
       same = omega arith
+
       by : (b : Bool) (p : Option ℕ) → position_from (is_called name) (i + 1) (keys_of es) ≡ option_map (λ n. (i + 1) + n) p
           → cond b (Some i) (position_from (is_called name) (i + 1) (keys_of es)) ≡ option_map (λ n. i + n) (cond b (Some 0) (option_map suc p))
       by true p rest = ap Some same

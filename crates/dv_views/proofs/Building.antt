@@ -1,5 +1,5 @@
 -- What a view keeps as it is made, over older views and documents.
-use Rattle.std.proofs.Common.{◌≡◌, ◌||◌, ℕ, Bool, true, false, List, [], ◌∷◌, ◌++◌, map, length, Option, Some, None, refl, ap, sym, subst, ◌∙◌}
+use Rattle.std.proofs.Common.{◌≡◌, ◌||◌, ℕ, Bool, true, false, List, [], ◌∷◌, ◌++◌, map, Option, Some, None, refl, ap, sym, subst, ◌∙◌}
 use Rattle.std.specs.Bool.{if◌then◌else◌}
 use Rattle.std.specs.Str.{bytes_eq}
 use Rattle.std.proofs.lemmas.Slice.Eq.{bytes_eq-Decides}
@@ -15,7 +15,7 @@ use Rattle.dv_order.specs.OwnKeys.{IsOwn}
 use Rattle.dv_coll.specs.Collection.{IsAscending, id_key}
 use Rattle.dv_change.specs.declared.input.Input.TheVariants.{Left}
 use Rattle.dv_change.specs.declared.live.Live.{Live}
-use Rattle.dv_change.specs.Changes.{IsPositioned, Positioned, forget}
+use Rattle.dv_change.specs.Changes.{IsPositioned, forget}
 use Rattle.dv_change.specs.Positions.{IsExact, pos_order}
 use Rattle.dv_pipe.specs.Sources.{Row, Source, lists_of, rows_under}
 use Rattle.dv_pipe.specs.Stages.{Lists, evaluated}
@@ -104,8 +104,7 @@ module _ (older : Views) (lists : Lists) where
         → IsBuilt stages source older lists (live (kept_seen after))
     built fresh some whole after none is all sound chain entries ticks =
         let left : (kept_seen after).taken ≡ (kept_seen whole).taken = λ i. record { left = left_of (chain i) (entries i); named = named_of (chain i) } in
-        let taken = left ∙ all ∙ all-taken fresh some none is in
-        (
+        let taken = left ∙ all ∙ all-taken fresh some none is in (
           taken,
           ap forget entries ∙ rows_are_made stages whole sound ∙ ap (rows_made stages) (sym left),
           subst (λ (t : Taken). IsPositioned t.left) (sym taken) own.1,

@@ -1,8 +1,8 @@
 -- Views in memory: what looking up, adding, writing and taking out an entry makes of them.
-use Rattle.std.proofs.Common.{◌≡◌, Bor, ℕ, Bool, true, false, not, List, [], ◌∷◌, ◌++◌, map, Option, Some, None, is_some, cond, Result, Ok, Err, OnOk, OnErr, refl, ap, sym, ◌∙◌, ◌||◌}
+use Rattle.std.proofs.Common.{◌≡◌, Bor, ℕ, Bool, true, false, not, List, [], ◌∷◌, ◌++◌, map, Option, Some, None, is_some, cond, refl, ap, sym, ◌∙◌, ◌||◌}
 use Rattle.std.proofs.lemmas.Slice.Eq.{bytes_eq-Decides}
 use Rattle.std.specs.List.{AllByRecursion, IsDistinct, list_any}
-use Rattle.std.specs.Map.{keys_of, lookup, remove_entry, set_value, values_of}
+use Rattle.std.specs.Map.{keys_of, lookup, remove_entry, values_of}
 use Rattle.std.specs.Option.{option_copied, option_map}
 use Rattle.std.specs.Str.{bytes_eq}
 use Rattle.std.specs.String.{string_bytes, string_eq}
@@ -11,7 +11,7 @@ use Rattle.dv_pipe.specs.Stages.{is_read}
 use Rattle.dv_views.specs.Body.{Body}
 use Rattle.dv_views.specs.Older.{Entries, is_called, views}
 use Rattle.dv_views.specs.Seen.{named, seen}
-use Rattle.dv_views.specs.Views.{AreNamedApart, View, Views, has_name, has_view, is_stale, reads_name, view_named, without}
+use Rattle.dv_views.specs.Views.{AreNamedApart, View, has_name, has_view, is_stale, reads_name, view_named, without}
 
 there-met : (b : Bool) (w : Body) (s : Option Body) (r : Bool) → r ≡ is_some s → b || r ≡ is_some (cond b (Some w) s)
 there-met true w s r rest = refl

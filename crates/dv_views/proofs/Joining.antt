@@ -1,15 +1,13 @@
 -- A view that was just made, behind others or among them.
-use Rattle.std.proofs.Common.{◌≡◌, ◌≤◌, ◌||◌, ℕ, zero, suc, Bool, true, false, List, [], ◌∷◌, ◌++◌, map, take, fold, length, Option, Some, None, cond, refl, ap, sym, subst, ◌∙◌, arith}
+use Rattle.std.proofs.Common.{◌≡◌, ◌≤◌, ◌||◌, ℕ, zero, suc, Bool, true, false, List, [], ◌∷◌, ◌++◌, map, take, fold, Option, Some, None, refl, ap, sym, subst, ◌∙◌, arith}
 use Rattle.std.specs.Bool.{if◌then◌else◌}
 use Rattle.std.specs.List.{AllByRecursion}
 use Rattle.std.specs.Str.{bytes_eq}
 use Rattle.std.proofs.lemmas.Slice.Eq.{bytes_eq-Decides}
-use Rattle.dv_change.specs.Changes.{IsPositioned, Positioned, forget}
-use Rattle.dv_pipe.specs.Sources.{Row}
+use Rattle.dv_change.specs.Changes.{IsPositioned}
 use Rattle.dv_pipe.specs.Stages.{Lists, evaluated}
 use Rattle.dv_pipe.specs.declared.stage.Stage.{Stage}
-use Rattle.dv_views.specs.Flow.{outs_made}
-use Rattle.dv_views.specs.Forms.{ViewForm, is_among, names_read, outs_of, places_over, rows_over, with_places, with_rows}
+use Rattle.dv_views.specs.Forms.{ViewForm, is_among, names_read, places_over, rows_over, with_places, with_rows}
 use Rattle.dv_views.specs.Ground.{IsBuilt, IsLive, IsLiveView, outs_below, outs_of_mark, outs_of_view, rows_below, rows_of_mark, rows_of_view}
 use Rattle.dv_views.specs.Made.{AreAlike, IsNoStale}
 use Rattle.dv_views.specs.Placed.{Places, places_of, positioned}
@@ -17,7 +15,7 @@ use Rattle.dv_views.specs.Seen.{IsWellKept}
 use Rattle.dv_views.specs.Turned.{rows_made}
 use Rattle.dv_views.specs.Views.{AreKept, AreNamedApart, AreOverLive, AreRight, AreRightOver, IsFresh, IsRight, Mark, Taken, View, Views, anew, distance, distances_of, form_of, is_stale, live, no_distance, reads, stale, taken_from, view_named, with_distance}
 use Rattle.dv_views.proofs.Agree.{FromScratch, TakesInOrder, agree}
-use Rattle.dv_views.proofs.Right.{UnreadDoesNotMatter, itself, or-left, or-right, read_among, same_taken}
+use Rattle.dv_views.proofs.Right.{UnreadDoesNotMatter, itself, or-left, read_among, same_taken}
 use Rattle.dv_views.proofs.Shown.{IsShownAt, distance_at, distance_named, no_view, shown_at}
 
 -- what holds of each of some names holds of one that is among them
@@ -75,6 +73,7 @@ module _ (scratch : FromScratch) (unread : UnreadDoesNotMatter) (lists others : 
         at (live k) lives = refl
         at (anew r) lives = absurd lives
         at stale lives = absurd lives
+
         by : (o : Option View) → IsLiveView o → distance_named o ≡ 0
         by None lives = refl
         by (Some v) lives = at v.mark lives
@@ -83,18 +82,17 @@ module _ (scratch : FromScratch) (unread : UnreadDoesNotMatter) (lists others : 
     right_built (live k) built =
         let taken : k.taken ≡ taken_from stages source places =
         built.0 ∙ same_taken source (outs_below older others) places stages (λ name read.
-          let among = sym (read_among stages source name) ∙ read in
-          live-outs name (view_named name older) refl (alike name among) (each_among (λ n. IsLiveView (view_named n older)) (names_read stages source) name built.4 among)) in
-        let own = agree scratch lists older over right (in_order older kept) source (near built.4 source (or-left (bytes_eq source source) _ (itself source))) in
-        (
+        let among = sym (read_among stages source name) ∙ read in
+        live-outs name (view_named name older) refl (alike name among) (each_among (λ n. IsLiveView (view_named n older)) (names_read stages source) name built.4 among)) in
+        let own = agree scratch lists older over right (in_order older kept) source (near built.4 source (or-left (bytes_eq source source) _ (itself source))) in (
           taken,
           built.1 ∙ ap (rows_made stages) taken
               ∙ scratch stages source places rows (subst (λ (t : Taken). IsPositioned t.left) taken built.2) own.0 (λ name among. (agree scratch lists older over right (in_order older kept) name (near built.4 name among)).1),
         )
     right_built (anew r) built =
         built ∙ unread stages source (rows_below older others) rows (λ name read.
-          let among = sym (read_among stages source name) ∙ read in
-          own-rows name (view_named name older) refl (alike name among) (each_among (λ n. IsNoStale (view_named n older)) (names_read stages source) name fresh among))
+        let among = sym (read_among stages source name) ∙ read in
+        own-rows name (view_named name older) refl (alike name among) (each_among (λ n. IsNoStale (view_named n older)) (names_read stages source) name fresh among))
     right_built stale built = absurd built
 
 -- ---- how far from being live
@@ -107,16 +105,20 @@ module _ (older : Views) (apart : AreNamedApart older) (lists : Lists) (stages :
       at-live (live k) lives = omega arith
       at-live (anew r) lives = absurd lives
       at-live stale lives = absurd lives
+
       of-live : (o : Option View) → IsLiveView o → distance_named o ≤ 0
       of-live None lives = omega arith
       of-live (Some v) lives = at-live v.mark lives
+
       at-fresh : (m : Mark) → is_stale m ≡ false → distance m ≤ 1
       at-fresh (live k) fresh = omega arith
       at-fresh (anew r) fresh = omega arith
       at-fresh stale fresh = absurd cc
+
       of-fresh : (o : Option View) → IsNoStale o → distance_named o ≤ 1
       of-fresh None fresh = omega arith
       of-fresh (Some v) fresh = at-fresh v.mark fresh
+
       by : (m : Mark) → IsBuilt stages source older lists m → (o : Option View) → view_named name older ≡ o → distance_named o ≤ distance m
       by (live k) built o is = of-live o (subst (λ (p : Option View). IsLiveView p) is (each_among (λ n. IsLiveView (view_named n older)) (names_read stages source) name built.4 among))
       by (anew r) built o is = of-fresh o (subst (λ (p : Option View). IsNoStale p) is (each_among (λ n. IsNoStale (view_named n older)) (names_read stages source) name fresh among))
@@ -188,11 +190,14 @@ module _ (w : View) where
     where
       called : w.name ≡ v.name
       called = ap (λ f. f.name) in_place.0
+
       near : distance w.mark ≤ distance v.mark
       near = let a = at-most w.mark in let b = farthest v.mark in_place.1 in omega (arith, a, b)
+
       by : (b : Bool) (name : List ℕ) → (if b then distance w.mark else distances name) ≤ (if b then distance v.mark else distances name)
       by true name = near
       by false name = omega arith
+
       lower : (name : List ℕ) → with_distance w distances name ≤ with_distance v distances name
       lower name = subst (λ (n : List ℕ). (if bytes_eq name n then distance w.mark else distances name) ≤ (if bytes_eq name v.name then distance v.mark else distances name)) (sym called) (by (bytes_eq name v.name) name)
   over_set (suc n) distances (v ∷ vs) in_place over own = (over.0, over_set n (with_distance v distances) vs in_place over.1 own)

@@ -1,5 +1,5 @@
 -- Views in memory of which some of the first have taken in a change.
-use Rattle.std.proofs.Common.{◌≡◌, ◌≤◌, ◌<◌, ◌+◌, ◌||◌, ◌++◌, drop, get_or, ℕ, zero, suc, Bool, true, false, List, [], ◌∷◌, map, take, fold, length, Option, Some, None, is_some, slice_get, refl, ap, sym, subst, ◌∙◌, arith, inl, inr}
+use Rattle.std.proofs.Common.{◌≡◌, ◌≤◌, ◌<◌, ◌+◌, ◌||◌, ◌++◌, drop, get_or, ℕ, zero, suc, Bool, true, false, List, [], ◌∷◌, map, take, fold, length, Option, Some, None, slice_get, refl, ap, sym, subst, ◌∙◌, arith, inl, inr}
 use Rattle.std.specs.List.{AllByRecursion, IsDistinct, list_any}
 use Rattle.std.specs.Map.{values_of}
 use Rattle.std.specs.Str.{bytes_eq}
@@ -10,14 +10,14 @@ use Rattle.dv_change.specs.declared.live.Live.{Live}
 use Rattle.dv_views.specs.declared.turner.Turner.{Turner}
 use Rattle.dv_views.specs.Body.{Body}
 use Rattle.dv_views.specs.Flow.{Told, arrivals, is_reached, outs_made, told_at, with_told}
-use Rattle.dv_views.specs.Forms.{is_among, names_read}
+use Rattle.dv_views.specs.Forms.{names_read}
 use Rattle.dv_views.specs.Ground.{IsLive, IsLiveView}
 use Rattle.dv_views.specs.Keeping.{Turns, kept_seen}
 use Rattle.dv_views.specs.Older.{Entries, told_before, told_else, told_found, told_named, told_over, views, views_before}
 use Rattle.dv_views.specs.Passing.{IsTakenAt}
 use Rattle.dv_views.specs.Seen.{IsWellKept, named, seen, telling}
-use Rattle.dv_views.specs.Turned.{AreTakenBy, HasTurned, HaveTaken, IsTakenBy, Telling}
-use Rattle.dv_views.specs.Views.{AreNamedApart, Mark, View, Views, anew, distance, distances_of, form_of, live, no_distance, stale, view_named, with_distance}
+use Rattle.dv_views.specs.Turned.{AreTakenBy, HaveTaken, IsTakenBy}
+use Rattle.dv_views.specs.Views.{AreNamedApart, Mark, View, Views, anew, distance, distances_of, live, no_distance, stale, view_named, with_distance}
 use Rattle.dv_pipe.specs.declared.stage.Stage.{Stage}
 use Rattle.dv_views.proofs.Before.{found_is_before}
 use Rattle.dv_views.proofs.Joining.{each_among}
@@ -92,8 +92,7 @@ module _ {Y : Type 0} where
         none (e ∷ es) is there = cc
     next (suc n) come distances (v ∷ before) [] first there taken = absurd first
     next (suc n) come distances (v ∷ before) (e ∷ es) first there taken =
-        let called : string_bytes e.0 ≡ v.name = ap (λ f. f.name) first.0.form in
-        (
+        let called : string_bytes e.0 ≡ v.name = ap (λ f. f.name) first.0.form in (
           first.0,
           next n (with_told v.name e.1.told come) (with_distance (seen e) distances) before es first.1 there
               (subst
@@ -106,7 +105,7 @@ module _ {Y : Type 0} where
   taken_next namespace changes n before es left first at =
       let more : suc n ≡ n + 1 = omega arith in
       subst (λ (fs : Entries Y). HaveFirst (n + 1) (told_at namespace changes) no_distance before fs) (sym at.left)
-          (subst (λ (m : ℕ). HaveFirst m (told_at namespace changes) no_distance before (set_value_at es n at.new)) more (next at.old at.new n (told_at namespace changes) no_distance before es first at.there at.taken))
+      (subst (λ (m : ℕ). HaveFirst m (told_at namespace changes) no_distance before (set_value_at es n at.new)) more (next at.old at.new n (told_at namespace changes) no_distance before es first at.there at.taken))
 
   all-taken : (come : Told) (distances : List ℕ → ℕ) (before : Views) (es : Entries Y) → HaveFirst (length before) come distances before es → AreTakenBy come distances before (map telling es)
   all-taken come distances [] es first = subst (λ (fs : Entries Y). AreTakenBy come distances [] (map telling fs)) (sym (none es first)) tt
@@ -228,11 +227,15 @@ module _ {Y : Type 0} where
           form = refl;
           tells = sym reached;
           unread = λ away. absurd (cc (sym away ∙ reached));
-          turned = λ _. inr (kept_seen before, was, record {
-            kept = ap live turns.kept;
-            tells = ap Some turns.told;
-            leads = turns.leads ∙ ap (λ k. outs_made old.stages k.taken) turns.kept;
-          });
+          turned = λ _. inr (
+            kept_seen before,
+            was,
+            record {
+              kept = ap live turns.kept;
+              tells = ap Some turns.told;
+              leads = turns.leads ∙ ap (λ k. outs_made old.stages k.taken) turns.kept;
+            },
+          );
           live = λ _ _ other among.
               distance_at other (views_before n es) (apart-take n es apart) ∙ nearest (view_named other (views_before n es)) (each_among (λ m. IsLiveView (view_named m (views_before n es))) (names_read old.stages old.source) other lives among);
         });

@@ -1,10 +1,9 @@
 -- Views that are made anew in their place, and views that come behind the others.
-use Rattle.std.proofs.Common.{◌≡◌, ◌<◌, ◌+◌, ◌≤◌, arith, ◌&&◌, ◌||◌, ◌⊎◌, inl, inr, ℕ, zero, suc, Bool, true, false, not, List, [], ◌∷◌, ◌++◌, map, take, fold, length, Option, Some, None, Result, Ok, Err, IsErrAnd, OnErr, slice_get, refl, ap, sym, subst, ◌∙◌}
-use Rattle.std.specs.List.{AllByRecursion, AllZip, IsDistinct, list_any}
+use Rattle.std.proofs.Common.{◌≡◌, ◌<◌, ◌+◌, arith, ◌&&◌, ◌||◌, inl, inr, ℕ, zero, suc, Bool, true, false, List, [], ◌∷◌, ◌++◌, map, take, length, Option, Some, None, Result, Ok, Err, IsErrAnd, OnErr, slice_get, refl, ap, sym, subst, ◌∙◌}
+use Rattle.std.specs.List.{AllByRecursion, IsDistinct, list_any}
 use Rattle.std.specs.Bool.{if◌then◌else◌}
 use Rattle.std.specs.Str.{bytes_eq}
 use Rattle.std.proofs.lemmas.Slice.Eq.{bytes_eq-Decides}
-use Rattle.dv_pipe.specs.Sources.{Row}
 use Rattle.dv_pipe.specs.Stages.{Lists, is_read}
 use Rattle.dv_pipe.specs.declared.stage.Stage.{Stage}
 use Rattle.std.specs.Prelude.{nat_lt}
@@ -21,7 +20,7 @@ use Rattle.dv_views.specs.Ground.{IsBuilt}
 use Rattle.dv_views.specs.Made.{AreAlike, IsAdded, IsNoStale, IsRefreshedAt}
 use Rattle.dv_views.specs.Placed.{Places, places_of}
 use Rattle.dv_views.specs.Seen.{IsSoundRegistry, IsWellKept, named, seen}
-use Rattle.dv_views.specs.Views.{AreInOrder, AreNamedApart, AreOverLive, ArePartlyRefreshed, AreRight, AreRightOver, IsFresh, IsMadeAnew, IsPartlyRefreshed, IsRefusedFor, Mark, View, Views, distance, distances_of, form_of, has_view, is_stale, no_distance, reads, view_named, with_distance}
+use Rattle.dv_views.specs.Views.{AreInOrder, AreNamedApart, AreOverLive, ArePartlyRefreshed, AreRight, AreRightOver, IsFresh, IsMadeAnew, IsPartlyRefreshed, IsRefusedFor, Mark, View, Views, form_of, has_view, is_stale, no_distance, view_named, with_distance}
 use Rattle.dv_views.proofs.Agree.{FromScratch}
 use Rattle.dv_views.proofs.Joining.{Replaces, each_among, fresh_built, over_append, over_built, over_set, right_built, right_set, set_view, well_built}
 use Rattle.dv_views.proofs.Right.{UnreadDoesNotMatter, neither, read_among, right_append}
@@ -123,8 +122,7 @@ module _ (names : List (List ℕ)) where
     pub refreshed_at : (n : ℕ) (vs : Views) → slice_get vs n ≡ Some v → IsRefreshedAt n names vs (set_view n (keeping v mark) vs)
     refreshed_at n [] there = absurd cc
     refreshed_at zero (u ∷ vs) there =
-        let same : u ≡ v = cc in
-        (
+        let same : u ≡ v = cc in (
           inr (subst (λ (w : View). is_among w.name names ≡ true) (sym same) listed, subst (λ (w : View). IsMadeAnew w (keeping v mark)) (sym same) (record { stale = stale; form = refl; fresh = fresh })),
           (λ _. fresh.live),
           refl,
@@ -147,8 +145,8 @@ module _ (names : List (List ℕ)) (mark : Mark) (v : View) (stale : is_stale v.
         apart = apart_by_forms vs now (forms_set (keeping v mark) n vs in_place) sound.apart;
         kept = kept_set (keeping v mark) n vs in_place sound.kept (well_built v.stages v.source (take n vs) lists mark built);
         live = over_set (keeping v mark) n no_distance vs in_place sound.live (λ name read.
-          over_built (take n vs) (apart_take n vs sound.apart) lists v.stages v.source (fresh_reads names (take n vs) (names_read v.stages v.source) fresh some) mark built name
-          (sym (read_among v.stages v.source name) ∙ read));
+            over_built (take n vs) (apart_take n vs sound.apart) lists v.stages v.source (fresh_reads names (take n vs) (names_read v.stages v.source) fresh some) mark built name
+            (sym (read_among v.stages v.source name) ∙ read));
         founded = subst AreFounded (sym (forms_set (keeping v mark) n vs in_place)) sound.founded;
       }
 
@@ -289,7 +287,7 @@ called name (v ∷ vs) = ap (λ (b : Bool). bytes_eq name v.name || b) (called n
 pub no_fault : (vs : Views) (name source : List ℕ) (stages : List Stage) → fault_of_new (map form_of vs) name source stages ≡ None → (has_view name vs ≡ false) × (is_read_by (map form_of vs) name || is_read stages source name ≡ false)
 no_fault vs name source stages is =
     let both = none-holds (list_any (λ (f : ViewForm). bytes_eq name f.name) (map form_of vs)) (is_read_by (map form_of vs) name || is_read stages source name)
-        (nat_lt (length (map form_of vs)) most_views && nat_lt (height_over (heights (map form_of vs)) stages source) (suc most_height)) is in
+    (nat_lt (length (map form_of vs)) most_views && nat_lt (height_over (heights (map form_of vs)) stages source) (suc most_height)) is in
     (sym (called name vs) ∙ both.0, both.1)
 
 pub same_called : (name : List ℕ) (vs ws : Views) → map form_of ws ≡ map form_of vs → has_view name ws ≡ has_view name vs

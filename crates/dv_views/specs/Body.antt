@@ -1,5 +1,5 @@
 -- What a view is in memory, and what it stands for.
-use Rattle.std.specs.Prelude.{◌≡◌, ℕ, List, Option}
+use Rattle.std.specs.Prelude.{ℕ, List, Option}
 use Rattle.dv_change.specs.declared.change.Change.{Change}
 use Rattle.dv_pipe.specs.declared.stage.Stage.{Stage}
 use Rattle.dv_views.specs.Views.{Mark}

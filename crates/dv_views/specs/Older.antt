@@ -8,7 +8,7 @@ use Rattle.dv_change.specs.declared.change.Change.{Change}
 use Rattle.dv_views.specs.Body.{Body}
 use Rattle.dv_views.specs.Flow.{Told, told_at, with_told}
 use Rattle.dv_views.specs.Seen.{seen}
-use Rattle.dv_views.specs.Views.{Views, distances_of}
+use Rattle.dv_views.specs.Views.{Views}
 
 abbrev pub Entries : Type 0 → Type 0
 Entries Y = List (String Y × Body)

@@ -1,7 +1,6 @@
 -- What a view in memory makes of a change that views hand on: words of bodies.
-use Rattle.std.specs.Prelude.{◌≡◌, ◌⊎◌, ℕ, ◌+◌, Bool, true, false, List, [], ◌∷◌, fold, map, Option, Some, is_some, ⊤}
+use Rattle.std.specs.Prelude.{◌≡◌, ◌⊎◌, ℕ, true, false, List, [], ◌∷◌, fold, map, Option, Some, is_some, ⊤}
 use Rattle.dv_change.specs.declared.change.Change.{Change}
-use Rattle.dv_change.specs.declared.input.Input.{Input}
 use Rattle.dv_change.specs.Changes.{forget, with_changes}
 use Rattle.dv_change.specs.Raised.{raised}
 use Rattle.dv_pipe.specs.declared.stage.Stage.{Stage}

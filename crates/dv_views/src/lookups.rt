@@ -29,11 +29,7 @@ pub(crate) fn lookups_of(
 
 /// The names that the pipeline over `source` reads: it, and each that a stage looks into, in their order. Fails where memory is
 /// wanting.
-pub fn names_read(
-    alloc: Global,
-    source: &str,
-    pipeline: &Pipeline,
-) -> Result<Vec<Str>, NoMemory>
+pub fn names_read(alloc: Global, source: &str, pipeline: &Pipeline) -> Result<Vec<Str>, NoMemory>
     ensures { IfOk result (λ names. names.items ≡ forms.names_read pipeline.now source.now) }
 {
     let mut names = Vec::new(alloc);

@@ -194,7 +194,13 @@ fn filled_with_documents(
 {
     let mut live = live;
     'documents: for document in documents {
-        live = put_in(alloc, live, pipeline, input, &document_put(alloc, document)?)?;
+        live = put_in(
+            alloc,
+            live,
+            pipeline,
+            input,
+            &document_put(alloc, document)?,
+        )?;
     }
     Ok(live)
 }

@@ -1,11 +1,9 @@
-use Rattle.std.proofs.Common.{rules, ◌≡◌, ◌<◌, ℕ, List, true, false, slice_get, Some, ap, subst, sym, ◌∙◌}
+use Rattle.std.proofs.Common.{◌≡◌, ◌<◌, ℕ, List, Some, ap, subst, sym, ◌∙◌}
 use Rattle.indexmap.proofs.CallerLemmas.{index_map_len-with_value_at}
 use Rattle.dv_pipe.specs.declared.stage.Stage.{Stage}
 use Rattle.dv_views.specs.Body.{Body}
-use Rattle.dv_views.specs.Flow.{is_reached}
 use Rattle.dv_views.specs.Keeping.{IsSoundLive, kept_seen}
 use Rattle.dv_views.specs.Views.{live}
-use Rattle.dv_views.specs.Older.{told_found}
 use Rattle.dv_views.proofs.Marked.{alone_at, read_written, stale_at, turned_at}
 use Rattle.dv_views.proofs.passing.take_at.Goals as goal
 

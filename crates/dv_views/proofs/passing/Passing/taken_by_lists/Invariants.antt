@@ -1,5 +1,5 @@
 -- What came to the lists so far was taken in.
-use Rattle.std.proofs.Common.{◌≡◌, take, length}
+use Rattle.std.proofs.Common.{take}
 use Rattle.dv_views.specs.Flow.{arriving_at_lists}
 use Rattle.dv_views.specs.Keeping.{Turns}
 use Rattle.dv_views.specs.Older.{told_found}

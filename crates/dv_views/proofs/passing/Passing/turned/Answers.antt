@@ -1,4 +1,4 @@
-use Rattle.std.proofs.Common.{rules, ℕ, List, Option, ap, length, subst, sym, ◌∙◌, [], ◌++◌}
+use Rattle.std.proofs.Common.{rules, ℕ, List, Option, ap, length, subst, ◌∙◌, []}
 use Rattle.std.specs.List.{AllByRecursion}
 use Rattle.dv_change.specs.declared.change.Change.{Change}
 use Rattle.dv_change.specs.declared.input.Input.TheVariants.{Left}

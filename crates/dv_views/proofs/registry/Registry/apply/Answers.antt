@@ -1,5 +1,5 @@
 use Rattle.std.proofs.Common.{List, subst, take, sym, ap, ◌∙◌, ◌++◌, ◌∷◌, []}
-use Rattle.std.proofs.lemmas.List.{take_all, take_more}
+use Rattle.std.proofs.lemmas.List.{take_more}
 use Rattle.dv_change.specs.declared.change.Change.{Change}
 use Rattle.dv_views.specs.Flow.{told_at}
 use Rattle.dv_views.specs.Turned.{HaveTaken}

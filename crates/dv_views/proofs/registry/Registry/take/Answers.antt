@@ -3,7 +3,7 @@ use Rattle.dv_views.specs.Flow.{told_at}
 use Rattle.dv_views.specs.Older.{views}
 use Rattle.dv_views.specs.Seen.{IsSoundRegistry}
 use Rattle.dv_views.specs.Turned.{HaveTaken}
-use Rattle.dv_views.specs.Views.{AreNamedApart, Views}
+use Rattle.dv_views.specs.Views.{Views}
 use Rattle.dv_views.proofs.Behind.{founded_after, over_after}
 use Rattle.dv_views.proofs.Marked.{all_taken, apart_written, kept_there, length_written, taken_next}
 use Rattle.dv_views.proofs.WellKept.{AreWellKept, kept_at}
