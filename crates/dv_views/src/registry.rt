@@ -207,8 +207,8 @@ impl Registry {
 
     /// Adds a view behind the others, with the rows that its pipeline gives over what stands under the names that it reads:
     /// views, of which the stale ones that are needed are made anew first, and `sources`. Refused with the first fault that
-    /// holds of `Exists`, `ReadByView` and `LimitReached`; then nothing is changed. Else refused with `NoMemory` where memory
-    /// is wanting; then views that were made anew before stay so. The pipeline is dropped.
+    /// holds of `Exists`, `ReadByView` and `LimitReached`; then nothing is changed. Refused with `NoMemory` where memory is
+    /// wanting, in place of these too; then views that were made anew before stay so. The pipeline is dropped.
     pub fn create(
         &mut self,
         name: &str,
