@@ -1,5 +1,5 @@
 -- What a path of one component sorts before a bar is found by the index on it.
-use Rattle.std.proofs.Common.{◌≡◌, ◌∙◌, ◌≤◌, ◌<◌, ℕ, arith, length, List, [], ◌∷◌, ◌++◌, map, refl, ap, sym, append-nil, Bool, true, false, cond, not, ◌||◌, Some, None, filter}
+use Rattle.std.proofs.Common.{◌≡◌, ◌∙◌, ◌≤◌, ◌<◌, ℕ, arith, length, List, [], ◌∷◌, map, refl, ap, sym, append-nil, Bool, true, false, cond, not, Some, None, filter}
 use Rattle.std.specs.List.{AllByRecursion, best_of}
 use Rattle.std.specs.Ordering.{is_eq, is_le, is_lt, ordering_reverse}
 use Rattle.std.specs.declared.cmp.Ordering.{Ordering}

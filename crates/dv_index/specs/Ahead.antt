@@ -1,6 +1,6 @@
 -- Documents that a path sorts before a bar, and the key under which an index has them.
 use Rattle.std.specs.Prelude.{Bool, List}
-use Rattle.dv_bson.specs.Tree.{Tree, Field, array, no_elements}
+use Rattle.dv_bson.specs.Tree.{Field, array, no_elements}
 use Rattle.dv_order.specs.Order.{canon}
 use Rattle.dv_order.specs.Key.{KeyTree, no_element, value}
 use Rattle.dv_path.specs.SortKey.{sort_key, stands_first}
