@@ -1,6 +1,7 @@
 -- What a path of one component sorts before a bar is found by the index on it.
-use Rattle.std.proofs.Common.{◌≡◌, ◌∙◌, ◌≤◌, ◌<◌, ℕ, arith, length, List, [], ◌∷◌, map, refl, ap, sym, append-nil, Bool, true, false, cond, not, Some, None, filter}
+use Rattle.std.proofs.Common.{◌≡◌, ◌∙◌, ◌≤◌, ◌<◌, ℕ, arith, length, List, [], ◌∷◌, map, refl, ap, sym, append-nil, Bool, true, false, cond, not, Option, Some, None, filter, subst}
 use Rattle.std.specs.List.{AllByRecursion, best_of}
+use Rattle.std.specs.Option.{IfSome}
 use Rattle.std.specs.Ordering.{is_eq, is_le, is_lt, ordering_reverse}
 use Rattle.std.specs.declared.cmp.Ordering.{Ordering}
 use Rattle.std.specs.declared.cmp.Ordering.TheVariants.{Less, Equal, Greater}
@@ -21,6 +22,7 @@ use Rattle.dv_index.specs.Index.{IndexTree}
 use Rattle.dv_index.specs.Pairs.{has_pair}
 use Rattle.dv_index.specs.Search.{IsIndexOf, is_key_under}
 use Rattle.dv_index.proofs.Picked.{all-found}
+use Rattle.dv_index.proofs.Places.{some-same}
 use Rattle.dv_index.proofs.Sound.{narrowed}
 
 -- ---- the key by which a candidate is sorted is that of a leaf of it, or stands for the empty array
@@ -109,3 +111,8 @@ pub one-alone : {X : Type 0} (xs : List X) → 1 ≤ length xs → length xs < 2
 one-alone [] some few = absurd (omega (arith, some))
 one-alone (x ∷ []) some few = (x, refl)
 one-alone (x ∷ y ∷ xs) some few = absurd (omega (arith, few))
+
+-- ---- what is said of a value where there is one, where it is this one
+pub some-is : {X : Type 0} (x : X) (P : X → Type 0) (o : Option X) → o ≡ Some x → IfSome o P → P x
+some-is x P None e h = absurd cc
+some-is x P (Some y) e h = subst P (some-same y x e) h

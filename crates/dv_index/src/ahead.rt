@@ -80,24 +80,28 @@ fn first_on<'i>(indexes: &'i [Index], path: &Path) -> Option<&'i Index>
     None
 }
 
-/// The documents among which are all that the path sorts before the bar, in the order of their `_id`s, by the index on it. Fails
-/// where memory is wanting.
+/// The documents among which are all that the path sorts before the bar, in the order of their `_id`s, by the index on it,
+/// unless there are more than `most`. Fails where memory is wanting.
 pub(crate) fn candidates_ahead<'c>(
     alloc: Global,
     index: &Index,
     by: &SortPart,
     bar: &Key,
+    most: usize,
     collection: &'c Collection,
-) -> Result<Vec<&'c Document>, NoMemory>
+) -> Result<Option<Vec<&'c Document>>, NoMemory>
     requires indexed { IsIndexOf index.now collection.now }
     requires path { index.now.path ≡ by.now.path }
     requires single { (name : Sequence ℕ) × (by.now.path ≡ name ∷ []) }
-    ensures { IfOk result (λ found. kept (defined.is_ahead (part by.now) bar.now) (map (λ d. d.now) found.items) ≡ kept (defined.is_ahead (part by.now) bar.now) collection.now) }
+    ensures { IfOk result (λ found. IfSome found (λ documents. kept (defined.is_ahead (part by.now) bar.now) (map (λ d. d.now) documents.items) ≡ kept (defined.is_ahead (part by.now) bar.now) collection.now)) }
 {
     // The documents ascend by their `_id`s.
     let _ = collection.len();
     let ids = ids_before(alloc, index.pairs().as_pairs(), by.direction, bar)?;
-    documents_of(alloc, ids, collection)
+    if ids.len() > most {
+        return Ok(None);
+    }
+    Ok(Some(documents_of(alloc, ids, collection)?))
 }
 
 /// The `_id`s' keys of the pairs of leaves that are sorted by keys before the bar.

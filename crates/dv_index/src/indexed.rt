@@ -40,8 +40,9 @@ use dv_path::{Path, SortPart};
 use std::alloc::{AllocError, Global};
 use std::marker::Model;
 
-/// Of so many documents one is looked at, at most, where the order of an index is to serve: else looking at all costs less.
-const FEW: usize = 4;
+/// Of so many documents not more than one is looked up where the order of an index serves: that costs about as much as going
+/// through them.
+const FEW: usize = 16;
 
 /// Documents in the order of their `_id`s, no two of which are equal but for the width of integers, and indexes in the order
 /// in which they were made, the one on `_id` first. `_id` is the first field of each document, and its value no array.
@@ -288,11 +289,11 @@ impl IndexedCollection {
         run(self.alloc, &plan, filter, &self.documents, &self.indexes)
     }
 
-    /// Documents that match the filter, and a bar: among them are all that match and that a path sorts before the bar. They are
-    /// found by the order of the path's index; `least` documents or more stand before the bar there, some of which may not
-    /// match. `None` where the filter itself is answered by an index, where the path has none, where it is that on `_id`, where
-    /// the path has several components, and where a quarter of the documents or more would be looked at. Fails where memory
-    /// is wanting.
+    /// Documents that match the filter, and a bar: among them are all that match and that a path sorts before the bar. They
+    /// are found by the order of the index on the path, which has `least` documents or more before the bar, some of which may
+    /// not match. `None` where the filter is answered by an index, where the path has several components or no index but that
+    /// on `_id`, where no key stands behind so many, and where more than one of 16 documents would be looked up. Fails where
+    /// memory is wanting.
     pub fn find_ahead(
         &self,
         filter: &Filter,
@@ -312,7 +313,10 @@ impl IndexedCollection {
         let Some(bar) = pairs.key_behind(by.direction, least, most) else {
             return Ok(None);
         };
-        let candidates = candidates_ahead(self.alloc, index, by, bar, &self.documents)?;
+        let Some(candidates) = candidates_ahead(self.alloc, index, by, bar, most, &self.documents)?
+        else {
+            return Ok(None);
+        };
         let documents = all_matching(candidates, filter);
         Ok(Some(Ahead { documents, bar }))
     }

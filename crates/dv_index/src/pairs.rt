@@ -173,7 +173,8 @@ impl Pairs {
         false
     }
 
-    /// In a direction, the first key behind `least` `_id`s or more, unless `most` stand before it. No more keys are looked at.
+    /// In a direction, the first key behind `least` `_id`s or more, unless more than `most` stand before it. No more keys are
+    /// looked at.
     pub(crate) fn key_behind(
         &self,
         direction: Direction,
@@ -259,7 +260,7 @@ impl Pairs {
     }
 }
 
-/// The first key behind `least` `_id`s or more, unless `most` stand before it.
+/// The first key behind `least` `_id`s or more, unless more than `most` stand before it.
 fn first_behind<'i, I: Iterator<Item = (&'i Key, &'i Ids)>>(
     entries: I,
     least: usize,
@@ -267,9 +268,12 @@ fn first_behind<'i, I: Iterator<Item = (&'i Key, &'i Ids)>>(
 ) -> Option<&'i Key>
     requires { I.can_next entries × IsFinite (I.remaining entries) }
 {
+    if least > most {
+        return None;
+    }
     let mut count = 0_usize;
     for (key, ids) in entries {
-        if count >= most {
+        if count > most {
             return None;
         }
         if count >= least {
