@@ -150,9 +150,9 @@ no_distance name = 0
 abbrev pub distances_of : Views → List ℕ → ℕ
 distances_of views = fold (λ below v. with_distance v below) no_distance views
 
--- refused with the fault, where there is one, or since memory is wanting
+-- refused with the fault, where there is one, and else at most since memory is wanting
 abbrev pub IsRefusedFor : {T : Type 0} → Option ViewFault → Result T ViewFault → Type 0
-IsRefusedFor (Some fault) result = (result ≡ Err fault) ⊎ (result ≡ Err NoMemory)
+IsRefusedFor (Some fault) result = result ≡ Err fault
 IsRefusedFor None result = IfErr result (λ fault. fault ≡ NoMemory)
 
 -- ---- views made anew
