@@ -13,6 +13,7 @@ pub mod Built
 pub mod Places
 pub mod Sound
 pub mod Only
+pub mod Foremost
 pub mod Changed
 pub mod Copied
 pub mod PutIn

@@ -6,6 +6,7 @@ pub mod Choice
 pub mod View
 pub mod Ends
 pub mod Search
+pub mod Ahead
 pub mod Interval
 pub mod Indexed
 pub mod Change

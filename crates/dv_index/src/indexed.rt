@@ -1,6 +1,6 @@
 //! A collection with its indexes.
 
-ghost use Rattle.std.specs.Prelude.{◌≡◌, ◌↔◌, ◌||◌, ◌&&◌, ◌++◌, ◌∷◌, [], None, List, codes, false, true, not, filter as kept, is_some, length, map, take, IfOk, IsErrOf, IsSome, IsTrue, OnErr, OnOk};
+ghost use Rattle.std.specs.Prelude.{◌≡◌, ◌↔◌, ◌||◌, ◌&&◌, ◌++◌, ◌∷◌, [], None, List, codes, false, true, not, filter as kept, is_some, length, map, take, IfOk, IfSome, IsErrOf, IsSome, IsTrue, OnErr, OnOk};
 ghost use Rattle.std.specs.List.{AllByRecursion, list_any};
 ghost use Rattle.std.specs.Option.{option_map};
 ghost use Rattle.std.specs.Str.{bytes_eq};
@@ -11,6 +11,8 @@ ghost use Rattle.dv_match.specs.Match.{matches};
 ghost use Rattle.std.specs.Ordering.{is_eq};
 ghost use Rattle.dv_order.specs.Key.{KeyTree, key_order};
 ghost use Rattle.dv_path.specs.LeafKeys.{is_leaf_key};
+ghost use Rattle.dv_path.specs.Parts.{part};
+ghost use Rattle.dv_index.specs.Ahead.{is_ahead};
 ghost use Rattle.dv_index.specs.Change.{AreIndexesOf, IsChangeOf, IsTaken, documents_after};
 ghost use Rattle.dv_index.specs.Index.{form_of, id_form};
 ghost use Rattle.dv_index.specs.View.{afters, befores, form_of_new, plan_seen};
@@ -21,21 +23,25 @@ ghost use Rattle.dv_index.specs.Unique.{are_apart, are_broken, is_broken};
 ghost use Rattle.dv_index.specs.Indexed as defined;
 ghost use Rattle.dv_index.specs.Unique as uniqueness;
 
+use crate::ahead::{Ahead, candidates_ahead, index_on};
 use crate::change::{Change, key_of_id};
 use crate::coverage::covered;
 use crate::indexes::{Index, Indexes, NewIndex};
 use crate::keys::keys_of;
 use crate::multi_index::MultiIndex;
 use crate::plan::{Plan, Planner};
-use crate::search::{run, run_first};
+use crate::search::{all_matching, run, run_first};
 use crate::unique::{Replacing, clashes, replacing_clashes};
 use dv_bson::{Document, NoMemory, Str, Value};
 use dv_coll::{Collection, InsertFault, Iter, laws};
 use dv_match::Filter;
 use dv_order::Key;
-use dv_path::Path;
+use dv_path::{Path, SortPart};
 use std::alloc::{AllocError, Global};
 use std::marker::Model;
+
+/// Of so many documents one is looked at, at most, where the order of an index is to serve: else looking at all costs less.
+const FEW: usize = 4;
 
 /// Documents in the order of their `_id`s, no two of which are equal but for the width of integers, and indexes in the order
 /// in which they were made, the one on `_id` first. `_id` is the first field of each document, and its value no array.
@@ -280,6 +286,35 @@ impl IndexedCollection {
     {
         let plan = Planner::choose(filter, &self.indexes);
         run(self.alloc, &plan, filter, &self.documents, &self.indexes)
+    }
+
+    /// Documents that match the filter, and a bar: among them are all that match and that a path sorts before the bar. They are
+    /// found by the order of the path's index; `least` documents or more stand before the bar there, some of which may not
+    /// match. `None` where the filter itself is answered by an index, where the path has none, where it is that on `_id`, where
+    /// the path has several components, and where a quarter of the documents or more would be looked at. Fails where memory
+    /// is wanting.
+    pub fn find_ahead(
+        &self,
+        filter: &Filter,
+        by: &SortPart,
+        least: usize,
+    ) -> Result<Option<Ahead<'_>>, NoMemory>
+        ensures { IfOk result (λ found. IfSome found (λ ahead. kept (is_ahead (part by.now) ahead.bar.now) (map (λ d. d.now) ahead.documents.items) ≡ kept (is_ahead (part by.now) ahead.bar.now) (kept (λ d. matches filter.now d) self.now.documents))) }
+    {
+        let Plan::Scan = Planner::choose(filter, &self.indexes) else {
+            return Ok(None);
+        };
+        let Some(index) = index_on(&self.indexes, &by.path) else {
+            return Ok(None);
+        };
+        let most = self.documents.len() / FEW;
+        let pairs = index.pairs().as_pairs();
+        let Some(bar) = pairs.key_behind(by.direction, least, most) else {
+            return Ok(None);
+        };
+        let candidates = candidates_ahead(self.alloc, index, by, bar, &self.documents)?;
+        let documents = all_matching(candidates, filter);
+        Ok(Some(Ahead { documents, bar }))
     }
 
     /// The first documents that match the filter, in the order of their `_id`s, and not more than `most`. Where all documents

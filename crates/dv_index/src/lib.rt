@@ -1,6 +1,7 @@
 //! Indexes of BSON documents by what a path leads to.
 #![tactic(auto)]
 
+mod ahead;
 mod bounds;
 mod change;
 mod coverage;
@@ -16,6 +17,7 @@ mod plan;
 mod search;
 mod unique;
 
+pub use ahead::{Ahead, is_ahead};
 pub use coverage::covered;
 pub use indexed::{Explanation, IndexedCollection};
 pub use indexes::{Index, Indexes, NewIndex};

@@ -1,6 +1,7 @@
 //! Sets of pairs of a key and an `_id`, by which the documents are found that have a key.
 
 ghost use Rattle.std.specs.Prelude.{◌≡◌, ◌||◌, ◌&&◌, true, false, not, [], map, filter, OnErr, OnOk, IfOk};
+ghost use Rattle.std.specs.Iterator.{IsFinite};
 ghost use Rattle.std.specs.List.{list_any};
 ghost use Rattle.std.specs.List.Sorted.{IsStrictlySortedBy};
 ghost use Rattle.std.specs.Map.{keys_of};
@@ -15,6 +16,7 @@ use crate::ids::Ids;
 use crate::keys::Keys;
 use dv_bson::NoMemory;
 use dv_order::Key;
+use dv_path::Direction;
 use std::alloc::Global;
 use std::collections::BTreeMap;
 use std::marker::Model;
@@ -171,6 +173,19 @@ impl Pairs {
         false
     }
 
+    /// In a direction, the first key behind `least` `_id`s or more, unless `most` stand before it. No more keys are looked at.
+    pub(crate) fn key_behind(
+        &self,
+        direction: Direction,
+        least: usize,
+        most: usize,
+    ) -> Option<&Key> {
+        match direction {
+            Direction::Ascending => first_behind(self.entries.iter(), least, most),
+            Direction::Descending => first_behind(self.entries.iter().rev(), least, most),
+        }
+    }
+
     /// The keys whose pairs with the `_id`'s key aren't there.
     fn absent<'k>(&self, keys: &'k Keys, id: &Key) -> Result<Vec<&'k Key>, NoMemory>
         ensures { IfOk result (λ fresh. map (λ k. k.now) fresh.items ≡ filter (λ k. not (has_pair k id.now self.now)) keys.now) }
@@ -242,6 +257,27 @@ impl Pairs {
             drop(self.entries.remove(key));
         }
     }
+}
+
+/// The first key behind `least` `_id`s or more, unless `most` stand before it.
+fn first_behind<'i, I: Iterator<Item = (&'i Key, &'i Ids)>>(
+    entries: I,
+    least: usize,
+    most: usize,
+) -> Option<&'i Key>
+    requires { I.can_next entries × IsFinite (I.remaining entries) }
+{
+    let mut count = 0_usize;
+    for (key, ids) in entries {
+        if count >= most {
+            return None;
+        }
+        if count >= least {
+            return Some(key);
+        }
+        count = count.saturating_add(ids.len());
+    }
+    None
 }
 
 /// A copy of the entries. Fails where memory is wanting.

@@ -91,18 +91,28 @@ fn scan<'c>(
     Ok(found)
 }
 
+/// Those of the documents that match the filter.
+pub(crate) fn all_matching<'c>(
+    mut documents: Vec<&'c Document>,
+    filter: &Filter,
+) -> Vec<&'c Document>
+    ensures { result.items ≡ kept (λ d. matches filter.now d.now) documents.entry.items }
+{
+    documents.retain(|document| filter.matches(document));
+    documents
+}
+
 /// The first `most` of the documents that match the filter.
 fn matching<'c>(
     alloc: Global,
-    mut documents: Vec<&'c Document>,
+    documents: Vec<&'c Document>,
     filter: &Filter,
     most: usize,
 ) -> Result<Vec<&'c Document>, NoMemory>
     ensures { IfOk result (λ found. found.items ≡ take most (kept (λ d. matches filter.now d.now) documents.entry.items)) }
 {
     if documents.len() <= most {
-        documents.retain(|document| filter.matches(document));
-        return Ok(documents);
+        return Ok(all_matching(documents, filter));
     }
     documents
         .into_iter()
@@ -300,7 +310,7 @@ fn candidates_by_key<'c>(
 }
 
 /// The documents of a collection that have these `_id`s, in the order of their `_id`s.
-fn documents_of<'c>(
+pub(crate) fn documents_of<'c>(
     alloc: Global,
     ids: Vec<&Key>,
     collection: &'c Collection,

@@ -1,0 +1,9 @@
+use Rattle.std.proofs.Common.{List, drop}
+use Rattle.std.specs.List.{AllByRecursion}
+use Rattle.dv_bson.specs.Tree.{Field}
+use Rattle.dv_index.specs.Search.{IsIndexOf}
+use Rattle.dv_index.proofs.ahead.first_on.Given as goal
+
+-- those that are left have the documents' keys where all have
+abbrev pub invariant-loop-index : goal.invariant-loop-index
+invariant-loop-index l = (ds : List (List Field)) → AllByRecursion (λ x. IsIndexOf x ds) l.indexes → AllByRecursion (λ x. IsIndexOf x ds) (drop l.index-index l.indexes)

@@ -1,0 +1,20 @@
+use Rattle.std.proofs.Common.{Bor, ◌∙◌, List, ap, filter, map}
+use Rattle.dv_bson.specs.Tree.{Field}
+use Rattle.dv_match.specs.Match.{matches}
+use Rattle.dv_path.specs.Parts.{part}
+use Rattle.dv_index.specs.Ahead.{is_ahead}
+use Rattle.dv_index.specs.Indexed.{IndexedTree}
+use Rattle.dv_index.proofs.Foremost.{matching-same}
+use Rattle.dv_index.proofs.Lists.{map-kept}
+use Rattle.dv_index.proofs.indexed.IndexedCollection.find_ahead.Goals as goal
+
+pub returns : goal.returns
+returns c =
+    let ahead = is_ahead (part c.args.by.now) c.in-Some-key_behind.bar.now in
+    let match = matches c.args.filter.now in
+    let now = λ (x : Bor (List Field)). x.now in
+    let candidates = c.in_ok-candidates.candidates.items in
+    ap (λ (xs : List (Bor (List Field))). filter ahead (map now xs)) c.all_matching-documents.ensures
+    ∙ ap (filter ahead) (map-kept match candidates)
+    ∙ matching-same ahead match (map now candidates) c.self.inside.documents c.in_ok-candidates.ensures
+    ∙ ap (λ (all : IndexedTree). filter ahead (filter match all.documents)) c.self.view_is
