@@ -19,6 +19,7 @@ from model.values import ARRAY, DOCUMENT, TEXT, is_storable
 from notation import shown, shown_name
 
 MOST = 60  # signs of a value that are shown
+ALIKE = 0.7  # how alike, of 1, a name is that may be meant
 OF_NAMES = NAMESPACE_NOT_FOUND, NAMESPACE_EXISTS, ON_VIEW, READ_BY_VIEW
 ENTRIES = {b"updates": UPDATE_ENTRY, b"deletes": DELETE_ENTRY}
 
@@ -27,7 +28,7 @@ def suspect(fields, code, index=None):
     """What may be wrong in a command that was refused with a code, or in its statement of an index; None where nothing shows."""
     name, value = fields[0]
     if code == COMMAND_NOT_FOUND:
-        return misnamed("command", name, COMMANDS)
+        return "explain takes a find alone" if name in COMMANDS else misnamed("command", name, COMMANDS)
     if code in OF_NAMES and value[0] == TEXT:
         return "the name %s" % shown(value)
     if index is None:
@@ -59,7 +60,7 @@ def refuse(code):
 
 def misnamed(what, name, known):
     """That a name isn't known, and which it may be meant for."""
-    near = difflib.get_close_matches(name.decode(), [one.decode() for one in known], 1)
+    near = difflib.get_close_matches(name.decode(), [one.decode() for one in known], 1, ALIKE)
     return "there is no %s %s%s" % (what, shown_name(name), "; %s may be meant" % near[0] if near else "")
 
 
