@@ -14,6 +14,7 @@ WIDE, HIGH = 400, 54  # of a box of a crate
 VIEW = 370  # how wide a box of a view is
 ARROW = ('<defs><marker id="end" viewBox="0 0 8 8" refX="8" refY="4" markerWidth="8" markerHeight="8" orient="auto">'
          '<path d="M0,0 L8,4 L0,8 z" fill="#555"/></marker></defs>')
+HEAD = "Down: what becomes of a write's bytes. The reply goes back the same way when the last view has taken all in."
 CRATE, STORED, SEEN = COLOURS[0], COLOURS[1], COLOURS[3]
 
 Box = namedtuple("Box", "x y width name does colour")
@@ -41,7 +42,8 @@ def boxes():
     for place, (name, does, _) in enumerate(CRATES):
         yield Box(LEFT, 40 + STEP * place, WIDE, name, does, STORED if place == 4 else CRATE)
     for name, does, place in VIEWS:
-        yield Box(RIGHT - 60 * (place == 2), 40 + STEP * place - 60, VIEW + 60 * (place == 2), name, does, CRATE if place == 2 else SEEN)
+        more, colour = (60, CRATE) if place == 2 else (0, SEEN)
+        yield Box(RIGHT - more, 40 + STEP * place - 60, VIEW + more, name, does, colour)
 
 
 def arrows():
@@ -51,11 +53,12 @@ def arrows():
         yield Arrow([(middle, y), (middle, y + STEP - HIGH)], said, (middle + 10, y + 26))
     views, gap = 40 + 2 * STEP - 60, STEP - HIGH
     told = 40 + 3 * STEP + HIGH / 2
-    yield Arrow([(LEFT + WIDE, told), (554, told), (554, views + HIGH / 2), (RIGHT - 60, views + HIGH / 2)], "the same changes",
-                (LEFT + WIDE + 6, told - 8))
+    way = [(LEFT + WIDE, told), (554, told), (554, views + HIGH / 2), (RIGHT - 60, views + HIGH / 2)]
+    yield Arrow(way, "the same changes", (LEFT + WIDE + 6, told - 8))
     across = RIGHT + 110
     yield Arrow([(across, views + HIGH), (across, views + STEP)], "a hive comes, goes or changes", (across + 10, views + HIGH + 26))
-    yield Arrow([(across, views + STEP + HIGH), (across, views + 2 * STEP)], "the row of its site, with another n", (across + 10, views + STEP + HIGH + 26))
+    yield Arrow([(across, views + STEP + HIGH), (across, views + 2 * STEP)], "the row of its site, with another n",
+                (across + 10, views + STEP + HIGH + 26))
     end = views + 3 * STEP + HIGH / 2
     yield Arrow([(RIGHT - 30, views + HIGH), (RIGHT - 30, end - 8), (RIGHT, end - 8)], "1", (RIGHT - 42, end - 12))
     below = views + STEP + HIGH + gap / 2
@@ -77,7 +80,7 @@ def of_arrow(arrow):
 
 
 def main():
-    parts = [ARROW, text(LEFT, 24, "Down: what becomes of a write's bytes. The reply goes back the same way when the last view has taken all in.", "plain")]
+    parts = [ARROW, text(LEFT, 24, HEAD, "plain")]
     for arrow in arrows():
         parts += of_arrow(arrow)
     for box in boxes():

@@ -111,10 +111,12 @@ def words():
     ways.add_argument("--read", action="store_true", help="read docd's lines")
     ways.add_argument("--port", type=a_port, help="ask the docd that serves there")
     ways.add_argument("--documents", action="store_true", help="write the bytes of documents")
-    options.add_argument("--db", type=a_database, default="t", help="the database of commands that name none, t where this isn't given")
+    options.add_argument("--db", type=a_database, default="t",
+                         help="the database of commands that name none, t where this isn't given")
     options.add_argument("--json", action="store_true", help="print replies as extended JSON")
     options.add_argument("--watch", metavar="VIEW", help="with --port: print a view's rows, and again where they change")
-    options.add_argument("--every", type=seconds, default=1, metavar="SECONDS", help="with --watch: between two looks, 1 where this isn't given")
+    options.add_argument("--every", type=seconds, default=1, metavar="SECONDS",
+                         help="with --watch: between two looks, 1 where this isn't given")
     given = options.parse_args()
     if given.watch and not given.port:
         options.error("--watch needs --port, where docd serves")

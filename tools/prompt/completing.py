@@ -14,7 +14,6 @@ from model.values import ARRAY, DOCUMENT, TEXT
 PART = re.compile(r'"(?:[^"\\]|\\.)*"?|[$\w.]+|[{}\[\]:,]')
 NAMING = {"viewOn", "from", "collection"} | {name.decode() for name in FIELDS} - {"explain", "getMore"}
 TRUTHS = {"ordered", "multi", "upsert", "unique", "singleBatch", "preserveNullAndEmptyArrays"}
-LIST_OF_FILTERS = {name.decode() for name in LOGIC}
 
 
 def words(table):

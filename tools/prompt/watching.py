@@ -72,7 +72,8 @@ def watch(port, database, view, every, width, tell):
     while True:
         asker = Asker(port, database, tell)
         if is_first and not is_view(asker, view):
-            tell("no view is named %s in the database %s: shown are the rows of a collection, where one has the name" % (view, database))
+            tell("no view is named %s in the database %s: shown are the rows of a collection, where one has the name" % (
+                view, database))
         is_first, lines = False, watching.look(asker, width())
         asker.close()
         if lines:
