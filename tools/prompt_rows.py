@@ -49,7 +49,7 @@ SUSPECTED = [
     ('{aggregate: "c", pipeline: [{$gruop: {}}]}', 9, None, "$group may be meant"), ('{aggregate: "c"}', 9, None, "pipeline is missing"),
     ('{drop: "c"}', 26, None, '"c"'), ('{insert: "c", documents: [{_id: 1}, {a: 1}]}', 2, 1, "has no _id"),
     ('{insert: "c", documents: [{_id: 1}]}', 11000, 0, "_id"), ('{update: "c", updates: [{q: {}, u: {$st: {a: 1}}}]}', 9, 0, "$set may be meant"),
-    ('{update: "c", updates: [{q: {}}]}', 9, 0, "u is missing"), ('{update: "c", updates: [{q: {}, u: {$inc: {a: "x"}}}]}', 14, 0, '$inc: {a: "x"}'),
+    ('{update: "c", updates: [{q: {}}]}', 9, 0, "u is missing"), ('{update: "c", updates: [{q: {}, w: {}}]}', 9, 0, "in updates.0 there is no field w"), ('{update: "c", updates: [{q: {}, u: {$inc: {a: "x"}}}]}', 14, 0, '$inc: {a: "x"}'),
     ('{update: "c", updates: [{q: {}, u: {a: 1}}]}', 28, 0, "updates.0"), ('{delete: "c", deletes: [{q: {}, limit: 2}]}', 2, 0, "limit: 2"),
     ('{explain: {count: "c"}}', 59, None, "a find alone"), ('{find: "c", filter: {a: {$regex: "b"}}}', 2, None, "$regex"),
     ('{createIndexes: "c", indexes: [{key: {a: 1}}]}', 9, None, "the index"), ('{ping: 1, $db: "a.b"}', 2, None, "the database"),

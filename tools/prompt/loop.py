@@ -38,7 +38,7 @@ class Prompt:
     def run(self):
         """Carries out what is typed, until that ends."""
         self.asker.reply_to([(b"ping", (INT32, 1)), (DATABASE, (TEXT, b"t"))])
-        print("docd at %s, database %s. help lists the commands, Tab completes, Control-D ends." % (
+        print("docd at %s, database %s. Type help for the commands; Tab completes, Control-D ends." % (
             self.asker.address, self.asker.database))
         with Editing(self.completions):
             for text in iter(self.typed, None):
@@ -47,6 +47,7 @@ class Prompt:
                 except ValueError as error:
                     tell_wrong(text, str(error))
                 except Refused as refused:
+                    self.watching = None
                     self.show([(b"find", (TEXT, b""))], refused.args[0])
 
     def typed(self):
@@ -96,7 +97,7 @@ class Prompt:
     def laid_out(self, reply, is_whole=False):
         layout = Layout(width(), is_whole)
         text = layout.reply(reply)
-        return text + ("\n# cut: whole prints the last answer with nothing cut" if layout.has_cut else "")
+        return text + ("\n# something is cut: type whole for all of it" if layout.has_cut else "")
 
     def rows_told(self, reply):
         """How many rows an answer has where they stand in lines of their own, and how the next ones are had."""
@@ -104,7 +105,7 @@ class Prompt:
             rows, cursor = batch
             self.cursor = self.more_of(reply, cursor) if cursor[1] else None
             if self.cursor:
-                yield "# %s, and there are more: more, or {getMore: %dL, collection: %s}" % (
+                yield "# %s, and there are others: type more, or {getMore: %dL, collection: %s}" % (
                     counted(rows), cursor[1], quotes(self.cursor[1][1][1]))
             elif "\n" in self.laid_out(reply):
                 yield "# " + counted(rows)

@@ -85,7 +85,7 @@ def of_command(fields):
     yield "the database, %s" % short(dict(fields).get(b"$db", (TEXT, b""))), lambda: database_name(fields)
     if command not in FIELDS:
         return
-    yield from of_fields("the field", fields, FIELDS[command], IGNORED | {b"$db"})
+    yield from of_fields("", fields, FIELDS[command], IGNORED | {b"$db"})
     for name in needed_by(command, dict(fields)):
         yield "the field %s is missing" % shown_name(name), lambda name=name: name in dict(fields) or refuse(FAILED_TO_PARSE)
     if fields[0][1][0] == TEXT:
@@ -93,17 +93,17 @@ def of_command(fields):
     yield from held_in(fields)
 
 
-def of_fields(what, fields, known, ignored=frozenset()):
-    """Each field of a document that has these."""
+def of_fields(place, fields, known, ignored=frozenset()):
+    """Each field of a document at a place, where there may be these."""
     for name, value in fields:
         if name in known:
-            yield "%s %s: %s" % (what, shown_name(name), short(value)), lambda name=name, value=value: known[name](*value)
+            yield "%sthe field %s: %s" % (place, shown_name(name), short(value)), lambda name=name, value=value: known[name](*value)
         else:
             one = [(name, value)]
-            yield misnamed(what.replace("the ", ""), name, known), lambda one=one: check_fields(one, known, ignored)
+            yield place + misnamed("field", name, known), lambda one=one: check_fields(one, known, ignored)
     twice = next((name for place, (name, _) in enumerate(fields) if name in dict(fields[:place])), None)
     if twice:
-        yield "%s %s stands twice" % (what, shown_name(twice)), lambda: refuse(FAILED_TO_PARSE)
+        yield "%sthe field %s stands twice" % (place, shown_name(twice)), lambda: refuse(FAILED_TO_PARSE)
 
 
 def held_in(fields):
@@ -138,7 +138,7 @@ def of_statement(list_name, place, entry):
     if list_name == b"documents":
         yield from of_document(place, entry)
         return
-    yield from of_fields("in %s the field" % place, entry, ENTRIES[list_name])
+    yield from of_fields("in %s " % place, entry, ENTRIES[list_name])
     for name in (b"q", b"u", b"limit"):
         if name in ENTRIES[list_name] and name not in dict(entry):
             yield "in %s the field %s is missing" % (place, shown_name(name)), lambda: refuse(FAILED_TO_PARSE)

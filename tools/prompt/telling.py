@@ -130,4 +130,4 @@ def hint_at(line):
     forms = guide.forms_of(word) if word.encode() in COMMANDS else []
     if forms:
         return "a command is a document: write %s" % forms[0]
-    return 'a command is a document, as {find: "orders"}: help lists the commands'
+    return 'a command is a document, as {find: "orders"}: type help for the commands'
