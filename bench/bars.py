@@ -36,8 +36,8 @@ def bars(row, y, most):
 
 
 def axis(most, height, unit):
-    """The lines of whole numbers, and the unit below them."""
-    for number in range(0, int(most) + 1):
+    """The lines of whole numbers, a dozen at most, and the unit below them."""
+    for number in range(0, int(most) + 1, 1 + int(most) // 12):
         x = across(number, most)
         yield '<line class="grid" x1="%.1f" x2="%.1f" y1="%d" y2="%d"/>' % (x, x, TOP - 6, height)
         yield text(x, height + 14, "%d" % number, "small", "middle")
