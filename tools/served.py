@@ -12,6 +12,10 @@ PATIENCE = 2  # seconds, behind which it is told that no first reply has come
 LENGTHS = range(26, 48_000_001)  # of a reply
 
 
+class NotDocd(ConnectionError):
+    """What listens sends no message of docd's form."""
+
+
 class Served:
     """A connection, which carries one command after the other. Where the first reply doesn't come soon, `tell_waiting` is
     called: docd takes the next connection when the one before it has ended."""
@@ -34,7 +38,7 @@ class Served:
         head = self.taken(4)
         length = struct.unpack("<i", head)[0]
         if length not in LENGTHS:
-            raise ValueError("no message of docd")
+            raise NotDocd("no message of docd")
         return answer(head + self.taken(length - 4))
 
     def taken(self, count):

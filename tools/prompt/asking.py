@@ -4,7 +4,7 @@ import struct
 
 from model.values import BsonFault, TEXT
 from notation import document_of
-from served import Served
+from served import NotDocd, Served
 
 COMMAND = re.compile(r"(?:(\d{0,3})>)?\s*(.*)", re.S)
 DATABASE = b"$db"
@@ -49,11 +49,11 @@ class Asker:
         """The fields of the reply to a command."""
         try:
             return self.served.reply_to(fields)
+        except (NotDocd, BsonFault, struct.error):
+            raise NoDocd("what listens at %s isn't docd: it sends no reply of its form" % self.address) from None
         except ConnectionError as error:
             raise NoDocd("the connection to %s has ended (%s): look in docd's terminal whether it has ended, or closed this "
                          "connection" % (self.address, error.strerror or error)) from None
-        except (ValueError, BsonFault, struct.error):
-            raise NoDocd("what listens at %s isn't docd: it sends no reply of its form" % self.address) from None
 
     def close(self):
         self.served.close()
