@@ -6,9 +6,14 @@ as a reader cuts them. Then, while its input is still open, the program's own Vm
 starts with what its parent held. From it goes what the program took before the first insert. Redis
 (`apt-get install redis-server`) holds the same BSON bytes as strings under the documents' numbers.
 
+A picture shows what is resident beside the BSON bytes, of documents that come alone. It is drawn of the run, or, with `--figures`,
+of a file that has the table of an earlier one.
+
     /usr/bin/python3 bench/memory.py
     /usr/bin/python3 bench/memory.py --count 10000 --program crates/docd/out/docd
+    /usr/bin/python3 bench/memory.py --figures bench/README.md
 """
+import argparse
 import os
 import random
 import shutil
@@ -22,8 +27,15 @@ import bson
 from bson.int64 import Int64
 
 import measuring
+from bars import Row, drawn
 from inserts import document
 from measuring import Docd, heads, inserts, row
+
+PICTURE = os.path.join(os.path.dirname(os.path.abspath(__file__)), "memory.svg")
+HEADS = ["shape", "BSON bytes", "alone", "times", "a hundred in a message", "times", "Redis", "times"]
+SHOWN = ["BSON bytes", "alone", "Redis"]  # of these by the picture
+COLUMNS = ["BSON bytes", "resident in docd", "resident in Redis"]
+UNIT = "times the BSON bytes of a document; behind a bar stand its bytes"
 
 
 def numbers(rng, identity):
@@ -82,8 +94,8 @@ def stored_by_redis(documents):
         with socket.socket(socket.AF_UNIX) as connection:
             connection.connect(path)
             answers = connection.makefile("rb")
-            for document in documents:
-                key, value = b"%d" % document["_id"], bson.encode(document)
+            for one in documents:
+                key, value = b"%d" % one["_id"], bson.encode(one)
                 connection.sendall(b"*3\r\n$3\r\nSET\r\n$%d\r\n%s\r\n$%d\r\n%s\r\n" % (len(key), key, len(value), value))
                 answers.readline()
             taken = resident(process) - idle
@@ -92,18 +104,51 @@ def stored_by_redis(documents):
         return taken / len(documents)
 
 
-def main():
-    asked = measuring.count_asked(__doc__)
+def measured(asked):
+    """Prints the table row by row, and gives its rows, each by its columns."""
     has_redis = shutil.which("redis-server") is not None
-    heads("shape", "BSON bytes", "alone", "times", "a hundred in a message", "times", "Redis", "times")
+    heads(*HEADS)
     for name, made, count in SHAPES:
         rng = random.Random(count)
         documents = [made(rng, identity) for identity in range(count * asked // 100_000)]
         spelled = sum(len(bson.encode(one)) for one in documents[:1000]) / 1000
         alone, many = stored_by_docd(documents, 1), stored_by_docd(documents, 100)
         redis = stored_by_redis(documents) if has_redis else None
-        row(name, "%.0f" % spelled, "%.0f" % alone, "%.1f" % (alone / spelled), "%.0f" % many, "%.1f" % (many / spelled),
-            "%.0f" % redis if redis else "-", "%.1f" % (redis / spelled) if redis else "-")
+        cells = [name, "%.0f" % spelled, "%.0f" % alone, "%.1f" % (alone / spelled), "%.0f" % many, "%.1f" % (many / spelled),
+                 "%.0f" % redis if redis else "-", "%.1f" % (redis / spelled) if redis else "-"]
+        row(*cells)
+        yield dict(zip(HEADS, cells))
+
+
+def printed(path):
+    """The rows of a table that was printed into a file, which may lack columns that no picture shows."""
+    names, columns, found = [name for name, _, _ in SHAPES], [], []
+    with open(path, encoding="utf-8") as file:
+        for cells in ([cell.strip() for cell in line.strip().strip("|").split("|")] for line in file):
+            if cells[0] == HEADS[0]:
+                columns = cells
+            if cells[0] in names and set(SHOWN) <= set(columns):
+                found.append(dict(zip(columns, cells)))
+    return found or sys.exit("bench: %s has no table with the columns %s" % (path, ", ".join(SHOWN)))
+
+
+def picture_of(rows):
+    """The picture of the table's rows, each by its columns."""
+    def bar(row, column):
+        return None if row[column] == "-" else (int(row[column]) / int(row["BSON bytes"]), format(int(row[column]), ","))
+
+    return drawn(COLUMNS, [Row(row["shape"], [bar(row, column) for column in SHOWN]) for row in rows], UNIT)
+
+
+def main():
+    options = argparse.ArgumentParser(description=__doc__, formatter_class=argparse.RawDescriptionHelpFormatter)
+    options.add_argument("--count", type=int, default=100_000, help="how many documents")
+    options.add_argument("--figures", metavar="FILE", help="measure nothing: draw the table that stands in a file")
+    options.add_argument("--picture", default=PICTURE, help="where the picture is written")
+    given = options.parse_known_args()[0]
+    rows = printed(given.figures) if given.figures else list(measured(measuring.asked(options).count))
+    with open(given.picture, "w", encoding="utf-8") as file:
+        file.write(picture_of(rows))
 
 
 if __name__ == "__main__":

@@ -1,4 +1,5 @@
-"""A picture of times over counts: for each of some panels a few lines, on logarithmic scales, as SVG."""
+"""A picture of times over counts, as SVG: for each of some panels a few lines, on logarithmic scales. bench/bars.py has pictures
+of bars with the same marks."""
 import math
 from collections import namedtuple
 from xml.sax.saxutils import escape
@@ -6,10 +7,10 @@ from xml.sax.saxutils import escape
 # A line's name and its points, pairs of a count and microseconds.
 Line = namedtuple("Line", "name points")
 
-ACROSS = 2
-WIDTH, HEIGHT = 420, 230  # of a panel
-LEFT, RIGHT, TOP, BOTTOM = 62, 30, 30, 34  # around a panel's lines
-LEGEND = 40
+ACROSS = 3
+WIDTH, HEIGHT = 300, 206  # of a panel
+LEFT, RIGHT, TOP, BOTTOM = 58, 34, 30, 48  # around a panel's lines
+LEGEND = 58
 COLOURS = ["#1b6ca8", "#2a9d4a", "#c8553d", "#7a5195"]
 STYLE = ("text { font: 12px sans-serif; fill: #333 } .title { font-weight: bold } .small { font-size: 10px } "
          ".grid { stroke: #ddd } .line { fill: none; stroke-width: 2 }")
@@ -47,13 +48,14 @@ class Panel:
         return self.y + HEIGHT - BOTTOM - share * (HEIGHT - TOP - BOTTOM)
 
     def parts(self):
-        yield text(self.x + LEFT, self.y + 18, self.title.replace("`", ""), "title")
+        yield text(self.x + LEFT / 3, self.y + 18, self.title.replace("`", ""), "title")
         for exponent in self.heights:
             y = self.down(exponent)
             yield '<line class="grid" x1="%.1f" x2="%.1f" y1="%.1f" y2="%.1f"/>' % (self.x + LEFT, self.x + WIDTH - RIGHT, y, y)
             yield text(self.x + LEFT - 6, y + 4, exponent_text(exponent), "small", "end")
         for count in sorted({count for line in self.lines for count, _ in line.points}):
-            yield text(self.across(count), self.y + HEIGHT - BOTTOM + 16, format(count, ","), "small", "middle")
+            yield text(self.across(count), self.y + HEIGHT - BOTTOM + 18, format(count, ","), "small", "middle")
+        yield text(self.x + (LEFT + WIDTH - RIGHT) / 2, self.y + HEIGHT - BOTTOM + 32, "documents", "small", "middle")
         for colour, line in zip(COLOURS, self.lines):
             yield from self.drawn(colour, line)
 
@@ -68,21 +70,27 @@ def text(x, y, said, kind, anchor="start"):
     return '<text class="%s" x="%.1f" y="%.1f" text-anchor="%s">%s</text>' % (kind, x, y, anchor, escape(said))
 
 
-def legend(names):
-    for place, (colour, name) in enumerate(zip(COLOURS, names)):
-        x = 20 + 150 * place
-        yield '<line class="line" stroke="%s" x1="%d" x2="%d" y1="20" y2="20"/>' % (colour, x, x + 24)
-        yield text(x + 30, 24, name, "small")
+def legend(names, left=LEFT):
+    """The names beside their colours, as squares of one line."""
+    x = left
+    for colour, name in zip(COLOURS, names):
+        yield '<rect x="%d" y="13" width="12" height="12" fill="%s"/>' % (x, colour)
+        yield text(x + 18, 24, name, "plain")
+        x += 48 + 7 * len(name)
 
 
-def drawn(panels):
+def picture(width, height, parts):
+    """The picture of these parts."""
+    opening = '<svg xmlns="http://www.w3.org/2000/svg" width="%d" height="%d" viewBox="0 0 %d %d">' % (width, height, width, height)
+    return "\n".join([opening, "<style>%s</style>" % STYLE, '<rect width="%d" height="%d" fill="white"/>' % (width, height),
+                      *parts, "</svg>", ""])
+
+
+def drawn(panels, caption):
     """The picture of panels, by their titles: times upwards, counts across, all panels on one scale of times."""
     heights = decades([max(spent, 1e-3) for lines in panels.values() for line in lines for _, spent in line.points])
     made = [Panel(title, lines, WIDTH * (place % ACROSS), LEGEND + HEIGHT * (place // ACROSS), heights)
             for place, (title, lines) in enumerate(panels.items())]
-    width, height = WIDTH * ACROSS, LEGEND + HEIGHT * -(-len(made) // ACROSS)
     names = [line.name for line in max(panels.values(), key=len)]
-    parts = [*legend(names), *(part for panel in made for part in panel.parts())]
-    head = '<svg xmlns="http://www.w3.org/2000/svg" width="%d" height="%d" viewBox="0 0 %d %d">' % (width, height, width, height)
-    return "\n".join([head, "<style>%s</style>" % STYLE, '<rect width="%d" height="%d" fill="white"/>' % (width, height),
-                      *parts, "</svg>", ""])
+    parts = [*legend(names), text(LEFT, 46, caption, "small"), *(part for panel in made for part in panel.parts())]
+    return picture(WIDTH * ACROSS, LEGEND + HEIGHT * -(-len(made) // ACROSS), parts)

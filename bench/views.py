@@ -41,6 +41,7 @@ READS = 200  # in a run
 LARGEST = 200_000  # documents that a run goes through, about, in which rows are made anew
 CREATE = "CREATE TABLE %s (%s)"
 PICTURE = os.path.join(os.path.dirname(os.path.abspath(__file__)), "views.svg")
+CAPTION = "Processor time of one, by the documents that the view is over; both scales are logarithmic."
 
 # What was measured of a view over so many documents: seconds of a write without the view, and with it; of a read; of the same rows
 # anew; and of a REFRESH, None where there is no PostgreSQL. Of each a pair: docd's and SQLite's.
@@ -289,8 +290,8 @@ def tell(it, bytes_kept):
 def lines_of(found):
     """The lines of a case's picture, each with its points."""
     counts = [it.count for it in found]
-    lines = [("a write", [it.write[0] for it in found]), ("a read", [it.read[0] for it in found]),
-             ("its rows anew", [it.anew[0] for it in found]), ("REFRESH", [it.refresh for it in found])]
+    lines = [("a write through the view", [it.write[0] for it in found]), ("a read of 101 rows", [it.read[0] for it in found]),
+             ("these rows anew", [it.anew[0] for it in found]), ("PostgreSQL's REFRESH", [it.refresh for it in found])]
     return [Line(name, list(zip(counts, [1e6 * one for one in seconds]))) for name, seconds in lines if None not in seconds]
 
 
@@ -319,7 +320,7 @@ def main():
                 found.setdefault(case.name, []).append(it)
                 tell(it, kept_bytes(case, count) if count == max(sizes) else None)
     with open(given.picture, "w", encoding="utf-8") as file:
-        file.write(drawn({name: lines_of(some) for name, some in found.items()}))
+        file.write(drawn({name: lines_of(some) for name, some in found.items()}, CAPTION))
 
 
 if __name__ == "__main__":

@@ -9,37 +9,33 @@ one of `t`, or of the one that `--db` names.
         tools/lines.py | ./docd run --hex | tools/lines.py --read
     tools/lines.py --port 27017 < examples/shop.txt
 
-With a port each command is sent to 127.0.0.1 as its line comes, and its reply is printed. At a terminal a line that can't be
-read is told and not sent; elsewhere it ends the work. `--json` prints replies as extended JSON. A sign `>` in front of a command
-is passed over; in a script `N>` is the session that it comes from, 0 where there is none. With `--documents` each line is a
-document, and its bytes are written, one behind the other, as `docd check` and `--load` read them:
+With a port each command is sent to 127.0.0.1 as its line comes, and its reply is printed; a line that can't be read ends the
+work. At a terminal this is a prompt (tools/prompt): with history, completion by Tab, `help`, long replies laid out, and what a
+refusal means. `--json` prints replies as extended JSON. With `--watch` a view's rows are printed, and again where they change:
+
+    tools/lines.py --port 27017 --db fair --watch spent
+
+A sign `>` in front of a command is passed over; in a script `N>` is the session that it comes from, 0 where there is none. With
+`--documents` each line is a document, and its bytes are written, one behind the other, as `docd check` and `--load` read them:
 
     printf '%s\n' '{_id: 1, a: "x"}' '{_id: 2}' | tools/lines.py --documents > two.bson
 """
 import argparse
 import json
-import re
+import os
 import struct
 import sys
 
 from extended_json import json_of
 from model.messages import answer
-from model.values import BsonFault, DOCUMENT, TEXT, spelling
+from model.values import BsonFault, DOCUMENT, spelling
 from notation import document_of, shown
-from served import Served
+from prompt.asking import Asker, NoDocd, command_of
+from prompt.loop import Prompt, tell, width
+from prompt.watching import Refused, watch
 from spelled import message, script_lines
 
-COMMAND = re.compile(r"(?:(\d{0,3})>)?\s*(.*)", re.S)
-DATABASE = b"$db"
-
-
-def command_of(line, database):
-    """The session that a line of the manual's form names, None where it names none, and the fields of its command."""
-    found = COMMAND.fullmatch(line)
-    fields = document_of(" " * found.start(2) + found[2])
-    if database and all(name != DATABASE for name, _ in fields):
-        fields.append((DATABASE, (TEXT, database.encode())))
-    return int(found[1]) if found[1] else None, fields
+NO_WIDTH = sys.maxsize
 
 
 def lines_of_command(number, line, database):
@@ -63,22 +59,9 @@ def read(line, is_json=False):
         sys.exit("lines: this line is none that docd prints: " + line)
 
 
-class Prompt:
-    """Asks a docd that serves."""
-
-    def __init__(self, port, database, is_json):
-        self.served, self.database, self.is_json = Served(port), database, is_json
-
-    def ask(self, _, line):
-        session, fields = command_of(line, self.database)
-        if session:
-            raise ValueError("a connection is one session: leave %d> out, or make a script, without --port" % session)
-        print(printed(self.served.reply_to(fields), self.is_json), flush=True)
-
-
-def carry_out(lines, action, goes_on=False):
-    """Does the action with each line that is neither empty nor a comment, and with its number among those. Goes on behind
-    one that is wrong, or ends."""
+def carry_out(lines, action):
+    """Does the action with each line that is neither empty nor a comment, and with its number among those. Ends at one that is
+    wrong."""
     number = 0
     for place, line in enumerate(map(str.strip, lines), 1):
         if not line or line.startswith("#"):
@@ -87,53 +70,88 @@ def carry_out(lines, action, goes_on=False):
         try:
             action(number, line)
         except ValueError as error:
-            told = "lines: line %d: %s" % (place, error)
-            if not goes_on:
-                sys.exit(told)
-            print(told, file=sys.stderr)
-        except (OSError, struct.error) as error:
             sys.exit("lines: line %d: %s" % (place, error))
 
 
-def typed():
-    """The lines that are typed at a terminal."""
+def ask(given):
+    """Asks a docd that serves."""
+    if given.watch:
+        is_terminal = sys.stdout.isatty()
+        return watch(given.port, given.db, given.watch, given.every, width if is_terminal else lambda: NO_WIDTH, tell)
+    asker = Asker(given.port, given.db, tell)
+    if sys.stdin.isatty() and sys.stdout.isatty():
+        return Prompt(asker, (lambda reply: printed(reply, True)) if given.json else None).run()
+    return carry_out(sys.stdin, lambda _, line: print(printed(asker.reply_to(asker.fields_of(line)), given.json), flush=True))
+
+
+def a_port(text):
+    if not text.isdigit() or not 0 < int(text) < 65536:
+        raise argparse.ArgumentTypeError("a port is a number from 1 to 65535, as docd prints it behind `serving 127.0.0.1:`")
+    return int(text)
+
+
+def a_database(text):
+    if not text or "." in text or "\0" in text:
+        raise argparse.ArgumentTypeError("a database has a name without a dot")
+    return text
+
+
+def seconds(text):
     try:
-        import readline  # noqa: F401  input() has its editing and its history
-    except ImportError:
+        if 0.01 <= float(text) <= 1e6:
+            return float(text)
+    except ValueError:
         pass
-    try:
-        while True:
-            yield input("> ")
-    except (EOFError, KeyboardInterrupt):
-        print()
+    raise argparse.ArgumentTypeError("write a number of seconds, as 1 or 0.5")
 
 
-def ask(port, database, is_json):
-    try:
-        prompt = Prompt(port, database, is_json)
-    except OSError as error:
-        sys.exit("lines: nothing serves at 127.0.0.1:%d: %s" % (port, error))
-    is_typed = sys.stdin.isatty() and sys.stdout.isatty()
-    carry_out(typed() if is_typed else sys.stdin, prompt.ask, is_typed)
-
-
-def main():
+def words():
     options = argparse.ArgumentParser(description=__doc__, formatter_class=argparse.RawDescriptionHelpFormatter)
-    options.add_argument("--read", action="store_true", help="read docd's lines")
-    options.add_argument("--port", type=int, help="ask the docd that serves there")
-    options.add_argument("--documents", action="store_true", help="write the bytes of documents")
-    options.add_argument("--db", default="t", help="the database of commands that name none, t where this isn't given")
+    ways = options.add_mutually_exclusive_group()
+    ways.add_argument("--read", action="store_true", help="read docd's lines")
+    ways.add_argument("--port", type=a_port, help="ask the docd that serves there")
+    ways.add_argument("--documents", action="store_true", help="write the bytes of documents")
+    options.add_argument("--db", type=a_database, default="t",
+                         help="the database of commands that name none, t where this isn't given")
     options.add_argument("--json", action="store_true", help="print replies as extended JSON")
+    options.add_argument("--watch", metavar="VIEW", help="with --port: print a view's rows, and again where they change")
+    options.add_argument("--every", type=seconds, default=1, metavar="SECONDS",
+                         help="with --watch: between two looks, 1 where this isn't given")
     given = options.parse_args()
+    if given.watch and not given.port:
+        options.error("--watch needs --port, where docd serves")
+    return given
+
+
+def work(given):
     if given.read:
         for line in sys.stdin:
             print(read(line.rstrip("\n"), given.json))
     elif given.port:
-        ask(given.port, given.db, given.json)
+        ask(given)
     elif given.documents:
         carry_out(sys.stdin, lambda _, line: sys.stdout.buffer.write(spelling(document_of(line))))
     else:
         carry_out(sys.stdin, lambda number, line: print(*lines_of_command(number, line, given.db), sep="\n", flush=True))
+
+
+def main():
+    given = words()
+    try:
+        work(given)
+        sys.stdout.flush()
+    except NoDocd as fault:
+        sys.exit("lines: %s" % fault)
+    except Refused as refused:
+        sys.exit("lines: the find is refused: %s" % printed(refused.args[0], given.json))
+    except UnicodeDecodeError:
+        sys.exit("lines: standard input is no text in UTF-8")
+    except BrokenPipeError:
+        os.dup2(os.open(os.devnull, os.O_WRONLY), sys.stdout.fileno())  # nobody reads what is left
+        sys.exit(1)
+    except KeyboardInterrupt:
+        print()
+        sys.exit(0 if given.watch else 130)
 
 
 if __name__ == "__main__":

@@ -18,15 +18,9 @@ import tempfile
 import machine
 from lines import lines_of_command, read
 from program import ROOT, parsed
+from prompt.guide import MANUAL, sections
 
-MANUAL = os.path.join(ROOT, "docs", "MANUAL.md")
 COMMAND = re.compile(r"\d*> .*")
-
-
-def sections(text):
-    """For each heading its blocks, as texts."""
-    for section in re.split(r"(?m)^## ", text)[1:]:
-        yield section.splitlines()[0], re.findall(r"(?ms)^```\n(.*?)^```", section)
 
 
 def examples_of(blocks):

@@ -71,6 +71,10 @@ CALLS = {
 }
 
 
+class Unfinished(ValueError):
+    """A text ends inside a value."""
+
+
 class Reader:
     """Reads values one after the other. What it can't read is told with its column, and what to write."""
 
@@ -95,8 +99,8 @@ class Reader:
         self.at = SPACE.match(self.text, self.at + 1).end()
         return True
 
-    def fail(self, told, at=None):
-        raise ValueError("column %d: %s" % ((self.at if at is None else at) + 1, told))
+    def fail(self, told, at=None, kind=ValueError):
+        raise kind("column %d: %s" % ((self.at if at is None else at) + 1, told))
 
     def value(self):
         start = self.at
@@ -140,7 +144,7 @@ class Reader:
         found = []
         while not self.takes(closing):
             if not self.has():
-                self.fail("the line ends where a %s is missing" % closing)
+                self.fail("the line ends where a %s is missing" % closing, kind=Unfinished)
             if found and not self.takes(","):
                 self.fail("a comma is missing, or a %s" % closing)
             found.append(one())

@@ -11,7 +11,7 @@ applied any more.
     tools/planted.py                        all crates, lowest first
     tools/planted.py dv_coll dv_index       these
     tools/planted.py --alone dv_coll        each edit alone
-    tools/planted.py --list                 only lists what the gate tries, as docs/PLANTED.md has it
+    tools/planted.py --list                 only lists what the gate tries
 """
 import argparse
 import os
@@ -138,7 +138,7 @@ def planted(crate):
 
 
 def listed(crates):
-    """The edits that the gate tries, by name, as lines of docs/PLANTED.md."""
+    """The edits that the gate tries, by name, as lines of a list."""
     for crate in crates:
         of_gate = [it.stem.replace("_", " ") for it in sorted(pathlib.Path(crate.folder, "must-fail").glob("*.edit"))]
         if of_gate:

@@ -1,4 +1,5 @@
 """A connection to a docd that serves on this machine, with nothing but Python's own library."""
+import select
 import socket
 import struct
 
@@ -7,13 +8,21 @@ from model.messages import answer
 from model.values import DOCUMENT, spelling
 from spelled import message
 
+PATIENCE = 2  # seconds, behind which it is told that no first reply has come
+LENGTHS = range(26, 48_000_001)  # of a reply
+
+
+class NotDocd(ConnectionError):
+    """What listens sends no message of docd's form."""
+
 
 class Served:
-    """A connection, which carries one command after the other."""
+    """A connection, which carries one command after the other. Where the first reply doesn't come soon, `tell_waiting` is
+    called: docd takes the next connection when the one before it has ended."""
 
-    def __init__(self, port):
+    def __init__(self, port, tell_waiting=None):
         self.connection = socket.create_connection(("127.0.0.1", port))
-        self.replies, self.number = self.connection.makefile("rb"), 0
+        self.replies, self.number, self.tell_waiting = self.connection.makefile("rb"), 0, tell_waiting
 
     def ask(self, command):
         """The reply to a command. Both are dicts, as json makes them of texts in the notation of tools/extended_json.py."""
@@ -24,10 +33,20 @@ class Served:
         """The fields of the reply to a command of these fields, whose first name is what it does."""
         self.number += 1
         self.connection.sendall(message(spelling(fields), self.number))
-        length = self.replies.read(4)
-        if not length:
-            raise ConnectionError("docd has closed the connection")
-        return answer(length + self.replies.read(struct.unpack("<i", length)[0] - len(length)))
+        if self.tell_waiting and self.number == 1 and not select.select([self.connection], [], [], PATIENCE)[0]:
+            self.tell_waiting()
+        head = self.taken(4)
+        length = struct.unpack("<i", head)[0]
+        if length not in LENGTHS:
+            raise NotDocd("no message of docd")
+        return answer(head + self.taken(length - 4))
+
+    def taken(self, count):
+        """So many bytes of the replies."""
+        data = self.replies.read(count)
+        if len(data) < count:
+            raise ConnectionError("it was closed")
+        return data
 
     def close(self):
         self.replies.close()

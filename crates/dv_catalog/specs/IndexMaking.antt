@@ -94,7 +94,7 @@ pub data Way : Type 0 where
   by_index : List ℕ → Way
   over_all : Way
 
--- and how many of them are looked at
+-- and how many the plan covers: those with a leaf in its bounds, or all
 pub record Explained : Type 0 where
   pub way : Way
   pub documents : ℕ
@@ -106,7 +106,7 @@ way_by (Some name) = by_index name
 abbrev pub explained_of : Members → Collection → Explained
 explained_of filter c = record { way = way_by (index_chosen filter c.indexes); documents = documents_covered filter c }
 
--- none are looked at where nothing stands
+-- none where nothing stands
 abbrev pub explained_at : Members → Option Standing → Explained
 explained_at filter None = record { way = over_all; documents = 0 }
 explained_at filter (Some (collection c)) = explained_of filter c

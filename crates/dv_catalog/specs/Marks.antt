@@ -1,4 +1,4 @@
--- How views stand, beside what they show: how much work changes took since a view was made, or that memory was wanting for one.
+-- How views stand, beside what they show: how much work changes took since a view was made, or that it has no rows.
 use Rattle.std.specs.Prelude.{◌≡◌, ◌⊎◌, ℕ, Bool, true, false, List, [], ◌∷◌, ◌++◌, length, map, Option, Some, None, if◌then◌else◌}
 use Rattle.std.specs.Option.{option_map}
 use Rattle.dv_bson.specs.Tree.{Field}
@@ -12,7 +12,8 @@ use Rattle.dv_catalog.specs.Changes.{Change, gone}
 use Rattle.dv_catalog.specs.State.{State, documents_of, empty_state, has_name, is_collection, lists_of, rows_of}
 use Rattle.dv_catalog.specs.Told.{told}
 
--- a view is live, and counts the work that changes took since it was made; or it is stale, where memory was wanting for it, until it is read
+-- a view is live, and counts the work that changes took since it was made; or it is stale, and has no rows until it is read:
+-- memory was wanting for them, or a `$push` held too many
 pub data Mark : Type 0 where
   live : ℕ → Mark
   stale : Mark
@@ -45,11 +46,11 @@ all_counted [] marks = marks
 all_counted (share ∷ rest) [] = []
 all_counted (share ∷ rest) (mark ∷ marks) = mark_counted share mark ∷ all_counted rest marks
 
--- where memory is wanting for no view
+-- where no view becomes stale
 abbrev pub marks_counted : List ℕ → List Change → Lists → List ViewForm → Marks → Marks
 marks_counted namespace changes lists views marks = all_counted (shares_told namespace changes lists views) marks
 
--- memory is wanting for a view: only where changes come to it
+-- a view becomes stale: only where changes reach it
 pub record IsStruck (share : Share) (after : Mark) : Type 0 where
   pub stale : after ≡ stale
   pub reached : share.reached ≡ true
@@ -63,7 +64,7 @@ AreMarkedSo (share ∷ rest) [] after = after ≡ []
 AreMarkedSo (share ∷ rest) (mark ∷ before) [] = ⊥
 AreMarkedSo (share ∷ rest) (mark ∷ before) (now ∷ after) = IsMarkedBy share mark now × AreMarkedSo rest before after
 
--- how views may stand behind changes: each counts the work, or memory is wanting for it
+-- how views may stand behind changes: each counts the work, or becomes stale
 abbrev pub AreMarkedBy : List ℕ → List Change → Lists → List ViewForm → Marks → Marks → Type 0
 AreMarkedBy namespace changes lists views before after = AreMarkedSo (shares_told namespace changes lists views) before after
 

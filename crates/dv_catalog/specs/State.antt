@@ -15,8 +15,8 @@ use Rattle.dv_index.specs.Indexed.{IndexedTree, empty_indexed}
 use Rattle.dv_pipe.specs.Stages.{Lists}
 use Rattle.dv_views.specs.Forms.{ViewForm, rows_over}
 
--- a collection: its documents, in the order of their `_id`s, and the names and paths of its indexes, in the order in which they were
--- made, that on `_id` first. What an index holds is no part of it
+-- a collection: its documents, in the order of their `_id`s, and the names and paths of its indexes and whether they are unique, in the
+-- order in which they were made, that on `_id` first. What an index holds is no part of it
 abbrev pub Collection : Type 0
 Collection = IndexedTree
 

@@ -7,7 +7,7 @@ use Rattle.dv_coll.specs.Collection.{id_key}
 use Rattle.dv_views.specs.Views as views
 use Rattle.dv_catalog.specs.Changes.{Change, put, gone}
 
--- a document stands under the key of its `_id`
+-- a change at the position of the document, the key of its `_id`
 abbrev pub told : Change → flow.Change
 told (put d) = Put (Up (id_key d) ∷ []) d
 told (gone k) = Gone (Up k ∷ [])

@@ -217,7 +217,7 @@ impl Catalog {
         )
     }
 
-    /// How the rows under a namespace that match a filter are found, and how many are looked at. Stale views that they need
+    /// How the rows under a namespace that match a filter are found, and how many the plan covers. Stale views that they need
     /// are made anew first. Fails where memory is wanting; then some of these may be made anew.
     pub fn explain(&mut self, namespace: &str, filter: &Filter) -> Result<Explained, NoMemory>
         ensures explained { IfOk result (λ told. explained_seen told ≡ indexing.explained namespace.now filter.now self.old.state) }

@@ -27,8 +27,8 @@ pub enum Way {
 #[derive(Debug, Drop)]
 pub struct Explained {
     pub way: Way,
-    /// How many documents or rows are looked at; by an index those that have a leaf in the bounds in which it is looked at,
-    /// Missing counting as null.
+    /// How many documents or rows the plan covers: all, or by an index those that have a leaf in its bounds, Missing counting
+    /// as null. Fewer may be looked at.
     pub documents: usize,
 }
 

@@ -8,7 +8,7 @@ use dv_views::ViewState;
 /// How a view stands. A stale one has no rows, and has counted nothing.
 #[derive(Clone, Copy, Debug)]
 pub struct Stats {
-    /// Whether it has its rows: not where memory was wanting for them, until it is read.
+    /// Whether it has its rows: a stale view has none until it is read.
     pub is_live: bool,
     pub rows: usize,
     /// The work that changes took since its rows were made, at most 9,223,372,036,854,775,807.

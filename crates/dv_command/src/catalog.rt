@@ -19,8 +19,9 @@ use crate::rules::{
     CREATE_INDEXES_RULES, CREATE_RULES, DROP_INDEXES_RULES, DROP_RULES, VIEW_STATS_RULES,
 };
 use dv_bson::Document;
-use dv_fields::fields::{array_of, documents_under, text_of, text_under};
+use dv_fields::fields::{documents_under, text_under};
 use dv_fields::namespaces::namespace;
+use dv_fields::values::{array_of, text_of};
 use dv_fields::{Documents, Refusal};
 use std::alloc::Global;
 

@@ -7,8 +7,8 @@ ghost use Rattle.dv_fields.specs.View.{rule_seen};
 use crate::command::DocumentLists;
 use crate::lists::check_none;
 use dv_bson::Document;
-use dv_fields::fields::check_fields;
 use dv_fields::namespaces::database;
+use dv_fields::rules::check_fields;
 use dv_fields::{Place, Refusal, Rule};
 
 /// The database of a command, whose fields are looked at.

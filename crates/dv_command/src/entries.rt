@@ -14,8 +14,9 @@ use crate::forms::{filter_of, is_replacement, update_of};
 use crate::rules::{DELETION_RULES, INDEX_RULES, UPDATING_RULES};
 use dv_bson::{Document, Str, Value};
 use dv_fields::fields::{
-    boolean_under, check_fields, document_under, only_first_under, text_under, update_under,
+    boolean_under, document_under, only_first_under, text_under, update_under,
 };
+use dv_fields::rules::check_fields;
 use dv_fields::{Place, Refusal};
 use dv_match::Filter;
 use dv_path::{Path, PathFault};

@@ -5,7 +5,7 @@ ghost use Rattle.dv_command.specs.Lists as defined;
 
 use crate::command::DocumentLists;
 use dv_bson::Document;
-use dv_fields::fields::documents_of;
+use dv_fields::values::documents_of;
 use dv_fields::{Documents, Refusal};
 
 /// Looks at the lists beside the body of a command that has none: one is refused with `FailedToParse`.

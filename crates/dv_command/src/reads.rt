@@ -14,10 +14,11 @@ use crate::rules::{
 };
 use dv_bson::Document;
 use dv_fields::fields::{
-    array_under, boolean_under, check_fields, document_or, document_under, first_name,
-    integer_under, integers_under, natural_under, text_under,
+    array_under, boolean_under, document_or, document_under, first_name, integer_under,
+    integers_under, natural_under, text_under,
 };
 use dv_fields::namespaces::{database, namespace};
+use dv_fields::rules::check_fields;
 use dv_fields::{Place, Refusal};
 use std::alloc::Global;
 

@@ -27,9 +27,13 @@ use Rattle.dv_core.proofs.Done.{changes_done, changes_unbroken, front_unbroken, 
 use Rattle.dv_core.proofs.Standing.{IsKeptBy, Stands, made_stands, put_stands}
 use Rattle.dv_catalog.specs.EffectLaws.{IsGoodAfter, chosen_good, matching_good, all_changed_good}
 
--- of a property of the collection of a namespace, and changes that keep it where they put no key of a unique index under two `_id`s
-module _ (P : List ℕ → Collection → Type 0) (IsGood : Change → Type 0)
-    (keeps : (namespace : List ℕ) (c : Collection) (change : Change) → P namespace c → IsGood change → clashes_by c.indexes change c.documents ≡ false → P namespace (record c { documents = with_change c.documents change })) where
+-- changes keep a property of the collection of a namespace where they put no key of a unique index under two `_id`s
+abbrev pub ChangesKeep : (List ℕ → Collection → Type 0) → (Change → Type 0) → Type 0
+ChangesKeep P IsGood =
+    (namespace : List ℕ) (c : Collection) (change : Change) → P namespace c → IsGood change → clashes_by c.indexes change c.documents ≡ false → P namespace (record c { documents = with_change c.documents change })
+
+-- of such a property
+module _ (P : List ℕ → Collection → Type 0) (IsGood : Change → Type 0) (keeps : ChangesKeep P IsGood) where
   -- a statement that makes no others
   pub record Keeps (statement : Statement) : Type 0 where
     pub good : (namespace : List ℕ) (c : Collection) → P namespace c → AllByRecursion IsGood (changes_of (statement c.documents))

@@ -44,7 +44,7 @@ use Rattle.dv_core.proofs.Unique.{UniqueLaws, change_unbroken, indexes_unbroken}
 use Rattle.dv_index.specs.Indexed.{empty_indexed}
 use Rattle.dv_index.specs.Unique.{are_broken}
 use Rattle.dv_catalog.specs.StateLaws.{documents_there}
-use Rattle.dv_core.proofs.Kept.{Keeps, apply_holds, does_good, insert_keeps, updates_keep, deletes_keep, step_holds}
+use Rattle.dv_core.proofs.Kept.{ChangesKeep, Keeps, apply_holds, does_good, insert_keeps, updates_keep, deletes_keep, step_holds}
 use Rattle.dv_core.proofs.Stored.{storable_fits}
 use Rattle.dv_catalog.specs.EffectLaws.{KeepsId, told_after, after_id}
 use Rattle.dv_core.proofs.Valid.{storable_valid}
@@ -59,6 +59,18 @@ none_ordered = (tt, tt)
 none_sound : AreSound []
 none_sound = (none_ordered, tt)
 
+-- the documents of a collection are in order
+abbrev IsInOrder : List ℕ → Collection → Type 0
+IsInOrder namespace c = AreOrdered c.documents
+
+-- and no key of a unique index stands in two of them
+pub record IsApart (namespace : List ℕ) (c : Collection) : Type 0 where
+  pub documents : AreOrdered c.documents
+  pub unique : are_broken c.indexes c.documents ≡ false
+
+abbrev pub AreApart : State → Type 0
+AreApart state = Stands IsApart state.catalog.namespaces
+
 -- the documents of a collection are sound, and no key of a unique index stands in two of them
 pub record IsWhole (namespace : List ℕ) (c : Collection) : Type 0 where
   pub documents : AreSound c.documents
@@ -69,6 +81,9 @@ AreWhole state = Stands IsWhole state.catalog.namespaces
 
 pub empty_ordered : IsOrdered empty_state.catalog
 empty_ordered namespace = subst AreOrdered (nothing_there namespace) none_ordered
+
+none_apart : (namespace : List ℕ) → IsApart namespace empty_indexed
+none_apart namespace = record { documents = none_ordered; unique = refl }
 
 none_whole : (namespace : List ℕ) → IsWhole namespace empty_indexed
 none_whole namespace = record { documents = none_sound; unique = refl }
@@ -137,10 +152,6 @@ abbrev pub IsSoundChange : Change → Type 0
 IsSoundChange (put d) = HasId d × IsSoundDocument d
 IsSoundChange (gone k) = Unit {0}
 
--- the documents of a collection are in order
-abbrev IsInOrder : List ℕ → Collection → Type 0
-IsInOrder namespace c = AreOrdered c.documents
-
 module _ (laws : CollectionLaws) where
   put_ordered : (d : List Field) (ds : List (List Field)) (there : Option (List Field)) → found (id_key d) ds ≡ there → HasId d → AreOrdered ds → AreOrdered (cond (is_some there) (replaced d ds) (inserted d ds))
   put_ordered d ds None none has_id ordered = (laws.inserted_ascend d ds ordered.0 none, laws.inserted_ids d ds has_id ordered.1)
@@ -150,32 +161,79 @@ module _ (laws : CollectionLaws) where
   change_ordered ds (put d) ordered has_id = put_ordered d ds (found (id_key d) ds) refl has_id ordered
   change_ordered ds (gone k) ordered good = (laws.removed_ascend k ds ordered.0, laws.removed_ids k ds ordered.1)
 
-  changes_order : (namespace : List ℕ) (c : Collection) (change : Change) → IsInOrder namespace c → BeginsWithId change → clashes_by c.indexes change c.documents ≡ false → AreOrdered (with_change c.documents change)
+  -- ---- whatever the documents of commands are
+
+  module _ (P : List ℕ → Collection → Type 0) (in_order : (namespace : List ℕ) (c : Collection) → P namespace c → AreOrdered c.documents) (changes : ChangesKeep P BeginsWithId) where
+    inserts_hold : (documents : List (List Field)) → AllByRecursion (Keeps P BeginsWithId changes) (map insert_one documents)
+    inserts_hold [] = tt
+    inserts_hold (d ∷ ds) = (insert_keeps P BeginsWithId changes d (λ stored is. stored_id d stored is), inserts_hold ds)
+
+    asks_any : (entries : List (List Field)) → AllByRecursion (λ entry. (updating : Updating) → updating_of entry ≡ Ok updating → Unit {0}) entries
+    asks_any [] = tt
+    asks_any (entry ∷ entries) = ((λ updating is. tt), asks_any entries)
+
+    statements_hold : (kind : WriteKind) (entries : List (List Field)) → AllByRecursion (Keeps P BeginsWithId changes) (map (statement_of kind) entries)
+    statements_hold Insert entries = inserts_hold entries
+    statements_hold Update entries =
+        updates_keep P BeginsWithId changes (λ form. Unit {0}) (λ form any namespace c holds. afters_ids laws.id_stays form c.documents (in_order namespace c holds).1) entries (asks_any entries)
+    statements_hold Delete entries = deletes_keep P BeginsWithId changes (λ k. tt) entries
+
+    writes_hold : (what : Asked) (write : Write) → write_of what ≡ Some write → AllByRecursion (Keeps P BeginsWithId changes) write.statements
+    writes_hold (asking.write w) write is = let same : write_by w ≡ write = cc in subst (λ (w : Write). AllByRecursion (Keeps P BeginsWithId changes) w.statements) same (statements_hold w.kind w.entries)
+    writes_hold what write is = absurd cc
+
+    steps_hold : ((what : Asked) → IsKeptBy P what) → (old new : State) (session : ℕ) (command : Command) (outcome : Outcome) → Stands P old.catalog.namespaces → BareStep old session command outcome new → Stands P new.catalog.namespaces
+    steps_hold kept old new session command outcome h steps = step_holds P BeginsWithId changes old new session command outcome kept (λ what write asks is. writes_hold what write is) h steps
+
+  changes_order : ChangesKeep IsInOrder BeginsWithId
   changes_order namespace c change ordered good apart = change_ordered c.documents change ordered good
 
-  abbrev KeepsOrder : Write → Type 0
-  KeepsOrder write = AllByRecursion (Keeps IsInOrder BeginsWithId changes_order) write.statements
-
-  inserts_order : (documents : List (List Field)) → AllByRecursion (Keeps IsInOrder BeginsWithId changes_order) (map insert_one documents)
-  inserts_order [] = tt
-  inserts_order (d ∷ ds) = (insert_keeps IsInOrder BeginsWithId changes_order d (λ stored is. stored_id d stored is), inserts_order ds)
-
-  asks_any : (entries : List (List Field)) → AllByRecursion (λ entry. (updating : Updating) → updating_of entry ≡ Ok updating → Unit {0}) entries
-  asks_any [] = tt
-  asks_any (entry ∷ entries) = ((λ updating is. tt), asks_any entries)
-
-  statements_order : (kind : WriteKind) (entries : List (List Field)) → AllByRecursion (Keeps IsInOrder BeginsWithId changes_order) (map (statement_of kind) entries)
-  statements_order Insert entries = inserts_order entries
-  statements_order Update entries =
-      updates_keep IsInOrder BeginsWithId changes_order (λ form. Unit {0}) (λ form any namespace c ordered. afters_ids laws.id_stays form c.documents ordered.1) entries (asks_any entries)
-  statements_order Delete entries = deletes_keep IsInOrder BeginsWithId changes_order (λ k. tt) entries
-
-  writes_order : (what : Asked) (write : Write) → write_of what ≡ Some write → KeepsOrder write
-  writes_order (asking.write w) write is = let same : write_by w ≡ write = cc in subst KeepsOrder same (statements_order w.kind w.entries)
-  writes_order what write is = absurd cc
-
   pub steps_ordered : (old new : State) (session : ℕ) (command : Command) (outcome : Outcome) → IsOrdered old.catalog → BareStep old session command outcome new → IsOrdered new.catalog
-  steps_ordered old new session command outcome h steps = step_holds IsInOrder BeginsWithId changes_order old new session command outcome (documents_kept (λ namespace ds. AreOrdered ds) (λ namespace. none_ordered)) (λ what write asks is. writes_order what write is) h steps
+  steps_ordered = steps_hold IsInOrder (λ namespace c ordered. ordered) changes_order (documents_kept (λ namespace ds. AreOrdered ds) (λ namespace. none_ordered))
+
+-- a load keeps what its insert does
+module _ (P : List ℕ → Collection → Type 0) (Good : Change → Type 0) (changes : ChangesKeep P Good) where
+  alone_holds : (old new : State) (namespace : List ℕ) (does : Result Effect Refusal) → AllByRecursion Good (changes_of does)
+      → breaks (indexes_of namespace old.catalog.namespaces) (changes_of does) (documents_of namespace old.catalog.namespaces) ≡ false → Stands P old.catalog.namespaces → (does >>= λ effect. Ok (left_by namespace old effect)) ≡ Ok new → Stands P new.catalog.namespaces
+  alone_holds old new namespace (Ok effect) good unbroken h is =
+      let leaves : left_by namespace old effect ≡ new = cc in
+      subst (λ (s : State). Stands P s.catalog.namespaces) leaves (apply_holds P Good changes namespace effect.changes old.catalog.namespaces h good unbroken)
+  alone_holds old new namespace (Err refusal) good unbroken h is = absurd cc
+
+  load_holds : (old new : State) (named : Result (List ℕ) Refusal) (d : List Field) → Keeps P Good changes (insert_one d) → Stands P old.catalog.namespaces → (named >>= λ namespace. insert_alone namespace d old) ≡ Ok new → Stands P new.catalog.namespaces
+  load_holds old new (Err refusal) d keeps h is = absurd cc
+  load_holds old new (Ok namespace) d keeps h is = by_view (is_view namespace old.catalog.views) is
+    where
+      by_view : (b : Bool) → (if b then Err OnView else (done_to (collection_of namespace old.catalog.namespaces) (insert_one d) >>= λ effect. Ok (left_by namespace old effect))) ≡ Ok new → Stands P new.catalog.namespaces
+      by_view true is = absurd cc
+      by_view false is =
+          alone_holds old new namespace (done_to (collection_of namespace old.catalog.namespaces) (insert_one d)) (does_good P Good changes namespace (collection_of namespace old.catalog.namespaces) (insert_one d) keeps (h namespace))
+          (changes_unbroken (collection_of namespace old.catalog.namespaces) (insert_one d)) h is
+
+-- ---- no key of a unique index comes into two documents, whatever these are
+
+module _ (laws : CollectionLaws) (unique_laws : UniqueLaws) where
+  changes_apart : ChangesKeep IsApart BeginsWithId
+  changes_apart namespace c change apart good free = record {
+    documents = change_ordered laws c.documents change apart.documents good;
+    unique = change_unbroken unique_laws c.indexes change c.documents apart.documents apart.unique free;
+  }
+
+  apart_kept : (what : Asked) → IsKeptBy IsApart what
+  apart_kept what = record {
+    none = none_apart;
+    emptied = λ namespace c apart. record { documents = none_ordered; unique = unique_laws.none_apart c.indexes };
+    indexed = λ namespace c indexes is apart. record { documents = apart.documents; unique = indexes_unbroken unique_laws c what indexes is apart.unique };
+  }
+
+  apart_ordered : (namespace : List ℕ) (c : Collection) → IsApart namespace c → AreOrdered c.documents
+  apart_ordered namespace c apart = apart.documents
+
+  pub steps_apart : (old new : State) (session : ℕ) (command : Command) (outcome : Outcome) → AreApart old → BareStep old session command outcome new → AreApart new
+  steps_apart = steps_hold laws IsApart apart_ordered changes_apart apart_kept
+
+  pub loaded_apart : (old new : State) (text : List ℕ) (d : List Field) → AreApart old → loaded text d old ≡ Ok new → AreApart new
+  loaded_apart old new text d h is = load_holds IsApart BeginsWithId changes_apart old new (namespace_in text) d (inserts_hold laws IsApart apart_ordered changes_apart (d ∷ [])).0 h is
 
 -- ---- and sound, if the documents of commands are, and no key of a unique index comes into two of them
 
@@ -212,7 +270,7 @@ module _ (laws : CollectionLaws) (unique_laws : UniqueLaws) where
   change_sound ds (put d) sound good = (change_ordered laws ds (put d) sound.0 good.0, put_sound (is_some (found (id_key d) ds)) d ds good.1 sound.1)
   change_sound ds (gone k) sound good = (change_ordered laws ds (gone k) sound.0 tt, all_removed k ds sound.1)
 
-  change_whole : (namespace : List ℕ) (c : Collection) (change : Change) → IsWhole namespace c → IsSoundChange change → clashes_by c.indexes change c.documents ≡ false → IsWhole namespace (record c { documents = with_change c.documents change })
+  change_whole : ChangesKeep IsWhole IsSoundChange
   change_whole namespace c change whole good apart = record {
     documents = change_sound c.documents change whole.documents good;
     unique = change_unbroken unique_laws c.indexes change c.documents whole.documents.0 whole.unique apart;
@@ -266,27 +324,6 @@ module _ (laws : CollectionLaws) (unique_laws : UniqueLaws) where
     pub steps_sound : (old new : State) (session : ℕ) (command : Command) (outcome : Outcome) → IsSoundCommand command → AreWhole old → BareStep old session command outcome new → AreWhole new
     steps_sound old new session command outcome sound h steps = step_holds IsWhole IsSoundChange change_whole old new session command outcome whole_kept (writes_sound command sound) h steps
 
-  -- ---- and so after a load of a sound document
-
-  alone_sound : (old new : State) (namespace : List ℕ) (does : Result Effect Refusal) → AllByRecursion IsSoundChange (changes_of does)
-      → breaks (indexes_of namespace old.catalog.namespaces) (changes_of does) (documents_of namespace old.catalog.namespaces) ≡ false → AreWhole old → (does >>= λ effect. Ok (left_by namespace old effect)) ≡ Ok new → AreWhole new
-  alone_sound old new namespace (Ok effect) good unbroken h is =
-      let leaves : left_by namespace old effect ≡ new = cc in
-      subst AreWhole leaves (apply_holds IsWhole IsSoundChange change_whole namespace effect.changes old.catalog.namespaces h good unbroken)
-  alone_sound old new namespace (Err refusal) good unbroken h is = absurd cc
-
-  loaded_in : (old new : State) (named : Result (List ℕ) Refusal) (d : List Field) → IsSoundDocument d → AreWhole old → (named >>= λ namespace. insert_alone namespace d old) ≡ Ok new → AreWhole new
-  loaded_in old new (Err refusal) d sound h is = absurd cc
-  loaded_in old new (Ok namespace) d sound h is = by_view (is_view namespace old.catalog.views) is
-    where
-      keeps : Keeps IsWhole IsSoundChange change_whole (insert_one d)
-      keeps = (inserts_sound (d ∷ []) (sound.valid, tt)).0
-
-      by_view : (b : Bool) → (if b then Err OnView else (done_to (collection_of namespace old.catalog.namespaces) (insert_one d) >>= λ effect. Ok (left_by namespace old effect))) ≡ Ok new → AreWhole new
-      by_view true is = absurd cc
-      by_view false is =
-          alone_sound old new namespace (done_to (collection_of namespace old.catalog.namespaces) (insert_one d)) (does_good IsWhole IsSoundChange change_whole namespace (collection_of namespace old.catalog.namespaces) (insert_one d) keeps (h namespace))
-          (changes_unbroken (collection_of namespace old.catalog.namespaces) (insert_one d)) h is
-
+  -- and so after a load of a sound document
   pub loaded_sound : (old new : State) (text : List ℕ) (d : List Field) → IsSoundDocument d → AreWhole old → loaded text d old ≡ Ok new → AreWhole new
-  loaded_sound old new text d sound h is = loaded_in old new (namespace_in text) d sound h is
+  loaded_sound old new text d sound h is = load_holds IsWhole IsSoundChange change_whole old new (namespace_in text) d (inserts_sound (d ∷ []) (sound.valid, tt)).0 h is

@@ -330,7 +330,7 @@ pub record ViewExamples : Type 0 where
   pub dropped : Does (viewing empty_state) (drop (codes "v")) (drop_reply (codes "t.v")) (standing (live 0 ∷ []) empty_state)
   pub nothing_there : Does empty_state (drop (codes "v")) (refusal 26 (codes "NamespaceNotFound")) empty_state
 
--- the same views, but that memory was wanting for one
+-- the same views, but that one is stale
 abbrev pub struck : State → State
 struck state = standing (stale ∷ []) (viewing state)
 
@@ -340,7 +340,7 @@ view_stats name = on (codes "t") ((codes "viewStats", string name) ∷ [])
 abbrev pub stats_reply : List ℕ → ℕ → ℕ → List Field
 stats_reply state rows ticks = (codes "state", string state) ∷ (codes "rows", int64 (pos rows)) ∷ (codes "ticks", int64 (pos ticks)) ∷ done
 
--- how views stand behind a command, where memory is wanting for none
+-- how views stand behind a command, where none becomes stale
 abbrev pub Marking : State → List Field → Marks → Type 0
 Marking old body marks = marks_behind_all old (asked_by (of_body body)) ≡ marks
 

@@ -33,7 +33,7 @@ insert_alone namespace d state =
 abbrev pub loaded : List ℕ → List Field → State → Result State Refusal
 loaded text d state = namespace_in text >>= λ namespace. insert_alone namespace d state
 
--- a document is loaded into the namespace that a text is, and this is left: views count the work, or memory is wanting for one
+-- a document is loaded into the namespace that a text is, and this is left: views count the work, or become stale
 pub record IsLoaded (text : List ℕ) (d : List Field) (old new : State) : Type 0 where
   pub so : loaded text d old ≡ Ok (standing old.marks new)
   pub marks : AreMarkedBy text (changes_of (done_to (collection_of text old.catalog.namespaces) (insert_one d))) (lists_of old.catalog.namespaces) old.catalog.views old.marks new.marks

@@ -1,4 +1,4 @@
--- How views stand behind a command: what each counted of its work, and for which memory was wanting.
+-- How views stand behind a command: what each counted of its work, and which are stale.
 use Rattle.std.specs.Prelude.{◌≡◌, ◌⊎◌, ℕ, Bool, true, false, List, [], ◌∷◌, take, Result, Ok, Err, if◌then◌else◌}
 use Rattle.dv_command.specs.Asked.{Asked, find, aggregate, create, drop, explain}
 use Rattle.dv_command.specs.Asked as asking
@@ -20,7 +20,7 @@ module _ (namespace : List ℕ) (ordered : Bool) (views : List ViewForm) where
   abbrev pub due_changes : Written → Statement → List Change
   due_changes so_far statement = if is_due ordered so_far.errors then next_changes namespace ordered so_far statement else []
 
-  -- behind statements, where memory is wanting for no view
+  -- behind statements, where no view becomes stale
   abbrev pub marks_written : Written → List Statement → Marks → Marks
   marks_written so_far [] marks = marks
   marks_written so_far (statement ∷ statements) marks =
@@ -69,7 +69,7 @@ marks_of_write write old =
     if is_view write.namespace old.catalog.views then old.marks
     else marks_written write.namespace write.ordered old.catalog.views (nothing_written old.catalog.namespaces) write.statements old.marks
 
--- behind a command that is carried out, where memory is wanting for no view
+-- behind a command that is carried out, where no view becomes stale
 abbrev pub marks_behind : State → Asked → Marks
 marks_behind old (asking.write asked) = marks_of_write (write_by asked) old
 marks_behind old (create asked) = marks_where_made (created asked.namespace asked.view old.catalog) (marks_made asked.view old.catalog.views old.marks) old.marks
@@ -84,7 +84,7 @@ abbrev pub AreMarkedWhereDropped : Result stored.State Refusal → List ℕ → 
 AreMarkedWhereDropped (Ok state) namespace old marks = AreMarkedByDrop namespace old.catalog old.marks marks
 AreMarkedWhereDropped (Err refusal) namespace old marks = marks ≡ old.marks
 
--- behind a command that is carried out: memory may be wanting for a view only behind changes of what it reads
+-- behind a command that is carried out: a view may become stale only behind changes that reach it
 abbrev pub AreMarked : State → Asked → Marks → Type 0
 AreMarked old (asking.write asked) marks = AreMarkedByWrite (is_view asked.namespace old.catalog.views) (write_by asked) old marks
 AreMarked old (drop asked) marks = AreMarkedWhereDropped (dropped asked.namespace old.catalog) asked.namespace old marks

@@ -7,7 +7,7 @@ use Rattle.dv_command.specs.Asked.{ViewStats}
 use Rattle.dv_command.specs.Replies.{view_stats_reply}
 use Rattle.dv_catalog.specs.Marks.{Marked, Stats, stats_of}
 
--- refused where no view stands under the namespace, be it a collection's
+-- refused where no view stands under the namespace, also where a collection does
 abbrev pub told_of : Option Stats → Result (List Field) Refusal
 told_of None = Err NamespaceNotFound
 told_of (Some s) = Ok (view_stats_reply s.is_live s.rows s.ticks)

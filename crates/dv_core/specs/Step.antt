@@ -128,8 +128,8 @@ abbrev pub Wants : State → Command → Answer → Marks → Type 0
 Wants old command answer marks = ((answer ≡ answered old (Err WantOfMemory)) × AreMarkedForWant old (asked_by command) marks) ⊎ Cut old (asked_by command) answer marks
 
 -- What a command of a session may come to, and the state after it: a reply, and then it is the step as it is defined; a reply that
--- tells of want of memory; or no reply, for which memory is wanting, after either. The answer leaves the marks, and how views stand
--- then is as they are counted, or that memory was wanting for one.
+-- tells of want of memory; or no reply, for which memory is wanting, after either. The answer leaves the marks; how views stand
+-- then is told beside it: as they are counted, or stale.
 abbrev pub MemoryStep : State → ℕ → Command → Outcome → State → Type 0
 MemoryStep old session command (Reply reply) new =
     (step old session command ≡ record { reply = reply; state = standing old.marks new }) × AreMarkedAll old (asked_by command) new.marks

@@ -18,7 +18,7 @@ ghost use Rattle.dv_core.specs.Examples as examples;
 ghost use Rattle.dv_core.specs.Find.{are_too_large, first_batch};
 ghost use Rattle.dv_core.specs.Load.{IsLoaded, insert_alone, loaded, namespace_in};
 ghost use Rattle.dv_core.specs.Part.{IsPart};
-ghost use Rattle.dv_core.specs.Sound.{HasSpelling, IsSound, IsSoundCommand, IsSoundDocument, IsTold};
+ghost use Rattle.dv_core.specs.Sound.{AreUnique, HasSpelling, IsSound, IsSoundCommand, IsSoundDocument, IsTold};
 ghost use Rattle.dv_catalog.specs.State.{Namespaces, IsOrdered, documents_of, is_view, rows_of};
 ghost use Rattle.dv_core.specs.State.{State, empty_state};
 ghost use Rattle.std.specs.Str.{bytes_eq};
@@ -98,6 +98,30 @@ pub fn documents_stay_in_order()
     dv_coll::laws::replaced_documents_ascend();
     dv_coll::laws::replaced_documents_begin_with_ids();
     dv_update::laws::the_id_stays();
+}
+
+/// No key of a unique index comes into two documents, whatever commands and loads bring: so it is before the first command, and
+/// so after each command, each load and each end of a session.
+pub fn unique_keys_stay_apart()
+    ensures before { AreUnique empty_state }
+    ensures after { (old new : State) (session : ℕ) (command : Command) (outcome : Outcome) → IsOrdered old.catalog → AreUnique old
+        → MemoryStep old session command outcome new → AreUnique new }
+    ensures loaded { (old new : State) (namespace : List ℕ) (d : List Field) → IsOrdered old.catalog → AreUnique old → loaded namespace d old ≡ Ok new → AreUnique new }
+    ensures ended { (session : ℕ) (state : State) → AreUnique state → AreUnique (end_session session state) }
+{
+    dv_coll::laws::inserted_documents_ascend();
+    dv_coll::laws::inserted_documents_begin_with_ids();
+    dv_coll::laws::removed_documents_ascend();
+    dv_coll::laws::removed_documents_begin_with_ids();
+    dv_coll::laws::replaced_documents_ascend();
+    dv_coll::laws::replaced_documents_begin_with_ids();
+    dv_update::laws::the_id_stays();
+    dv_index::laws::an_insert_without_a_clash_breaks_nothing();
+    dv_index::laws::a_replacement_without_a_clash_breaks_nothing();
+    dv_index::laws::a_removal_breaks_nothing();
+    dv_index::laws::nothing_is_broken_by_no_document();
+    dv_index::laws::fewer_indexes_break_no_more();
+    dv_index::laws::indexes_break_one_by_one();
 }
 
 /// Every state that is reached is sound, if the documents that commands bring, and those that are loaded, are: its documents,

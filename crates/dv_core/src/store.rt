@@ -22,8 +22,8 @@ use std::alloc::Global;
 use std::marker::Model;
 
 /// All that commands read and change: collections, and views, each of which keeps at every moment the rows of its pipeline
-/// over documents of collections and rows of older views, or, where memory was wanting for them, none. And the cursors of all
-/// sessions, with the rows that they have still to tell.
+/// over documents of collections and rows of older views, or, where it is stale, none. And the cursors of all sessions,
+/// with the rows that they have still to tell.
 #[derive(Debug, Drop)]
 pub struct Store {
     alloc: Global,

@@ -1,11 +1,11 @@
 -- What stands in memory for kinds, places and rules of fields.
 use Rattle.std.specs.Prelude.{ℕ, List}
 use Rattle.dv_fields.specs.Kinds as kinds
-use Rattle.dv_fields.specs.declared.fields.Kind as code
-use Rattle.dv_fields.specs.declared.fields.Kind.TheVariants.{Anything, Text, Boolean, Document, Documents, Array, Integer, Integers, Natural, HowMany, Update as AnUpdate, OnlyFalse, EmptyDocument, Single, Cursor}
-use Rattle.dv_fields.specs.declared.fields.Place as places
-use Rattle.dv_fields.specs.declared.fields.Place.TheVariants.{Command, Entry}
-use Rattle.dv_fields.specs.declared.fields.Rule.{Rule}
+use Rattle.dv_fields.specs.declared.rules.Kind as code
+use Rattle.dv_fields.specs.declared.rules.Kind.TheVariants.{Anything, Text, Boolean, Document, Documents, Array, Integer, Integers, Natural, HowMany, Update as AnUpdate, OnlyFalse, EmptyDocument, Single, Cursor}
+use Rattle.dv_fields.specs.declared.rules.Place as places
+use Rattle.dv_fields.specs.declared.rules.Place.TheVariants.{Command, Entry}
+use Rattle.dv_fields.specs.declared.rules.Rule.{Rule}
 
 abbrev pub kind_seen : code.Kind → kinds.Kind
 kind_seen Anything = kinds.anything

@@ -5,7 +5,9 @@ mod documents;
 pub mod fields;
 pub mod namespaces;
 mod refusal;
+pub mod rules;
+pub mod values;
 
 pub use documents::Documents;
-pub use fields::{Kind, Place, Rule};
 pub use refusal::Refusal;
+pub use rules::{Kind, Place, Rule};

@@ -1,5 +1,5 @@
--- A collection with its indexes, as users see it: documents in the order of their `_id`s, and the names and paths of the
--- indexes in the order in which they were made. That an index has the keys of its documents is no part of it: it can't be
+-- A collection with its indexes, as users see it: documents in the order of their `_id`s, and the indexes in the order in
+-- which they were made: their names and paths, and whether they are unique. That an index has the keys of its documents is no part of it: it can't be
 -- seen from outside but by what a find costs.
 use Rattle.std.specs.Prelude.{ℕ, Bool, not, ◌&&◌, List, [], ◌∷◌, map, Option, None, Some, slice_get, refl}
 use Rattle.std.specs.List.{filter}

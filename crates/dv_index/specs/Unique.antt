@@ -1,6 +1,6 @@
 -- Unique indexes (MongoDB manual, "Unique Indexes"): no key of such an index stands in two documents. The keys of a document are those of
--- its leaves, a whole array being one as well as its elements; that Missing counts as null there, so that one document alone may lack the
--- path, is the manual's too ("Unique Index and Missing Field").
+-- its leaves. That Missing counts as null there, so that one document alone may lack the path, is the manual's too ("Unique Index and
+-- Missing Field"); that a whole array is a key beside its elements is this server's own.
 use Rattle.std.specs.Prelude.{ℕ, ◌&&◌, ◌||◌, not, Bool, true, false, List, [], ◌∷◌}
 use Rattle.std.specs.List.{list_any}
 use Rattle.dv_bson.specs.Tree.{Field}

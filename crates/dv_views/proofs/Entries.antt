@@ -65,10 +65,10 @@ module _ {Y : Type 0} where
       others-apart (f ∷ fs) h = (h.0, others-apart fs h.1)
 
   -- none of the views has the name
-  abbrev AreOthers : List ℕ → Entries Y → Type 0
+  abbrev pub AreOthers : List ℕ → Entries Y → Type 0
   AreOthers name es = AllByRecursion (λ v. has_name name v ≡ false) (views es)
 
-  others : (name n : List ℕ) (es : Entries Y) → bytes_eq name n ≡ true → AllByRecursion (λ m. bytes_eq n m ≡ false) (map (λ v. v.name) (views es)) → AreOthers name es
+  pub others : (name n : List ℕ) (es : Entries Y) → bytes_eq name n ≡ true → AllByRecursion (λ m. bytes_eq n m ≡ false) (map (λ v. v.name) (views es)) → AreOthers name es
   others name n [] same h = tt
   others name n (e ∷ es) same h = (ap (λ m. bytes_eq m (string_bytes e.0)) ((bytes_eq-Decides name n).0 same) ∙ h.0, others name n es same h.1)
 

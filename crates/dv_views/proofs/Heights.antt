@@ -1,210 +1,175 @@
 -- How high views stand, and what they need, from one to the next.
-use Rattle.std.proofs.Common.{◌≡◌, ◌≤◌, ◌<◌, ◌+◌, ◌-◌, ℕ, zero, suc, Bool, true, false, List, [], ◌∷◌, ◌++◌, ◌||◌, map, take, drop, fold, length, Option, Some, None, cond, slice_get, slice_index_or, refl, ap, sym, subst, ◌∙◌, arith, get_or}
+use Rattle.std.proofs.Common.{◌≡◌, ◌≤◌, ◌<◌, ◌+◌, ◌-◌, ℕ, zero, suc, Bool, true, false, List, [], ◌∷◌, ◌++◌, ◌||◌, map, drop, fold, length, Option, Some, None, slice_get, refl, ap, sym, subst, ◌∙◌, arith, get_or}
 use Rattle.std.specs.Prelude.{◌&&◌, max, nat_lt}
 use Rattle.std.specs.Bool.{if◌then◌else◌}
-use Rattle.std.specs.List.{AllByRecursion, IsDistinct, list_any}
+use Rattle.std.specs.List.{list_any}
 use Rattle.std.specs.Map.{values_of}
-use Rattle.std.specs.Option.{option_map}
 use Rattle.std.specs.Str.{bytes_eq}
 use Rattle.std.specs.String.{string_bytes}
 use Rattle.std.specs.declared.string.String.{String}
 use Rattle.std.proofs.lemmas.Bool.{le-ltb, lt-ltb}
-use Rattle.std.proofs.lemmas.List.{take_all}
+use Rattle.std.proofs.lemmas.List.{length-map, map-append}
+use Rattle.std.proofs.lemmas.List.Sums.{fold-append}
 use Rattle.std.proofs.lemmas.Slice.Eq.{bytes_eq-Decides}
+use Rattle.indexmap.specs.IndexMap.{set_value_at}
 use Rattle.dv_pipe.specs.Stages.{is_read}
 use Rattle.dv_pipe.specs.declared.stage.Stage.{Stage}
 use Rattle.dv_views.specs.declared.fault.ViewFault.{ViewFault}
 use Rattle.dv_views.specs.declared.fault.ViewFault.TheVariants.{Exists, LimitReached, ReadByView}
 use Rattle.dv_views.specs.Body.{Body}
-use Rattle.dv_views.specs.Forms.{AreFounded, IsClosed, ViewForm, fault_of_new, height_over, heights, is_among, is_read_by, most_height, most_views, names_read, needed}
-use Rattle.dv_views.specs.Older.{Entries, height_of_name, is_called, place_of, views}
-use Rattle.dv_views.specs.Placed.{lookups_of}
-use Rattle.dv_views.specs.Seen.{seen}
-use Rattle.dv_views.specs.Views.{AreNamedApart, Views, form_of, has_view, reads_name}
+use Rattle.dv_views.specs.Forms.{AreFounded, IsClosed, ViewForm, fault_of_new, height_over, heights, is_among, is_read_by, most_height, most_views, names_read, needed, with_height}
+use Rattle.dv_views.specs.Older.{Entries, views}
+use Rattle.dv_views.specs.Seen.{HaveHeights, seen}
+use Rattle.dv_views.specs.Views.{Views, form_of, has_view, reads_name}
 use Rattle.dv_views.proofs.Needed.{closed}
-use Rattle.dv_views.proofs.Right.{either-way}
+use Rattle.dv_views.proofs.Right.{either-way, itself, neither, or-left, or-right, read_among}
 
--- ---- the heights of views, one after the other
+-- ---- the highest of names
 
-abbrev pub with_height : ViewForm → (List ℕ → ℕ) → List ℕ → ℕ
-with_height v below name = if bytes_eq name v.name then height_over below v.stages v.source else below name
+module _ (high : List ℕ → ℕ) where
+  highest-first : (first : ℕ) (names : List (List ℕ)) → first ≤ fold (λ so_far name. max so_far (high name)) first names
+  highest-first first [] = omega arith
+  highest-first first (name ∷ names) = let rest = highest-first (max first (high name)) names in omega (arith, rest)
 
-abbrev pub rising : (List ℕ → ℕ) → List ViewForm → List ℕ
-rising below [] = []
-rising below (v ∷ vs) = height_over below v.stages v.source ∷ rising (with_height v below) vs
+  highest-among : (first : ℕ) (names : List (List ℕ)) (name : List ℕ) → is_among name names ≡ true → high name ≤ fold (λ so_far name. max so_far (high name)) first names
+  highest-among first [] name among = absurd cc
+  highest-among first (n ∷ names) name among = by (bytes_eq name n) refl among (highest-among (max first (high n)) names name)
+    where
+      highest : ℕ
+      highest = fold (λ so_far name. max so_far (high name)) (max first (high n)) names
 
-abbrev pub no_height : List ℕ → ℕ
-no_height name = 0
+      by : (b : Bool) → bytes_eq name n ≡ b → b || is_among name names ≡ true → (is_among name names ≡ true → high name ≤ highest) → high name ≤ highest
+      by true is among rest =
+          let more : max first (high n) ≤ highest = highest-first (max first (high n)) names in
+          subst (λ (m : List ℕ). high m ≤ highest) (sym ((bytes_eq-Decides name n).0 is)) (omega (arith, more))
+      by false is among rest = rest among
+
+  highest-low : (n first : ℕ) (names : List (List ℕ)) → ((name : List ℕ) → is_among name names ≡ true → high name ≤ n) → first ≤ n → fold (λ so_far name. max so_far (high name)) first names ≤ n
+  highest-low n first [] low h = h
+  highest-low n first (m ∷ names) low h =
+      let here : high m ≤ n = low m (or-left (bytes_eq m m) (is_among m names) (itself m)) in
+      highest-low n (max first (high m)) names (λ name among. low name (or-right (bytes_eq name m) (is_among name names) among)) (omega (arith, here, h))
+
+-- ---- the highest of views that are read
+
+module _ {Y : Type 0} (stages : List Stage) (source : List ℕ) where
+  abbrev pub highest_read : ℕ → Entries Y → ℕ
+  highest_read first es = fold (λ so_far e. if is_read stages source (string_bytes e.0) then max so_far e.1.height else so_far) first es
+
+  read-first : (first : ℕ) (es : Entries Y) → first ≤ highest_read first es
+  read-first first [] = omega arith
+  read-first first (e ∷ es) = by (is_read stages source (string_bytes e.0)) (λ n. read-first n es)
+    where
+      by : (b : Bool) → ((n : ℕ) → n ≤ highest_read n es) → first ≤ highest_read (if b then max first e.1.height else first) es
+      by true rest = let more = rest (max first e.1.height) in omega (arith, more)
+      by false rest = rest first
+
+  module _ (high : List ℕ → ℕ) where
+    read-low : (n first : ℕ) (es : Entries Y) → HaveHeights high es → ((name : List ℕ) → is_read stages source name ≡ true → high name ≤ n) → first ≤ n → highest_read first es ≤ n
+    read-low n first [] kept low h = h
+    read-low n first (e ∷ es) kept low h = by (is_read stages source (string_bytes e.0)) refl (λ m. read-low n m es kept.1 low)
+      where
+        by : (b : Bool) → is_read stages source (string_bytes e.0) ≡ b → ((m : ℕ) → m ≤ n → highest_read m es ≤ n) → highest_read (if b then max first e.1.height else first) es ≤ n
+        by true is rest = let here : e.1.height ≤ n = subst (λ (m : ℕ). m ≤ n) (sym kept.0) (low (string_bytes e.0) is) in rest (max first e.1.height) (omega (arith, here, h))
+        by false is rest = rest first h
+
+    read-named : (first : ℕ) (es : Entries Y) (name : List ℕ) → HaveHeights high es → is_read stages source name ≡ true → has_view name (views es) ≡ true → high name ≤ highest_read first es
+    read-named first [] name kept read there = absurd cc
+    read-named first (e ∷ es) name kept read there = by (bytes_eq name (string_bytes e.0)) refl there (λ n. read-named n es name kept.1 read)
+      where
+        by : (b : Bool) → bytes_eq name (string_bytes e.0) ≡ b → b || has_view name (views es) ≡ true → ((n : ℕ) → has_view name (views es) ≡ true → high name ≤ highest_read n es) → high name ≤ highest_read first (e ∷ es)
+        by true is there rest =
+            let same : name ≡ string_bytes e.0 = (bytes_eq-Decides name (string_bytes e.0)).0 is in
+            let here : high name ≡ e.1.height = ap high same ∙ sym kept.0 in
+            let more : max first e.1.height ≤ highest_read (max first e.1.height) es = read-first (max first e.1.height) es in
+            subst (λ (b : Bool). high name ≤ highest_read (if b then max first e.1.height else first) es) (sym (ap (is_read stages source) (sym same) ∙ read)) (omega (arith, here, more))
+        by false is there rest = rest _ there
+
+    -- names that are read and no view's add nothing
+    pub highest_is : (es : Entries Y) → HaveHeights high es → ((name : List ℕ) → has_view name (views es) ≡ false → high name ≡ 0) → highest_read 0 es ≡ fold (λ so_far name. max so_far (high name)) 0 (names_read stages source)
+    highest_is es kept none =
+        let below : highest_read 0 es ≤ highest = read-low highest 0 es kept (λ name read. highest-among high 0 (names_read stages source) name (sym (read_among stages source name) ∙ read)) (omega arith) in
+        let above : highest ≤ highest_read 0 es = highest-low high (highest_read 0 es) 0 (names_read stages source) (λ name among. by name (has_view name (views es)) refl (read_among stages source name ∙ among)) (omega arith) in
+        omega (arith, below, above)
+      where
+        highest : ℕ
+        highest = fold (λ so_far name. max so_far (high name)) 0 (names_read stages source)
+
+        by : (name : List ℕ) (b : Bool) → has_view name (views es) ≡ b → is_read stages source name ≡ true → high name ≤ highest_read 0 es
+        by name true is read = read-named 0 es name kept read is
+        by name false is read = let here : high name ≡ 0 = none name is in omega (arith, here)
+
+-- ---- the heights of views
+
+-- what is no view's name is as high as before
+height-elsewhere : (name : List ℕ) (below : List ℕ → ℕ) (vs : Views) → has_view name vs ≡ false → fold (λ below v. with_height v below) below (map form_of vs) name ≡ below name
+height-elsewhere name below [] away = refl
+height-elsewhere name below (v ∷ vs) away =
+    let both = neither (bytes_eq name v.name) (has_view name vs) away in
+    height-elsewhere name (with_height (form_of v) below) vs both.1 ∙ ap (λ (b : Bool). if b then height_over below v.stages v.source else below name) both.0
+
+-- each is at most their number
+height-low : (n : ℕ) (below : List ℕ → ℕ) (vs : List ViewForm) → ((name : List ℕ) → below name ≤ n) → (name : List ℕ) → fold (λ below v. with_height v below) below vs name ≤ n + length vs
+height-low n below [] low name = let here : below name ≤ n = low name in omega (arith, here)
+height-low n below (v ∷ vs) low name =
+    let rest : fold (λ below v. with_height v below) (with_height v below) vs name ≤ suc n + length vs = height-low (suc n) (with_height v below) vs (λ other. by other (bytes_eq other v.name)) name in
+    omega (arith, rest)
+  where
+    here : fold (λ so_far name. max so_far (below name)) 0 (names_read v.stages v.source) ≤ n
+    here = highest-low below n 0 (names_read v.stages v.source) (λ other _. low other) (omega arith)
+
+    by : (other : List ℕ) (b : Bool) → (if b then height_over below v.stages v.source else below other) ≤ suc n
+    by other true = omega (arith, here)
+    by other false = let l : below other ≤ n = low other in omega (arith, l)
+
+-- ---- the heights that entries keep
 
 abbrev pub forms_of : {Y : Type 0} → Entries Y → List ViewForm
 forms_of es = map form_of (views es)
 
-length-rising : (below : List ℕ → ℕ) (vs : List ViewForm) → length (rising below vs) ≡ length vs
-length-rising below [] = refl
-length-rising below (v ∷ vs) = ap suc (length-rising (with_height v below) vs)
-
--- ---- each is at most their number
-
-fold-low : (f : List ℕ → ℕ) (n high : ℕ) (names : List (List ℕ)) → ((name : List ℕ) → f name ≤ n) → high ≤ n → fold (λ high name. max high (f name)) high names ≤ n
-fold-low f n high [] low h = h
-fold-low f n high (name ∷ names) low h = fold-low f n (max high (f name)) names low (let l : f name ≤ n = low name in omega arith)
-
-rising-low : (below : List ℕ → ℕ) (n end : ℕ) (vs : List ViewForm) → ((name : List ℕ) → below name ≤ n) → n + length vs ≡ end → AllByRecursion (λ height. height ≤ end) (rising below vs)
-rising-low below n end [] low is = tt
-rising-low below n end (v ∷ vs) low is =
-    let here : fold (λ high name. max high (below name)) 0 (names_read v.stages v.source) ≤ n = fold-low below n 0 (names_read v.stages v.source) low (omega arith) in
-    (omega arith, rising-low (with_height v below) (suc n) end vs (λ name. by name (bytes_eq name v.name) here) (omega arith))
-  where
-    by : (name : List ℕ) (b : Bool) → fold (λ high name. max high (below name)) 0 (names_read v.stages v.source) ≤ n → (if b then height_over below v.stages v.source else below name) ≤ suc n
-    by name true here = omega arith
-    by name false here = let l : below name ≤ n = low name in omega arith
-
--- the heights of the first views are at most how many these are
-pub low : (hs : List ℕ) (vs : List ViewForm) → hs ≡ rising no_height vs → AllByRecursion (λ height. height ≤ length hs) hs
-low hs vs is =
-    subst (λ (xs : List ℕ). AllByRecursion (λ height. height ≤ length xs) xs) (sym is)
-    (rising-low no_height 0 (length (rising no_height vs)) vs (λ name. omega arith) (let l : length (rising no_height vs) ≡ length vs = length-rising no_height vs in omega arith))
-
--- ---- the height of a name
-
 module _ {Y : Type 0} where
-  name-low : (n : ℕ) (es : Entries Y) (hs : List ℕ) (name : List ℕ) → AllByRecursion (λ height. height ≤ n) hs → height_of_name es hs name ≤ n
-  name-low n [] hs name all = omega arith
-  name-low n (e ∷ es) [] name all = omega arith
-  name-low n (e ∷ es) (h ∷ hs) name all = by (bytes_eq name (string_bytes e.0)) all.0 (name-low n es hs name all.1)
+  pub heights_written : (high : List ℕ → ℕ) (n : ℕ) (es : Entries Y) (old new : Body) → slice_get (values_of es) n ≡ Some old → new.height ≡ old.height → HaveHeights high es → HaveHeights high (set_value_at es n new)
+  heights_written high n [] old new there same kept = tt
+  heights_written high zero (e ∷ es) old new there same kept = let was : e.1 ≡ old = cc in (same ∙ ap (λ (b : Body). b.height) (sym was) ∙ kept.0, kept.1)
+  heights_written high (suc n) (e ∷ es) old new there same kept = (kept.0, heights_written high n es old new there same kept.1)
+
+  heights-under : (high : List ℕ → ℕ) (v : ViewForm) (es : Entries Y) → has_view v.name (views es) ≡ false → HaveHeights high es → HaveHeights (with_height v high) es
+  heights-under high v [] away kept = tt
+  heights-under high v (e ∷ es) away kept =
+      let both = neither (bytes_eq v.name (string_bytes e.0)) (has_view v.name (views es)) away in (
+        kept.0 ∙ ap (λ (b : Bool). if b then height_over high v.stages v.source else high (string_bytes e.0)) (sym (either-way (string_bytes e.0) v.name ∙ both.0)),
+        heights-under high v es both.1 kept.1,
+      )
+
+  heights-last : (high : List ℕ → ℕ) (es : Entries Y) (e : String Y × Body) → HaveHeights high es → e.1.height ≡ high (string_bytes e.0) → HaveHeights high (es ++ e ∷ [])
+  heights-last high [] e kept own = (own, tt)
+  heights-last high (f ∷ es) e kept own = (kept.0, heights-last high es e kept.1 own)
+
+  -- one more behind the others
+  pub heights_added : (es : Entries Y) (e : String Y × Body) → has_view (string_bytes e.0) (views es) ≡ false → e.1.height ≡ height_over (heights (forms_of es)) e.1.stages e.1.source → HaveHeights (heights (forms_of es)) es
+      → HaveHeights (heights (forms_of (es ++ e ∷ []))) (es ++ e ∷ [])
+  heights_added es e new own kept =
+      let v = form_of (seen e) in
+      subst (λ (high : List ℕ → ℕ). HaveHeights high (es ++ e ∷ [])) (sym (ap heights (ap (map form_of) (map-append seen es (e ∷ [])) ∙ map-append form_of (views es) (seen e ∷ [])) ∙ fold-append (λ below v. with_height v below) (λ name. 0) (forms_of es) (v ∷ [])))
+      (heights-last (with_height v (heights (forms_of es))) es e (heights-under (heights (forms_of es)) v es new kept)
+      (own ∙ ap (λ (b : Bool). if b then height_over (heights (forms_of es)) v.stages v.source else heights (forms_of es) v.name) (sym (itself v.name))))
+
+  -- a pipeline stands one higher than the highest view that it reads, and no higher than their number and one
+  pub highest_found : (es : Entries Y) (before : Views) (stages : List Stage) (source : List ℕ) → views es ≡ before → HaveHeights (heights (forms_of es)) es
+      → suc (highest_read stages source 0 es) ≡ height_over (heights (map form_of before)) stages source
+  highest_found es before stages source over kept =
+      ap suc (highest_is stages source (heights (forms_of es)) es kept (λ name away. height-elsewhere name (λ name. 0) (views es) away))
+      ∙ ap (λ (vs : Views). height_over (heights (map form_of vs)) stages source) over
+
+  pub highest_few : (es : Entries Y) (stages : List Stage) (source : List ℕ) → HaveHeights (heights (forms_of es)) es → highest_read stages source 0 es ≤ length es
+  highest_few es stages source kept =
+      read-low stages source (heights (forms_of es)) (length es) 0 es kept (λ name read. low name) (omega arith)
     where
-      by : (b : Bool) → h ≤ n → height_of_name es hs name ≤ n → (if b then h else height_of_name es hs name) ≤ n
-      by true here rest = here
-      by false here rest = rest
-
-  -- the highest of some names is at most the bound
-  pub highest_low : (n : ℕ) (es : Entries Y) (hs : List ℕ) (names : List (List ℕ)) → AllByRecursion (λ height. height ≤ n) hs → fold (λ high name. max high (height_of_name es hs name)) 0 names ≤ n
-  highest_low n es hs names all = fold-low (height_of_name es hs) n 0 names (λ name. name-low n es hs name all) (omega arith)
-
-  module _ (name : List ℕ) where
-    pub no_height_there : (es : Entries Y) (hs : List ℕ) → place_of name (take (length hs) es) ≡ None → 0 ≡ height_of_name es hs name
-    no_height_there [] hs none = refl
-    no_height_there (e ∷ es) [] none = refl
-    no_height_there (e ∷ es) (h ∷ hs) none = by (is_called name e.0) (place_of name (take (length hs) es)) none (no_height_there es hs)
-      where
-        by : (b : Bool) (p : Option ℕ) → cond b (Some 0) (option_map suc p) ≡ None → (p ≡ None → 0 ≡ height_of_name es hs name) → 0 ≡ cond b h (height_of_name es hs name)
-        by true p none rest = absurd cc
-        by false None none rest = rest refl
-        by false (Some i) none rest = absurd cc
-
-    pub height_there : (es : Entries Y) (hs : List ℕ) (i d : ℕ) → place_of name (take (length hs) es) ≡ Some i → slice_index_or hs i d ≡ height_of_name es hs name
-    height_there [] [] i d is = absurd cc
-    height_there [] (h ∷ hs) i d is = absurd cc
-    height_there (e ∷ es) [] i d is = absurd cc
-    height_there (e ∷ es) (h ∷ hs) i d is = by (is_called name e.0) i (place_of name (take (length hs) es)) is (λ j. height_there es hs j d)
-      where
-        by : (b : Bool) (i : ℕ) (p : Option ℕ) → cond b (Some 0) (option_map suc p) ≡ Some i → ((j : ℕ) → p ≡ Some j → slice_index_or hs j d ≡ height_of_name es hs name) → slice_index_or (h ∷ hs) i d ≡ cond b h (height_of_name es hs name)
-        by true zero p is rest = refl
-        by true (suc i) p is rest = absurd cc
-        by false i None is rest = absurd cc
-        by false zero (Some j) is rest = absurd cc
-        by false (suc i) (Some j) is rest = let at : j ≡ i = cc in rest i (ap Some at)
-
-    pub height_within : (es : Entries Y) (hs : List ℕ) (i : ℕ) → place_of name (take (length hs) es) ≡ Some i → i < length hs
-    height_within [] [] i is = absurd cc
-    height_within [] (h ∷ hs) i is = absurd cc
-    height_within (e ∷ es) [] i is = absurd cc
-    height_within (e ∷ es) (h ∷ hs) i is = by (is_called name e.0) i (place_of name (take (length hs) es)) is (λ j. height_within es hs j)
-      where
-        by : (b : Bool) (i : ℕ) (p : Option ℕ) → cond b (Some 0) (option_map suc p) ≡ Some i → ((j : ℕ) → p ≡ Some j → j < length hs) → i < suc (length hs)
-        by true zero p is rest = omega arith
-        by true (suc i) p is rest = absurd cc
-        by false i None is rest = absurd cc
-        by false zero (Some j) is rest = omega arith
-        by false (suc i) (Some j) is rest = let at : j ≡ i = cc in let h : i < length hs = rest i (ap Some at) in omega arith
-
-    -- ---- the heights of the first views are those under their names
-
-    -- the height of a name, and another number where it isn't among the views
-    abbrev height-or : ℕ → Entries Y → List ℕ → ℕ
-    height-or d [] hs = d
-    height-or d (e ∷ es) [] = d
-    height-or d (e ∷ es) (h ∷ hs) = if bytes_eq name (string_bytes e.0) then h else height-or d es hs
-
-    or-none : (es : Entries Y) (hs : List ℕ) → height-or 0 es hs ≡ height_of_name es hs name
-    or-none [] hs = refl
-    or-none (e ∷ es) [] = refl
-    or-none (e ∷ es) (h ∷ hs) = ap (λ (n : ℕ). if bytes_eq name (string_bytes e.0) then h else n) (or-none es hs)
-
-    or-away : (d : ℕ) (es : Entries Y) (hs : List ℕ) → AllByRecursion (λ v. bytes_eq name v.name ≡ false) (views es) → height-or d es hs ≡ d
-    or-away d [] hs away = refl
-    or-away d (e ∷ es) [] away = refl
-    or-away d (e ∷ es) (h ∷ hs) away = ap (λ (b : Bool). if b then h else height-or d es hs) away.0 ∙ or-away d es hs away.1
-
-    all-away : (n : List ℕ) (es : Entries Y) → name ≡ n → AllByRecursion (λ m. bytes_eq n m ≡ false) (map (λ v. v.name) (views es)) → AllByRecursion (λ v. bytes_eq name v.name ≡ false) (views es)
-    all-away n [] is away = tt
-    all-away n (e ∷ es) is away = (ap (λ m. bytes_eq m (string_bytes e.0)) is ∙ away.0, all-away n es is away.1)
-
-    first-heights : (below : List ℕ → ℕ) (n : ℕ) (es : Entries Y) → AreNamedApart (views es)
-        → height-or (below name) es (rising below (take n (forms_of es))) ≡ fold (λ below v. with_height v below) below (take n (forms_of es)) name
-    unfolding IsDistinct
-    first-heights below zero [] apart = refl
-    first-heights below zero (e ∷ es) apart = refl
-    first-heights below (suc n) [] apart = refl
-    first-heights below (suc n) (e ∷ es) apart =
-        by (bytes_eq name (string_bytes e.0)) refl (first-heights (with_height (form_of (seen e)) below) n es apart.1)
-      where
-        high : ℕ
-        high = height_over below e.1.stages e.1.source
-
-        hs : List ℕ
-        hs = rising (with_height (form_of (seen e)) below) (take n (forms_of es))
-
-        by : (b : Bool) → bytes_eq name (string_bytes e.0) ≡ b
-            → height-or (if b then high else below name) es hs ≡ fold (λ below v. with_height v below) (with_height (form_of (seen e)) below) (take n (forms_of es)) name
-            → (if b then high else height-or (below name) es hs) ≡ fold (λ below v. with_height v below) (with_height (form_of (seen e)) below) (take n (forms_of es)) name
-        by true is rest = sym (or-away high es hs (all-away (string_bytes e.0) es ((bytes_eq-Decides name (string_bytes e.0)).0 is) apart.0)) ∙ rest
-        by false is rest = rest
-
-    name-height : (n : ℕ) (es : Entries Y) → AreNamedApart (views es) → height_of_name es (rising no_height (take n (forms_of es))) name ≡ heights (take n (forms_of es)) name
-    name-height n es apart = sym (or-none es (rising no_height (take n (forms_of es)))) ∙ first-heights no_height n es apart
-
-  -- what stands over the first views is as high as their heights say
-  pub height_met : (n : ℕ) (es : Entries Y) (hs : List ℕ) (stages : List Stage) (source : List ℕ) → AreNamedApart (views es) → hs ≡ rising no_height (take n (forms_of es))
-      → suc (fold (λ high name. max high (height_of_name es hs name)) 0 (names_read stages source)) ≡ height_over (heights (take n (forms_of es))) stages source
-  height_met n es hs stages source apart is =
-      ap (λ (xs : List ℕ). height_over (height_of_name es xs) stages source) is ∙ ap (λ (f : List ℕ → ℕ). height_over f stages source) (λ i name. name-height name n es apart i)
-
-  rising-more : (below : List ℕ → ℕ) (n : ℕ) (es : Entries Y) (b : Body) → slice_get (values_of es) n ≡ Some b
-      → rising below (take n (forms_of es)) ++ height_over (fold (λ below v. with_height v below) below (take n (forms_of es))) b.stages b.source ∷ [] ≡ rising below (take (suc n) (forms_of es))
-  rising-more below n [] b there = absurd cc
-  rising-more below zero (e ∷ es) b there = let is : e.1 ≡ b = cc in ap (λ (w : Body). height_over below w.stages w.source ∷ []) (sym is)
-  rising-more below (suc n) (e ∷ es) b there = ap (λ (hs : List ℕ). height_over below e.1.stages e.1.source ∷ hs) (rising-more (with_height (form_of (seen e)) below) n es b there)
-
-  module _ (n : ℕ) (es : Entries Y) (before : Views) (hs : List ℕ) (over : views es ≡ before) (apart : AreNamedApart (views es)) (first : hs ≡ rising no_height (take n (map form_of before))) where
-    first-seen : hs ≡ rising no_height (take n (forms_of es))
-    first-seen = first ∙ ap (λ (vs : Views). rising no_height (take n (map form_of vs))) (sym over)
-
-    high-read : (stages : List Stage) (source from : List ℕ) (lookups : List (List ℕ)) (high : ℕ) → from ≡ source → lookups ≡ lookups_of stages source
-        → high ≡ suc (fold (λ high name. max high (height_of_name es hs name)) 0 (from ∷ lookups)) → high ≡ height_over (heights (take n (forms_of es))) stages source
-    high-read stages source from lookups high s l is = is ∙ (λ i. suc (fold (λ high name. max high (height_of_name es hs name)) 0 (s i ∷ l i))) ∙ height_met n es hs stages source apart first-seen
-
-    -- one more
-    pub height_pushed : (b : Body) (from : List ℕ) (lookups : List (List ℕ)) (high : ℕ) → slice_get (values_of es) n ≡ Some b → from ≡ b.source → lookups ≡ lookups_of b.stages b.source
-        → high ≡ suc (fold (λ high name. max high (height_of_name es hs name)) 0 (from ∷ lookups)) → hs ++ high ∷ [] ≡ rising no_height (take (n + 1) (map form_of before))
-    height_pushed b from lookups high there s l is =
-        let more : suc n ≡ n + 1 = omega arith in
-        (λ i. first-seen i ++ high-read b.stages b.source from lookups high s l is i ∷ [])
-        ∙ rising-more no_height n es b there
-        ∙ (λ i. rising no_height (take (more i) (map form_of (over i))))
-
-    length-forms : (fs : Entries Y) → length (forms_of fs) ≡ length fs
-    length-forms [] = refl
-    length-forms (f ∷ fs) = ap suc (length-forms fs)
-
-    -- behind all of them
-    pub height_found : (stages : List Stage) (source : List ℕ) (lookups : List (List ℕ)) (high : ℕ) → length es ≤ n → lookups ≡ lookups_of stages source
-        → high ≡ suc (fold (λ high name. max high (height_of_name es hs name)) 0 (source ∷ lookups)) → high ≡ height_over (heights (map form_of before)) stages source
-    height_found stages source lookups high stop l is =
-        let all : length (forms_of es) ≤ n = (let e : length (forms_of es) ≡ length es = length-forms es in omega arith) in
-        high-read stages source source lookups high refl l is
-        ∙ ap (λ (vs : List ViewForm). height_over (heights vs) stages source) (take_all n (forms_of es) all)
-        ∙ ap (λ (vs : Views). height_over (heights (map form_of vs)) stages source) over
+      low : (name : List ℕ) → heights (forms_of es) name ≤ length es
+      low name =
+          let most : heights (forms_of es) name ≤ 0 + length (forms_of es) = height-low 0 (λ name. 0) (forms_of es) (λ name. omega arith) name in
+          let many = length-map (views es) form_of ∙ length-map es seen in
+          omega (arith, most, many)
 
   -- ---- what is needed, from the youngest view on
 
@@ -257,17 +222,13 @@ read-forms : (name : List ℕ) (vs : Views) → is_read_by (map form_of vs) name
 read-forms name [] = refl
 read-forms name (v ∷ vs) = ap (λ (b : Bool). is_read v.stages v.source name || b) (read-forms name vs)
 
-count-forms : (vs : Views) → length (map form_of vs) ≡ length vs
-count-forms [] = refl
-count-forms (v ∷ vs) = ap suc (count-forms vs)
-
 module _ (vs : Views) (name source : List ℕ) (stages : List Stage) where
   is-told : (called read few near : Bool) → has_view name vs ≡ called → (reads_name vs name || is_read stages source name) ≡ read → nat_lt (length vs) most_views ≡ few → nat_lt (height_over (heights (map form_of vs)) stages source) (suc most_height) ≡ near
       → told called read few near ≡ fault_of_new (map form_of vs) name source stages
   is-told called read few near c r f n =
       let called-is : list_any (λ v. bytes_eq name v.name) (map form_of vs) ≡ called = called-forms name vs ∙ c in
       let read-is : (is_read_by (map form_of vs) name || is_read stages source name) ≡ read = ap (λ (b : Bool). b || is_read stages source name) (read-forms name vs) ∙ r in
-      let few-is : nat_lt (length (map form_of vs)) most_views ≡ few = ap (λ (k : ℕ). nat_lt k most_views) (count-forms vs) ∙ f in
+      let few-is : nat_lt (length (map form_of vs)) most_views ≡ few = ap (λ (k : ℕ). nat_lt k most_views) (length-map vs form_of) ∙ f in
       sym (λ i. told (called-is i) (read-is i) (few-is i) (n i))
 
   pub called_before : has_view name vs ≡ true → Some Exists ≡ fault_of_new (map form_of vs) name source stages

@@ -177,11 +177,11 @@ module _ (w : View) where
   Replaces zero (v ∷ vs) = (form_of w ≡ form_of v) × (is_stale v.mark ≡ true)
   Replaces (suc n) (v ∷ vs) = Replaces n vs
 
-  pub right_set : (n : ℕ) (places : Places) (lists : Lists) (vs : Views) → Replaces n vs → AreRightOver places lists vs → IsRight (places_over (map form_of (take n vs)) places) (rows_over (map form_of (take n vs)) lists) w
-      → AreRightOver places lists (set_view n w vs)
-  right_set n places lists [] in_place right own = absurd in_place
-  right_set zero places lists (v ∷ vs) in_place right own = (own, subst (λ (f : ViewForm). AreRightOver (with_places f places) (with_rows f lists) vs) (sym in_place.0) right.1)
-  right_set (suc n) places lists (v ∷ vs) in_place right own = (right.0, right_set n (with_places (form_of v) places) (with_rows (form_of v) lists) vs in_place right.1 own)
+  pub right_set : (n : ℕ) (below : Places) (lists : Lists) (vs : Views) → Replaces n vs → AreRightOver below lists vs → IsRight (places_over (map form_of (take n vs)) below) (rows_over (map form_of (take n vs)) lists) w
+      → AreRightOver below lists (set_view n w vs)
+  right_set n below lists [] in_place right own = absurd in_place
+  right_set zero below lists (v ∷ vs) in_place right own = (own, subst (λ (f : ViewForm). AreRightOver (with_places f below) (with_rows f lists) vs) (sym in_place.0) right.1)
+  right_set (suc n) below lists (v ∷ vs) in_place right own = (right.0, right_set n (with_places (form_of v) below) (with_rows (form_of v) lists) vs in_place right.1 own)
 
   pub over_set : (n : ℕ) (distances : List ℕ → ℕ) (vs : Views) → Replaces n vs → AreOverLive distances vs → ((name : List ℕ) → reads w name ≡ true → fold (λ below v. with_distance v below) distances (take n vs) name ≤ distance w.mark)
       → AreOverLive distances (set_view n w vs)

@@ -197,6 +197,7 @@ module _ {Y : Type 0} where
         live = λ reached. absurd (cc (sym away ∙ reached));
       });
       well = λ well. subst (λ (b : Body). IsWellKept b.stages b.mark) (sym is) well;
+      height = ap (λ (b : Body). b.height) is;
     }
 
     pub made_stale : is_reached old.stages old.source come ≡ true → new ≡ record old { mark = stale; told = Some [] } → IsTakenAt namespace changes n es left
@@ -213,6 +214,7 @@ module _ {Y : Type 0} where
         live = λ _ fresh. absurd cc;
       });
       well = λ _. subst (λ (b : Body). IsWellKept b.stages b.mark) (sym is) tt;
+      height = ap (λ (b : Body). b.height) is;
     }
 
     module _ (before after : Live Turner) (told : List Change) (apart : AreNamedApart (views es)) (turns : Turns old.stages (arrivals old.stages old.source come) before [] after told)
@@ -240,6 +242,7 @@ module _ {Y : Type 0} where
               distance_at other (views_before n es) (apart-take n es apart) ∙ nearest (view_named other (views_before n es)) (each_among (λ m. IsLiveView (view_named m (views_before n es))) (names_read old.stages old.source) other lives among);
         });
         well = λ _. subst (λ (b : Body). IsWellKept b.stages b.mark) (sym is) (rows_are_made old.stages after turns.sound, turns.sound.positioned);
+        height = ap (λ (b : Body). b.height) is;
       }
 
   -- the view that is read at a place is the one that was written there

@@ -1,5 +1,5 @@
 -- Views that are made anew in their place, and views that come behind the others.
-use Rattle.std.proofs.Common.{◌≡◌, ◌<◌, ◌+◌, arith, ◌&&◌, ◌||◌, inl, inr, ℕ, zero, suc, Bool, true, false, List, [], ◌∷◌, ◌++◌, map, take, length, Option, Some, None, Result, Ok, Err, IsErrAnd, OnErr, slice_get, refl, ap, sym, subst, ◌∙◌}
+use Rattle.std.proofs.Common.{◌≡◌, ◌<◌, ◌+◌, arith, ◌&&◌, ◌||◌, inl, inr, ℕ, zero, suc, Bool, true, false, List, [], ◌∷◌, ◌++◌, map, take, length, Option, Some, None, Result, Ok, Err, OnErr, slice_get, refl, ap, sym, subst, ◌∙◌}
 use Rattle.std.specs.List.{AllByRecursion, IsDistinct, list_any}
 use Rattle.std.specs.Bool.{if◌then◌else◌}
 use Rattle.std.specs.Str.{bytes_eq}
@@ -12,7 +12,7 @@ use Rattle.std.specs.String.{string_bytes}
 use Rattle.std.specs.Map.{values_of}
 use Rattle.indexmap.specs.IndexMap.{set_value_at}
 use Rattle.dv_views.specs.declared.fault.ViewFault.{ViewFault}
-use Rattle.dv_views.specs.declared.fault.ViewFault.TheVariants.{Exists, LimitReached, NoMemory, ReadByView}
+use Rattle.dv_views.specs.declared.fault.ViewFault.TheVariants.{Exists, LimitReached, ReadByView}
 use Rattle.dv_views.specs.Body.{Body}
 use Rattle.dv_views.specs.Older.{Entries, views, views_before}
 use Rattle.dv_views.specs.Forms.{AreFounded, IsClosed, ViewForm, fault_of_new, height_over, heights, is_among, is_read_by, most_height, most_views, names_read, with_places, with_rows}
@@ -247,7 +247,7 @@ module _ {Y : Type 0} where
   same_there zero (e ∷ es) k b x there is = let same : e ≡ (k, b) = cc in let here : e.1 ≡ x = cc in sym here ∙ ap (λ (f : String Y × Body). f.1) same
   same_there (suc n) (e ∷ es) k b x there is = same_there n es k b x there is
 
-  pub views_kept : (n : ℕ) (es : Entries Y) (k : String Y) (b x new : Body) (mark : Mark) → slice_get es n ≡ Some (k, b) → x ≡ b → new ≡ record { source = x.source; stages = x.stages; mark = mark; told = x.told }
+  pub views_kept : (n : ℕ) (es : Entries Y) (k : String Y) (b x new : Body) (mark : Mark) → slice_get es n ≡ Some (k, b) → x ≡ b → new ≡ record x { mark = mark }
       → views (set_value_at es n new) ≡ set_view n (keeping (named (string_bytes k) b) mark) (views es)
   views_kept n es k b x new mark there same is =
       views_set n es k b new there ∙ ap (λ (v : View). set_view n v (views es)) (ap (named (string_bytes k)) is ∙ ap (λ (y : Body). keeping (named (string_bytes k) y) mark) same)
@@ -311,16 +311,10 @@ module _ (vs : Views) (name source : List ℕ) (stages : List Stage) (mark : Mar
     pub right_added : FromScratch → UnreadDoesNotMatter → (others : Lists) → AreAlike (names_read stages source) lists others → AreRight others vs → AreRight others (vs ++ new_view ∷ [])
     right_added scratch unread others alike right = right_last vs new_view sound lists built fresh scratch unread others alike right
 
--- a refusal with the fault, and one for want of memory
+-- a refusal
 module _ (T : Type 0) where
   pub refused_with : (fault : Option ViewFault) (f : ViewFault) → fault ≡ Some f → IsRefusedFor {T = T} fault (Err f)
-  refused_with None f is = absurd cc
-  refused_with (Some g) f is = let same : g ≡ f = cc in inl (ap Err (sym same))
-
-  pub refused_for_memory : (fault : Option ViewFault) (r : Result T ViewFault) → IsErrAnd r (λ f. f ≡ NoMemory) → IsRefusedFor {T = T} fault r
-  refused_for_memory fault (Ok done) is = absurd is
-  refused_for_memory None (Err f) is = is
-  refused_for_memory (Some g) (Err f) is = inr (ap Err is)
+  refused_with fault f is = subst (λ (o : Option ViewFault). IsRefusedFor {T = T} o (Err f)) (sym is) refl
 
   pub where_refused : (P : Type 0) (r : Result T ViewFault) → P → OnErr r P
   where_refused P (Ok done) holds = tt

@@ -62,8 +62,8 @@ coded_change = code_by (PosTree × Option Row) (coded× positions.the_row.coded 
 
 abbrev pub coded_body : Coded Body
 coded_body =
-    code_by (List ℕ × (List Stage × (Mark × Option (List Change)))) (coded× coded_name (coded× pipelines.the_row.coded (coded× coded_mark (coded_option (coded_list coded_change))))) (λ b. (b.source, (b.stages, (b.mark, b.told))))
-    (λ p. record { source = p.0; stages = p.1.0; mark = p.1.1.0; told = p.1.1.1 }) (λ _. refl)
+    code_by (List ℕ × (List Stage × (ℕ × (Mark × Option (List Change))))) (coded× coded_name (coded× pipelines.the_row.coded (coded× coded_ℕ (coded× coded_mark (coded_option (coded_list coded_change))))))
+    (λ b. (b.source, (b.stages, (b.height, (b.mark, b.told))))) (λ p. record { source = p.0; stages = p.1.0; height = p.1.1.0; mark = p.1.1.1.0; told = p.1.1.1.1 }) (λ _. refl)
 
 abbrev pub coded_view : Coded View
 coded_view = code_by (List ℕ × (List ℕ × (List Stage × Mark))) (coded× coded_name (coded× coded_name (coded× pipelines.the_row.coded coded_mark))) (λ v. (v.name, (v.source, (v.stages, v.mark)))) (λ p. record { name = p.0; source = p.1.0; stages = p.1.1.0; mark = p.1.1.1 }) (λ _. refl)

@@ -4,8 +4,8 @@ use Rattle.dv_change.specs.Raised.{raised}
 use Rattle.dv_views.specs.Flow.{Share}
 use Rattle.dv_views.specs.Views.{View, Views, form_of, is_stale, ticks_in}
 
--- a view that isn't stale behind changes has counted its share of work and no other; a stale one stays so, and one to which they don't
--- come is as it was
+-- a view that isn't stale behind changes has counted its share of work and no other; a stale one stays so, and one that they don't reach
+-- is as it was
 pub record IsCounted (share : Share) (before after : View) : Type 0 where
   pub form : form_of after ≡ form_of before
   pub unread : share.reached ≡ false → after ≡ before

@@ -43,7 +43,7 @@ arriving_at_lists i (name ∷ names) told = arriving (Named i) (told name) ++ ar
 abbrev pub arrivals : List Stage → List ℕ → Told → List Arrival
 arrivals stages source told = arriving Left (told source) ++ arriving_at_lists 0 (lookups_of stages source) told
 
--- whether the change comes there
+-- whether the change reaches the stages: it comes to what they read, be it that nothing changes there
 abbrev pub is_reached : List Stage → List ℕ → Told → Bool
 is_reached stages source told = list_any (λ name. is_some (told name)) (names_read stages source)
 

@@ -69,9 +69,12 @@ is_read_by views name = list_any (λ v. is_read v.stages v.source name) views
 abbrev pub height_over : (List ℕ → ℕ) → List Stage → List ℕ → ℕ
 height_over heights stages source = suc (fold (λ high name. max high (heights name)) 0 (names_read stages source))
 
+abbrev pub with_height : ViewForm → (List ℕ → ℕ) → List ℕ → ℕ
+with_height v below name = if bytes_eq name v.name then height_over below v.stages v.source else below name
+
 -- the height of what stands under each name: 0 where that is no view
 abbrev pub heights : List ViewForm → List ℕ → ℕ
-heights views = fold (λ below v name. if bytes_eq name v.name then height_over below v.stages v.source else below name) (λ name. 0) views
+heights views = fold (λ below v. with_height v below) (λ name. 0) views
 
 -- ---- a new view
 

@@ -7,7 +7,7 @@ use Rattle.dv_views.specs.MarkView.{IsSoundMark, mark_seen}
 use Rattle.dv_views.specs.Placed.{lookups_of}
 
 abbrev pub body_seen : Inside → Body
-body_seen v = record { source = v.source; stages = v.pipeline; mark = mark_seen v.mark; told = option_map (λ all. all.items) v.told }
+body_seen v = record { source = v.source; stages = v.pipeline; height = v.height; mark = mark_seen v.mark; told = option_map (λ all. all.items) v.told }
 
 -- its lists are those that its stages look into, and what it keeps is kept by these stages
 pub record IsSoundView (v : Inside) : Type 0 where

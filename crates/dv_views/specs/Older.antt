@@ -50,9 +50,3 @@ told_else (Some told) other = told
 -- what is told under a name to the view at a place, as it is looked up
 abbrev pub told_found : {Y : Type 0} → List ℕ → List Change → ℕ → Entries Y → Told
 told_found namespace changes place es name = told_else (told_named name (take place es)) (told_at namespace changes name)
-
--- the height of the view of a name, where the first views are so high; 0 where it isn't among them
-abbrev pub height_of_name : {Y : Type 0} → Entries Y → List ℕ → List ℕ → ℕ
-height_of_name [] heights name = 0
-height_of_name (e ∷ es) [] name = 0
-height_of_name (e ∷ es) (height ∷ heights) name = if bytes_eq name (string_bytes e.0) then height else height_of_name es heights name

@@ -16,3 +16,4 @@ pub record IsTakenAt {Y : Type 0} (namespace : List ℕ) (changes : List Change)
   pub left : after ≡ set_value_at before place new
   pub taken : (name : List ℕ) → IsTakenBy (told_before namespace changes place before) (distances_of (views_before place before)) (named name old) (record { view = named name new; told = new.told })
   pub well : IsWellKept old.stages old.mark → IsWellKept new.stages new.mark
+  pub height : new.height ≡ old.height

@@ -7,7 +7,7 @@ use Rattle.dv_change.specs.Changes.{IsPositioned}
 use Rattle.dv_pipe.specs.declared.stage.Stage.{Stage}
 use Rattle.dv_views.specs.Body.{Body}
 use Rattle.dv_views.specs.Turned.{Telling, rows_made}
-use Rattle.dv_views.specs.Forms.{AreFounded}
+use Rattle.dv_views.specs.Forms.{AreFounded, heights}
 use Rattle.dv_views.specs.Views.{AreNamedApart, AreOverLive, Mark, View, Views, anew, form_of, live, no_distance, stale}
 
 -- the view of an entry
@@ -32,3 +32,12 @@ pub record IsSoundRegistry (views : Views) : Type 0 where
   pub kept : AllByRecursion (λ v. IsWellKept v.stages v.mark) views
   pub live : AreOverLive no_distance views
   pub founded : AreFounded (map form_of views)
+
+-- each entry keeps the height of what stands under its name
+abbrev pub HaveHeights : {Y : Type 0} → (List ℕ → ℕ) → List (String Y × Body) → Type 0
+HaveHeights high es = AllByRecursion (λ e. e.1.height ≡ high (string_bytes e.0)) es
+
+-- entries of such views, each with its height
+pub record AreSoundEntries {Y : Type 0} (es : List (String Y × Body)) : Type 0 where
+  pub views : IsSoundRegistry (map seen es)
+  pub heights : HaveHeights (heights (map form_of (map seen es))) es

@@ -27,8 +27,8 @@ pub record Kept : Type 0 where
   pub rows : List Row
   pub ticks : ℕ
 
--- a view is live; or it has its rows, made anew, until what it reads changes, and has counted nothing; or it has nothing, where memory
--- was wanting
+-- a view is live: its rows are kept by changes; or it has its rows, made anew, until what it reads changes, and has counted nothing; or it
+-- is stale and has nothing, where memory was wanting, or a `$push` held too many rows
 pub data Mark : Type 0 where
   live : Kept → Mark
   anew : List Row → Mark
@@ -137,8 +137,8 @@ distance stale = 2
 abbrev pub with_distance : View → (List ℕ → ℕ) → List ℕ → ℕ
 with_distance v distances name = if bytes_eq name v.name then distance v.mark else distances name
 
--- what views are read by each is no farther from being live than itself: so a live view reads live ones alone, and one that isn't stale
--- reads none that is; what is no view is at 0
+-- what each view reads is no farther from being live than itself: so a live view reads live ones alone, and one that isn't stale reads none
+-- that is; what is no view is at 0
 abbrev pub AreOverLive : (List ℕ → ℕ) → Views → Type 0
 AreOverLive distances [] = ⊤
 AreOverLive distances (v ∷ views) = ((name : List ℕ) → reads v name ≡ true → distances name ≤ distance v.mark) × AreOverLive (with_distance v distances) views
@@ -150,9 +150,9 @@ no_distance name = 0
 abbrev pub distances_of : Views → List ℕ → ℕ
 distances_of views = fold (λ below v. with_distance v below) no_distance views
 
--- refused with the fault, where there is one, or since memory is wanting
+-- refused with the fault, where there is one, and else at most since memory is wanting
 abbrev pub IsRefusedFor : {T : Type 0} → Option ViewFault → Result T ViewFault → Type 0
-IsRefusedFor (Some fault) result = (result ≡ Err fault) ⊎ (result ≡ Err NoMemory)
+IsRefusedFor (Some fault) result = result ≡ Err fault
 IsRefusedFor None result = IfErr result (λ fault. fault ≡ NoMemory)
 
 -- ---- views made anew

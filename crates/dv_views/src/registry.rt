@@ -1,6 +1,6 @@
 //! The views by their names.
 
-ghost use Rattle.std.specs.Prelude.{◌≡◌, ◌≢◌, ◌||◌, ◌<◌, ◌≤◌, ◌++◌, ◌∷◌, [], suc, false, true, fold, length, map, max, slice_get, take, None, IfOk, OnOk, OnErr};
+ghost use Rattle.std.specs.Prelude.{◌≡◌, ◌≢◌, ◌||◌, ◌<◌, ◌++◌, [], false, true, length, map, slice_get, take, None, IfOk, OnOk, OnErr};
 ghost use Rattle.std.specs.List.{AllByRecursion, list_any};
 ghost use Rattle.std.specs.Option.{option_copied, option_map};
 ghost use Rattle.dv_pipe.specs.Sources.{lists_of};
@@ -11,7 +11,6 @@ ghost use Rattle.dv_views.specs.Flow.{shares, told_at};
 ghost use Rattle.dv_views.specs.Forms as forms;
 ghost use Rattle.dv_views.specs.Forms.{is_among, names_read};
 ghost use Rattle.dv_views.specs.Made.{AreAlike, IsAdded, IsCreated, IsNoStale, IsRefreshedAt};
-ghost use Rattle.dv_views.specs.Older.{height_of_name};
 ghost use Rattle.dv_views.specs.Seen.{IsSoundRegistry, named};
 ghost use Rattle.dv_views.specs.Turned.{HaveTaken};
 ghost use Rattle.dv_views.specs.Views.{AreInOrder, AreNamedApart, ArePartlyRefreshed, AreRefreshed, AreRight, IsRefusedFor, form_of, has_view, is_stale, reads_name, rows_in, rows_shown, state_of, ticks_in, view_named, without};
@@ -20,7 +19,6 @@ use crate::fault::ViewFault;
 use crate::laws;
 use crate::lookups::{lookups_of, names_read};
 use crate::making::{Ground, mark_over};
-use crate::older::place_before;
 use crate::passing::take_at;
 use crate::rows::Rows;
 use crate::state::ViewState;
@@ -55,11 +53,11 @@ impl Model for Registry {
 
     ghost coded = { coded_views };
 
-    ghost use Rattle.dv_views.specs.Seen.{IsSoundRegistry, seen};
+    ghost use Rattle.dv_views.specs.Seen.{AreSoundEntries, seen};
 
     ghost view = { λ r. map seen r.views.entries };
 
-    ghost invariant = { λ r. IsSoundRegistry (map seen r.views.entries) };
+    ghost invariant = { λ r. AreSoundEntries r.views.entries };
 }
 
 impl Registry {
@@ -183,32 +181,26 @@ impl Registry {
         Ok(needed)
     }
 
-    /// Why there can be no such view, if there is a reason other than memory: the first that holds. Fails where memory is
-    /// wanting.
-    fn fault_of_new(
-        &self,
-        name: &str,
-        source: &str,
-        pipeline: &Pipeline,
-    ) -> Result<Option<ViewFault>, NoMemory>
-        ensures { IfOk result (λ fault. fault ≡ forms.fault_of_new (map form_of self.now) name.now source.now pipeline.now) }
+    /// Why there can be no such view, if there is a reason other than memory: the first that holds. Takes no memory.
+    fn fault_of_new(&self, name: &str, source: &str, pipeline: &Pipeline) -> Option<ViewFault>
+        ensures { result ≡ forms.fault_of_new (map form_of self.now) name.now source.now pipeline.now }
     {
         if self.has(name) {
-            return Ok(Some(ViewFault::Exists));
+            return Some(ViewFault::Exists);
         }
         if self.is_read(name) || pipeline.reads(source, name) {
-            return Ok(Some(ViewFault::ReadByView));
+            return Some(ViewFault::ReadByView);
         }
-        if self.len() < MOST_VIEWS && self.height_over(source, pipeline)? <= MOST_HEIGHT {
-            return Ok(None);
+        if self.len() < MOST_VIEWS && self.height_over(source, pipeline) <= MOST_HEIGHT {
+            return None;
         }
-        Ok(Some(ViewFault::LimitReached))
+        Some(ViewFault::LimitReached)
     }
 
     /// Adds a view behind the others, with the rows that its pipeline gives over what stands under the names that it reads:
     /// views, of which the stale ones that are needed are made anew first, and `sources`. Refused with the first fault that
-    /// holds of `Exists`, `ReadByView` and `LimitReached`; then nothing is changed. Refused with `NoMemory` where memory is
-    /// wanting, in place of these too; then views that were made anew before stay so. The pipeline is dropped.
+    /// holds of `Exists`, `ReadByView` and `LimitReached`, which takes no memory; then nothing is changed. Where none holds,
+    /// refused with `NoMemory` if memory is wanting; then views that were made anew before stay so. The pipeline is dropped.
     pub fn create(
         &mut self,
         name: &str,
@@ -223,7 +215,7 @@ impl Registry {
         ensures err { OnErr result (ArePartlyRefreshed (forms.needed (map form_of self.old) (names_read pipeline source.now)) self.old self.new) }
         ensures right { (lists : Lists) → AreAlike (forms.needed (map form_of self.old) (names_read pipeline source.now)) (lists_of sources.now) lists → AreRight lists self.old → AreRight lists self.new }
     {
-        if let Some(fault) = self.fault_of_new(name, source, &pipeline)? {
+        if let Some(fault) = self.fault_of_new(name, source, &pipeline) {
             return Err(fault);
         }
         let names = names_read(self.alloc, source, &pipeline)?;
@@ -251,6 +243,7 @@ impl Registry {
     {
         laws::kept_rows_are_those_from_scratch();
         dv_pipe::laws::what_is_not_read_does_not_matter();
+        let height = self.height_over(source, &pipeline);
         let lookups = lookups_of(self.alloc, source, &pipeline)?;
         let ground = Ground {
             views: &self.views,
@@ -259,7 +252,7 @@ impl Registry {
         };
         let mark = mark_over(self.alloc, &ground, &pipeline, source, &lookups)?;
         let source = Str::of(String::from_str(self.alloc, source)?);
-        let view = View::new(source, pipeline, lookups, mark);
+        let view = View::new(source, pipeline, lookups, height, mark);
         let name = String::from_str(self.alloc, name)?;
         self.views.insert(name, view)?;
         Ok(())
@@ -371,45 +364,18 @@ impl Registry {
         Ok(())
     }
 
-    /// How high a view of the pipeline over `source` would stand. Fails where memory is wanting.
-    fn height_over(&self, source: &str, pipeline: &Pipeline) -> Result<usize, NoMemory>
-        ensures { IfOk result (λ height. height ≡ forms.height_over (forms.heights (map form_of self.now)) pipeline.now source.now) }
+    /// How high a view of the pipeline over `source` would stand: one more than the highest view that it reads. Takes no
+    /// memory.
+    fn height_over(&self, source: &str, pipeline: &Pipeline) -> usize
+        ensures { result ≡ forms.height_over (forms.heights (map form_of self.now)) pipeline.now source.now }
     {
-        let mut heights = Vec::with_capacity(self.alloc, self.views.len())?;
-        'views: for place in 0..self.views.len() {
-            let view = &self.views[place];
-            let height = height_at(&self.views, &heights, view.source(), view.lookups());
-            heights.push(height)?;
+        let mut highest = 0;
+        'views: for (name, view) in &self.views {
+            if pipeline.reads(source, name.as_str()) {
+                highest = highest.max(view.height());
+            }
         }
-        let lookups = lookups_of(self.alloc, source, pipeline)?;
-        Ok(height_at(&self.views, &heights, source, &lookups))
-    }
-}
-
-/// One more than the highest of these names, where the first views are so high, and others aren't there.
-fn height_at(
-    views: &IndexMap<String, View>,
-    heights: &[usize],
-    source: &str,
-    lookups: &[Str],
-) -> usize
-    requires { AllByRecursion (λ height. height ≤ length heights.now) heights.now }
-    ensures { result ≡ suc (fold (λ high name. max high (height_of_name views.now.entries heights.now name)) 0 (source.now ∷ lookups.now)) }
-{
-    let mut highest = height_of(views, heights, source);
-    'lists: for name in lookups {
-        highest = highest.max(height_of(views, heights, name.as_str()));
-    }
-    highest + 1
-}
-
-/// How high the view of a name stands, where it is among the first, which are so high; 0 where it isn't.
-fn height_of(views: &IndexMap<String, View>, heights: &[usize], name: &str) -> usize
-    ensures { result ≡ height_of_name views.now.entries heights.now name.now }
-{
-    match place_before(views, heights.len(), name) {
-        Some(place) => heights[place],
-        None => 0,
+        highest + 1
     }
 }
 

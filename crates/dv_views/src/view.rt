@@ -25,6 +25,8 @@ pub(crate) struct View {
     pipeline: Pipeline,
     /// The namespaces that its stages look into, in their order.
     lookups: Vec<Str>,
+    /// How high it stands: one higher than the highest view that it reads.
+    height: usize,
     mark: Mark,
     /// Its own changes, where the change comes to it.
     told: Option<Vec<Change>>,
@@ -67,16 +69,23 @@ impl Model for View {
 }
 
 impl View {
-    /// A view that keeps this.
-    pub(crate) fn new(source: Str, pipeline: Pipeline, lookups: Vec<Str>, mark: Mark) -> Self
+    /// A view at this height that keeps this.
+    pub(crate) fn new(
+        source: Str,
+        pipeline: Pipeline,
+        lookups: Vec<Str>,
+        height: usize,
+        mark: Mark,
+    ) -> Self
         requires lookups { lookups.items ≡ defined.lookups_of pipeline source }
         requires sound { IsSoundMark pipeline mark }
-        ensures { result ≡ record { source = source; stages = pipeline; mark = mark_seen mark; told = None } }
+        ensures { result ≡ record { source = source; stages = pipeline; height = height; mark = mark_seen mark; told = None } }
     {
         View {
             source,
             pipeline,
             lookups,
+            height,
             mark,
             told: None,
         }
@@ -101,6 +110,13 @@ impl View {
         ensures { result.now ≡ defined.lookups_of self.now.stages self.now.source }
     {
         self.lookups.as_slice()
+    }
+
+    /// How high it stands: one higher than the highest view that it reads.
+    pub(crate) fn height(&self) -> usize
+        ensures { result ≡ self.now.height }
+    {
+        self.height
     }
 
     /// Whether the view reads the namespace.

@@ -39,12 +39,13 @@ impl Read for Dropping<'_> {
     }
 }
 
-// Takes one byte at a call, and fails at this one.
+// Takes one byte at a call, and fails at this one; or takes none at any.
 #[derive(Drop)]
 pub(super) struct Narrow {
     pub(super) taken: Vec<u8>,
     calls: usize,
     failing: usize,
+    is_full: bool,
 }
 
 impl Narrow {
@@ -54,6 +55,17 @@ impl Narrow {
             taken: Vec::new(alloc),
             calls: 0,
             failing,
+            is_full: false,
+        }
+    }
+
+    // Takes no byte.
+    pub(super) fn full(alloc: Global) -> Self {
+        Narrow {
+            taken: Vec::new(alloc),
+            calls: 0,
+            failing: 0,
+            is_full: true,
         }
     }
 
@@ -69,13 +81,13 @@ impl Write for Narrow {
             return Err(io::Error::from(ErrorKind::Other));
         }
         match buf.first() {
-            Some(byte) => {
+            Some(byte) if !self.is_full => {
                 self.taken
                     .push(*byte)
                     .map_err(|_| io::Error::from(ErrorKind::OutOfMemory))?;
                 Ok(1)
             }
-            None => Ok(0),
+            _ => Ok(0),
         }
     }
 

@@ -3,7 +3,7 @@
 use super::fakes::{Dropping, Narrow};
 use dv_program::serve::{Listener, Port, ServeFault, serve_on};
 use dv_program::streams::{CountedReader, CountedWriter};
-use dv_wire::{Failed, Hub, Store, run};
+use dv_wire::{Failed, Fed, Hub, SessionId, Store, run};
 use std::alloc::Global;
 use std::io::{Read, Write};
 use std::net::{Shutdown, TcpListener, TcpStream};
@@ -16,6 +16,23 @@ const PING: &[u8] =
 const PONG: &[u8] =
     b"\x22\0\0\0\0\0\0\0\x07\0\0\0\xdd\x07\0\0\0\0\0\0\0\x0d\0\0\0\x10ok\0\x01\0\0\0\0";
 
+/// What a session of the hub over these bytes comes to, one at a read, of which this one fails.
+fn told(
+    alloc: Global,
+    hub: &mut Hub,
+    bytes: &[u8],
+    read: usize,
+    narrow: &mut Narrow,
+) -> Result<String, Fail> {
+    let mut reader = CountedReader::of(Dropping::failing(bytes, read));
+    match run(alloc, hub, &mut reader, &mut CountedWriter::of(narrow)) {
+        Ok(done) => {
+            Ok(format!(in alloc; "{} {} {}", done.messages, done.replies, done.unfinished)?)
+        }
+        Err(fault) => Ok(format!(in alloc; "{fault:?}")?),
+    }
+}
+
 /// What a session over these bytes comes to, one at a read and one at a write, of which these calls fail, and what the writer
 /// took.
 fn session(
@@ -25,18 +42,8 @@ fn session(
     write: usize,
 ) -> Result<(String, Vec<u8>), Fail> {
     let mut hub = Hub::new(alloc, Store::new(alloc));
-    let mut reader = CountedReader::of(Dropping::failing(bytes, read));
     let mut narrow = Narrow::failing(alloc, write);
-    let done = run(
-        alloc,
-        &mut hub,
-        &mut reader,
-        &mut CountedWriter::of(&mut narrow),
-    );
-    let told = match done {
-        Ok(done) => format!(in alloc; "{} {} {}", done.messages, done.replies, done.unfinished)?,
-        Err(fault) => format!(in alloc; "{fault:?}")?,
-    };
+    let told = told(alloc, &mut hub, bytes, read, &mut narrow)?;
     Ok((told, narrow.taken))
 }
 
@@ -59,8 +66,10 @@ fn has_sessions(rt: HostRuntime) -> Result<(), Fail> {
 fn tells_failures_of_sessions(rt: HostRuntime) -> Result<(), Fail> {
     // One read for each of the 47 bytes, and one that tells the end; one write for each of the 34 bytes.
     for failing in 1..=48 {
-        let (told, _) = session(rt.alloc(), PING, failing, 0)?;
+        let (told, taken) = session(rt.alloc(), PING, failing, 0)?;
+        let answered = if failing == 48 { PONG } else { b"" };
         assert_eq!(rt; told.as_str(), "Read");
+        assert_eq!(rt; taken.as_slice(), answered);
     }
     for failing in 1..=34usize {
         let (told, taken) = session(rt.alloc(), PING, 0, failing)?;
@@ -155,6 +164,36 @@ const FIND: &[u8] =
 
 const FOUND: &[u8] =
     b"i\0\0\0\0\0\0\0\x02\0\0\0\xdd\x07\0\0\0\0\0\0\0T\0\0\0\x03cursor\0?\0\0\0\x04firstBatch\0\x16\0\0\0\x030\0\x0e\0\0\0\x10_id\0\x01\0\0\0\0\0\x12id\0\0\0\0\0\0\0\0\0\x02ns\0\x04\0\0\0t.c\0\0\x10ok\0\x01\0\0\0\0";
+
+/// What another session finds behind an insert whose reply this writer doesn't take, and what the session itself takes then.
+fn found_behind(alloc: Global, narrow: &mut Narrow) -> Result<(Vec<u8>, Fed), Fail> {
+    let mut hub = Hub::new(alloc, Store::new(alloc));
+    let told = told(alloc, &mut hub, INSERT, 0, narrow)?;
+    if told.as_str() != "Write" {
+        return Err(Fail::from("a write fault"));
+    }
+    let mut found = Vec::new(alloc);
+    let fed = hub.feed(SessionId { number: 0 }, FIND, &mut found);
+    let other = hub.open()?;
+    hub.feed(other, FIND, &mut found);
+    Ok((found, fed))
+}
+
+#[test]
+fn what_is_not_told_is_done(rt: HostRuntime) -> Result<(), Fail> {
+    let alloc = rt.alloc();
+    let rows = [
+        (Narrow::failing(alloc, 11), &INSERTED[..10]),
+        (Narrow::full(alloc), b""),
+    ];
+    for (mut narrow, taken) in rows {
+        let (found, fed) = found_behind(alloc, &mut narrow)?;
+        assert_eq!(rt; narrow.taken.as_slice(), taken);
+        assert_eq!(rt; found.as_slice(), FOUND);
+        assert_eq!(rt; fed, Fed::Unknown);
+    }
+    Ok(())
+}
 
 #[test]
 fn serves_the_loopback(rt: HostRuntime) -> Result<(), Fail> {

@@ -38,4 +38,4 @@ returns-in-Ok c =
     turned_at c.args.namespace.now c.args.changes.now c.args.place c.args.views.now.entries c.requires.apart c.index_mut-2.result.now c.index_mut-2.ensures.value c.take_out.new.self c.put_back.new.self c.in-Some.live c.in-Ok.live c.in-Ok.told.items
     c.pipeline.result.now c.source.result.now (sym c.if-not-is_reached.false ∙ c.is_reached.ensures c.index_mut-2.result.now c.index_mut-2.ensures.value) c.take_out.ensures.left
     (c.pipeline.ensures ∙ ap (λ (b : Body). b.stages) view_is) (c.source.ensures ∙ ap (λ (b : Body). b.source) view_is) c.in-Some.ensures.kept c.in-Ok.ensures.turns c.in-Ok.ensures.live
-    (c.put_back.ensures ∙ ap (λ (b : Body). record { source = b.source; stages = b.stages; mark = live (kept_seen c.in-Ok.live); told = Some c.in-Ok.told.items }) back)
+    (c.put_back.ensures ∙ ap (λ (b : Body). record b { mark = live (kept_seen c.in-Ok.live); told = Some c.in-Ok.told.items }) back)

@@ -5,23 +5,17 @@ use Rattle.dv_views.specs.Forms.{ViewForm, fault_of_new, is_read_by, names_read,
 use Rattle.dv_views.specs.Made.{AreAlike}
 use Rattle.dv_views.specs.Views.{AreRefreshed, AreRight, form_of}
 use Rattle.dv_views.proofs.Needed.{asked_needed}
-use Rattle.dv_views.proofs.Refreshing.{alike_reads, fresh_reads, no_fault, none_refreshed, ordered_reads, refused_for_memory, refused_with, same_called, same_forms, where_refused}
+use Rattle.dv_views.proofs.Refreshing.{alike_reads, fresh_reads, no_fault, none_refreshed, ordered_reads, refused_with, same_called, same_forms, where_refused}
 use Rattle.dv_views.proofs.registry.Registry.create.Goals as goal
 
-pub returns-in_err-fault-clause-fault : goal.returns-in_err-fault-clause-fault
-returns-in_err-fault-clause-fault c = refused_for_memory (Unit {0}) (fault_of_new (map form_of c.args.self.now) c.args.name.now c.args.source.now c.args.pipeline) c.from_residual.result c.from_residual.ensures.1
-
-pub returns-in_err-fault-clause-err : goal.returns-in_err-fault-clause-err
-returns-in_err-fault-clause-err c = where_refused (Unit {0}) _ c.from_residual.result (none_refreshed (needed (map form_of c.args.self.now) (names_read c.args.pipeline c.args.source.now)) c.args.self.now)
-
 pub returns-in-Some-clause-fault : goal.returns-in-Some-clause-fault
-returns-in-Some-clause-fault c = refused_with (Unit {0}) (fault_of_new (map form_of c.args.self.now) c.args.name.now c.args.source.now c.args.pipeline) c.in-Some.fault (sym c.in_ok-fault.ensures ∙ c.in-Some.is)
+returns-in-Some-clause-fault c = refused_with (Unit {0}) (fault_of_new (map form_of c.args.self.now) c.args.name.now c.args.source.now c.args.pipeline) c.in-Some.fault (sym c.fault_of_new.ensures ∙ c.in-Some.is)
 
 pub returns-in-Some-clause-err : goal.returns-in-Some-clause-err
 returns-in-Some-clause-err c = none_refreshed (needed (map form_of c.args.self.now) (names_read c.args.pipeline c.args.source.now)) c.args.self.now
 
 pub returns-in_err-names-clause-err : goal.returns-in_err-names-clause-err
-returns-in_err-names-clause-err c = where_refused (Unit {0}) _ c.from_residual-in_err-names.result (none_refreshed (needed (map form_of c.args.self.now) (names_read c.args.pipeline c.args.source.now)) c.args.self.now)
+returns-in_err-names-clause-err c = where_refused (Unit {0}) _ c.from_residual.result (none_refreshed (needed (map form_of c.args.self.now) (names_read c.args.pipeline c.args.source.now)) c.args.self.now)
 
 pub returns-in_err-needed-clause-err : goal.returns-in_err-needed-clause-err
 returns-in_err-needed-clause-err c = where_refused (Unit {0}) _ c.from_residual-in_err-needed.result (none_refreshed (needed (map form_of c.args.self.now) (names_read c.args.pipeline c.args.source.now)) c.args.self.now)
@@ -32,7 +26,7 @@ add-requires-clause-new c =
     let all = needed (map form_of c.args.self.now) asked in
     let these : c.deref.result.now ≡ all = c.deref.ensures.value ∙ c.in_ok-needed.ensures.needed ∙ ap (needed (map form_of c.args.self.now)) c.in_ok-names.ensures in
     let refreshed = subst (λ (ns : List (List ℕ)). AreRefreshed ns c.args.self.now c.refresh.new.self) these c.in_ok-refresh.ensures.ok in
-    let none : fault_of_new (map form_of c.args.self.now) c.args.name.now c.args.source.now c.args.pipeline ≡ None = sym c.in_ok-fault.ensures ∙ c.in_default.is in
+    let none : fault_of_new (map form_of c.args.self.now) c.args.name.now c.args.source.now c.args.pipeline ≡ None = sym c.fault_of_new.ensures ∙ c.in_default.is in
     same_called c.args.name.now c.args.self.now c.refresh.new.self (same_forms all c.args.self.now c.refresh.new.self refreshed.0) ∙ (no_fault c.args.self.now c.args.name.now c.args.source.now c.args.pipeline none).0
 
 pub add-requires-clause-unread : goal.add-requires-clause-unread
@@ -41,7 +35,7 @@ add-requires-clause-unread c =
     let all = needed (map form_of c.args.self.now) asked in
     let these : c.deref.result.now ≡ all = c.deref.ensures.value ∙ c.in_ok-needed.ensures.needed ∙ ap (needed (map form_of c.args.self.now)) c.in_ok-names.ensures in
     let refreshed = subst (λ (ns : List (List ℕ)). AreRefreshed ns c.args.self.now c.refresh.new.self) these c.in_ok-refresh.ensures.ok in
-    let none : fault_of_new (map form_of c.args.self.now) c.args.name.now c.args.source.now c.args.pipeline ≡ None = sym c.in_ok-fault.ensures ∙ c.in_default.is in
+    let none : fault_of_new (map form_of c.args.self.now) c.args.name.now c.args.source.now c.args.pipeline ≡ None = sym c.fault_of_new.ensures ∙ c.in_default.is in
     subst (λ (fs : List ViewForm). is_read_by fs c.args.name.now || is_read c.args.pipeline c.args.source.now c.args.name.now ≡ false) (sym (same_forms all c.args.self.now c.refresh.new.self refreshed.0))
     (no_fault c.args.self.now c.args.name.now c.args.source.now c.args.pipeline none).1
 

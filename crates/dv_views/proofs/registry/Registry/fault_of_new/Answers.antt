@@ -5,7 +5,7 @@ use Rattle.dv_views.specs.Views.{has_view, reads_name}
 use Rattle.dv_views.proofs.Heights.{called_before, no_fault, read_before, too_high, too_many}
 use Rattle.dv_views.proofs.Right.{or-left, or-right}
 use Rattle.dv_views.proofs.registry.Registry.fault_of_new.Goals as goal
-use Rattle.dv_views.proofs.registry.Registry.fault_of_new.Goals.{then-is_read-via-then-is_read, then-is_read-via-else-is_read+then-reads, else-len-lt-MOST_VIEWS-via-then-len-lt-MOST_VIEWS+in_ok-height_over+else-branch-le-MOST_HEIGHT, else-len-lt-MOST_VIEWS-via-else-len-lt-MOST_VIEWS}
+use Rattle.dv_views.proofs.registry.Registry.fault_of_new.Goals.{then-is_read-via-then-is_read, then-is_read-via-else-is_read+then-reads, else-len-lt-MOST_VIEWS-via-then-len-lt-MOST_VIEWS+else-height_over-le-MOST_HEIGHT, else-len-lt-MOST_VIEWS-via-else-len-lt-MOST_VIEWS}
 
 pub returns-then-has : goal.returns-then-has
 returns-then-has c =
@@ -23,13 +23,13 @@ returns-then-is_read c =
       | then-is_read-via-else-is_read+then-reads w ↦ or-right others own cc
     ])
 
-pub returns-then-branch-le-MOST_HEIGHT : goal.returns-then-branch-le-MOST_HEIGHT
-returns-then-branch-le-MOST_HEIGHT c =
+pub returns-then-height_over-le-MOST_HEIGHT : goal.returns-then-height_over-le-MOST_HEIGHT
+returns-then-height_over-le-MOST_HEIGHT c =
     let new : has_view c.args.name.now c.args.self.now ≡ false = cc in
     let others : reads_name c.args.self.now c.args.name.now ≡ false = cc in
     let own : is_read c.args.pipeline.now c.args.source.now c.args.name.now ≡ false = cc in
     let few : length c.args.self.now < most_views = omega arith in
-    no_fault c.args.self.now c.args.name.now c.args.source.now c.args.pipeline.now new others own c.in_ok-height_over.field-0 few c.in_ok-height_over.ensures c.if-branch-le-MOST_HEIGHT.true
+    no_fault c.args.self.now c.args.name.now c.args.source.now c.args.pipeline.now new others own c.height_over.result few c.height_over.ensures c.if-height_over-le-MOST_HEIGHT.true
 
 pub returns : goal.returns
 returns c =
@@ -37,9 +37,9 @@ returns c =
     let others : reads_name c.args.self.now c.args.name.now ≡ false = cc in
     let own : is_read c.args.pipeline.now c.args.source.now c.args.name.now ≡ false = cc in
     elim c.else-len-lt-MOST_VIEWS.branch [
-      | else-len-lt-MOST_VIEWS-via-then-len-lt-MOST_VIEWS+in_ok-height_over+else-branch-le-MOST_HEIGHT w ↦
+      | else-len-lt-MOST_VIEWS-via-then-len-lt-MOST_VIEWS+else-height_over-le-MOST_HEIGHT w ↦
           let few : length c.args.self.now < most_views = omega arith in
-          too_high c.args.self.now c.args.name.now c.args.source.now c.args.pipeline.now new others own w.in_ok-height_over.field-0 few w.in_ok-height_over.ensures w.if-branch-le-MOST_HEIGHT.false
+          too_high c.args.self.now c.args.name.now c.args.source.now c.args.pipeline.now new others own w.height_over.result few w.height_over.ensures w.if-height_over-le-MOST_HEIGHT.false
       | else-len-lt-MOST_VIEWS-via-else-len-lt-MOST_VIEWS w ↦
           let many : most_views ≤ length c.args.self.now = omega arith in
           too_many c.args.self.now c.args.name.now c.args.source.now c.args.pipeline.now new others own many

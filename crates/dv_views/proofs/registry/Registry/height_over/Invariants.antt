@@ -1,8 +1,7 @@
--- The heights so far are those of the first views.
-use Rattle.std.proofs.Common.{◌≡◌, map, take}
-use Rattle.dv_views.specs.Views.{form_of}
-use Rattle.dv_views.proofs.Heights.{no_height, rising}
+-- The views that are left, behind the highest so far, are as high as all of them.
+use Rattle.std.proofs.Common.{◌≡◌}
+use Rattle.dv_views.proofs.Heights.{highest_read}
 use Rattle.dv_views.proofs.registry.Registry.height_over.Given as goal
 
 abbrev pub invariant-views : goal.invariant-views
-invariant-views l = l.heights.items ≡ rising no_height (take l.place (map form_of l.fn.self))
+invariant-views l = highest_read l.pipeline l.source l.highest l.name-iterator ≡ highest_read l.pipeline l.source 0 l.initial.name-iterator

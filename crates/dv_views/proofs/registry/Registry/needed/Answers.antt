@@ -24,4 +24,4 @@ views-preserved-else-is_listed c =
 pub returns-clause-closed : goal.returns-clause-closed
 returns-clause-closed c =
     needed_closed c.views.place (map form_of c.args.self.now) c.args.names.items c.views.needed.items c.views-test.false c.views.invariant.needed
-    (subst (λ (vs : Views). AreFounded (map form_of vs)) c.self.view_is c.self.invariant.founded)
+    (subst (λ (vs : Views). AreFounded (map form_of vs)) c.self.view_is c.self.invariant.views.founded)

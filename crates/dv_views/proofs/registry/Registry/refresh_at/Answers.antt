@@ -5,15 +5,16 @@ use Rattle.indexmap.specs.IndexMap.{set_value_at}
 use Rattle.dv_pipe.specs.Sources.{lists_of}
 use Rattle.dv_pipe.specs.declared.stage.Stage.{Stage}
 use Rattle.dv_views.specs.Body.{Body}
-use Rattle.dv_views.specs.Forms.{IsClosed, is_among, names_read}
+use Rattle.dv_views.specs.Forms.{IsClosed, ViewForm, heights, is_among, names_read}
 use Rattle.dv_views.specs.Ground.{IsBuilt}
 use Rattle.dv_views.specs.Made.{IsRefreshedAt}
 use Rattle.dv_views.specs.MarkView.{IsSoundMark, mark_seen}
 use Rattle.dv_views.specs.Older.{views, views_before}
-use Rattle.dv_views.specs.Seen.{IsSoundRegistry, named}
+use Rattle.dv_views.specs.Seen.{HaveHeights, IsSoundRegistry, named}
 use Rattle.dv_views.specs.Views.{AreInOrder, AreRight, Views, form_of, is_stale}
+use Rattle.dv_views.proofs.Heights.{heights_written}
 use Rattle.dv_views.proofs.Joining.{fresh_built}
-use Rattle.dv_views.proofs.Refreshing.{left_at, ordered_reads, reads_listed, refreshed_at, right_refreshed, same_there, sound_set, view_there, views_kept, views_take}
+use Rattle.dv_views.proofs.Refreshing.{forms_set, keeping, left_at, ordered_reads, reads_listed, refreshed_at, replaces, right_refreshed, same_there, sound_set, view_there, views_kept, views_take}
 use Rattle.dv_views.proofs.registry.Registry.refresh_at.Goals as goal
 use Rattle.dv_views.proofs.registry.Registry.refresh_at.Goals.{then-not-is_stale-via-then-not-is_stale, then-not-is_stale-via-else-not-is_stale+then-not-is_listed}
 
@@ -66,9 +67,17 @@ invariant_of-self c =
     subst (λ (vs : Views). IsBuilt b.stages b.source vs lists mark) (views_take n es)
     (subst (λ (source : List ℕ). IsBuilt b.stages source (views_before n es) lists mark) c.source.ensures
     (subst (λ (stages : List Stage). IsBuilt stages c.source.result.now (views_before n es) lists mark) c.pipeline.ensures c.in_ok-mark.ensures.built)) in
-    subst (λ (vs : Views). IsSoundRegistry vs) (sym (views_kept n es k b c.index_mut-view.result.now c.keep.new.self mark (sym c.in-Some.ensures.entry) same c.keep.ensures))
-    (sound_set names mark v stale listed n (views es) there c.self.invariant (subst (λ (vs : Views). IsClosed names (map form_of vs)) (sym c.self.view_is) c.requires.closed)
-    (subst (λ (vs : Views). AllByRecursion (λ u. is_among u.name names ≡ true → is_stale u.mark ≡ false) (take n vs)) (sym c.self.view_is) c.requires.fresh) lists built)
+    let kept = views_kept n es k b c.index_mut-view.result.now c.keep.new.self mark (sym c.in-Some.ensures.entry) same c.keep.ensures in
+    let forms : map form_of (views (set_value_at es n c.keep.new.self)) ≡ map form_of (views es) = ap (map form_of) kept ∙ forms_set (keeping v mark) n (views es) (replaces mark v stale n (views es) there) in
+    record {
+      views =
+          subst (λ (vs : Views). IsSoundRegistry vs) (sym kept)
+          (sound_set names mark v stale listed n (views es) there c.self.invariant.views (subst (λ (vs : Views). IsClosed names (map form_of vs)) (sym c.self.view_is) c.requires.closed)
+          (subst (λ (vs : Views). AllByRecursion (λ u. is_among u.name names ≡ true → is_stale u.mark ≡ false) (take n vs)) (sym c.self.view_is) c.requires.fresh) lists built);
+      heights =
+          subst (λ (fs : List ViewForm). HaveHeights (heights fs) (set_value_at es n c.keep.new.self)) (sym forms)
+          (heights_written (heights (map form_of (views es))) n es c.index_mut-view.result.now c.keep.new.self c.index_mut-view.ensures.value (ap (λ (y : Body). y.height) c.keep.ensures) c.self.invariant.heights);
+    }
 
 pub returns-clause-ok : goal.returns-clause-ok
 returns-clause-ok c =
@@ -108,6 +117,6 @@ returns-clause-right c = λ others alike right.
     (subst (λ (source : List ℕ). IsBuilt b.stages source (views_before n es) lists mark) c.source.ensures
     (subst (λ (stages : List Stage). IsBuilt stages c.source.result.now (views_before n es) lists mark) c.pipeline.ensures c.in_ok-mark.ensures.built)) in
     subst (λ (ws : Views). AreRight others ws) (sym (views_kept n es k b c.index_mut-view.result.now c.keep.new.self mark (sym c.in-Some.ensures.entry) same c.keep.ensures))
-    (right_refreshed names mark v stale listed n (views es) there c.self.invariant (subst (λ (vs : Views). IsClosed names (map form_of vs)) (sym c.self.view_is) c.requires.closed)
+    (right_refreshed names mark v stale listed n (views es) there c.self.invariant.views (subst (λ (vs : Views). IsClosed names (map form_of vs)) (sym c.self.view_is) c.requires.closed)
     (subst (λ (vs : Views). AllByRecursion (λ u. is_among u.name names ≡ true → is_stale u.mark ≡ false) (take n vs)) (sym c.self.view_is) c.requires.fresh) lists built
     c.kept_rows_are_those_from_scratch.ensures c.what_is_not_read_does_not_matter.ensures others alike (subst (AreRight others) (sym c.self.view_is) right))

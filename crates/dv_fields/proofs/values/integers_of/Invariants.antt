@@ -3,7 +3,7 @@ use Rattle.std.proofs.Common.{◌≡◌, ◌++◌, Ok, drop, map}
 use Rattle.dv_bson.specs.View.{tree}
 use Rattle.dv_fields.specs.Fields.{integer_in}
 use Rattle.dv_fields.specs.Refusals.{◌>>=◌, each}
-use Rattle.dv_fields.proofs.fields.integers_of.Given as goal
+use Rattle.dv_fields.proofs.values.integers_of.Given as goal
 
 abbrev pub invariant-values : goal.invariant-values
 invariant-values l = each integer_in (map tree l.fn.values) ≡ (each integer_in (map tree (drop l.value-index l.fn.values)) >>= λ behind. Ok (l.integers.items ++ behind))

@@ -2,7 +2,7 @@
 use Rattle.std.proofs.Common.{◌≡◌, drop, map}
 use Rattle.dv_fields.specs.Fields as fields
 use Rattle.dv_fields.specs.View.{place_seen, rule_seen}
-use Rattle.dv_fields.proofs.fields.check_fields.Given as goal
+use Rattle.dv_fields.proofs.rules.check_fields.Given as goal
 
 abbrev pub invariant-fields : goal.invariant-fields
 invariant-fields l =

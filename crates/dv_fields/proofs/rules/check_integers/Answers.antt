@@ -1,6 +1,6 @@
 use Rattle.std.proofs.Common.{sym, ◌∙◌}
 use Rattle.dv_fields.proofs.Among.{integers_all, integers_not_all}
-use Rattle.dv_fields.proofs.fields.check_integers.Goals as goal
+use Rattle.dv_fields.proofs.rules.check_integers.Goals as goal
 
 pub returns-then-are_integers : goal.returns-then-are_integers
 returns-then-are_integers c =

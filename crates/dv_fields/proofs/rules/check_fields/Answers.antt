@@ -5,8 +5,8 @@ use Rattle.dv_fields.proofs.Lists.{slice_get_none}
 use Rattle.dv_fields.specs.Fields.{check_field}
 use Rattle.dv_fields.specs.View.{place_seen, rule_seen}
 use Rattle.dv_fields.proofs.Checks.{check_fields-at}
-use Rattle.dv_fields.proofs.fields.check_fields.Goals as goal
-use Rattle.dv_fields.proofs.fields.check_fields.Goals.{in-Some+in_ok-check_field, in_default}
+use Rattle.dv_fields.proofs.rules.check_fields.Goals as goal
+use Rattle.dv_fields.proofs.rules.check_fields.Goals.{in-Some+in_ok-check_field, in_default}
 
 pub returns-in_err-check_field : goal.returns-in_err-check_field
 returns-in_err-check_field c =

@@ -2,7 +2,7 @@
 use Rattle.std.proofs.Common.{◌≡◌, drop, map}
 use Rattle.dv_fields.specs.Fields as fields
 use Rattle.dv_fields.specs.View.{rule_seen}
-use Rattle.dv_fields.proofs.fields.kind_in.Given as goal
+use Rattle.dv_fields.proofs.rules.kind_in.Given as goal
 
 abbrev pub invariant-rules : goal.invariant-rules
 invariant-rules l = fields.kind_in (map rule_seen l.fn.rules) l.fn.name ≡ fields.kind_in (map rule_seen (drop l.rule-index l.fn.rules)) l.fn.name

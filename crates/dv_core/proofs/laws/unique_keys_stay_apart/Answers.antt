@@ -1,0 +1,36 @@
+use Rattle.dv_core.specs.State.{standing}
+use Rattle.dv_core.proofs.Bare.{bare}
+use Rattle.dv_core.proofs.Ordered.{AreApart, CollectionLaws, empty_whole, loaded_apart, steps_apart}
+use Rattle.dv_core.proofs.Unique.{UniqueLaws}
+use Rattle.dv_core.proofs.laws.unique_keys_stay_apart.Goals as goal
+
+pub returns : goal.returns
+returns c =
+    let laws : CollectionLaws = record {
+      inserted_ascend = c.inserted_documents_ascend.ensures;
+      inserted_ids = c.inserted_documents_begin_with_ids.ensures;
+      removed_ascend = c.removed_documents_ascend.ensures;
+      removed_ids = c.removed_documents_begin_with_ids.ensures;
+      replaced_ascend = c.replaced_documents_ascend.ensures;
+      id_stays = c.the_id_stays.ensures;
+      replaced_ids = c.replaced_documents_begin_with_ids.ensures;
+    } in
+    let unique : UniqueLaws = record {
+      inserted_apart = c.an_insert_without_a_clash_breaks_nothing.ensures;
+      replaced_apart = c.a_replacement_without_a_clash_breaks_nothing.ensures;
+      removed_apart = c.a_removal_breaks_nothing.ensures;
+      none_apart = c.nothing_is_broken_by_no_document.ensures;
+      fewer_apart = c.fewer_indexes_break_no_more.ensures;
+      one_by_one = c.indexes_break_one_by_one.ensures;
+    } in
+    record {
+      before = λ namespace. (empty_whole namespace).unique;
+      after = λ old new session command outcome ordered unbroken steps. (
+          let left : AreApart (standing old.marks new) =
+              steps_apart laws unique old (standing old.marks new) session command outcome (λ name. record { documents = ordered name; unique = unbroken name }) (bare old new session command outcome steps) in
+          λ namespace. (left namespace).unique);
+      loaded = λ old new namespace d ordered unbroken is. (
+          let left : AreApart new = loaded_apart laws unique old new namespace d (λ name. record { documents = ordered name; unique = unbroken name }) is in
+          λ name. (left name).unique);
+      ended = λ session state unbroken. unbroken;
+    }

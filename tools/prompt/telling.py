@@ -1,0 +1,133 @@
+"""What the prompt tells in words: its help, and what a refusal means."""
+import textwrap
+
+from model import fields as kinds
+from model.commands import COMMANDS, needed_by
+from model.fields import DELETE_ENTRY, FIELDS, IGNORED, UPDATE_ENTRY
+from model.values import ARRAY
+from prompt import guide
+from prompt.suspects import suspect
+
+WORDS = [
+    ("help", "this; help find, help $set and help 11000 tell of a command, an operator and a code"),
+    ("use NAME", "commands that name no database are of this one"),
+    ("more", "the next rows of the last answer"),
+    ("whole", "the last answer, with nothing cut"),
+    ("watch VIEW", "shows a view's rows behind each command that changes them; watch alone ends that"),
+    ("exit", "ends, as Control-D does"),
+]
+MOST = 5  # refused statements that something is told of
+ENTRIES = {b"update": ("updates", UPDATE_ENTRY), b"delete": ("deletes", DELETE_ENTRY)}
+KINDS = {
+    kinds.text: "a text", kinds.documents: "an array of documents", kinds.boolean: "true or false", kinds.document: "a document",
+    kinds.array: "an array of stages", kinds.natural: "a number from 0", kinds.any_number: "a number",
+    kinds.numbers: "an array of numbers", kinds.batch_document: "{batchSize: a number from 0}", kinds.find_document: "a find",
+    kinds.nothing_but_empty: "{} alone", kinds.anything: "anything", kinds.zero_or_one: "0, for all, or 1",
+    kinds.update_document: "operators, or a document in place of the old one", kinds.false_alone: "false alone",
+}
+
+
+def table(rows, width):
+    """Rows of two columns, of which the second is wrapped."""
+    left = max((len(name) for name, _ in rows), default=0) + 4
+    for name, text in rows:
+        yield from wrapped(text, width, "  %s" % name.ljust(left - 2), " " * left)
+
+
+def wrapped(text, width, first="", others=""):
+    return textwrap.wrap(text, max(width, len(others) + 20), initial_indent=first, subsequent_indent=others,
+                         break_long_words=False, break_on_hyphens=False) or [first]
+
+
+def help_of(topic, width):
+    """The lines that tell of a topic, of everything where there is none."""
+    name = topic.strip("{}:\"'` ")
+    if not name:
+        return [*overview(width)]
+    if name.encode() in COMMANDS:
+        return [*of_command(name, width)]
+    if name.startswith("$"):
+        return [*of_operator(name, width)]
+    code = next((one for one in guide.codes().values() if name in (str(one.number), one.name)), None)
+    if code:
+        return wrapped(meaning(code), width)
+    return ["nothing is known of %s: help lists the commands" % name]
+
+
+def overview(width):
+    rows = [(", ".join(row.names), row.does) for row in guide.listed()] or [(name.decode(), "") for name in COMMANDS]
+    yield "commands"
+    yield from table(rows, width)
+    yield "words of the prompt"
+    yield from table(WORDS, width)
+    yield 'A command is a document: {find: "orders"}. Tab completes names, fields and operators.'
+
+
+def of_command(name, width):
+    row, wanted = guide.row_of(name), {one.decode() for one in needed_by(name.encode(), {})} | {name}
+    yield from wrapped("%s: %s" % (", ".join(row.names), row.does) if row else name, width)
+    for form in guide.forms_of(name):
+        yield "  " + form
+    yield "fields"
+    fields = FIELDS.get(name.encode(), {})
+    yield from table([field_row(one, kind, wanted) for one, kind in fields.items()] or [("any", "anything")], width)
+    if name.encode() in ENTRIES:
+        yield "fields of each of its %s" % ENTRIES[name.encode()][0]
+        yield from table([field_row(one, kind, {"q", "u", "limit"}) for one, kind in ENTRIES[name.encode()][1].items()], width)
+    yield from wrapped("In every command these change nothing: %s." % ", ".join(sorted(one.decode() for one in IGNORED)), width)
+    if example := guide.example_of(name):
+        yield "for example"
+        yield from ("  " + line for line in example)
+    yield "may be refused with"
+    yield from table([("%d %s" % (code.number, code.name), code.meaning.replace("`", "")) for code in guide.codes_of(name)], width)
+    if row:
+        yield "docs/MANUAL.md, \"%s\", tells more." % guide.section_at(row.place)[0]
+
+
+def field_row(name, kind, wanted):
+    text = name.decode()
+    return text, KINDS.get(kind, "") + (", which is needed" if text in wanted else "")
+
+
+def of_operator(name, width):
+    told, example = guide.told_of(name)
+    if not told:
+        yield "there is no operator %s: Tab lists those that may stand at a place" % name
+        return
+    yield from wrapped(told.replace("`", ""), width)
+    if example:
+        yield "for example"
+        yield from ("  " + line for line in example)
+
+
+def meaning(code):
+    return "%d %s: %s" % (code.number, code.name, code.meaning.replace("`", ""))
+
+
+def refusal_lines(fields, reply, width):
+    """What is told beneath a reply that refuses the command, or statements of it: lines that are comments in a script."""
+    told = set()
+    for code, index in refusals_in(reply)[:MOST]:
+        if code not in told and code in guide.codes():
+            yield from wrapped(meaning(guide.codes()[code]), width, "# ", "#   ")
+        told.add(code)
+        if place := suspect(fields, code, index):
+            yield from wrapped("perhaps: " + place, width, "# ", "#   ")
+
+
+def refusals_in(reply):
+    """The codes in a reply, each with the index of the statement that it is of, None where it is of the command."""
+    told = dict(reply)
+    if b"code" in told:
+        return [(told[b"code"][1], None)]
+    errors = [dict(error) for _, error in told.get(b"writeErrors", (ARRAY, []))[1]]
+    return [(error[b"code"][1], error[b"index"][1]) for error in errors]
+
+
+def hint_at(line):
+    """What is told of a line that is no document."""
+    word = line.split()[0].rstrip(":;,.") if line.split() else ""
+    forms = guide.forms_of(word) if word.encode() in COMMANDS else []
+    if forms:
+        return "a command is a document: write %s" % forms[0]
+    return 'a command is a document, as {find: "orders"}: type help for the commands'
