@@ -19,3 +19,4 @@ mod Making
 mod Kept
 mod MadeIndexes
 mod Stale
+mod Foremost

@@ -39,7 +39,7 @@ module _ (P : List Field → Type 0) where
   all_put true x y ys rest h all others = (h, all)
   all_put false x y ys rest h all others = (all.0, others)
 
-  all_placed : (before : List Field → List Field → Bool) (x : List Field) (ys : List (List Field)) → P x → AllByRecursion P ys → AllByRecursion P (placed before x ys)
+  pub all_placed : (before : List Field → List Field → Bool) (x : List Field) (ys : List (List Field)) → P x → AllByRecursion P ys → AllByRecursion P (placed before x ys)
   all_placed before x [] h all = (h, tt)
   all_placed before x (y ∷ ys) h all = all_put (before x y) x y ys (placed before x ys) h all (all_placed before x ys h all.1)
 

@@ -1,6 +1,7 @@
 //! Collections and views: what stands under namespaces.
 #![tactic(auto)]
 
+mod ahead;
 mod catalog;
 mod chosen;
 mod collections;

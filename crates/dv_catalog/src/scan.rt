@@ -1,6 +1,6 @@
 //! The rows of a find, in its order.
 
-ghost use Rattle.std.specs.Prelude.{◌≡◌, drop, IfOk};
+ghost use Rattle.std.specs.Prelude.{◌≡◌, drop, IfOk, IfSome};
 ghost use Rattle.dv_command.specs.View.{sort_seen};
 ghost use Rattle.dv_catalog.specs.SearchedView.{searched};
 ghost use Rattle.dv_catalog.specs.Scan as scans;
@@ -8,9 +8,11 @@ ghost use Rattle.dv_catalog.specs.ScanParts.{IsEnough};
 ghost use Rattle.dv_pipe.specs.Sources.{referred};
 ghost use Rattle.dv_sort.specs.Sorting.{front, stable};
 
+use crate::ahead::first_by_index;
 use crate::searched::{Searched, first_found};
 use dv_bson::{Document, NoMemory};
 use dv_command::Find;
+use dv_match::Filter;
 use dv_path::SortSpec;
 use dv_sort::{Sorter, laws};
 use std::alloc::Global;
@@ -38,12 +40,46 @@ fn in_order(
     ensures { IfOk result (λ found. found.items ≡ front most (stable (sort_seen find.now.sort) (scans.matching find.now.filter (searched within.entry)))) }
 {
     if let Some(sort) = &find.sort {
-        let all = first_found(alloc, within, &find.filter, None)?;
-        return sorted(alloc, &all, sort, most);
+        return in_sort(alloc, within, &find.filter, sort, most);
     }
     laws::without_a_path();
     let first = first_found(alloc, within, &find.filter, most)?;
     copies(alloc, &first)
+}
+
+/// The first rows that match the filter, in the order of the sort: `most` of them, or all. Fails where memory is wanting.
+fn in_sort(
+    alloc: Global,
+    within: Searched<'_>,
+    filter: &Filter,
+    sort: &SortSpec,
+    most: Option<usize>,
+) -> Result<Vec<Document>, NoMemory>
+    ensures { IfOk result (λ found. found.items ≡ front most (stable sort.now (scans.matching filter.now (searched within.entry)))) }
+{
+    if let Some(first) = by_index(alloc, &within, filter, sort, most)? {
+        return Ok(first);
+    }
+    let all = first_found(alloc, within, filter, None)?;
+    sorted(alloc, &all, sort, most)
+}
+
+/// The same where an index finds them. Fails where memory is wanting.
+fn by_index(
+    alloc: Global,
+    within: &Searched<'_>,
+    filter: &Filter,
+    sort: &SortSpec,
+    most: Option<usize>,
+) -> Result<Option<Vec<Document>>, NoMemory>
+    ensures { IfOk result (λ found. IfSome found (λ first. first.items ≡ front most (stable sort.now (scans.matching filter.now (searched within.now))))) }
+{
+    match (within, most) {
+        (Searched::Collection(collection), Some(most)) => {
+            first_by_index(alloc, collection, filter, sort, most)
+        }
+        _ => Ok(None),
+    }
 }
 
 /// How many rows are looked for, where these many are left out and `limit` are wanted; `None` for all.
@@ -68,7 +104,7 @@ fn copies(alloc: Global, rows: &[&Document]) -> Result<Vec<Document>, NoMemory>
 }
 
 /// The first rows in the order of the sort: `most` of them, or all. Fails where memory is wanting.
-fn sorted(
+pub(crate) fn sorted(
     alloc: Global,
     rows: &[&Document],
     sort: &SortSpec,

@@ -16,6 +16,7 @@ use dv_views::Registry;
 use std::alloc::Global;
 
 /// What stands under a namespace.
+#[derive(Drop)]
 pub(crate) enum Searched<'a> {
     /// A collection, with its indexes.
     Collection(&'a IndexedCollection),

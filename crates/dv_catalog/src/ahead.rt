@@ -1,0 +1,76 @@
+//! The first rows of a sort, by the order of an index.
+
+ghost use Rattle.std.specs.Prelude.{◌≡◌, ◌∷◌, take, filter as kept, IfOk, IfSome, List};
+ghost use Rattle.dv_bson.specs.Tree.{Field};
+ghost use Rattle.dv_index.specs.Ahead as defined;
+ghost use Rattle.dv_path.specs.Parts.{part};
+ghost use Rattle.dv_path.specs.SortSpec.{Part};
+ghost use Rattle.dv_pipe.specs.Sources.{referred};
+ghost use Rattle.dv_sort.specs.Sorting.{stable};
+ghost use Rattle.dv_catalog.specs.Scan.{matching};
+
+use crate::scan::sorted;
+use dv_bson::{Document, NoMemory};
+use dv_index::{Ahead, IndexedCollection, is_ahead};
+use dv_match::Filter;
+use dv_path::{SortPart, SortSpec};
+use std::alloc::Global;
+
+/// How often documents are looked at, the last time more than there can be.
+const TRIES: usize = 22;
+/// How many times as many as before are looked at, at least.
+const MORE: usize = 8;
+
+/// The first `most` documents that match the filter, in the order of the sort, where an index on the sort's first path finds
+/// them. Of the documents that the index has first those that match are put in order; they are the first ones if there are
+/// enough, and the last is ahead of all that weren't looked at. Else more are looked at: as many as do if matching ones come
+/// at the same rate, and 8 times as many at least. `None` where the index serves for no more: that few match costs no more
+/// than a constant times going through all documents. Fails where memory is wanting.
+pub(crate) fn first_by_index(
+    alloc: Global,
+    collection: &IndexedCollection,
+    filter: &Filter,
+    sort: &SortSpec,
+    most: usize,
+) -> Result<Option<Vec<Document>>, NoMemory>
+    ensures { IfOk result (λ found. IfSome found (λ first. first.items ≡ take most (stable sort.now (matching filter.now collection.now.documents)))) }
+{
+    let Some(by) = sort.parts().first() else {
+        return Ok(None);
+    };
+    let mut least = most;
+    'tries: for _ in 0..TRIES {
+        let Some(ahead) = collection.find_ahead(filter, by, least)? else {
+            return Ok(None);
+        };
+        if let Some(first) = first_of(alloc, &ahead, sort, by, most)? {
+            return Ok(Some(first));
+        }
+        let times = most / ahead.documents.len().saturating_add(1);
+        least = least.saturating_mul(times.max(MORE));
+    }
+    Ok(None)
+}
+
+/// The first `most` of the documents in the order of the sort, unless there are fewer or the last one isn't ahead of the bar:
+/// they are those of any rows that have the same ones ahead of the bar. Fails where memory is wanting.
+fn first_of(
+    alloc: Global,
+    ahead: &Ahead<'_>,
+    sort: &SortSpec,
+    by: &SortPart,
+    most: usize,
+) -> Result<Option<Vec<Document>>, NoMemory>
+    requires { (parts : List Part) × (sort.now ≡ part by.now ∷ parts) }
+    ensures { IfOk result (λ found. IfSome found (λ first. (rows : List (List Field)) → kept (defined.is_ahead (part by.now) ahead.now.bar.now) (referred ahead.now.documents.items) ≡ kept (defined.is_ahead (part by.now) ahead.now.bar.now) rows → first.items ≡ take most (stable sort.now rows))) }
+{
+    let first = sorted(alloc, &ahead.documents, sort, Some(most))?;
+    let Some(last) = first.last() else {
+        return Ok(None);
+    };
+    if first.len() == most && is_ahead(last, by, ahead.bar)? {
+        Ok(Some(first))
+    } else {
+        Ok(None)
+    }
+}
