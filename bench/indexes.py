@@ -26,9 +26,11 @@ AT_END = 20  # documents in a range
 BETWEEN = (20, 2_000)  # documents between two bounds
 MEMBERS = 20  # of an `$in`
 STATEMENTS = 1_000  # in a message
+FIRST = 10  # documents of a sort
 
-# Finds by a number, another one each time, and the same as the end of an SQL statement with its values.
-Finds = namedtuple("Finds", "name times filter sql values")
+# Finds by a number, another one each time, and the same as the end of an SQL statement with its values; how many of which
+# order are asked for, where these aren't all.
+Finds = namedtuple("Finds", "name times filter sql values first", defaults=[{}])
 
 
 def extracted(field):
@@ -53,7 +55,16 @@ def finds(count):
         Finds("`$in` of %d members, %d documents each" % (len(picked_buckets[0]), count // len(buckets)), 100,
               lambda at: {"bucket": {"$in": picked_buckets[at]}}, "%s IN (%s)" % (extracted("bucket"), several),
               lambda at: picked_buckets[at]),
+        *(first_of(*sort) for sort in [("serial", 1), ("serial", -1), ("bucket", 1)]),
     ]
+
+
+def first_of(field, direction):
+    """A find of the first documents in a sort by a field that has an index."""
+    order, word = ("", "ascending") if direction == 1 else (" DESC", "descending")
+    return Finds("a sort with limit %d by `%s`, %s" % (FIRST, field, word), 1_000, lambda at: {},
+                 "1 ORDER BY %s%s, id LIMIT %d" % (extracted(field), order, FIRST), lambda at: [],
+                 {"sort": {field: direction}, "limit": FIRST})
 
 
 def between(count, many):
@@ -129,7 +140,8 @@ def print_making(docd, found):
 
 def asked_docd(docd, asked):
     """How many documents docd gives to all finds, and the stream that asks for them."""
-    commands = [{"find": "c", "filter": asked.filter(at), "batchSize": measuring.ALL} for at in range(asked.times)]
+    commands = [{"find": "c", "filter": asked.filter(at), **asked.first, "batchSize": measuring.ALL}
+                for at in range(asked.times)]
     given = sum(len(reply["cursor"]["firstBatch"]) for reply in docd.ask(*commands))
     return given, measuring.stream_of(commands)
 
@@ -146,7 +158,7 @@ def tell_find(docd, base, asked):
     if given != told:
         sys.exit("bench: %s: docd gives %d documents and SQLite %d" % (asked.name, given, told))
     explained, = docd.ask({"explain": {"find": "c", "filter": asked.filter(0)}})
-    if explained["stage"] != "IXSCAN":
+    if explained["stage"] != "IXSCAN" and not asked.first:
         sys.exit("bench: %s: docd makes no use of an index: %r" % (asked.name, explained))
     spent, other = in_turn((lambda: docd.send(stream, asked.times), docd.clock), (ask_sqlite, time.thread_time))
     row(asked.name, "%.0f" % (given / asked.times), "%.1f" % (1e6 * spent / asked.times), "%.1f" % (1e6 * other / asked.times),

@@ -32,9 +32,9 @@ class Maker(Commands):
         super().__init__(rng)
         self.messages = 0
 
-    def first(self, name=b"c"):
+    def first(self, name=b"c", count=None):
         """An insert of some documents into a collection, so that something is there."""
-        documents = array(self.document() for _ in range(self.rng.randint(3, 15)))
+        documents = array(self.document() for _ in range(count or self.rng.randint(3, 15)))
         return self.asked([(b"insert", text(name)), (b"documents", documents), (b"ordered", boolean(False))])
 
     def carried_out(self, data):
@@ -161,10 +161,18 @@ class Maker(Commands):
         entry = [(b"key", document([(path, number(1))])), (b"name", text(path)), (b"unique", boolean(True))]
         return [self.asked([(b"createIndexes", text(b"c")), (b"indexes", array([document(entry)]))])]
 
+    def many(self):
+        """Many documents, and an index on a field that some of them have, in a few scripts."""
+        if self.often(0.92):
+            return []
+        entry = [(b"key", document([(self.rng.choice([b"a", b"b"]), number(1))])), (b"name", text(b"i"))]
+        return [self.first(count=self.rng.randint(80, 200)),
+                self.asked([(b"createIndexes", text(b"c")), (b"indexes", array([document(entry)]))])]
+
     def run(self, number):
         """The lines of one session, cut anywhere, and a message in each."""
         self.session = object()
-        made = [] if self.made else [*self.unique(), self.first(), *self.unique(), *self.views()]
+        made = [] if self.made else [*self.unique(), self.first(), *self.unique(), *self.many(), *self.views()]
         for _ in range(self.rng.randint(1, 25)):
             made.append(self.message())
             made += self.written() if self.often(0.1) else []

@@ -55,6 +55,7 @@ class Commands(Views):
         fields = [(b"find", self.readable())]
         others = [(b"filter", self.filter_by_index())] * self.often(0.85) + [(b"sort", self.sort())] * self.often(0.4)
         others += [(b"skip", self.natural())] * self.often(0.15) + [(b"limit", self.natural())] * self.often(0.3)
+        others = self.first_by_index() if self.often(0.25) else others
         others += [(b"projection", document([]))] * self.often(0.03) + self.batch(0.4)
         return fields + (others if self.often(0.7) else self.rng.sample(others, len(others)))
 
@@ -69,6 +70,17 @@ class Commands(Views):
         if self.often(0.2):
             condition = b"$and", array([document([condition]), *([made] * self.often(0.5))])
         return document(distinct([condition, *made[1][1:]]))
+
+    def first_by_index(self):
+        """The fields of a find of the first documents in a sort that begins with the path of an index, where there is one."""
+        paths, (_, parts) = [b".".join(index.path) for index in self.indexes()[1:]], self.sort()
+        if paths:
+            path = self.rng.choice([path for path in paths if b"." not in path] or paths)
+            parts = distinct([(path, number(self.rng.choice([1, -1]))), *parts[:self.rng.randrange(3)]])
+        filters = [(b"filter", self.rng.choice([self.filter(), document([(b"zz", NOTHING)])]))]
+        limits = [(b"limit", number(self.rng.choice([1, 1, 1, 2, 2, 3, 4, 6])))]
+        return (filters * self.often(0.4) + [(b"sort", document(parts))] + limits
+                + [(b"skip", number(self.rng.randrange(3)))] * self.often(0.2))
 
     def indexes(self):
         """Those of the collection `c`."""
