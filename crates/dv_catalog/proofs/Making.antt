@@ -10,7 +10,6 @@ use Rattle.dv_views.specs.Forms.{ViewForm, fault_of_new, names_read, needed}
 use Rattle.dv_views.specs.Made.{IsCreated}
 use Rattle.dv_views.specs.Views.{AreRight, ArePartlyRefreshed, IsRefusedFor, View, Views, form_of, without}
 use Rattle.dv_views.specs.declared.fault.ViewFault.{ViewFault}
-use Rattle.dv_views.specs.declared.fault.ViewFault.TheVariants.{NoMemory}
 use Rattle.dv_catalog.specs.CatalogParts.{IsKept, mark_of, marked_of, marks_of, state_of}
 use Rattle.dv_catalog.specs.Marks.{ArePartlyRead, Mark, Marks, live, marks_read}
 use Rattle.dv_catalog.specs.Parts.{StandMade}
@@ -51,14 +50,12 @@ view_more name form (w ∷ forms) e = by_name (view_more name form forms) (bytes
 
 no_fault : (fault : Option ViewFault) → IsRefusedFor {T = Unit {0}} fault (Ok tt) → fault ≡ None
 no_fault None told = refl
-no_fault (Some f) (inl told) = absurd cc
-no_fault (Some f) (inr told) = absurd cc
+no_fault (Some f) told = absurd cc
 
 -- for this fault, or for want of memory
 which_fault : (fault : Option ViewFault) (e : ViewFault) → IsRefusedFor {T = Unit {0}} fault (Err e) → (fault ≡ Some e) ⊎ (view_refusal e ≡ WantOfMemory)
 which_fault None e told = inr (ap view_refusal told)
-which_fault (Some f) e (inl told) = let same : e ≡ f = cc in inl (ap Some (sym same))
-which_fault (Some f) e (inr told) = let same : e ≡ NoMemory = cc in inr (ap view_refusal same)
+which_fault (Some f) e told = let same : e ≡ f = cc in inl (ap Some (sym same))
 
 module _ (name source : List ℕ) (stages : List Stage) (namespaces : Namespaces) (before after : Views) where
   abbrev form : ViewForm
