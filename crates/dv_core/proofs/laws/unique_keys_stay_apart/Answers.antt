@@ -27,7 +27,7 @@ returns c =
       before = λ namespace. (empty_whole namespace).unique;
       after = λ old new session command outcome ordered unbroken steps. (
           let left : AreApart (standing old.marks new) =
-              steps_apart laws unique old (standing old.marks new) session command outcome (λ name. record { documents = ordered name; unique = unbroken name }) (bare old new session command outcome steps) in
+          steps_apart laws unique old (standing old.marks new) session command outcome (λ name. record { documents = ordered name; unique = unbroken name }) (bare old new session command outcome steps) in
           λ namespace. (left namespace).unique);
       loaded = λ old new namespace d ordered unbroken is. (
           let left : AreApart new = loaded_apart laws unique old new namespace d (λ name. record { documents = ordered name; unique = unbroken name }) is in
