@@ -6,7 +6,8 @@ use Rattle.dv_bson.specs.declared.kind.Kind.{Kind}
 use Rattle.dv_bson.specs.declared.kind.Kind.TheVariants as kinds
 use Rattle.dv_bson.specs.Tree.{Tree, int32, int64, string, document, array, boolean, binary, object_id, date, null, timestamp, min_key, max_key, Fields, Elements, Field, fields_of, list_of_fields, elements_of, list_of_elements}
 use Rattle.dv_bson.specs.Spelling.{type_byte, kind_of, framed, counted, element_spelling, payload, fields_spelling, elements_spelling, IsValue, levels, fields_levels, elements_levels}
-use Rattle.dv_bson.specs.Reading.{◌>>=◌, Inside, Frame, kind_at, name_at, text_at, frame_at, value_at, fields_at, body_at}
+use Rattle.dv_bson.specs.Reading.{Inside, Frame, kind_at, name_at, text_at, frame_at, value_at, fields_at, body_at}
+use Rattle.dv_bson.specs.Results.{◌>>=◌}
 use Rattle.dv_bson.proofs.Steps.{bind_at}
 use Rattle.dv_bson.proofs.Numbers.{wide32, wide64, first_again, signed_again}
 use Rattle.dv_bson.proofs.Binaries.{binary_again, length-tagged}

@@ -9,7 +9,8 @@ use Rattle.dv_bson.specs.declared.fault.BsonFault.{BsonFault}
 use Rattle.dv_bson.specs.declared.fault.BsonFault.TheVariants.{BadLength, BadUtf8}
 use Rattle.dv_bson.specs.Tree.{Tree, Field}
 use Rattle.dv_bson.specs.Spelling.{IsBytes, framed, counted}
-use Rattle.dv_bson.specs.Reading.{◌>>=◌, Inside, count_at, counted_at, text_at, Frame, frame_of, framed_at, frame_at}
+use Rattle.dv_bson.specs.Reading.{Inside, count_at, counted_at, text_at, Frame, frame_of, framed_at, frame_at}
+use Rattle.dv_bson.specs.Results.{◌>>=◌}
 use Rattle.dv_bson.proofs.Steps.{IsBytes-take, IsBytes-drop, Takes, refused_not, passed, given, ok_is, parted_at_zero}
 use Rattle.dv_bson.proofs.Numbers.{count_takes, count_again, wide32}
 

@@ -13,7 +13,8 @@ use Rattle.dv_bson.specs.declared.fault.BsonFault.TheVariants.{BadUtf8, BadArray
 use Rattle.dv_bson.specs.Tree.{Field}
 use Rattle.dv_bson.specs.View.{tree}
 use Rattle.dv_bson.specs.Names.{bare, has_name, has_zero}
-use Rattle.dv_bson.specs.Reading.{◌>>=◌, cut_at_zero, onto_name, named_by, name_at}
+use Rattle.dv_bson.specs.Reading.{cut_at_zero, onto_name, named_by, name_at}
+use Rattle.dv_bson.specs.Results.{◌>>=◌}
 use Rattle.dv_bson.proofs.Names.{cut_again}
 use Rattle.dv_bson.proofs.Steps.{parted_at_zero}
 use Rattle.dv_bson.specs.Parts.{utf8_name, any_name_at, numbered}

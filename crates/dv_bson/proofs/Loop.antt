@@ -7,7 +7,8 @@ use Rattle.dv_bson.specs.declared.fault.BsonFault.TheVariants.{TooDeep}
 use Rattle.dv_bson.specs.declared.fault.ReadError.{ReadError}
 use Rattle.dv_bson.specs.declared.fault.ReadError.TheVariants as errors
 use Rattle.dv_bson.specs.Tree.{Tree, Field}
-use Rattle.dv_bson.specs.Reading.{◌>>=◌, Fails, kind_at, name_at, value_at, Inside, closed_by, fields_at, body_at}
+use Rattle.dv_bson.specs.Reading.{Fails, kind_at, name_at, value_at, Inside, closed_by, fields_at, body_at}
+use Rattle.dv_bson.specs.Results.{◌>>=◌}
 use Rattle.dv_bson.specs.Parts.{with_rest, front_kind_at, field_at}
 use Rattle.dv_bson.proofs.Shorter.{field_leaves}
 

@@ -5,7 +5,8 @@ use Rattle.dv_bson.specs.declared.fault.BsonFault.{BsonFault}
 use Rattle.dv_bson.specs.declared.fault.BsonFault.TheVariants.{Truncated, BadLength, TooLarge, NoMemory}
 use Rattle.dv_bson.specs.declared.fault.ReadError.{ReadError}
 use Rattle.dv_bson.specs.declared.fault.ReadError.TheVariants as errors
-use Rattle.dv_bson.specs.Reading.{◌>>=◌, Fails, count_at, Frame, frame_of, body_at, outermost_of, document_at, first_fault, fault_of}
+use Rattle.dv_bson.specs.Reading.{Fails, count_at, Frame, frame_of, body_at, outermost_of, document_at, first_fault, fault_of}
+use Rattle.dv_bson.specs.Results.{◌>>=◌}
 use Rattle.dv_bson.specs.Parts.{outermost_frame, outermost_frame_at, public_fault}
 use Rattle.dv_bson.specs.Spelling.{Spells, Fits}
 use Rattle.dv_bson.specs.Tree.{Field}

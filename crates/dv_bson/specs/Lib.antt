@@ -14,3 +14,5 @@ pub mod Put
 pub mod Measure
 pub mod Writing
 pub mod Removing
+pub mod FieldChange
+pub mod Results

@@ -7,7 +7,8 @@ use Rattle.dv_bson.specs.declared.fault.BsonFault.TheVariants.{Truncated, BadLen
 use Rattle.dv_bson.specs.declared.fault.ReadError.{ReadError}
 use Rattle.dv_bson.specs.declared.fault.ReadError.TheVariants as errors
 use Rattle.dv_bson.specs.Tree.{Tree, Field}
-use Rattle.dv_bson.specs.Reading.{◌>>=◌, Fails, Gives, count_at, kind_at, cut_at_zero, name_at, value_at, Frame, frame_of, Inside}
+use Rattle.dv_bson.specs.Reading.{Fails, Gives, count_at, kind_at, cut_at_zero, name_at, value_at, Frame, frame_of, Inside}
+use Rattle.dv_bson.specs.Results.{◌>>=◌}
 
 -- a type, and the bytes behind its byte
 abbrev pub with_rest : List ℕ → Kind → Result (Kind × List ℕ) BsonFault

@@ -3,6 +3,7 @@
 
 mod bytes;
 mod fault;
+mod field_change;
 mod kind;
 pub mod laws;
 mod limits;
@@ -19,6 +20,7 @@ mod writer;
 
 pub use bytes::Bytes;
 pub use fault::BsonFault;
+pub use field_change::FieldChange;
 pub use limits::{fits, size};
 pub use name::begins_with_dollar;
 pub use reader::{read_document, read_document_like};

@@ -8,7 +8,8 @@ use Rattle.dv_coll.specs.declared.fault.InsertFault.{InsertFault}
 use Rattle.dv_coll.specs.declared.fault.InsertFault.TheVariants.{Duplicate, NoMemory}
 use Rattle.dv_fields.specs.declared.refusal.Refusal.{Refusal}
 use Rattle.dv_fields.specs.declared.refusal.Refusal.TheVariants.{BadValue, DuplicateKey, IndexNotFound, LimitReached, WantOfMemory}
-use Rattle.dv_fields.specs.Refusals.{◌>>=◌, insert_refusal}
+use Rattle.dv_fields.specs.Refusals.{insert_refusal}
+use Rattle.dv_bson.specs.Results.{◌>>=◌}
 use Rattle.dv_index.specs.Index.{IndexForm, id_form}
 use Rattle.dv_index.specs.Indexed.{is_dropped, without_index}
 use Rattle.dv_index.specs.Unique.{are_broken}

@@ -13,7 +13,7 @@ use Rattle.dv_catalog.specs.CatalogParts.{mark_of, marks_of}
 use Rattle.dv_bson.specs.Tree.{Field}
 use Rattle.dv_coll.specs.Collection.{found, id_key}
 use Rattle.dv_command.specs.Entries.{Deletion, Updating}
-use Rattle.dv_fields.specs.Refusals.{◌>>=◌}
+use Rattle.dv_bson.specs.Results.{◌>>=◌}
 use Rattle.dv_fields.specs.declared.refusal.Refusal.{Refusal}
 use Rattle.dv_fields.specs.declared.refusal.Refusal.TheVariants.{DuplicateKey}
 use Rattle.dv_catalog.specs.declared.stopped.Stopped.{Stopped}

@@ -5,7 +5,7 @@ use Rattle.dv_order.specs.Key.{KeyTree}
 use Rattle.dv_coll.specs.Collection.{id_key, found, inserted, removed, replaced}
 use Rattle.dv_fields.specs.declared.refusal.Refusal.{Refusal}
 use Rattle.dv_fields.specs.declared.refusal.Refusal.TheVariants.{DuplicateKey}
-use Rattle.dv_fields.specs.Refusals.{◌>>=◌}
+use Rattle.dv_bson.specs.Results.{◌>>=◌}
 use Rattle.dv_index.specs.Index.{IndexForm}
 use Rattle.dv_index.specs.Unique.{clashes}
 use Rattle.dv_catalog.specs.State.{Collection, Namespaces, documents_of, with_documents}

@@ -25,7 +25,8 @@ use Rattle.dv_command.specs.Entries as entries
 use Rattle.dv_command.specs.Entries.{Updating, IndexAsked, index_of, key_path, check_index_name, longest_index_name}
 use Rattle.dv_fields.specs.Kinds as kinds
 use Rattle.dv_fields.specs.Namespaces.{database, database_in, namespace, dotted, is_database_name, is_collection_name, longest_namespace}
-use Rattle.dv_fields.specs.Refusals.{◌>>=◌, each, refused_by, pipeline_refusal, update_refusal}
+use Rattle.dv_fields.specs.Refusals.{refused_by, pipeline_refusal, update_refusal}
+use Rattle.dv_bson.specs.Results.{◌>>=◌, each}
 use Rattle.dv_command.specs.Sound.{AreValid, AreValidLists, AreIds, IsIndexName, AreIndexes, IsNamespace, IsSoundPipeline, IsSoundView, IsSoundlyAsked, IsSoundUpdate}
 use Rattle.dv_command.proofs.Lengths.{FieldsAdd, under_long, array_long}
 use Rattle.dv_fields.specs.declared.refusal.Refusal.{Refusal}

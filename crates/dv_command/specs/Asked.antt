@@ -8,7 +8,8 @@ use Rattle.dv_match.specs.Filter.{Members}
 use Rattle.dv_pipe.specs.declared.stage.Stage.{Stage}
 use Rattle.dv_fields.specs.declared.refusal.Refusal.{Refusal}
 use Rattle.dv_fields.specs.declared.refusal.Refusal.TheVariants.{FailedToParse, CommandNotFound, LimitReached}
-use Rattle.dv_fields.specs.Refusals.{refusal_of, ◌>>=◌, each}
+use Rattle.dv_fields.specs.Refusals.{refusal_of}
+use Rattle.dv_bson.specs.Results.{◌>>=◌, each}
 use Rattle.dv_fields.specs.Kinds as kinds
 use Rattle.dv_fields.specs.Fields as reading
 use Rattle.dv_fields.specs.Fields.{Table, first_name, check_fields, text_in, array_in, text_under, array_under, boolean_under, document_under, document_or_none, integer_under, integers_under, natural_under}

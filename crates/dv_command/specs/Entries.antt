@@ -8,7 +8,7 @@ use Rattle.dv_match.specs.Filter.{Members}
 use Rattle.dv_update.specs.Update.{Update}
 use Rattle.dv_fields.specs.declared.refusal.Refusal.{Refusal}
 use Rattle.dv_fields.specs.declared.refusal.Refusal.TheVariants.{BadValue, FailedToParse}
-use Rattle.dv_fields.specs.Refusals.{◌>>=◌}
+use Rattle.dv_bson.specs.Results.{◌>>=◌}
 use Rattle.dv_fields.specs.Kinds as kinds
 use Rattle.dv_fields.specs.Fields.{check_fields, boolean_under, document_under, only_first_under, text_under, update_under}
 use Rattle.dv_command.specs.Tables.{deletion_table, updating_table, index_table}

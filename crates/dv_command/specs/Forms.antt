@@ -12,7 +12,8 @@ use Rattle.dv_pipe.specs.StageParsing as pipelines
 use Rattle.dv_pipe.specs.declared.stage.Stage.{Stage}
 use Rattle.dv_fields.specs.declared.refusal.Refusal.{Refusal}
 use Rattle.dv_fields.specs.declared.refusal.Refusal.TheVariants.{BadValue}
-use Rattle.dv_fields.specs.Refusals.{◌>>=◌, refused_by, filter_refusal, update_refusal, pipeline_refusal}
+use Rattle.dv_fields.specs.Refusals.{refused_by, filter_refusal, update_refusal, pipeline_refusal}
+use Rattle.dv_bson.specs.Results.{◌>>=◌}
 use Rattle.dv_fields.specs.Fields.{document_or_none, first_name}
 
 -- the filter that a document is

@@ -5,7 +5,8 @@ ghost use Rattle.std.specs.Option.{option_map};
 ghost use Rattle.dv_command.specs.Asked as asking;
 ghost use Rattle.dv_command.specs.Entries as entered;
 ghost use Rattle.dv_command.specs.View.{asked_seen, index_seen, view_fields_seen, view_on_seen};
-ghost use Rattle.dv_fields.specs.Refusals.{UnlessWanting, each};
+ghost use Rattle.dv_fields.specs.Refusals.{UnlessWanting};
+ghost use Rattle.dv_bson.specs.Results.{each};
 
 use crate::asking::{
     Asked, Create, CreateIndexes, DropIndexes, DropNamespace, IndexAsked, ViewFields, ViewOn,

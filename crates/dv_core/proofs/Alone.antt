@@ -19,7 +19,7 @@ use Rattle.dv_command.specs.declared.command.Command.{Command}
 use Rattle.dv_path.specs.Names.{has_dot}
 use Rattle.dv_fields.specs.Namespaces.{is_collection_name, is_database_name, longest_namespace, namespace}
 use Rattle.dv_fields.specs.Namespaces as names
-use Rattle.dv_fields.specs.Refusals.{◌>>=◌}
+use Rattle.dv_bson.specs.Results.{◌>>=◌}
 use Rattle.dv_fields.specs.declared.refusal.Refusal.{Refusal}
 use Rattle.dv_fields.specs.declared.refusal.Refusal.TheVariants.{BadValue, DuplicateKey, OnView, WantOfMemory}
 use Rattle.dv_core.specs.Load.{IsLoaded, insert_alone, left_by, loaded, namespace_in}

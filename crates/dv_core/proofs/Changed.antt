@@ -5,7 +5,7 @@ use Rattle.dv_bson.specs.Names.{value_under}
 use Rattle.dv_bson.specs.Tree.{Tree, Field, int32}
 use Rattle.dv_command.specs.Asked.{Asked, hello, ping, find, aggregate, get_more, kill_cursors, create, drop, create_indexes, drop_indexes, explain, view_stats, asked_by}
 use Rattle.dv_command.specs.Asked as asking
-use Rattle.dv_fields.specs.Refusals.{◌>>=◌}
+use Rattle.dv_bson.specs.Results.{◌>>=◌}
 use Rattle.dv_command.specs.Replies.{reply_of, drop_reply, first_batch_reply, create_indexes_reply, drop_indexes_reply, document_of, count, errors_field}
 use Rattle.dv_fields.specs.declared.refusal.Refusal.TheVariants.{OnView, TooLarge}
 use Rattle.dv_command.specs.declared.asking.WriteKind.{WriteKind}

@@ -11,7 +11,7 @@ use Rattle.dv_command.specs.Replies.{document_of, first_batch_reply, next_batch_
 use Rattle.dv_command.specs.declared.command.Command.{Command}
 use Rattle.dv_fields.specs.declared.refusal.Refusal.{Refusal}
 use Rattle.dv_fields.specs.declared.refusal.Refusal.TheVariants.{TooLarge}
-use Rattle.dv_fields.specs.Refusals.{◌>>=◌}
+use Rattle.dv_bson.specs.Results.{◌>>=◌}
 use Rattle.dv_catalog.specs.Scan.{scan}
 use Rattle.dv_catalog.specs.State as stored
 use Rattle.dv_catalog.specs.State.{rows_of}

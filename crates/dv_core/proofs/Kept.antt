@@ -9,7 +9,7 @@ use Rattle.dv_command.specs.Entries.{Deletion, deletion_of, Updating, updating_o
 use Rattle.dv_command.specs.declared.command.Command.{Command}
 use Rattle.dv_fields.specs.declared.refusal.Refusal.{Refusal}
 use Rattle.dv_fields.specs.declared.refusal.Refusal.TheVariants.{DuplicateKey}
-use Rattle.dv_fields.specs.Refusals.{◌>>=◌}
+use Rattle.dv_bson.specs.Results.{◌>>=◌}
 use Rattle.dv_core.specs.declared.outcome.Outcome.{Outcome}
 use Rattle.dv_catalog.specs.Changes.{Change, put, gone, Effect, Statement, apply, breaks, changes_of, clashes_by, done_to, with_change, with_changes}
 use Rattle.dv_update.specs.Update as form

@@ -29,7 +29,7 @@ use Rattle.dv_core.proofs.Asking.{AsksSoundly, body_size, soundly_asked}
 use Rattle.dv_core.proofs.Changed.{Did, MayWrite, outcome_may}
 use Rattle.dv_core.proofs.Standing.{IsKeptBy, indexes_by, made_stands}
 use Rattle.dv_core.proofs.Texts.{IsUtf8-ascii}
-use Rattle.dv_fields.specs.Refusals.{◌>>=◌}
+use Rattle.dv_bson.specs.Results.{◌>>=◌}
 use Rattle.dv_fields.specs.declared.refusal.Refusal.{Refusal}
 use Rattle.dv_fields.specs.declared.refusal.Refusal.TheVariants.{BadValue, ConflictingUpdateOperators, DuplicateKey, IndexNotFound, LimitReached}
 use Rattle.dv_index.specs.Index.{IndexForm, id_form}

@@ -17,7 +17,7 @@ use Rattle.dv_command.specs.declared.command.Command.{Command}
 use Rattle.dv_cursor.specs.Batch.{batch}
 use Rattle.dv_cursor.specs.Cursors.{Cursor, Cursors, added, advanced, closed, cursor_behind, cursor_over, free_id, place_cmp, rows_to_come, rows_under}
 use Rattle.dv_cursor.specs.Runs.{is_place}
-use Rattle.dv_fields.specs.Refusals.{◌>>=◌}
+use Rattle.dv_bson.specs.Results.{◌>>=◌}
 use Rattle.dv_fields.specs.declared.refusal.Refusal.{Refusal}
 use Rattle.dv_fields.specs.declared.refusal.Refusal.TheVariants.{TooLarge}
 use Rattle.dv_core.specs.Find.{are_too_large, found, first_batch, gathered, kept, kept_under, left_behind, replied}

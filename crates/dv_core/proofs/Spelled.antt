@@ -21,7 +21,8 @@ use Rattle.dv_bson.specs.Tree.{Tree, int32, int64, boolean, string, array, Field
 use Rattle.dv_command.specs.Asked.{Asked, ViewOn, hello, ping, find, aggregate, get_more, kill_cursors, create, drop, create_indexes, drop_indexes, explain, view_stats, asked_by}
 use Rattle.dv_command.specs.Asked as asking
 use Rattle.dv_command.specs.Replies.{document_of, count, long_count, drop_reply, hello_reply, reply_of, refusal_reply, batch_reply, first_batch_reply, kill_cursors_reply, create_indexes_reply, drop_indexes_reply, view_stats_reply, cut_error, write_error, update_reply, errors_field}
-use Rattle.dv_fields.specs.Refusals.{code, code_name, message_of, ◌>>=◌}
+use Rattle.dv_fields.specs.Refusals.{code, code_name, message_of}
+use Rattle.dv_bson.specs.Results.{◌>>=◌}
 use Rattle.dv_command.specs.declared.asking.WriteKind.{WriteKind}
 use Rattle.dv_command.specs.declared.asking.WriteKind.TheVariants.{Insert, Update, Delete}
 use Rattle.dv_command.specs.declared.command.Command.{Command}

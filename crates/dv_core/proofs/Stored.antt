@@ -12,7 +12,7 @@ use Rattle.dv_catalog.specs.StateLaws.{bytes_eq-symmetric}
 use Rattle.dv_core.proofs.Spellings.{spelling-field}
 use Rattle.dv_fields.specs.declared.refusal.Refusal.{Refusal}
 use Rattle.dv_fields.specs.declared.refusal.Refusal.TheVariants.{TooLarge}
-use Rattle.dv_fields.specs.Refusals.{◌>>=◌}
+use Rattle.dv_bson.specs.Results.{◌>>=◌}
 use Rattle.dv_core.specs.Storable.{without_field, id_in, is_within_limits, with_id_first, storable}
 
 -- past the last field nothing is left

@@ -14,7 +14,7 @@ use Rattle.dv_command.specs.Asked.{Asked, create_indexes, drop_indexes}
 use Rattle.dv_core.specs.Indexes.{form_asked}
 use Rattle.dv_core.proofs.Done.{both_false}
 use Rattle.dv_core.proofs.Standing.{indexes_by}
-use Rattle.dv_fields.specs.Refusals.{◌>>=◌}
+use Rattle.dv_bson.specs.Results.{◌>>=◌}
 use Rattle.dv_fields.specs.declared.refusal.Refusal.{Refusal}
 use Rattle.dv_fields.specs.declared.refusal.Refusal.TheVariants.{BadValue, ConflictingUpdateOperators, DuplicateKey, IndexNotFound, LimitReached}
 use Rattle.dv_index.specs.Index.{IndexForm, id_form}

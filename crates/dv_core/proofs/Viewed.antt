@@ -23,7 +23,7 @@ use Rattle.dv_core.proofs.Asking.{AsksSoundly, body_size, documents_valid, sound
 use Rattle.dv_core.proofs.Changed.{Made, MayWrite, outcome_may}
 use Rattle.dv_core.proofs.Made.{created_so, dropped_so}
 use Rattle.dv_core.proofs.Named.{Named, apply_leaves}
-use Rattle.dv_fields.specs.Refusals.{◌>>=◌}
+use Rattle.dv_bson.specs.Results.{◌>>=◌}
 use Rattle.dv_fields.specs.declared.refusal.Refusal.{Refusal}
 use Rattle.dv_fields.specs.declared.refusal.Refusal.TheVariants.{NamespaceExists, NamespaceNotFound, OnView, ReadByView}
 use Rattle.dv_pipe.specs.StageParsing.{pipeline_of}

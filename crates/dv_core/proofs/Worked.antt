@@ -14,7 +14,7 @@ use Rattle.dv_command.specs.Asked.{Asked, asked_by}
 use Rattle.dv_command.specs.Asked as asking
 use Rattle.dv_command.specs.declared.asking.WriteKind.TheVariants.{Insert}
 use Rattle.dv_command.specs.Replies.{document_of, write_error, cut_error, reply_of, refusal_reply}
-use Rattle.dv_fields.specs.Refusals.{◌>>=◌}
+use Rattle.dv_bson.specs.Results.{◌>>=◌}
 use Rattle.dv_fields.specs.declared.refusal.Refusal.{Refusal}
 use Rattle.dv_fields.specs.declared.refusal.Refusal.TheVariants.{DuplicateKey, WantOfMemory}
 use Rattle.dv_catalog.specs.Changes.{put, Effect, Statement, done_to, unless_it_breaks, with_put}

@@ -8,7 +8,7 @@ use Rattle.dv_catalog.specs.State.{Collection, collection_of}
 use Rattle.dv_core.specs.Examples.{LoadExamples, number, only, holding, with_a, with_collection}
 use Rattle.dv_core.specs.Load.{left_by}
 use Rattle.dv_core.specs.State.{State, empty_state}
-use Rattle.dv_fields.specs.Refusals.{◌>>=◌}
+use Rattle.dv_bson.specs.Results.{◌>>=◌}
 use Rattle.dv_fields.specs.declared.refusal.Refusal.{Refusal}
 use Rattle.dv_fields.specs.declared.refusal.Refusal.TheVariants.{DuplicateKey}
 use Rattle.dv_core.specs.Writes.{insert_one}

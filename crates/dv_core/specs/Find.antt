@@ -7,7 +7,7 @@ use Rattle.dv_cursor.specs.Batch.{batch, behind}
 use Rattle.dv_cursor.specs.Cursors.{Cursors, added, free_id}
 use Rattle.dv_fields.specs.declared.refusal.Refusal.{Refusal}
 use Rattle.dv_fields.specs.declared.refusal.Refusal.TheVariants.{LimitReached, TooLarge}
-use Rattle.dv_fields.specs.Refusals.{◌>>=◌}
+use Rattle.dv_bson.specs.Results.{◌>>=◌}
 use Rattle.dv_command.specs.Asked.{Aggregate, Find}
 use Rattle.dv_command.specs.Replies.{document_of, first_batch_reply}
 use Rattle.dv_catalog.specs.Scan.{scan}

@@ -2,7 +2,7 @@
 use Rattle.std.specs.Prelude.{ℕ, List, map, length, Option, Some, None, Result, Ok, codes}
 use Rattle.dv_bson.specs.Tree.{Field}
 use Rattle.dv_fields.specs.declared.refusal.Refusal.{Refusal}
-use Rattle.dv_fields.specs.Refusals.{◌>>=◌}
+use Rattle.dv_bson.specs.Results.{◌>>=◌}
 use Rattle.dv_command.specs.Asked.{CreateIndexes, DropIndexes, Explain}
 use Rattle.dv_command.specs.Entries.{IndexAsked}
 use Rattle.dv_command.specs.Replies.{create_indexes_reply, drop_indexes_reply, explain_reply}

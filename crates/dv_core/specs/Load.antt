@@ -9,7 +9,8 @@ use Rattle.dv_core.specs.Writes.{insert_one}
 use Rattle.dv_core.specs.State.{State, standing}
 use Rattle.dv_path.specs.Names.{has_dot}
 use Rattle.dv_fields.specs.Namespaces.{is_database_name, namespace}
-use Rattle.dv_fields.specs.Refusals.{◌>>=◌, code}
+use Rattle.dv_fields.specs.Refusals.{code}
+use Rattle.dv_bson.specs.Results.{◌>>=◌}
 use Rattle.dv_fields.specs.declared.refusal.Refusal.{Refusal}
 use Rattle.dv_fields.specs.declared.refusal.Refusal.TheVariants.{BadValue, OnView, WantOfMemory}
 

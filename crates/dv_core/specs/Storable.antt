@@ -8,7 +8,7 @@ use Rattle.dv_bson.specs.Spelling.{spelling, levels}
 use Rattle.dv_fields.specs.declared.refusal.Refusal.{Refusal}
 use Rattle.dv_fields.specs.declared.refusal.Refusal.TheVariants.{BadValue, TooLarge}
 use Rattle.dv_path.specs.Names.{has_bad_name}
-use Rattle.dv_fields.specs.Refusals.{◌>>=◌}
+use Rattle.dv_bson.specs.Results.{◌>>=◌}
 
 abbrev pub without_field : List ℕ → List Field → List Field
 without_field name [] = []

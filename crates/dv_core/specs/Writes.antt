@@ -8,7 +8,7 @@ use Rattle.dv_command.specs.Entries.{updating_of, deletion_of}
 use Rattle.dv_command.specs.Replies.{write_reply, update_reply}
 use Rattle.dv_command.specs.declared.asking.WriteKind.{WriteKind}
 use Rattle.dv_command.specs.declared.asking.WriteKind.TheVariants.{Insert, Update, Delete}
-use Rattle.dv_fields.specs.Refusals.{◌>>=◌}
+use Rattle.dv_bson.specs.Results.{◌>>=◌}
 use Rattle.dv_core.specs.Storable.{storable}
 use Rattle.dv_core.specs.Statements.{Write}
 

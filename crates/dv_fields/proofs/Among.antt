@@ -6,7 +6,7 @@ use Rattle.dv_bson.specs.declared.value.Value.TheVariants.{Doc, Int32, Int64}
 use Rattle.dv_bson.specs.Tree.{Tree, Field, elements_of, list_of_elements, fields_of, list_of_fields}
 use Rattle.dv_bson.specs.View.{tree}
 use Rattle.dv_fields.specs.Fields.{each_document, integer_in, is_read}
-use Rattle.dv_fields.specs.Refusals.{◌>>=◌, each}
+use Rattle.dv_bson.specs.Results.{◌>>=◌, each}
 use Rattle.dv_fields.specs.declared.refusal.Refusal.{Refusal}
 use Rattle.dv_fields.specs.declared.refusal.Refusal.TheVariants.{TypeMismatch}
 use Rattle.dv_fields.specs.DocumentsView.{is_document, is_integer, AreDocuments, documents_seen}

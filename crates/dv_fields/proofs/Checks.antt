@@ -5,7 +5,7 @@ use Rattle.dv_bson.specs.Tree.{document, Field, fields_of}
 use Rattle.dv_fields.specs.Kinds.{Place}
 use Rattle.dv_fields.specs.declared.refusal.Refusal.TheVariants.{FailedToParse}
 use Rattle.dv_fields.specs.Fields.{Table, check_fields, check_field, check_empty, check_none, check_single}
-use Rattle.dv_fields.specs.Refusals.{◌>>=◌}
+use Rattle.dv_bson.specs.Results.{◌>>=◌}
 use Rattle.dv_fields.proofs.Lists.{drop_at}
 
 -- the field at an index is looked at, and then those behind it

@@ -9,7 +9,7 @@ use Rattle.dv_fields.specs.Kinds.{Kind, Place}
 use Rattle.dv_fields.specs.Kinds as kinds
 use Rattle.dv_fields.specs.declared.refusal.Refusal.{Refusal}
 use Rattle.dv_fields.specs.declared.refusal.Refusal.TheVariants.{BadValue, FailedToParse, TypeMismatch}
-use Rattle.dv_fields.specs.Refusals.{◌>>=◌, each}
+use Rattle.dv_bson.specs.Results.{◌>>=◌, each}
 
 -- ---- which fields there may be
 

@@ -1,5 +1,6 @@
 -- How commands are refused (MongoDB manual, "Error Codes"; from 900 on they are this server's own).
 use Rattle.std.specs.Prelude.{◌≡◌, ◌⊎◌, ℕ, List, [], ◌∷◌, ◌++◌, Result, Ok, Err, codes}
+use Rattle.dv_bson.specs.Results.{◌>>=◌}
 use Rattle.dv_bson.specs.declared.fault.BsonFault.{BsonFault}
 use Rattle.dv_bson.specs.declared.fault.BsonFault.TheVariants.{NoMemory}
 use Rattle.dv_bson.specs.Fault.{fault_text}
@@ -102,17 +103,6 @@ pipeline_refusal piping.NoMemory = WantOfMemory
 abbrev pub refused_by : {A E : Type 0} → (E → Refusal) → Result A E → Result A Refusal
 refused_by refusal (Ok x) = Ok x
 refused_by refusal (Err fault) = Err (refusal fault)
-
--- one thing after another: the first refusal is told
-infixl 10 ◌>>=◌
-abbrev pub ◌>>=◌ : {A B : Type 0} → Result A Refusal → (A → Result B Refusal) → Result B Refusal
-(Ok x) >>= f = f x
-(Err e) >>= f = Err e
-
--- what is read out of each of a list, in order
-abbrev pub each : {A B : Type 0} → (A → Result B Refusal) → List A → Result (List B) Refusal
-each read [] = Ok []
-each read (x ∷ xs) = read x >>= λ y. each read xs >>= λ ys. Ok (y ∷ ys)
 
 -- what a function of the code answered, seen by a view, is as it is defined; or a refusal for want of memory in place of it
 abbrev pub UnlessWanting : {X Y : Type 0} → (X → Y) → Result Y Refusal → Result X Refusal → Type 0

@@ -3,7 +3,8 @@
 ghost use Rattle.std.specs.Prelude.{◌≡◌, Ok, Err, MatchResult, map};
 ghost use Rattle.dv_bson.specs.View.{tree};
 ghost use Rattle.dv_fields.specs.Fields as defined;
-ghost use Rattle.dv_fields.specs.Refusals.{UnlessWanting, each};
+ghost use Rattle.dv_fields.specs.Refusals.{UnlessWanting};
+ghost use Rattle.dv_bson.specs.Results.{each};
 
 use crate::documents::Documents;
 use crate::refusal::Refusal;

@@ -2,7 +2,7 @@
 use Rattle.std.specs.Prelude.{ℕ, pos, true, List, [], ◌∷◌, Result, Ok, codes}
 use Rattle.dv_bson.specs.Tree.{Tree, int32, int64, string, document, array, boolean, null, Field, fields_of, elements_of}
 use Rattle.dv_row.specs.declared.fault.PipelineFault.{PipelineFault}
-use Rattle.dv_row.specs.Parsing.{◌>>=◌}
+use Rattle.dv_bson.specs.Results.{◌>>=◌}
 use Rattle.dv_row.specs.Row.{Row}
 use Rattle.dv_gather.specs.GroupParsing.{group_in}
 use Rattle.dv_gather.specs.Grouping.{grouped}

@@ -7,7 +7,7 @@ use Rattle.dv_bson.specs.Names.{value_under, without}
 use Rattle.dv_row.specs.declared.fault.PipelineFault.{PipelineFault}
 use Rattle.dv_row.specs.declared.fault.PipelineFault.TheVariants.{BadSpec}
 use Rattle.dv_row.specs.Expressions.{Expression}
-use Rattle.dv_row.specs.Parsing.{◌>>=◌, each}
+use Rattle.dv_bson.specs.Results.{◌>>=◌, each}
 use Rattle.dv_row.specs.ExpressionParsing.{expression_in}
 use Rattle.dv_gather.specs.declared.accumulator.Accumulator.{Accumulator}
 use Rattle.dv_gather.specs.declared.accumulator.Accumulator.TheVariants.{Sum, Min, Max, Push}

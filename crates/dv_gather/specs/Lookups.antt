@@ -8,7 +8,7 @@ use Rattle.dv_path.specs.Path.{path_of}
 use Rattle.dv_row.specs.declared.fault.PipelineFault.{PipelineFault}
 use Rattle.dv_row.specs.declared.fault.PipelineFault.TheVariants.{BadSpec}
 use Rattle.dv_row.specs.Expressions.{with_field}
-use Rattle.dv_row.specs.Parsing.{◌>>=◌}
+use Rattle.dv_bson.specs.Results.{◌>>=◌}
 use Rattle.dv_path.specs.Names.{has_dot}
 use Rattle.dv_row.specs.Row.{Row}
 use Rattle.dv_gather.specs.declared.lookup.Lookup.{Lookup}

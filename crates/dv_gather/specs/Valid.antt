@@ -21,7 +21,7 @@ use Rattle.dv_row.specs.declared.fault.PipelineFault.TheVariants.{BadSpec}
 use Rattle.dv_path.specs.Names.{has_dot}
 use Rattle.dv_row.specs.ExpressionParsing.{expression_in}
 use Rattle.dv_row.specs.Expressions.{Expression, value_of, with_field}
-use Rattle.dv_row.specs.Parsing.{◌>>=◌, each}
+use Rattle.dv_bson.specs.Results.{◌>>=◌, each}
 use Rattle.dv_row.specs.Row.{Row}
 use Rattle.dv_row.specs.Valid.{AreValues, IsValid, AreValid, IsSound, listed-fields, valid-fields, valid-elements, either, bound, unless, any-ok, each-sound, value_under-valid, with_field-valid, with_value_under-valid, without-valid, value_of-valid, expression_in-sound}
 use Rattle.dv_gather.specs.declared.accumulator.Accumulator.{Accumulator}

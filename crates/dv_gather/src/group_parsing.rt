@@ -4,7 +4,8 @@ ghost use Rattle.std.specs.Prelude.{◌≡◌, map, codes, IfOk};
 ghost use Rattle.dv_bson.specs.Names.{value_under, without};
 ghost use Rattle.dv_bson.specs.View.{tree};
 ghost use Rattle.dv_row.specs.ExpressionView.{expression};
-ghost use Rattle.dv_row.specs.Parsing.{Gives, each};
+ghost use Rattle.dv_row.specs.Parsing.{Gives};
+ghost use Rattle.dv_bson.specs.Results.{each};
 ghost use Rattle.dv_gather.specs.GroupParsing as defined;
 ghost use Rattle.dv_gather.specs.GroupView.{accumulation};
 

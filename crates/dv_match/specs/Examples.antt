@@ -3,7 +3,8 @@ use Rattle.std.specs.Prelude.{ℕ, pos, Bool, List, [], ◌∷◌, Result, Ok}
 use Rattle.dv_bson.specs.Tree.{Tree, int32, document, array, Field, fields_of, elements_of}
 use Rattle.dv_match.specs.declared.fault.FilterFault.{FilterFault}
 use Rattle.dv_match.specs.Match.{matches}
-use Rattle.dv_match.specs.Parsing.{◌>>=◌, filter_in}
+use Rattle.dv_match.specs.Parsing.{filter_in}
+use Rattle.dv_bson.specs.Results.{◌>>=◌}
 
 abbrev pub int : ℕ → Tree
 int n = int32 (pos n)

@@ -3,6 +3,7 @@
 use Rattle.std.specs.Prelude.{◌≡◌, ◌⊎◌, ℕ, ℤ, pos, negsuc, Bool, true, false, ◌||◌, ◌&&◌, not, List, Option, Some, None, Result, Ok, Err, codes, ◌==◌, if◌then◌else◌}
 use Rattle.std.specs.List.{list_any}
 use Rattle.std.specs.Str.{bytes_eq}
+use Rattle.dv_bson.specs.Results.{◌>>=◌}
 use Rattle.dv_bson.specs.Names.{begins_with_dollar}
 use Rattle.dv_bson.specs.Tree.{Tree, int32, int64, boolean, document, array, Fields, no_fields, field, Elements, no_elements, element, list_of_elements}
 use Rattle.dv_path.specs.Path.{path_of}
@@ -12,12 +13,6 @@ use Rattle.dv_match.specs.declared.fault.FilterFault.TheVariants.{UnknownOperato
 use Rattle.dv_match.specs.declared.operator.Operator.{Operator}
 use Rattle.dv_match.specs.declared.operator.Operator.TheVariants.{Eq, Ne, Gt, Gte, Lt, Lte, In, Nin, Not, All, Exists, Size, ElemMatch}
 use Rattle.dv_match.specs.Filter.{Member, all_of, any_of, none_of, at_path, Members, no_members, more_members, Filters, no_filters, more_filters, Condition, equal, unequal, in_range, among, not_among, unmet, contains, exists, sized, has_element, Conditions, no_conditions, more_conditions, Test, by_operators, by_filter}
-
--- one thing after another: the first fault is told
-infixl 10 ◌>>=◌
-abbrev pub ◌>>=◌ : {A B : Type 0} → Result A FilterFault → (A → Result B FilterFault) → Result B FilterFault
-(Ok x) >>= f = f x
-(Err e) >>= f = Err e
 
 -- what a function returned, seen by view, is what parsing gives, unless memory is wanting
 abbrev pub Gives : {X Y : Type 0} → (X → Y) → Result X FilterFault → Result Y FilterFault → Type 0

@@ -5,7 +5,7 @@ use Rattle.dv_bson.specs.Tree.{Tree}
 use Rattle.dv_row.specs.declared.fault.PipelineFault.{PipelineFault}
 use Rattle.dv_row.specs.declared.fault.PipelineFault.TheVariants.{TooMany}
 use Rattle.dv_pipe.specs.declared.stage.Stage.{Stage}
-use Rattle.dv_row.specs.Parsing.{◌>>=◌, each}
+use Rattle.dv_bson.specs.Results.{◌>>=◌, each}
 use Rattle.dv_pipe.specs.StageParsing.{stage_of, pipeline_of}
 use Rattle.dv_pipe.proofs.Items.{take-past}
 

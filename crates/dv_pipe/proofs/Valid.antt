@@ -11,7 +11,8 @@ use Rattle.dv_row.specs.declared.fault.PipelineFault.{PipelineFault}
 use Rattle.dv_row.specs.declared.fault.PipelineFault.TheVariants.{UnknownStage, TooMany}
 use Rattle.dv_row.specs.declared.project.Project as projects
 use Rattle.dv_row.specs.declared.unwind.Unwind as unwinds
-use Rattle.dv_row.specs.Parsing.{each, unwind_in}
+use Rattle.dv_row.specs.Parsing.{unwind_in}
+use Rattle.dv_bson.specs.Results.{each}
 use Rattle.dv_row.specs.Projecting.{projected}
 use Rattle.dv_row.specs.ProjectParsing.{project_in}
 use Rattle.dv_row.specs.Row.{Row}

@@ -12,7 +12,8 @@ use Rattle.dv_row.specs.declared.fault.PipelineFault.TheVariants.{UnknownStage, 
 use Rattle.dv_pipe.specs.declared.stage.Stage.{Stage}
 use Rattle.dv_pipe.specs.declared.stage.Stage.TheVariants as stages
 use Rattle.dv_row.specs.Fault.{of_filter}
-use Rattle.dv_row.specs.Parsing.{◌>>=◌, each, unwind_in}
+use Rattle.dv_row.specs.Parsing.{unwind_in}
+use Rattle.dv_bson.specs.Results.{◌>>=◌, each}
 use Rattle.dv_row.specs.ProjectParsing.{project_in}
 use Rattle.dv_gather.specs.GroupParsing.{group_in}
 use Rattle.dv_gather.specs.Lookups.{lookup_in}

@@ -3,7 +3,8 @@
 ghost use Rattle.std.specs.Prelude.{◌≡◌, ◌≤◌, length, map, IfOk};
 ghost use Rattle.std.specs.List.{list_any};
 ghost use Rattle.dv_bson.specs.View.{tree};
-ghost use Rattle.dv_row.specs.Parsing.{Gives, each};
+ghost use Rattle.dv_row.specs.Parsing.{Gives};
+ghost use Rattle.dv_bson.specs.Results.{each};
 ghost use Rattle.dv_pipe.specs.StageParsing.{stage_of, pipeline_of};
 ghost use Rattle.dv_pipe.specs.Stages.{is_named, is_read, looked_into};
 

@@ -19,7 +19,7 @@ use Rattle.dv_row.specs.declared.project.Project.TheVariants.{Include, Exclude}
 use Rattle.dv_row.specs.Conflicts.{IsTaken}
 use Rattle.dv_row.specs.ExpressionParsing.{expression_in, switch_in}
 use Rattle.dv_row.specs.Expressions.{Expression, computed_of, with_computed, with_field, value_of}
-use Rattle.dv_row.specs.Parsing.{◌>>=◌}
+use Rattle.dv_bson.specs.Results.{◌>>=◌}
 use Rattle.dv_row.specs.Projecting.{row_left, projected}
 use Rattle.dv_row.specs.ProjectParsing.{Asked, conflicts, excludes, includes, is_below_id, is_id, members_in, nothing_asked, one_begins, project_form, project_in, with_computation, with_excluded, with_id, with_included, with_member, with_named, with_path, with_switch}
 use Rattle.dv_row.specs.Row.{Row}

@@ -12,7 +12,7 @@ use Rattle.dv_row.specs.declared.project.Project.TheVariants.{Include, Exclude}
 use Rattle.dv_row.specs.Fault.{of_path}
 use Rattle.dv_row.proofs.Unwound.{list-of-fields_of}
 use Rattle.dv_row.specs.Expressions.{Expression, Computed, computed, computed_of}
-use Rattle.dv_row.specs.Parsing.{◌>>=◌, each}
+use Rattle.dv_bson.specs.Results.{◌>>=◌, each}
 use Rattle.dv_row.specs.ExpressionParsing.{literal_in, under_name, expression_in, computed_in}
 use Rattle.dv_row.specs.ProjectParsing.{one_begins, Asked, nothing_asked, members_in, conflicts, includes, with_id, project_form, project_in}
 

@@ -9,7 +9,7 @@ use Rattle.dv_row.specs.Conflicts.{has_conflict, IsTaken}
 use Rattle.dv_row.specs.Expressions.{Expression}
 use Rattle.dv_path.specs.Names.{has_dot}
 use Rattle.dv_row.specs.ExpressionParsing.{expression_in}
-use Rattle.dv_row.specs.Parsing.{◌>>=◌}
+use Rattle.dv_bson.specs.Results.{◌>>=◌}
 use Rattle.dv_row.specs.ProjectParsing.{Asked, is_id, is_below_id, one_begins, conflicts, unless_conflict, with_included, with_excluded, with_computation, excludes, includes, with_path, with_expression, with_switch, with_member, members_in, nothing_asked}
 use Rattle.dv_row.proofs.Conflicting.{any-pushed, conflict-pushed}
 use Rattle.dv_row.proofs.Items.{drop-found, drop-past}

@@ -9,7 +9,8 @@ use Rattle.dv_path.specs.Names.{has_dot}
 use Rattle.dv_row.specs.declared.fault.PipelineFault.{PipelineFault}
 use Rattle.dv_row.specs.declared.fault.PipelineFault.TheVariants.{BadSpec}
 use Rattle.dv_row.specs.Expressions.{Expression, at_path, constant, made, Computed, nothing, computed}
-use Rattle.dv_row.specs.Parsing.{◌>>=◌, path_in}
+use Rattle.dv_row.specs.Parsing.{path_in}
+use Rattle.dv_bson.specs.Results.{◌>>=◌}
 
 -- what a number or a boolean switches on or off
 abbrev pub switch_in : Tree → Option Bool

@@ -3,6 +3,7 @@
 use Rattle.std.specs.Prelude.{◌≡◌, ◌⊎◌, ℕ, ◌==◌, ◌||◌, Bool, false, Option, Some, None, List, [], ◌∷◌, Result, Ok, Err, codes, if◌then◌else◌}
 use Rattle.std.specs.Str.{bytes_eq}
 use Rattle.std.specs.List.{list_all}
+use Rattle.dv_bson.specs.Results.{◌>>=◌}
 use Rattle.dv_bson.specs.Tree.{Tree, string, boolean, document, Field, list_of_fields}
 use Rattle.dv_bson.specs.Names.{begins_with_dollar, value_under}
 use Rattle.dv_path.specs.Candidates.{Candidate}
@@ -11,21 +12,10 @@ use Rattle.dv_row.specs.declared.fault.PipelineFault.{PipelineFault}
 use Rattle.dv_row.specs.declared.fault.PipelineFault.TheVariants.{BadSpec, NoMemory}
 use Rattle.dv_row.specs.declared.unwind.Unwind.{Unwind}
 
--- one thing after another: the first fault is told
-infixl 10 ◌>>=◌
-abbrev pub ◌>>=◌ : {A B : Type 0} → Result A PipelineFault → (A → Result B PipelineFault) → Result B PipelineFault
-(Ok x) >>= f = f x
-(Err e) >>= f = Err e
-
 -- what a function returned, seen by view, is what parsing gives, unless memory is wanting
 abbrev pub Gives : {X Y : Type 0} → (X → Y) → Result X PipelineFault → Result Y PipelineFault → Type 0
 Gives view (Ok x) parsed = parsed ≡ Ok (view x)
 Gives view (Err e) parsed = (e ≡ NoMemory) ⊎ (parsed ≡ Err e)
-
--- each in turn, up to the first fault
-abbrev pub each : {X Y : Type 0} → (X → Result Y PipelineFault) → List X → Result (List Y) PipelineFault
-each f [] = Ok []
-each f (x ∷ xs) = f x >>= λ y. each f xs >>= λ ys. Ok (y ∷ ys)
 
 -- what stands behind a dollar sign
 abbrev pub behind_dollar : List ℕ → Option (List ℕ)

@@ -19,7 +19,8 @@ use Rattle.dv_row.specs.declared.project.Project.TheVariants.{Include, Exclude}
 use Rattle.dv_row.specs.Expressions.{Expression, at_path, constant, made, Computed, nothing, computed, with_field, value_of, with_computed}
 use Rattle.dv_path.specs.Names.{has_dot}
 use Rattle.dv_row.specs.ExpressionParsing.{switch_in, literal_in, text_expression, literal_or_made, under_name, constant_or_fault, constant_in, expression_in, computed_in}
-use Rattle.dv_row.specs.Parsing.{◌>>=◌, each, path_in}
+use Rattle.dv_row.specs.Parsing.{path_in}
+use Rattle.dv_bson.specs.Results.{◌>>=◌, each}
 use Rattle.dv_row.specs.Row.{Row}
 
 abbrev pub AreValues : List Tree → Type 0

@@ -16,7 +16,7 @@ use Rattle.dv_row.specs.declared.unwind.Unwind.{Unwind}
 use Rattle.dv_row.specs.Expressions.{Expression, computed_of}
 use Rattle.dv_path.specs.Names.{has_dot}
 use Rattle.dv_row.specs.ExpressionParsing.{switch_in, expression_in}
-use Rattle.dv_row.specs.Parsing.{◌>>=◌}
+use Rattle.dv_bson.specs.Results.{◌>>=◌}
 use Rattle.dv_row.specs.ProjectParsing.{Asked, is_id, is_below_id, conflicts, unless_conflict, with_included, with_excluded, with_computation, excludes, includes, with_path, with_expression, with_switch, with_named, with_member, members_in, nothing_asked, project_form, project_in}
 use Rattle.dv_row.specs.Projecting.{behind, ends, if_it, with_left, with_element, left_at, left_inside, fields_left, elements_left, row_left, projected}
 use Rattle.dv_row.specs.Row.{Row}

@@ -13,7 +13,8 @@ use Rattle.dv_path.specs.declared.fault.PathFault.{PathFault}
 use Rattle.dv_update.specs.Apply.{Path, told, set_at, increased, appended, pull_from, edit_at, edited}
 use Rattle.dv_update.specs.Collected.{Steps}
 use Rattle.dv_update.specs.Filling.{Fill, fill_of, before, fills, array_of, place_of, least, leads_into_same, least_size}
-use Rattle.dv_update.specs.Parsing.{◌>>=◌, conflicts, has_conflict}
+use Rattle.dv_update.specs.Parsing.{conflicts, has_conflict}
+use Rattle.dv_bson.specs.Results.{◌>>=◌}
 use Rattle.dv_update.specs.PathOrder.{path_order, begins}
 use Rattle.dv_update.specs.Removals.{is_removal, other_edits}
 use Rattle.dv_update.specs.StandIn.{new_value}

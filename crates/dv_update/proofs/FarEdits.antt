@@ -10,7 +10,7 @@ use Rattle.dv_path.specs.declared.fault.PathFault.{PathFault}
 use Rattle.dv_path.specs.declared.fault.PathFault.TheVariants.{NotViable}
 use Rattle.dv_path.specs.Slots.{Slot, taken, free, blocked, slot_of, next_slot, slot_behind, slot}
 use Rattle.dv_update.specs.Apply.{told, set_at, number_tree, increased, appended, pull_from, edit_at}
-use Rattle.dv_update.specs.Parsing.{◌>>=◌}
+use Rattle.dv_bson.specs.Results.{◌>>=◌}
 use Rattle.dv_update.specs.PathOrder.{begins}
 use Rattle.dv_update.specs.Removals.{is_removal}
 use Rattle.dv_update.specs.StandIn.{in_one_piece, down_to, Alike, most_levels, names_length, IsLastWay, parting, IsLast, new_value}

@@ -10,7 +10,8 @@ use Rattle.dv_bson.specs.Spelling.{Fits, spelling, levels}
 use Rattle.dv_bson.specs.Tree.{Tree, Field, fields_of, list_of_fields, document}
 use Rattle.dv_path.specs.Slots.{slot, taken}
 use Rattle.dv_update.specs.Apply.{Path, told, set_at, is_id, leading_id, checked, changed, applied, document_limit, level_limit}
-use Rattle.dv_update.specs.Parsing.{◌>>=◌, conflicts, has_conflict, placed, sorted, in_order}
+use Rattle.dv_update.specs.Parsing.{conflicts, has_conflict, placed, sorted, in_order}
+use Rattle.dv_bson.specs.Results.{◌>>=◌}
 use Rattle.dv_update.specs.PathOrder.{path_order, begins}
 use Rattle.dv_update.specs.PathOrderLaws.{path_order_total}
 use Rattle.dv_order.specs.Same.{is_same, same_fields, both_same}

@@ -10,7 +10,7 @@ use Rattle.dv_path.specs.Placing.{with_field, put}
 use Rattle.dv_path.specs.Slots.{slot, slot_of, taken}
 use Rattle.dv_update.specs.Apply.{Path, told, set_at, increased, edit_at, edited, checked, applied, is_id, leading_id, document_limit, level_limit}
 use Rattle.dv_update.specs.Outcome.{HasRoom, edit_under, sole_edit, sole_name, name_of, value_by}
-use Rattle.dv_update.specs.Parsing.{◌>>=◌}
+use Rattle.dv_bson.specs.Results.{◌>>=◌}
 use Rattle.dv_order.specs.Same.{both_same, is_same, same_fields}
 use Rattle.dv_update.specs.Update.{Operation, assign, take_away, increase, append, pull, Update, operators, replacement}
 use Rattle.dv_update.specs.declared.fault.UpdateFault.{UpdateFault}

@@ -11,7 +11,8 @@ use Rattle.dv_path.specs.Removing.{remove}
 use Rattle.dv_path.specs.Slots.{Slot, taken, free, blocked, slot}
 use Rattle.dv_update.specs.declared.fault.UpdateFault.{UpdateFault}
 use Rattle.dv_update.specs.Apply.{Path, told, set_at, increased, appended, pull_from, edit_at, edited}
-use Rattle.dv_update.specs.Parsing.{◌>>=◌, conflicts, has_conflict}
+use Rattle.dv_update.specs.Parsing.{conflicts, has_conflict}
+use Rattle.dv_bson.specs.Results.{◌>>=◌}
 use Rattle.dv_update.specs.PathOrder.{begins}
 use Rattle.dv_update.specs.Removals.{is_removal, removals, other_edits}
 use Rattle.dv_update.specs.Update.{Operation, assign, take_away, increase, append, pull, Pulled, Edit}

@@ -8,7 +8,7 @@ use Rattle.dv_path.specs.declared.fault.PathFault.TheVariants as paths
 use Rattle.dv_path.specs.Slots.{slot, slot_behind, free, blocked}
 use Rattle.dv_update.specs.Apply.{Path, told, set_at, edit_at, checked}
 use Rattle.dv_update.specs.OtherFaults.{of_path}
-use Rattle.dv_update.specs.Parsing.{◌>>=◌}
+use Rattle.dv_bson.specs.Results.{◌>>=◌}
 use Rattle.dv_update.specs.PathOrder.{begins}
 use Rattle.dv_update.specs.Removals.{is_removal}
 use Rattle.dv_update.specs.StandIn.{in_one_piece, Alike, PullsShallow, IsLast, names_length, new_value, parting}

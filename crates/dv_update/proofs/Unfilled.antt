@@ -16,7 +16,7 @@ use Rattle.dv_update.specs.Apply.{Path, number_tree, told, set_at, increased, ap
 use Rattle.dv_update.specs.Collected.{Steps}
 use Rattle.dv_update.specs.Filling.{Fill, Made, beyond, leads_into_id, IsTooLarge, IsUnfilled, Unfilled, judged}
 use Rattle.dv_update.specs.OtherFaults.{of_path}
-use Rattle.dv_update.specs.Parsing.{◌>>=◌}
+use Rattle.dv_bson.specs.Results.{◌>>=◌}
 use Rattle.dv_update.specs.Removals.{is_removal, other_edits}
 use Rattle.dv_update.specs.StandIn.{new_value}
 use Rattle.dv_update.specs.Update.{Operation, assign, take_away, increase, append, pull, Pulled, Edit}

@@ -3,7 +3,8 @@ use Rattle.std.specs.Prelude.{ℕ, pos, List, [], ◌∷◌, Result, codes}
 use Rattle.dv_bson.specs.Tree.{Tree, int32, int64, document, array, Field, fields_of, elements_of}
 use Rattle.dv_update.specs.declared.fault.UpdateFault.{UpdateFault}
 use Rattle.dv_update.specs.Apply.{applied}
-use Rattle.dv_update.specs.Parsing.{◌>>=◌, update_of}
+use Rattle.dv_update.specs.Parsing.{update_of}
+use Rattle.dv_bson.specs.Results.{◌>>=◌}
 
 abbrev pub int : ℕ → Tree
 int n = int32 (pos n)

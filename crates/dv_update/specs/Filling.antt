@@ -7,7 +7,7 @@ use Rattle.dv_bson.specs.Spelling.{spelling}
 use Rattle.dv_bson.specs.Tree.{Tree, document, array, Field, fields_of, list_of_fields, list_of_elements}
 use Rattle.dv_path.specs.Path.{index_of}
 use Rattle.dv_update.specs.Apply.{Path, checked, document_limit, edited, leading_id}
-use Rattle.dv_update.specs.Parsing.{◌>>=◌}
+use Rattle.dv_bson.specs.Results.{◌>>=◌}
 use Rattle.dv_update.specs.PathOrder.{begins, number_of}
 use Rattle.dv_update.specs.Removals.{other_edits}
 use Rattle.dv_update.specs.StandIn.{new_value}

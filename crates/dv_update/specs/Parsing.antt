@@ -4,6 +4,7 @@ use Rattle.std.specs.Prelude.{◌≡◌, ◌⊎◌, ℕ, Bool, false, ◌||◌, 
 use Rattle.std.specs.List.{list_any}
 use Rattle.std.specs.Str.{bytes_eq}
 use Rattle.std.specs.Ordering.{is_gt}
+use Rattle.dv_bson.specs.Results.{◌>>=◌}
 use Rattle.dv_bson.specs.Names.{begins_with_dollar}
 use Rattle.dv_bson.specs.Tree.{Tree, int32, int64, document, array, Fields, no_fields, field, Field, fields_of, list_of_fields, list_of_elements}
 use Rattle.dv_path.specs.Names.{has_bad_name}
@@ -18,12 +19,6 @@ use Rattle.dv_update.specs.declared.operator.Operator.{Operator}
 use Rattle.dv_update.specs.declared.operator.Operator.TheVariants.{Set, Unset, Inc, Push, Pull}
 use Rattle.dv_update.specs.PathOrder.{path_order, begins}
 use Rattle.dv_update.specs.Update.{Operation, assign, take_away, increase, append, pull, equal_to, passing, Edit, Update, replacement, operators}
-
--- one thing after another: the first fault is told
-infixl 10 ◌>>=◌
-abbrev pub ◌>>=◌ : {A B : Type 0} → Result A UpdateFault → (A → Result B UpdateFault) → Result B UpdateFault
-(Ok x) >>= f = f x
-(Err e) >>= f = Err e
 
 -- what a function returned, seen by view, is what is defined, unless memory is wanting
 abbrev pub Gives : {X Y : Type 0} → (X → Y) → Result X UpdateFault → Result Y UpdateFault → Type 0

@@ -4,7 +4,7 @@ use Rattle.dv_bson.specs.Tree.{Field}
 use Rattle.dv_path.specs.Apart.{remove_each}
 use Rattle.dv_update.specs.declared.fault.UpdateFault.{UpdateFault}
 use Rattle.dv_update.specs.Apply.{edited}
-use Rattle.dv_update.specs.Parsing.{◌>>=◌}
+use Rattle.dv_bson.specs.Results.{◌>>=◌}
 use Rattle.dv_update.specs.Update.{Operation, take_away, Edit}
 
 abbrev pub is_removal : Operation → Bool

@@ -3,7 +3,7 @@ use Rattle.std.specs.Prelude.{◌≡◌, List, Option, Some, None, Result, Ok, E
 use Rattle.std.specs.Option.{IfSome}
 use Rattle.dv_bson.specs.Tree.{Field}
 use Rattle.dv_update.specs.Apply.{checked}
-use Rattle.dv_update.specs.Parsing.{◌>>=◌}
+use Rattle.dv_bson.specs.Results.{◌>>=◌}
 use Rattle.dv_update.specs.StandIn.{Alike, IsLast}
 use Rattle.dv_update.specs.declared.fault.UpdateFault.{UpdateFault}
 use Rattle.dv_update.specs.declared.fault.UpdateFault.TheVariants.{NoMemory}

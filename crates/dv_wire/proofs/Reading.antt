@@ -4,7 +4,8 @@ use Rattle.std.proofs.lemmas.List.{take_all}
 use Rattle.dv_bson.specs.declared.fault.BsonFault.{BsonFault}
 use Rattle.dv_bson.specs.declared.fault.BsonFault.TheVariants.{NoMemory}
 use Rattle.dv_bson.specs.Tree.{Field}
-use Rattle.dv_bson.specs.Reading.{◌>>=◌, document_at, fault_of, first_fault}
+use Rattle.dv_bson.specs.Reading.{document_at, fault_of, first_fault}
+use Rattle.dv_bson.specs.Results.{◌>>=◌}
 use Rattle.dv_wire.specs.Commands.{fields_in, each_read}
 
 -- what comes of a reader whose results are read on

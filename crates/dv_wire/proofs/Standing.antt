@@ -9,7 +9,7 @@ use Rattle.dv_command.specs.Asked.{Asked, asked_by, aggregate, create, create_in
 use Rattle.dv_command.specs.Asked as asking
 use Rattle.dv_command.specs.Replies.{drop_reply, reply_of}
 use Rattle.dv_command.specs.declared.command.Command.{Command}
-use Rattle.dv_fields.specs.Refusals.{◌>>=◌}
+use Rattle.dv_bson.specs.Results.{◌>>=◌}
 use Rattle.dv_fields.specs.declared.refusal.Refusal.{Refusal}
 use Rattle.dv_fields.specs.declared.refusal.Refusal.TheVariants.{OnView}
 use Rattle.dv_core.specs.Find.{found, gathered}

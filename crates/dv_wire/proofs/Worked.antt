@@ -9,7 +9,8 @@ use Rattle.std.proofs.lemmas.Str.Ascii.{IsAscii-nil, IsAscii-cons}
 use Rattle.dv_bson.specs.declared.fault.BsonFault.{BsonFault}
 use Rattle.dv_bson.specs.Tree.{int32, Field}
 use Rattle.dv_bson.specs.Spelling.{framed, element_spelling, payload}
-use Rattle.dv_bson.specs.Reading.{document_at, count_at, body_at, Inside, ◌>>=◌, fields_at, kind_at, kind_of_byte, name_at, cut_at_zero, value_at, text_at}
+use Rattle.dv_bson.specs.Reading.{document_at, count_at, body_at, Inside, fields_at, kind_at, kind_of_byte, name_at, cut_at_zero, value_at, text_at}
+use Rattle.dv_bson.specs.Results.{◌>>=◌}
 use Rattle.dv_command.specs.Asked.{asked_by}
 use Rattle.dv_command.specs.declared.command.Command.{Command}
 use Rattle.dv_fields.specs.declared.refusal.Refusal.TheVariants.{WantOfMemory}

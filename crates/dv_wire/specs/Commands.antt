@@ -2,7 +2,8 @@
 use Rattle.std.specs.Prelude.{ℕ, List, [], ◌∷◌, Result, Ok, Err}
 use Rattle.dv_bson.specs.declared.fault.BsonFault.{BsonFault}
 use Rattle.dv_bson.specs.Tree.{Field}
-use Rattle.dv_bson.specs.Reading.{◌>>=◌, document_at}
+use Rattle.dv_bson.specs.Reading.{document_at}
+use Rattle.dv_bson.specs.Results.{◌>>=◌}
 use Rattle.dv_command.specs.declared.command.Command.{Command}
 use Rattle.dv_command.specs.declared.command.Command.TheVariants.{Sections, Invalid}
 use Rattle.dv_wire.specs.Sections.{Section, body, named}

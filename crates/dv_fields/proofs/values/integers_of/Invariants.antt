@@ -2,7 +2,7 @@
 use Rattle.std.proofs.Common.{◌≡◌, ◌++◌, Ok, drop, map}
 use Rattle.dv_bson.specs.View.{tree}
 use Rattle.dv_fields.specs.Fields.{integer_in}
-use Rattle.dv_fields.specs.Refusals.{◌>>=◌, each}
+use Rattle.dv_bson.specs.Results.{◌>>=◌, each}
 use Rattle.dv_fields.proofs.values.integers_of.Given as goal
 
 abbrev pub invariant-values : goal.invariant-values
