@@ -6,7 +6,7 @@ use Rattle.std.specs.FinMap as finite
 use Rattle.std.specs.List.{AllByRecursion}
 use Rattle.std.specs.List.Sorted.{IsStrictlySortedBy}
 use Rattle.std.specs.Ordering.{nat_cmp, is_lt}
-use Rattle.dv_bson.specs.Names.{value_under}
+use Rattle.dv_bson.specs.Names.{value_under, without}
 use Rattle.dv_bson.specs.Spelling.{AreFields, Fits}
 use Rattle.dv_bson.specs.Tree.{Tree, array, Field, fields_of}
 use Rattle.dv_order.specs.Key.{KeyTree, key_order}
@@ -34,7 +34,7 @@ use Rattle.dv_core.specs.State.{State, empty_state}
 use Rattle.dv_core.specs.Statements.{Write}
 use Rattle.dv_core.specs.Step.{write_of}
 use Rattle.dv_path.specs.Names.{has_bad_name}
-use Rattle.dv_core.specs.Storable.{id_in, is_within_limits, storable, with_id_first, without_field}
+use Rattle.dv_core.specs.Storable.{id_in, is_within_limits, storable, with_id_first}
 use Rattle.dv_core.specs.Writes.{insert_one, statement_of, write_by}
 use Rattle.dv_core.proofs.Bare.{BareStep}
 use Rattle.dv_core.proofs.Asking.{AsksSoundly, soundly_asked}
@@ -117,7 +117,7 @@ within_limits (Err refusal) h = tt
 stored_id : (d stored : List Field) → storable d ≡ Ok stored → HasId stored
 stored_id d stored is =
     subst GivesId is
-    (within_limits (with_id_first d) (first_with_id (has_bad_name d) _ (id_given (codes "_id") refl (value_under (codes "_id") d) (without_field (codes "_id") d))))
+    (within_limits (with_id_first d) (first_with_id (has_bad_name d) _ (id_given (codes "_id") refl (value_under (codes "_id") d) (without (codes "_id") d))))
 
 -- ---- what becomes of a document that is updated begins with its `_id`
 

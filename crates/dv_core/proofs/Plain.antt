@@ -3,7 +3,7 @@ use Rattle.std.proofs.Common.{◌&&◌, Bool, true, false, cond, ℤ, pos, negsu
 use Rattle.std.specs.List.{AllByRecursion}
 use Rattle.std.specs.Prelude.{codes}
 use Rattle.std.specs.Str.{bytes_eq}
-use Rattle.dv_bson.specs.Names.{value_under}
+use Rattle.dv_bson.specs.Names.{value_under, without}
 use Rattle.dv_bson.specs.Tree.{Tree, int32, int64, string, boolean, document, array, no_fields, Elements, no_elements, element, Field, fields_of}
 use Rattle.dv_coll.specs.Collection.{id_key, found}
 use Rattle.dv_match.specs.declared.fault.FilterFault.{FilterFault}
@@ -29,7 +29,7 @@ use Rattle.dv_catalog.specs.Effects.{after, all_or_first, changed_by, delete_cho
 use Rattle.dv_catalog.specs.Scan.{matching}
 use Rattle.dv_catalog.specs.State.{Collection}
 use Rattle.dv_path.specs.Names.{has_bad_name}
-use Rattle.dv_core.specs.Storable.{without_field, id_in, is_within_limits, with_id_first, storable}
+use Rattle.dv_core.specs.Storable.{id_in, is_within_limits, with_id_first, storable}
 use Rattle.dv_core.specs.Writes.{insert_one, update_one, delete_one}
 
 -- a refusal of a statement, which tells of no fault in bytes
@@ -226,7 +226,7 @@ id_plainly (Some v) d = tt
 
 storable_plainly : (d : List Field) → IsPlainly (storable d)
 storable_plainly d =
-    then_plainly (with_id_first d) _ (test_plainly (has_bad_name d) (Err BadValue) _ tt (id_plainly (value_under (codes "_id") d) (without_field (codes "_id") d)))
+    then_plainly (with_id_first d) _ (test_plainly (has_bad_name d) (Err BadValue) _ tt (id_plainly (value_under (codes "_id") d) (without (codes "_id") d)))
     (λ stored. test_plainly (is_within_limits stored) (Ok stored) (Err TooLarge) tt tt)
 
 -- ---- statements

@@ -35,7 +35,8 @@ use Rattle.dv_gather.specs.Grouping.{Accumulation, Grouping, key_in, keyed, with
 use Rattle.dv_gather.specs.Groups.{under, keys_of, groups_of}
 use Rattle.dv_gather.specs.Joining.{as_value, is_joined, matches}
 use Rattle.dv_gather.specs.Lookups.{set_field, found, looked_up, text_in, target_in, from_option, field_option, as_option, looking, lookup_of, lookup_in}
-use Rattle.dv_gather.specs.Sums.{fits_32, fits_64, digits as spelled_out, total, is_int64, spelled}
+use Rattle.dv_gather.specs.Sums.{digits as spelled_out, total, is_int64, spelled}
+use Rattle.dv_bson.specs.Widths.{fits_32, fits_64}
 
 abbrev pub IsSoundField : Accumulation → Type 0
 IsSoundField a = IsUtf8 a.name × IsSound a.argument

@@ -10,7 +10,8 @@ ghost use Rattle.dv_bson.specs.Tree.{Tree, array, document, null, Elements, no_e
 ghost use Rattle.dv_path.specs.Placing.{put};
 ghost use Rattle.dv_path.specs.Removing.{remove};
 ghost use Rattle.dv_row.specs.declared.fault.PipelineFault.TheVariants.{BadSpec};
-ghost use Rattle.dv_row.specs.Examples.{int, long, text, doc, list, shown};
+ghost use Rattle.dv_row.specs.Examples.{shown};
+ghost use Rattle.dv_bson.specs.Short.{int, long, text, doc, list};
 ghost use Rattle.dv_row.specs.declared.project.Project as projects;
 ghost use Rattle.dv_row.specs.declared.project.Project.TheVariants.{Exclude, Include};
 ghost use Rattle.dv_row.specs.declared.unwind.Unwind as unwinds;
