@@ -16,7 +16,7 @@ use Rattle.dv_catalog.specs.State as stored
 use Rattle.dv_catalog.specs.StateLaws.{get-insert}
 use Rattle.dv_command.specs.Asked.{Asked, create_indexes, drop_indexes, asked_by}
 use Rattle.dv_command.specs.Entries.{IndexAsked}
-use Rattle.dv_command.specs.Sound.{AreIndexes, IsIndexName, IsSoundlyAsked}
+use Rattle.dv_command.specs.Sound.{AreIndexes, IsIndexName, IsSoundRequest}
 use Rattle.dv_command.specs.declared.command.Command.{Command}
 use Rattle.dv_core.specs.Indexes.{form_asked, index_name}
 use Rattle.dv_core.specs.Sound.{AreSoundIndexes, IsSoundCommand}
@@ -155,10 +155,10 @@ asked_named (x ∷ asked) sound = (sound.0, asked_named asked sound.1)
 abbrev HasNames : List ℕ → Collection → Type 0
 HasNames namespace c = Named c.indexes
 
-names_kept : (size : ℕ) (what : Asked) → IsSoundlyAsked size what → IsKeptBy HasNames what
+names_kept : (size : ℕ) (what : Asked) → IsSoundRequest size what → IsKeptBy HasNames what
 names_kept size what asked = record { none = λ name. id_named; emptied = λ name c named. named; indexed = λ name c indexes is named. subst IfMade is (left what asked c named) }
   where
-    left : (what : Asked) → IsSoundlyAsked size what → (c : Collection) → Named c.indexes → IfMade (indexes_by what c)
+    left : (what : Asked) → IsSoundRequest size what → (c : Collection) → Named c.indexes → IfMade (indexes_by what c)
     left (create_indexes a) asked c named = all_named (map form_asked a.indexes) c (asked_named a.indexes asked.1) named
     left (drop_indexes a) asked c named = left_named a.index c.indexes named
     left what asked c named = named

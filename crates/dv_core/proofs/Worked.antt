@@ -25,7 +25,7 @@ use Rattle.dv_cursor.specs.Batch.{batch}
 use Rattle.dv_catalog.specs.Scan.{scan}
 use Rattle.dv_catalog.specs.State.{Collection, Standing, Namespaces, collection, collection_at, collection_of, documents_of, lists_of, with_documents}
 use Rattle.dv_core.specs.State.{State, empty_state}
-use Rattle.dv_core.specs.Statements.{Written, nothing_written, is_due, with_result, with_next, with_all, next_changes, cut, IsCut}
+use Rattle.dv_core.specs.Statements.{Written, nothing_written, is_due, with_result, with_next, with_all, next_changes, cut, IsCutWrite}
 use Rattle.dv_core.specs.Step.{Answer, answered, on_cursors, write_answer}
 use Rattle.dv_catalog.specs.StateLaws.{same_namespaces}
 use Rattle.dv_core.specs.Writes.{insert_one, write_by}
@@ -201,7 +201,7 @@ put_five = puts t_c true nothing [] (nothing_there t_c) refl (only 5) (only 5) (
 abbrev left : Written
 left = wrote 2 1 (document_of (cut_error 1 0) ∷ []) (holding (only 5 ∷ [])).catalog.namespaces
 
-cut_second : IsCut (write_by two) empty_state.catalog.namespaces left
+cut_second : IsCutWrite (write_by two) empty_state.catalog.namespaces left
 cut_second = record {
   before = insert_one (only 5) ∷ [];
   statement = insert_one (only 6);

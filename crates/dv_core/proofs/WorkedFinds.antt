@@ -19,7 +19,7 @@ use Rattle.dv_sort.specs.Sorting.{stable}
 use Rattle.dv_catalog.specs.Changes.{Change, gone, apply, done_to, with_changes}
 use Rattle.dv_command.specs.Asked as asking
 use Rattle.dv_command.specs.declared.asking.WriteKind.TheVariants.{Delete}
-use Rattle.dv_core.specs.Examples.{only, one_field, number, deletion, holding, three, bounded, nulls, keyed, DeleteExamples, FindExamples}
+use Rattle.dv_core.specs.Examples.{only, one_field, number, deletion, holding, three, bounded, nulls, keyed_documents, DeleteExamples, FindExamples}
 use Rattle.dv_core.specs.Find.{first_batch}
 use Rattle.dv_cursor.specs.Batch.{batch}
 use Rattle.dv_cursor.specs.Cursors.{no_cursors}
@@ -77,7 +77,7 @@ unfolding filter_in conditions_in operators_in member_named operator_named match
 finds = record {
   between = λ session. found_in bounded (at_a (more_conditions (in_range Above (number 1)) (more_conditions (in_range Below (number 3)) no_conditions))) [] 0 0 session;
   null_or_missing = λ session. found_in nulls (at_a (more_conditions (equal null) no_conditions)) [] 0 0 session;
-  ascending = λ session. found_in keyed no_members ((codes "a" ∷ [], Ascending) ∷ []) 0 0 session;
-  descending = λ session. found_in keyed no_members ((codes "a" ∷ [], Descending) ∷ []) 0 0 session;
+  ascending = λ session. found_in keyed_documents no_members ((codes "a" ∷ [], Ascending) ∷ []) 0 0 session;
+  descending = λ session. found_in keyed_documents no_members ((codes "a" ∷ [], Descending) ∷ []) 0 0 session;
   window = λ session. found_in three no_members [] 1 1 session;
 }

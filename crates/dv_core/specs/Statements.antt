@@ -78,5 +78,5 @@ pub record Write : Type 0 where
 abbrev pub carry_out : Write → Namespaces → Written
 carry_out write old = with_all write.namespace write.ordered (nothing_written old) write.statements
 
-abbrev pub IsCut : Write → Namespaces → Written → Type 0
-IsCut write old left = AreCut write.namespace write.ordered write.statements old left
+abbrev pub IsCutWrite : Write → Namespaces → Written → Type 0
+IsCutWrite write old left = AreCut write.namespace write.ordered write.statements old left

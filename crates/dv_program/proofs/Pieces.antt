@@ -6,7 +6,7 @@ use Rattle.std.proofs.lemmas.List.Splits.{slice_split-cons_no, slice_split-cons_
 use Rattle.std.specs.Io.KnownBytes.{Appends}
 use Rattle.std.specs.List.{onto_first, slice_split}
 use Rattle.dv_wire.specs.Schedule.{World}
-use Rattle.dv_program.specs.Pieces.{StopsIn, Takes}
+use Rattle.dv_program.specs.Pieces.{StopsIn, TakesPiece}
 use Rattle.dv_program.specs.Script.{DoesLine, DoesLines, HasNoLf, IsBad, Standing, is_lf}
 use Rattle.dv_program.specs.Stops.{EndsAt}
 use Rattle.dv_program.specs.declared.script.ScriptFault.{ScriptFault}
@@ -53,10 +53,10 @@ one_line a m line text does = (m, text, [], does, (refl, refl), sym (append-nil 
 
 -- ---- pieces that are taken
 
-abbrev pub Takes-nothing : (a : Standing) (line : List ℕ) → Takes a line [] [] a line
+abbrev pub Takes-nothing : (a : Standing) (line : List ℕ) → TakesPiece a line [] [] a line
 Takes-nothing a line = record { lines = []; split = λ after. refl; few = omega arith; done = (refl, refl) }
 
-abbrev pub Takes-append : (xs ys : List ℕ) (a m n : Standing) (line mid kept s t : List ℕ) → Takes a line xs s m mid → Takes m mid ys t n kept → Takes a line (xs ++ ys) (s ++ t) n kept
+abbrev pub Takes-append : (xs ys : List ℕ) (a m n : Standing) (line mid kept s t : List ℕ) → TakesPiece a line xs s m mid → TakesPiece m mid ys t n kept → TakesPiece a line (xs ++ ys) (s ++ t) n kept
 Takes-append xs ys a m n line mid kept s t h k = record {
   lines = h.lines ++ k.lines;
   split = λ after.
@@ -67,7 +67,7 @@ Takes-append xs ys a m n line mid kept s t h k = record {
 }
 
 -- a line that ends is done
-abbrev pub Takes-line : (xs : List ℕ) (a m : Standing) (line text : List ℕ) → HasNoLf line → HasNoLf xs → DoesLine a (line ++ xs) text m → Takes a line (xs ++ 10 ∷ []) text m []
+abbrev pub Takes-line : (xs : List ℕ) (a m : Standing) (line text : List ℕ) → HasNoLf line → HasNoLf xs → DoesLine a (line ++ xs) text m → TakesPiece a line (xs ++ 10 ∷ []) text m []
 Takes-line xs a m line text clean none does = record {
   lines = (line ++ xs) ∷ [];
   split = λ after. ap (λ bytes. slice_split is_lf (line ++ bytes)) (append_assoc xs (10 ∷ []) after) ∙ ended_line line xs after clean none;
@@ -82,7 +82,7 @@ pub record TakenSoFar (old : Standing) (number : ℕ) (line piece : List ℕ) (b
   pub said : List ℕ
   pub whole : piece ≡ front ++ rest
   pub appended : Appends before after said
-  pub taken : Takes old line front said now line_now
+  pub taken : TakesPiece old line front said now line_now
   pub number_is : number_now ≡ number + length taken.lines
   pub clean : HasNoLf line_now
 
@@ -95,7 +95,7 @@ module _ (old now : Standing) (number number_now : ℕ) (line piece rest line_no
     (so_far : TakenSoFar old number line piece before rest mid now number_now line_now) where
   -- no line ends in the rest, which is kept
   pub rest_taken : (new : Standing) (number_new : ℕ) (kept : List ℕ) → new ≡ now → number_new ≡ number_now → kept ≡ line_now ++ rest
-      → (takes : Takes old line piece so_far.said new kept) × (number_new ≡ number + length takes.lines)
+      → (takes : TakesPiece old line piece so_far.said new kept) × (number_new ≡ number + length takes.lines)
   rest_taken new number_new kept same same_number whole_line = (
     record {
       lines = so_far.taken.lines;
@@ -171,7 +171,7 @@ module _ (old now : Standing) (number number_now : ℕ) (line piece rest line_no
       line_taken new text after number_new line_new appended does more none_new =
           let this = subst (λ from. DoesLine from (line_now ++ end) text new) same (subst (λ l. DoesLine kept l text new) whole_line does) in
           let one = Takes-line end now new line_now text so_far.clean none this in
-          let both : Takes old line (so_far.front ++ (end ++ 10 ∷ [])) (so_far.said ++ text) new [] = Takes-append so_far.front (end ++ 10 ∷ []) old now new line line_now [] so_far.said text so_far.taken one in
+          let both : TakesPiece old line (so_far.front ++ (end ++ 10 ∷ [])) (so_far.said ++ text) new [] = Takes-append so_far.front (end ++ 10 ∷ []) old now new line line_now [] so_far.said text so_far.taken one in
           let lines : length both.lines ≡ length (so_far.taken.lines ++ (line_now ++ end) ∷ []) = refl in
           subst (λ l. TakenSoFar old number line piece before behind after new number_new l) (sym none_new) (record {
             front = so_far.front ++ (end ++ 10 ∷ []);

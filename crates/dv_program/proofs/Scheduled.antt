@@ -6,8 +6,8 @@ use Rattle.dv_wire.specs.declared.events.Said.{Said}
 use Rattle.dv_wire.specs.declared.events.Said.TheVariants as said
 use Rattle.dv_wire.specs.Playing.{Plays}
 use Rattle.dv_wire.specs.Schedule.{Opens, World, conversation_of, unfinished_in}
-use Rattle.dv_program.specs.Events.{Tells, WritesAll, events_of, opening, piece_of, schedule_of, session_of}
-use Rattle.dv_program.specs.Script.{Brings, Does, DoesLines, EndsSession, Finds, Standing}
+use Rattle.dv_program.specs.Events.{TellsEvents, WritesAll, events_of, opening, piece_of, schedule_of, session_of}
+use Rattle.dv_program.specs.Script.{BringsFrom, DoesOneLine, DoesLines, EndsSession, Finds, Standing}
 use Rattle.dv_program.specs.declared.said.Line.{Line}
 use Rattle.dv_program.specs.declared.said.Line.TheVariants.{Skip, Bytes, End}
 use Rattle.dv_program.specs.declared.sessions.Session.{Session}
@@ -43,7 +43,7 @@ finds old mid number session found e (inr (none, fresh, opened, put)) =
     let here : found ≡ Some None = sym e ∙ none in
     rw here (opens old mid number session fresh opened)
 
-brings : (old new : Standing) (number : ℕ) (session : Session) (bytes text : List ℕ) → Brings old number session bytes text new → Told old.hub (piece_of session bytes) new.hub number text
+brings : (old new : Standing) (number : ℕ) (session : Session) (bytes text : List ℕ) → BringsFrom old number session bytes text new → Told old.hub (piece_of session bytes) new.hub number text
 brings old new number session bytes text (inl (shut, nothing, same)) = rw shut (record { said = []; plays = (refl, ap (λ (s : Standing). s.hub) same); writes = nothing })
 brings old new number session bytes text (inr (is_open, (answered, replies, told, feeds, are, wrote, put))) =
     rw is_open (record {
@@ -74,7 +74,7 @@ module _ (joined : Joined) where
         writes_joined number first.said told.said [] text first.writes told.writes,
       )
 
-  pub line_plays : (old new : Standing) (line : Line) (text : List ℕ) → Does old line text new → (all : List Said) × Plays old.hub (events_of old line) all new.hub × Tells line all text
+  pub line_plays : (old new : Standing) (line : Line) (text : List ℕ) → DoesOneLine old line text new → (all : List Said) × Plays old.hub (events_of old line) all new.hub × TellsEvents line all text
   line_plays old new Skip text (nothing, same) = ([], (refl, ap (λ (s : Standing). s.hub) same), nothing)
   line_plays old new (Bytes number bytes) text (session, mid, found, brought) = behind old mid new.hub number session (λ s. piece_of s bytes) text found (brings mid new number session bytes text brought)
   line_plays old new (End number) text (session, mid, found, ended) = behind old mid new.hub number session (λ s. events.End s.id ∷ []) text found (ends mid new number session text ended)

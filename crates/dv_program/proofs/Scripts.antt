@@ -9,9 +9,9 @@ use Rattle.std.specs.List.{slice_split}
 use Rattle.dv_wire.specs.Schedule.{World}
 use Rattle.dv_wire.specs.Service.{AsksFew, most_reads}
 use Rattle.dv_wire.specs.Stream.{MoreBy, once_more}
-use Rattle.dv_program.specs.Pieces.{StopsIn, Takes}
-use Rattle.dv_program.specs.Script.{DoesLine, DoesLines, HasNoLf, Runs, Standing, begun, is_lf, standing_of}
-use Rattle.dv_program.specs.Stops.{Asks, DoesWhole, EndsAt, FailsWriting, OfScript, Stops, StopsBy, script_read_failed, script_write_failed}
+use Rattle.dv_program.specs.Pieces.{StopsIn, TakesPiece}
+use Rattle.dv_program.specs.Script.{DoesLine, DoesLines, HasNoLf, Runs, Standing, no_sessions, is_lf, standing_of}
+use Rattle.dv_program.specs.Stops.{AsksForScript, DoesWhole, EndsAt, FailsWriting, OfScript, Stops, StopsBy, script_read_failed, script_write_failed}
 use Rattle.dv_program.specs.Streams.{failures_behind, failures_told}
 use Rattle.dv_program.specs.declared.script.ScriptFault.{ScriptFault}
 use Rattle.dv_program.specs.declared.sessions.Sessions as table
@@ -50,7 +50,7 @@ pub record ReadSoFar (old : Standing) (reads : ℕ) (from to before after : Opti
   pub said : List ℕ
   pub consumed : Consumes from to read
   pub appended : Appends before after said
-  pub taken : Takes old [] read said now line
+  pub taken : TakesPiece old [] read said now line
   pub number_is : number ≡ suc (length taken.lines)
   pub clean : HasNoLf line
   pub most : length read ≤ reads * 65536
@@ -118,10 +118,10 @@ module _ (old now : Standing) (reads number : ℕ) (from mid before middle : Opt
 
     -- another piece is taken
     pub read_more : (piece said : List ℕ) (new : Standing) (number_new : ℕ) (line_new : List ℕ) (flushed : Option (List ℕ)) → Keeps middle flushed → Consumes mid to piece → length piece ≤ 65536
-        → Appends flushed after said → (takes : Takes now line piece said new line_new) → number_new ≡ number + length takes.lines → HasNoLf line_new
+        → Appends flushed after said → (takes : TakesPiece now line piece said new line_new) → number_new ≡ number + length takes.lines → HasNoLf line_new
         → ReadSoFar old (reads + 1) from to before after new number_new line_new
     read_more piece said new number_new line_new flushed handed consumed small appended takes number_is clean =
-        let both : Takes old [] (so_far.read ++ piece) (so_far.said ++ said) new line_new = Takes-append so_far.read piece old now new [] line line_new so_far.said said so_far.taken takes in
+        let both : TakesPiece old [] (so_far.read ++ piece) (so_far.said ++ said) new line_new = Takes-append so_far.read piece old now new [] line line_new so_far.said said so_far.taken takes in
         let lines : length both.lines ≡ length (so_far.taken.lines ++ takes.lines) = refl in
         record {
           read = so_far.read ++ piece;
@@ -222,7 +222,7 @@ module _ (old now : Standing) (reads number : ℕ) (from mid before middle : Opt
 
 -- ---- a line's fault is none of the reads'
 
-few_by : (A : Type 0) (fault : ScriptFault) (mid : Standing) (number : ℕ) (line part : List ℕ) (end : World) (old new : ℕ) → EndsAt fault mid number line part end → AsksFew old new → Asks {A = A} (Err fault) old new
+few_by : (A : Type 0) (fault : ScriptFault) (mid : Standing) (number : ℕ) (line part : List ℕ) (end : World) (old new : ℕ) → EndsAt fault mid number line part end → AsksFew old new → AsksForScript {A = A} (Err fault) old new
 few_by A (BadLine n) mid number line part end old new why few = few
 few_by A Read mid number line part end old new why few = few
 few_by A TooManyReads mid number line part end old new why few = absurd why
@@ -231,8 +231,8 @@ few_by A NoMemory mid number line part end old new why few = few
 few_by A Sessions mid number line part end old new why few = few
 
 pub few_asked : (A : Type 0) (result : Result A ScriptFault) (fault : ScriptFault) (mid : Standing) (number : ℕ) (line part : List ℕ) (end : World) (old new : ℕ) → result ≡ Err fault
-    → EndsAt fault mid number line part end → AsksFew old new → Asks result old new
-few_asked A result fault mid number line part end old new is why few = subst (λ r. Asks r old new) (sym is) (few_by A fault mid number line part end old new why few)
+    → EndsAt fault mid number line part end → AsksFew old new → AsksForScript result old new
+few_asked A result fault mid number line part end old new is why few = subst (λ r. AsksForScript r old new) (sym is) (few_by A fault mid number line part end old new why few)
 
 -- ---- how often a reader was asked
 
@@ -282,7 +282,7 @@ stops_kept Sessions old from to before middle after new h kept = (h.0, h.1, h.2,
 pub record Flushes (A : Type 0) (result : Result A ScriptFault) : Type 0 where
   pub reader : (n : ℕ) → failures_told script_read_failed result n ≡ n
   pub writer : (n : ℕ) → FailsWriting result n (failures_behind result n)
-  pub reads : (old new : ℕ) → AsksFew old new → Asks result old new
+  pub reads : (old new : ℕ) → AsksFew old new → AsksForScript result old new
 
 flushes_err : (A : Type 0) → Flushes A (Err Write)
 flushes_err A = record { reader = λ n. refl; writer = λ n. refl; reads = λ old new few. few }
@@ -318,13 +318,13 @@ on_ok A E (Err e) P p = tt
 -- ---- from the script's begin, to behind the last flush
 
 module _ (sessions : table.Sessions) (hub : World) (none : sessions.places ≡ replicate 1000 None) (from before middle after : Option (List ℕ)) (kept : Keeps middle after) where
-  pub stops_begun : (fault : ScriptFault) (to : Option (List ℕ)) (new : World) → StopsBy fault (standing_of sessions hub) from to before middle new → StopsBy fault (begun hub) from to before after new
+  pub stops_begun : (fault : ScriptFault) (to : Option (List ℕ)) (new : World) → StopsBy fault (standing_of sessions hub) from to before middle new → StopsBy fault (no_sessions hub) from to before after new
   stops_begun fault to new h =
-      stops_kept fault (begun hub) from to before middle after new (subst (λ places. let old : Standing = record { sessions = places; hub = hub } in StopsBy fault old from to before middle new) none h) kept
+      stops_kept fault (no_sessions hub) from to before middle after new (subst (λ places. let old : Standing = record { sessions = places; hub = hub } in StopsBy fault old from to before middle new) none h) kept
 
-  pub ran_begun : (new : Standing) → OfScript (λ script text. Runs (standing_of sessions hub) script text new) from before middle → OfScript (λ script text. Runs (begun hub) script text new) from before after
+  pub ran_begun : (new : Standing) → OfScript (λ script text. Runs (standing_of sessions hub) script text new) from before middle → OfScript (λ script text. Runs (no_sessions hub) script text new) from before after
   ran_begun new h =
-      ran_kept from before middle after (begun hub) new (subst (λ places. let old : Standing = record { sessions = places; hub = hub } in OfScript (λ script text. Runs old script text new) from before middle) none h) kept
+      ran_kept from before middle after (no_sessions hub) new (subst (λ places. let old : Standing = record { sessions = places; hub = hub } in OfScript (λ script text. Runs old script text new) from before middle) none h) kept
 
 pub flush_stops : (A : Type 0) (result : Result A ScriptFault) (old : Standing) (from to before after : Option (List ℕ)) (new : World) → IfErr result (λ fault. fault ≡ Write) → StopsBy Write old from to before after new
     → IfErr result (λ fault. StopsBy fault old from to before after new)

@@ -6,7 +6,7 @@ use Rattle.dv_wire.specs.declared.fault.HubFault.{HubFault}
 use Rattle.dv_wire.specs.declared.fault.HubFault.TheVariants as hub
 use Rattle.dv_program.specs.Line.{IsLine}
 use Rattle.dv_program.specs.Output.{AreReplies, first_length}
-use Rattle.dv_program.specs.Script.{Does, Standing, open_fault}
+use Rattle.dv_program.specs.Script.{DoesOneLine, Standing, open_fault}
 use Rattle.dv_program.specs.Stops.{EndsAt, OpensNone, StopsLine, number_in, script_read_failed, script_write_failed}
 use Rattle.dv_program.specs.Streams.{failures_told}
 use Rattle.dv_program.specs.declared.said.Line.{Line}
@@ -30,7 +30,7 @@ stops_unopened Sessions old meant number new named none = (number, named, none)
 
 -- ---- lines that are done, and whose answers aren't made
 
-pub stops_untold : (old : Standing) (meant : Line) (answer : List ℕ) (end : Standing) → Does old meant answer end → StopsLine NoMemory old meant end.hub
+pub stops_untold : (old : Standing) (meant : Line) (answer : List ℕ) (end : Standing) → DoesOneLine old meant answer end → StopsLine NoMemory old meant end.hub
 stops_untold old meant answer end does = inr (answer, end, does, refl)
 
 -- whatever was answered are replies

@@ -36,17 +36,17 @@ schedule_of old new [] text done = []
 schedule_of old new (line ∷ lines) text (mid, first, others, does, behind, both) = events_of old does.0 ++ schedule_of mid new lines others behind
 
 -- what is written of an event under a number: nothing of an opening
-abbrev pub Writes : ℕ → Said → List ℕ → Type 0
-Writes number (said.Opened result) text = text ≡ []
-Writes number (said.Fed told bytes) text = (replies : List (List ℕ)) × AreReplies replies bytes × (text ≡ fed_text number replies told)
-Writes number (said.Ended unfinished) text = text ≡ end_line number unfinished
+abbrev pub WritesEvent : ℕ → Said → List ℕ → Type 0
+WritesEvent number (said.Opened result) text = text ≡ []
+WritesEvent number (said.Fed told bytes) text = (replies : List (List ℕ)) × AreReplies replies bytes × (text ≡ fed_text number replies told)
+WritesEvent number (said.Ended unfinished) text = text ≡ end_line number unfinished
 
 abbrev pub WritesAll : ℕ → List Said → List ℕ → Type 0
 WritesAll number [] text = text ≡ []
-WritesAll number (first ∷ others) text = (one : List ℕ) × (two : List ℕ) × (text ≡ one ++ two) × Writes number first one × WritesAll number others two
+WritesAll number (first ∷ others) text = (one : List ℕ) × (two : List ℕ) × (text ≡ one ++ two) × WritesEvent number first one × WritesAll number others two
 
 -- what a line writes of its events
-abbrev pub Tells : Line → List Said → List ℕ → Type 0
-Tells Skip all text = text ≡ []
-Tells (Bytes number bytes) all text = WritesAll number all text
-Tells (End number) all text = WritesAll number all text
+abbrev pub TellsEvents : Line → List Said → List ℕ → Type 0
+TellsEvents Skip all text = text ≡ []
+TellsEvents (Bytes number bytes) all text = WritesAll number all text
+TellsEvents (End number) all text = WritesAll number all text

@@ -8,7 +8,7 @@ use Rattle.dv_program.specs.declared.script.ScriptFault.{ScriptFault}
 
 -- Behind a line's first bytes come these. The lines that end in them are done, whatever comes after, and what stands behind the last
 -- LF is kept.
-pub record Takes (old : Standing) (line bytes text : List ℕ) (new : Standing) (kept : List ℕ) : Type 0 where
+pub record TakesPiece (old : Standing) (line bytes text : List ℕ) (new : Standing) (kept : List ℕ) : Type 0 where
   pub lines : List (List ℕ)
   pub split : (after : List ℕ) → slice_split is_lf (line ++ (bytes ++ after)) ≡ lines ++ slice_split is_lf (kept ++ after)
   pub few : length lines ≤ length bytes

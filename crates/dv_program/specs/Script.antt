@@ -42,8 +42,8 @@ is_closing (fed.Closed fault) = true
 is_closing fed.Unknown = false
 
 -- bytes come from a session: its replies are written, and then that it is closed; one that is closed takes none
-abbrev pub Brings : Standing → ℕ → Session → List ℕ → List ℕ → Standing → Type 0
-Brings old number session bytes text new =
+abbrev pub BringsFrom : Standing → ℕ → Session → List ℕ → List ℕ → Standing → Type 0
+BringsFrom old number session bytes text new =
     ((session.is_closed ≡ true) × (text ≡ []) × (new ≡ old))
     ⊎ ((session.is_closed ≡ false) × ((answered : List ℕ) × (replies : List (List ℕ)) × (told : Fed)
     × Feeds old.hub session.id.number bytes answered told new.hub × AreReplies replies answered
@@ -56,14 +56,14 @@ EndsSession old number session text new =
     × (new ≡ record { sessions = slice_set old.sessions number None; hub = end session.id.number old.hub })
 
 -- what a line does, and what is written of it
-abbrev pub Does : Standing → Line → List ℕ → Standing → Type 0
-Does old Skip text new = (text ≡ []) × (new ≡ old)
-Does old (Bytes number bytes) text new = (session : Session) × (mid : Standing) × Finds old number session mid × Brings mid number session bytes text new
-Does old (End number) text new = (session : Session) × (mid : Standing) × Finds old number session mid × EndsSession mid number session text new
+abbrev pub DoesOneLine : Standing → Line → List ℕ → Standing → Type 0
+DoesOneLine old Skip text new = (text ≡ []) × (new ≡ old)
+DoesOneLine old (Bytes number bytes) text new = (session : Session) × (mid : Standing) × Finds old number session mid × BringsFrom mid number session bytes text new
+DoesOneLine old (End number) text new = (session : Session) × (mid : Standing) × Finds old number session mid × EndsSession mid number session text new
 
 -- a line as it stands in a script is done
 abbrev pub DoesLine : Standing → List ℕ → List ℕ → Standing → Type 0
-DoesLine old line text new = (meant : Line) × IsLine meant line × Does old meant text new
+DoesLine old line text new = (meant : Line) × IsLine meant line × DoesOneLine old meant text new
 
 -- a line is bad that has no form
 abbrev pub IsBad : List ℕ → Type 0
@@ -86,5 +86,5 @@ abbrev pub Runs : Standing → List ℕ → List ℕ → Standing → Type 0
 Runs old script text new = DoesLines old (slice_split is_lf script) text new
 
 -- before a script: no number has a session
-abbrev pub begun : World → Standing
-begun hub = record { sessions = replicate 1000 None; hub = hub }
+abbrev pub no_sessions : World → Standing
+no_sessions hub = record { sessions = replicate 1000 None; hub = hub }

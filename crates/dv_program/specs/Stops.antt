@@ -7,7 +7,7 @@ use Rattle.dv_wire.specs.Service.{AsksFew, most_reads}
 use Rattle.dv_wire.specs.Stream.{MoreBy, once_more}
 use Rattle.dv_wire.specs.declared.fault.HubFault.TheVariants.{TooManySessions}
 use Rattle.dv_program.specs.Line.{IsLine}
-use Rattle.dv_program.specs.Script.{Does, DoesLine, DoesLines, IsBad, Runs, Standing, is_lf}
+use Rattle.dv_program.specs.Script.{DoesOneLine, DoesLine, DoesLines, IsBad, Runs, Standing, is_lf}
 use Rattle.dv_program.specs.declared.said.Line.{Line}
 use Rattle.dv_program.specs.declared.said.Line.TheVariants.{Skip, Bytes, End}
 use Rattle.dv_program.specs.declared.script.ScriptFault.{ScriptFault}
@@ -36,7 +36,7 @@ StopsLine (BadLine n) old meant new = ⊥
 StopsLine Read old meant new = ⊥
 StopsLine TooManyReads old meant new = ⊥
 StopsLine Write old meant new = ⊥
-StopsLine NoMemory old meant new = (new ≡ old.hub) ⊎ ((answer : List ℕ) × (end : Standing) × Does old meant answer end × (end.hub ≡ new))
+StopsLine NoMemory old meant new = (new ≡ old.hub) ⊎ ((answer : List ℕ) × (end : Standing) × DoesOneLine old meant answer end × (end.hub ≡ new))
 StopsLine Sessions old meant new = (number : ℕ) × (number_in meant ≡ Some number) × OpensNone Sessions old number new
 
 -- a line is done, and of its answer this part is written; or nothing is done of it
@@ -117,11 +117,11 @@ FailsWriting (Err NoMemory) old new = (new ≡ old) ⊎ (new ≡ once_more old)
 FailsWriting (Err Sessions) old new = (new ≡ old) ⊎ (new ≡ once_more old)
 
 -- how often a reader is asked for a script: just as often as may be where too many reads are told, and else no more often
-abbrev pub Asks : {A : Type 0} → Result A ScriptFault → ℕ → ℕ → Type 0
-Asks (Ok done) old new = AsksFew old new
-Asks (Err (BadLine n)) old new = AsksFew old new
-Asks (Err Read) old new = AsksFew old new
-Asks (Err TooManyReads) old new = MoreBy most_reads old new
-Asks (Err Write) old new = AsksFew old new
-Asks (Err NoMemory) old new = AsksFew old new
-Asks (Err Sessions) old new = AsksFew old new
+abbrev pub AsksForScript : {A : Type 0} → Result A ScriptFault → ℕ → ℕ → Type 0
+AsksForScript (Ok done) old new = AsksFew old new
+AsksForScript (Err (BadLine n)) old new = AsksFew old new
+AsksForScript (Err Read) old new = AsksFew old new
+AsksForScript (Err TooManyReads) old new = MoreBy most_reads old new
+AsksForScript (Err Write) old new = AsksFew old new
+AsksForScript (Err NoMemory) old new = AsksFew old new
+AsksForScript (Err Sessions) old new = AsksFew old new

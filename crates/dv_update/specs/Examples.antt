@@ -8,8 +8,8 @@ use Rattle.dv_bson.specs.Results.{◌>>=◌}
 use Rattle.dv_bson.specs.Short.{int, long, doc, list}
 
 -- an update with one operator of one path
-abbrev pub one : List ℕ → List ℕ → Tree → List Field
-one operator path v = (operator, doc ((path, v) ∷ [])) ∷ []
+abbrev pub one_edit : List ℕ → List ℕ → Tree → List Field
+one_edit operator path v = (operator, doc ((path, v) ∷ [])) ∷ []
 
 -- {_id: 1, a: [1, 2, 2L, 3]}
 abbrev pub with_a : List Tree → List Field

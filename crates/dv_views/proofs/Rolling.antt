@@ -21,10 +21,10 @@ use Rattle.dv_pipe.specs.Stages.{beside, from_of}
 use Rattle.dv_views.specs.declared.turner.Turner.{Turner}
 use Rattle.dv_views.specs.Flow.{Arrival, arriving, arriving_at_lists, handed_by, outs_made, taken_after, work_of}
 use Rattle.dv_views.specs.Keeping.{IsSoundLive, Turns, kept_seen, left_of, lists_of_all, named_of}
-use Rattle.dv_views.specs.Turned.{kept_after, kept_behind, rows_made}
+use Rattle.dv_views.specs.Turned.{kept_after, kept_behind, turned_rows}
 use Rattle.dv_views.specs.Views.{Kept}
-use Rattle.dv_views.specs.Placed.{forms, listed, lists_in, lookups_of, stage_at, with_name}
-use Rattle.dv_views.specs.Turning.{AreFresh, IsFresh, IsSoundTurner, empty_lists, turner_left, turner_makes, turner_others}
+use Rattle.dv_views.specs.Placed.{forms, listed_under, lists_in, lookups_of, stage_at, names_with}
+use Rattle.dv_views.specs.Turning.{AreFresh, IsFreshTurner, IsSoundTurner, empty_lists, turner_left, turner_makes, turner_others}
 
 abbrev forms_in : List Turner → List Form
 forms_in ts = forms_of turner_left turner_others turner_makes IsSoundTurner ts
@@ -49,9 +49,9 @@ forms-changed i c [] named = refl
 forms-changed i c (s ∷ ss) named = by (from_of s) i named (λ j others. forms-changed j c ss others)
   where
     by : (o : Option (List ℕ)) (i : ℕ) (named : List Positioned) → ((j : ℕ) (others : List Positioned) → forms_named j c (forms ss others) ≡ forms ss (changed_at j c others))
-        → (if nat_lt i (length (take (listed o) named)) then record { makes = stage_at s; named = changed_at i c (take (listed o) named) } ∷ forms ss (drop (listed o) named)
-        else record { makes = stage_at s; named = take (listed o) named } ∷ forms_named (i - length (take (listed o) named)) c (forms ss (drop (listed o) named)))
-        ≡ record { makes = stage_at s; named = take (listed o) (changed_at i c named) } ∷ forms ss (drop (listed o) (changed_at i c named))
+        → (if nat_lt i (length (take (listed_under o) named)) then record { makes = stage_at s; named = changed_at i c (take (listed_under o) named) } ∷ forms ss (drop (listed_under o) named)
+        else record { makes = stage_at s; named = take (listed_under o) named } ∷ forms_named (i - length (take (listed_under o) named)) c (forms ss (drop (listed_under o) named)))
+        ≡ record { makes = stage_at s; named = take (listed_under o) (changed_at i c named) } ∷ forms ss (drop (listed_under o) (changed_at i c named))
     by None i named rest = rw (none-below i, less-none i) (ap (λ (fs : List Form). record { makes = stage_at s; named = [] } ∷ fs) (rest i named))
     by (Some collection) i [] rest = rw (none-below i, less-none i) (ap (λ (fs : List Form). record { makes = stage_at s; named = [] } ∷ fs) (rest i []))
     by (Some collection) zero (n ∷ ns) rest = refl
@@ -69,8 +69,8 @@ named-count : (ss : List Stage) (named : List Positioned) → length named ≡ l
 named-count [] named e = sym e
 named-count (s ∷ ss) named e = by (from_of s) named e (named-count ss)
   where
-    by : (o : Option (List ℕ)) (named : List Positioned) → length named ≡ listed o + lists_of_all ss → ((others : List Positioned) → length others ≡ lists_of_all ss → named_in (forms ss others) ≡ length others)
-        → length (take (listed o) named) + named_in (forms ss (drop (listed o) named)) ≡ length named
+    by : (o : Option (List ℕ)) (named : List Positioned) → length named ≡ listed_under o + lists_of_all ss → ((others : List Positioned) → length others ≡ lists_of_all ss → named_in (forms ss others) ≡ length others)
+        → length (take (listed_under o) named) + named_in (forms ss (drop (listed_under o) named)) ≡ length named
     by None named e rest = let same : length named ≡ lists_of_all ss = omega (arith, e) in let all = rest named same in omega (arith, all)
     by (Some collection) [] e rest = let no : 0 ≡ 1 + lists_of_all ss = e in absurd (omega arith)
     by (Some collection) (n ∷ ns) e rest =
@@ -98,7 +98,7 @@ pub lookups_count : (ss : List Stage) (source : List ℕ) → length (lookups_of
 lookups_count [] source = refl
 lookups_count (s ∷ ss) source = by (from_of s) (lookups_count ss source)
   where
-    by : (o : Option (List ℕ)) → length (lookups_of ss source) ≡ lists_of_all ss → length (with_name (option_map (beside source) o) (lookups_of ss source)) ≡ listed o + lists_of_all ss
+    by : (o : Option (List ℕ)) → length (lookups_of ss source) ≡ lists_of_all ss → length (names_with (option_map (beside source) o) (lookups_of ss source)) ≡ listed_under o + lists_of_all ss
     by None rest = omega (arith, rest)
     by (Some collection) rest = let goal : suc (length (lookups_of ss source)) ≡ 1 + lists_of_all ss = omega (arith, rest) in goal
 
@@ -162,7 +162,7 @@ left_in live = left_of live.chain live.rows.entries
 pub entries_are : (stages : List Stage) (live : Live Turner) → IsSoundLive stages live → live.rows.entries ≡ outs_made stages (kept_seen live).taken
 entries_are stages live sound = sound.taken.1 ∙ ap (λ (fs : List Form). through fs (left_in live)) sound.forms
 
-pub rows_are_made : (stages : List Stage) (live : Live Turner) → IsSoundLive stages live → (kept_seen live).rows ≡ rows_made stages (kept_seen live).taken
+pub rows_are_made : (stages : List Stage) (live : Live Turner) → IsSoundLive stages live → (kept_seen live).rows ≡ turned_rows stages (kept_seen live).taken
 rows_are_made stages live sound = ap forget (entries_are stages live sound)
 
 -- each input stays
@@ -206,7 +206,7 @@ module _ (stay : StayPositioned) (stages : List Stage) (before after : Live Turn
   taken-after : (kept_seen after).taken ≡ taken_after input c (kept_seen before).taken
   taken-after = λ i. record { left = left i; named = named i }
 
-  rows-after : (kept_seen after).rows ≡ rows_made stages (taken_after input c (kept_seen before).taken)
+  rows-after : (kept_seen after).rows ≡ turned_rows stages (taken_after input c (kept_seen before).taken)
   rows-after = ap forget (taken.1 ∙ ap (λ (fs : List Form). through fs (left_after input c (left_in before))) forms-now)
 
   ticks-after : after.ticks ≡ raised before.ticks (work_of stages input c (kept_seen before).taken)
@@ -313,7 +313,7 @@ module _ (stages : List Stage) (before mid after : Live Turner) (first now next 
 
 -- ---- turners that have taken in nothing
 
-fresh-lists : (o : Option (List ℕ)) (xs rest : List Positioned) → xs ≡ empty_lists (listed o) → (take (listed o) (xs ++ rest) ≡ xs) × (drop (listed o) (xs ++ rest) ≡ rest)
+fresh-lists : (o : Option (List ℕ)) (xs rest : List Positioned) → xs ≡ empty_lists (listed_under o) → (take (listed_under o) (xs ++ rest) ≡ xs) × (drop (listed_under o) (xs ++ rest) ≡ rest)
 fresh-lists None [] rest e = (refl, refl)
 fresh-lists None (x ∷ xs) rest e = absurd cc
 fresh-lists (Some collection) [] rest e = absurd cc
@@ -348,7 +348,7 @@ empty-count : (n : ℕ) → length (empty_lists n) ≡ n
 empty-count zero = refl
 empty-count (suc n) = ap suc (empty-count n)
 
-pub fresh_more : (ss : List Stage) (ts : List Turner) (s : Stage) (t : Turner) → AreFresh ss ts → IsFresh s t → AreFresh (ss ++ s ∷ []) (ts ++ t ∷ [])
+pub fresh_more : (ss : List Stage) (ts : List Turner) (s : Stage) (t : Turner) → AreFresh ss ts → IsFreshTurner s t → AreFresh (ss ++ s ∷ []) (ts ++ t ∷ [])
 fresh_more [] [] s t all one = (one, tt)
 fresh_more [] (u ∷ ts) s t all one = absurd all
 fresh_more (r ∷ ss) [] s t all one = absurd all

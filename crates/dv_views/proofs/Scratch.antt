@@ -35,8 +35,8 @@ use Rattle.dv_row.specs.declared.unwind.Unwind as unwinds
 use Rattle.dv_row.specs.Projecting.{projected}
 use Rattle.dv_row.specs.Unwinding.{unwound}
 use Rattle.dv_sort.specs.Sorting.{stable}
-use Rattle.dv_views.specs.Forms.{is_among, names_read, outs_of}
-use Rattle.dv_views.specs.Placed.{Places, forms, listed, lists_in, lookups_of, positioned, stage_at, with_name}
+use Rattle.dv_views.specs.Forms.{is_name_among, names_read, outs_of}
+use Rattle.dv_views.specs.Placed.{ListPlaces, forms, listed_under, lists_in, lookups_of, positioned, stage_at, names_with}
 
 -- what the crates of the stages say
 pub record StageLaws : Type 0 where
@@ -91,26 +91,26 @@ one_length ds = (1, own_length ds)
 
 -- ---- the lists that stages look into
 
-among-first : (name : List ℕ) (names : List (List ℕ)) → is_among name (name ∷ names) ≡ true
-among-first name names = ap (λ b. b || is_among name names) ((bytes_eq-Decides name name).1 refl)
+among-first : (name : List ℕ) (names : List (List ℕ)) → is_name_among name (name ∷ names) ≡ true
+among-first name names = ap (λ b. b || is_name_among name names) ((bytes_eq-Decides name name).1 refl)
 
-among-next : (name other : List ℕ) (names : List (List ℕ)) → is_among name names ≡ true → is_among name (other ∷ names) ≡ true
+among-next : (name other : List ℕ) (names : List (List ℕ)) → is_name_among name names ≡ true → is_name_among name (other ∷ names) ≡ true
 among-next name other names is = by (bytes_eq name other)
   where
-    by : (b : Bool) → b || is_among name names ≡ true
+    by : (b : Bool) → b || is_name_among name names ≡ true
     by true = refl
     by false = is
 
-among-more : (name : List ℕ) (o : Option (List ℕ)) (names : List (List ℕ)) → is_among name names ≡ true → is_among name (with_name o names) ≡ true
+among-more : (name : List ℕ) (o : Option (List ℕ)) (names : List (List ℕ)) → is_name_among name names ≡ true → is_name_among name (names_with o names) ≡ true
 among-more name None names is = is
 among-more name (Some other) names is = among-next name other names is
 
-other_lists : (places : Places) (source : List ℕ) (o : Option (List ℕ)) (names : List (List ℕ)) → drop (listed o) (map places (with_name (option_map (beside source) o) names)) ≡ map places names
+other_lists : (places : ListPlaces) (source : List ℕ) (o : Option (List ℕ)) (names : List (List ℕ)) → drop (listed_under o) (map places (names_with (option_map (beside source) o) names)) ≡ map places names
 other_lists places source None names = refl
 other_lists places source (Some collection) names = refl
 
-own_list : (places : Places) (lists : Lists) (source : List ℕ) (o : Option (List ℕ)) (names : List (List ℕ)) → ((name : List ℕ) → is_among name (with_name (option_map (beside source) o) names) ≡ true → forget (places name) ≡ lists name)
-    → forget (first_of (take (listed o) (map places (with_name (option_map (beside source) o) names)))) ≡ rows_at (option_map (beside source) o) lists
+own_list : (places : ListPlaces) (lists : Lists) (source : List ℕ) (o : Option (List ℕ)) (names : List (List ℕ)) → ((name : List ℕ) → is_name_among name (names_with (option_map (beside source) o) names) ≡ true → forget (places name) ≡ lists name)
+    → forget (first_of (take (listed_under o) (map places (names_with (option_map (beside source) o) names)))) ≡ rows_at (option_map (beside source) o) lists
 own_list places lists source None names same = refl
 own_list places lists source (Some collection) names same = same (beside source collection) (among-first (beside source collection) names)
 
@@ -127,18 +127,18 @@ module _ (laws : StageLaws) where
 
   -- ---- all stages
 
-  forget_through : (ss : List Stage) (source : List ℕ) (places : Places) (lists : Lists) (rows : Positioned) → IsPositioned rows → HaveOneLength rows
-      → ((name : List ℕ) → is_among name (lookups_of ss source) ≡ true → forget (places name) ≡ lists name) → forget (work.through (forms ss (map places (lookups_of ss source))) rows) ≡ pipes.through ss source lists (forget rows)
+  forget_through : (ss : List Stage) (source : List ℕ) (places : ListPlaces) (lists : Lists) (rows : Positioned) → IsPositioned rows → HaveOneLength rows
+      → ((name : List ℕ) → is_name_among name (lookups_of ss source) ≡ true → forget (places name) ≡ lists name) → forget (work.through (forms ss (map places (lookups_of ss source))) rows) ≡ pipes.through ss source lists (forget rows)
   unfolding pipes.through
   forget_through [] source places lists rows are one same = refl
   forget_through (s ∷ ss) source places lists rows are one same =
-      let named = map places (with_name (looked_into s source) (lookups_of ss source)) in
+      let named = map places (names_with (looked_into s source) (lookups_of ss source)) in
       let own = take (lists_in s) named in
       ap (λ (others : List Positioned). forget (work.through (forms ss others) (stage_at s own rows))) (other_lists places source (from_of s) (lookups_of ss source))
       ∙ forget_through ss source places lists (stage_at s own rows) (ordered_stage s own rows are) (even_stage s own rows are one) (λ name is. same name (among-more name (looked_into s source) (lookups_of ss source) is))
       ∙ ap (pipes.through ss source lists) (forget_stage s own rows are one ∙ ap (stage s (forget rows)) (own_list places lists source (from_of s) (lookups_of ss source) same))
 
-  pub from_scratch : (stages : List Stage) (source : List ℕ) (places : Places) (lists : Lists) → IsPositioned (places source) → HaveOneLength (places source) → ((name : List ℕ) → is_among name (names_read stages source) ≡ true → forget (places name) ≡ lists name)
+  pub from_scratch : (stages : List Stage) (source : List ℕ) (places : ListPlaces) (lists : Lists) → IsPositioned (places source) → HaveOneLength (places source) → ((name : List ℕ) → is_name_among name (names_read stages source) ≡ true → forget (places name) ≡ lists name)
       → forget (outs_of stages source places) ≡ evaluated stages source lists
   from_scratch stages source places lists are one same =
       forget_through stages source places lists (places source) are one (λ name is. same name (among-next name source (lookups_of stages source) is)) ∙ ap (pipes.through stages source lists) (same source (among-first source (lookups_of stages source)))

@@ -16,8 +16,8 @@ use Rattle.dv_views.specs.Views.{Kept, Mark, Taken, View, Views, anew, live, sta
 abbrev pub coded_name : Coded (List ℕ)
 coded_name = coded_list coded_ℕ
 
-abbrev pub coded_rows : Coded (List Row)
-coded_rows = coded_list (coded_list (coded× coded_name coded_tree))
+abbrev pub coded_view_rows : Coded (List Row)
+coded_view_rows = coded_list (coded_list (coded× coded_name coded_tree))
 
 -- rows at positions
 abbrev pub coded_positioned : Coded Positioned
@@ -27,7 +27,7 @@ abbrev pub coded_taken : Coded Taken
 coded_taken = code_by (Positioned × List Positioned) (coded× coded_positioned (coded_list coded_positioned)) (λ t. (t.left, t.named)) (λ p. record { left = p.0; named = p.1 }) (λ _. refl)
 
 abbrev pub coded_kept : Coded Kept
-coded_kept = code_by (Taken × (List Row × ℕ)) (coded× coded_taken (coded× coded_rows coded_ℕ)) (λ k. (k.taken, (k.rows, k.ticks))) (λ p. record { taken = p.0; rows = p.1.0; ticks = p.1.1 }) (λ _. refl)
+coded_kept = code_by (Taken × (List Row × ℕ)) (coded× coded_taken (coded× coded_view_rows coded_ℕ)) (λ k. (k.taken, (k.rows, k.ticks))) (λ p. record { taken = p.0; rows = p.1.0; ticks = p.1.1 }) (λ _. refl)
 
 -- rows that were made anew, or what is kept
 abbrev pub mark_of : Option (List Row) × Option Kept → Mark
@@ -36,18 +36,18 @@ mark_of (None, Some kept) = live kept
 mark_of (Some rows, None) = anew rows
 mark_of (Some rows, Some kept) = stale
 
-abbrev pub parts_of : Mark → Option (List Row) × Option Kept
-parts_of (live kept) = (None, Some kept)
-parts_of (anew rows) = (Some rows, None)
-parts_of stale = (None, None)
+abbrev pub mark_parts : Mark → Option (List Row) × Option Kept
+mark_parts (live kept) = (None, Some kept)
+mark_parts (anew rows) = (Some rows, None)
+mark_parts stale = (None, None)
 
-pub mark-back : (m : Mark) → mark_of (parts_of m) ≡ m
+pub mark-back : (m : Mark) → mark_of (mark_parts m) ≡ m
 mark-back (live kept) = refl
 mark-back (anew rows) = refl
 mark-back stale = refl
 
 abbrev pub coded_mark : Coded Mark
-coded_mark = code_by (Option (List Row) × Option Kept) (coded× (coded_option coded_rows) (coded_option coded_kept)) parts_of mark_of mark-back
+coded_mark = code_by (Option (List Row) × Option Kept) (coded× (coded_option coded_view_rows) (coded_option coded_kept)) mark_parts mark_of mark-back
 
 abbrev change_of : PosTree × Option Row → Change
 change_of (pos, None) = Gone pos

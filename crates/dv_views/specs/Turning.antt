@@ -68,7 +68,7 @@ empty_lists (suc n) = [] ∷ empty_lists n
 abbrev pub no_lists : Stage → List Positioned
 no_lists s = empty_lists (lists_in s)
 
-pub record IsFresh (s : Stage) (t : Turner) : Type 0 where
+pub record IsFreshTurner (s : Stage) (t : Turner) : Type 0 where
   pub makes : turner_makes t ≡ stage_at s
   pub left : turner_left t ≡ []
   pub others : turner_others t ≡ no_lists s
@@ -76,4 +76,4 @@ pub record IsFresh (s : Stage) (t : Turner) : Type 0 where
 
 -- each of the turners is its stage, and has taken in nothing
 abbrev pub AreFresh : List Stage → List Turner → Type 0
-AreFresh stages turners = AllZip IsFresh stages turners
+AreFresh stages turners = AllZip IsFreshTurner stages turners
