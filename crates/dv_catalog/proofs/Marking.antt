@@ -31,7 +31,7 @@ use Rattle.dv_catalog.proofs.Stopping.{take_none}
 
 -- ---- behind changes
 
-shown_mark : (m : views.Mark) → mark_of m ≡ (if is_stale m then stale else live (mark_ticks m))
+shown_mark : (m : views.ViewMark) → mark_of m ≡ (if is_stale m then stale else live (mark_ticks m))
 shown_mark (views.live kept) = refl
 shown_mark (views.anew rows) = refl
 shown_mark views.stale = refl

@@ -22,17 +22,17 @@ same_state namespaces before after forms = λ i. record { namespaces = namespace
 
 -- ---- marks
 
-pub fresh_mark : (m : views.Mark) → IsJustMade m → mark_of m ≡ live 0
+pub fresh_mark : (m : views.ViewMark) → IsJustMade m → mark_of m ≡ live 0
 fresh_mark (views.live kept) fresh = ap live fresh.ticks
 fresh_mark (views.anew rows) fresh = refl
 fresh_mark views.stale fresh = absurd (cc (fresh.live))
 
-stale_mark : (m : views.Mark) → is_stale m ≡ true → mark_of m ≡ stale
+stale_mark : (m : views.ViewMark) → is_stale m ≡ true → mark_of m ≡ stale
 stale_mark (views.live kept) is = absurd cc
 stale_mark (views.anew rows) is = absurd cc
 stale_mark views.stale is = refl
 
-live_mark : (m : views.Mark) → is_stale m ≡ false → mark_read (mark_of m) ≡ mark_of m
+live_mark : (m : views.ViewMark) → is_stale m ≡ false → mark_read (mark_of m) ≡ mark_of m
 live_mark (views.live kept) is = refl
 live_mark (views.anew rows) is = refl
 live_mark views.stale is = absurd cc
@@ -155,7 +155,7 @@ ShownIsRight = (name : List ℕ) (lists : Lists) (vs : Views) (rows : List (List
 abbrev pub UnnamedIsLeft : Type 0
 UnnamedIsLeft = (name : List ℕ) (lists : Lists) (forms : List ViewForm) → list_any (λ v. bytes_eq name v.name) forms ≡ false → rows_over forms lists name ≡ lists name
 
-live_is_shown : (m : views.Mark) → is_stale m ≡ false → kept_rows m ≡ None → ⊥
+live_is_shown : (m : views.ViewMark) → is_stale m ≡ false → kept_rows m ≡ None → ⊥
 live_is_shown (views.live kept) is none = cc
 live_is_shown (views.anew rows) is none = cc
 live_is_shown views.stale is none = cc

@@ -6,7 +6,7 @@ use Rattle.std.specs.Str.{bytes_eq}
 use Rattle.dv_bson.specs.Tree.{Field}
 use Rattle.dv_pipe.specs.Sources.{Source, rows_under}
 use Rattle.dv_pipe.specs.Sources as pipes
-use Rattle.dv_pipe.specs.Stages.{Lists, evaluated, is_named, is_read, looked_into}
+use Rattle.dv_pipe.specs.Stages.{Lists, evaluated, is_source_named, is_read, looked_into}
 use Rattle.dv_pipe.specs.declared.stage.Stage.{Stage}
 use Rattle.dv_views.specs.Forms.{is_name_among, names_read}
 use Rattle.dv_views.specs.Made.{AreAlike}
@@ -152,11 +152,11 @@ abbrev pub Agreeing : Type 0
 Agreeing = (stages : List Stage) (source : List ℕ) (lists others : Lists) → ((name : List ℕ) → is_read stages source name ≡ true → lists name ≡ others name) → evaluated stages source lists ≡ evaluated stages source others
 
 module _ (source name : List ℕ) where
-  looked_among : (stages : List Stage) → list_any (λ s. is_named name (looked_into s source)) stages ≡ is_name_among name (lookups_of stages source)
+  looked_among : (stages : List Stage) → list_any (λ s. is_source_named name (looked_into s source)) stages ≡ is_name_among name (lookups_of stages source)
   looked_among [] = refl
   looked_among (s ∷ ss) = by_name (looked_into s source) (looked_among ss)
     where
-      by_name : (looked : Option (List ℕ)) → list_any (λ t. is_named name (looked_into t source)) ss ≡ is_name_among name (lookups_of ss source) → is_named name looked || list_any (λ t. is_named name (looked_into t source)) ss ≡ is_name_among name (names_with looked (lookups_of ss source))
+      by_name : (looked : Option (List ℕ)) → list_any (λ t. is_source_named name (looked_into t source)) ss ≡ is_name_among name (lookups_of ss source) → is_source_named name looked || list_any (λ t. is_source_named name (looked_into t source)) ss ≡ is_name_among name (names_with looked (lookups_of ss source))
       by_name None rest = rest
       by_name (Some n) rest = ap (λ (b : Bool). bytes_eq name n || b) rest
 

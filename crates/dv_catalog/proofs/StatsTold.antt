@@ -23,10 +23,10 @@ no_mark : (there : Option View) → option_map (λ v. views.state_of_mark v.mark
 no_mark None is = refl
 no_mark (Some v) is = absurd cc
 
-abbrev stats_in : views.Mark → Stats
+abbrev stats_in : views.ViewMark → Stats
 stats_in m = record { is_live = live_shown (views.state_of_mark m); rows = views.mark_rows m; ticks = views.mark_ticks m }
 
-stats_shown : (m : views.Mark) (those : List (List Field)) → ((rows : List (List Field)) → kept_rows m ≡ Some rows → rows ≡ those) → stats_in m ≡ stats_by those (mark_of m)
+stats_shown : (m : views.ViewMark) (those : List (List Field)) → ((rows : List (List Field)) → kept_rows m ≡ Some rows → rows ≡ those) → stats_in m ≡ stats_by those (mark_of m)
 stats_shown (views.live kept) those right = λ i. record { is_live = true; rows = length (right kept.rows refl i); ticks = kept.ticks }
 stats_shown (views.anew rows) those right = λ i. record { is_live = true; rows = length (right rows refl i); ticks = 0 }
 stats_shown views.stale those right = refl

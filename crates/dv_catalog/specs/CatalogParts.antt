@@ -11,7 +11,7 @@ abbrev pub state_of : Namespaces → views.Views → State
 state_of namespaces registry = record { namespaces = namespaces; views = map views.view_form registry }
 
 -- how a view stands
-abbrev pub mark_of : views.Mark → Mark
+abbrev pub mark_of : views.ViewMark → Mark
 mark_of (views.live kept) = live kept.ticks
 mark_of (views.anew rows) = live 0
 mark_of views.stale = stale

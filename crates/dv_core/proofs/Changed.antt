@@ -26,19 +26,19 @@ use Rattle.dv_catalog.specs.State as stored
 use Rattle.dv_core.specs.State.{State, marked}
 use Rattle.dv_core.specs.Stats.{view_told}
 use Rattle.dv_catalog.specs.Views.{created, dropped}
-use Rattle.dv_core.specs.Statements.{Write, Written, nothing_written, carry_out, with_all, with_next, with_result, is_due, IsCutWrite}
+use Rattle.dv_core.specs.Statements.{WriteCounts, Written, nothing_written, carry_out, with_all, with_next, with_result, is_due, IsCutWrite}
 use Rattle.dv_core.specs.Step.{Answer, answered, read_answer, write_answer, on_catalog, on_cursors, answer_to, step, asked_write, makes, moves}
 use Rattle.dv_core.specs.Writes.{reply_by, write_by}
 use Rattle.dv_core.proofs.Bare.{BareCut, BareStep, BareWants, BareWriteCut}
 
 -- what a write did, be it cut
-abbrev pub Did : Write → State → Written → Type 0
+abbrev pub Did : WriteCounts → State → Written → Type 0
 Did write old did = (did ≡ carry_out write old.catalog.namespaces) ⊎ IsCutWrite write old.catalog.namespaces did
 
 -- the answer of a write
 pub record Writes (old : State) (asked : Result Asked Refusal) (answer : Answer) : Type 0 where
   pub what : Asked
-  pub write : Write
+  pub write : WriteCounts
   pub did : Written
   pub asks : asked ≡ Ok what
   pub is_write : asked_write what ≡ Some write
@@ -71,7 +71,7 @@ pub record Makes (old : State) (asked : Result Asked Refusal) (answer : Answer) 
 abbrev pub MayWrite : State → Result Asked Refusal → Answer → Type 0
 MayWrite old asked answer = (answer.state ≡ old) ⊎ (Writes old asked answer ⊎ Makes old asked answer)
 
-carried_may : (old : State) (what : Asked) (write : Write) → asked_write what ≡ Some write → (b : Bool) → MayWrite old (Ok what) (answered old (if b then Err OnView else Ok (write_answer old write (carry_out write old.catalog.namespaces))))
+carried_may : (old : State) (what : Asked) (write : WriteCounts) → asked_write what ≡ Some write → (b : Bool) → MayWrite old (Ok what) (answered old (if b then Err OnView else Ok (write_answer old write (carry_out write old.catalog.namespaces))))
 carried_may old what write is true = inl refl
 carried_may old what write is false = inr (inl (record { what = what; write = write; did = carry_out write old.catalog.namespaces; asks = refl; is_write = is; did_so = inl refl; answers = refl }))
 
@@ -148,7 +148,7 @@ step_may old session (Ok (drop_indexes d)) =
 step_may old session (Ok (explain e)) = inl refl
 step_may old session (Ok (view_stats v)) = read_may old (view_stats v) (view_told v (marked old))
 
-write_cut_may : (old : State) (what : Asked) (write : Option Write) → asked_write what ≡ write → (answer : Answer) → BareWriteCut old write answer → MayWrite old (Ok what) answer
+write_cut_may : (old : State) (what : Asked) (write : Option WriteCounts) → asked_write what ≡ write → (answer : Answer) → BareWriteCut old write answer → MayWrite old (Ok what) answer
 write_cut_may old what None is answer cut = absurd cut
 write_cut_may old what (Some write) is answer (on, (left, is_cut, answers)) =
     inr (inl (record { what = what; write = write; did = left; asks = refl; is_write = is; did_so = inr is_cut; answers = answers }))
@@ -268,8 +268,8 @@ reply_told Update n changed errors = update_told errors (count n) (count changed
 reply_told Delete n changed errors = errors_told errors (count n)
 
 -- a write that is carried out says so
-pub write_told : (what : Asked) (write : Write) → asked_write what ≡ Some write → (n changed : ℕ) (errors : List Tree) → told (write.reply n changed errors) ≡ Some (int32 (pos 1))
-write_told (asking.write w) write is n changed errors = let same : write_by w ≡ write = cc in subst (λ (made : Write). told (made.reply n changed errors) ≡ Some (int32 (pos 1))) same (reply_told w.kind n changed errors)
+pub write_told : (what : Asked) (write : WriteCounts) → asked_write what ≡ Some write → (n changed : ℕ) (errors : List Tree) → told (write.reply n changed errors) ≡ Some (int32 (pos 1))
+write_told (asking.write w) write is n changed errors = let same : write_by w ≡ write = cc in subst (λ (made : WriteCounts). told (made.reply n changed errors) ≡ Some (int32 (pos 1))) same (reply_told w.kind n changed errors)
 write_told what write is n changed errors = absurd cc
 
 refused_may : (old : State) (asked : Result Asked Refusal) (answer : Answer) → MayWrite old asked answer → told answer.reply ≡ Some (int32 (pos 0)) → answer.state ≡ old
@@ -294,7 +294,7 @@ due_none : (ordered : Bool) (es : List Tree) → ordered ≡ true → is_due ord
 due_none ordered [] is due = refl
 due_none ordered (e ∷ es) is due = absurd cc
 
-module _ (write : Write) (ordered : write.ordered ≡ true) where
+module _ (write : WriteCounts) (ordered : write.ordered ≡ true) where
   one_result : (so_far : Written) (result : Result Effect Refusal) → so_far.errors ≡ [] → length (with_result write.namespace write.ordered so_far result).errors ≤ 1
   one_result so_far (Ok effect) none = rw none (omega arith)
   one_result so_far (Err refusal) none = rw none (omega arith)

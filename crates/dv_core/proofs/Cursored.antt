@@ -24,9 +24,9 @@ use Rattle.dv_core.specs.declared.outcome.Outcome.TheVariants.{Reply, Wanting, N
 use Rattle.dv_core.specs.Find.{are_too_large, reply_to_find, first_batch, kept, kept_under, kept_by_cursor, replied}
 use Rattle.dv_core.specs.More.{id_behind, next_of, cursor_number, rows_asked, rows_wanted, without_cursor, without_cursors}
 use Rattle.dv_core.specs.Runs.{Move, carries, ends, wants, stands, state_after_move, state_behind_all, is_cursor_number, batch_told, is_nil, is_last_batch, asked_rows, asked_last, rows_told, tells_last, all_told, is_told_out, BatchesAreFront, IsToldOf, Shows}
-use Rattle.dv_core.specs.State.{State, empty_state, marked}
+use Rattle.dv_core.specs.State.{State, empty_store_state, marked}
 use Rattle.dv_core.specs.Stats.{view_told}
-use Rattle.dv_core.specs.Statements.{Write}
+use Rattle.dv_core.specs.Statements.{WriteCounts}
 use Rattle.dv_core.specs.Step.{Answer, answered, answer_to, read_answer, on_catalog, on_cursors, step, asked_write, end_session}
 use Rattle.dv_core.proofs.Bare.{BareCut, BareStep, BareWants, BareWriteCut}
 
@@ -396,22 +396,22 @@ module _ (laws : CursorLaws) where
     shown single state above (Err refusal) is = inl (refusal, refl)
 
   pub find_told : (before : List Move) (session : ℕ) (command : Command) (asked : Find) → asked_by command ≡ Ok (find asked)
-      → Shows session asked.namespace asked.batch_size asked.single_batch (scan asked.filter asked.sort asked.skip asked.limit (rows_of asked.namespace (state_behind_all before empty_state).catalog))
-      (state_behind_all before empty_state) (step (state_behind_all before empty_state) session command)
+      → Shows session asked.namespace asked.batch_size asked.single_batch (scan asked.filter asked.sort asked.skip asked.limit (rows_of asked.namespace (state_behind_all before empty_store_state).catalog))
+      (state_behind_all before empty_store_state) (step (state_behind_all before empty_store_state) session command)
   find_told before session command asked asks =
-      let state : State = state_behind_all before empty_state in
+      let state : State = state_behind_all before empty_store_state in
       let rows : Rows = scan asked.filter asked.sort asked.skip asked.limit (rows_of asked.namespace state.catalog) in
       subst (λ (r : Result Asked Refusal). Shows session asked.namespace asked.batch_size asked.single_batch rows state (answered state (r >>= answer_to state session))) (sym asks)
-      (shown session asked.namespace asked.batch_size rows asked.single_batch state (above_zero before empty_state (omega arith)) _ refl)
+      (shown session asked.namespace asked.batch_size rows asked.single_batch state (above_zero before empty_store_state (omega arith)) _ refl)
 
   pub pipeline_told : (before : List Move) (session : ℕ) (command : Command) (asked : Aggregate) → asked_by command ≡ Ok (aggregate asked)
-      → Shows session asked.namespace asked.batch_size false (aggregated asked.stages asked.namespace (state_behind_all before empty_state).catalog)
-      (state_behind_all before empty_state) (step (state_behind_all before empty_state) session command)
+      → Shows session asked.namespace asked.batch_size false (aggregated asked.stages asked.namespace (state_behind_all before empty_store_state).catalog)
+      (state_behind_all before empty_store_state) (step (state_behind_all before empty_store_state) session command)
   pipeline_told before session command asked asks =
-      let state : State = state_behind_all before empty_state in
+      let state : State = state_behind_all before empty_store_state in
       let rows : Rows = aggregated asked.stages asked.namespace state.catalog in
       subst (λ (r : Result Asked Refusal). Shows session asked.namespace asked.batch_size false rows state (answered state (r >>= answer_to state session))) (sym asks)
-      (shown session asked.namespace asked.batch_size rows false state (above_zero before empty_state (omega arith)) _ refl)
+      (shown session asked.namespace asked.batch_size rows false state (above_zero before empty_store_state (omega arith)) _ refl)
 
   -- ---- what a getMore replies
 
@@ -441,7 +441,7 @@ module _ (laws : CursorLaws) where
 
 -- ---- want of memory
 
-write_wants : (old : State) (write : Option Write) (answer : Answer) → BareWriteCut old write answer → (catalog : stored.State) × (answer.state ≡ state_after_move (wants catalog) old)
+write_wants : (old : State) (write : Option WriteCounts) (answer : Answer) → BareWriteCut old write answer → (catalog : stored.State) × (answer.state ≡ state_after_move (wants catalog) old)
 write_wants old None answer cut = absurd cut
 write_wants old (Some write) answer (on, (left, is_cut, answers)) = (record old.catalog { namespaces = left.namespaces }, ap (λ (a : Answer). a.state) answers)
 

@@ -25,7 +25,7 @@ use Rattle.dv_core.specs.Load.{loaded}
 use Rattle.dv_core.specs.More.{next_of, cursor_number, rows_asked, rows_wanted, without_cursor, without_cursors}
 use Rattle.dv_core.specs.Runs.{carries, wants, state_after_move}
 use Rattle.dv_core.specs.Sound.{AreShown, AreSoundCursors, AreSoundDocuments, AreSoundViews, IsSoundCommand}
-use Rattle.dv_core.specs.State.{State, empty_state, marked}
+use Rattle.dv_core.specs.State.{State, empty_store_state, marked}
 use Rattle.dv_core.specs.Stats.{view_told}
 use Rattle.dv_core.specs.Step.{answered, answer_to, on_cursors, end_session}
 use Rattle.dv_core.specs.Storable.{is_within_limits}
@@ -179,7 +179,7 @@ module _ (laws : CursorLaws) where
 
 -- ---- the first state, and a load
 
-pub empty_shown : AreSoundCursors empty_state
+pub empty_shown : AreSoundCursors empty_store_state
 empty_shown session namespace id = subst (IsShown namespace) (sym (finite.get-empty place_cmp (session, id))) tt
 
 pub loaded_shown : (old new : State) (text : List ℕ) (d : List Field) → loaded text d old ≡ Ok new → AreSoundCursors old → AreSoundCursors new

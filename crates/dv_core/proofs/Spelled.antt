@@ -47,7 +47,7 @@ use Rattle.dv_index.specs.Index.{IndexForm, id_form}
 use Rattle.dv_index.specs.Indexed.{is_dropped, without_index}
 use Rattle.dv_catalog.specs.State as states
 use Rattle.dv_catalog.specs.Views.{aggregated, created, dropped, made, reads_name, with_view, with_view_by, with_views}
-use Rattle.dv_core.specs.Statements.{Write, Written, nothing_written, is_due, with_result, with_next, with_all, carry_out, IsCutWrite}
+use Rattle.dv_core.specs.Statements.{WriteCounts, Written, nothing_written, is_due, with_result, with_next, with_all, carry_out, IsCutWrite}
 use Rattle.dv_core.specs.Step.{Answer, answered, read_answer, write_answer, on_catalog, on_cursors, answer_to, step, asked_write}
 use Rattle.dv_command.specs.Sound.{AreSpellable, AreIds, IsNamespace, IsSoundRequest}
 use Rattle.dv_core.specs.Writes.{statement_of, reply_by, write_by}
@@ -379,18 +379,18 @@ abbrev IsSpelled : (ℕ → ℕ → List Tree → List Field) → Type 0
 IsSpelled reply = (n changed : ℕ) (es : List Tree) → length es ≤ 100000 → AllByRecursion IsSmall es → HasSpelling (reply n changed es)
 
 -- a write of so few statements, each refused plainly, whose reply has a spelling
-record IsTellable (write : Write) : Type 0 where
+record IsTellable (write : WriteCounts) : Type 0 where
   within : length write.statements ≤ 100000
   plain : AllByRecursion IsPlainStatement write.statements
   reply : IsSpelled write.reply
 
-few_written : (write : Write) (old : Namespaces) (statements : List Statement) → length statements ≤ 100000 → AllByRecursion IsPlainStatement statements
+few_written : (write : WriteCounts) (old : Namespaces) (statements : List Statement) → length statements ≤ 100000 → AllByRecursion IsPlainStatement statements
     → AreFew (length statements) (with_all write.namespace write.ordered (nothing_written old) statements)
 few_written write old statements within plain =
     let all = few_all write.namespace write.ordered 0 (nothing_written old) statements (omega (arith, within)) plain (record { statements = omega arith; errors = omega arith; small = tt }) in
     record { statements = omega (arith, all.statements); errors = omega (arith, all.errors); small = all.small }
 
-write_spelled : (write : Write) (old : Namespaces) → IsTellable write → HasSpelling (write.reply (carry_out write old).n (carry_out write old).changed (carry_out write old).errors)
+write_spelled : (write : WriteCounts) (old : Namespaces) → IsTellable write → HasSpelling (write.reply (carry_out write old).n (carry_out write old).changed (carry_out write old).errors)
 write_spelled write old is =
     let all = few_written write old write.statements is.within is.plain in
     is.reply (carry_out write old).n (carry_out write old).changed (carry_out write old).errors (omega (arith, all.errors, is.within)) all.small
@@ -409,7 +409,7 @@ done_behind counts changes = record {
 }
 
 -- one that is cut: the errors of the statements before, and that of the one that found no memory
-cut_spelled : CountsAreValid → (write : Write) (old : Namespaces) (left : Written) → IsTellable write → IsCutWrite write old left → HasSpelling (write.reply left.n left.changed left.errors)
+cut_spelled : CountsAreValid → (write : WriteCounts) (old : Namespaces) (left : Written) → IsTellable write → IsCutWrite write old left → HasSpelling (write.reply left.n left.changed left.errors)
 cut_spelled counts write old left is c =
     let so_far : Written = with_all write.namespace write.ordered (nothing_written old) c.before in
     let many : length write.statements ≡ length c.before + suc (length c.behind) = rw (c.stands, length-append) refl in
@@ -618,7 +618,7 @@ killed_spelled most gone missing few all others =
 
 -- ---- writes
 
-write_or_refusal : (old : State) (b : Bool) (write : Write) (did : Written) → HasSpelling (write.reply did.n did.changed did.errors) → HasSpelling (answered old (if b then Err OnView else Ok (write_answer old write did))).reply
+write_or_refusal : (old : State) (b : Bool) (write : WriteCounts) (did : Written) → HasSpelling (write.reply did.n did.changed did.errors) → HasSpelling (answered old (if b then Err OnView else Ok (write_answer old write did))).reply
 write_or_refusal old true write did spelt = refusal_spelled OnView tt
 write_or_refusal old false write did spelt = spelt
 
@@ -815,7 +815,7 @@ module _ (asks : AsksSoundly) (counts : CountsAreValid) (laws : BatchLaws) (pipe
 
 module _ (asks : AsksSoundly) (counts : CountsAreValid) where
   -- the reply of a write that is cut
-  left_spelled : (old : State) (write : Write) (answer : Answer) → IsTellable write → BareWriteCut old (Some write) answer → HasSpelling answer.reply
+  left_spelled : (old : State) (write : WriteCounts) (answer : Answer) → IsTellable write → BareWriteCut old (Some write) answer → HasSpelling answer.reply
   left_spelled old write answer is (on, (left, is_cut, answers)) = subst (λ (a : Answer). HasSpelling a.reply) (sym answers) (cut_spelled counts write old.catalog.namespaces left is is_cut)
 
   asked_cut_spelled : (old : State) (size : ℕ) (what : Asked) (answer : Answer) → IsSoundRequest size what → BareWriteCut old (asked_write what) answer → HasSpelling answer.reply

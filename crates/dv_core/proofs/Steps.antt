@@ -17,7 +17,7 @@ use Rattle.dv_fields.specs.declared.refusal.Refusal.{Refusal}
 use Rattle.dv_fields.specs.declared.refusal.Refusal.TheVariants.{OnView, WantOfMemory}
 use Rattle.dv_core.specs.declared.outcome.Outcome.{Outcome}
 use Rattle.dv_core.specs.declared.outcome.Outcome.TheVariants.{Reply, Wanting, NoReply}
-use Rattle.dv_core.specs.Statements.{Write, Written, carry_out}
+use Rattle.dv_core.specs.Statements.{WriteCounts, Written, carry_out}
 use Rattle.dv_core.specs.Marks.{AreMarked, AreMarkedAll, AreMarkedByWrite, AreMarkedForWant, marks_where_read, read_by}
 use Rattle.dv_core.specs.Step.{Answer, answered, read_answer, write_answer, on_catalog, on_cursors, answer_to, replying, Cut, MemoryStep, Wants}
 use Rattle.dv_core.specs.StepParts.{Ends, GivesAndLeaves, Refuses, StandRead, TellsReply, TellsOrNot}
@@ -185,7 +185,7 @@ module _ (old : State) (session : ℕ) (command : Command) where
   -- ---- a write
 
   module _ (w : asking.Write) (asks : asked_by command ≡ Ok (asking.write w)) (new : State) where
-    abbrev writes : Write
+    abbrev writes : WriteCounts
     writes = write_by w
 
     abbrev done : Written
@@ -225,6 +225,6 @@ module _ (old : State) (session : ℕ) (command : Command) where
         by_view false on (done, views, cursors) = write_done on views cursors outcome done
 
 -- a write on a collection
-pub on_collection : (write : Write) (old new : State) (outcome : Outcome) → is_view write.namespace old.catalog.views ≡ false → WritesOrCuts write (marked old) outcome (marked new) → new.catalog.views ≡ old.catalog.views → new.cursors ≡ old.cursors
+pub on_collection : (write : WriteCounts) (old new : State) (outcome : Outcome) → is_view write.namespace old.catalog.views ≡ false → WritesOrCuts write (marked old) outcome (marked new) → new.catalog.views ≡ old.catalog.views → new.cursors ≡ old.cursors
     → WritesOn write old outcome new
 on_collection write old new outcome on does views cursors = subst (λ (b : Bool). WritesWhere b write old outcome new) (sym on) (does, views, cursors)

@@ -16,7 +16,7 @@ use Rattle.dv_pipe.specs.declared.stage.Stage.TheVariants.{Limit, Sort}
 use Rattle.dv_views.specs.Forms.{ViewForm}
 use Rattle.dv_core.specs.Load.{loaded, namespace_in}
 use Rattle.dv_core.specs.Marks.{marks_behind_all}
-use Rattle.dv_core.specs.State.{State, empty_state, standing}
+use Rattle.dv_core.specs.State.{State, empty_store_state, standing}
 use Rattle.dv_core.specs.Step.{step, MemoryStep}
 
 -- ---- words for them
@@ -42,7 +42,7 @@ with_collection namespace documents state = record state { catalog = record stat
 
 -- the state with these documents alone
 abbrev pub holding : List (List Field) → State
-holding documents = with_collection (codes "t.c") documents empty_state
+holding documents = with_collection (codes "t.c") documents empty_store_state
 
 abbrev pub number : ℕ → Tree
 number n = int32 (pos n)
@@ -124,32 +124,32 @@ letters (suc count) = 99 ∷ letters count
 
 pub record InsertExamples : Type 0 where
   -- {_id: 5} into nothing
-  pub first : AnswersAlways empty_state (insert (only 5 ∷ [])) (counted_reply 1) (holding (only 5 ∷ []))
+  pub first : AnswersAlways empty_store_state (insert (only 5 ∷ [])) (counted_reply 1) (holding (only 5 ∷ []))
   -- then {_id: 5} as an int64, whose _id is equal
   pub equal : AnswersAlways (holding (only 5 ∷ [])) (insert (((codes "_id", int64 (pos 5)) ∷ []) ∷ []))
       (errors_reply 0 (error 0 11000 (codes "DuplicateKey") ∷ [])) (holding (only 5 ∷ []))
   -- {_id: 2}, {_id: 2} and {_id: 1}: an ordered insert ends at its first error, and an unordered one goes on behind it
-  pub ordered : AnswersAlways empty_state (insert (only 2 ∷ only 2 ∷ only 1 ∷ []))
+  pub ordered : AnswersAlways empty_store_state (insert (only 2 ∷ only 2 ∷ only 1 ∷ []))
       (errors_reply 1 (error 1 11000 (codes "DuplicateKey") ∷ [])) (holding (only 2 ∷ []))
-  pub unordered : AnswersAlways empty_state (unordered_insert (only 2 ∷ only 2 ∷ only 1 ∷ []))
+  pub unordered : AnswersAlways empty_store_state (unordered_insert (only 2 ∷ only 2 ∷ only 1 ∷ []))
       (errors_reply 2 (error 1 11000 (codes "DuplicateKey") ∷ [])) (holding (only 1 ∷ only 2 ∷ []))
   -- {a: 1, _id: 2} is stored with its _id in front
-  pub id_behind : AnswersAlways empty_state (insert (((codes "a", number 1) ∷ (codes "_id", number 2) ∷ []) ∷ []))
+  pub id_behind : AnswersAlways empty_store_state (insert (((codes "a", number 1) ∷ (codes "_id", number 2) ∷ []) ∷ []))
       (counted_reply 1) (holding (((codes "_id", number 2) ∷ (codes "a", number 1) ∷ []) ∷ []))
   -- {a: 1} has no _id, and no collection is made
-  pub no_id : AnswersAlways empty_state (insert (((codes "a", number 1) ∷ []) ∷ [])) (errors_reply 0 (error 0 2 (codes "BadValue") ∷ [])) empty_state
+  pub no_id : AnswersAlways empty_store_state (insert (((codes "a", number 1) ∷ []) ∷ [])) (errors_reply 0 (error 0 2 (codes "BadValue") ∷ [])) empty_store_state
   -- {_id: [1]}, {_id: 1, $a: 1} and {_id: 1, a: {b.c: 1}} are not stored
-  pub unfit : AnswersAlways empty_state
+  pub unfit : AnswersAlways empty_store_state
       (unordered_insert (one_field (codes "_id") (array (elements_of (number 1 ∷ []))) ∷ (only 1 ++ one_field (codes "$a") (number 1)) ∷ (only 1 ++ one_field (codes "a") (document_of (one_field (codes "b.c") (number 1)))) ∷ []))
-      (errors_reply 0 (error 0 2 (codes "BadValue") ∷ error 1 2 (codes "BadValue") ∷ error 2 2 (codes "BadValue") ∷ [])) empty_state
+      (errors_reply 0 (error 0 2 (codes "BadValue") ∷ error 1 2 (codes "BadValue") ∷ error 2 2 (codes "BadValue") ∷ [])) empty_store_state
   -- a document of a database that has none, where another has {_id: 5} in a collection of the same name
   pub elsewhere : AnswersAlways (holding (only 5 ∷ [])) (on (codes "u") ((codes "insert", string (codes "c")) ∷ (codes "documents", array (elements_of (document_of (only 5) ∷ []))) ∷ []))
       (counted_reply 1) (with_collection (codes "u.c") (only 5 ∷ []) (holding (only 5 ∷ [])))
   -- nor is {_id: 1, a: [{b.c: 1}]}
-  pub dotted : AnswersAlways empty_state (insert ((only 1 ++ one_field (codes "a") (array (elements_of (document_of (one_field (codes "b.c") (number 1)) ∷ [])))) ∷ []))
-      (errors_reply 0 (error 0 2 (codes "BadValue") ∷ [])) empty_state
+  pub dotted : AnswersAlways empty_store_state (insert ((only 1 ++ one_field (codes "a") (array (elements_of (document_of (one_field (codes "b.c") (number 1)) ∷ [])))) ∷ []))
+      (errors_reply 0 (error 0 2 (codes "BadValue") ∷ [])) empty_store_state
   -- numbers stand before booleans
-  pub classes : AnswersAlways empty_state (insert (one_field (codes "_id") (boolean false) ∷ only 1 ∷ [])) (counted_reply 2) (holding (only 1 ∷ one_field (codes "_id") (boolean false) ∷ []))
+  pub classes : AnswersAlways empty_store_state (insert (one_field (codes "_id") (boolean false) ∷ only 1 ∷ [])) (counted_reply 2) (holding (only 1 ∷ one_field (codes "_id") (boolean false) ∷ []))
 
 -- {_id: 1}, {_id: 2} and {_id: 3}
 abbrev pub three : List (List Field)
@@ -163,7 +163,7 @@ pub record DeleteExamples : Type 0 where
   -- all; the collection is left, without documents
   pub all : AnswersAlways (holding three) (delete (deletion [] 0 ∷ [])) (counted_reply 3) (holding [])
   -- out of nothing; no collection is made
-  pub nothing : AnswersAlways empty_state (delete (deletion [] 0 ∷ [])) (counted_reply 0) empty_state
+  pub nothing : AnswersAlways empty_store_state (delete (deletion [] 0 ∷ [])) (counted_reply 0) empty_store_state
   -- without a limit
   pub no_limit : AnswersAlways (holding three) (delete (one_field (codes "q") (document no_fields) ∷ [])) (errors_reply 0 (error 0 9 (codes "FailedToParse") ∷ [])) (holding three)
   -- with another one than 0 and 1
@@ -200,7 +200,7 @@ pub record ReadExamples : Type 0 where
   pub pinged : (state : State) → AnswersAlways state (on (codes "t") ping_command) ((codes "ok", number 1) ∷ []) state
   pub found : AnswersAlways (holding (only 5 ∷ only 6 ∷ [])) find (find_reply (codes "t.c") (only 5 ∷ only 6 ∷ [])) (holding (only 5 ∷ only 6 ∷ []))
   -- no collection is made; a comment is ignored, whatever it is
-  pub not_found : AnswersAlways empty_state (find ++ (codes "filter", document no_fields) ∷ (codes "comment", number 1) ∷ []) (find_reply (codes "t.c") []) empty_state
+  pub not_found : AnswersAlways empty_store_state (find ++ (codes "filter", document no_fields) ∷ (codes "comment", number 1) ∷ []) (find_reply (codes "t.c") []) empty_store_state
 
 pub record RefusalExamples : Type 0 where
   pub no_database : IsRefusedAlways ping_command 9 (codes "FailedToParse")
@@ -224,7 +224,7 @@ pub record RefusalExamples : Type 0 where
   -- a zero byte in a collection's name
   pub zero_in_name : IsRefusedAlways (find_command (99 ∷ 0 ∷ [])) 2 (codes "BadValue")
   -- a namespace of 120 bytes, and one of 121
-  pub longest_namespace : AnswersAlways empty_state (find_command (letters 118)) (find_reply (codes "t." ++ letters 118) []) empty_state
+  pub longest_namespace : AnswersAlways empty_store_state (find_command (letters 118)) (find_reply (codes "t." ++ letters 118) []) empty_store_state
   pub namespace_too_long : IsRefusedAlways (find_command (letters 119)) 2 (codes "BadValue")
 
 -- {_id: 1} and {_id: 2}
@@ -275,15 +275,15 @@ aggregate name = on (codes "t") ((codes "aggregate", string name) ∷ (codes "pi
 -- what loading documents leaves, or why it is refused
 pub record LoadExamples : Type 0 where
   -- {_id: 5} into nothing
-  pub first : loaded (codes "t.c") (only 5) empty_state ≡ Ok (holding (only 5 ∷ []))
+  pub first : loaded (codes "t.c") (only 5) empty_store_state ≡ Ok (holding (only 5 ∷ []))
   -- then {_id: 5} as an int64, whose _id is equal
   pub equal : loaded (codes "t.c") ((codes "_id", int64 (pos 5)) ∷ []) (holding (only 5 ∷ [])) ≡ Err DuplicateKey
   -- {a: 1, _id: 2} is stored with its _id in front
-  pub id_behind : loaded (codes "t.c") ((codes "a", number 1) ∷ (codes "_id", number 2) ∷ []) empty_state ≡ Ok (holding (with_id_and_a 2 (number 1) ∷ []))
+  pub id_behind : loaded (codes "t.c") ((codes "a", number 1) ∷ (codes "_id", number 2) ∷ []) empty_store_state ≡ Ok (holding (with_id_and_a 2 (number 1) ∷ []))
   -- {a: 1} has no _id
-  pub no_id : loaded (codes "t.c") ((codes "a", number 1) ∷ []) empty_state ≡ Err BadValue
+  pub no_id : loaded (codes "t.c") ((codes "a", number 1) ∷ []) empty_store_state ≡ Err BadValue
   -- a view takes no documents; it is looked at before the document
-  pub written : loaded (codes "t.v") ((codes "a", number 1) ∷ []) (viewing empty_state) ≡ Err OnView
+  pub written : loaded (codes "t.v") ((codes "a", number 1) ∷ []) (viewing empty_store_state) ≡ Err OnView
   -- the first dot ends the name of the database
   pub dotted_collection : namespace_in (codes "t.c.d") ≡ Ok (codes "t.c.d")
   pub no_dot : namespace_in (codes "t") ≡ Err BadValue
@@ -303,32 +303,32 @@ dropped_reply namespace = (codes "ns", string namespace) ∷ done
 
 -- an answer leaves the marks: how views stand behind it is told beside it
 pub record ViewExamples : Type 0 where
-  pub created : AnswersAlways empty_state (create_view (codes "v") (codes "c")) done (standing [] (viewing empty_state))
+  pub created : AnswersAlways empty_store_state (create_view (codes "v") (codes "c")) done (standing [] (viewing empty_store_state))
   -- a view reads c, which isn't there; so no view may stand there, but a collection may
-  pub read : AnswersAlways (viewing empty_state) (create_view (codes "c") (codes "d")) (refusal 904 (codes "ReadByView")) (viewing empty_state)
-  pub collection : AnswersAlways (viewing empty_state) (create (codes "c")) done (viewing (holding []))
+  pub read : AnswersAlways (viewing empty_store_state) (create_view (codes "c") (codes "d")) (refusal 904 (codes "ReadByView")) (viewing empty_store_state)
+  pub collection : AnswersAlways (viewing empty_store_state) (create (codes "c")) done (viewing (holding []))
   -- a view over itself, one over a view, and one over the eighth of a chain
-  pub itself : AnswersAlways (viewing empty_state) (create_view (codes "w") (codes "w")) (refusal 904 (codes "ReadByView")) (viewing empty_state)
-  pub over_view : AnswersAlways (viewing empty_state) (create_view (codes "w") (codes "v")) done
-      (standing (live 0 ∷ []) (with_fresh_views (view_over (codes "v") (codes "c") [] ∷ view_over (codes "w") (codes "v") [] ∷ []) empty_state))
-  pub ninth : AnswersAlways (chained empty_state) (create_view (codes "9") (codes "8")) (refusal 903 (codes "LimitReached")) (chained empty_state)
+  pub itself : AnswersAlways (viewing empty_store_state) (create_view (codes "w") (codes "w")) (refusal 904 (codes "ReadByView")) (viewing empty_store_state)
+  pub over_view : AnswersAlways (viewing empty_store_state) (create_view (codes "w") (codes "v")) done
+      (standing (live 0 ∷ []) (with_fresh_views (view_over (codes "v") (codes "c") [] ∷ view_over (codes "w") (codes "v") [] ∷ []) empty_store_state))
+  pub ninth : AnswersAlways (chained empty_store_state) (create_view (codes "9") (codes "8")) (refusal 903 (codes "LimitReached")) (chained empty_store_state)
   -- a view where a view stands
-  pub again : AnswersAlways (viewing empty_state) (create_view (codes "v") (codes "c")) (refusal 48 (codes "NamespaceExists")) (viewing empty_state)
+  pub again : AnswersAlways (viewing empty_store_state) (create_view (codes "v") (codes "c")) (refusal 48 (codes "NamespaceExists")) (viewing empty_store_state)
   -- a collection where a collection stands
   pub collection_again : AnswersAlways (holding two) (create (codes "c")) (refusal 48 (codes "NamespaceExists")) (holding two)
   -- a view takes no documents
-  pub written : AnswersAlways (viewing empty_state) (insert_values (codes "v") (document_of (only 1) ∷ [])) (refusal 902 (codes "OnView")) (viewing empty_state)
+  pub written : AnswersAlways (viewing empty_store_state) (insert_values (codes "v") (document_of (only 1) ∷ [])) (refusal 902 (codes "OnView")) (viewing empty_store_state)
   -- it has those of c, as long as c has them
-  pub empty : AnswersAlways (viewing empty_state) (find_command (codes "v")) (find_reply (codes "t.v") []) (viewing empty_state)
+  pub empty : AnswersAlways (viewing empty_store_state) (find_command (codes "v")) (find_reply (codes "t.v") []) (viewing empty_store_state)
   pub found : AnswersAlways (viewing (holding two)) (find_command (codes "v")) (find_reply (codes "t.v") two) (viewing (holding two))
   pub aggregated : AnswersAlways (viewing (holding two)) (aggregate (codes "v")) (find_reply (codes "t.v") two) (viewing (holding two))
   -- a view over it has what its stages make of those rows
   pub nested : AnswersAlways (nesting (holding two)) (find_command (codes "w")) (find_reply (codes "t.w") (only 2 ∷ [])) (nesting (holding two))
   -- it can't be dropped while a view reads it
-  pub read_dropped : AnswersAlways (nesting empty_state) (drop (codes "v")) (refusal 904 (codes "ReadByView")) (nesting empty_state)
-  pub source_dropped : AnswersAlways (viewing (holding two)) (drop (codes "c")) (dropped_reply (codes "t.c")) (viewing empty_state)
-  pub dropped : AnswersAlways (viewing empty_state) (drop (codes "v")) (dropped_reply (codes "t.v")) (standing (live 0 ∷ []) empty_state)
-  pub nothing_there : AnswersAlways empty_state (drop (codes "v")) (refusal 26 (codes "NamespaceNotFound")) empty_state
+  pub read_dropped : AnswersAlways (nesting empty_store_state) (drop (codes "v")) (refusal 904 (codes "ReadByView")) (nesting empty_store_state)
+  pub source_dropped : AnswersAlways (viewing (holding two)) (drop (codes "c")) (dropped_reply (codes "t.c")) (viewing empty_store_state)
+  pub dropped : AnswersAlways (viewing empty_store_state) (drop (codes "v")) (dropped_reply (codes "t.v")) (standing (live 0 ∷ []) empty_store_state)
+  pub nothing_there : AnswersAlways empty_store_state (drop (codes "v")) (refusal 26 (codes "NamespaceNotFound")) empty_store_state
 
 -- the same views, but that one is stale
 abbrev pub struck : State → State
@@ -351,8 +351,8 @@ pub record MarkExamples : Type 0 where
   pub told_stale : AnswersAlways (struck (holding two)) (view_stats (codes "v")) (stats_reply (codes "stale") 0 0) (struck (holding two))
   -- a collection is no view
   pub no_view : AnswersAlways (viewing (holding two)) (view_stats (codes "c")) (refusal 26 (codes "NamespaceNotFound")) (viewing (holding two))
-  pub created : Marking empty_state (create_view (codes "v") (codes "c")) (live 0 ∷ [])
-  pub dropped : Marking (viewing empty_state) (drop (codes "v")) []
+  pub created : Marking empty_store_state (create_view (codes "v") (codes "c")) (live 0 ∷ [])
+  pub dropped : Marking (viewing empty_store_state) (drop (codes "v")) []
   -- a stale view is made anew where it is read, be the find answered or not; and not by a read of its source
   pub read : Marking (struck (holding two)) (find_command (codes "v")) (live 0 ∷ [])
   pub aggregated : Marking (struck (holding two)) (aggregate (codes "v")) (live 0 ∷ [])
@@ -361,21 +361,21 @@ pub record MarkExamples : Type 0 where
   pub nested : Marking (standing (stale ∷ stale ∷ []) (nesting (holding two))) (find_command (codes "w")) (live 0 ∷ live 0 ∷ [])
   pub below : Marking (standing (stale ∷ stale ∷ []) (nesting (holding two))) (find_command (codes "v")) (live 0 ∷ stale ∷ [])
   -- a new view reads what it stands over
-  pub created_over : Marking (struck empty_state) (create_view (codes "w") (codes "v")) (live 0 ∷ live 0 ∷ [])
+  pub created_over : Marking (struck empty_store_state) (create_view (codes "w") (codes "v")) (live 0 ∷ live 0 ∷ [])
   -- a change passes from view to view: one comes to the stage of v, which hands one on, and this to that of w, which hands one on
-  pub passed : Marking (limiting empty_state) (insert (only 5 ∷ [])) (live 2 ∷ live 2 ∷ [])
+  pub passed : Marking (limiting empty_store_state) (insert (only 5 ∷ [])) (live 2 ∷ live 2 ∷ [])
   -- a stale view counts no work
-  pub written : Marking (struck empty_state) (insert (only 5 ∷ [])) (stale ∷ [])
+  pub written : Marking (struck empty_store_state) (insert (only 5 ∷ [])) (stale ∷ [])
 
 -- what is told of want of memory
 pub record WantExamples : Type 0 where
   -- any command may be refused for it; then nothing is changed
   pub refused : (state : State) (session : ℕ) (command : Command) → MemoryStep state session command (Wanting (refusal 900 (codes "WantOfMemory"))) state
   -- an insert that finds no memory at its second document
-  pub cut : (session : ℕ) → MemoryStep empty_state session (of_body (insert (only 5 ∷ only 6 ∷ [])))
+  pub cut : (session : ℕ) → MemoryStep empty_store_state session (of_body (insert (only 5 ∷ only 6 ∷ [])))
       (Wanting (errors_reply 1 (document_of ((codes "index", number 1) ∷ (codes "code", number 900) ∷ (codes "errmsg", string (codes "WantOfMemory")) ∷ (codes "done", number 0) ∷ []) ∷ [])))
       (holding (only 5 ∷ []))
   -- and whose reply finds none
-  pub untold : (session : ℕ) → MemoryStep empty_state session (of_body (insert (only 5 ∷ only 6 ∷ []))) NoReply (holding (only 5 ∷ []))
+  pub untold : (session : ℕ) → MemoryStep empty_store_state session (of_body (insert (only 5 ∷ only 6 ∷ []))) NoReply (holding (only 5 ∷ []))
   -- the reply to a ping never tells of it
   pub pinged : (state new : State) (session : ℕ) → MemoryStep state session (of_body (on (codes "t") ping_command)) (Reply (refusal 900 (codes "WantOfMemory"))) new → ⊥

@@ -14,7 +14,7 @@ use Rattle.dv_catalog.specs.Marks.{Marks}
 use Rattle.dv_catalog.specs.State.{is_view}
 use Rattle.dv_catalog.specs.State as stored
 use Rattle.dv_catalog.specs.Views.{created, dropped}
-use Rattle.dv_core.specs.Statements.{Write, Written, carry_out, IsCutWrite}
+use Rattle.dv_core.specs.Statements.{WriteCounts, Written, carry_out, IsCutWrite}
 use Rattle.dv_core.specs.Writes.{write_by}
 use Rattle.dv_core.specs.Find.{reply_to_find, reply_to_aggregate}
 use Rattle.dv_core.specs.Indexes.{find_explained, indexed, unindexed}
@@ -36,12 +36,12 @@ abbrev pub read_answer : State → Result (List Field) Refusal → Result Answer
 read_answer state result = result >>= λ reply. Ok (record { reply = reply; state = state })
 
 -- a write whose statements did this
-abbrev pub write_answer : State → Write → Written → Answer
+abbrev pub write_answer : State → WriteCounts → Written → Answer
 write_answer old write did =
     record { reply = write.reply did.n did.changed did.errors; state = record old { catalog = record old.catalog { namespaces = did.namespaces } } }
 
 -- what a write answers and leaves; there is none on a view
-abbrev pub carried_out : State → Write → Result Answer Refusal
+abbrev pub carried_out : State → WriteCounts → Result Answer Refusal
 carried_out state write =
     if is_view write.namespace state.catalog.views then Err OnView else Ok (write_answer state write (carry_out write state.catalog.namespaces))
 
@@ -84,7 +84,7 @@ step state session command = answered state (asked_by command >>= answer_to stat
 -- ---- under want of memory
 
 -- the write that a command is, if it is one
-abbrev pub asked_write : Asked → Option Write
+abbrev pub asked_write : Asked → Option WriteCounts
 asked_write (asking.write asked) = Some (write_by asked)
 asked_write asked = None
 
@@ -111,7 +111,7 @@ moves (kill_cursors asked) = true
 moves asked = false
 
 -- the answers of a write that is cut at one of its statements, and how views stand behind it; one on a view isn't carried out
-abbrev pub WriteCut : State → Option Write → Answer → Marks → Type 0
+abbrev pub WriteCut : State → Option WriteCounts → Answer → Marks → Type 0
 WriteCut old None answer marks = ⊥
 WriteCut old (Some write) answer marks =
     (is_view write.namespace old.catalog.views ≡ false)

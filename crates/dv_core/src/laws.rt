@@ -20,7 +20,7 @@ ghost use Rattle.dv_core.specs.Load.{IsLoaded, insert_alone, loaded, namespace_i
 ghost use Rattle.dv_core.specs.Part.{IsPart};
 ghost use Rattle.dv_core.specs.Sound.{AreUnique, HasSpelling, IsSound, IsSoundCommand, IsSoundDocument, IsTold};
 ghost use Rattle.dv_catalog.specs.State.{Namespaces, IsOrdered, documents_of, is_view, rows_of};
-ghost use Rattle.dv_core.specs.State.{State, empty_state};
+ghost use Rattle.dv_core.specs.State.{State, empty_store_state};
 ghost use Rattle.std.specs.Str.{bytes_eq};
 ghost use Rattle.dv_core.specs.Runs.{Move, Shows, carries, stands, wants, rows_told, state_after_move, state_behind_all, tells_last};
 ghost use Rattle.dv_cursor.specs.Batch.{rows_behind};
@@ -28,7 +28,7 @@ ghost use Rattle.dv_cursor.specs.Cursors.{Cursors, free_id, rows_to_come};
 ghost use Rattle.dv_catalog.specs.Scan.{scan};
 ghost use Rattle.dv_catalog.specs.State as stored;
 ghost use Rattle.dv_catalog.specs.Views.{aggregated};
-ghost use Rattle.dv_core.specs.Statements.{Write, Written, carry_out, IsCutWrite};
+ghost use Rattle.dv_core.specs.Statements.{WriteCounts, Written, carry_out, IsCutWrite};
 ghost use Rattle.dv_core.specs.Step.{IsLeft, MemoryStep, counted_step, step, asked_write, makes, moves, indexes, end_session};
 ghost use Rattle.dv_core.specs.Storable.{storable, is_within_limits};
 
@@ -71,7 +71,7 @@ pub fn the_counted_step_is_allowed()
 /// Each view has its mark, and no other marks are there: so it is before the first command, and so after each command, each
 /// load and each end of a session.
 pub fn each_view_has_its_mark()
-    ensures before { length empty_state.marks ≡ length empty_state.catalog.views }
+    ensures before { length empty_store_state.marks ≡ length empty_store_state.catalog.views }
     ensures after { (old new : State) (session : ℕ) (command : Command) (outcome : Outcome) → length old.marks ≡ length old.catalog.views
         → MemoryStep old session command outcome new → length new.marks ≡ length new.catalog.views }
     ensures loaded { (old new : State) (namespace : List ℕ) (d : List Field) → length old.marks ≡ length old.catalog.views → IsLoaded namespace d old new → length new.marks ≡ length new.catalog.views }
@@ -87,7 +87,7 @@ pub fn a_delete_leaves_a_part()
 /// The documents of each namespace stay in the order of their `_id`s, no two of which are equal, whatever the width of
 /// their integers: so it is before the first command, and so after each.
 pub fn documents_stay_in_order()
-    ensures before { IsOrdered empty_state.catalog }
+    ensures before { IsOrdered empty_store_state.catalog }
     ensures after { (old new : State) (session : ℕ) (command : Command) (outcome : Outcome) → IsOrdered old.catalog
         → MemoryStep old session command outcome new → IsOrdered new.catalog }
 {
@@ -103,7 +103,7 @@ pub fn documents_stay_in_order()
 /// No key of a unique index comes into two documents, whatever commands and loads bring: so it is before the first command, and
 /// so after each command, each load and each end of a session.
 pub fn unique_keys_stay_apart()
-    ensures before { AreUnique empty_state }
+    ensures before { AreUnique empty_store_state }
     ensures after { (old new : State) (session : ℕ) (command : Command) (outcome : Outcome) → IsOrdered old.catalog → AreUnique old
         → MemoryStep old session command outcome new → AreUnique new }
     ensures loaded { (old new : State) (namespace : List ℕ) (d : List Field) → IsOrdered old.catalog → AreUnique old → loaded namespace d old ≡ Ok new → AreUnique new }
@@ -129,7 +129,7 @@ pub fn unique_keys_stay_apart()
 /// values, and its cursors, whose rows that are still to come are valid and none of them over the limits. So it is before the
 /// first command, and so after each command, each load and each end of a session.
 pub fn states_stay_sound()
-    ensures before { IsSound empty_state }
+    ensures before { IsSound empty_store_state }
     ensures after { (old new : State) (session : ℕ) (command : Command) (outcome : Outcome) → IsSoundCommand command → IsSound old
         → MemoryStep old session command outcome new → IsSound new }
     ensures loaded { (old new : State) (namespace : List ℕ) (d : List Field) → IsSoundDocument d → IsSound old → loaded namespace d old ≡ Ok new → IsSound new }
@@ -175,8 +175,8 @@ pub fn replies_have_a_spelling()
 
 /// An ordered write tells of one error at most; and where it is cut, of that alone.
 pub fn an_ordered_write_ends_at_its_first_error()
-    ensures whole { (write : Write) (old : Namespaces) → write.ordered ≡ true → length (carry_out write old).errors ≤ 1 }
-    ensures cut { (write : Write) (old : Namespaces) (left : Written) → write.ordered ≡ true → IsCutWrite write old left → length left.errors ≡ 1 }
+    ensures whole { (write : WriteCounts) (old : Namespaces) → write.ordered ≡ true → length (carry_out write old).errors ≤ 1 }
+    ensures cut { (write : WriteCounts) (old : Namespaces) (left : Written) → write.ordered ≡ true → IsCutWrite write old left → length left.errors ≡ 1 }
 {}
 
 /// What the replies of a run tell of a cursor's rows, be they left out or not: the first batch and the batches of later

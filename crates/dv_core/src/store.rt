@@ -35,11 +35,11 @@ pub struct Store {
 
 impl Model for Store {
     ghost use Rattle.dv_core.specs.State.{State};
-    ghost use Rattle.dv_core.specs.StateCode.{coded_state};
+    ghost use Rattle.dv_core.specs.StateCode.{coded_store_state};
 
     ghost Value = { State };
 
-    ghost coded = { coded_state };
+    ghost coded = { coded_store_state };
 
     ghost view = { λ s. record { catalog = s.catalog.state; cursors = s.cursors; marks = s.catalog.marks } };
 }
@@ -59,7 +59,7 @@ impl Store {
     ghost use Rattle.dv_core.specs.Indexes as indexing;
     ghost use Rattle.dv_core.specs.More as more;
     ghost use Rattle.dv_core.specs.Load as loading;
-    ghost use Rattle.dv_core.specs.State.{empty_state, marked, standing};
+    ghost use Rattle.dv_core.specs.State.{empty_store_state, marked, standing};
     ghost use Rattle.dv_core.specs.Stats as telling;
     ghost use Rattle.dv_core.specs.Step.{MemoryStep, TellsOfWant, end_session, replying};
     ghost use Rattle.dv_core.specs.StepParts.{Ends, GivesAndLeaves, LoadsOne, StandRead};
@@ -68,7 +68,7 @@ impl Store {
 
     /// A store without any collection.
     pub fn new(alloc: Global) -> Self
-        ensures { result ≡ empty_state }
+        ensures { result ≡ empty_store_state }
     {
         Store {
             alloc,

@@ -5,7 +5,7 @@ use Rattle.dv_wire.specs.declared.events.Event.TheVariants as events
 use Rattle.dv_wire.specs.declared.events.Said.{Said}
 use Rattle.dv_wire.specs.declared.events.Said.TheVariants as said
 use Rattle.dv_program.specs.Output.{AreReplies, end_line, fed_text}
-use Rattle.dv_program.specs.Script.{DoesLines, Standing}
+use Rattle.dv_program.specs.Script.{DoesLines, OpenSessions}
 use Rattle.dv_program.specs.declared.said.Line.{Line}
 use Rattle.dv_program.specs.declared.said.Line.TheVariants.{Skip, Bytes, End}
 use Rattle.dv_program.specs.declared.sessions.Session.{Session}
@@ -25,13 +25,13 @@ abbrev pub piece_of : Session → List ℕ → List Event
 piece_of session bytes = if session.is_closed then [] else events.Piece session.id bytes ∷ []
 
 -- the events of a line
-abbrev pub events_of : Standing → Line → List Event
+abbrev pub events_of : OpenSessions → Line → List Event
 events_of old Skip = []
 events_of old (Bytes number bytes) = opening (slice_get old.sessions number) ++ piece_of (session_of old.hub.next (slice_get old.sessions number)) bytes
 events_of old (End number) = opening (slice_get old.sessions number) ++ events.End (session_of old.hub.next (slice_get old.sessions number)).id ∷ []
 
 -- those of all lines, joined in the lines' order
-abbrev pub schedule_of : (old new : Standing) (lines : List (List ℕ)) (text : List ℕ) → DoesLines old lines text new → List Event
+abbrev pub schedule_of : (old new : OpenSessions) (lines : List (List ℕ)) (text : List ℕ) → DoesLines old lines text new → List Event
 schedule_of old new [] text done = []
 schedule_of old new (line ∷ lines) text (mid, first, others, does, behind, both) = events_of old does.0 ++ schedule_of mid new lines others behind
 

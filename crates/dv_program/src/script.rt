@@ -2,7 +2,7 @@
 
 ghost use Rattle.std.specs.Prelude.{◌≡◌, ◌<◌, ◌+◌, ◌^◌, ◌↔◌, ◌⊎◌, ◌++◌, ◌∷◌, ℕ, List, [], length, replicate, string_bytes, suc, IfErr, IfOk, IfSome, IsTrue, MatchOption, OnOk};
 ghost use Rattle.std.specs.Io.KnownBytes.{Appends, Keeps};
-ghost use Rattle.dv_program.specs.Script.{DoesOneLine, DoesLine, Finds, HasNoLf, Runs, Standing, no_sessions, standing_of};
+ghost use Rattle.dv_program.specs.Script.{DoesOneLine, DoesLine, Finds, HasNoLf, Runs, OpenSessions, no_sessions, standing_of};
 ghost use Rattle.dv_program.specs.Stops.{AsksForScript, EndsAt, FailsWriting, OfScript, OpensNone, StopsBy, StopsLine, script_read_failed, script_write_failed};
 ghost use Rattle.dv_program.specs.Streams.{failures_behind, failures_told};
 ghost use Rattle.dv_program.specs.Pieces.{StopsIn, TakesPiece};
@@ -81,7 +81,7 @@ pub fn script<R: ByteIn, W: TextOut>(
     reader: &mut R,
     writer: &mut W,
 ) -> Result<(), ScriptFault>
-    ensures done { OnOk result (IfSome (R.remaining reader.old) (λ text. (said : List ℕ) × (end : Standing)
+    ensures done { OnOk result (IfSome (R.remaining reader.old) (λ text. (said : List ℕ) × (end : OpenSessions)
         × Appends (W.contents writer.old) (W.contents writer.new) said × Runs (begun hub.old) text said end × (end.hub ≡ hub.new))) }
     ensures stopped { IfErr result (λ fault. StopsBy fault (no_sessions hub.old) (R.remaining reader.old) (R.remaining reader.new)
         (W.contents writer.old) (W.contents writer.new) hub.new) }

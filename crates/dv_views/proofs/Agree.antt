@@ -10,7 +10,7 @@ use Rattle.dv_pipe.specs.Stages.{Lists, evaluated}
 use Rattle.dv_pipe.specs.declared.stage.Stage.{Stage}
 use Rattle.dv_views.specs.Forms.{is_name_among, names_read, outs_of, places_over, rows_over, with_places, with_rows}
 use Rattle.dv_views.specs.Placed.{ListPlaces, lookups_of, list_places}
-use Rattle.dv_views.specs.Views.{AreKept, AreOverLive, AreRight, AreRightOver, IsRight, Mark, live, anew, stale, View, Views, distance, distances_of, view_form, no_distance, reads, taken_from, with_distance}
+use Rattle.dv_views.specs.Views.{AreKept, AreOverLive, AreRight, AreRightOver, IsRight, ViewMark, live, anew, stale, View, Views, distance, distances_of, view_form, no_distance, reads, taken_from, with_distance}
 use Rattle.dv_views.proofs.Made.{forgotten}
 use Rattle.dv_views.proofs.Right.{itself, or-left, read_among}
 use Rattle.dv_views.proofs.Scratch.{even_outs, one_length}
@@ -21,7 +21,7 @@ FromScratch = (stages : List Stage) (source : List ℕ) (places : ListPlaces) (l
     → forget (outs_of stages source places) ≡ evaluated stages source lists
 
 -- what a live view has taken in of its source stands in order
-abbrev pub TakesInOrder : Mark → Type 0
+abbrev pub TakesInOrder : ViewMark → Type 0
 TakesInOrder (live kept) = IsPositioned kept.taken.left
 TakesInOrder (anew rows) = ⊤
 TakesInOrder stale = ⊤
@@ -33,7 +33,7 @@ Agrees rows list = HaveOneLength rows × (forget rows ≡ list)
 module _ (scratch : FromScratch) where
   module _ (distances : List ℕ → ℕ) (places : ListPlaces) (lists : Lists) (agreed : (name : List ℕ) → distances name ≡ 0 → Agrees (places name) (lists name)) where
     -- what a live view makes agrees, since it reads what does
-    made-agrees : (m : Mark) (stages : List Stage) (source : List ℕ) → AreKept m (taken_from stages source places) (evaluated stages source lists) → TakesInOrder m
+    made-agrees : (m : ViewMark) (stages : List Stage) (source : List ℕ) → AreKept m (taken_from stages source places) (evaluated stages source lists) → TakesInOrder m
         → ((name : List ℕ) → is_name_among name (names_read stages source) ≡ true → distances name ≤ distance m) → distance m ≡ 0 → Agrees (outs_of stages source places) (evaluated stages source lists)
     made-agrees (live kept) stages source right ordered read is =
         let own = agreed source (let near : distances source ≤ 0 = read source (or-left (bytes_eq source source) (is_name_among source (lookups_of stages source)) (itself source)) in omega arith) in

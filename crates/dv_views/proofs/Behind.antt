@@ -20,7 +20,7 @@ use Rattle.dv_views.specs.Forms.{AreFounded, ViewForm, is_name_among, names_read
 use Rattle.dv_views.specs.Placed.{ListPlaces, lookups_of, list_places, positioned}
 use Rattle.dv_views.specs.Seen.{IsWellKept}
 use Rattle.dv_views.specs.Turned.{AreTakenBy, HaveTaken, IsTakenBy, IsTurned, Telling, kept_after, kept_behind, turned_rows}
-use Rattle.dv_views.specs.Views.{AreKept, AreNamedApart, AreOverLive, AreRight, AreRightOver, IsRight, Kept, Mark, Taken, live, anew, stale, View, Views, distance, view_form, is_stale, no_distance, reads, taken_from, mark_ticks, with_distance}
+use Rattle.dv_views.specs.Views.{AreKept, AreNamedApart, AreOverLive, AreRight, AreRightOver, IsRight, Kept, ViewMark, Taken, live, anew, stale, View, Views, distance, view_form, is_stale, no_distance, reads, taken_from, mark_ticks, with_distance}
 use Rattle.dv_views.proofs.Agree.{Agrees, FromScratch, TakesInOrder, agree_over}
 use Rattle.dv_views.proofs.Filling.{changed_mid, longer}
 use Rattle.dv_views.proofs.Made.{forgotten}
@@ -51,12 +51,12 @@ unreached_read stages source told name away read = nothing-told (names_read stag
 
 -- ---- how far views are from being live
 
-near : (m : Mark) (n : ℕ) → n ≤ 2 → (is_stale m ≡ false → n ≡ 0) → n ≤ distance m
+near : (m : ViewMark) (n : ℕ) → n ≤ 2 → (is_stale m ≡ false → n ≡ 0) → n ≤ distance m
 near (live kept) n most zero = let e : n ≡ 0 = zero refl in omega arith
 near (anew rows) n most zero = let e : n ≡ 0 = zero refl in omega arith
 near stale n most zero = most
 
-at-most : (m : Mark) → distance m ≤ 2
+at-most : (m : ViewMark) → distance m ≤ 2
 at-most (live kept) = omega arith
 at-most (anew rows) = omega arith
 at-most stale = omega arith
@@ -193,7 +193,7 @@ behind_taken stages (a ∷ all) kept = behind_taken stages all (kept_after stage
 no-more : (n : ℕ) → n ≤ 0 → n ≡ 0
 no-more n h = omega arith
 
-has-rows : (kept : Kept) (n : Mark) → n ≡ live kept → is_stale n ≡ false
+has-rows : (kept : Kept) (n : ViewMark) → n ≡ live kept → is_stale n ≡ false
 has-rows kept n is = ap is_stale is
 
 -- a view of another one's form
@@ -203,7 +203,7 @@ alike v w form places lists right = subst (λ (f : ViewForm). AreKept w.mark (ta
 alike-kept : (v w : View) → view_form w ≡ view_form v → IsWellKept w.stages w.mark → IsWellKept v.stages w.mark
 alike-kept v w form well = subst (λ (f : ViewForm). IsWellKept f.stages w.mark) form well
 
-takes_in_order : (stages : List Stage) (m : Mark) → IsWellKept stages m → TakesInOrder m
+takes_in_order : (stages : List Stage) (m : ViewMark) → IsWellKept stages m → TakesInOrder m
 takes_in_order stages (live kept) well = well.1
 takes_in_order stages (anew rows) well = tt
 takes_in_order stages stale well = tt
@@ -237,7 +237,7 @@ module _ (scratch : FromScratch) (unread : UnreadDoesNotMatter) (told : Told) (d
   unread-places stages source away over name read =
       sym (subst (λ (o : Option (List Change)). Leads o (places name) (others name)) (unreached_read stages source told name away read) (leads name (over name read)))
 
-  unread-right : (m : Mark) (stages : List Stage) (source : List ℕ) → is_reached stages source told ≡ false → ((name : List ℕ) → is_read stages source name ≡ true → distances name ≤ distance m)
+  unread-right : (m : ViewMark) (stages : List Stage) (source : List ℕ) → is_reached stages source told ≡ false → ((name : List ℕ) → is_read stages source name ≡ true → distances name ≤ distance m)
       → AreKept m (taken_from stages source places) (evaluated stages source lists) → AreKept m (taken_from stages source others) (evaluated stages source rows)
   unread-right (live kept) stages source away over right = (
     right.0 ∙ same_taken source places others stages (unread-places stages source away (λ name read. no-more (distances name) (over name read))),
@@ -246,19 +246,19 @@ module _ (scratch : FromScratch) (unread : UnreadDoesNotMatter) (told : Told) (d
   unread-right (anew shown) stages source away over right = right ∙ unread-rows stages source away
   unread-right stale stages source away over right = tt
 
-  module _ (stages : List Stage) (source : List ℕ) (m n : Mark) (o : Option (List Change)) (over : is_stale n ≡ false → (name : List ℕ) → is_name_among name (names_read stages source) ≡ true → distances name ≡ 0)
+  module _ (stages : List Stage) (source : List ℕ) (m n : ViewMark) (o : Option (List Change)) (over : is_stale n ≡ false → (name : List ℕ) → is_name_among name (names_read stages source) ≡ true → distances name ≡ 0)
       (right : AreKept m (taken_from stages source places) (evaluated stages source lists)) where
     kept-right : IsTurned stages (arrivals stages source told) m n o → IsWellKept stages n → AreKept n (taken_from stages source others) (evaluated stages source rows)
-    kept-right (inl is) well = subst (λ (k : Mark). AreKept k (taken_from stages source others) (evaluated stages source rows)) (sym is) tt
+    kept-right (inl is) well = subst (λ (k : ViewMark). AreKept k (taken_from stages source others) (evaluated stages source rows)) (sym is) tt
     kept-right (inr t) well =
-        let was = subst (λ (k : Mark). AreKept k (taken_from stages source places) (evaluated stages source lists)) t.1 right in
-        subst (λ (k : Mark). AreKept k (taken_from stages source others) (evaluated stages source rows)) (sym t.2.kept)
-        (turned-right stages source t.0 was.0 (over (ap is_stale t.2.kept)) (subst (λ (k : Mark). IsWellKept stages k) t.2.kept well))
+        let was = subst (λ (k : ViewMark). AreKept k (taken_from stages source places) (evaluated stages source lists)) t.1 right in
+        subst (λ (k : ViewMark). AreKept k (taken_from stages source others) (evaluated stages source rows)) (sym t.2.kept)
+        (turned-right stages source t.0 was.0 (over (ap is_stale t.2.kept)) (subst (λ (k : ViewMark). IsWellKept stages k) t.2.kept well))
 
     kept-leads : IsTurned stages (arrivals stages source told) m n o → distance n ≡ 0 → Leads o (outs_of stages source places) (outs_of stages source others)
     kept-leads (inl is) zero = absurd (let e : 2 ≡ 0 = sym (ap distance is) ∙ zero in omega arith)
     kept-leads (inr t) zero =
-        let was = subst (λ (k : Mark). AreKept k (taken_from stages source places) (evaluated stages source lists)) t.1 right in
+        let was = subst (λ (k : ViewMark). AreKept k (taken_from stages source places) (evaluated stages source lists)) t.1 right in
         let taken = turned-taken stages source t.0 was.0 (over (ap is_stale t.2.kept)) in
         subst (λ (p : Option (List Change)). Leads p (outs_of stages source places) (outs_of stages source others)) (sym t.2.tells)
         (ap (outs_made stages) (sym taken) ∙ sym t.2.leads ∙ ap (λ (u : Taken). with_changes (outs_made stages u) (handed_by stages (arrivals stages source told) t.0.taken)) was.0)
@@ -392,7 +392,7 @@ told-where : (b : Bool) (changes : List Change) → is_some (if b then Some chan
 told-where true changes = refl
 told-where false changes = refl
 
-stale-still : (stages : List Stage) (all : List Arrival) (m n : Mark) (o : Option (List Change)) → IsTurned stages all m n o → is_stale m ≡ true → is_stale n ≡ true
+stale-still : (stages : List Stage) (all : List Arrival) (m n : ViewMark) (o : Option (List Change)) → IsTurned stages all m n o → is_stale m ≡ true → is_stale n ≡ true
 stale-still stages all m n o (inl is) was = ap is_stale is
 stale-still stages all m n o (inr t) was = absurd (let e : false ≡ true = sym (ap is_stale t.1) ∙ was in cc)
 
@@ -418,22 +418,22 @@ module _ (told now : Told) (distances : List ℕ → ℕ) (places : ListPlaces) 
       let rest = same-lists 0 (lookups_of stages source) (λ name among. over name (or-right (bytes_eq name source) (is_name_among name (lookups_of stages source)) among)) in
       λ j. arriving Left (here j) ++ rest j
 
-  module _ (stages : List Stage) (source : List ℕ) (m n : Mark) (o : Option (List Change)) (over : is_stale n ≡ false → (name : List ℕ) → is_name_among name (names_read stages source) ≡ true → distances name ≡ 0)
+  module _ (stages : List Stage) (source : List ℕ) (m n : ViewMark) (o : Option (List Change)) (over : is_stale n ≡ false → (name : List ℕ) → is_name_among name (names_read stages source) ≡ true → distances name ≡ 0)
       (right : AreKept m (taken_from stages source places) (evaluated stages source lists)) where
     turned-ticks : IsTurned stages (arrivals stages source told) m n o → is_stale n ≡ false → mark_ticks n ≡ raised (mark_ticks m) (work_by stages (arrivals stages source now) (taken_from stages source places))
     turned-ticks (inl is) has = absurd (let e : false ≡ true = sym has ∙ ap is_stale is in cc)
     turned-ticks (inr t) has =
-        let was = subst (λ (k : Mark). AreKept k (taken_from stages source places) (evaluated stages source lists)) t.1 right in
+        let was = subst (λ (k : ViewMark). AreKept k (taken_from stages source places) (evaluated stages source lists)) t.1 right in
         let same = same-arrivals stages source (over has) in
         ap mark_ticks t.2.kept
         ∙ ticks-behind stages (arrivals stages source told) t.0
         ∙ (λ j. raised t.0.ticks (work_by stages (same j) (was.0 j)))
-        ∙ ap (λ (k : Mark). raised (mark_ticks k) (work_by stages (arrivals stages source now) (taken_from stages source places))) (sym t.1)
+        ∙ ap (λ (k : ViewMark). raised (mark_ticks k) (work_by stages (arrivals stages source now) (taken_from stages source places))) (sym t.1)
 
     turned-told : IsTurned stages (arrivals stages source told) m n o → distance n ≡ 0 → o ≡ Some (handed_by stages (arrivals stages source now) (taken_from stages source places))
     turned-told (inl is) zero = absurd (let e : 2 ≡ 0 = sym (ap distance is) ∙ zero in omega arith)
     turned-told (inr t) zero =
-        let was = subst (λ (k : Mark). AreKept k (taken_from stages source places) (evaluated stages source lists)) t.1 right in
+        let was = subst (λ (k : ViewMark). AreKept k (taken_from stages source places) (evaluated stages source lists)) t.1 right in
         let same = same-arrivals stages source (over (ap is_stale t.2.kept)) in
         t.2.tells ∙ (λ j. Some (handed_by stages (same j) (was.0 j)))
 
@@ -516,7 +516,7 @@ counted_after namespace c lists before after right taken =
 
 -- ---- changes one after the other
 
-not-stale : (m n : Mark) → (is_stale m ≡ true → is_stale n ≡ true) → is_stale n ≡ false → is_stale m ≡ false
+not-stale : (m n : ViewMark) → (is_stale m ≡ true → is_stale n ≡ true) → is_stale n ≡ false → is_stale m ≡ false
 not-stale (live kept) n stays has = refl
 not-stale (anew rows) n stays has = refl
 not-stale stale n stays has = absurd (let e : false ≡ true = sym has ∙ stays refl in cc)

@@ -29,7 +29,7 @@ use Rattle.dv_views.specs.Keeping.{IsSoundLive, kept_seen, left_of, lists_of_all
 use Rattle.dv_views.specs.Placed.{lookups_of, own_position, positioned}
 use Rattle.dv_views.specs.Turned.{turned_rows}
 use Rattle.dv_views.specs.Turning.{empty_lists}
-use Rattle.dv_views.specs.Views.{AreInOrder, Mark, Taken, View, Views, live, taken_from, view_under}
+use Rattle.dv_views.specs.Views.{AreInOrder, ViewMark, Taken, View, Views, live, taken_from, view_under}
 use Rattle.dv_views.proofs.Filling.{all_filled, source_filled}
 use Rattle.dv_views.proofs.Made.{one_part}
 use Rattle.dv_views.proofs.Rolling.{lookups_count, rows_are_made}
@@ -63,8 +63,8 @@ places_are_positioned ds ascending = record { ascending = ascending-places ds as
 pub live_outs : (stages : List Stage) (rows : Live Turner) → IsSoundLive stages rows → IsPositioned (outs_made stages (kept_seen rows).taken)
 live_outs stages rows sound = ordered_outs stages (named_of rows.chain) (left_of rows.chain rows.rows.entries) sound.positioned
 
-pub live_placed : (stages : List Stage) (mark : Mark) (rows : Live Turner) → mark ≡ live (kept_seen rows) → IsSoundLive stages rows → IsLive mark × IsPositioned (outs_of_mark stages mark)
-live_placed stages mark rows is sound = subst (λ (m : Mark). IsLive m × IsPositioned (outs_of_mark stages m)) (sym is) (tt, live_outs stages rows sound)
+pub live_placed : (stages : List Stage) (mark : ViewMark) (rows : Live Turner) → mark ≡ live (kept_seen rows) → IsSoundLive stages rows → IsLive mark × IsPositioned (outs_of_mark stages mark)
+live_placed stages mark rows is sound = subst (λ (m : ViewMark). IsLive m × IsPositioned (outs_of_mark stages m)) (sym is) (tt, live_outs stages rows sound)
 
 -- what holds whatever comes
 pub whatever : {T E : Type 0} {P : Type 0} (r : Result T E) → P → IfOk r (λ _. P)

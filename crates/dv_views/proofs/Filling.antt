@@ -11,7 +11,7 @@ use Rattle.dv_change.specs.declared.change.Change.{Change}
 use Rattle.dv_change.specs.declared.change.Change.TheVariants.{Put}
 use Rattle.dv_change.specs.declared.input.Input.TheVariants.{Left, Named}
 use Rattle.dv_change.specs.Changes.{IsPositioned, Positioned, with_change}
-use Rattle.dv_change.specs.Inputs.{changed_at}
+use Rattle.dv_change.specs.Inputs.{input_changed_at}
 use Rattle.dv_change.specs.PositionLaws.{pos_order_total}
 use Rattle.dv_change.specs.Positions.{PosTree, pos_order}
 use Rattle.dv_views.specs.Filled.{lists_in_turn, rows_filled}
@@ -20,8 +20,8 @@ use Rattle.dv_views.specs.Turning.{empty_lists}
 
 -- ---- one list among others
 
-pub changed_mid : (i : ℕ) (c : Change) (front back : List Positioned) (rows : Positioned) → i ≡ length front → changed_at i c (front ++ rows ∷ back) ≡ front ++ with_change rows c ∷ back
-changed_mid i c [] back rows e = ap (λ n. changed_at n c (rows ∷ back)) e
+pub changed_mid : (i : ℕ) (c : Change) (front back : List Positioned) (rows : Positioned) → i ≡ length front → input_changed_at i c (front ++ rows ∷ back) ≡ front ++ with_change rows c ∷ back
+changed_mid i c [] back rows e = ap (λ n. input_changed_at n c (rows ∷ back)) e
 changed_mid zero c (x ∷ front) back rows e = absurd cc
 changed_mid (suc i) c (x ∷ front) back rows e = ap (λ ys. x ∷ ys) (changed_mid i c front back rows cc)
 

@@ -13,7 +13,7 @@ use Rattle.dv_views.specs.Made.{AreAlike, IsNoStale}
 use Rattle.dv_views.specs.Placed.{ListPlaces, list_places, positioned}
 use Rattle.dv_views.specs.Seen.{IsWellKept}
 use Rattle.dv_views.specs.Turned.{turned_rows}
-use Rattle.dv_views.specs.Views.{AreKept, AreNamedApart, AreOverLive, AreRight, AreRightOver, IsJustMade, IsRight, Mark, Taken, View, Views, anew, distance, distances_of, view_form, is_stale, live, no_distance, reads, stale, taken_from, view_under, with_distance}
+use Rattle.dv_views.specs.Views.{AreKept, AreNamedApart, AreOverLive, AreRight, AreRightOver, IsJustMade, IsRight, ViewMark, Taken, View, Views, anew, distance, distances_of, view_form, is_stale, live, no_distance, reads, stale, taken_from, view_under, with_distance}
 use Rattle.dv_views.proofs.Agree.{FromScratch, TakesInOrder, agree}
 use Rattle.dv_views.proofs.Right.{UnreadDoesNotMatter, itself, or-left, read_among, same_taken}
 use Rattle.dv_views.proofs.Shown.{IsShownAt, distance_at, distance_named, no_view, shown_at}
@@ -32,7 +32,7 @@ pub in_order : (vs : Views) → AllByRecursion (λ v. IsWellKept v.stages v.mark
 in_order [] kept = tt
 in_order (v ∷ vs) kept = (by v.mark kept.0, in_order vs kept.1)
   where
-    by : (m : Mark) → IsWellKept v.stages m → TakesInOrder m
+    by : (m : ViewMark) → IsWellKept v.stages m → TakesInOrder m
     by (live k) well = well.1
     by (anew rows) well = tt
     by stale well = tt
@@ -50,7 +50,7 @@ module _ (scratch : FromScratch) (unread : UnreadDoesNotMatter) (lists others : 
   live-outs name None is alike lives = ap positioned alike ∙ sym (no_view name (list_places lists) lists older is).0
   live-outs name (Some v) is alike lives = by v.mark (shown_at name (list_places lists) lists older v apart right is) lives
     where
-      by : (m : Mark) → IsShownAt m v.stages (places name) (rows name) → IsLive m → outs_of_mark v.stages m ≡ places name
+      by : (m : ViewMark) → IsShownAt m v.stages (places name) (rows name) → IsLive m → outs_of_mark v.stages m ≡ places name
       by (live k) shown lives = sym shown.0
       by (anew r) shown lives = absurd lives
       by stale shown lives = absurd lives
@@ -59,7 +59,7 @@ module _ (scratch : FromScratch) (unread : UnreadDoesNotMatter) (lists others : 
   own-rows name None is alike fresh = alike ∙ sym (no_view name (list_places lists) lists older is).1
   own-rows name (Some v) is alike fresh = by v.mark (shown_at name (list_places lists) lists older v apart right is) fresh
     where
-      by : (m : Mark) → IsShownAt m v.stages (places name) (rows name) → is_stale m ≡ false → rows_of_mark m ≡ rows name
+      by : (m : ViewMark) → IsShownAt m v.stages (places name) (rows name) → is_stale m ≡ false → rows_of_mark m ≡ rows name
       by (live k) shown fresh = shown.1
       by (anew r) shown fresh = shown
       by stale shown fresh = absurd cc
@@ -69,7 +69,7 @@ module _ (scratch : FromScratch) (unread : UnreadDoesNotMatter) (lists others : 
     near : AllByRecursion (λ n. IsLiveView (view_under n older)) (names_read stages source) → (name : List ℕ) → is_name_among name (names_read stages source) ≡ true → distances_of older name ≡ 0
     near lives name among = distance_at name older apart ∙ by (view_under name older) (each_among (λ n. IsLiveView (view_under n older)) (names_read stages source) name lives among)
       where
-        at : (m : Mark) → IsLive m → distance m ≡ 0
+        at : (m : ViewMark) → IsLive m → distance m ≡ 0
         at (live k) lives = refl
         at (anew r) lives = absurd lives
         at stale lives = absurd lives
@@ -78,7 +78,7 @@ module _ (scratch : FromScratch) (unread : UnreadDoesNotMatter) (lists others : 
         by None lives = refl
         by (Some v) lives = at v.mark lives
 
-    pub right_built : (mark : Mark) → IsBuilt stages source older others mark → AreKept mark (taken_from stages source places) (evaluated stages source rows)
+    pub right_built : (mark : ViewMark) → IsBuilt stages source older others mark → AreKept mark (taken_from stages source places) (evaluated stages source rows)
     right_built (live k) built =
         let taken : k.taken ≡ taken_from stages source places =
         built.0 ∙ same_taken source (outs_below older others) places stages (λ name read.
@@ -98,10 +98,10 @@ module _ (scratch : FromScratch) (unread : UnreadDoesNotMatter) (lists others : 
 -- ---- how far from being live
 
 module _ (older : Views) (apart : AreNamedApart older) (lists : Lists) (stages : List Stage) (source : List ℕ) (fresh : AllByRecursion (λ n. IsNoStale (view_under n older)) (names_read stages source)) where
-  pub over_built : (mark : Mark) → IsBuilt stages source older lists mark → (name : List ℕ) → is_name_among name (names_read stages source) ≡ true → distances_of older name ≤ distance mark
+  pub over_built : (mark : ViewMark) → IsBuilt stages source older lists mark → (name : List ℕ) → is_name_among name (names_read stages source) ≡ true → distances_of older name ≤ distance mark
   over_built mark built name among = subst (λ (n : ℕ). n ≤ distance mark) (sym (distance_at name older apart)) (by mark built (view_under name older) refl)
     where
-      at-live : (m : Mark) → IsLive m → distance m ≤ 0
+      at-live : (m : ViewMark) → IsLive m → distance m ≤ 0
       at-live (live k) lives = omega arith
       at-live (anew r) lives = absurd lives
       at-live stale lives = absurd lives
@@ -110,7 +110,7 @@ module _ (older : Views) (apart : AreNamedApart older) (lists : Lists) (stages :
       of-live None lives = omega arith
       of-live (Some v) lives = at-live v.mark lives
 
-      at-fresh : (m : Mark) → is_stale m ≡ false → distance m ≤ 1
+      at-fresh : (m : ViewMark) → is_stale m ≡ false → distance m ≤ 1
       at-fresh (live k) fresh = omega arith
       at-fresh (anew r) fresh = omega arith
       at-fresh stale fresh = absurd cc
@@ -119,17 +119,17 @@ module _ (older : Views) (apart : AreNamedApart older) (lists : Lists) (stages :
       of-fresh None fresh = omega arith
       of-fresh (Some v) fresh = at-fresh v.mark fresh
 
-      by : (m : Mark) → IsBuilt stages source older lists m → (o : Option View) → view_under name older ≡ o → distance_named o ≤ distance m
+      by : (m : ViewMark) → IsBuilt stages source older lists m → (o : Option View) → view_under name older ≡ o → distance_named o ≤ distance m
       by (live k) built o is = of-live o (subst (λ (p : Option View). IsLiveView p) is (each_among (λ n. IsLiveView (view_under n older)) (names_read stages source) name built.4 among))
       by (anew r) built o is = of-fresh o (subst (λ (p : Option View). IsNoStale p) is (each_among (λ n. IsNoStale (view_under n older)) (names_read stages source) name fresh among))
       by stale built o is = absurd built
 
-pub fresh_built : (stages : List Stage) (source : List ℕ) (older : Views) (lists : Lists) (mark : Mark) → IsBuilt stages source older lists mark → IsJustMade mark
+pub fresh_built : (stages : List Stage) (source : List ℕ) (older : Views) (lists : Lists) (mark : ViewMark) → IsBuilt stages source older lists mark → IsJustMade mark
 fresh_built stages source older lists (live k) built = record { live = refl; ticks = built.3 }
 fresh_built stages source older lists (anew r) built = record { live = refl; ticks = refl }
 fresh_built stages source older lists stale built = absurd built
 
-pub well_built : (stages : List Stage) (source : List ℕ) (older : Views) (lists : Lists) (mark : Mark) → IsBuilt stages source older lists mark → IsWellKept stages mark
+pub well_built : (stages : List Stage) (source : List ℕ) (older : Views) (lists : Lists) (mark : ViewMark) → IsBuilt stages source older lists mark → IsWellKept stages mark
 well_built stages source older lists (live k) built = (built.1, built.2)
 well_built stages source older lists (anew r) built = tt
 well_built stages source older lists stale built = absurd built
@@ -160,12 +160,12 @@ over_lower near far (v ∷ vs) below over = (
     by true name below = omega arith
     by false name below = below
 
-at-most : (m : Mark) → distance m ≤ 2
+at-most : (m : ViewMark) → distance m ≤ 2
 at-most (live k) = omega arith
 at-most (anew r) = omega arith
 at-most stale = omega arith
 
-farthest : (m : Mark) → is_stale m ≡ true → distance m ≡ 2
+farthest : (m : ViewMark) → is_stale m ≡ true → distance m ≡ 2
 farthest (live k) is = absurd cc
 farthest (anew r) is = absurd cc
 farthest stale is = refl

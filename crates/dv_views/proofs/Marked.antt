@@ -17,7 +17,7 @@ use Rattle.dv_views.specs.Older.{Entries, told_before, told_else, told_found, to
 use Rattle.dv_views.specs.Passing.{IsTakenAt}
 use Rattle.dv_views.specs.Seen.{IsWellKept, view_seen, entry_view, telling}
 use Rattle.dv_views.specs.Turned.{AreTakenBy, HaveTaken, IsTakenBy}
-use Rattle.dv_views.specs.Views.{AreNamedApart, Mark, View, Views, anew, distance, distances_of, live, no_distance, stale, view_under, with_distance}
+use Rattle.dv_views.specs.Views.{AreNamedApart, ViewMark, View, Views, anew, distance, distances_of, live, no_distance, stale, view_under, with_distance}
 use Rattle.dv_pipe.specs.declared.stage.Stage.{Stage}
 use Rattle.dv_views.proofs.Before.{found_is_before}
 use Rattle.dv_views.proofs.Joining.{each_among}
@@ -27,7 +27,7 @@ use Rattle.dv_views.proofs.WellKept.{AreWellKept}
 
 -- ---- what is no view, or a live one
 
-near : (m : Mark) → IsLive m → distance m ≡ 0
+near : (m : ViewMark) → IsLive m → distance m ≡ 0
 near (live k) is = refl
 near (anew rows) is = absurd is
 near stale is = absurd is

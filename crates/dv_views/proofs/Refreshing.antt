@@ -20,7 +20,7 @@ use Rattle.dv_views.specs.Ground.{IsBuilt}
 use Rattle.dv_views.specs.Made.{AreAlike, IsAdded, IsNoStale, IsRefreshedAt}
 use Rattle.dv_views.specs.Placed.{ListPlaces, list_places}
 use Rattle.dv_views.specs.Seen.{IsSoundRegistry, IsWellKept, view_seen, entry_view}
-use Rattle.dv_views.specs.Views.{AreInOrder, AreNamedApart, AreOverLive, ArePartlyRefreshed, AreRight, AreRightOver, IsJustMade, IsMadeAnew, IsPartlyRefreshed, IsRefusedFor, Mark, View, Views, view_form, has_view, is_stale, no_distance, view_under, with_distance}
+use Rattle.dv_views.specs.Views.{AreInOrder, AreNamedApart, AreOverLive, ArePartlyRefreshed, AreRight, AreRightOver, IsJustMade, IsMadeAnew, IsPartlyRefreshed, IsRefusedFor, ViewMark, View, Views, view_form, has_view, is_stale, no_distance, view_under, with_distance}
 use Rattle.dv_views.proofs.Agree.{FromScratch}
 use Rattle.dv_views.proofs.Joining.{Replaces, each_among, fresh_built, over_append, over_built, over_set, right_built, right_set, set_view, well_built}
 use Rattle.dv_views.proofs.Right.{UnreadDoesNotMatter, neither, read_among, right_append}
@@ -84,10 +84,10 @@ module _ (names : List (List ℕ)) where
 -- ---- a view made anew in its place
 
 -- the view at a place, with what it keeps now
-abbrev pub keeping : View → Mark → View
+abbrev pub keeping : View → ViewMark → View
 keeping v mark = record { name = v.name; source = v.source; stages = v.stages; mark = mark }
 
-module _ (mark : Mark) (v : View) (is : is_stale v.mark ≡ true) where
+module _ (mark : ViewMark) (v : View) (is : is_stale v.mark ≡ true) where
   pub replaces : (n : ℕ) (vs : Views) → slice_get vs n ≡ Some v → Replaces (keeping v mark) n vs
   replaces n [] there = absurd cc
   replaces zero (u ∷ vs) there = let same : u ≡ v = cc in subst (λ (w : View). (view_form (keeping v mark) ≡ view_form w) × (is_stale w.mark ≡ true)) (sym same) (refl, is)
@@ -118,7 +118,7 @@ module _ (names : List (List ℕ)) where
   left_at zero (u ∷ vs) v there fresh = let same : u ≡ v = cc in (inl refl, subst (λ (w : View). is_name_among w.name names ≡ true → is_stale w.mark ≡ false) (sym same) fresh, refl)
   left_at (suc n) (u ∷ vs) v there fresh = (refl, left_at n vs v there fresh)
 
-  module _ (mark : Mark) (v : View) (stale : is_stale v.mark ≡ true) (listed : is_name_among v.name names ≡ true) (fresh : IsJustMade mark) where
+  module _ (mark : ViewMark) (v : View) (stale : is_stale v.mark ≡ true) (listed : is_name_among v.name names ≡ true) (fresh : IsJustMade mark) where
     pub refreshed_at : (n : ℕ) (vs : Views) → slice_get vs n ≡ Some v → IsRefreshedAt n names vs (set_view n (keeping v mark) vs)
     refreshed_at n [] there = absurd cc
     refreshed_at zero (u ∷ vs) there =
@@ -130,7 +130,7 @@ module _ (names : List (List ℕ)) where
     refreshed_at (suc n) (u ∷ vs) there = (refl, refreshed_at n vs there)
 
 -- the registry with it stays sound, and right
-module _ (names : List (List ℕ)) (mark : Mark) (v : View) (stale : is_stale v.mark ≡ true) (listed : is_name_among v.name names ≡ true) (n : ℕ) (vs : Views) (there : slice_get vs n ≡ Some v) (sound : IsSoundRegistry vs)
+module _ (names : List (List ℕ)) (mark : ViewMark) (v : View) (stale : is_stale v.mark ≡ true) (listed : is_name_among v.name names ≡ true) (n : ℕ) (vs : Views) (there : slice_get vs n ≡ Some v) (sound : IsSoundRegistry vs)
     (closed : IsClosed names (map view_form vs)) (fresh : AllByRecursion (λ u. is_name_among u.name names ≡ true → is_stale u.mark ≡ false) (take n vs)) (lists : Lists) (built : IsBuilt v.stages v.source (take n vs) lists mark) where
   abbrev some : AllByRecursion (λ name. is_name_among name names ≡ true) (names_read v.stages v.source)
   some = reads_listed names n vs v closed there listed
@@ -247,7 +247,7 @@ module _ {Y : Type 0} where
   same_there zero (e ∷ es) k b x there is = let same : e ≡ (k, b) = cc in let here : e.1 ≡ x = cc in sym here ∙ ap (λ (f : String Y × Body). f.1) same
   same_there (suc n) (e ∷ es) k b x there is = same_there n es k b x there is
 
-  pub views_kept : (n : ℕ) (es : Entries Y) (k : String Y) (b x new : Body) (mark : Mark) → slice_get es n ≡ Some (k, b) → x ≡ b → new ≡ record x { mark = mark }
+  pub views_kept : (n : ℕ) (es : Entries Y) (k : String Y) (b x new : Body) (mark : ViewMark) → slice_get es n ≡ Some (k, b) → x ≡ b → new ≡ record x { mark = mark }
       → views (set_value_at es n new) ≡ set_view n (keeping (view_seen (string_bytes k) b) mark) (views es)
   views_kept n es k b x new mark there same is =
       views_set n es k b new there ∙ ap (λ (v : View). set_view n v (views es)) (ap (view_seen (string_bytes k)) is ∙ ap (λ (y : Body). keeping (view_seen (string_bytes k) y) mark) same)
@@ -295,7 +295,7 @@ same_called name vs ws same = sym (called name ws) ∙ ap (λ (fs : List ViewFor
 
 -- ---- a new view
 
-module _ (vs : Views) (name source : List ℕ) (stages : List Stage) (mark : Mark) (lists : Lists) (built : IsBuilt stages source vs lists mark) where
+module _ (vs : Views) (name source : List ℕ) (stages : List Stage) (mark : ViewMark) (lists : Lists) (built : IsBuilt stages source vs lists mark) where
   abbrev pub new_view : View
   new_view = record { name = name; source = source; stages = stages; mark = mark }
 

@@ -5,13 +5,13 @@ use Rattle.std.specs.List.{list_any}
 use Rattle.std.specs.Str.{bytes_eq}
 use Rattle.std.proofs.lemmas.Bool.Decides.{same_from_decides}
 use Rattle.std.proofs.lemmas.Slice.Eq.{bytes_eq-Decides}
-use Rattle.dv_change.specs.Work.{through}
+use Rattle.dv_change.specs.Work.{through_forms}
 use Rattle.dv_pipe.specs.Sources.{Row}
-use Rattle.dv_pipe.specs.Stages.{Lists, evaluated, is_named, is_read, looked_into}
+use Rattle.dv_pipe.specs.Stages.{Lists, evaluated, is_source_named, is_read, looked_into}
 use Rattle.dv_pipe.specs.declared.stage.Stage.{Stage}
 use Rattle.dv_views.specs.Forms.{ViewForm, is_name_among, names_read, outs_of, places_over, rows_over, with_places, with_rows}
 use Rattle.dv_views.specs.Placed.{ListPlaces, forms, lookups_of, list_places, positioned, names_with}
-use Rattle.dv_views.specs.Views.{AreKept, AreRight, AreRightOver, IsRight, Mark, Taken, live, anew, stale, View, Views, view_form, reads, reads_name, taken_from, views_without}
+use Rattle.dv_views.specs.Views.{AreKept, AreRight, AreRightOver, IsRight, ViewMark, Taken, live, anew, stale, View, Views, view_form, reads, reads_name, taken_from, views_without}
 
 -- what dv_pipe's law says of pipelines
 abbrev pub UnreadDoesNotMatter : Type 0
@@ -37,11 +37,11 @@ itself name = (bytes_eq-Decides name name).1 refl
 pub either-way : (a b : List ℕ) → bytes_eq a b ≡ bytes_eq b a
 either-way a b = same_from_decides _ _ (bytes_eq-Decides a b) ((λ e. sym ((bytes_eq-Decides b a).0 e)), λ e. (bytes_eq-Decides b a).1 (sym e))
 
-lookups-among : (ss : List Stage) (source name : List ℕ) → list_any (λ s. is_named name (looked_into s source)) ss ≡ is_name_among name (lookups_of ss source)
+lookups-among : (ss : List Stage) (source name : List ℕ) → list_any (λ s. is_source_named name (looked_into s source)) ss ≡ is_name_among name (lookups_of ss source)
 lookups-among [] source name = refl
 lookups-among (s ∷ ss) source name = by (looked_into s source) (lookups-among ss source name)
   where
-    by : (o : Option (List ℕ)) → list_any (λ t. is_named name (looked_into t source)) ss ≡ is_name_among name (lookups_of ss source) → is_named name o || list_any (λ t. is_named name (looked_into t source)) ss ≡ is_name_among name (names_with o (lookups_of ss source))
+    by : (o : Option (List ℕ)) → list_any (λ t. is_source_named name (looked_into t source)) ss ≡ is_name_among name (lookups_of ss source) → is_source_named name o || list_any (λ t. is_source_named name (looked_into t source)) ss ≡ is_name_among name (names_with o (lookups_of ss source))
     by None rest = rest
     by (Some other) rest = ap (λ (b : Bool). bytes_eq name other || b) rest
 
@@ -52,35 +52,35 @@ read_among stages source name = λ i. either-way source name i || lookups-among 
 -- ---- what is read at places
 
 module _ (source : List ℕ) (places others : ListPlaces) where
-  same-lookups : (ss : List Stage) → ((name : List ℕ) → list_any (λ s. is_named name (looked_into s source)) ss ≡ true → places name ≡ others name) → map places (lookups_of ss source) ≡ map others (lookups_of ss source)
+  same-lookups : (ss : List Stage) → ((name : List ℕ) → list_any (λ s. is_source_named name (looked_into s source)) ss ≡ true → places name ≡ others name) → map places (lookups_of ss source) ≡ map others (lookups_of ss source)
   same-lookups [] same = refl
   same-lookups (s ∷ ss) same =
       by (looked_into s source)
-      (λ name h. same name (or-left (is_named name (looked_into s source)) (list_any (λ t. is_named name (looked_into t source)) ss) h))
-      (same-lookups ss (λ name h. same name (or-right (is_named name (looked_into s source)) (list_any (λ t. is_named name (looked_into t source)) ss) h)))
+      (λ name h. same name (or-left (is_source_named name (looked_into s source)) (list_any (λ t. is_source_named name (looked_into t source)) ss) h))
+      (same-lookups ss (λ name h. same name (or-right (is_source_named name (looked_into s source)) (list_any (λ t. is_source_named name (looked_into t source)) ss) h)))
     where
-      by : (o : Option (List ℕ)) → ((name : List ℕ) → is_named name o ≡ true → places name ≡ others name) → map places (lookups_of ss source) ≡ map others (lookups_of ss source)
+      by : (o : Option (List ℕ)) → ((name : List ℕ) → is_source_named name o ≡ true → places name ≡ others name) → map places (lookups_of ss source) ≡ map others (lookups_of ss source)
           → map places (names_with o (lookups_of ss source)) ≡ map others (names_with o (lookups_of ss source))
       by None here rest = rest
       by (Some name) here rest = λ i. here name (itself name) i ∷ rest i
 
   pub same_taken : (stages : List Stage) → ((name : List ℕ) → is_read stages source name ≡ true → places name ≡ others name) → taken_from stages source places ≡ taken_from stages source others
   same_taken stages same =
-      let left = same source (or-left (bytes_eq source source) (list_any (λ s. is_named source (looked_into s source)) stages) (itself source)) in
-      let named = same-lookups stages (λ name h. same name (or-right (bytes_eq source name) (list_any (λ s. is_named name (looked_into s source)) stages) h)) in
+      let left = same source (or-left (bytes_eq source source) (list_any (λ s. is_source_named source (looked_into s source)) stages) (itself source)) in
+      let named = same-lookups stages (λ name h. same name (or-right (bytes_eq source name) (list_any (λ s. is_source_named name (looked_into s source)) stages) h)) in
       λ i. record { left = left i; named = named i }
 
   pub same_outs : (stages : List Stage) → ((name : List ℕ) → is_read stages source name ≡ true → places name ≡ others name) → outs_of stages source places ≡ outs_of stages source others
-  same_outs stages same = ap (λ (t : Taken). through (forms stages t.named) t.left) (same_taken stages same)
+  same_outs stages same = ap (λ (t : Taken). through_forms (forms stages t.named) t.left) (same_taken stages same)
 
 -- ---- one view over places and lists that are the same where it reads
 
 -- a view's rightness depends on its form and its mark alone
 pub same_form : (places : ListPlaces) (lists : Lists) (v w : View) → view_form v ≡ view_form w → v.mark ≡ w.mark → IsRight places lists v → IsRight places lists w
 same_form places lists v w form mark right =
-    subst (λ (p : ViewForm × Mark). AreKept p.1 (taken_from p.0.stages p.0.source places) (evaluated p.0.stages p.0.source lists)) (λ i. (form i, mark i)) right
+    subst (λ (p : ViewForm × ViewMark). AreKept p.1 (taken_from p.0.stages p.0.source places) (evaluated p.0.stages p.0.source lists)) (λ i. (form i, mark i)) right
 
-pub kept_same : (m : Mark) (t u : Taken) (rows others : List Row) → t ≡ u → rows ≡ others → AreKept m t rows → AreKept m u others
+pub kept_same : (m : ViewMark) (t u : Taken) (rows others : List Row) → t ≡ u → rows ≡ others → AreKept m t rows → AreKept m u others
 kept_same (live kept) t u rows others taken same h = (h.0 ∙ taken, h.1 ∙ same)
 kept_same (anew shown) t u rows others taken same h = h ∙ same
 kept_same stale t u rows others taken same h = tt

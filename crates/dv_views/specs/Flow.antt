@@ -7,7 +7,7 @@ use Rattle.dv_change.specs.declared.input.Input.{Input}
 use Rattle.dv_change.specs.declared.input.Input.TheVariants.{Left, Named}
 use Rattle.dv_change.specs.Changes.{Positioned}
 use Rattle.dv_change.specs.Inputs.{left_after, others_after}
-use Rattle.dv_change.specs.Work.{pass_in, through, work_in}
+use Rattle.dv_change.specs.Work.{pass_in, through_forms, work_in}
 use Rattle.dv_pipe.specs.declared.stage.Stage.{Stage}
 use Rattle.dv_pipe.specs.Stages.{Lists}
 use Rattle.dv_views.specs.Changed.{with_changed}
@@ -54,7 +54,7 @@ taken_after input change t = record { left = left_after input change t.left; nam
 
 -- what the stages make of what was taken in, at positions
 abbrev pub outs_made : List Stage → Taken → Positioned
-outs_made stages t = through (forms stages t.named) t.left
+outs_made stages t = through_forms (forms stages t.named) t.left
 
 -- the work that a change of an input takes: for each stage 1 for each change that comes to it, and 1 for each that it hands on
 abbrev pub work_of : List Stage → Input → Change → Taken → ℕ

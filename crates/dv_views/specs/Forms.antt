@@ -3,7 +3,7 @@ use Rattle.std.specs.Prelude.{◌≡◌, ℕ, suc, true, false, ⊤, ◌||◌, �
 use Rattle.std.specs.List.{AllByRecursion, list_any}
 use Rattle.std.specs.Str.{bytes_eq}
 use Rattle.dv_change.specs.Changes.{Positioned}
-use Rattle.dv_change.specs.Work.{through}
+use Rattle.dv_change.specs.Work.{through_forms}
 use Rattle.dv_pipe.specs.declared.stage.Stage.{Stage}
 use Rattle.dv_pipe.specs.Stages.{Lists, evaluated, is_read}
 use Rattle.dv_views.specs.Placed.{ListPlaces, forms, lookups_of}
@@ -28,7 +28,7 @@ rows_over views lists = fold (λ below v. with_rows v below) lists views
 
 -- the same at positions
 abbrev pub outs_of : List Stage → List ℕ → ListPlaces → Positioned
-outs_of stages source places = through (forms stages (map places (lookups_of stages source))) (places source)
+outs_of stages source places = through_forms (forms stages (map places (lookups_of stages source))) (places source)
 
 abbrev pub with_places : ViewForm → ListPlaces → ListPlaces
 with_places v places name = if bytes_eq name v.name then outs_of v.stages v.source places else places name

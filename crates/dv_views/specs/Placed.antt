@@ -8,7 +8,7 @@ use Rattle.dv_coll.specs.Collection.{id_key}
 use Rattle.dv_flow.specs.Placed.{front_at, matched_at, shown_at, sorted_at, unwound_at}
 use Rattle.dv_group.specs.Placed.{grouped_at}
 use Rattle.dv_join.specs.Placed.{looked_up_at}
-use Rattle.dv_join.specs.Turning.{first_of}
+use Rattle.dv_join.specs.Turning.{first_input}
 use Rattle.dv_pipe.specs.declared.stage.Stage.{Stage}
 use Rattle.dv_pipe.specs.declared.stage.Stage.TheVariants.{Match, Project, Unwind, Sort, Limit, Group, Lookup}
 use Rattle.dv_pipe.specs.Sources.{Row}
@@ -22,7 +22,7 @@ stage_at (Unwind u) named rows = unwound_at u rows
 stage_at (Sort parts) named rows = sorted_at parts rows
 stage_at (Limit count) named rows = front_at count rows
 stage_at (Group g) named rows = grouped_at g rows
-stage_at (Lookup l) named rows = looked_up_at l rows (first_of named)
+stage_at (Lookup l) named rows = looked_up_at l rows (first_input named)
 
 abbrev pub listed_under : Option (List ℕ) → ℕ
 listed_under None = 0

@@ -7,7 +7,7 @@ use Rattle.dv_pipe.specs.declared.stage.Stage.{Stage}
 use Rattle.dv_pipe.specs.Sources.{Row}
 use Rattle.dv_views.specs.Flow.{Arrival, Told, arrivals, handed_by, is_reached, outs_made, taken_after, flow_with_told, work_of}
 use Rattle.dv_views.specs.Forms.{is_name_among, names_read}
-use Rattle.dv_views.specs.Views.{Kept, Mark, Taken, View, Views, view_form, is_stale, live, no_distance, stale, with_distance}
+use Rattle.dv_views.specs.Views.{Kept, ViewMark, Taken, View, Views, view_form, is_stale, live, no_distance, stale, with_distance}
 
 abbrev pub turned_rows : List Stage → Taken → List Row
 turned_rows stages t = forget (outs_made stages t)
@@ -22,12 +22,12 @@ abbrev pub kept_behind : List Stage → List Arrival → Kept → Kept
 kept_behind stages all kept = fold (kept_after stages) kept all
 
 -- a view that a change comes to has taken in what comes, and tells what it handed on; or it is stale
-pub record HasTurned (stages : List Stage) (all : List Arrival) (before : Kept) (after : Mark) (now : Option (List Change)) : Type 0 where
+pub record HasTurned (stages : List Stage) (all : List Arrival) (before : Kept) (after : ViewMark) (now : Option (List Change)) : Type 0 where
   pub kept : after ≡ live (kept_behind stages all before)
   pub tells : now ≡ Some (handed_by stages all before.taken)
   pub leads : with_changes (outs_made stages before.taken) (handed_by stages all before.taken) ≡ outs_made stages (kept_behind stages all before).taken
 
-abbrev pub IsTurned : List Stage → List Arrival → Mark → Mark → Option (List Change) → Type 0
+abbrev pub IsTurned : List Stage → List Arrival → ViewMark → ViewMark → Option (List Change) → Type 0
 IsTurned stages all before after told = (after ≡ stale) ⊎ ((kept : Kept) × (before ≡ live kept) × HasTurned stages all kept after told)
 
 -- a view, and what it tells

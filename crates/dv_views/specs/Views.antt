@@ -29,16 +29,16 @@ pub record Kept : Type 0 where
 
 -- a view is live: its rows are kept by changes; or it has its rows, made anew, until what it reads changes, and has counted nothing; or it
 -- is stale and has nothing, where memory was wanting, or a `$push` held too many rows
-pub data Mark : Type 0 where
-  live : Kept → Mark
-  anew : List Row → Mark
-  stale : Mark
+pub data ViewMark : Type 0 where
+  live : Kept → ViewMark
+  anew : List Row → ViewMark
+  stale : ViewMark
 
 pub record View : Type 0 where
   pub name : List ℕ
   pub source : List ℕ
   pub stages : List Stage
-  pub mark : Mark
+  pub mark : ViewMark
 
 abbrev pub Views : Type 0
 Views = List View
@@ -52,7 +52,7 @@ abbrev pub taken_from : List Stage → List ℕ → ListPlaces → Taken
 taken_from stages source places = record { left = places source; named = map places (lookups_of stages source) }
 
 -- what is kept, if anything is, are these rows, made of what was taken in
-abbrev pub AreKept : Mark → Taken → List Row → Type 0
+abbrev pub AreKept : ViewMark → Taken → List Row → Type 0
 AreKept (live kept) taken rows = (kept.taken ≡ taken) × (kept.rows ≡ rows)
 AreKept (anew shown) taken rows = shown ≡ rows
 AreKept stale taken rows = ⊤
@@ -87,7 +87,7 @@ abbrev pub views_without : List ℕ → Views → Views
 views_without name views = filter (λ v. not (is_view_named name v)) views
 
 -- the rows that a mark shows
-abbrev pub kept_rows : Mark → Option (List Row)
+abbrev pub kept_rows : ViewMark → Option (List Row)
 kept_rows (live kept) = Some kept.rows
 kept_rows (anew rows) = Some rows
 kept_rows stale = None
@@ -97,24 +97,24 @@ abbrev pub rows_shown : List ℕ → Views → Option (List Row)
 rows_shown name views = option_and_then (λ v. kept_rows v.mark) (view_under name views)
 
 -- how many rows a mark shows; none where it is stale
-abbrev pub mark_rows : Mark → ℕ
+abbrev pub mark_rows : ViewMark → ℕ
 mark_rows (live kept) = length kept.rows
 mark_rows (anew rows) = length rows
 mark_rows stale = 0
 
 -- whether a mark has its rows
-abbrev pub state_of_mark : Mark → ViewState
+abbrev pub state_of_mark : ViewMark → ViewState
 state_of_mark (live kept) = states.Live
 state_of_mark (anew rows) = states.Live
 state_of_mark stale = states.Stale
 
-abbrev pub is_stale : Mark → Bool
+abbrev pub is_stale : ViewMark → Bool
 is_stale (live kept) = false
 is_stale (anew rows) = false
 is_stale stale = true
 
 -- the count of the work that the changes of a view took since it was made; 0 where it is stale
-abbrev pub mark_ticks : Mark → ℕ
+abbrev pub mark_ticks : ViewMark → ℕ
 mark_ticks (live kept) = kept.ticks
 mark_ticks (anew rows) = 0
 mark_ticks stale = 0
@@ -129,7 +129,7 @@ abbrev pub reads_name : Views → List ℕ → Bool
 reads_name views namespace = list_any (λ v. reads v namespace) views
 
 -- how far a view is from being live: one whose rows were made anew is 1, and a stale one 2
-abbrev pub distance : Mark → ℕ
+abbrev pub distance : ViewMark → ℕ
 distance (live kept) = 0
 distance (anew rows) = 1
 distance stale = 2
@@ -162,7 +162,7 @@ abbrev pub AreInOrder : List Row → Type 0
 AreInOrder documents = IsAscending documents × AllByRecursion HasId documents
 
 -- a mark of a view that was just made: it has its rows, and has counted nothing
-pub record IsJustMade (mark : Mark) : Type 0 where
+pub record IsJustMade (mark : ViewMark) : Type 0 where
   pub live : is_stale mark ≡ false
   pub ticks : mark_ticks mark ≡ 0
 
