@@ -6,7 +6,7 @@ use Rattle.std.proofs.lemmas.List.{map-set}
 use Rattle.dv_bson.specs.declared.value.Value.{Value}
 use Rattle.dv_bson.specs.FieldChange.{with_found_pushed, with_value_pushed}
 use Rattle.dv_bson.specs.Names.{place_under, value_under, with_value_under, has_name}
-use Rattle.dv_bson.specs.Put.{with_element}
+use Rattle.dv_bson.specs.Put.{with_value_behind}
 use Rattle.dv_bson.specs.Tree.{Tree, array, Field, elements_of, list_of_elements}
 use Rattle.dv_bson.specs.View.{tree}
 use Rattle.dv_bson.proofs.Changed.{put_missing, value_found, zip-put}
@@ -26,7 +26,7 @@ pub put_same : (name : List ℕ) (v : Tree) (fs : List Field) → value_under na
 put_same name v [] found = refl
 put_same name v (f ∷ fs) found = grind (arith, put_same name v fs)
 
-put_element : (name : List ℕ) (v t : Tree) (fs : List Field) → value_under name fs ≡ Some t → with_value_under name (with_element v t) fs ≡ with_found_pushed (Some t) name v fs
+put_element : (name : List ℕ) (v t : Tree) (fs : List Field) → value_under name fs ≡ Some t → with_value_under name (with_value_behind v t) fs ≡ with_found_pushed (Some t) name v fs
 put_element name v (array vs) fs found = refl
 put_element name v t fs found = put_same name t fs found
 
@@ -37,7 +37,7 @@ module _ (name : List ℕ) (names : List (List ℕ)) (values : List Value) (plac
   zip-new : zip names (map tree (slice_set values place new)) ≡ with_value_under name (tree new) (zip names (map tree values))
   zip-new = rw (map-set tree values place new) (zip-put name (tree new) place names (map tree values) (sym found))
 
-  pub zip-pushed : (v : Tree) → tree new ≡ with_element v (tree value) → zip names (map tree (slice_set values place new)) ≡ with_value_pushed name v (zip names (map tree values))
+  pub zip-pushed : (v : Tree) → tree new ≡ with_value_behind v (tree value) → zip names (map tree (slice_set values place new)) ≡ with_value_pushed name v (zip names (map tree values))
   zip-pushed v pushed = zip-new ∙ ap (λ t. with_value_under name t (zip names (map tree values))) pushed ∙ put_element name v (tree value) (zip names (map tree values)) under ∙ ap (λ o. with_found_pushed o name v (zip names (map tree values))) (sym under)
 
   pub zip-unpushed : tree new ≡ tree value → zip names (map tree (slice_set values place new)) ≡ zip names (map tree values)

@@ -1,7 +1,7 @@
 //! Lists of values.
 
 ghost use Rattle.std.specs.Prelude.{◌≡◌, [], ◌∷◌, ◌++◌, map, OnOk, OnErr};
-ghost use Rattle.dv_bson.specs.Put.{with_element};
+ghost use Rattle.dv_bson.specs.Put.{with_value_behind};
 ghost use Rattle.dv_bson.specs.View.{tree};
 
 use crate::NoMemory;
@@ -53,7 +53,7 @@ impl List {
 impl Value {
     /// Puts the value behind the elements, if this is an array. Fails where memory is wanting.
     pub(super) fn push_element(&mut self, value: Value) -> Result<(), NoMemory>
-        ensures ok { OnOk result (tree self.new ≡ with_element (tree value) (tree self.old)) }
+        ensures ok { OnOk result (tree self.new ≡ with_value_behind (tree value) (tree self.old)) }
         ensures err { OnErr result (tree self.new ≡ tree self.old) }
     {
         match self {
