@@ -108,7 +108,7 @@ fn value_size(value: &Value) -> Option<usize>
 
 /// The length with an element added: a type byte, a name of so many bytes, a zero byte, and the value.
 #[cycle(size)]
-fn with_value_behind(total: usize, name: usize, value: &Value) -> Option<usize>
+fn with_element(total: usize, name: usize, value: &Value) -> Option<usize>
     ensures size { SomeIff result (total + (length (payload (tree value.now)) + name + 2) ≤ 2147483647) (total + (length (payload (tree value.now)) + name + 2)) }
     ensures valid { IfSome result (λ _. IsValue (tree value.now)) }
 {
@@ -137,7 +137,7 @@ fn counted_size(document: &Document) -> Option<usize>
     let mut total = FRAME;
     for place in 0..document.len() {
         let (name, value) = document.field(place);
-        total = with_value_behind(total, name.len(), value)?;
+        total = with_element(total, name.len(), value)?;
     }
     Some(total)
 }
@@ -149,7 +149,7 @@ fn list_size(list: &List) -> Option<usize>
 {
     let mut total = FRAME;
     for (place, value) in list.as_slice().iter().enumerate() {
-        total = with_value_behind(total, digits(place), value)?;
+        total = with_element(total, digits(place), value)?;
     }
     Some(total)
 }

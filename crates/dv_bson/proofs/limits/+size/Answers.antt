@@ -16,8 +16,8 @@ counted_size-loop-place-init t c = record {
   before = record { named = c.len-place-end.ensures.named; valid = λ valid. valid };
 }
 
-pub counted_size-with_value_behind-requires : goal.counted_size-with_value_behind-requires
-counted_size-with_value_behind-requires t c =
+pub counted_size-with_element-requires : goal.counted_size-with_element-requires
+counted_size-with_element-requires t c =
     (omega (arith, field_weighs_less c.args.document.now c.loop-place.place c.field.result.0.now (tree c.field.result.1.now) (sym c.field.ensures)), tt)
 
 pub counted_size-returns-in_err-total-clause-size : goal.counted_size-returns-in_err-total-clause-size
@@ -46,8 +46,8 @@ list_size-loop-place-init t c = record {
   before = λ valid. valid;
 }
 
-pub list_size-with_value_behind-requires : goal.list_size-with_value_behind-requires
-list_size-with_value_behind-requires t c =
+pub list_size-with_element-requires : goal.list_size-with_element-requires
+list_size-with_element-requires t c =
     (omega (arith, value_weighs_less c.as_slice-value-items.result.now c.args.list.now c.loop-place.place c.value-item.result c.as_slice-value-items.ensures c.loop-place-test.true c.value-item.is), tt)
 
 pub list_size-returns-in_err-total-clause-size : goal.list_size-returns-in_err-total-clause-size

@@ -9,8 +9,8 @@ use Rattle.dv_bson.proofs.limits.+size.Given as goal
 abbrev pub decreases-value_size : goal.decreases-value_size
 decreases-value_size l = 4 * weight (tree l.value.now)
 
-abbrev pub decreases-with_value_behind : goal.decreases-with_value_behind
-decreases-with_value_behind l = 4 * weight (tree l.value.now) + 1
+abbrev pub decreases-with_element : goal.decreases-with_element
+decreases-with_element l = 4 * weight (tree l.value.now) + 1
 
 abbrev pub decreases-document_size : goal.decreases-document_size
 decreases-document_size l = 4 * fields_weight (fields_of l.document.now) + 3
