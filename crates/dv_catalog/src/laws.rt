@@ -9,7 +9,7 @@ ghost use Rattle.dv_catalog.specs.Told.{told};
 ghost use Rattle.dv_catalog.specs.Views.{reads_name, with_view};
 ghost use Rattle.dv_fields.specs.declared.refusal.Refusal.TheVariants.{LimitReached};
 ghost use Rattle.dv_pipe.specs.Stages.{is_read};
-ghost use Rattle.dv_views.specs.Changed.{AreMade, changed};
+ghost use Rattle.dv_views.specs.Changed.{AreMade, documents_changed};
 ghost use Rattle.dv_views.specs.Forms.{ViewForm, height_over, heights};
 
 /// Documents stay in the order of their `_id`s after a change, if a document that is put begins with its `_id`.
@@ -27,7 +27,7 @@ pub fn changes_keep_the_order()
 /// Changes that can be made, as they are told to views, are those that a collection makes.
 pub(crate) fn told_changes_are_made()
     ensures { (documents : List (List Field)) (changes : List Change) → AreOrdered documents → AreAble documents changes
-        → AreMade (map told changes) documents × (changed (map told changes) documents ≡ with_changes documents changes) }
+        → AreMade (map told changes) documents × (documents_changed (map told changes) documents ≡ with_changes documents changes) }
 {
     changes_keep_the_order();
     dv_views::laws::a_put_is_the_collections();

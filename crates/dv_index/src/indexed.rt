@@ -1,25 +1,20 @@
 //! A collection with its indexes.
 
-ghost use Rattle.std.specs.Prelude.{◌≡◌, ◌↔◌, ◌||◌, ◌&&◌, ◌++◌, ◌∷◌, [], None, List, codes, false, true, not, filter as kept, is_some, length, map, take, IfOk, IfSome, IsErrOf, IsSome, IsTrue, OnErr, OnOk};
+ghost use Rattle.std.specs.Prelude.{◌≡◌, ◌↔◌, ◌++◌, ◌∷◌, [], None, List, codes, false, true, filter as kept, is_some, length, map, take, IfOk, IfSome, IsErrOf, IsSome, IsTrue, OnErr, OnOk};
 ghost use Rattle.std.specs.List.{AllByRecursion, list_any};
 ghost use Rattle.std.specs.Option.{option_map};
 ghost use Rattle.std.specs.Str.{bytes_eq};
+ghost use Rattle.dv_bson.specs.Names.{has_zero};
 ghost use Rattle.dv_bson.specs.Tree.{Field};
-ghost use Rattle.dv_bson.specs.View.{tree};
-ghost use Rattle.dv_coll.specs.Collection.{AreStanding, HasId, IsAscending, found, id_key, inserted, removed, replaced, with_value_in};
+ghost use Rattle.dv_coll.specs.Collection.{AreStanding, HasId, IsAscending, found, id_key, inserted, removed, replaced, with_field_changed_in};
 ghost use Rattle.dv_match.specs.Match.{matches};
-ghost use Rattle.std.specs.Ordering.{is_eq};
-ghost use Rattle.dv_order.specs.Key.{KeyTree, key_order};
-ghost use Rattle.dv_path.specs.LeafKeys.{is_leaf_key};
 ghost use Rattle.dv_path.specs.Parts.{part};
 ghost use Rattle.dv_index.specs.Ahead.{is_ahead};
 ghost use Rattle.dv_index.specs.Change.{AreIndexesOf, IsChangeOf, IsTaken, documents_after};
 ghost use Rattle.dv_index.specs.Index.{form_of, id_form};
 ghost use Rattle.dv_index.specs.View.{afters, befores, form_of_new, plan_seen};
 ghost use Rattle.dv_index.specs.Indexed.{empty_indexed, is_dropped, with_documents, with_indexes, without_index};
-ghost use Rattle.dv_index.specs.Pairs.{has_pair, is_under_another};
-ghost use Rattle.dv_index.specs.Search.{IsIndexOf, is_key_under};
-ghost use Rattle.dv_index.specs.Unique.{are_apart, are_broken, is_broken};
+ghost use Rattle.dv_index.specs.Unique.{are_broken};
 ghost use Rattle.dv_index.specs.Indexed as defined;
 ghost use Rattle.dv_index.specs.Unique as uniqueness;
 
@@ -27,16 +22,15 @@ use crate::ahead::{Ahead, candidates_ahead, index_on};
 use crate::change::{Change, key_of_id};
 use crate::coverage::covered;
 use crate::indexes::{Index, Indexes, NewIndex};
-use crate::keys::keys_of;
-use crate::multi_index::MultiIndex;
+use crate::making::indexes_over;
 use crate::plan::{Plan, Planner};
 use crate::search::{all_matching, run, run_first};
 use crate::unique::{Replacing, clashes, replacing_clashes};
-use dv_bson::{Document, NoMemory, Str, Value};
+use dv_bson::{Document, FieldChange, NoMemory};
 use dv_coll::{Collection, InsertFault, Iter, laws};
 use dv_match::Filter;
 use dv_order::Key;
-use dv_path::{Path, SortPart};
+use dv_path::SortPart;
 use std::alloc::{AllocError, Global};
 use std::marker::Model;
 
@@ -160,30 +154,42 @@ impl IndexedCollection {
         Ok(true)
     }
 
-    /// Puts the value in place of the one under the name, in the document under the key of its `_id`, and answers whether
-    /// there is such a document. Where there is none, or where no field of it has the name, nothing is changed, and the value
-    /// is dropped. Without an index beside that on `_id` the document is changed in place, as `Collection::put` does it. Fails
-    /// where memory is wanting; then nothing is changed.
-    pub fn put(&mut self, key: &Key, name: &str, value: Value) -> Result<bool, NoMemory>
-        requires { bytes_eq name.now (codes "_id") ≡ false }
+    /// Makes the change of the field under the name, in the document under the key of its `_id`, and answers whether there is
+    /// such a document. Where there is none, nothing is changed, and the value is dropped. Without an index beside that on
+    /// `_id` the document is changed in place, as `Collection::change_field` does it. Fails where memory is wanting; then
+    /// nothing is changed.
+    pub fn change_field(
+        &mut self,
+        key: &Key,
+        name: &str,
+        change: FieldChange,
+    ) -> Result<bool, NoMemory>
+        requires no_id { bytes_eq name.now (codes "_id") ≡ false }
+        requires whole { has_zero name.now ≡ false }
         ensures found { IfOk result (λ there. there ≡ is_some (found key.now self.old.documents)) }
-        ensures ok { OnOk result (self.new ≡ with_documents (with_value_in (found key.now self.old.documents) name.now (tree value) self.old.documents) self.old) }
+        ensures ok { OnOk result (self.new ≡ with_documents (with_field_changed_in (found key.now self.old.documents) name.now change self.old.documents) self.old) }
         ensures err { OnErr result (self.new ≡ self.old) }
     {
         if are_only_id(&self.indexes) {
-            return self.documents.put(key, name, value);
+            return self.documents.change_field(key, name, change);
         }
-        self.put_in_copy(key, name, value)
+        self.change_in_copy(key, name, change)
     }
 
     /// The same, by a copy of the document that comes in its place, with its keys in the indexes.
-    fn put_in_copy(&mut self, key: &Key, name: &str, value: Value) -> Result<bool, NoMemory>
-        requires { bytes_eq name.now (codes "_id") ≡ false }
+    fn change_in_copy(
+        &mut self,
+        key: &Key,
+        name: &str,
+        change: FieldChange,
+    ) -> Result<bool, NoMemory>
+        requires no_id { bytes_eq name.now (codes "_id") ≡ false }
+        requires whole { has_zero name.now ≡ false }
         ensures found { IfOk result (λ there. there ≡ is_some (found key.now self.old.documents)) }
-        ensures ok { OnOk result (self.new ≡ with_documents (with_value_in (found key.now self.old.documents) name.now (tree value) self.old.documents) self.old) }
+        ensures ok { OnOk result (self.new ≡ with_documents (with_field_changed_in (found key.now self.old.documents) name.now change self.old.documents) self.old) }
         ensures err { OnErr result (self.new ≡ self.old) }
     {
-        laws::a_value_under_another_name_leaves_the_id();
+        laws::a_change_of_another_field_leaves_the_id();
         laws::what_is_found_has_the_key();
         // All documents begin with their `_id`s.
         let _ = self.documents.len();
@@ -191,7 +197,7 @@ impl IndexedCollection {
             return Ok(false);
         };
         let mut changed = document.try_clone()?;
-        let _ = changed.put(name, value)?;
+        changed.change_field(name, change)?;
         self.change(Change::Replace(changed))?;
         Ok(true)
     }
@@ -365,86 +371,11 @@ impl IndexedCollection {
 }
 
 /// Whether there is no index but the one on `_id`, which has no keys of its own.
-#[tactic(auto, using(crate::proofs::PutIn::one_index))]
+#[tactic(auto, using(crate::proofs::FieldChanged::one_index))]
 fn are_only_id(indexes: &Indexes) -> bool
     ensures { IsTrue result → (documents : List (List Field)) → AreIndexesOf indexes.now documents }
 {
     indexes.as_slice().len() == 1
-}
-
-/// Indexes over all documents, in the order in which they are wanted. Refused with `Duplicate` where one is unique and two
-/// documents share a key under its path, and with `NoMemory` where memory is wanting.
-fn indexes_over(
-    alloc: Global,
-    wanted: Vec<NewIndex>,
-    documents: &Collection,
-) -> Result<Vec<Index>, InsertFault>
-    ensures forms { IfOk result (λ made. map form_of made.items ≡ map form_of_new wanted.items) }
-    ensures indexes { IfOk result (λ made. AllByRecursion (λ x. IsIndexOf x documents.now) made.items) }
-    ensures sound { OnOk result (are_broken (map form_of_new wanted.items) documents.now ≡ false) }
-    ensures duplicate { IsErrOf result InsertFault.Duplicate → are_broken (map form_of_new wanted.items) documents.now ≡ true }
-{
-    let mut made = Vec::with_capacity(alloc, wanted.len())?;
-    'wanted: for index in wanted {
-        made.push(index_over(alloc, index, documents)?)?;
-    }
-    Ok(made)
-}
-
-/// An index over all documents. Refused as they are.
-fn index_over(alloc: Global, wanted: NewIndex, documents: &Collection) -> Result<Index, InsertFault>
-    ensures form { IfOk result (λ index. form_of index ≡ form_of_new wanted) }
-    ensures index { IfOk result (λ index. IsIndexOf index documents.now) }
-    ensures sound { OnOk result (is_broken (form_of_new wanted) documents.now ≡ false) }
-    ensures duplicate { IsErrOf result InsertFault.Duplicate → is_broken (form_of_new wanted) documents.now ≡ true }
-{
-    let NewIndex { name, path, unique } = wanted;
-    let pairs = pairs_of(alloc, &path, unique, documents)?;
-    Ok(Index::of(name, path, unique, pairs))
-}
-
-/// The pairs of the keys of all documents under a path, each with its document's `_id`. Refused with `Duplicate` where they
-/// are those of a unique index and two documents share a key, and with `NoMemory` where memory is wanting.
-fn pairs_of(
-    alloc: Global,
-    path: &Path,
-    unique: bool,
-    documents: &Collection,
-) -> Result<MultiIndex, InsertFault>
-    ensures pairs { IfOk result (λ pairs. (k id : KeyTree) → has_pair k id pairs ≡ is_key_under k path.now (found id documents.now)) }
-    ensures sound { OnOk result ((unique && not (are_apart path.now documents.now)) ≡ false) }
-    ensures duplicate { IsErrOf result InsertFault.Duplicate → (unique && not (are_apart path.now documents.now)) ≡ true }
-{
-    let mut pairs = MultiIndex::new(alloc);
-    for document in documents.iter() {
-        add_keys(alloc, &mut pairs, path, unique, document)?;
-    }
-    Ok(pairs)
-}
-
-/// Adds the pairs of the keys of a document that has none yet. Refused with `Duplicate` where the pairs are those of a unique
-/// index and one of the keys stands under another `_id`, and with `NoMemory` where memory is wanting; then the pairs are
-/// those that there were.
-fn add_keys(
-    alloc: Global,
-    pairs: &mut MultiIndex,
-    path: &Path,
-    unique: bool,
-    document: &Document,
-) -> Result<(), InsertFault>
-    requires identified { HasId document.now }
-    requires first { (k : KeyTree) → has_pair k (id_key document.now) pairs.old ≡ false }
-    ensures ok { OnOk result ((k i : KeyTree) → has_pair k i pairs.new ≡ (has_pair k i pairs.old || (is_eq (key_order i (id_key document.now)) && is_leaf_key k path.now document.now))) }
-    ensures free { OnOk result ((unique && is_under_another (λ k. is_leaf_key k path.now document.now) (id_key document.now) pairs.old) ≡ false) }
-    ensures duplicate { IsErrOf result InsertFault.Duplicate → (unique && is_under_another (λ k. is_leaf_key k path.now document.now) (id_key document.now) pairs.old) ≡ true }
-{
-    let id = key_of_id(document)?;
-    let keys = keys_of(alloc, path, document)?;
-    if unique && pairs.clash(&keys, &id) {
-        return Err(InsertFault::Duplicate);
-    }
-    pairs.add_first(&keys, &id)?;
-    Ok(())
 }
 
 /// The name of the index of a plan.
