@@ -49,19 +49,26 @@ bound-ok (Ok x) f y e = (x, refl, e)
 bound-ok (Err g) f y e = absurd cc
 
 -- a value is put
-abbrev IsPut : Path → List Field → List Field → Type 0
+abbrev pub IsPut : Path → List Field → List Field → Type 0
 IsPut q d after = (v : Tree) × (put d q v ≡ Ok after)
 
 value-put : (q : Path) (d after : List Field) (r : Result Tree UpdateFault) → (r >>= λ v. set_at q v d) ≡ Ok after → IsPut q d after
 value-put q d after r e = let found = bound-ok r (λ v. set_at q v d) after e in (found.0, told-ok (put d q found.0) after found.2)
 
 -- by an edit that puts something where nothing is
-new-put : (q : Path) (o : Operation) → is_some (new_value o) ≡ true → (d after : List Field) → edit_at q o d ≡ Ok after → IsPut q d after
+pub new-put : (q : Path) (o : Operation) → is_some (new_value o) ≡ true → (d after : List Field) → edit_at q o d ≡ Ok after → IsPut q d after
 new-put q (assign v) new d after e = (v, told-ok (put d q v) after e)
 new-put q take_away new d after e = absurd cc
 new-put q (increase n) new d after e = value-put q d after (increased n (slot d q)) e
 new-put q (append vs) new d after e = value-put q d after (appended vs (slot d q)) e
 new-put q (pull p) new d after e = absurd cc
+
+pub not-removal : (o : Operation) → is_some (new_value o) ≡ true → is_removal o ≡ false
+not-removal (assign v) e = refl
+not-removal take_away e = cc
+not-removal (increase n) e = refl
+not-removal (append vs) e = refl
+not-removal (pull p) e = refl
 
 pull-put : (q : Path) (p : Pulled) (d after : List Field) (s : Slot) → pull_from q p d s ≡ Ok after → (d ≡ after) ⊎ IsPut q d after
 pull-put q p d after (taken (array vs)) e = inr (_, told-ok _ after e)
@@ -77,24 +84,34 @@ edit-put q (increase n) other d after e = inr (new-put q (increase n) refl d aft
 edit-put q (append vs) other d after e = inr (new-put q (append vs) refl d after e)
 edit-put q (pull p) other d after e = pull-put q p d after (slot d q) e
 
--- ---- arrays that stay
+-- ---- what stays
 
-module _ (slots : SlotsStay) where
-  edit-keeps : (a q : Path) (o : Operation) (n : ℕ) → is_removal o ≡ false → begins q a ≡ false → (d after : List Field) → edit_at q o d ≡ Ok after → IsArray (slot d a) n → IsArray (slot after a) n
-  edit-keeps a q o n other apart d after e is = elim (edit-put q o other d after e) [
-    | inl same ↦ subst (λ x. IsArray (slot x a) n) same is
-    | inr made ↦ put-keeps-array slots made.0 d a q n after apart is made.1
+-- what each value that is put leaves as it is, edits do
+module _ (Stays : Slot → Type 0) (a : Path) where
+  edit-keeps-so : (q : Path) → ((v : Tree) (d after : List Field) → Stays (slot d a) → put d q v ≡ Ok after → Stays (slot after a))
+      → (o : Operation) → is_removal o ≡ false → (d after : List Field) → edit_at q o d ≡ Ok after → Stays (slot d a) → Stays (slot after a)
+  edit-keeps-so q puts o other d after e is = elim (edit-put q o other d after e) [
+    | inl same ↦ subst (λ x. Stays (slot x a)) same is
+    | inr made ↦ puts made.0 d after is made.1
   ]
 
-  edits-keep : (a : Path) (n : ℕ) (es : List Edit) → AllByRecursion (λ e. begins e.0 a ≡ false) es → (d after : List Field) → edited (other_edits es) d ≡ Ok after → IsArray (slot d a) n → IsArray (slot after a) n
-  edits-keep a n [] apart d after e is = let same : d ≡ after = cc in subst (λ x. IsArray (slot x a) n) same is
-  edits-keep a n (q ∷ es) apart d after e is = by (is_removal q.1) refl e (λ d. edits-keep a n es apart.1 d after)
+  pub edits-keep-so : ((q : Path) → begins q a ≡ false → (v : Tree) (d after : List Field) → Stays (slot d a) → put d q v ≡ Ok after → Stays (slot after a))
+      → (es : List Edit) → AllByRecursion (λ e. begins e.0 a ≡ false) es → (d after : List Field) → edited (other_edits es) d ≡ Ok after → Stays (slot d a) → Stays (slot after a)
+  edits-keep-so puts [] apart d after e is = let same : d ≡ after = cc in subst (λ x. Stays (slot x a)) same is
+  edits-keep-so puts (q ∷ es) apart d after e is = by (is_removal q.1) refl e (λ d. edits-keep-so puts es apart.1 d after)
     where
-      by : (b : Bool) → is_removal q.1 ≡ b → edited (if b then other_edits es else q ∷ other_edits es) d ≡ Ok after → ((d : List Field) → edited (other_edits es) d ≡ Ok after → IsArray (slot d a) n → IsArray (slot after a) n) → IsArray (slot after a) n
+      by : (b : Bool) → is_removal q.1 ≡ b → edited (if b then other_edits es else q ∷ other_edits es) d ≡ Ok after → ((d : List Field) → edited (other_edits es) d ≡ Ok after → Stays (slot d a) → Stays (slot after a)) → Stays (slot after a)
       by true removal e rest = rest d e is
       by false other e rest =
           let found = bound-ok (edit_at q.0 q.1 d) (edited (other_edits es)) after e in
-          rest found.0 found.2 (edit-keeps a q.0 q.1 n other apart.0 d found.0 found.1 is)
+          rest found.0 found.2 (edit-keeps-so q.0 (puts q.0 apart.0) q.1 other d found.0 found.1 is)
+
+module _ (slots : SlotsStay) where
+  edit-keeps : (a q : Path) (o : Operation) (n : ℕ) → is_removal o ≡ false → begins q a ≡ false → (d after : List Field) → edit_at q o d ≡ Ok after → IsArray (slot d a) n → IsArray (slot after a) n
+  edit-keeps a q o n other apart d after e is = edit-keeps-so (λ s. IsArray s n) a q (λ v d after. put-keeps-array slots v d a q n after apart) o other d after e is
+
+  edits-keep : (a : Path) (n : ℕ) (es : List Edit) → AllByRecursion (λ e. begins e.0 a ≡ false) es → (d after : List Field) → edited (other_edits es) d ≡ Ok after → IsArray (slot d a) n → IsArray (slot after a) n
+  edits-keep a n es apart d after e is = edits-keep-so (λ s. IsArray s n) a (λ q apart v d after. put-keeps-array slots v d a q n after apart) es apart d after e is
 
 -- ---- the place that is filled is there
 
@@ -142,13 +159,6 @@ module _ (slots : SlotsStay) (there : PutsAreThere) where
       let whole : slot after e.0 ≡ taken new.0 = put-there there e.0 d after new.0 a h.name h.names h.whole new.1 in
       let split : slot_behind (h.name ∷ h.names) (slot after a) ≡ taken new.0 = sym (slot-further a (h.name ∷ h.names) (taken (document (fields_of after)))) ∙ ap (slot after) (sym h.whole) ∙ whole in
       has-place h.name h.names (place_of f) (slot after a) new.0 h.at split stays
-    where
-      not-removal : (o : Operation) → is_some (new_value o) ≡ true → is_removal o ≡ false
-      not-removal (assign v) e = refl
-      not-removal take_away e = cc
-      not-removal (increase n) e = refl
-      not-removal (append vs) e = refl
-      not-removal (pull p) e = refl
 
   -- in a document each array stands that is filled, with so many elements at least
   abbrev Stand : List Field → (Fill → ℕ) → List Fill → Type 0

@@ -1,5 +1,5 @@
 -- Where paths lead beyond the ends of arrays, step by step.
-use Rattle.std.proofs.Common.{◌≡◌, ◌∙◌, ap, sym, refl, ℕ, ◌-◌, ◌≤◌, ◌<◌, ◌&&◌, not, nat_le, Bool, true, false, List, [], ◌∷◌, ◌++◌, take, length, length-append, Option, Some, None, is_some, slice_get, arith, if◌then◌else◌}
+use Rattle.std.proofs.Common.{◌≡◌, ◌∙◌, ap, sym, refl, ℕ, ◌-◌, ◌≤◌, ◌<◌, ◌||◌, not, nat_le, Bool, true, false, List, [], ◌∷◌, ◌++◌, take, length, length-append, Option, Some, None, is_some, slice_get, arith, if◌then◌else◌}
 use Rattle.std.proofs.Math.Seq.{take-append_seam}
 use Rattle.std.specs.Option.{option_map, unwrap_or}
 use Rattle.std.proofs.lemmas.Bool.Decides.{nat_tests}
@@ -10,8 +10,9 @@ use Rattle.dv_bson.specs.Tree.{Tree, document, array, Field, fields_of, list_of_
 use Rattle.dv_bson.specs.View.{tree}
 use Rattle.dv_path.specs.Path.{index_of}
 use Rattle.dv_path.specs.Slots.{Slot, taken, slot_of, next_slot, slot_behind, slot}
+use Rattle.dv_order.specs.SameLaws.{and-left, and-right}
 use Rattle.dv_update.specs.Apply.{Path}
-use Rattle.dv_update.specs.Filling.{Fill, beyond, beyond_array, beyond_element, leads_into_id, filled, fill_of, array_of, place_of, first_number}
+use Rattle.dv_update.specs.Filling.{Fill, beyond, beyond_array, beyond_element, leads_into_id, filled, fill_of, left_out, array_of, place_of, first_number}
 use Rattle.dv_update.specs.StandIn.{new_value}
 use Rattle.dv_update.specs.Update.{Edit}
 use Rattle.dv_update.proofs.Items.{fields_again, elements_again}
@@ -102,20 +103,35 @@ leads-beyond (name ∷ names) rest (Some v) e = absurd cc
 -- an edit that fills an array of a document
 pub record Fills (d : List Field) (e : Edit) (f : Fill) : Type 0 where
   pub new : is_some (new_value e.1) ≡ true
-  pub other : leads_into_id e.0 ≡ false
   pub path : f.0 ≡ e.0
   pub leads : beyond e.0 (Some (document (fields_of d))) ≡ Some f.1
 
 pub fills-so : (d : List Field) (e : Edit) (f : Fill) → fill_of d e ≡ Some f → Fills d e f
-fills-so d e f is = by (is_some (new_value e.1)) (leads_into_id e.0) (beyond e.0 (Some (document (fields_of d)))) refl refl refl is
+fills-so d e f is = by (is_some (new_value e.1)) (beyond e.0 (Some (document (fields_of d)))) refl refl is
   where
-    by : (new id : Bool) (o : Option Path) → is_some (new_value e.1) ≡ new → leads_into_id e.0 ≡ id → beyond e.0 (Some (document (fields_of d))) ≡ o → (if new && not id then option_map (filled e.0) o else None) ≡ Some f → Fills d e f
-    by false id o n i l is = absurd cc
-    by true true o n i l is = absurd cc
-    by true false None n i l is = absurd cc
-    by true false (Some rest) n i l is =
+    by : (new : Bool) (o : Option Path) → is_some (new_value e.1) ≡ new → beyond e.0 (Some (document (fields_of d))) ≡ o → (if new then option_map (filled e.0) o else None) ≡ Some f → Fills d e f
+    by false o n l is = absurd cc
+    by true None n l is = absurd cc
+    by true (Some rest) n l is =
         let same : filled e.0 rest ≡ f = cc in
-        record { new = n; other = i; path = ap (λ (g : Fill). g.0) (sym same); leads = l ∙ ap (λ (g : Fill). Some g.1) same }
+        record { new = n; path = ap (λ (g : Fill). g.0) (sym same); leads = l ∙ ap (λ (g : Fill). Some g.1) same }
+
+pub some-fill : (d : List Field) (e : Edit) → is_some (fill_of d e) ≡ true → (f : Fill) × Fills d e f
+some-fill d e is = by (fill_of d e) refl is
+  where
+    by : (o : Option Fill) → fill_of d e ≡ o → is_some o ≡ true → (f : Fill) × Fills d e f
+    by None found h = absurd cc
+    by (Some f) found h = (f, fills-so d e f found)
+
+-- one that isn't made
+pub left-out : (with_id : Bool) (d : List Field) (e : Edit) → left_out with_id d e ≡ true → (f : Fill) × Fills d e f × (with_id ≡ false → leads_into_id e.0 ≡ false)
+left-out with_id d e is =
+    let found = some-fill d e (and-left _ _ is) in
+    (found.0, found.1, λ kept. not-true (leads_into_id e.0) (ap (λ b. b || not (leads_into_id e.0)) (sym kept) ∙ and-right _ _ is))
+  where
+    not-true : (b : Bool) → not b ≡ true → b ≡ false
+    not-true true h = cc
+    not-true false h = refl
 
 -- the array to which it leads
 pub record HasArray (d : List Field) (e : Edit) (f : Fill) : Type 0 where

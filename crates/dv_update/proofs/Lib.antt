@@ -28,3 +28,4 @@ pub mod Elements
 pub mod Counted
 pub mod Meeting
 pub mod Unfilled
+pub mod IdFilled

@@ -21,13 +21,13 @@ or-true : (a : Bool) → a || true ≡ true
 or-true true = refl
 or-true false = refl
 
-any-at : (p : Tree → Bool) (values : List Value) (i : ℕ) (value : Value) → i < length values → value ≡ get_or values i value → p (tree value) ≡ true → list_any p (map tree values) ≡ true
-any-at p [] i value within is h = absurd (omega arith)
-any-at p (v ∷ vs) zero value within is h = ap (λ b. b || list_any p (map tree vs)) (ap (λ x. p (tree x)) (sym is) ∙ h)
-any-at p (v ∷ vs) (suc i) value within is h = ap (λ b. p (tree v) || b) (any-at p vs i value (omega arith) is h) ∙ or-true (p (tree v))
+pub any_at : {X Y : Type 0} (seen : X → Y) (p : Y → Bool) (xs : List X) (i : ℕ) (x : X) → i < length xs → x ≡ get_or xs i x → p (seen x) ≡ true → list_any p (map seen xs) ≡ true
+any_at seen p [] i x within is h = absurd (omega arith)
+any_at seen p (y ∷ ys) zero x within is h = ap (λ b. b || list_any p (map seen ys)) (ap (λ z. p (seen z)) (sym is) ∙ h)
+any_at seen p (y ∷ ys) (suc i) x within is h = ap (λ b. p (seen y) || b) (any_at seen p ys i x (omega arith) is h) ∙ or-true (p (seen y))
 
 pub any_here : (p : Tree → Bool) (values : List Value) (vs : List Tree) → map tree values ≡ vs → (i : ℕ) (value : Value) → i < length values → value ≡ get_or values i value → true ≡ p (tree value) → list_any p vs ≡ true
-any_here p values vs seen i value within is h = ap (list_any p) (sym seen) ∙ any-at p values i value within is (sym h)
+any_here p values vs seen i value within is h = ap (list_any p) (sym seen) ∙ any_at tree p values i value within is (sym h)
 
 pub left_end : (p : Pulled) (values : List Value) (vs done : List Tree) (i : ℕ) → map tree values ≡ vs → left p (map tree values) ≡ done ++ left p (map tree (drop i values)) → length values ≤ i → done ≡ left p vs
 left_end p values vs done i seen so-far past =

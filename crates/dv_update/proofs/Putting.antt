@@ -1,5 +1,5 @@
--- What is put where a path leads: how long what stands there then is, and that arrays elsewhere stay.
-use Rattle.std.proofs.Common.{◌≡◌, ◌∙◌, ap, sym, refl, ℕ, zero, suc, ◌+◌, ◌≤◌, ◌||◌, ◌&&◌, inl, inr, nat_lt, nat_le, Bool, true, false, List, [], ◌∷◌, ◌++◌, length, Option, Some, None, slice_get, Result, Ok, Err, if◌then◌else◌, arith}
+-- What is put where a path leads: how long what stands there then is, and that what stands elsewhere stays.
+use Rattle.std.proofs.Common.{◌≡◌, ◌∙◌, ap, sym, refl, subst, ℕ, zero, suc, ◌+◌, ◌≤◌, ◌||◌, ◌&&◌, inl, inr, nat_lt, nat_le, Bool, true, false, List, [], ◌∷◌, ◌++◌, length, Option, Some, None, slice_get, Result, Ok, Err, if◌then◌else◌, arith}
 use Rattle.std.specs.Str.{bytes_eq}
 use Rattle.std.specs.Option.{unwrap_or}
 use Rattle.std.proofs.lemmas.Slice.Eq.{bytes_eq-Decides}
@@ -156,85 +156,113 @@ element-made q v (Some j) vs us e = by (may-stand j vs) refl e
     by true is f = let found = made-by (λ x. with_element j x vs) (put_behind q v (slice_get vs j)) us f in (j, found.0, refl, found.1, found.2, is)
     by false is f = absurd cc
 
--- ---- an array stays, and is no shorter, where a value is put that doesn't replace it
+-- ---- what stands stays, where a value is put that doesn't replace it
 
-abbrev pub IsArray : Slot → ℕ → Type 0
-IsArray s n = (vs : Elements) × (s ≡ taken (array vs)) × (n ≤ length (list_of_elements vs))
+-- a value stands of which something holds
+abbrev pub Stands : (Tree → Type 0) → Slot → Type 0
+Stands Holds s = (v : Tree) × (s ≡ taken v) × Holds v
 
-module _ (slots : SlotsStay) (w : Tree) where
+-- it holds still where a value is put further inside
+abbrev Keeps : Tree → (Tree → Type 0) → Type 0
+Keeps w Holds = (b : List ℕ) (q : Path) (t u : Tree) → Holds t → put_behind (b ∷ q) w (Some t) ≡ Ok u → Holds u
+
+module _ (slots : SlotsStay) (w : Tree) (Holds : Tree → Type 0) (keeps : Keeps w Holds) where
   -- of each value that is put along a path
   abbrev Stays : Path → Path → Type 0
-  Stays a q = (c : Option Tree) (n : ℕ) (u : Tree) → begins q a ≡ false → IsArray (slot_behind a (slot_of c)) n → put_behind q w c ≡ Ok u → IsArray (slot_behind a (taken u)) n
+  Stays a q = (c : Option Tree) (u : Tree) → begins q a ≡ false → Stands Holds (slot_behind a (slot_of c)) → put_behind q w c ≡ Ok u → Stands Holds (slot_behind a (taken u))
 
-  field-stays : (e b : List ℕ) (a q : Path) → Stays a q → (gs : List Field) (x : Tree) (n : ℕ) → begins (b ∷ q) (e ∷ a) ≡ false → IsArray (slot_behind a (slot_of (value_under e gs))) n → put_behind q w (value_under b gs) ≡ Ok x
-      → IsArray (slot_behind a (slot_of (value_under e (with_field b (Some x) gs)))) n
-  field-stays e b a q stays gs x n apart is put = by (bytes_eq b e) refl
+  field-stays : (e b : List ℕ) (a q : Path) → Stays a q → (gs : List Field) (x : Tree) → begins (b ∷ q) (e ∷ a) ≡ false → Stands Holds (slot_behind a (slot_of (value_under e gs))) → put_behind q w (value_under b gs) ≡ Ok x
+      → Stands Holds (slot_behind a (slot_of (value_under e (with_field b (Some x) gs))))
+  field-stays e b a q stays gs x apart is put = by (bytes_eq b e) refl
     where
-      by : (same : Bool) → bytes_eq b e ≡ same → IsArray (slot_behind a (slot_of (value_under e (with_field b (Some x) gs)))) n
+      by : (same : Bool) → bytes_eq b e ≡ same → Stands Holds (slot_behind a (slot_of (value_under e (with_field b (Some x) gs))))
       by true s =
           let one : b ≡ e = (bytes_eq-Decides b e).0 s in
           let below : begins q a ≡ false = ap (λ c. c && begins q a) (sym s) ∙ apart in
           let there : value_under e (with_field b (Some x) gs) ≡ Some x = ap (λ m. value_under m (with_field b (Some x) gs)) (sym one) ∙ value-at b x gs in
-          rw there (stays (value_under b gs) n x below (rw one is) put)
+          rw there (stays (value_under b gs) x below (rw one is) put)
       by false s =
           let other : e ≡ b → ⊥ = λ same. let no : bytes_eq b e ≡ true = (bytes_eq-Decides b e).1 (sym same) in cc in
           rw (value-other e b x gs other) is
 
-  element-stays : (e b : List ℕ) (a q : Path) → Stays a q → (ws : List Tree) (x : Tree) (j n : ℕ) → begins (b ∷ q) (e ∷ a) ≡ false → index_of b ≡ Some j → IsArray (slot_behind a (element_slot (index_of e) ws)) n → put_behind q w (slice_get ws j) ≡ Ok x
-      → IsArray (slot_behind a (element_slot (index_of e) (with_element j x ws))) n
-  element-stays e b a q stays ws x j n apart at is put = by (bytes_eq b e) refl (index_of e) refl is
+  element-stays : (e b : List ℕ) (a q : Path) → Stays a q → (ws : List Tree) (x : Tree) (j : ℕ) → begins (b ∷ q) (e ∷ a) ≡ false → index_of b ≡ Some j → Stands Holds (slot_behind a (element_slot (index_of e) ws)) → put_behind q w (slice_get ws j) ≡ Ok x
+      → Stands Holds (slot_behind a (element_slot (index_of e) (with_element j x ws)))
+  element-stays e b a q stays ws x j apart at is put = by (bytes_eq b e) refl (index_of e) refl is
     where
-      there : (i : ℕ) (c : Option Tree) → (i ≡ j → ⊥) → slice_get ws i ≡ c → IsArray (slot_behind a (slot_of c)) n → IsArray (slot_behind a (slot_of (slice_get (with_element j x ws) i))) n
-      there i None ne found h = absurd (free-stays a (array h.0) h.1)
+      there : (i : ℕ) (c : Option Tree) → (i ≡ j → ⊥) → slice_get ws i ≡ c → Stands Holds (slot_behind a (slot_of c)) → Stands Holds (slot_behind a (slot_of (slice_get (with_element j x ws) i)))
+      there i None ne found h = absurd (free-stays a h.0 h.1)
       there i (Some v) ne found h = rw (element-other i j x ws v ne found) h
 
-      by : (same : Bool) → bytes_eq b e ≡ same → (o : Option ℕ) → index_of e ≡ o → IsArray (slot_behind a (element_slot o ws)) n → IsArray (slot_behind a (element_slot o (with_element j x ws))) n
-      by same s None ie h = absurd (blocked-stays a (array h.0) h.1)
+      by : (same : Bool) → bytes_eq b e ≡ same → (o : Option ℕ) → index_of e ≡ o → Stands Holds (slot_behind a (element_slot o ws)) → Stands Holds (slot_behind a (element_slot o (with_element j x ws)))
+      by same s None ie h = absurd (blocked-stays a h.0 h.1)
       by true s (Some i) ie h =
           let one : b ≡ e = (bytes_eq-Decides b e).0 s in
           let below : begins q a ≡ false = ap (λ c. c && begins q a) (sym s) ∙ apart in
           let places : Some i ≡ Some j = sym ie ∙ ap index_of (sym one) ∙ at in
           let place : i ≡ j = cc in
-          rw (place, element-at j x ws) (stays (slice_get ws j) n x below (rw (sym place) h) put)
+          rw (place, element-at j x ws) (stays (slice_get ws j) x below (rw (sym place) h) put)
       by false s (Some i) ie h =
           let differ : b ≡ e → ⊥ = λ same. let no : bytes_eq b e ≡ true = (bytes_eq-Decides b e).1 same in cc in
           there i (slice_get ws i) (λ same. places-apart slots b e j differ at (ie ∙ ap Some same)) refl h
 
-  array-stays : (a q : Path) → Stays a q
-  array-stays a [] c n u apart is put = absurd cc
-  array-stays [] (b ∷ q) None n u apart is put = absurd (free-stays [] (array is.0) is.1)
-  array-stays [] (b ∷ q) (Some (array vs)) n u apart is put =
-      let ws = list_of_elements vs in
-      let outer = made-by (λ xs. array (elements_of xs)) (put_element (put_behind q w) (index_of b) ws) u put in
-      let inner = element-made q w (index_of b) ws outer.0 outer.1 in
-      let same : array vs ≡ array is.0 = (let e = is.1 in cc) in
-      let made = with_element inner.0 inner.1 ws in (
-        elements_of made,
-        ap taken (sym outer.2) ∙ ap (λ xs. taken (array (elements_of xs))) (sym inner.4),
-        omega (arith, is.2, no-shorter inner.0 inner.1 ws, ap length (elements_again made), ap (λ xs. length (list_of_elements xs)) (let h : vs ≡ is.0 = cc in h)),
-      )
-  array-stays [] (b ∷ q) (Some v) n u apart is put = absurd (let e = is.1 in cc)
-  array-stays (e ∷ a) (b ∷ q) None n u apart is put = absurd (free-stays a (array is.0) is.1)
-  array-stays (e ∷ a) (b ∷ q) (Some (document fs)) n u apart is put =
+  value-stays : (a q : Path) → Stays a q
+  value-stays a [] c u apart is put = absurd cc
+  value-stays [] (b ∷ q) None u apart is put = absurd (free-stays [] is.0 is.1)
+  value-stays [] (b ∷ q) (Some t) u apart is put = (u, refl, let same : is.0 ≡ t = (let e = is.1 in cc) in keeps b q t u (subst Holds same is.2) put)
+  value-stays (e ∷ a) (b ∷ q) None u apart is put = absurd (free-stays a is.0 is.1)
+  value-stays (e ∷ a) (b ∷ q) (Some (document fs)) u apart is put =
       let gs = list_of_fields fs in
       let outer = made-by (λ hs. document (fields_of hs)) (put_field (put_behind q w) b gs) u put in
       let inner = made-by (λ x. with_field b (Some x) gs) (put_behind q w (value_under b gs)) outer.0 outer.1 in
       let made = with_field b (Some inner.0) gs in
-      rw (← outer.2, ← inner.2, fields_again made) (field-stays e b a q (array-stays a q) gs inner.0 n apart is inner.1)
-  array-stays (e ∷ a) (b ∷ q) (Some (array vs)) n u apart is put =
+      rw (← outer.2, ← inner.2, fields_again made) (field-stays e b a q (value-stays a q) gs inner.0 apart is inner.1)
+  value-stays (e ∷ a) (b ∷ q) (Some (array vs)) u apart is put =
       let ws = list_of_elements vs in
       let outer = made-by (λ xs. array (elements_of xs)) (put_element (put_behind q w) (index_of b) ws) u put in
       let inner = element-made q w (index_of b) ws outer.0 outer.1 in
-      rw (← outer.2, ← inner.4, elements_again (with_element inner.0 inner.1 ws)) (element-stays e b a q (array-stays a q) ws inner.1 inner.0 n apart inner.2 is inner.3)
-  array-stays (e ∷ a) (b ∷ q) (Some v) n u apart is put = absurd cc
+      rw (← outer.2, ← inner.4, elements_again (with_element inner.0 inner.1 ws)) (element-stays e b a q (value-stays a q) ws inner.1 inner.0 apart inner.2 is inner.3)
+  value-stays (e ∷ a) (b ∷ q) (Some v) u apart is put = absurd cc
 
-  pub put-keeps-array : (d : List Field) (a q : Path) (n : ℕ) (after : List Field) → begins q a ≡ false → IsArray (slot d a) n → put d q w ≡ Ok after → IsArray (slot after a) n
+  pub put-keeps : (d : List Field) (a q : Path) (after : List Field) → begins q a ≡ false → Stands Holds (slot d a) → put d q w ≡ Ok after → Stands Holds (slot after a)
   unfolding put slot
-  put-keeps-array d a [] n after apart is put = absurd cc
-  put-keeps-array d [] (b ∷ q) n after apart is put = absurd (let e = is.1 in cc)
-  put-keeps-array d (e ∷ a) (b ∷ q) n after apart is put =
+  put-keeps d a [] after apart is put = absurd cc
+  put-keeps d [] (b ∷ q) after apart is put =
+      let whole : Tree = document (fields_of d) in
+      let same : is.0 ≡ whole = (let e = is.1 in cc) in
+      let made : put_behind (b ∷ q) w (Some whole) ≡ Ok (document (fields_of after)) =
+      ap (λ fs. result_map (λ gs. document (fields_of gs)) (put_field (put_behind q w) b fs)) (fields_again d) ∙ ap (result_map (λ gs. document (fields_of gs))) put in
+      (document (fields_of after), refl, keeps b q whole (document (fields_of after)) (subst Holds same is.2) made)
+  put-keeps d (e ∷ a) (b ∷ q) after apart is put =
       let inner = made-by (λ x. with_field b (Some x) d) (put_behind q w (value_under b d)) after put in
-      rw (← inner.2, fields_again (with_field b (Some inner.0) d)) (field-stays e b a q (array-stays a q) d inner.0 n apart (rw (← fields_again d) is) inner.1)
+      rw (← inner.2, fields_again (with_field b (Some inner.0) d)) (field-stays e b a q (value-stays a q) d inner.0 apart (rw (← fields_again d) is) inner.1)
+
+-- an array of so many elements at least
+abbrev pub IsArray : Slot → ℕ → Type 0
+IsArray s n = (vs : Elements) × (s ≡ taken (array vs)) × (n ≤ length (list_of_elements vs))
+
+record IsLong (n : ℕ) (v : Tree) : Type 0 where
+  elements : Elements
+  is : v ≡ array elements
+  long : n ≤ length (list_of_elements elements)
+
+long-keeps : (w : Tree) (n : ℕ) → Keeps w (IsLong n)
+long-keeps w n b q (array vs) u h put =
+    let ws = list_of_elements vs in
+    let outer = made-by (λ xs. array (elements_of xs)) (put_element (put_behind q w) (index_of b) ws) u put in
+    let inner = element-made q w (index_of b) ws outer.0 outer.1 in
+    let made = with_element inner.0 inner.1 ws in
+    record {
+      elements = elements_of made;
+      is = sym outer.2 ∙ ap (λ xs. array (elements_of xs)) (sym inner.4);
+      long = omega (arith, h.long, no-shorter inner.0 inner.1 ws, ap length (elements_again made), ap (λ xs. length (list_of_elements xs)) (let same : vs ≡ h.elements = (let e = h.is in cc) in same));
+    }
+long-keeps w n b q t u h put = absurd (let e = h.is in cc)
+
+pub put-keeps-array : (slots : SlotsStay) (w : Tree) (d : List Field) (a q : Path) (n : ℕ) (after : List Field) → begins q a ≡ false → IsArray (slot d a) n → put d q w ≡ Ok after → IsArray (slot after a) n
+put-keeps-array slots w d a q n after apart is put =
+    let there : Stands (IsLong n) (slot d a) = (array is.0, is.1, record { elements = is.0; is = refl; long = is.2 }) in
+    let kept = put-keeps slots w (IsLong n) (long-keeps w n) d a q after apart there put in
+    (kept.2.elements, kept.1 ∙ ap taken kept.2.is, kept.2.long)
 
 -- ---- a value in place of another one
 

@@ -1,5 +1,5 @@
 -- Arrays that edits fill with nulls, how long they are at least, and what is made without filling them.
-use Rattle.std.specs.Prelude.{◌≡◌, ℕ, ◌+◌, ◌*◌, ◌-◌, ◌<◌, ◌&&◌, min, not, nat_le, Bool, false, List, [], ◌∷◌, take, length, Option, Some, None, is_some, slice_get, Result, Ok, Err, codes, ◌⊎◌, if◌then◌else◌}
+use Rattle.std.specs.Prelude.{◌≡◌, ℕ, ◌+◌, ◌*◌, ◌-◌, ◌<◌, ◌&&◌, ◌||◌, min, not, nat_le, Bool, false, List, [], ◌∷◌, take, length, Option, Some, None, is_some, slice_get, Result, Ok, Err, codes, ◌⊎◌, if◌then◌else◌}
 use Rattle.std.specs.Option.{option_map}
 use Rattle.std.specs.Str.{bytes_eq}
 use Rattle.dv_bson.specs.Names.{value_under}
@@ -41,15 +41,11 @@ beyond (name ∷ names) c = None
 abbrev pub Fill : Type 0
 Fill = Path × Path
 
-abbrev pub leads_into_id : Path → Bool
-leads_into_id [] = false
-leads_into_id (name ∷ names) = bytes_eq name (codes "_id")
-
 abbrev pub filled : Path → Path → Fill
 filled path rest = (path, rest)
 
 abbrev pub fill_of : List Field → Edit → Option Fill
-fill_of d e = if is_some (new_value e.1) && not (leads_into_id e.0) then option_map (filled e.0) (beyond e.0 (Some (document (fields_of d)))) else None
+fill_of d e = if is_some (new_value e.1) then option_map (filled e.0) (beyond e.0 (Some (document (fields_of d)))) else None
 
 abbrev pub before : Option Fill → List Fill → List Fill
 before None fills = fills
@@ -58,6 +54,14 @@ before (Some fill) fills = fill ∷ fills
 abbrev pub fills : List Field → List Edit → List Fill
 fills d [] = []
 fills d (e ∷ es) = before (fill_of d e) (fills d es)
+
+abbrev pub leads_into_id : Path → Bool
+leads_into_id [] = false
+leads_into_id (name ∷ names) = bytes_eq name (codes "_id")
+
+-- whether an edit fills an array in the `_id` with which a document begins
+abbrev pub fills_id : List Field → Edit → Bool
+fills_id d e = is_some (leading_id d) && leads_into_id e.0 && is_some (fill_of d e)
 
 -- ---- how long filled arrays are at least
 
@@ -102,17 +106,25 @@ IsTooLarge made = (after : List Field) → made ≡ Ok after → document_limit 
 abbrev pub judged : List Field → Made → Made
 judged old made = made >>= checked old
 
--- further edits are refused as all of them are, and else both begin with the same `_id`
-pub record IsUnfilled (document : List Field) (further : List Edit) (whole : Made) : Type 0 where
+-- whether an edit isn't made, as it fills an array: one in `_id` only where such edits are left out, too
+abbrev pub left_out : Bool → List Field → Edit → Bool
+left_out with_id d e = is_some (fill_of d e) && (with_id || not (leads_into_id e.0))
+
+-- both begin with the same `_id`, unless edits that fill it are left out
+abbrev pub SameId : Bool → List Field → List Field → Type 0
+SameId with_id left after = with_id ≡ false → leading_id left ≡ leading_id after
+
+-- further edits are refused as all of them are, and else the `_id` is the same
+pub record IsUnfilled (with_id : Bool) (document : List Field) (further : List Edit) (whole : Made) : Type 0 where
   pub refused : (f : UpdateFault) → edited (other_edits further) document ≡ Err f → whole ≡ Err f
-  pub made : (left : List Field) → edited (other_edits further) document ≡ Ok left → (after : List Field) × (whole ≡ Ok after) × (leading_id left ≡ leading_id after)
+  pub made : (left : List Field) → edited (other_edits further) document ≡ Ok left → (after : List Field) × (whole ≡ Ok after) × SameId with_id left after
 
 -- it is so of what was made, or the first refusal is told
-abbrev pub Unfills : Made → List Edit → Made → Type 0
-Unfills (Ok made) further whole = IsUnfilled made further whole
-Unfills (Err f) further whole = (f ≡ NoMemory) ⊎ (whole ≡ Err f)
+abbrev pub Unfills : Bool → Made → List Edit → Made → Type 0
+Unfills with_id (Ok made) further whole = IsUnfilled with_id made further whole
+Unfills with_id (Err f) further whole = (f ≡ NoMemory) ⊎ (whole ≡ Err f)
 
 -- the same where no edit is left
-abbrev pub Unfilled : Made → Made → Type 0
-Unfilled (Ok made) whole = (after : List Field) × (whole ≡ Ok after) × (leading_id made ≡ leading_id after)
-Unfilled (Err f) whole = (f ≡ NoMemory) ⊎ (whole ≡ Err f)
+abbrev pub Unfilled : Bool → Made → Made → Type 0
+Unfilled with_id (Ok made) whole = (after : List Field) × (whole ≡ Ok after) × SameId with_id made after
+Unfilled with_id (Err f) whole = (f ≡ NoMemory) ⊎ (whole ≡ Err f)

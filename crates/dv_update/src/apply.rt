@@ -125,7 +125,7 @@ pub(crate) fn keeps_id(old: &Document, new: &Document) -> bool
 }
 
 /// The `_id` with which the document begins.
-fn leading_id(document: &Document) -> Option<&Value>
+pub(crate) fn leading_id(document: &Document) -> Option<&Value>
     ensures { option_map (λ id. tree id.now) result ≡ defined.leading_id document.now }
 {
     match document.entry(0) {

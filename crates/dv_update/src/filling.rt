@@ -2,10 +2,12 @@
 //!
 //! A path may lead beyond an array's end, and nulls fill the array up to it: 100,000 of them for a few bytes of an update, which
 //! may have many such paths. So where they may fill much, it is counted how long the filled arrays are at least. If that is too
-//! much, the edits are made without those that fill an array: no further edit needs what these make to be refused or not.
+//! much, the edits are made without those that fill an array: no further edit needs what these make to be refused or not. One
+//! that fills an array in `_id` changes the `_id`.
 
 ghost use Rattle.std.specs.Prelude as prelude;
-ghost use Rattle.std.specs.Prelude.{◌≡◌, ◌≤◌, ◌⊎◌, ◌∷◌, Some, Err, map, IfErr, IfOk, IsTrue};
+ghost use Rattle.std.specs.Prelude.{◌≡◌, ◌≤◌, ◌⊎◌, ◌∷◌, Some, Err, map, true, IfErr, IfOk, IsTrue};
+ghost use Rattle.std.specs.List.{list_any};
 ghost use Rattle.std.specs.Option.{option_map};
 ghost use Rattle.dv_bson.specs.Tree.{array, document as whole_document, elements_of, fields_of};
 ghost use Rattle.dv_bson.specs.View.{tree};
@@ -19,7 +21,7 @@ ghost use Rattle.dv_update.specs.Update as form;
 ghost use Rattle.dv_update.specs.View.{edit as seen};
 ghost use Rattle.dv_update.specs.declared.fault.UpdateFault.TheVariants.{NoMemory as wanting};
 
-use crate::apply::{ID, MAX_DOCUMENT_LEN, keeps_id};
+use crate::apply::{ID, MAX_DOCUMENT_LEN, keeps_id, leading_id};
 use crate::edits::removals;
 use crate::far::lead_far;
 use crate::fault::UpdateFault;
@@ -97,12 +99,39 @@ fn refuse_filled(
     if !fill_too_much(alloc, edits, &document)? {
         return Ok(());
     }
-    let made = made_without_fills(alloc, edits, document)?;
+    dv_path::laws::paths_that_part_are_independent();
+    dv_path::laws::what_was_put_is_there();
+    if any_fills_id(edits, old) {
+        made_without_fills(alloc, edits, document, true)?;
+        return Err(UpdateFault::IdChanged);
+    }
+    let made = made_without_fills(alloc, edits, document, false)?;
     if keeps_id(old, &made) {
         Err(UpdateFault::TooLarge)
     } else {
         Err(UpdateFault::IdChanged)
     }
+}
+
+/// Whether one of the edits fills an array in the `_id` with which the document begins. The result then has another `_id`.
+fn any_fills_id(edits: &[Edit], document: &Document) -> bool
+    ensures { IsTrue result → list_any (filling.fills_id document.now) (map seen edits.now) ≡ true }
+{
+    'edits: for edit in edits {
+        if fills_id(document, edit) {
+            return true;
+        }
+    }
+    false
+}
+
+/// Whether the edit fills an array in the `_id` with which the document begins.
+fn fills_id(document: &Document, edit: &Edit) -> bool
+    ensures { result ≡ filling.fills_id document.now (seen edit.now) }
+{
+    leading_id(document).is_some()
+        && leads_into_id(edit.path.components())
+        && fill_of(document, edit).is_some()
 }
 
 /// Whether the arrays that are filled are surely too long together, where no edit is refused. Fails where memory is wanting.
@@ -190,12 +219,12 @@ impl<'a> Fill<'a> {
     }
 }
 
-/// Where the edit fills an array of the document, which isn't in `_id`.
+/// Where the edit fills an array of the document.
 fn fill_of<'a>(document: &Document, edit: &'a Edit) -> Option<Fill<'a>>
     ensures { option_map fill result ≡ filling.fill_of document.now (seen edit.now) }
 {
     let path = edit.path.components();
-    if !edit.operation.is_new() || leads_into_id(path) {
+    if !edit.operation.is_new() {
         return None;
     }
     let rest = beyond_in_document(document, path)?;
@@ -245,19 +274,21 @@ fn beyond_in_list<'a>(list: &List, path: &'a [Component]) -> Option<&'a [Compone
     }
 }
 
-/// What the edits make of the document that aren't removals and fill no array.
+/// What the edits make of the document that aren't removals and fill no array. Those that fill one in `_id` are made, unless
+/// they are left out, too.
 fn made_without_fills(
     alloc: Global,
     edits: &[Edit],
     document: Document,
+    with_id: bool,
 ) -> Result<Document, UpdateFault>
     requires { Steps (map seen edits.now) }
-    ensures { Unfilled result (defined.edited (last_of.other_edits (map seen edits.now)) document) }
+    ensures { Unfilled with_id result (defined.edited (last_of.other_edits (map seen edits.now)) document) }
 {
     let mut made = document;
     let mut left = edits;
     'edits: while let Some((edit, further)) = left.split_first() {
-        made = made_unless_filled(alloc, made, edit)?;
+        made = made_unless_filled(alloc, made, edit, with_id)?;
         left = further;
     }
     Ok(made)
@@ -268,12 +299,20 @@ fn made_unless_filled(
     alloc: Global,
     document: Document,
     edit: &Edit,
+    with_id: bool,
 ) -> Result<Document, UpdateFault>
-    ensures { (further : prelude.List form.Edit) → (whole : Made) → Steps (seen edit.now ∷ further) → IsUnfilled document (seen edit.now ∷ further) whole → Unfills result further whole }
+    ensures { (further : prelude.List form.Edit) → (whole : Made) → Steps (seen edit.now ∷ further) → IsUnfilled with_id document (seen edit.now ∷ further) whole → Unfills with_id result further whole }
 {
     dv_path::laws::paths_that_part_are_independent();
-    if edit.is_removal() || fill_of(&document, edit).is_some() {
+    if edit.is_removal() || is_left_out(&document, edit, with_id) {
         return Ok(document);
     }
     edit.make(alloc, document)
+}
+
+/// Whether the edit isn't made, as it fills an array.
+fn is_left_out(document: &Document, edit: &Edit, with_id: bool) -> bool
+    ensures { result ≡ filling.left_out with_id document.now (seen edit.now) }
+{
+    fill_of(document, edit).is_some() && (with_id || !leads_into_id(edit.path.components()))
 }

@@ -8,7 +8,7 @@ use Rattle.dv_update.specs.View.{edit}
 use Rattle.dv_update.proofs.filling.made_without_fills.Given as goal
 
 abbrev pub invariant-edits : goal.invariant-edits
-invariant-edits l = IsUnfilled l.made (map edit l.left) (edited (other_edits (map edit l.edits)) l.initial.made) × Steps (map edit l.left)
+invariant-edits l = IsUnfilled l.with_id l.made (map edit l.left) (edited (other_edits (map edit l.edits)) l.initial.made) × Steps (map edit l.left)
 
 abbrev pub decreases-edits : goal.decreases-edits
 decreases-edits l = length l.left
