@@ -1,11 +1,11 @@
 -- An array with one value more, behind its elements.
-use Rattle.std.proofs.Common.{◌≡◌, ◌∙◌, ap, refl, ℕ, suc, ◌+◌, ◌<◌, ◌≤◌, ◌^◌, Bool, true, false, ◌&&◌, List, [], ◌∷◌, ◌++◌, length, decimal, map, get_or, sym, arith}
+use Rattle.std.proofs.Common.{◌≡◌, ◌∙◌, ap, refl, ℕ, suc, ◌+◌, ◌<◌, ◌≤◌, Bool, true, false, ◌&&◌, List, [], ◌∷◌, ◌++◌, length, decimal, map, get_or, sym, arith}
 use Rattle.std.proofs.lemmas.Fmt.{length-decimal-le}
 use Rattle.dv_bson.specs.Spelling.{payload, elements_spelling, levels, elements_levels}
 use Rattle.dv_bson.specs.Tree.{Tree, array, Elements, no_elements, element, elements_of, list_of_elements}
 use Rattle.dv_bson.specs.View.{tree}
 use Rattle.dv_bson.specs.declared.value.Value.{Value}
-use Rattle.dv_order.specs.Same.{is_same, same_elements}
+use Rattle.dv_order.specs.Same.{is_same}
 use Rattle.dv_update.proofs.AlikeDown.{length-array, length-item, no-items}
 
 -- one value in memory

@@ -1,5 +1,5 @@
 -- An edit under one name changes that field alone.
-use Rattle.std.proofs.Common.{◌≡◌, ◌∙◌, ap, ap₂, sym, refl, subst, List, [], ◌∷◌, ◌++◌, ℕ, ◌+◌, ◌<◌, ◌≤◌, Bool, true, false, ◌&&◌, ◌||◌, not, max, nat_lt, length, Option, Some, None, Result, Ok, Err, codes, arith, if◌then◌else◌, IfOk, IfSome}
+use Rattle.std.proofs.Common.{◌≡◌, ◌∙◌, ap, ap₂, sym, refl, List, [], ◌∷◌, ◌++◌, ℕ, ◌+◌, ◌<◌, ◌≤◌, Bool, true, false, ◌&&◌, ◌||◌, not, max, nat_lt, length, Option, Some, None, Result, Ok, Err, codes, arith, if◌then◌else◌, IfSome}
 use Rattle.std.specs.Str.{bytes_eq}
 use Rattle.std.proofs.lemmas.Bool.Decides.{nat_tests}
 use Rattle.std.proofs.lemmas.Slice.Eq.{bytes_eq-Decides}
@@ -7,14 +7,14 @@ use Rattle.dv_bson.specs.FieldChange.{with_value_set, with_found_pushed, with_va
 use Rattle.dv_bson.specs.Names.{has_name, value_under, with_value_under}
 use Rattle.dv_bson.specs.Results.{◌>>=◌}
 use Rattle.dv_bson.specs.Spelling.{payload, spelling, levels, fields_levels}
-use Rattle.dv_bson.specs.Tree.{Tree, document, array, Field, fields_of, list_of_fields, Elements, elements_of, list_of_elements}
+use Rattle.dv_bson.specs.Tree.{Tree, document, array, Field, fields_of, Elements, elements_of, list_of_elements}
 use Rattle.dv_order.specs.Same.{both_same, is_same, same_fields}
-use Rattle.dv_order.specs.SameLaws.{same-itself, same-fields, fields-itself}
+use Rattle.dv_order.specs.SameLaws.{same-itself, fields-itself}
 use Rattle.dv_path.specs.Placing.{with_field, put}
-use Rattle.dv_path.specs.Slots.{Slot, slot, slot_of, taken}
-use Rattle.dv_update.specs.Apply.{Path, told, set_at, increased, appended, edit_at, edited, checked, applied, is_id, leading_id, document_limit, level_limit}
-use Rattle.dv_update.specs.Outcome.{HasRoom, edit_under, sole_edit, sole_name, name_of, value_by, applied_under, outcome_seen, stays, stays_so}
-use Rattle.dv_update.specs.Update.{Operation, assign, take_away, increase, append, pull, Update, operators, replacement}
+use Rattle.dv_path.specs.Slots.{slot, slot_of, taken}
+use Rattle.dv_update.specs.Apply.{set_at, increased, appended, edit_at, checked, is_id, leading_id, document_limit, level_limit}
+use Rattle.dv_update.specs.Outcome.{HasRoom, value_by, applied_under, outcome_seen}
+use Rattle.dv_update.specs.Update.{Operation, assign, take_away, increase, append, pull}
 use Rattle.dv_update.specs.declared.fault.UpdateFault.{UpdateFault}
 use Rattle.dv_update.specs.declared.fault.UpdateFault.TheVariants.{IdChanged, TooLarge, TooDeep}
 use Rattle.dv_update.specs.declared.outcome.Outcome.{Outcome}
@@ -25,9 +25,6 @@ use Rattle.dv_update.proofs.Lawful.{same_documents}
 -- what dv_bson's law says of spellings
 abbrev pub FieldAdds : Type 0
 FieldAdds = (f : Field) (fields : List Field) → length (spelling (f ∷ fields)) ≡ length (payload f.1) + length f.0 + 2 + length (spelling fields)
-
-abbrev named : List ℕ → Operation → List ℕ × Operation
-named name o = (name, o)
 
 and-between : (p : Bool) → ((true && p) && true) ≡ p
 and-between true = refl
@@ -210,42 +207,6 @@ module _ (name : List ℕ) where
   as_value o d v is (Some outcome) h = ap (λ r. r >>= checked d) (value-set o d v is) ∙ h
 
 -- ---- the whole update
-
--- the only edit
-under-name : (name : List ℕ) (path : Path) (o p : Operation) → edit_under path o ≡ Some (name, p) → (path ≡ name ∷ []) × (o ≡ p)
-under-name name [] o p is = absurd cc
-under-name name (m ∷ []) o p is = by (bytes_eq m (codes "_id")) is
-  where
-    by : (b : Bool) → (if b then None else Some (named m o)) ≡ Some (named name p) → (m ∷ [] ≡ name ∷ []) × (o ≡ p)
-    by true e = absurd cc
-    by false e =
-        let same : named m o ≡ named name p = cc in
-        (ap (λ (x : List ℕ × Operation). x.0 ∷ []) same, ap (λ (x : List ℕ × Operation). x.1) same)
-under-name name (m ∷ n ∷ ns) o p is = absurd cc
-
-ends : (r : Result (List Field) UpdateFault) → (r >>= λ d. edited [] d) ≡ r
-ends (Ok d) = refl
-ends (Err f) = refl
-
-sole-applied : (u : Update) (name : List ℕ) (o : Operation) (d : List Field) → sole_edit u ≡ Some (name, o) → applied u d ≡ applied_under name o d
-sole-applied (replacement fields) name o d sole = cc
-sole-applied (operators []) name o d sole = cc
-sole-applied (operators (x ∷ [])) name o d sole =
-    let parts = under-name name x.0 x.1 o sole in
-    ap (λ r. r >>= checked d) (ends (edit_at x.0 x.1 d) ∙ ap₂ (λ p q. edit_at p q d) parts.0 parts.1)
-sole-applied (operators (x ∷ y ∷ zs)) name o d sole = cc
-
-module _ (u : Update) (name : List ℕ) (o : Operation) (d : List Field) (sole : Some (name, o) ≡ sole_edit u) where
-  same-name : name ≡ sole_name u
-  same-name = ap name_of sole
-
-  pub sole_tells : {X : Type 0} (told : Result (Option Outcome) X) → IfOk told (λ found. IfSome found (λ outcome. applied_under name o d ≡ Ok (outcome_seen name d outcome)))
-      → IfOk told (λ found. IfSome found (λ outcome. applied u d ≡ Ok (outcome_seen (sole_name u) d outcome)))
-  sole_tells told h = rw (sole-applied u name o d (sym sole), ← same-name) h
-
-  pub sole_stays : {X : Type 0} (told : Result (Option Outcome) X) → IfOk told (λ found. IfSome found (λ outcome. stays outcome ≡ stays_so name d outcome))
-      → IfOk told (λ found. IfSome found (λ outcome. stays outcome ≡ stays_so (sole_name u) d outcome))
-  sole_stays told h = rw (← same-name) h
 
 pub is_itself : (d : List Field) → true ≡ same_fields (fields_of d) (fields_of d)
 is_itself d = sym (fields-itself (fields_of d))

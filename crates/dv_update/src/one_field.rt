@@ -104,11 +104,7 @@ fn stands_under(document: &Document, name: &str, value: &Value) -> bool
 
 /// What `$push` of the values makes under the name, if it is one, an array is there, and the document surely has room for it.
 /// Fails where memory is wanting.
-fn pushed_under(
-    document: &Document,
-    name: &str,
-    values: &List,
-) -> Result<Option<Outcome>, NoMemory>
+fn pushed_under(document: &Document, name: &str, values: &List) -> Result<Option<Outcome>, NoMemory>
     requires { bytes_eq name.now (codes "_id") ≡ false }
     ensures applied { IfOk result (λ found. IfSome found (λ outcome. defined.applied_under name.now (append values.now) document.now ≡ Ok (defined.outcome_seen name.now document.now outcome))) }
     ensures same { IfOk result (λ found. IfSome found (λ outcome. defined.stays outcome ≡ defined.stays_so name.now document.now outcome)) }
