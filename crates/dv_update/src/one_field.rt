@@ -119,5 +119,6 @@ fn pushed_under(document: &Document, name: &str, values: &List) -> Result<Option
     if list.as_slice().len() >= MANY || !has_room(document, AROUND_ELEMENT, value) {
         return Ok(None);
     }
-    Ok(Some(Outcome::Field(FieldChange::Push(value.try_clone()?))))
+    let pushed = value.try_clone()?;
+    Ok(Some(Outcome::Field(FieldChange::Push(pushed))))
 }

@@ -22,9 +22,9 @@ returns-clause-applied c =
     let few : length (list_of_elements (elements_of there)) < 1000000 = omega (arith, ap length (elements_again there), ap length c.as_slice-2.ensures, length-map c.as_slice-2.result.now tree, c.if-as_slice-ge-MANY.false) in
     ap (λ vs. applied_under name (append vs) d) one
     ∙ pushes_value name c.requires c.what_a_field_adds.ensures.more d (tree v) (elements_of there) here few (c.has_room.ensures c.if-not-has_room.false)
-    ∙ ap (λ x. Ok (with_value_pushed name (tree x) d)) (sym c.in_ok-try_clone.ensures)
+    ∙ ap (λ x. Ok (with_value_pushed name (tree x) d)) (sym c.in_ok-pushed.ensures)
 
 pub returns-clause-same : goal.returns-clause-same
 returns-clause-same c =
     let here : Some (array (elements_of c.in-Some-Array.list)) ≡ value_under c.args.name.now c.args.document.now = sym (ap (λ x. Some (tree x)) c.in-Some-Array.field-0-is) ∙ c.in-Some-Array.ensures in
-    differs_pushed c.args.name.now c.args.document.now (tree c.in_ok-try_clone.field-0) (elements_of c.in-Some-Array.list) here
+    differs_pushed c.args.name.now c.args.document.now (tree c.in_ok-pushed.pushed) (elements_of c.in-Some-Array.list) here
