@@ -236,10 +236,10 @@ module _ (laws : CursorLaws) (session id : ℕ) where
   session_moves state other false is = record { does = inl (record { same = laws.ended_at session id other state.cursors ∙ rw is refl; none = refl; more = refl }); next = omega arith }
 
   pub each_moves : (move : Move) (state : State) → id < state.cursors.next → Moves session id state.cursors (state_after_move move state).cursors (rows_told session id move state) (tells_last session id move state)
-  pub each_moves (carries other command) state new = command_moves state other (asked_by command) new
-  pub each_moves (ends other) state new = session_moves state other (session == other) refl
-  pub each_moves (wants catalog) state new = unmoved session id state.cursors state.cursors refl
-  pub each_moves (stands marks) state new = unmoved session id state.cursors state.cursors refl
+  each_moves (carries other command) state new = command_moves state other (asked_by command) new
+  each_moves (ends other) state new = session_moves state other (session == other) refl
+  each_moves (wants catalog) state new = unmoved session id state.cursors state.cursors refl
+  each_moves (stands marks) state new = unmoved session id state.cursors state.cursors refl
 
   -- ---- a run
 
@@ -255,7 +255,7 @@ module _ (laws : CursorLaws) (session id : ℕ) where
 
   pub ToldOf : Option Cursor → Rows → Bool → Type 0
   ToldOf None told out = IsNothing told out
-  pub ToldOf (Some cursor) told out = IsFront cursor.rows told out
+  ToldOf (Some cursor) told out = IsFront cursor.rows told out
 
   told_more : (c : Option Cursor) (told : Rows) (out : Bool) → ToldOf c told out → ToldOf c ([] ++ told) (false || out)
   unfolding ToldOf
@@ -300,7 +300,7 @@ module _ (laws : CursorLaws) (session id : ℕ) where
   unfolding ToldOf
   run [] state new None is = record { none = refl; more = refl }
   run [] state new (Some cursor) is = record { rest = cursor.rows; front = refl; whole = λ last. absurd cc }
-  pub run (move ∷ moves) state new c is =
+  run (move ∷ moves) state new c is =
       let moved = each_moves move state new in
       let after : State = state_after_move move state in
       let up : id < after.cursors.next = omega (arith, moved.next) in

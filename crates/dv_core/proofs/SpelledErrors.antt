@@ -104,7 +104,7 @@ fault_short NoMemory told = ascii_short (codes "NoMemory") refl (omega arith)
 fault_short BadName told = ascii_short (codes "BadName") refl (omega arith)
 
 pub told_short : (refusal : Refusal) → IsTold refusal → IsShort refusal
-pub told_short (InvalidBson fault) told =
+told_short (InvalidBson fault) told =
     let short = fault_short fault told in
     record {
       text = IsUtf8-append (codes "InvalidBSON: ") (fault_text fault) (IsUtf8-ascii (codes "InvalidBSON: ") refl) short.0;
@@ -114,7 +114,7 @@ pub told_short (InvalidBson fault) told =
 told_short refusal told = plain_short refusal tt
 
 pub name_short : (refusal : Refusal) → IsShortText (code_name refusal)
-pub name_short (InvalidBson fault) = ascii_short (codes "InvalidBSON") refl (omega arith)
+name_short (InvalidBson fault) = ascii_short (codes "InvalidBSON") refl (omega arith)
 name_short BadValue = ascii_short (codes "BadValue") refl (omega arith)
 name_short FailedToParse = ascii_short (codes "FailedToParse") refl (omega arith)
 name_short TypeMismatch = ascii_short (codes "TypeMismatch") refl (omega arith)
