@@ -25,7 +25,7 @@ use Rattle.dv_command.proofs.Lengths.{array_long}
 use Rattle.dv_fields.specs.declared.refusal.Refusal.{Refusal}
 use Rattle.dv_fields.specs.declared.refusal.Refusal.TheVariants.{BadValue, CommandNotFound, LimitReached}
 
-record Succeeds {A B : Type 0} (first : Result A Refusal) (rest : A → Result B Refusal) (end : B) : Type 0 where
+pub record Succeeds {A B : Type 0} (first : Result A Refusal) (rest : A → Result B Refusal) (end : B) : Type 0 where
   given : A
   first_is : first ≡ Ok given
   rest_is : rest given ≡ Ok end
@@ -210,7 +210,7 @@ indexes_valid (entry ∷ list) indexes valid is =
 pub pipeline_valid : (list : List Tree) (stages : List Stage) → AreElements (elements_of list) → stages_asked list ≡ Ok stages → IsSoundPipeline stages
 pipeline_valid list stages valid is = record { list = list; valid = valid; is = parsed pipeline_refusal (pipelines.pipeline_of list) stages is }
 
-abbrev AreViewFields : Option ViewFields → Type 0
+abbrev pub AreViewFields : Option ViewFields → Type 0
 AreViewFields None = ⊤
 AreViewFields (Some fields) = IsUtf8 fields.collection × AreElements (elements_of fields.list)
 

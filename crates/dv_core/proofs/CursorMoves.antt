@@ -41,19 +41,19 @@ abbrev pub at : ℕ → ℕ → Cursors → Option Cursor
 at session id cursors = finite.get cursors.kept (session, id)
 
 -- it is left as it is
-record Stays (session id : ℕ) (before after : Cursors) (told : Rows) (last : Bool) : Type 0 where
+pub record Stays (session id : ℕ) (before after : Cursors) (told : Rows) (last : Bool) : Type 0 where
   same : at session id after ≡ at session id before
   none : told ≡ []
   more : last ≡ false
 
 -- it is taken out
-record Goes (session id : ℕ) (before after : Cursors) (told : Rows) (last : Bool) : Type 0 where
+pub record Goes (session id : ℕ) (before after : Cursors) (told : Rows) (last : Bool) : Type 0 where
   gone : at session id after ≡ None
   none : told ≡ []
   more : last ≡ false
 
 -- some of its rows are told, and taken from it
-record Tells (session id : ℕ) (before after : Cursors) (told : Rows) (last : Bool) : Type 0 where
+pub record Tells (session id : ℕ) (before after : Cursors) (told : Rows) (last : Bool) : Type 0 where
   cursor : Cursor
   count : ℕ
   was : at session id before ≡ Some cursor
@@ -62,7 +62,7 @@ record Tells (session id : ℕ) (before after : Cursors) (told : Rows) (last : B
   is_last : last ≡ is_nil (rows_behind count cursor.rows)
 
 -- what a move does to it
-record Moves (session id : ℕ) (before after : Cursors) (told : Rows) (last : Bool) : Type 0 where
+pub record Moves (session id : ℕ) (before after : Cursors) (told : Rows) (last : Bool) : Type 0 where
   does : Stays session id before after told last ⊎ (Goes session id before after told last ⊎ Tells session id before after told last)
   next : before.next ≤ after.next
 
@@ -244,12 +244,12 @@ module _ (laws : CursorLaws) (session id : ℕ) where
   -- ---- a run
 
   -- rows that are told of a cursor are a front of its rows, and all of them once it is told that none is left
-  record IsFront (rows told : Rows) (out : Bool) : Type 0 where
+  pub record IsFront (rows told : Rows) (out : Bool) : Type 0 where
     rest : Rows
     front : told ++ rest ≡ rows
     whole : out ≡ true → rest ≡ []
 
-  record IsNothing (told : Rows) (out : Bool) : Type 0 where
+  pub record IsNothing (told : Rows) (out : Bool) : Type 0 where
     none : told ≡ []
     more : out ≡ false
 

@@ -37,7 +37,7 @@ use Rattle.dv_core.proofs.SpelledRows.{more_valid, number_valid, ok_fields, ok_s
 
 -- ---- the errors of statements
 
-record IsShort (refusal : Refusal) : Type 0 where
+pub record IsShort (refusal : Refusal) : Type 0 where
   text : IsUtf8 (message_of refusal)
   few : length (message_of refusal) ≤ 80
   number : code refusal < 2 ^ 31
@@ -63,7 +63,7 @@ plain_short OnView plain = record { text = IsUtf8-ascii (codes "OnView") refl; f
 plain_short ReadByView plain = record { text = IsUtf8-ascii (codes "ReadByView") refl; few = omega arith; number = omega arith }
 
 -- a fault in bytes, whose numbers are told
-abbrev IsShortText : List ℕ → Type 0
+abbrev pub IsShortText : List ℕ → Type 0
 IsShortText text = IsUtf8 text × (length text ≤ 60)
 
 ascii_short : (text : List ℕ) → are_ascii text ≡ true → length text ≤ 60 → IsShortText text
@@ -134,11 +134,11 @@ name_short OnView = ascii_short (codes "OnView") refl (omega arith)
 name_short ReadByView = ascii_short (codes "ReadByView") refl (omega arith)
 
 -- an error of a statement
-abbrev IsSmall : Tree → Type 0
+abbrev pub IsSmall : Tree → Type 0
 IsSmall e = IsValue e × (length (payload e) ≤ 140)
 
 -- what is told in it behind its message
-record IsBehind (behind : List Field) : Type 0 where
+pub record IsBehind (behind : List Field) : Type 0 where
   valid : AreFields (fields_of behind)
   short : length (spelling behind) ≤ 19
   index : has_name (codes "index") (list_of_fields (fields_of behind)) ≡ false
@@ -172,7 +172,7 @@ error_small place refusal behind within plain is =
     )
 
 -- what statements did so far, of which there are at most so many
-record AreFew (count : ℕ) (w : Written) : Type 0 where
+pub record AreFew (count : ℕ) (w : Written) : Type 0 where
   statements : w.statements ≤ count
   errors : length w.errors ≤ count
   small : AllByRecursion IsSmall w.errors
@@ -258,7 +258,7 @@ update_spelled counts n changed (e ∷ es) few all =
     ))
 
 -- a reply that has a spelling whatever it counts, if its errors are few and small
-abbrev IsSpelled : (ℕ → ℕ → List Tree → List Field) → Type 0
+abbrev pub IsSpelled : (ℕ → ℕ → List Tree → List Field) → Type 0
 IsSpelled reply = (n changed : ℕ) (es : List Tree) → length es ≤ 100000 → AllByRecursion IsSmall es → HasSpelling (reply n changed es)
 
 -- a write of so few statements, each refused plainly, whose reply has a spelling
