@@ -26,9 +26,9 @@ use Rattle.dv_fields.specs.declared.refusal.Refusal.{Refusal}
 use Rattle.dv_fields.specs.declared.refusal.Refusal.TheVariants.{BadValue, CommandNotFound, LimitReached}
 
 pub record Succeeds {A B : Type 0} (first : Result A Refusal) (rest : A → Result B Refusal) (end : B) : Type 0 where
-  given : A
-  first_is : first ≡ Ok given
-  rest_is : rest given ≡ Ok end
+  pub given : A
+  pub first_is : first ≡ Ok given
+  pub rest_is : rest given ≡ Ok end
 
 pub succeeds : {A B : Type 0} (first : Result A Refusal) (rest : A → Result B Refusal) (end : B) → (first >>= rest) ≡ Ok end → Succeeds first rest end
 succeeds (Ok x) rest end is = record { given = x; first_is = refl; rest_is = is }

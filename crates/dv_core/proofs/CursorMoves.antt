@@ -42,29 +42,29 @@ at session id cursors = finite.get cursors.kept (session, id)
 
 -- it is left as it is
 pub record Stays (session id : ℕ) (before after : Cursors) (told : Rows) (last : Bool) : Type 0 where
-  same : at session id after ≡ at session id before
-  none : told ≡ []
-  more : last ≡ false
+  pub same : at session id after ≡ at session id before
+  pub none : told ≡ []
+  pub more : last ≡ false
 
 -- it is taken out
 pub record Goes (session id : ℕ) (before after : Cursors) (told : Rows) (last : Bool) : Type 0 where
-  gone : at session id after ≡ None
-  none : told ≡ []
-  more : last ≡ false
+  pub gone : at session id after ≡ None
+  pub none : told ≡ []
+  pub more : last ≡ false
 
 -- some of its rows are told, and taken from it
 pub record Tells (session id : ℕ) (before after : Cursors) (told : Rows) (last : Bool) : Type 0 where
-  cursor : Cursor
-  count : ℕ
-  was : at session id before ≡ Some cursor
-  left : at session id after ≡ cursor_over cursor.namespace (rows_behind count cursor.rows)
-  tells : told ≡ batch count cursor.rows
-  is_last : last ≡ is_nil (rows_behind count cursor.rows)
+  pub cursor : Cursor
+  pub count : ℕ
+  pub was : at session id before ≡ Some cursor
+  pub left : at session id after ≡ cursor_over cursor.namespace (rows_behind count cursor.rows)
+  pub tells : told ≡ batch count cursor.rows
+  pub is_last : last ≡ is_nil (rows_behind count cursor.rows)
 
 -- what a move does to it
 pub record Moves (session id : ℕ) (before after : Cursors) (told : Rows) (last : Bool) : Type 0 where
-  does : Stays session id before after told last ⊎ (Goes session id before after told last ⊎ Tells session id before after told last)
-  next : before.next ≤ after.next
+  pub does : Stays session id before after told last ⊎ (Goes session id before after told last ⊎ Tells session id before after told last)
+  pub next : before.next ≤ after.next
 
 unmoved : (session id : ℕ) (before after : Cursors) → after ≡ before → Moves session id before after [] false
 unmoved session id before after same = record { does = inl (record { same = ap (at session id) same; none = refl; more = refl }); next = rw same (omega arith) }
@@ -122,9 +122,9 @@ module _ (laws : CursorLaws) (session id : ℕ) where
     -- ---- more of a cursor is asked
 
     record FoundCursor (namespace : List ℕ) (there : Option Cursor) (rows : Rows) : Type 0 where
-      cursor : Cursor
-      is : there ≡ Some cursor
-      has : cursor.rows ≡ rows
+      pub cursor : Cursor
+      pub is : there ≡ Some cursor
+      pub has : cursor.rows ≡ rows
 
     found_cursor : (namespace : List ℕ) (there : Option Cursor) (rows : Rows) → cursor_rows namespace there ≡ Some rows → FoundCursor namespace there rows
     found_cursor namespace None rows is = absurd cc
@@ -245,13 +245,13 @@ module _ (laws : CursorLaws) (session id : ℕ) where
 
   -- rows that are told of a cursor are a front of its rows, and all of them once it is told that none is left
   pub record IsFront (rows told : Rows) (out : Bool) : Type 0 where
-    rest : Rows
-    front : told ++ rest ≡ rows
-    whole : out ≡ true → rest ≡ []
+    pub rest : Rows
+    pub front : told ++ rest ≡ rows
+    pub whole : out ≡ true → rest ≡ []
 
   pub record IsNothing (told : Rows) (out : Bool) : Type 0 where
-    none : told ≡ []
-    more : out ≡ false
+    pub none : told ≡ []
+    pub more : out ≡ false
 
   pub ToldOf : Option Cursor → Rows → Bool → Type 0
   ToldOf None told out = IsNothing told out

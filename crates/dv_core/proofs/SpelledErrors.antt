@@ -38,9 +38,9 @@ use Rattle.dv_core.proofs.SpelledRows.{more_valid, number_valid, ok_fields, ok_s
 -- ---- the errors of statements
 
 pub record IsShort (refusal : Refusal) : Type 0 where
-  text : IsUtf8 (message_of refusal)
-  few : length (message_of refusal) ≤ 80
-  number : code refusal < 2 ^ 31
+  pub text : IsUtf8 (message_of refusal)
+  pub few : length (message_of refusal) ≤ 80
+  pub number : code refusal < 2 ^ 31
 
 plain_short : (refusal : Refusal) → IsPlain refusal → IsShort refusal
 plain_short (InvalidBson fault) plain = absurd plain
@@ -139,11 +139,11 @@ IsSmall e = IsValue e × (length (payload e) ≤ 140)
 
 -- what is told in it behind its message
 pub record IsBehind (behind : List Field) : Type 0 where
-  valid : AreFields (fields_of behind)
-  short : length (spelling behind) ≤ 19
-  index : has_name (codes "index") (list_of_fields (fields_of behind)) ≡ false
-  code : has_name (codes "code") (list_of_fields (fields_of behind)) ≡ false
-  message : has_name (codes "errmsg") (list_of_fields (fields_of behind)) ≡ false
+  pub valid : AreFields (fields_of behind)
+  pub short : length (spelling behind) ≤ 19
+  pub index : has_name (codes "index") (list_of_fields (fields_of behind)) ≡ false
+  pub code : has_name (codes "code") (list_of_fields (fields_of behind)) ≡ false
+  pub message : has_name (codes "errmsg") (list_of_fields (fields_of behind)) ≡ false
 
 nothing_behind : IsBehind []
 nothing_behind = record { valid = tt; short = omega (arith, spelling-nil); index = refl; code = refl; message = refl }
@@ -173,9 +173,9 @@ error_small place refusal behind within plain is =
 
 -- what statements did so far, of which there are at most so many
 pub record AreFew (count : ℕ) (w : Written) : Type 0 where
-  statements : w.statements ≤ count
-  errors : length w.errors ≤ count
-  small : AllByRecursion IsSmall w.errors
+  pub statements : w.statements ≤ count
+  pub errors : length w.errors ≤ count
+  pub small : AllByRecursion IsSmall w.errors
 
 small-push : (es : List Tree) (e : Tree) → AllByRecursion IsSmall es → IsSmall e → AllByRecursion IsSmall (es ++ e ∷ [])
 small-push [] e all h = (h, tt)
@@ -263,9 +263,9 @@ IsSpelled reply = (n changed : ℕ) (es : List Tree) → length es ≤ 100000 �
 
 -- a write of so few statements, each refused plainly, whose reply has a spelling
 pub record IsTellable (write : WriteCounts) : Type 0 where
-  within : length write.statements ≤ 100000
-  plain : AllByRecursion IsPlainStatement write.statements
-  reply : IsSpelled write.reply
+  pub within : length write.statements ≤ 100000
+  pub plain : AllByRecursion IsPlainStatement write.statements
+  pub reply : IsSpelled write.reply
 
 few_written : (write : WriteCounts) (old : Namespaces) (statements : List Statement) → length statements ≤ 100000 → AllByRecursion IsPlainStatement statements
     → AreFew (length statements) (with_all write.namespace write.ordered (nothing_written old) statements)
