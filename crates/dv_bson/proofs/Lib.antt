@@ -26,6 +26,7 @@ pub mod Rest
 pub mod Written
 pub mod Moved
 pub mod Changed
+pub mod Pushed
 pub mod Shallow
 pub mod Last
 pub mod Removed

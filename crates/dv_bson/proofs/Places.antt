@@ -8,7 +8,7 @@ use Rattle.std.specs.List.{position_from}
 use Rattle.std.specs.Str.{bytes_eq}
 use Rattle.dv_bson.specs.Tree.{Field}
 use Rattle.dv_bson.specs.Names.{bare, has_name, AreNamed}
-use Rattle.dv_bson.specs.Places.{Places, IsIndexOf}
+use Rattle.dv_bson.specs.Places.{Places, IsNameIndexOf}
 use Rattle.dv_bson.proofs.ByText.{get-insert}
 use Rattle.dv_bson.proofs.Named.{bytes_eq-symmetric, named_apart}
 
@@ -18,16 +18,16 @@ position_from-push name i n [] f fresh at_end = grind (arith, bytes_eq-symmetric
 position_from-push name i n (g ∷ fs) f fresh at_end =
     grind (arith, position_from-push name (i + 1) n fs f, (bytes_eq-Decides name g.0).0)
 
-pub IsIndexOf-empty : IsIndexOf [] finite.empty
+pub IsIndexOf-empty : IsNameIndexOf [] finite.empty
 IsIndexOf-empty = record { finds = finite.get-empty _ }
 
-pub IsIndexOf-push : (fs : List Field) (m : Places) (f : Field) (place : ℕ) → IsIndexOf fs m → has_name f.0 fs ≡ false → place ≡ length fs → IsIndexOf (fs ++ f ∷ []) (finite.insert m f.0 place)
+pub IsIndexOf-push : (fs : List Field) (m : Places) (f : Field) (place : ℕ) → IsNameIndexOf fs m → has_name f.0 fs ≡ false → place ≡ length fs → IsNameIndexOf (fs ++ f ∷ []) (finite.insert m f.0 place)
 IsIndexOf-push fs m f place index fresh at_end = record {
   finds = λ q. get-insert m f.0 place q ∙ ap (cond (bytes_eq f.0 q) (Some place)) (index.finds q) ∙ sym (position_from-push q 0 place fs f fresh (omega arith));
 }
 
 -- one name more is indexed
-pub IsIndexOf-more : (ns : List (List ℕ)) (i : ℕ) (n : List ℕ) (m : Places) → i < length ns → n ≡ get_or ns i n → AreNamed (map bare ns) → IsIndexOf (map bare (take i ns)) m → IsIndexOf (map bare (take (i + 1) ns)) (finite.insert m n i)
+pub IsIndexOf-more : (ns : List (List ℕ)) (i : ℕ) (n : List ℕ) (m : Places) → i < length ns → n ≡ get_or ns i n → AreNamed (map bare ns) → IsNameIndexOf (map bare (take i ns)) m → IsNameIndexOf (map bare (take (i + 1) ns)) (finite.insert m n i)
 IsIndexOf-more ns i n m within here named index =
     let so_far = map bare (take i ns) in
     let split : ns ≡ take i ns ++ n ∷ drop (i + 1) ns = sym (take-append-drop i ns) ∙ ap (λ l. take i ns ++ l) (drop_more ns i n within ∙ ap (λ x. x ∷ drop (i + 1) ns) (sym here)) in

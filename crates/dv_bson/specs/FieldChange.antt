@@ -1,5 +1,5 @@
 -- What becomes of the field under a name.
-use Rattle.std.specs.Prelude.{ℕ, List, [], ◌∷◌, ◌++◌, Option, Some, None, if◌then◌else◌}
+use Rattle.std.specs.Prelude.{ℕ, List, [], ◌∷◌, ◌++◌, Option, Some, if◌then◌else◌}
 use Rattle.dv_bson.specs.Tree.{Tree, array, Field, elements_of, list_of_elements}
 use Rattle.dv_bson.specs.Names.{has_name, value_under, with_value_under}
 use Rattle.dv_bson.specs.View.{tree}

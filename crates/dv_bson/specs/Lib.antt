@@ -16,3 +16,5 @@ pub mod Writing
 pub mod Removing
 pub mod FieldChange
 pub mod Results
+pub mod Short
+pub mod Widths

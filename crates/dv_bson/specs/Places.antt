@@ -21,5 +21,5 @@ abbrev pub places_of : {Y : Type 0} → BTreeMap (String Y) ℕ → Places
 places_of m = by_text m
 
 -- each name of the fields has its place, and no other name has one
-pub record IsIndexOf (fs : List Field) (places : Places) : Type 0 where
+pub record IsNameIndexOf (fs : List Field) (places : Places) : Type 0 where
   pub finds : (name : List ℕ) → finite.get places name ≡ place_under name fs

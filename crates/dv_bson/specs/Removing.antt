@@ -13,9 +13,9 @@ without_each [] fs = fs
 without_each (name ∷ names) fs = without_each names (without name fs)
 
 -- whether a name is one of these
-abbrev pub is_among : List (List ℕ) → List ℕ → Bool
-is_among names name = list_any (λ n. bytes_eq n name) names
+abbrev pub is_name_of : List (List ℕ) → List ℕ → Bool
+is_name_of names name = list_any (λ n. bytes_eq n name) names
 
 -- each of the names has a place, and no other name has one
 pub record HasEach (names : List (List ℕ)) (places : Places) : Type 0 where
-  pub finds : (name : List ℕ) → is_some (finite.get places name) ≡ is_among names name
+  pub finds : (name : List ℕ) → is_some (finite.get places name) ≡ is_name_of names name

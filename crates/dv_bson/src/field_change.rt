@@ -1,7 +1,7 @@
 //! Changes of one field of a document.
 
 ghost use Rattle.std.specs.Prelude.{◌≡◌, ℕ, List, false, IfOk, OnErr, OnOk};
-ghost use Rattle.dv_bson.specs.FieldChange.{with_field_changed, with_value_pushed, with_value_set};
+ghost use Rattle.dv_bson.specs.FieldChange.{with_field_changed, with_value_set};
 ghost use Rattle.dv_bson.specs.Names.{has_zero};
 ghost use Rattle.dv_bson.specs.Tree.{Field};
 ghost use Rattle.dv_bson.specs.View.{tree};
@@ -52,21 +52,10 @@ impl Document {
         ensures err { OnErr result (self.new ≡ self.old) }
     {
         match self.put(name, value)? {
-            Some(value) => self.add_last(name, value),
-            None => Ok(()),
-        }
-    }
-
-    /// Puts the value behind the elements of the array under the name, where there is one. Fails where memory is wanting.
-    fn push_element(&mut self, name: &str, value: Value) -> Result<(), NoMemory>
-        ensures ok { OnOk result (self.new ≡ with_value_pushed name.now (tree value) self.old) }
-        ensures err { OnErr result (self.new ≡ self.old) }
-    {
-        let Some(Value::Array(_)) = self.get(name) else {
-            return Ok(());
-        };
-        match &mut self.fields {
-            Some(shared) => Rc::make_mut(shared)?.push_element(name, value),
+            Some(value) => {
+                self.reserve_one()?;
+                self.add(name, value)
+            }
             None => Ok(()),
         }
     }

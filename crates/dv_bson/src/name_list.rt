@@ -3,7 +3,7 @@
 ghost use Rattle.std.specs.Prelude.{◌≡◌, ◌↔◌, ◌≤◌, ◌<◌, [], ◌∷◌, ◌++◌, Some, false, length, take, map, IsTrue, OnOk, OnErr, IfOk, IfSome, slice_get, remove};
 ghost use Rattle.std.specs.Option.{option_map};
 ghost use Rattle.dv_bson.specs.Names.{bare, AreNamed, place_under, has_name, has_zero};
-ghost use Rattle.dv_bson.specs.Places.{IsIndexOf};
+ghost use Rattle.dv_bson.specs.Places.{IsNameIndexOf};
 
 use crate::NoMemory;
 use crate::name::Name;
@@ -29,13 +29,13 @@ pub(crate) struct Names {
 impl Model for Names {
     ghost use Rattle.std.specs.Prelude.{List, ℕ, map, IfSome};
     ghost use Rattle.dv_bson.specs.Names.{bare, AreNamed};
-    ghost use Rattle.dv_bson.specs.Places.{IsIndexOf};
+    ghost use Rattle.dv_bson.specs.Places.{IsNameIndexOf};
 
     ghost Value = { List (List ℕ) };
 
     ghost view = { λ n. n.names.items };
 
-    ghost invariant = { λ n. let fields = map bare n.names.items in AreNamed fields × IfSome n.index (λ index. IsIndexOf fields index.value) };
+    ghost invariant = { λ n. let fields = map bare n.names.items in AreNamed fields × IfSome n.index (λ index. IsNameIndexOf fields index.value) };
 }
 
 impl Names {
@@ -222,9 +222,9 @@ fn index_next(
 ) -> Result<(), NoMemory>
     requires named { AreNamed (map bare names.now) }
     requires fresh { has_name name.now (map bare names.now) ≡ false }
-    requires indexed { IfSome index.old (λ index. IsIndexOf (map bare names.now) index.value) }
-    ensures ok { OnOk result (IfSome index.new (λ index. IsIndexOf (map bare names.now ++ bare name.now ∷ []) index.value)) }
-    ensures err { OnErr result (IfSome index.new (λ index. IsIndexOf (map bare names.now) index.value)) }
+    requires indexed { IfSome index.old (λ index. IsNameIndexOf (map bare names.now) index.value) }
+    ensures ok { OnOk result (IfSome index.new (λ index. IsNameIndexOf (map bare names.now ++ bare name.now ∷ []) index.value)) }
+    ensures err { OnErr result (IfSome index.new (λ index. IsNameIndexOf (map bare names.now) index.value)) }
 {
     if index.is_none() {
         *index = index_of(alloc, names)?;
@@ -239,7 +239,7 @@ fn index_next(
 #[inline]
 fn index_of(alloc: Global, names: &[Name]) -> Result<Option<Box<NameIndex>>, NoMemory>
     requires { AreNamed (map bare names.now) }
-    ensures { IfOk result (λ index. IfSome index (λ index. IsIndexOf (map bare names.now) index.value)) }
+    ensures { IfOk result (λ index. IfSome index (λ index. IsNameIndexOf (map bare names.now) index.value)) }
 {
     if names.len() < INDEXED_LENGTH {
         return Ok(None);
@@ -250,7 +250,7 @@ fn index_of(alloc: Global, names: &[Name]) -> Result<Option<Box<NameIndex>>, NoM
 /// The index of these names.
 fn all_indexed(alloc: Global, names: &[Name]) -> Result<NameIndex, NoMemory>
     requires { AreNamed (map bare names.now) }
-    ensures { IfOk result (λ index. IsIndexOf (map bare names.now) index) }
+    ensures { IfOk result (λ index. IsNameIndexOf (map bare names.now) index) }
 {
     let mut index = NameIndex::new(alloc);
     for (place, name) in names.iter().enumerate() {

@@ -1,15 +1,12 @@
 //! Documents without some of their fields.
 
-ghost use Rattle.std.specs.Prelude.{◌≡◌, ◌++◌, ◌∷◌, [], false, map, IfOk, OnOk};
-ghost use Rattle.dv_bson.specs.Names.{has_name, has_zero};
+ghost use Rattle.std.specs.Prelude.{◌≡◌, map, IfOk};
 ghost use Rattle.dv_bson.specs.Removing.{HasEach, without_each};
-ghost use Rattle.dv_bson.specs.View.{tree};
 
 use crate::NoMemory;
-use crate::fault::BsonFault;
 use crate::name_index::NameIndex;
-use crate::value::{Document, Value};
-use std::alloc::{AllocError, Global};
+use crate::value::Document;
+use std::alloc::Global;
 
 impl Document {
     /// A copy without the fields of these names, where there are such; the others keep their order. Documents inside are
@@ -23,7 +20,7 @@ impl Document {
         'fields: for place in 0..self.len() {
             let (name, value) = self.field(place);
             if gone.place_of(name).is_none() {
-                add(&mut left, name, value.try_clone()?)?;
+                left.add(name, value.try_clone()?)?;
             }
         }
         Ok(left)
@@ -39,17 +36,4 @@ fn indexed(alloc: Global, names: &[&str]) -> Result<NameIndex, NoMemory>
         index.add(alloc, name, place)?;
     }
     Ok(index)
-}
-
-/// Adds a field whose name is known to be new and without a zero byte. Fails where memory is wanting.
-fn add(document: &mut Document, name: &str, value: Value) -> Result<(), NoMemory>
-    requires whole { has_zero name.now ≡ false }
-    requires fresh { has_name name.now document.old ≡ false }
-    ensures { OnOk result (document.new ≡ document.old ++ (name.now, tree value) ∷ []) }
-{
-    match document.push(name, value) {
-        Ok(()) => Ok(()),
-        Err(BsonFault::NoMemory) => Err(AllocError),
-        Err(_) => unreachable!(),
-    }
 }

@@ -20,7 +20,7 @@ use Rattle.dv_catalog.specs.Effects.{put_new}
 use Rattle.dv_catalog.specs.State.{Collection, Standing, Namespaces, collection_at, collection_of, with_documents}
 use Rattle.dv_index.specs.Indexed.{empty_indexed}
 use Rattle.dv_catalog.specs.View.{standing_seen, standing_by_namespace}
-use Rattle.dv_catalog.specs.Parts.{Makes, one}
+use Rattle.dv_catalog.specs.Parts.{Makes, one_changed}
 use Rattle.dv_catalog.specs.declared.stopped.Stopped.{Stopped}
 use Rattle.dv_catalog.proofs.Stopping.{stops_before}
 
@@ -101,13 +101,13 @@ module _ (old : Namespaces) (namespace : List ℕ) (d : List Field) (c : Collect
   there = ap (λ (x : Collection). done_to x (put_new d)) are
 
   pub makes_new : (new : Namespaces) → done_to c (put_new d) ≡ Ok (record { matched = 1; changes = put d ∷ [] }) → new ≡ with_collection namespace (record c { documents = with_put d c.documents }) old
-      → Makes {B = Unit {0}} (λ _. one) namespace (put_new d) old (Ok tt) new
+      → Makes {B = Unit {0}} (λ _. one_changed) namespace (put_new d) old (Ok tt) new
   makes_new new done more = (put d ∷ [], there ∙ done, refl, more ∙ made-there old namespace c (λ x. record x { documents = with_put d x.documents }) are)
 
   -- where the collection refuses the document, it is refused so
   pub not_made : (new : Namespaces) (refusal : Refusal) (result : Result (Unit {0}) Stopped) (stopped : Stopped) → result ≡ Err stopped → stopped ≡ record { refusal = refusal; done = 0 }
-      → (done_to c (put_new d) ≡ Err refusal) ⊎ (refusal ≡ WantOfMemory) → new ≡ old → Makes (λ _. one) namespace (put_new d) old result new
-  not_made new refusal result stopped is from why same = rw is (stops_before namespace does old new same {B = Unit {0}} (λ _. one) refusal stopped from (by_cause why))
+      → (done_to c (put_new d) ≡ Err refusal) ⊎ (refusal ≡ WantOfMemory) → new ≡ old → Makes (λ _. one_changed) namespace (put_new d) old result new
+  not_made new refusal result stopped is from why same = rw is (stops_before namespace does old new same {B = Unit {0}} (λ _. one_changed) refusal stopped from (by_cause why))
     where
       by_cause : (done_to c (put_new d) ≡ Err refusal) ⊎ (refusal ≡ WantOfMemory) → (does ≡ Err refusal) ⊎ (refusal ≡ WantOfMemory)
       by_cause (inl refused) = inl (there ∙ refused)

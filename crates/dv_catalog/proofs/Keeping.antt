@@ -8,9 +8,9 @@ use Rattle.std.specs.Str.{bytes_eq}
 use Rattle.dv_bson.specs.Tree.{Field}
 use Rattle.dv_change.specs.declared.change.Change as flow
 use Rattle.dv_pipe.specs.Stages.{Lists}
-use Rattle.dv_views.specs.Changed.{AreMade, changed, with_changed}
+use Rattle.dv_views.specs.Changed.{AreMade, documents_changed, with_changed}
 use Rattle.dv_views.specs.Forms.{ViewForm}
-use Rattle.dv_views.specs.Views.{AreRight, Views, form_of}
+use Rattle.dv_views.specs.Views.{AreRight, Views, view_form}
 use Rattle.dv_views.specs.Views as views
 use Rattle.dv_catalog.specs.CatalogParts.{IsKept}
 use Rattle.dv_catalog.specs.Changes.{Change, Effect, put, gone, apply, changes_of, with_change, with_changes}
@@ -30,11 +30,11 @@ neither false b is = (refl, is)
 
 -- ---- views and their forms
 
-pub reads_forms : (registry : Views) (name : List ℕ) → reads_name (map form_of registry) name ≡ views.reads_name registry name
+pub reads_forms : (registry : Views) (name : List ℕ) → reads_name (map view_form registry) name ≡ views.reads_name registry name
 reads_forms [] name = refl
 reads_forms (v ∷ vs) name = ap (λ (b : Bool). views.reads v name || b) (reads_forms vs name)
 
-pub view_forms : (registry : Views) (name : List ℕ) → is_view name (map form_of registry) ≡ views.has_view name registry
+pub view_forms : (registry : Views) (name : List ℕ) → is_view name (map view_form registry) ≡ views.has_view name registry
 view_forms [] name = refl
 view_forms (v ∷ vs) name = ap (λ (b : Bool). bytes_eq name v.name || b) (view_forms vs name)
 
@@ -87,7 +87,7 @@ all_able documents (change ∷ changes) placed = (able_placed documents change p
 -- ---- after changes
 
 abbrev pub MadeAsTold : Type 0
-MadeAsTold = (documents : List (List Field)) (changes : List Change) → AreOrdered documents → AreAble documents changes → AreMade (map told changes) documents × (changed (map told changes) documents ≡ with_changes documents changes)
+MadeAsTold = (documents : List (List Field)) (changes : List Change) → AreOrdered documents → AreAble documents changes → AreMade (map told changes) documents × (documents_changed (map told changes) documents ≡ with_changes documents changes)
 
 abbrev pub UnreadIsNoMatter : Type 0
 UnreadIsNoMatter = (registry : Views) (lists others : Lists) → ((name : List ℕ) → views.reads_name registry name ≡ true → lists name ≡ others name) → AreRight lists registry → AreRight others registry
@@ -103,10 +103,10 @@ StaysRight namespace tell before after = (lists : Lists) → AreMade tell (lists
 module _ (made : MadeAsTold) (unread : UnreadIsNoMatter) (old new : Namespaces) (before after : Views) (namespace : List ℕ) (changes : List Change) (tell : List flow.Change) (kept : IsKept old before)
     (ordered : AreOrdered (documents_of namespace old)) (able : AreAble (documents_of namespace old) changes)
     (documents : (name : List ℕ) → documents_of name new ≡ cond (bytes_eq namespace name) (with_changes (documents_of namespace old) changes) (documents_of name old)) (are : AreTold namespace before changes tell)
-    (right : StaysRight namespace tell before after) (forms : map form_of after ≡ map form_of before) where
-  told_lists : (b : Bool) (name : List ℕ) → bytes_eq namespace name ≡ b → changed (map told changes) (documents_of namespace old) ≡ with_changes (documents_of namespace old) changes
-      → (if b then changed (map told changes) (documents_of name old) else documents_of name old) ≡ cond b (with_changes (documents_of namespace old) changes) (documents_of name old)
-  told_lists true name e is = ap (λ (n : List ℕ). changed (map told changes) (documents_of n old)) (sym (is_same namespace name e)) ∙ is
+    (right : StaysRight namespace tell before after) (forms : map view_form after ≡ map view_form before) where
+  told_lists : (b : Bool) (name : List ℕ) → bytes_eq namespace name ≡ b → documents_changed (map told changes) (documents_of namespace old) ≡ with_changes (documents_of namespace old) changes
+      → (if b then documents_changed (map told changes) (documents_of name old) else documents_of name old) ≡ cond b (with_changes (documents_of namespace old) changes) (documents_of name old)
+  told_lists true name e is = ap (λ (n : List ℕ). documents_changed (map told changes) (documents_of n old)) (sym (is_same namespace name e)) ∙ is
   told_lists false name e is = refl
 
   right_told : tell ≡ map told changes → AreRight (lists_of new) after
@@ -118,8 +118,8 @@ module _ (made : MadeAsTold) (unread : UnreadIsNoMatter) (old new : Namespaces) 
       subst (λ (lists : Lists). AreRight lists after) lists stays
 
   nothing_told : (b : Bool) (name : List ℕ) → bytes_eq namespace name ≡ b → views.reads_name before namespace ≡ false → views.reads_name after name ≡ true
-      → changed [] (documents_of namespace old) ≡ documents_of namespace old
-      → (if b then changed [] (documents_of name old) else documents_of name old) ≡ cond b (with_changes (documents_of namespace old) changes) (documents_of name old)
+      → documents_changed [] (documents_of namespace old) ≡ documents_of namespace old
+      → (if b then documents_changed [] (documents_of name old) else documents_of name old) ≡ cond b (with_changes (documents_of namespace old) changes) (documents_of name old)
   nothing_told true name e not_read read is =
       let same : views.reads_name after name ≡ views.reads_name before name = sym (reads_forms after name) ∙ ap (λ (vs : List ViewForm). reads_name vs name) forms ∙ reads_forms before name in
       let here : views.reads_name before name ≡ false = subst (λ (n : List ℕ). views.reads_name before n ≡ false) (is_same namespace name e) not_read in
@@ -140,19 +140,19 @@ module _ (made : MadeAsTold) (unread : UnreadIsNoMatter) (old new : Namespaces) 
       by_told (inl is) = right_told is
       by_told (inr (is, not_read)) = right_unread is not_read
 
-  apart_after : is_view namespace (map form_of before) ≡ false → ((name : List ℕ) → is_collection name new ≡ true → (bytes_eq namespace name ≡ true) ⊎ (is_collection name old ≡ true))
-      → (name : List ℕ) → is_view name (map form_of before) ≡ true → is_collection name new ≡ false
+  apart_after : is_view namespace (map view_form before) ≡ false → ((name : List ℕ) → is_collection name new ≡ true → (bytes_eq namespace name ≡ true) ⊎ (is_collection name old ≡ true))
+      → (name : List ℕ) → is_view name (map view_form before) ≡ true → is_collection name new ≡ false
   apart_after no_view collections name view = by_there (is_collection name new) refl
     where
       no : (bytes_eq namespace name ≡ true) ⊎ (is_collection name old ≡ true) → ⊥
-      no (inl e) = let none : is_view name (map form_of before) ≡ false = subst (λ (n : List ℕ). is_view n (map form_of before) ≡ false) (is_same namespace name e) no_view in cc
+      no (inl e) = let none : is_view name (map view_form before) ≡ false = subst (λ (n : List ℕ). is_view n (map view_form before) ≡ false) (is_same namespace name e) no_view in cc
       no (inr e) = cc (kept.apart name view, e)
 
       by_there : (b : Bool) → is_collection name new ≡ b → b ≡ false
       by_there true e = absurd (no (collections name e))
       by_there false e = refl
 
-  pub kept_after : is_view namespace (map form_of before) ≡ false → ((name : List ℕ) → is_collection name new ≡ true → (bytes_eq namespace name ≡ true) ⊎ (is_collection name old ≡ true)) → IsKept new after
+  pub kept_after : is_view namespace (map view_form before) ≡ false → ((name : List ℕ) → is_collection name new ≡ true → (bytes_eq namespace name ≡ true) ⊎ (is_collection name old ≡ true)) → IsKept new after
   kept_after no_view collections = record {
     right = right_after;
     apart = λ name view. apart_after no_view collections name (subst (λ (fs : List ViewForm). is_view name fs ≡ true) forms view);
@@ -167,19 +167,19 @@ module _ (unread : UnreadIsNoMatter) (old : Namespaces) (namespace : List ℕ) (
       ∙ ap (λ (ds : List (List Field)). cond (bytes_eq namespace name) ds (documents_of name old)) (sym same)
       ∙ sym (documents_put old namespace c name)
 
-  pub kept_same_documents : is_view namespace (map form_of vs) ≡ false → IsKept old vs → IsKept (finite.insert old namespace (collection c)) vs
+  pub kept_same_documents : is_view namespace (map view_form vs) ≡ false → IsKept old vs → IsKept (finite.insert old namespace (collection c)) vs
   kept_same_documents no_view kept = record {
     right = unread vs (lists_of old) (lists_of (finite.insert old namespace (collection c))) (λ name _. same_lists name) kept.right;
     apart = λ name view. apart_put name view (is_collection name (finite.insert old namespace (collection c))) refl;
   }
     where
-      apart_put : (name : List ℕ) → is_view name (map form_of vs) ≡ true → (b : Bool) → is_collection name (finite.insert old namespace (collection c)) ≡ b → b ≡ false
+      apart_put : (name : List ℕ) → is_view name (map view_form vs) ≡ true → (b : Bool) → is_collection name (finite.insert old namespace (collection c)) ≡ b → b ≡ false
       apart_put name view false e = refl
       apart_put name view true e = by_side (put_there old namespace c name e)
         where
           by_side : (bytes_eq namespace name ≡ true) ⊎ (is_collection name old ≡ true) → true ≡ false
           by_side (inl named) =
-              let here : is_view name (map form_of vs) ≡ false = subst (λ (n : List ℕ). is_view n (map form_of vs) ≡ false) (is_same namespace name named) no_view in
+              let here : is_view name (map view_form vs) ≡ false = subst (λ (n : List ℕ). is_view n (map view_form vs) ≡ false) (is_same namespace name named) no_view in
               cc
           by_side (inr there) = let none = kept.apart name view in cc
 

@@ -6,7 +6,7 @@ use Rattle.dv_bson.specs.Tree.{Field}
 use Rattle.dv_change.specs.declared.change.Change as flow
 use Rattle.dv_command.specs.Asked.{ViewOn}
 use Rattle.dv_fields.specs.declared.refusal.Refusal.TheVariants.{NamespaceExists, NamespaceNotFound, ReadByView}
-use Rattle.dv_views.specs.Views.{Views, form_of, has_view, without}
+use Rattle.dv_views.specs.Views.{Views, view_form, has_view, views_without}
 use Rattle.dv_views.specs.Views as views
 use Rattle.dv_catalog.specs.CatalogParts.{IsKept, state_of}
 use Rattle.dv_catalog.specs.Changes.{with_changes}
@@ -35,19 +35,19 @@ second false true x y z e f = refl
 second false false x y z e f = absurd cc
 
 module _ (name : List ℕ) (namespaces : Namespaces) (vs : Views) (none : is_collection name namespaces ≡ false) where
-  view_drops : (b : Bool) → has_view name vs ≡ true → views.reads_name vs name ≡ b → dropped name (state_of namespaces vs) ≡ (if b then Err ReadByView else Ok (state_of namespaces (without name vs)))
+  view_drops : (b : Bool) → has_view name vs ≡ true → views.reads_name vs name ≡ b → dropped name (state_of namespaces vs) ≡ (if b then Err ReadByView else Ok (state_of namespaces (views_without name vs)))
   view_drops b there read =
-      second (is_collection name namespaces) (is_view name (map form_of vs)) _ _ _ none (view_forms vs name ∙ there)
+      second (is_collection name namespaces) (is_view name (map view_form vs)) _ _ _ none (view_forms vs name ∙ there)
       ∙ (λ i. if (reads_forms vs name ∙ read) i then Err ReadByView else Ok (sym (less_state namespaces name vs) i))
 
-  pub view_dropped : has_view name vs ≡ true → views.reads_name vs name ≡ false → dropped name (state_of namespaces vs) ≡ Ok (state_of namespaces (without name vs))
+  pub view_dropped : has_view name vs ≡ true → views.reads_name vs name ≡ false → dropped name (state_of namespaces vs) ≡ Ok (state_of namespaces (views_without name vs))
   view_dropped there read = view_drops false there read
 
   pub read_stays : has_view name vs ≡ true → views.reads_name vs name ≡ true → dropped name (state_of namespaces vs) ≡ Err ReadByView
   read_stays there read = view_drops true there read
 
   pub nothing_dropped : has_view name vs ≡ false → dropped name (state_of namespaces vs) ≡ Err NamespaceNotFound
-  nothing_dropped no_view = third (is_collection name namespaces) (is_view name (map form_of vs)) _ _ _ none (view_forms vs name ∙ no_view)
+  nothing_dropped no_view = third (is_collection name namespaces) (is_view name (map view_form vs)) _ _ _ none (view_forms vs name ∙ no_view)
 
 -- ---- a collection less
 
@@ -64,10 +64,10 @@ all_can_go law namespaces name ordered =
     let documents = documents_of name namespaces in
     all_able documents (all_gone documents) (all_go_placed law documents (before_ascending documents ordered.0))
 
-pub not_a_view : (namespaces : Namespaces) (vs : Views) (name : List ℕ) → IsKept namespaces vs → is_collection name namespaces ≡ true → is_view name (map form_of vs) ≡ false
-not_a_view namespaces vs name kept there = by_view (is_view name (map form_of vs)) refl
+pub not_a_view : (namespaces : Namespaces) (vs : Views) (name : List ℕ) → IsKept namespaces vs → is_collection name namespaces ≡ true → is_view name (map view_form vs) ≡ false
+not_a_view namespaces vs name kept there = by_view (is_view name (map view_form vs)) refl
   where
-    by_view : (b : Bool) → is_view name (map form_of vs) ≡ b → b ≡ false
+    by_view : (b : Bool) → is_view name (map view_form vs) ≡ b → b ≡ false
     by_view true view = let none = kept.apart name view in absurd (cc (none, there))
     by_view false view = refl
 
@@ -79,7 +79,7 @@ module _ (made : MadeAsTold) (unread : UnreadIsNoMatter) (law : NoLongerFound) (
       ∙ gone_documents (bytes_eq name n) (finite.get old n)
       ∙ ap (λ (ds : List (List Field)). cond (bytes_eq name n) ds (documents_of n old)) (sym all)
 
-  pub kept_without : IsKept old before → AreOrdered (documents_of name old) → is_collection name old ≡ true → AreTold name before (all_gone (documents_of name old)) tell → StaysRight name tell before after → map form_of after ≡ map form_of before
+  pub kept_without : IsKept old before → AreOrdered (documents_of name old) → is_collection name old ≡ true → AreTold name before (all_gone (documents_of name old)) tell → StaysRight name tell before after → map view_form after ≡ map view_form before
       → IsKept (finite.remove old name) after
   kept_without kept ordered there are right forms =
       kept_after made unread old (finite.remove old name) before after name (all_gone (documents_of name old)) tell kept ordered (all_can_go law old name ordered) (documents_gone ordered) are right forms (not_a_view old before name kept there)
@@ -93,16 +93,16 @@ there_or false b (inl e) = absurd cc
 there_or false b (inr e) = e
 
 pub is_taken : (name : List ℕ) (namespaces : Namespaces) (vs : Views) → (is_collection name namespaces ≡ true) ⊎ (has_view name vs ≡ true) → is_there name (state_of namespaces vs) ≡ true
-is_taken name namespaces vs e = there_or (is_collection name namespaces) (is_view name (map form_of vs)) (by_side e)
+is_taken name namespaces vs e = there_or (is_collection name namespaces) (is_view name (map view_form vs)) (by_side e)
   where
-    by_side : (is_collection name namespaces ≡ true) ⊎ (has_view name vs ≡ true) → (is_collection name namespaces ≡ true) ⊎ (is_view name (map form_of vs) ≡ true)
+    by_side : (is_collection name namespaces ≡ true) ⊎ (has_view name vs ≡ true) → (is_collection name namespaces ≡ true) ⊎ (is_view name (map view_form vs) ≡ true)
     by_side (inl e) = inl e
     by_side (inr e) = inr (view_forms vs name ∙ e)
 
 pub is_free : (name : List ℕ) (namespaces : Namespaces) (vs : Views) → is_collection name namespaces ≡ false → has_view name vs ≡ false → is_there name (state_of namespaces vs) ≡ false
 is_free name namespaces vs none no_view =
-    let here : is_view name (map form_of vs) ≡ false = view_forms vs name ∙ no_view in
-    ap (λ (b : Bool). b || is_view name (map form_of vs)) none ∙ here
+    let here : is_view name (map view_form vs) ≡ false = view_forms vs name ∙ no_view in
+    ap (λ (b : Bool). b || is_view name (map view_form vs)) none ∙ here
 
 by_there : {X : Type 0} (b : Bool) (x y : X) → b ≡ true → (if b then x else y) ≡ x
 by_there true x y e = refl

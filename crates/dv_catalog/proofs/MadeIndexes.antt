@@ -6,7 +6,7 @@ use Rattle.std.specs.Str.{bytes_eq}
 use Rattle.dv_fields.specs.declared.refusal.Refusal.{Refusal}
 use Rattle.dv_fields.specs.declared.refusal.Refusal.TheVariants.{NamespaceNotFound, OnView, WantOfMemory}
 use Rattle.dv_index.specs.Index.{IndexForm}
-use Rattle.dv_views.specs.Views.{Views, form_of}
+use Rattle.dv_views.specs.Views.{Views, view_form}
 use Rattle.dv_catalog.specs.declared.indexing.IndexCounts.{IndexCounts}
 use Rattle.dv_catalog.specs.CatalogParts.{IsKept, state_of}
 use Rattle.dv_catalog.specs.IndexMaking.{indexes_created, indexes_dropped, with_all, with_indexes_so, without_named}
@@ -63,7 +63,7 @@ counts_there old new name c written counts a b is = is ∙ (λ i. record { befor
 
 -- ---- of a state
 
-module _ (unread : UnreadIsNoMatter) (name : List ℕ) (old : Namespaces) (vs : Views) (none : is_view name (map form_of vs) ≡ false) where
+module _ (unread : UnreadIsNoMatter) (name : List ℕ) (old : Namespaces) (vs : Views) (none : is_view name (map view_form vs) ≡ false) where
   kept_so : (made : Result (List IndexForm) Refusal) (new : Namespaces) → namespaces_so name made old ≡ Ok new → IsKept old vs → IsKept new vs
   kept_so (Ok indexes) new is kept =
       let same : with_indexes name indexes old ≡ new = cc in
@@ -116,7 +116,7 @@ module _ (name : List ℕ) (state : State) where
 abbrev pub drops_by : Bool → List ℕ → List ℕ → Namespaces → Result Namespaces Refusal
 drops_by there name dropped old = if there then namespaces_so name (without_named dropped (indexes_of name old)) old else Err NamespaceNotFound
 
-module _ {B : Type 0} (name dropped : List ℕ) (old new : Namespaces) (vs : Views) (result : Result B Refusal) (none : is_view name (map form_of vs) ≡ false) where
+module _ {B : Type 0} (name dropped : List ℕ) (old new : Namespaces) (vs : Views) (result : Result B Refusal) (none : is_view name (map view_form vs) ≡ false) where
   pub kept_dropped : UnreadIsNoMatter → (there : Bool) → Leaves (drops_by there name dropped old) old result new → IsKept old vs → IsKept new vs
   kept_dropped unread true leaves kept = kept_indexes unread name old vs none (without_named dropped (indexes_of name old)) result new leaves kept
   kept_dropped unread false leaves kept = by_result result leaves

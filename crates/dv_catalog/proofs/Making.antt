@@ -8,7 +8,7 @@ use Rattle.dv_fields.specs.declared.refusal.Refusal.TheVariants.{WantOfMemory}
 use Rattle.dv_pipe.specs.declared.stage.Stage.{Stage}
 use Rattle.dv_views.specs.Forms.{ViewForm, fault_of_new, names_read, needed}
 use Rattle.dv_views.specs.Made.{IsCreated}
-use Rattle.dv_views.specs.Views.{AreRight, ArePartlyRefreshed, IsRefusedFor, View, Views, form_of, without}
+use Rattle.dv_views.specs.Views.{AreRight, ArePartlyRefreshed, IsRefusedFor, View, Views, view_form, views_without}
 use Rattle.dv_views.specs.declared.fault.ViewFault.{ViewFault}
 use Rattle.dv_catalog.specs.CatalogParts.{IsKept, mark_of, marked_of, marks_of, state_of}
 use Rattle.dv_catalog.specs.Marks.{ArePartlyRead, Mark, Marks, live, marks_read}
@@ -19,7 +19,7 @@ use Rattle.dv_catalog.proofs.Refreshed.{fresh_mark, partly_forms, partly_marks, 
 
 -- ---- kept, where the views' forms stay
 
-pub kept_forms : (namespaces : Namespaces) (before after : Views) → map form_of after ≡ map form_of before → AreRight (lists_of namespaces) after → IsKept namespaces before → IsKept namespaces after
+pub kept_forms : (namespaces : Namespaces) (before after : Views) → map view_form after ≡ map view_form before → AreRight (lists_of namespaces) after → IsKept namespaces before → IsKept namespaces after
 kept_forms namespaces before after forms right kept = record {
   right = right;
   apart = λ name view. kept.apart name (subst (λ (fs : List ViewForm). is_view name fs ≡ true) forms view);
@@ -27,9 +27,9 @@ kept_forms namespaces before after forms right kept = record {
 
 -- ---- a new view
 
-forms_more : (vs : Views) (v : View) → map form_of (vs ++ v ∷ []) ≡ map form_of vs ++ form_of v ∷ []
+forms_more : (vs : Views) (v : View) → map view_form (vs ++ v ∷ []) ≡ map view_form vs ++ view_form v ∷ []
 forms_more [] v = refl
-forms_more (w ∷ vs) v = ap (λ (rest : List ViewForm). form_of w ∷ rest) (forms_more vs v)
+forms_more (w ∷ vs) v = ap (λ (rest : List ViewForm). view_form w ∷ rest) (forms_more vs v)
 
 marks_more : (vs : Views) (v : View) → marks_of (vs ++ v ∷ []) ≡ marks_of vs ++ mark_of v.mark ∷ []
 marks_more [] v = refl
@@ -62,15 +62,15 @@ module _ (name source : List ℕ) (stages : List Stage) (namespaces : Namespaces
   form = record { name = name; source = source; stages = stages }
 
   abbrev forms : List ViewForm
-  forms = map form_of before
+  forms = map view_form before
 
   abbrev made : Option ViewFault → Result State Refusal
   made fault = with_views (state_of namespaces before) (with_view_by form forms fault)
 
   module _ (created : IsCreated name source stages before after) where
-    created_forms : map form_of after ≡ forms ++ form ∷ []
+    created_forms : map view_form after ≡ forms ++ form ∷ []
     created_forms =
-        ap (map form_of) created.added.last
+        ap (map view_form) created.added.last
         ∙ forms_more created.refreshed created.added.view
         ∙ (λ i. partly_forms (needed forms (names_read stages source)) before created.refreshed created.read.0 i ++ created.added.form i ∷ [])
 
@@ -113,14 +113,14 @@ module _ (name source : List ℕ) (stages : List Stage) (namespaces : Namespaces
 
 -- ---- a view less
 
-kept_form : (b : Bool) (v : View) (vs : Views) → map form_of (if b then v ∷ vs else vs) ≡ (if b then form_of v ∷ map form_of vs else map form_of vs)
+kept_form : (b : Bool) (v : View) (vs : Views) → map view_form (if b then v ∷ vs else vs) ≡ (if b then view_form v ∷ map view_form vs else map view_form vs)
 kept_form true v vs = refl
 kept_form false v vs = refl
 
-pub forms_less : (name : List ℕ) (vs : Views) → map form_of (without name vs) ≡ without_view name (map form_of vs)
+pub forms_less : (name : List ℕ) (vs : Views) → map view_form (views_without name vs) ≡ without_view name (map view_form vs)
 forms_less name [] = refl
 forms_less name (v ∷ vs) =
-    kept_form (not (bytes_eq name v.name)) v (without name vs) ∙ ap (λ (rest : List ViewForm). if not (bytes_eq name v.name) then form_of v ∷ rest else rest) (forms_less name vs)
+    kept_form (not (bytes_eq name v.name)) v (views_without name vs) ∙ ap (λ (rest : List ViewForm). if not (bytes_eq name v.name) then view_form v ∷ rest else rest) (forms_less name vs)
 
 view_less : (n name : List ℕ) (forms : List ViewForm) → is_view n (without_view name forms) ≡ true → is_view n forms ≡ true
 view_less n name [] e = e
@@ -131,11 +131,11 @@ view_less n name (v ∷ forms) e = by_name (view_less n name forms) (not (bytes_
     by_name rest true false is e = rest (rw is at e)
     by_name rest false false is e = rest e
 
-pub kept_less : (namespaces : Namespaces) (name : List ℕ) (vs : Views) → AreRight (lists_of namespaces) (without name vs) → IsKept namespaces vs → IsKept namespaces (without name vs)
+pub kept_less : (namespaces : Namespaces) (name : List ℕ) (vs : Views) → AreRight (lists_of namespaces) (views_without name vs) → IsKept namespaces vs → IsKept namespaces (views_without name vs)
 kept_less namespaces name vs right kept = record {
   right = right;
-  apart = λ n view. kept.apart n (view_less n name (map form_of vs) (subst (λ (fs : List ViewForm). is_view n fs ≡ true) (forms_less name vs) view));
+  apart = λ n view. kept.apart n (view_less n name (map view_form vs) (subst (λ (fs : List ViewForm). is_view n fs ≡ true) (forms_less name vs) view));
 }
 
-pub less_state : (namespaces : Namespaces) (name : List ℕ) (vs : Views) → state_of namespaces (without name vs) ≡ record { namespaces = namespaces; views = without_view name (map form_of vs) }
+pub less_state : (namespaces : Namespaces) (name : List ℕ) (vs : Views) → state_of namespaces (views_without name vs) ≡ record { namespaces = namespaces; views = without_view name (map view_form vs) }
 less_state namespaces name vs = λ i. record { namespaces = namespaces; views = forms_less name vs i }

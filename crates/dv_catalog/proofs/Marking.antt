@@ -4,10 +4,10 @@ use Rattle.dv_change.specs.Raised.{raised}
 use Rattle.dv_change.specs.declared.change.Change as flow
 use Rattle.dv_pipe.specs.Stages.{Lists}
 use Rattle.dv_views.specs.Changed.{AreMade}
-use Rattle.dv_views.specs.Counted.{AreCounted, IsCounted}
+use Rattle.dv_views.specs.Counted.{AreCounted, HasCountedShare}
 use Rattle.dv_views.specs.Flow.{Share, nothing, shares}
 use Rattle.dv_views.specs.Forms.{ViewForm, is_read_by}
-use Rattle.dv_views.specs.Views.{AreRight, View, Views, form_of, has_name, is_stale, ticks_in, without}
+use Rattle.dv_views.specs.Views.{AreRight, View, Views, view_form, is_view_named, is_stale, mark_ticks, views_without}
 use Rattle.dv_views.specs.Views as views
 use Rattle.dv_catalog.specs.CatalogParts.{mark_of, marks_of}
 use Rattle.dv_bson.specs.Tree.{Field}
@@ -31,18 +31,18 @@ use Rattle.dv_catalog.proofs.Stopping.{take_none}
 
 -- ---- behind changes
 
-shown_mark : (m : views.Mark) → mark_of m ≡ (if is_stale m then stale else live (ticks_in m))
+shown_mark : (m : views.ViewMark) → mark_of m ≡ (if is_stale m then stale else live (mark_ticks m))
 shown_mark (views.live kept) = refl
 shown_mark (views.anew rows) = refl
 shown_mark views.stale = refl
 
 -- a view
-module _ (share : Share) (v w : View) (counts : IsCounted share v w) where
+module _ (share : Share) (v w : View) (counts : HasCountedShare share v w) where
   abbrev before : Bool → Mark
-  before b = if b then stale else live (ticks_in v.mark)
+  before b = if b then stale else live (mark_ticks v.mark)
 
   abbrev after : Bool → Mark
-  after b = if b then stale else live (ticks_in w.mark)
+  after b = if b then stale else live (mark_ticks w.mark)
 
   is_reached : is_stale v.mark ≡ false → is_stale w.mark ≡ true → (b : Bool) → share.reached ≡ b → b ≡ true
   is_reached was is true reached = refl
@@ -72,19 +72,19 @@ abbrev pub UnreadIsNotCounted : Type 0
 UnreadIsNotCounted = (namespace : List ℕ) (changes : List flow.Change) (lists : Lists) (forms : List ViewForm) → is_read_by forms namespace ≡ false → shares namespace changes lists forms ≡ map (λ v. nothing) forms
 
 abbrev pub CountsWork : List ℕ → List flow.Change → Views → Views → Type 0
-CountsWork namespace tell before after = (lists : Lists) → AreMade tell (lists namespace) → AreRight lists before → AreCounted (shares namespace tell lists (map form_of before)) before after
+CountsWork namespace tell before after = (lists : Lists) → AreMade tell (lists namespace) → AreRight lists before → AreCounted (shares namespace tell lists (map view_form before)) before after
 
 module _ (made : MadeAsTold) (unread : UnreadIsNotCounted) (lists : Lists) (namespace : List ℕ) (changes : List Change) (tell : List flow.Change) (vs ws : Views) (ordered : AreOrdered (lists namespace)) where
   -- how views stand behind changes of which they were told
-  pub are_marked : AreAble (lists namespace) changes → AreTold namespace vs changes tell → AreRight lists vs → CountsWork namespace tell vs ws → AreMarkedBy namespace changes lists (map form_of vs) (marks_of vs) (marks_of ws)
+  pub are_marked : AreAble (lists namespace) changes → AreTold namespace vs changes tell → AreRight lists vs → CountsWork namespace tell vs ws → AreMarkedBy namespace changes lists (map view_form vs) (marks_of vs) (marks_of ws)
   are_marked able (inl is) right counts =
       let all = subst (λ (cs : List flow.Change). AreMade cs (lists namespace)) (sym is) (made (lists namespace) changes ordered able).0 in
-      marked_each (shares namespace (map told changes) lists (map form_of vs)) vs ws (subst (λ (cs : List flow.Change). AreCounted (shares namespace cs lists (map form_of vs)) vs ws) is (counts lists all right))
+      marked_each (shares namespace (map told changes) lists (map view_form vs)) vs ws (subst (λ (cs : List flow.Change). AreCounted (shares namespace cs lists (map view_form vs)) vs ws) is (counts lists all right))
   are_marked able (inr (is, not_read)) right counts =
-      let none : is_read_by (map form_of vs) namespace ≡ false = reads_forms vs namespace ∙ not_read in
+      let none : is_read_by (map view_form vs) namespace ≡ false = reads_forms vs namespace ∙ not_read in
       let all = subst (λ (cs : List flow.Change). AreMade cs (lists namespace)) (sym is) (made (lists namespace) [] ordered tt).0 in
-      let same = unread namespace tell lists (map form_of vs) none ∙ sym (unread namespace (map told changes) lists (map form_of vs) none) in
-      marked_each (shares namespace (map told changes) lists (map form_of vs)) vs ws (subst (λ (ss : List Share). AreCounted ss vs ws) same (counts lists all right))
+      let same = unread namespace tell lists (map view_form vs) none ∙ sym (unread namespace (map told changes) lists (map view_form vs) none) in
+      marked_each (shares namespace (map told changes) lists (map view_form vs)) vs ws (subst (λ (ss : List Share). AreCounted ss vs ws) same (counts lists all right))
 
 -- without changes they stand as they stood
 nothing_more : (n : ℕ) → raised n 0 ≡ n
@@ -113,9 +113,9 @@ less_one : (b : Bool) (v : View) (vs : Views) (rest : List Mark) → marks_of vs
 less_one true v vs rest is = is
 less_one false v vs rest is = ap (λ (marks : List Mark). mark_of v.mark ∷ marks) is
 
-pub marks_less : (name : List ℕ) (vs : Views) → marks_of (without name vs) ≡ marks_without name (map form_of vs) (marks_of vs)
+pub marks_less : (name : List ℕ) (vs : Views) → marks_of (views_without name vs) ≡ marks_without name (map view_form vs) (marks_of vs)
 marks_less name [] = refl
-marks_less name (v ∷ vs) = less_one (has_name name v) v (without name vs) (marks_without name (map form_of vs) (marks_of vs)) (marks_less name vs)
+marks_less name (v ∷ vs) = less_one (is_view_named name v) v (views_without name vs) (marks_without name (map view_form vs) (marks_of vs)) (marks_less name vs)
 
 -- behind a drop of a collection, and of a view
 pub collection_dropped : (name : List ℕ) (state : State) (before after : Marks) → is_collection name state.namespaces ≡ true

@@ -6,11 +6,11 @@ use Rattle.std.specs.Str.{bytes_eq}
 use Rattle.dv_bson.specs.Tree.{Field}
 use Rattle.dv_pipe.specs.Sources.{Source, rows_under}
 use Rattle.dv_pipe.specs.Sources as pipes
-use Rattle.dv_pipe.specs.Stages.{Lists, evaluated, is_named, is_read, looked_into}
+use Rattle.dv_pipe.specs.Stages.{Lists, evaluated, is_source_named, is_read, looked_into}
 use Rattle.dv_pipe.specs.declared.stage.Stage.{Stage}
-use Rattle.dv_views.specs.Forms.{is_among, names_read}
+use Rattle.dv_views.specs.Forms.{is_name_among, names_read}
 use Rattle.dv_views.specs.Made.{AreAlike}
-use Rattle.dv_views.specs.Placed.{lookups_of, with_name}
+use Rattle.dv_views.specs.Placed.{lookups_of, names_with}
 use Rattle.dv_catalog.specs.SourceParts.{with_list, with_list_where}
 use Rattle.dv_catalog.specs.State.{AreOrdered}
 use Rattle.dv_catalog.specs.StateLaws.{bytes_eq-symmetric}
@@ -54,7 +54,7 @@ module _ (names : List (List ℕ)) (lists : Lists) where
   -- the lists so far, and the names that are still to be looked up
   pub record AreListed (sources : List Source) (rest : List (List ℕ)) : Type 0 where
     pub right : (name : List ℕ) → is_listed name sources ≡ true → rows_under name sources ≡ lists name
-    pub all : (name : List ℕ) → is_among name names ≡ true → (is_listed name sources ≡ true) ⊎ (is_among name rest ≡ true)
+    pub all : (name : List ℕ) → is_name_among name names ≡ true → (is_listed name sources ≡ true) ⊎ (is_name_among name rest ≡ true)
 
   -- one name more
   module _ (sources : List Source) (m : List ℕ) (rest : List (List ℕ)) (listed : AreListed sources (m ∷ rest)) (rows : List (List Field)) (are : rows ≡ lists m) where
@@ -66,7 +66,7 @@ module _ (names : List (List ℕ)) (lists : Lists) where
     added_right name false true there same is = are ∙ ap lists (sym ((bytes_eq-Decides name m).0 same))
     added_right name false false there same is = absurd cc
 
-    added_all : (name : List ℕ) (b : Bool) → bytes_eq name m ≡ b → (is_listed name sources ≡ true) ⊎ (b || is_among name rest ≡ true) → (is_listed name sources || bytes_eq name m ≡ true) ⊎ (is_among name rest ≡ true)
+    added_all : (name : List ℕ) (b : Bool) → bytes_eq name m ≡ b → (is_listed name sources ≡ true) ⊎ (b || is_name_among name rest ≡ true) → (is_listed name sources || bytes_eq name m ≡ true) ⊎ (is_name_among name rest ≡ true)
     added_all name b same (inl there) = inl (ap (λ (x : Bool). x || bytes_eq name m) there)
     added_all name true same (inr is) = inl (either (is_listed name sources) (bytes_eq name m) same)
       where
@@ -81,7 +81,7 @@ module _ (names : List (List ℕ)) (lists : Lists) where
       all = λ name among. by_side name (added_all name (bytes_eq name m) refl (listed.all name among));
     }
       where
-        by_side : (name : List ℕ) → (is_listed name sources || bytes_eq name m ≡ true) ⊎ (is_among name rest ≡ true) → (is_listed name more ≡ true) ⊎ (is_among name rest ≡ true)
+        by_side : (name : List ℕ) → (is_listed name sources || bytes_eq name m ≡ true) ⊎ (is_name_among name rest ≡ true) → (is_listed name more ≡ true) ⊎ (is_name_among name rest ≡ true)
         by_side name (inl is) = inl (listed_more name m rows sources ∙ is)
         by_side name (inr is) = inr is
 
@@ -96,7 +96,7 @@ module _ (names : List (List ℕ)) (lists : Lists) where
         by_listed true is = refl
         by_listed false is = let none = none_listed m sources is in absurd (cc (none, there))
 
-        by_side : (name : List ℕ) (b : Bool) → bytes_eq name m ≡ b → (is_listed name sources ≡ true) ⊎ (b || is_among name rest ≡ true) → (is_listed name sources ≡ true) ⊎ (is_among name rest ≡ true)
+        by_side : (name : List ℕ) (b : Bool) → bytes_eq name m ≡ b → (is_listed name sources ≡ true) ⊎ (b || is_name_among name rest ≡ true) → (is_listed name sources ≡ true) ⊎ (is_name_among name rest ≡ true)
         by_side name b same (inl is) = inl is
         by_side name true same (inr is) = inl (subst (λ (n : List ℕ). is_listed n sources ≡ true) (sym ((bytes_eq-Decides name m).0 same)) (by_listed (is_listed m sources) refl))
         by_side name false same (inr is) = inr is
@@ -152,15 +152,15 @@ abbrev pub Agreeing : Type 0
 Agreeing = (stages : List Stage) (source : List ℕ) (lists others : Lists) → ((name : List ℕ) → is_read stages source name ≡ true → lists name ≡ others name) → evaluated stages source lists ≡ evaluated stages source others
 
 module _ (source name : List ℕ) where
-  looked_among : (stages : List Stage) → list_any (λ s. is_named name (looked_into s source)) stages ≡ is_among name (lookups_of stages source)
+  looked_among : (stages : List Stage) → list_any (λ s. is_source_named name (looked_into s source)) stages ≡ is_name_among name (lookups_of stages source)
   looked_among [] = refl
   looked_among (s ∷ ss) = by_name (looked_into s source) (looked_among ss)
     where
-      by_name : (looked : Option (List ℕ)) → list_any (λ t. is_named name (looked_into t source)) ss ≡ is_among name (lookups_of ss source) → is_named name looked || list_any (λ t. is_named name (looked_into t source)) ss ≡ is_among name (with_name looked (lookups_of ss source))
+      by_name : (looked : Option (List ℕ)) → list_any (λ t. is_source_named name (looked_into t source)) ss ≡ is_name_among name (lookups_of ss source) → is_source_named name looked || list_any (λ t. is_source_named name (looked_into t source)) ss ≡ is_name_among name (names_with looked (lookups_of ss source))
       by_name None rest = rest
       by_name (Some n) rest = ap (λ (b : Bool). bytes_eq name n || b) rest
 
-  read_among : (stages : List Stage) → is_read stages source name ≡ is_among name (names_read stages source)
+  read_among : (stages : List Stage) → is_read stages source name ≡ is_name_among name (names_read stages source)
   read_among stages = λ i. bytes_eq-symmetric source name i || looked_among stages i
 
 pub evaluated_alike : Agreeing → (stages : List Stage) (source : List ℕ) (lists others : Lists) → AreAlike (names_read stages source) lists others → evaluated stages source lists ≡ evaluated stages source others

@@ -2,16 +2,16 @@
 use Rattle.std.specs.Prelude.{◌≡◌, Bool, true, false, ℕ, List, map, Option, Some, None}
 use Rattle.std.specs.List.{AllByRecursion, list_any}
 use Rattle.dv_bson.specs.Tree.{Field}
-use Rattle.dv_views.specs.Forms.{is_among}
+use Rattle.dv_views.specs.Forms.{is_name_among}
 use Rattle.dv_views.specs.Views as views
 use Rattle.dv_catalog.specs.Marks.{Mark, Marked, live, stale}
 use Rattle.dv_catalog.specs.State.{Namespaces, State, documents_of, is_collection, is_view, lists_of}
 
 abbrev pub state_of : Namespaces → views.Views → State
-state_of namespaces registry = record { namespaces = namespaces; views = map views.form_of registry }
+state_of namespaces registry = record { namespaces = namespaces; views = map views.view_form registry }
 
 -- how a view stands
-abbrev pub mark_of : views.Mark → Mark
+abbrev pub mark_of : views.ViewMark → Mark
 mark_of (views.live kept) = live kept.ticks
 mark_of (views.anew rows) = live 0
 mark_of views.stale = stale
@@ -25,7 +25,7 @@ marked_of namespaces registry = record { state = state_of namespaces registry; m
 -- each view that isn't stale has the rows of its pipeline over what stands there; no view stands under a collection's name
 pub record IsKept (namespaces : Namespaces) (registry : views.Views) : Type 0 where
   pub right : views.AreRight (lists_of namespaces) registry
-  pub apart : (name : List ℕ) → is_view name (map views.form_of registry) ≡ true → is_collection name namespaces ≡ false
+  pub apart : (name : List ℕ) → is_view name (map views.view_form registry) ≡ true → is_collection name namespaces ≡ false
 
 abbrev pub rows_or : Option (List (List Field)) → List (List Field) → List (List Field)
 rows_or None others = others
@@ -37,7 +37,7 @@ rows_kept name namespaces registry = rows_or (views.rows_shown name registry) (d
 
 -- the views of these names have their rows
 abbrev pub AreLive : List (List ℕ) → views.Views → Type 0
-AreLive names registry = AllByRecursion (λ v. is_among v.name names ≡ true → views.is_stale v.mark ≡ false) registry
+AreLive names registry = AllByRecursion (λ v. is_name_among v.name names ≡ true → views.is_stale v.mark ≡ false) registry
 
 -- there is a view, and it is stale
 abbrev pub is_stale_view : Option views.View → Bool
@@ -46,4 +46,4 @@ is_stale_view (Some v) = views.is_stale v.mark
 
 -- a view of one of these names is stale
 abbrev pub is_one_stale : List (List ℕ) → views.Views → Bool
-is_one_stale names registry = list_any (λ name. is_stale_view (views.view_named name registry)) names
+is_one_stale names registry = list_any (λ name. is_stale_view (views.view_under name registry)) names

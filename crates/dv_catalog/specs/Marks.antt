@@ -7,7 +7,7 @@ use Rattle.dv_command.specs.Asked.{ViewOn}
 use Rattle.dv_pipe.specs.Stages.{Lists}
 use Rattle.dv_change.specs.Raised.{raised}
 use Rattle.dv_views.specs.Flow.{Share, shares}
-use Rattle.dv_views.specs.Forms.{ViewForm, is_among, names_read, needed}
+use Rattle.dv_views.specs.Forms.{ViewForm, is_name_among, names_read, needed}
 use Rattle.dv_catalog.specs.Changes.{Change, gone}
 use Rattle.dv_catalog.specs.State.{State, documents_of, empty_state, has_name, is_collection, lists_of, rows_of}
 use Rattle.dv_catalog.specs.Told.{told}
@@ -79,7 +79,7 @@ mark_read stale = live 0
 abbrev pub marks_named : List (List ℕ) → List ViewForm → Marks → Marks
 marks_named names [] marks = marks
 marks_named names (v ∷ views) [] = []
-marks_named names (v ∷ views) (mark ∷ marks) = (if is_among v.name names then mark_read mark else mark) ∷ marks_named names views marks
+marks_named names (v ∷ views) (mark ∷ marks) = (if is_name_among v.name names then mark_read mark else mark) ∷ marks_named names views marks
 
 -- behind the reading of what stands under some names: views that are needed for that are made anew
 abbrev pub marks_read : List (List ℕ) → List ViewForm → Marks → Marks
@@ -93,7 +93,7 @@ abbrev pub ArePartlyNamed : List (List ℕ) → List ViewForm → Marks → Mark
 ArePartlyNamed names [] before after = after ≡ before
 ArePartlyNamed names (v ∷ views) [] after = after ≡ []
 ArePartlyNamed names (v ∷ views) (mark ∷ before) [] = ⊥
-ArePartlyNamed names (v ∷ views) (mark ∷ before) (now ∷ after) = IsPartlyRead (is_among v.name names) mark now × ArePartlyNamed names views before after
+ArePartlyNamed names (v ∷ views) (mark ∷ before) (now ∷ after) = IsPartlyRead (is_name_among v.name names) mark now × ArePartlyNamed names views before after
 
 abbrev pub ArePartlyRead : List (List ℕ) → List ViewForm → Marks → Marks → Type 0
 ArePartlyRead names views before after = ArePartlyNamed (needed views names) views before after

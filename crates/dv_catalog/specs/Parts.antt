@@ -32,8 +32,8 @@ abbrev pub Makes : {B : Type 0} → (B → Counted) → List ℕ → Statement �
 Makes counted namespace statement old result new = MakesSo counted namespace (done_to (collection_of namespace old) statement) old result new
 
 -- one document and one change
-abbrev pub one : Counted
-one = record { matched = 1; changed = 1 }
+abbrev pub one_changed : Counted
+one_changed = record { matched = 1; changed = 1 }
 
 -- what is made of a state, or why it is refused, if only for want of memory; then it is left as it is
 abbrev pub Leaves : {S B : Type 0} → Result S Refusal → S → Result B Refusal → S → Type 0

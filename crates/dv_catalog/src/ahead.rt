@@ -5,7 +5,7 @@ ghost use Rattle.dv_bson.specs.Tree.{Field};
 ghost use Rattle.dv_index.specs.Ahead as defined;
 ghost use Rattle.dv_path.specs.Parts.{part};
 ghost use Rattle.dv_path.specs.SortSpec.{Part};
-ghost use Rattle.dv_pipe.specs.Sources.{referred};
+ghost use Rattle.dv_pipe.specs.Sources.{rows_referred};
 ghost use Rattle.dv_sort.specs.Sorting.{stable};
 ghost use Rattle.dv_catalog.specs.Scan.{matching};
 
@@ -62,7 +62,7 @@ fn first_of(
     most: usize,
 ) -> Result<Option<Vec<Document>>, NoMemory>
     requires { (parts : List Part) × (sort.now ≡ part by.now ∷ parts) }
-    ensures { IfOk result (λ found. IfSome found (λ first. (rows : List (List Field)) → kept (defined.is_ahead (part by.now) ahead.now.bar.now) (referred ahead.now.documents.items) ≡ kept (defined.is_ahead (part by.now) ahead.now.bar.now) rows → first.items ≡ take most (stable sort.now rows))) }
+    ensures { IfOk result (λ found. IfSome found (λ first. (rows : List (List Field)) → kept (defined.is_ahead (part by.now) ahead.now.bar.now) (rows_referred ahead.now.documents.items) ≡ kept (defined.is_ahead (part by.now) ahead.now.bar.now) rows → first.items ≡ take most (stable sort.now rows))) }
 {
     let first = sorted(alloc, &ahead.documents, sort, Some(most))?;
     let Some(last) = first.last() else {

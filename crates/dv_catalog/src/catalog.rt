@@ -69,7 +69,7 @@ impl Catalog {
     ghost use Rattle.dv_catalog.specs.IndexMaking as indexing;
     ghost use Rattle.dv_catalog.specs.IndexParts.{explained_seen};
     ghost use Rattle.dv_catalog.specs.Marks.{AreMarkedBy, AreMarkedByDrop, all_gone, marks_made, names_of_new, nothing_marked, stats_of};
-    ghost use Rattle.dv_catalog.specs.Parts.{Leaves, Makes, MakesSo, Reads, StandBehind, StandBy, StandMade, StandSo, one};
+    ghost use Rattle.dv_catalog.specs.Parts.{Leaves, Makes, MakesSo, Reads, StandBehind, StandBy, StandMade, StandSo, one_changed};
     ghost use Rattle.dv_catalog.specs.StatsView.{stats_seen};
     ghost use Rattle.dv_catalog.specs.Scan as scans;
     ghost use Rattle.dv_catalog.specs.State.{AreOrdered, documents_of, indexes_of, is_collection, is_there, is_view, lists_of, rows_of};
@@ -101,7 +101,7 @@ impl Catalog {
     pub fn insert(&mut self, namespace: &str, document: Document) -> Result<(), Stopped>
         requires identified { HasId document }
         requires collection { is_view namespace.now self.old.state.views ≡ false }
-        ensures made { Makes (λ _. one) namespace.now (effects.put_new document) self.old.state.namespaces result self.new.state.namespaces }
+        ensures made { Makes (λ _. one_changed) namespace.now (effects.put_new document) self.old.state.namespaces result self.new.state.namespaces }
         ensures views { self.new.state.views ≡ self.old.state.views }
         ensures marks { StandBehind namespace.now (effects.put_new document) self.old result self.new.marks }
     {

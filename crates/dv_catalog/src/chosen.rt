@@ -3,7 +3,7 @@
 ghost use Rattle.std.specs.Prelude.{◌≡◌, IfOk};
 ghost use Rattle.dv_catalog.specs.Effects.{all_or_first};
 ghost use Rattle.dv_catalog.specs.Scan as scans;
-ghost use Rattle.dv_pipe.specs.Sources.{referred};
+ghost use Rattle.dv_pipe.specs.Sources.{rows_referred};
 
 use dv_bson::{Document, NoMemory};
 use dv_index::IndexedCollection;
@@ -16,7 +16,7 @@ pub(crate) fn chosen<'c>(
     filter: &Filter,
     only_first: bool,
 ) -> Result<Vec<&'c Document>, NoMemory>
-    ensures { IfOk result (λ found. referred found.items ≡ all_or_first only_first (scans.matching filter.now collection.now.documents)) }
+    ensures { IfOk result (λ found. rows_referred found.items ≡ all_or_first only_first (scans.matching filter.now collection.now.documents)) }
 {
     if only_first {
         collection.find_first(filter, 1)

@@ -10,7 +10,7 @@ ghost use Rattle.dv_catalog.specs.Effects as effects;
 ghost use Rattle.dv_catalog.specs.EffectView.{ArePlaced, StandsFor, changes_seen};
 ghost use Rattle.dv_catalog.specs.IndexMaking as making;
 ghost use Rattle.dv_catalog.specs.IndexParts.{namespaces_so};
-ghost use Rattle.dv_catalog.specs.Parts.{Leaves, Makes, one};
+ghost use Rattle.dv_catalog.specs.Parts.{Leaves, Makes, one_changed};
 ghost use Rattle.dv_catalog.specs.State.{AreOrdered, collection_of, documents_of, empty_state, indexes_of, is_collection, with_documents};
 ghost use Rattle.dv_catalog.specs.View.{standing_seen};
 ghost use Rattle.dv_index.specs.View.{form_of_new};
@@ -95,7 +95,7 @@ impl Collections {
     /// `WantOfMemory`; then nothing is changed, and no collection is made.
     pub(crate) fn insert(&mut self, namespace: &str, document: Document) -> Result<(), Stopped>
         requires { HasId document }
-        ensures { Makes (λ _. one) namespace.now (effects.put_new document) self.old result self.new }
+        ensures { Makes (λ _. one_changed) namespace.now (effects.put_new document) self.old result self.new }
     {
         match self.collections.get_mut(namespace) {
             Some(collection) => Ok(put_new(collection, document)?),
@@ -108,7 +108,7 @@ impl Collections {
     fn insert_first(&mut self, namespace: &str, document: Document) -> Result<(), Stopped>
         requires identified { HasId document }
         requires fresh { finite.get self.old namespace.now ≡ None }
-        ensures { Makes (λ _. one) namespace.now (effects.put_new document) self.old result self.new }
+        ensures { Makes (λ _. one_changed) namespace.now (effects.put_new document) self.old result self.new }
     {
         let mut collection = IndexedCollection::new(self.alloc)?;
         collection.insert(document)?;

@@ -9,7 +9,7 @@ ghost use Rattle.dv_catalog.specs.Effects.{delete_chosen};
 ghost use Rattle.dv_catalog.specs.EffectView.{ArePlaced, StandsFor, changes_seen, effect_seen};
 ghost use Rattle.dv_catalog.specs.State.{AreOrdered};
 ghost use Rattle.dv_index.specs.Indexed.{with_documents};
-ghost use Rattle.dv_pipe.specs.Sources.{referred};
+ghost use Rattle.dv_pipe.specs.Sources.{rows_referred};
 
 use crate::chosen::chosen;
 use crate::effect::{Changes, Effect};
@@ -45,8 +45,8 @@ pub(crate) fn deleted(
 
 /// The keys of the documents' `_id`s. Fails where memory is wanting.
 fn keys_of(alloc: Global, documents: &[&Document]) -> Result<Vec<Key>, NoMemory>
-    requires { AllByRecursion HasId (referred documents.now) }
-    ensures { IfOk result (λ keys. keys.items ≡ map id_key (referred documents.now)) }
+    requires { AllByRecursion HasId (rows_referred documents.now) }
+    ensures { IfOk result (λ keys. keys.items ≡ map id_key (rows_referred documents.now)) }
 {
     let mut keys = Vec::with_capacity(alloc, documents.len())?;
     'documents: for document in documents {

@@ -9,7 +9,7 @@ ghost use Rattle.dv_catalog.specs.Told.{told};
 ghost use Rattle.dv_catalog.specs.Views.{reads_name, with_view};
 ghost use Rattle.dv_fields.specs.declared.refusal.Refusal.TheVariants.{LimitReached};
 ghost use Rattle.dv_pipe.specs.Stages.{is_read};
-ghost use Rattle.dv_views.specs.Changed.{AreMade, changed};
+ghost use Rattle.dv_views.specs.Changed.{AreMade, documents_changed};
 ghost use Rattle.dv_views.specs.Forms.{ViewForm, height_over, heights};
 
 /// Documents stay in the order of their `_id`s after a change, if a document that is put begins with its `_id`.

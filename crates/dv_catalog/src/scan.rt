@@ -5,7 +5,7 @@ ghost use Rattle.dv_command.specs.View.{sort_seen};
 ghost use Rattle.dv_catalog.specs.SearchedView.{searched};
 ghost use Rattle.dv_catalog.specs.Scan as scans;
 ghost use Rattle.dv_catalog.specs.ScanParts.{IsEnough};
-ghost use Rattle.dv_pipe.specs.Sources.{referred};
+ghost use Rattle.dv_pipe.specs.Sources.{rows_referred};
 ghost use Rattle.dv_sort.specs.Sorting.{front, stable};
 
 use crate::ahead::first_by_index;
@@ -94,7 +94,7 @@ fn most_of(skip: u64, limit: u64) -> Option<usize>
 
 /// The rows, which are shared. Fails where memory is wanting.
 fn copies(alloc: Global, rows: &[&Document]) -> Result<Vec<Document>, NoMemory>
-    ensures { IfOk result (λ copies. copies.items ≡ referred rows.now) }
+    ensures { IfOk result (λ copies. copies.items ≡ rows_referred rows.now) }
 {
     let mut copies = Vec::with_capacity(alloc, rows.len())?;
     'rows: for row in rows {
@@ -110,7 +110,7 @@ pub(crate) fn sorted(
     sort: &SortSpec,
     most: Option<usize>,
 ) -> Result<Vec<Document>, NoMemory>
-    ensures { IfOk result (λ found. found.items ≡ front most (stable sort.now (referred rows.now))) }
+    ensures { IfOk result (λ found. found.items ≡ front most (stable sort.now (rows_referred rows.now))) }
 {
     laws::one_row_more();
     let mut sorter = Sorter::new(alloc, sort, most);

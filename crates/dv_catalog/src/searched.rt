@@ -4,7 +4,7 @@ ghost use Rattle.std.specs.Prelude.{◌≡◌, IfOk};
 ghost use Rattle.dv_catalog.specs.CatalogParts.{rows_kept};
 ghost use Rattle.dv_catalog.specs.SearchedView.{searched};
 ghost use Rattle.dv_catalog.specs.Scan as scans;
-ghost use Rattle.dv_pipe.specs.Sources.{referred};
+ghost use Rattle.dv_pipe.specs.Sources.{rows_referred};
 ghost use Rattle.dv_sort.specs.Sorting.{front};
 
 use crate::collections::Collections;
@@ -49,7 +49,7 @@ pub(crate) fn first_found<'a>(
     filter: &Filter,
     most: Option<usize>,
 ) -> Result<Vec<&'a Document>, NoMemory>
-    ensures { IfOk result (λ found. referred found.items ≡ front most (scans.matching filter.now (searched within.entry))) }
+    ensures { IfOk result (λ found. rows_referred found.items ≡ front most (scans.matching filter.now (searched within.entry))) }
 {
     match within {
         Searched::Collection(collection) => match most {
@@ -67,7 +67,7 @@ fn first_matching<'a>(
     filter: &Filter,
     most: Option<usize>,
 ) -> Result<Vec<&'a Document>, NoMemory>
-    ensures { IfOk result (λ found. referred found.items ≡ front most (scans.matching filter.now rows.entry)) }
+    ensures { IfOk result (λ found. rows_referred found.items ≡ front most (scans.matching filter.now rows.entry)) }
 {
     let mut found = Vec::new(alloc);
     'rows: for row in rows {

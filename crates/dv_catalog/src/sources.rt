@@ -3,7 +3,7 @@
 ghost use Rattle.std.specs.Prelude.{◌≡◌, IfOk, OnOk};
 ghost use Rattle.std.specs.List.{AllByRecursion};
 ghost use Rattle.dv_pipe.specs.Sources as pipes;
-ghost use Rattle.dv_pipe.specs.Sources.{referred};
+ghost use Rattle.dv_pipe.specs.Sources.{rows_referred};
 ghost use Rattle.dv_views.specs.Made.{AreAlike};
 ghost use Rattle.dv_catalog.specs.CatalogParts.{rows_kept};
 ghost use Rattle.dv_catalog.specs.SourceParts.{with_list};
@@ -80,7 +80,7 @@ fn add_rows<'a>(
 
 /// References to the rows. Fails where memory is wanting.
 fn references<'a>(alloc: Global, rows: Rows<'a>) -> Result<Vec<&'a Document>, NoMemory>
-    ensures { IfOk result (λ references. referred references.items ≡ rows.entry) }
+    ensures { IfOk result (λ references. rows_referred references.items ≡ rows.entry) }
 {
     let mut references = Vec::new(alloc);
     'rows: for row in rows {

@@ -12,7 +12,7 @@ ghost use Rattle.dv_catalog.specs.EffectView.{ArePlaced, AreUpdatesOf, StandsFor
 ghost use Rattle.dv_catalog.specs.State.{AreOrdered};
 ghost use Rattle.dv_index.specs.Indexed.{with_documents};
 ghost use Rattle.dv_index.specs.View.{afters as documents_after, befores as documents_before};
-ghost use Rattle.dv_pipe.specs.Sources.{referred};
+ghost use Rattle.dv_pipe.specs.Sources.{rows_referred};
 ghost use Rattle.dv_update.specs.Apply.{applied};
 ghost use Rattle.dv_update.specs.Outcome as outcomes;
 ghost use Rattle.dv_update.specs.Parsing.{Gives};
@@ -95,8 +95,8 @@ fn changed_by(
     documents: &[&Document],
     whole: bool,
 ) -> Result<Vec<Updated>, Refusal>
-    ensures afters { UnlessWanting (λ changed. map (after_of (outcomes.sole_name (seen.update update.now))) changed.items) (effects.changed_by (seen.update update.now) (referred documents.now)) result }
-    ensures befores { IfOk result (λ changed. map (λ u. u.before) changed.items ≡ filter (effects.changes (seen.update update.now)) (referred documents.now)) }
+    ensures afters { UnlessWanting (λ changed. map (after_of (outcomes.sole_name (seen.update update.now))) changed.items) (effects.changed_by (seen.update update.now) (rows_referred documents.now)) result }
+    ensures befores { IfOk result (λ changed. map (λ u. u.before) changed.items ≡ filter (effects.changes (seen.update update.now)) (rows_referred documents.now)) }
 {
     let mut changed = Vec::new(alloc);
     'documents: for document in documents {

@@ -94,7 +94,7 @@ fn is_one_stale(registry: &Registry, names: &[Str]) -> bool
 
 /// Whether there is a view of this name, and it is stale. Takes no memory.
 fn is_stale(registry: &Registry, name: &str) -> bool
-    ensures { result ≡ parts.is_stale_view (views.view_named name.now registry.now) }
+    ensures { result ≡ parts.is_stale_view (views.view_under name.now registry.now) }
 {
     match registry.state(name) {
         Some(ViewState::Stale) => true,

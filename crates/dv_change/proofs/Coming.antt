@@ -3,7 +3,7 @@ use Rattle.std.specs.Prelude.{◌≡◌, Bool, true, false, not, cond, List, [],
 use Rattle.dv_bson.specs.Tree.{Field}
 use Rattle.dv_change.specs.declared.change.Change.TheVariants.{Put}
 use Rattle.dv_change.specs.Changes.{Positioned, at}
-use Rattle.dv_change.specs.Difference.{put_over, puts, stands}
+use Rattle.dv_change.specs.Difference.{put_over, puts, stands_as}
 use Rattle.dv_change.specs.Positions.{PosTree}
 
 one-more : (b : Bool) (e : PosTree × List Field) (es : Positioned) → map (λ e. Put e.0 e.1) (cond b (e ∷ es) es) ≡ (if b then Put e.0 e.1 ∷ [] else []) ++ map (λ e. Put e.0 e.1) es
@@ -11,4 +11,4 @@ one-more true e es = refl
 one-more false e es = refl
 
 pub puts_more : (old : Positioned) (e : PosTree × List Field) (es : Positioned) → puts old (e ∷ es) ≡ put_over old e.0 e.1 ++ puts old es
-puts_more old e es = one-more (not (stands (at e.0 old) e.1)) e (filter (λ e. not (stands (at e.0 old) e.1)) es)
+puts_more old e es = one-more (not (stands_as (at e.0 old) e.1)) e (filter (λ e. not (stands_as (at e.0 old) e.1)) es)

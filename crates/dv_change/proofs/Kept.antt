@@ -6,7 +6,7 @@ use Rattle.dv_change.specs.declared.input.Input.{Input}
 use Rattle.dv_change.specs.declared.input.Input.TheVariants.{Left, Named}
 use Rattle.dv_change.specs.Inputs.{left_after}
 use Rattle.dv_change.specs.Linked.{HasTaken, IsLinked, first_left, forms_of}
-use Rattle.dv_change.specs.Work.{forms_after, pass_in, through, work_in}
+use Rattle.dv_change.specs.Work.{forms_after, pass_in, through_forms, work_in}
 
 module _ {T : Type 0} (left : T → Positioned) (others : T → List Positioned) (makes : T → List Positioned → Positioned → Positioned) (sound : T → Type 0) where
   -- without a turn the rows are those that come
@@ -18,7 +18,7 @@ module _ {T : Type 0} (left : T → Positioned) (others : T → List Positioned)
 
   pub taken-after : (ts us : List T) (out rows : Positioned) (input : Input) (change : Change) (items : List Change) → forms_of left others makes sound us ≡ forms_after input change (forms_of left others makes sound ts)
       → IsLinked left others makes sound us (left_after input change (first_left left others makes sound ts))
-      → with_changes (through (forms_of left others makes sound ts) (first_left left others makes sound ts)) (pass_in input change (forms_of left others makes sound ts) (first_left left others makes sound ts)) ≡ through (forms_of left others makes sound us) (left_after input change (first_left left others makes sound ts))
+      → with_changes (through_forms (forms_of left others makes sound ts) (first_left left others makes sound ts)) (pass_in input change (forms_of left others makes sound ts) (first_left left others makes sound ts)) ≡ through_forms (forms_of left others makes sound us) (left_after input change (first_left left others makes sound ts))
       → items ≡ pass_in input change (forms_of left others makes sound ts) (first_left left others makes sound ts)
       → HasTaken left others makes sound ts out rows → HasTaken left others makes sound us (with_changes out items) (left_after input change rows)
   taken-after [] us out rows input change items forms linked leads is taken =
@@ -26,9 +26,9 @@ module _ {T : Type 0} (left : T → Positioned) (others : T → List Positioned)
   taken-after (t ∷ ts) us out rows input change items forms linked leads is taken =
       let came : left t ≡ rows = taken.0.1 in
       let stages = forms_of left others makes sound (t ∷ ts) in
-      let before : out ≡ through stages (left t) = taken.1 ∙ ap (through stages) (sym came) in (
+      let before : out ≡ through_forms stages (left t) = taken.1 ∙ ap (through_forms stages) (sym came) in (
         subst (λ (r : Positioned). IsLinked left others makes sound us (left_after input change r)) came linked,
-        (λ i. with_changes (before i) (is i)) ∙ leads ∙ ap (λ r. through (forms_of left others makes sound us) (left_after input change r)) came,
+        (λ i. with_changes (before i) (is i)) ∙ leads ∙ ap (λ r. through_forms (forms_of left others makes sound us) (left_after input change r)) came,
       )
 
   -- the work over the rows that the first turn has taken in
@@ -40,6 +40,6 @@ module _ {T : Type 0} (left : T → Positioned) (others : T → List Positioned)
   pub fresh-taken : (ts : List T) (out : Positioned) → ((t : T) (named : List Positioned) → makes t named [] ≡ []) → IsLinked left others makes sound ts [] → out ≡ [] → HasTaken left others makes sound ts out []
   fresh-taken ts out empty linked none = (linked, none ∙ sym (through-none ts))
     where
-      through-none : (us : List T) → through (forms_of left others makes sound us) [] ≡ []
+      through-none : (us : List T) → through_forms (forms_of left others makes sound us) [] ≡ []
       through-none [] = refl
-      through-none (u ∷ us) = ap (through (forms_of left others makes sound us)) (empty u (others u)) ∙ through-none us
+      through-none (u ∷ us) = ap (through_forms (forms_of left others makes sound us)) (empty u (others u)) ∙ through-none us

@@ -9,10 +9,10 @@ use Rattle.dv_change.specs.DiffLaws.{apply-diff, exact-both, exact-diff, positio
 use Rattle.dv_change.specs.Linked.{IsLinked, first_left, forms_of, last_outs}
 use Rattle.dv_change.specs.declared.input.Input.{Input}
 use Rattle.dv_change.specs.declared.input.Input.TheVariants.{Left, Named}
-use Rattle.dv_change.specs.Inputs.{changed_at, left_after, others_after}
+use Rattle.dv_change.specs.Inputs.{input_changed_at, left_after, others_after}
 use Rattle.dv_change.specs.Raised.{raised}
 use Rattle.dv_change.specs.RowLaws.{positioned-none}
-use Rattle.dv_change.specs.Work.{Form, forms_after, forms_named, handed, owed_by, pass, pass_in, pass_named, through, work, work_named}
+use Rattle.dv_change.specs.Work.{Form, forms_after, forms_named, handed, owed_by, pass, pass_in, pass_named, through_forms, work, work_named}
 
 -- what holds where a call answers Ok
 pub ok-both : {A E : Type 0} {P Q R : Type 0} (r : Result A E) → OnOk r P → OnOk r Q → (P → Q → R) → OnOk r R
@@ -127,29 +127,29 @@ module _ {T : Type 0} (left : T → Positioned) (others : T → List Positioned)
         let none : makes t (others t) (left t) ≡ [] = ap (makes t (others t)) all.0.1 ∙ empty t (others t) in
         (all.0.0, all.0.1, subst (λ (rows : Positioned). IsLinked left others makes sound ts rows) (sym none) (fresh-linked empty ts all.1))
 
-    pub outs-linked : (ts : List T) (rows : Positioned) → IsLinked left others makes sound ts rows → last_outs left others makes sound ts rows ≡ through (forms_of left others makes sound ts) rows
+    pub outs-linked : (ts : List T) (rows : Positioned) → IsLinked left others makes sound ts rows → last_outs left others makes sound ts rows ≡ through_forms (forms_of left others makes sound ts) rows
     outs-linked [] rows l = refl
-    outs-linked (t ∷ ts) rows l = outs-linked ts (makes t (others t) (left t)) l.2 ∙ ap (λ r. through (forms_of left others makes sound ts) (makes t (others t) r)) l.1
+    outs-linked (t ∷ ts) rows l = outs-linked ts (makes t (others t) (left t)) l.2 ∙ ap (λ r. through_forms (forms_of left others makes sound ts) (makes t (others t) r)) l.1
 
-    leads-all : (ts : List T) (rows : Positioned) (changes : List Change) → IsPositioned rows → AllByRecursion IsExactChange changes → with_changes (through (forms_of left others makes sound ts) rows) (pass (forms_of left others makes sound ts) rows changes) ≡ through (forms_of left others makes sound ts) (with_changes rows changes)
+    leads-all : (ts : List T) (rows : Positioned) (changes : List Change) → IsPositioned rows → AllByRecursion IsExactChange changes → with_changes (through_forms (forms_of left others makes sound ts) rows) (pass (forms_of left others makes sound ts) rows changes) ≡ through_forms (forms_of left others makes sound ts) (with_changes rows changes)
     leads-all [] rows changes are exact = refl
     leads-all (t ∷ ts) rows changes are exact =
         let f = makes t (others t) in
         leads-all ts (f rows) (handed f rows changes) (ordered t (others t) rows are) (exact-handed f (ordered t (others t)) rows changes are exact)
-        ∙ ap (through (forms_of left others makes sound ts)) (apply-handed f (ordered t (others t)) rows changes are exact)
+        ∙ ap (through_forms (forms_of left others makes sound ts)) (apply-handed f (ordered t (others t)) rows changes are exact)
 
-    leads-named : (i : ℕ) (change : Change) (ts : List T) (rows : Positioned) → IsPositioned rows → with_changes (through (forms_of left others makes sound ts) rows) (pass_named i change (forms_of left others makes sound ts) rows) ≡ through (forms_named i change (forms_of left others makes sound ts)) rows
+    leads-named : (i : ℕ) (change : Change) (ts : List T) (rows : Positioned) → IsPositioned rows → with_changes (through_forms (forms_of left others makes sound ts) rows) (pass_named i change (forms_of left others makes sound ts) rows) ≡ through_forms (forms_named i change (forms_of left others makes sound ts)) rows
     leads-named i change [] rows are = refl
     leads-named i change (t ∷ ts) rows are = by (nat_lt i (length (others t))) (leads-named (i - length (others t)) change ts (makes t (others t) rows) (ordered t (others t) rows are))
       where
-        by : (b : Bool) → with_changes (through (forms_of left others makes sound ts) (makes t (others t) rows)) (pass_named (i - length (others t)) change (forms_of left others makes sound ts) (makes t (others t) rows)) ≡ through (forms_named (i - length (others t)) change (forms_of left others makes sound ts)) (makes t (others t) rows)
-            → with_changes (through (forms_of left others makes sound ts) (makes t (others t) rows)) (if b then pass (forms_of left others makes sound ts) (makes t (others t) rows) (owed_by (Named i) change (makes t) (others t) rows) else pass_named (i - length (others t)) change (forms_of left others makes sound ts) (makes t (others t) rows))
-            ≡ through (if b then record { makes = makes t; named = changed_at i change (others t) } ∷ forms_of left others makes sound ts else record { makes = makes t; named = others t } ∷ forms_named (i - length (others t)) change (forms_of left others makes sound ts)) rows
+        by : (b : Bool) → with_changes (through_forms (forms_of left others makes sound ts) (makes t (others t) rows)) (pass_named (i - length (others t)) change (forms_of left others makes sound ts) (makes t (others t) rows)) ≡ through_forms (forms_named (i - length (others t)) change (forms_of left others makes sound ts)) (makes t (others t) rows)
+            → with_changes (through_forms (forms_of left others makes sound ts) (makes t (others t) rows)) (if b then pass (forms_of left others makes sound ts) (makes t (others t) rows) (owed_by (Named i) change (makes t) (others t) rows) else pass_named (i - length (others t)) change (forms_of left others makes sound ts) (makes t (others t) rows))
+            ≡ through_forms (if b then record { makes = makes t; named = input_changed_at i change (others t) } ∷ forms_of left others makes sound ts else record { makes = makes t; named = others t } ∷ forms_named (i - length (others t)) change (forms_of left others makes sound ts)) rows
         by true rest =
             let before = ordered t (others t) rows are in
-            let behind = ordered t (changed_at i change (others t)) rows are in
-            leads-all ts (makes t (others t) rows) (owed_by (Named i) change (makes t) (others t) rows) before (exact-diff (makes t (others t) rows) (makes t (changed_at i change (others t)) rows) before behind)
-            ∙ ap (through (forms_of left others makes sound ts)) (apply-diff (makes t (others t) rows) (makes t (changed_at i change (others t)) rows) before behind)
+            let behind = ordered t (input_changed_at i change (others t)) rows are in
+            leads-all ts (makes t (others t) rows) (owed_by (Named i) change (makes t) (others t) rows) before (exact-diff (makes t (others t) rows) (makes t (input_changed_at i change (others t)) rows) before behind)
+            ∙ ap (through_forms (forms_of left others makes sound ts)) (apply-diff (makes t (others t) rows) (makes t (input_changed_at i change (others t)) rows) before behind)
         by false rest = rest
 
     first-positioned : (ts : List T) → IsLinked left others makes sound ts (first_left left others makes sound ts) → IsPositioned (first_left left others makes sound ts)
@@ -157,18 +157,18 @@ module _ {T : Type 0} (left : T → Positioned) (others : T → List Positioned)
     first-positioned (t ∷ ts) l = (positioned t l.0).0
 
     pub leads : (ts : List T) (input : Input) (change : Change) → IsExactChange change → IsLinked left others makes sound ts (first_left left others makes sound ts)
-        → with_changes (through (forms_of left others makes sound ts) (first_left left others makes sound ts)) (pass_in input change (forms_of left others makes sound ts) (first_left left others makes sound ts))
-        ≡ through (forms_after input change (forms_of left others makes sound ts)) (left_after input change (first_left left others makes sound ts))
+        → with_changes (through_forms (forms_of left others makes sound ts) (first_left left others makes sound ts)) (pass_in input change (forms_of left others makes sound ts) (first_left left others makes sound ts))
+        ≡ through_forms (forms_after input change (forms_of left others makes sound ts)) (left_after input change (first_left left others makes sound ts))
     leads ts Left change exact l = leads-all ts (first_left left others makes sound ts) (change ∷ []) (first-positioned ts l) (exact, tt)
     leads ts (Named i) change exact l = leads-named i change ts (first_left left others makes sound ts) (first-positioned ts l)
 
     -- with the input known
     pub outs-after : (us : List T) (before rows : Positioned) (input : Input) (change : Change) → left_after input change before ≡ rows → IsLinked left others makes sound us rows
-        → last_outs left others makes sound us (left_after input change before) ≡ through (forms_of left others makes sound us) (left_after input change before)
+        → last_outs left others makes sound us (left_after input change before) ≡ through_forms (forms_of left others makes sound us) (left_after input change before)
     outs-after us before rows input change e l = outs-linked us (left_after input change before) (subst (λ (r : Positioned). IsLinked left others makes sound us r) (sym e) l)
 
     pub leads-after : (ts us : List T) (input : Input) (change : Change) → IsExactChange change → IsLinked left others makes sound ts (first_left left others makes sound ts)
         → forms_of left others makes sound us ≡ forms_after input change (forms_of left others makes sound ts)
-        → with_changes (through (forms_of left others makes sound ts) (first_left left others makes sound ts)) (pass_in input change (forms_of left others makes sound ts) (first_left left others makes sound ts))
-        ≡ through (forms_of left others makes sound us) (left_after input change (first_left left others makes sound ts))
-    leads-after ts us input change exact l forms = leads ts input change exact l ∙ ap (λ (fs : List Form). through fs (left_after input change (first_left left others makes sound ts))) (sym forms)
+        → with_changes (through_forms (forms_of left others makes sound ts) (first_left left others makes sound ts)) (pass_in input change (forms_of left others makes sound ts) (first_left left others makes sound ts))
+        ≡ through_forms (forms_of left others makes sound us) (left_after input change (first_left left others makes sound ts))
+    leads-after ts us input change exact l forms = leads ts input change exact l ∙ ap (λ (fs : List Form). through_forms fs (left_after input change (first_left left others makes sound ts))) (sym forms)

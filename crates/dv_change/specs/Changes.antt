@@ -19,9 +19,9 @@ with_change rows (Put pos row) = insert_entry pos_order rows pos row
 with_change rows (Gone pos) = remove_entry (is_at (pos_order pos)) rows
 
 -- the position of a change
-abbrev pub place_of : Change → PosTree
-place_of (Put pos row) = pos
-place_of (Gone pos) = pos
+abbrev pub position_changed : Change → PosTree
+position_changed (Put pos row) = pos
+position_changed (Gone pos) = pos
 
 -- the row that stands there afterwards, where one does
 abbrev pub row_in : Change → Option (List Field)
@@ -55,9 +55,9 @@ abbrev pub HaveOneLength : Positioned → Type 0
 HaveOneLength rows = (n : ℕ) × AllByRecursion (λ pos. length pos ≡ n) (keys_of rows)
 
 -- rows in the order of their positions; of two at one position the first stays
-abbrev pub in_order : Positioned → Positioned
-in_order [] = []
-in_order (e ∷ es) = insert_entry pos_order (in_order es) e.0 e.1
+abbrev pub in_row_order : Positioned → Positioned
+in_row_order [] = []
+in_row_order (e ∷ es) = insert_entry pos_order (in_row_order es) e.0 e.1
 
 -- the keys of a change's position are those of values, or the one that no value has
 abbrev pub IsExactChange : Change → Type 0

@@ -14,8 +14,8 @@ use Rattle.dv_order.specs.SameLaws.{same_documents}
 use Rattle.dv_change.specs.declared.change.Change.{Change}
 use Rattle.dv_change.specs.declared.change.Change.TheVariants.{Put, Gone}
 use Rattle.dv_change.specs.Positions.{IsExact, PosTree, pos_order}
-use Rattle.dv_change.specs.Changes.{IsExactChange, IsPositioned, Positioned, alone, at, place_of, row_in, with_change, with_changes}
-use Rattle.dv_change.specs.Difference.{diff, gones, puts, stands}
+use Rattle.dv_change.specs.Changes.{IsExactChange, IsPositioned, Positioned, alone, at, position_changed, row_in, with_change, with_changes}
+use Rattle.dv_change.specs.Difference.{diff, gones, puts, stands_as}
 use Rattle.dv_change.specs.Ordered.{found_at, gone, put}
 use Rattle.dv_change.specs.RowLaws.{at-gone, at-like, at-put, at_back, past, positioned-gone, positioned-none, positioned-put, positioned-tail, same_rows}
 
@@ -115,25 +115,25 @@ exact-both (change ∷ some) others s o = (s.0, exact-both some others s.1 o)
 abbrev pub went : Positioned → PosTree × List Field → Bool
 went new e = is_none (at e.0 new)
 
-abbrev pub differs : Positioned → PosTree × List Field → Bool
-differs old e = not (stands (at e.0 old) e.1)
+abbrev pub row_differs : Positioned → PosTree × List Field → Bool
+row_differs old e = not (stands_as (at e.0 old) e.1)
 
 pub exact-diff : (old new : Positioned) → IsPositioned old → IsPositioned new → AllByRecursion IsExactChange (diff old new)
 exact-diff old new o n =
-    exact-both (gones old new) (puts old new) (exact-go (filter (went new) old) (positioned-filter (went new) old o).exact) (exact-come (filter (differs old) new) (positioned-filter (differs old) new n).exact)
+    exact-both (gones old new) (puts old new) (exact-go (filter (went new) old) (positioned-filter (went new) old o).exact) (exact-come (filter (row_differs old) new) (positioned-filter (row_differs old) new n).exact)
 
 -- what goes and what comes at a position
 pub at-went : (old new : Positioned) (q : PosTree) → IsPositioned old → at q (filter (went new) old) ≡ option_filter (λ v. is_none (at q new)) (at q old)
 at-went old new q o = at-filter (went new) q (λ v. is_none (at q new)) (λ p v e. ap is_none (sym (at-like q p e new))) old o
 
-pub at-differs : (old new : Positioned) (q : PosTree) → IsPositioned new → at q (filter (differs old) new) ≡ option_filter (λ v. not (stands (at q old) v)) (at q new)
-at-differs old new q n = at-filter (differs old) q (λ v. not (stands (at q old) v)) (λ p v e. ap (λ a. not (stands a v)) (sym (at-like q p e old))) new n
+pub at-differs : (old new : Positioned) (q : PosTree) → IsPositioned new → at q (filter (row_differs old) new) ≡ option_filter (λ v. not (stands_as (at q old) v)) (at q new)
+at-differs old new q n = at-filter (row_differs old) q (λ v. not (stands_as (at q old) v)) (λ p v e. ap (λ a. not (stands_as a v)) (sym (at-like q p e old))) new n
 
 pub with_changes-both : (rows : Positioned) (some others : List Change) → with_changes rows (some ++ others) ≡ with_changes (with_changes rows some) others
 with_changes-both rows [] others = refl
 with_changes-both rows (change ∷ some) others = with_changes-both (with_change rows change) some others
 
-settled : (a b : Option (List Field)) → or_else (option_filter (λ v. not (stands a v)) b) (cond (is_some (option_filter (λ v. is_none b) a)) None a) ≡ b
+settled : (a b : Option (List Field)) → or_else (option_filter (λ v. not (stands_as a v)) b) (cond (is_some (option_filter (λ v. is_none b) a)) None a) ≡ b
 settled None None = refl
 settled None (Some v) = refl
 settled (Some d) None = refl
@@ -148,11 +148,11 @@ pub apply-diff : (old new : Positioned) → IsPositioned old → IsPositioned ne
 apply-diff old new o n =
     same_rows (with_changes old (diff old new)) new (positioned-changes old (diff old new) o (exact-diff old new o n)) n (λ q exact.
     let left = filter (went new) old in
-    let came = filter (differs old) new in
+    let came = filter (row_differs old) new in
     let left_at = at-went old new q o in
     let came_at = at-differs old new q n in
     ap (at q) (with_changes-both old (all_go left) (all_come came))
-    ∙ at-all_come q came (with_changes old (all_go left)) (positioned-filter (differs old) new n)
+    ∙ at-all_come q came (with_changes old (all_go left)) (positioned-filter (row_differs old) new n)
     ∙ ap (or_else (at q came)) (at-all_go q left old o)
     ∙ (λ i. or_else (came_at i) (cond (is_some (left_at i)) None (at q old)))
     ∙ settled (at q old) (at q new))
@@ -167,7 +167,7 @@ none_went : (a : Option (List Field)) → option_filter (λ v. is_none a) a ≡ 
 none_went None = refl
 none_went (Some v) = refl
 
-none_differs : (a : Option (List Field)) → option_filter (λ v. not (stands a v)) a ≡ None
+none_differs : (a : Option (List Field)) → option_filter (λ v. not (stands_as a v)) a ≡ None
 none_differs None = refl
 none_differs (Some v) = by (same_fields (fields_of v) (fields_of v)) ((same_documents v v).1 refl)
   where
@@ -181,10 +181,10 @@ module _ (old new before after : Positioned) where
   went-there q (inr same) =
       ap (option_filter (λ v. is_none (at q new))) same.2 ∙ none_went (at q new) ∙ sym (ap (option_filter (λ v. is_none (at q after))) same.0)
 
-  came-there : (q : PosTree) → IsPartAt old new before after q → option_filter (λ v. not (stands (at q old) v)) (at q new) ≡ option_filter (λ v. not (stands (at q before) v)) (at q after)
-  came-there q (inl both) = λ i. option_filter (λ v. not (stands (sym both.0 i) v)) (sym both.1 i)
+  came-there : (q : PosTree) → IsPartAt old new before after q → option_filter (λ v. not (stands_as (at q old) v)) (at q new) ≡ option_filter (λ v. not (stands_as (at q before) v)) (at q after)
+  came-there q (inl both) = λ i. option_filter (λ v. not (stands_as (sym both.0 i) v)) (sym both.1 i)
   came-there q (inr same) =
-      ap (option_filter (λ v. not (stands (at q old) v))) (sym same.2) ∙ none_differs (at q old) ∙ sym (ap (option_filter (λ v. not (stands (at q before) v))) same.1)
+      ap (option_filter (λ v. not (stands_as (at q old) v))) (sym same.2) ∙ none_differs (at q old) ∙ sym (ap (option_filter (λ v. not (stands_as (at q before) v))) same.1)
 
   -- their difference is that of the parts
   pub diff-parts : IsPositioned old → IsPositioned new → IsPositioned before → IsPositioned after → ((q : PosTree) → IsExact q → IsPartAt old new before after q) → diff old new ≡ diff before after
@@ -192,14 +192,14 @@ module _ (old new before after : Positioned) where
       let goes : filter (went new) old ≡ filter (went after) before =
       same_rows (filter (went new) old) (filter (went after) before) (positioned-filter (went new) old o) (positioned-filter (went after) before b) (λ q exact.
       at-went old new q o ∙ went-there q (parts q exact) ∙ sym (at-went before after q b)) in
-      let comes : filter (differs old) new ≡ filter (differs before) after =
-      same_rows (filter (differs old) new) (filter (differs before) after) (positioned-filter (differs old) new n) (positioned-filter (differs before) after a) (λ q exact.
+      let comes : filter (row_differs old) new ≡ filter (row_differs before) after =
+      same_rows (filter (row_differs old) new) (filter (row_differs before) after) (positioned-filter (row_differs old) new n) (positioned-filter (row_differs before) after a) (λ q exact.
       at-differs old new q n ∙ came-there q (parts q exact) ∙ sym (at-differs before after q a)) in
       λ i. all_go (goes i) ++ all_come (comes i)
 
 -- ---- rows after a change
 
-pub at-changed : (q : PosTree) (rows : Positioned) (change : Change) → IsPositioned rows → at q (with_change rows change) ≡ cond (is_eq (pos_order q (place_of change))) (row_in change) (at q rows)
+pub at-changed : (q : PosTree) (rows : Positioned) (change : Change) → IsPositioned rows → at q (with_change rows change) ≡ cond (is_eq (pos_order q (position_changed change))) (row_in change) (at q rows)
 at-changed q rows (Put p r) are = at-put q p r rows
 at-changed q rows (Gone p) are = at-gone q p rows are.ascending ∙ ap (λ b. cond b None (at q rows)) (at_back p q)
 
@@ -207,7 +207,7 @@ pub positioned-changed : (rows : Positioned) (change : Change) → IsPositioned 
 positioned-changed rows (Put p r) are exact = positioned-put p r rows are exact
 positioned-changed rows (Gone p) are exact = positioned-gone p rows are
 
-pub exact-place : (change : Change) → IsExactChange change → IsExact (place_of change)
+pub exact-place : (change : Change) → IsExactChange change → IsExact (position_changed change)
 exact-place (Put p r) exact = exact
 exact-place (Gone p) exact = exact
 

@@ -9,9 +9,9 @@ use Rattle.dv_change.specs.Changes.{Positioned, at}
 use Rattle.dv_change.specs.Positions.{PosTree}
 
 -- whether there is a row, and it is the same as the other one
-abbrev pub stands : Option (List Field) → List Field → Bool
-stands None row = false
-stands (Some there) row = same_fields (fields_of there) (fields_of row)
+abbrev pub stands_as : Option (List Field) → List Field → Bool
+stands_as None row = false
+stands_as (Some there) row = same_fields (fields_of there) (fields_of row)
 
 -- a position at which rows have none goes
 abbrev pub gone_from : PosTree → Positioned → List Change
@@ -19,7 +19,7 @@ gone_from pos new = if is_none (at pos new) then Gone pos ∷ [] else []
 
 -- a row that rows don't hold as it is comes
 abbrev pub put_over : Positioned → PosTree → List Field → List Change
-put_over old pos row = if not (stands (at pos old) row) then Put pos row ∷ [] else []
+put_over old pos row = if not (stands_as (at pos old) row) then Put pos row ∷ [] else []
 
 -- each position of the first list at which the second one has no row goes
 abbrev pub gones : Positioned → Positioned → List Change
@@ -27,7 +27,7 @@ gones old new = map (λ e. Gone e.0) (filter (λ e. is_none (at e.0 new)) old)
 
 -- each row of the second list that the first one doesn't hold as it is comes
 abbrev pub puts : Positioned → Positioned → List Change
-puts old new = map (λ e. Put e.0 e.1) (filter (λ e. not (stands (at e.0 old) e.1)) new)
+puts old new = map (λ e. Put e.0 e.1) (filter (λ e. not (stands_as (at e.0 old) e.1)) new)
 
 -- what goes, and then what comes, each in the order of positions
 abbrev pub diff : Positioned → Positioned → List Change

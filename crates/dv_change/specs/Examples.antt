@@ -11,8 +11,8 @@ abbrev pub place : ℕ → PosTree
 place n = At n ∷ []
 
 -- a row with one field, an int32
-abbrev pub number : ℕ → List Field
-number n = (codes "a", int32 (pos n)) ∷ []
+abbrev pub numbered_row : ℕ → List Field
+numbered_row n = (codes "a", int32 (pos n)) ∷ []
 
 -- the same number as an int64
 abbrev pub wide_number : ℕ → List Field
@@ -31,5 +31,5 @@ first_named [] = []
 first_named (rows ∷ others) = rows
 
 -- a stage that makes the rows of the list that it looks into
-abbrev pub looked_up : Positioned → Form
-looked_up rows = record { makes = λ named left. first_named named; named = rows ∷ [] }
+abbrev pub looked_up_form : Positioned → Form
+looked_up_form rows = record { makes = λ named left. first_named named; named = rows ∷ [] }

@@ -16,12 +16,12 @@ left_after Left change left = with_change left change
 left_after (Named i) change left = left
 
 -- some lists, after a change of the one at a place
-abbrev pub changed_at : ℕ → Change → List Positioned → List Positioned
-changed_at i change [] = []
-changed_at zero change (rows ∷ others) = with_change rows change ∷ others
-changed_at (suc i) change (rows ∷ others) = rows ∷ changed_at i change others
+abbrev pub input_changed_at : ℕ → Change → List Positioned → List Positioned
+input_changed_at i change [] = []
+input_changed_at zero change (rows ∷ others) = with_change rows change ∷ others
+input_changed_at (suc i) change (rows ∷ others) = rows ∷ input_changed_at i change others
 
 -- the lists that it looks into, after a change of an input
 abbrev pub others_after : Input → Change → List Positioned → List Positioned
 others_after Left change others = others
-others_after (Named i) change others = changed_at i change others
+others_after (Named i) change others = input_changed_at i change others

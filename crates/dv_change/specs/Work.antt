@@ -5,7 +5,7 @@ use Rattle.dv_change.specs.declared.input.Input.{Input}
 use Rattle.dv_change.specs.declared.input.Input.TheVariants.{Left, Named}
 use Rattle.dv_change.specs.Changes.{Positioned, with_change}
 use Rattle.dv_change.specs.Difference.{diff}
-use Rattle.dv_change.specs.Inputs.{changed_at, left_after, others_after}
+use Rattle.dv_change.specs.Inputs.{input_changed_at, left_after, others_after}
 
 -- what a stage makes of the lists that it looks into and of its rows; and these lists
 pub record Form : Type 0 where
@@ -13,8 +13,8 @@ pub record Form : Type 0 where
   pub named : List Positioned
 
 -- the rows of a stage
-abbrev pub rows_of : Form → Positioned → Positioned
-rows_of form rows = form.makes form.named rows
+abbrev pub stage_rows : Form → Positioned → Positioned
+stage_rows form rows = form.makes form.named rows
 
 -- the changes that lead from what a stage makes before a change of an input to what it makes after it
 abbrev pub owed_by : Input → Change → (List Positioned → Positioned → Positioned) → List Positioned → Positioned → List Change
@@ -29,19 +29,19 @@ handed makes rows [] = []
 handed makes rows (change ∷ changes) = diff (makes rows) (makes (with_change rows change)) ++ handed makes (with_change rows change) changes
 
 -- the rows of the last stage
-abbrev pub through : List Form → Positioned → Positioned
-through [] rows = rows
-through (form ∷ forms) rows = through forms (rows_of form rows)
+abbrev pub through_forms : List Form → Positioned → Positioned
+through_forms [] rows = rows
+through_forms (form ∷ forms) rows = through_forms forms (stage_rows form rows)
 
 -- what comes out of the last stage for changes of the rows that come to the first, one after the other
 abbrev pub pass : List Form → Positioned → List Change → List Change
 pass [] rows changes = changes
-pass (form ∷ forms) rows changes = pass forms (rows_of form rows) (handed (rows_of form) rows changes)
+pass (form ∷ forms) rows changes = pass forms (stage_rows form rows) (handed (stage_rows form) rows changes)
 
 -- the work for such changes: for each stage, 1 for each change that comes to it, and 1 for each that it hands on
 abbrev pub work : List Form → Positioned → List Change → ℕ
 work [] rows changes = 0
-work (form ∷ forms) rows changes = length changes + length (handed (rows_of form) rows changes) + work forms (rows_of form rows) (handed (rows_of form) rows changes)
+work (form ∷ forms) rows changes = length changes + length (handed (stage_rows form) rows changes) + work forms (stage_rows form rows) (handed (stage_rows form) rows changes)
 
 -- how many lists the stages look into
 abbrev pub named_in : List Form → ℕ
@@ -57,16 +57,16 @@ HasAny (Named i) forms = i < named_in forms
 abbrev pub pass_named : ℕ → Change → List Form → Positioned → List Change
 pass_named i change [] rows = []
 pass_named i change (form ∷ forms) rows =
-    if nat_lt i (length form.named) then pass forms (rows_of form rows) (owed (Named i) change form rows) else pass_named (i - length form.named) change forms (rows_of form rows)
+    if nat_lt i (length form.named) then pass forms (stage_rows form rows) (owed (Named i) change form rows) else pass_named (i - length form.named) change forms (stage_rows form rows)
 
 abbrev pub work_named : ℕ → Change → List Form → Positioned → ℕ
 work_named i change [] rows = 0
 work_named i change (form ∷ forms) rows =
-    if nat_lt i (length form.named) then 1 + length (owed (Named i) change form rows) + work forms (rows_of form rows) (owed (Named i) change form rows) else work_named (i - length form.named) change forms (rows_of form rows)
+    if nat_lt i (length form.named) then 1 + length (owed (Named i) change form rows) + work forms (stage_rows form rows) (owed (Named i) change form rows) else work_named (i - length form.named) change forms (stage_rows form rows)
 
 abbrev pub forms_named : ℕ → Change → List Form → List Form
 forms_named i change [] = []
-forms_named i change (form ∷ forms) = if nat_lt i (length form.named) then record { makes = form.makes; named = changed_at i change form.named } ∷ forms else form ∷ forms_named (i - length form.named) change forms
+forms_named i change (form ∷ forms) = if nat_lt i (length form.named) then record { makes = form.makes; named = input_changed_at i change form.named } ∷ forms else form ∷ forms_named (i - length form.named) change forms
 
 -- what comes out of the last stage for a change of an input
 abbrev pub pass_in : Input → Change → List Form → Positioned → List Change

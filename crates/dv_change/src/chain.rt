@@ -7,7 +7,7 @@ ghost use Rattle.dv_change.specs.Inputs.{left_after};
 ghost use Rattle.dv_change.specs.Linked.{IsLinked, first_left, forms_of, last_outs};
 ghost use Rattle.dv_change.specs.Raised.{raised};
 ghost use Rattle.dv_change.specs.Work as defined;
-ghost use Rattle.dv_change.specs.Work.{HasAny, forms_after, forms_named, named_in, pass, pass_in, pass_named, through, work, work_in, work_named};
+ghost use Rattle.dv_change.specs.Work.{HasAny, forms_after, forms_named, named_in, pass, pass_in, pass_named, through_forms, work, work_in, work_named};
 
 use crate::change::Change;
 use crate::input::Input;
@@ -56,8 +56,8 @@ impl<T: Turn + Drop> Chain<T> {
         requires input { HasAny input (forms_of T.left T.others T.makes T.sound self.old) }
         ensures forms { OnOk result (forms_of T.left T.others T.makes T.sound self.new ≡ forms_after input change (forms_of T.left T.others T.makes T.sound self.old)) }
         ensures linked { OnOk result (IsLinked T.left T.others T.makes T.sound self.new (left_after input change (first_left T.left T.others T.makes T.sound self.old))) }
-        ensures outs { OnOk result (last_outs T.left T.others T.makes T.sound self.new (left_after input change (first_left T.left T.others T.makes T.sound self.old)) ≡ through (forms_of T.left T.others T.makes T.sound self.new) (left_after input change (first_left T.left T.others T.makes T.sound self.old))) }
-        ensures leads { OnOk result (with_changes (through (forms_of T.left T.others T.makes T.sound self.old) (first_left T.left T.others T.makes T.sound self.old)) (pass_in input change (forms_of T.left T.others T.makes T.sound self.old) (first_left T.left T.others T.makes T.sound self.old)) ≡ through (forms_of T.left T.others T.makes T.sound self.new) (left_after input change (first_left T.left T.others T.makes T.sound self.old))) }
+        ensures outs { OnOk result (last_outs T.left T.others T.makes T.sound self.new (left_after input change (first_left T.left T.others T.makes T.sound self.old)) ≡ through_forms (forms_of T.left T.others T.makes T.sound self.new) (left_after input change (first_left T.left T.others T.makes T.sound self.old))) }
+        ensures leads { OnOk result (with_changes (through_forms (forms_of T.left T.others T.makes T.sound self.old) (first_left T.left T.others T.makes T.sound self.old)) (pass_in input change (forms_of T.left T.others T.makes T.sound self.old) (first_left T.left T.others T.makes T.sound self.old)) ≡ through_forms (forms_of T.left T.others T.makes T.sound self.new) (left_after input change (first_left T.left T.others T.makes T.sound self.old))) }
         ensures out { OnOk result (out.new.items ≡ out.old.items ++ pass_in input change (forms_of T.left T.others T.makes T.sound self.old) (first_left T.left T.others T.makes T.sound self.old)) }
         ensures ticks { OnOk result (ticks.new ≡ raised ticks.old (work_in input change (forms_of T.left T.others T.makes T.sound self.old) (first_left T.left T.others T.makes T.sound self.old))) }
     {
@@ -85,8 +85,8 @@ fn feed_input<T: Turn>(
     requires input { HasAny input (forms_of T.left T.others T.makes T.sound turns.old) }
     ensures forms { OnOk result (forms_of T.left T.others T.makes T.sound turns.new ≡ forms_after input change (forms_of T.left T.others T.makes T.sound turns.old)) }
     ensures linked { OnOk result (IsLinked T.left T.others T.makes T.sound turns.new (left_after input change (first_left T.left T.others T.makes T.sound turns.old))) }
-    ensures outs { OnOk result (last_outs T.left T.others T.makes T.sound turns.new (left_after input change (first_left T.left T.others T.makes T.sound turns.old)) ≡ through (forms_of T.left T.others T.makes T.sound turns.new) (left_after input change (first_left T.left T.others T.makes T.sound turns.old))) }
-    ensures leads { OnOk result (with_changes (through (forms_of T.left T.others T.makes T.sound turns.old) (first_left T.left T.others T.makes T.sound turns.old)) (pass_in input change (forms_of T.left T.others T.makes T.sound turns.old) (first_left T.left T.others T.makes T.sound turns.old)) ≡ through (forms_of T.left T.others T.makes T.sound turns.new) (left_after input change (first_left T.left T.others T.makes T.sound turns.old))) }
+    ensures outs { OnOk result (last_outs T.left T.others T.makes T.sound turns.new (left_after input change (first_left T.left T.others T.makes T.sound turns.old)) ≡ through_forms (forms_of T.left T.others T.makes T.sound turns.new) (left_after input change (first_left T.left T.others T.makes T.sound turns.old))) }
+    ensures leads { OnOk result (with_changes (through_forms (forms_of T.left T.others T.makes T.sound turns.old) (first_left T.left T.others T.makes T.sound turns.old)) (pass_in input change (forms_of T.left T.others T.makes T.sound turns.old) (first_left T.left T.others T.makes T.sound turns.old)) ≡ through_forms (forms_of T.left T.others T.makes T.sound turns.new) (left_after input change (first_left T.left T.others T.makes T.sound turns.old))) }
     ensures out { OnOk result (out.new.items ≡ out.old.items ++ pass_in input change (forms_of T.left T.others T.makes T.sound turns.old) (first_left T.left T.others T.makes T.sound turns.old)) }
     ensures ticks { OnOk result (ticks.new ≡ raised ticks.old (work_in input change (forms_of T.left T.others T.makes T.sound turns.old) (first_left T.left T.others T.makes T.sound turns.old))) }
 {

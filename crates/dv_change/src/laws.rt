@@ -8,7 +8,7 @@ ghost use Rattle.dv_change.specs.declared.change.Change.TheVariants.{Gone, Put};
 ghost use Rattle.dv_change.specs.declared.input.Input.TheVariants.{Left, Named};
 ghost use Rattle.dv_change.specs.Changes.{IsExactChange, IsPositioned, Positioned, at, with_change, with_changes};
 ghost use Rattle.dv_change.specs.Difference.{diff};
-ghost use Rattle.dv_change.specs.Examples.{as_it_comes, first_alone, looked_up, number, place, wide_number};
+ghost use Rattle.dv_change.specs.Examples.{as_it_comes, first_alone, looked_up_form, numbered_row, place, wide_number};
 ghost use Rattle.dv_change.specs.Positions.{IsExact, PosTree, pos_order};
 ghost use Rattle.dv_change.specs.Raised.{raised};
 ghost use Rattle.dv_change.specs.Work.{pass_in, work_in};
@@ -38,9 +38,9 @@ pub fn a_difference_leads_from_old_to_new()
 
 /// What goes comes first, and what stays as it is isn't told.
 pub fn examples_of_differences()
-    ensures nothing { diff ((place 0, number 1) ∷ []) ((place 0, number 1) ∷ []) ≡ [] }
-    ensures each_kind { diff ((place 0, number 1) ∷ (place 1, number 2) ∷ (place 2, number 3) ∷ []) ((place 1, number 2) ∷ (place 2, number 4) ∷ (place 3, number 5) ∷ []) ≡ Gone (place 0) ∷ Put (place 2) (number 4) ∷ Put (place 3) (number 5) ∷ [] }
-    ensures another_width { diff ((place 0, number 1) ∷ []) ((place 0, wide_number 1) ∷ []) ≡ Put (place 0) (wide_number 1) ∷ [] }
+    ensures nothing { diff ((place 0, numbered_row 1) ∷ []) ((place 0, numbered_row 1) ∷ []) ≡ [] }
+    ensures each_kind { diff ((place 0, numbered_row 1) ∷ (place 1, numbered_row 2) ∷ (place 2, numbered_row 3) ∷ []) ((place 1, numbered_row 2) ∷ (place 2, numbered_row 4) ∷ (place 3, numbered_row 5) ∷ []) ≡ Gone (place 0) ∷ Put (place 2) (numbered_row 4) ∷ Put (place 3) (numbered_row 5) ∷ [] }
+    ensures another_width { diff ((place 0, numbered_row 1) ∷ []) ((place 0, wide_number 1) ∷ []) ≡ Put (place 0) (wide_number 1) ∷ [] }
 {}
 
 /// A count stays at its limit.
@@ -52,9 +52,9 @@ pub fn examples_of_counts()
 /// Each change between two stages counts twice: as it is handed on, and as it is taken in.
 pub fn examples_of_work()
     ensures no_stage { pass_in Left (Gone (place 0)) [] [] ≡ Gone (place 0) ∷ [] }
-    ensures next_row { pass_in Left (Gone (place 0)) (as_it_comes ∷ first_alone ∷ []) ((place 0, number 1) ∷ (place 1, number 2) ∷ []) ≡ Gone (place 0) ∷ Put (place 1) (number 2) ∷ [] }
-    ensures work_for_next_row { work_in Left (Gone (place 0)) (as_it_comes ∷ first_alone ∷ []) ((place 0, number 1) ∷ (place 1, number 2) ∷ []) ≡ 5 }
-    ensures no_work_behind { work_in Left (Put (place 7) (number 9)) (as_it_comes ∷ first_alone ∷ []) ((place 0, number 1) ∷ (place 1, number 2) ∷ []) ≡ 3 }
-    ensures in_mid_chain { pass_in (Named 0) (Put (place 0) (number 3)) (as_it_comes ∷ looked_up [] ∷ first_alone ∷ []) [] ≡ Put (place 0) (number 3) ∷ [] }
-    ensures work_in_mid_chain { work_in (Named 0) (Put (place 0) (number 3)) (as_it_comes ∷ looked_up [] ∷ first_alone ∷ []) [] ≡ 4 }
+    ensures next_row { pass_in Left (Gone (place 0)) (as_it_comes ∷ first_alone ∷ []) ((place 0, numbered_row 1) ∷ (place 1, numbered_row 2) ∷ []) ≡ Gone (place 0) ∷ Put (place 1) (numbered_row 2) ∷ [] }
+    ensures work_for_next_row { work_in Left (Gone (place 0)) (as_it_comes ∷ first_alone ∷ []) ((place 0, numbered_row 1) ∷ (place 1, numbered_row 2) ∷ []) ≡ 5 }
+    ensures no_work_behind { work_in Left (Put (place 7) (numbered_row 9)) (as_it_comes ∷ first_alone ∷ []) ((place 0, numbered_row 1) ∷ (place 1, numbered_row 2) ∷ []) ≡ 3 }
+    ensures in_mid_chain { pass_in (Named 0) (Put (place 0) (numbered_row 3)) (as_it_comes ∷ looked_up_form [] ∷ first_alone ∷ []) [] ≡ Put (place 0) (numbered_row 3) ∷ [] }
+    ensures work_in_mid_chain { work_in (Named 0) (Put (place 0) (numbered_row 3)) (as_it_comes ∷ looked_up_form [] ∷ first_alone ∷ []) [] ≡ 4 }
 {}

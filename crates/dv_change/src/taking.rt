@@ -1,7 +1,7 @@
 //! How a stage takes in a change of its rows.
 
 ghost use Rattle.std.specs.Prelude.{◌≡◌, IfOk, OnOk};
-ghost use Rattle.dv_change.specs.Changes.{IsExactChange, IsPositioned, at, place_of, row_in, with_change};
+ghost use Rattle.dv_change.specs.Changes.{IsExactChange, IsPositioned, at, position_changed, row_in, with_change};
 
 use crate::change::Change;
 use crate::position::Pos;
@@ -25,8 +25,8 @@ pub fn take_in(rows: &mut BTreeMap<Pos, Document>, change: Change) -> Result<Tak
     ensures exact { IsExactChange change }
     ensures rows { OnOk result (rows.new.entries ≡ with_change rows.old.entries change) }
     ensures positioned { OnOk result (IsPositioned rows.new.entries) }
-    ensures pos { IfOk result (λ taken. taken.pos ≡ place_of change) }
-    ensures old { IfOk result (λ taken. taken.old ≡ at (place_of change) rows.old.entries) }
+    ensures pos { IfOk result (λ taken. taken.pos ≡ position_changed change) }
+    ensures old { IfOk result (λ taken. taken.old ≡ at (position_changed change) rows.old.entries) }
     ensures new { IfOk result (λ taken. taken.new ≡ row_in change) }
 {
     change.is_exact();

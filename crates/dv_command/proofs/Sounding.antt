@@ -10,24 +10,24 @@ use Rattle.dv_bson.specs.Tree.{Tree, int32, int64, string, document, array, Fiel
 use Rattle.dv_update.specs.Parsing as updates
 use Rattle.dv_pipe.specs.StageParsing as pipelines
 use Rattle.dv_pipe.specs.declared.stage.Stage.{Stage}
-use Rattle.dv_command.specs.Asked.{Asked, Find, hello, ping, write, find, aggregate, get_more, kill_cursors, create, drop, create_indexes, drop_indexes, explain, view_stats, command_named, asked_as, asked_under, hello_of, ping_of, write_of, find_of, find_in, aggregate_of, cursor_size, first_batch_size, get_more_of, kill_cursors_of, create_of, drop_of, create_indexes_of, drop_indexes_of, explain_of, view_stats_of, explained, explained_by, ViewOn, ViewFields, view_fields, view_fields_in, view_of, looked_database, checked_database, check_count, statement_limit}
+use Rattle.dv_command.specs.Asked.{Asked, Find, hello, ping, write, find, aggregate, get_more, kill_cursors, create, drop, create_indexes, drop_indexes, explain, view_stats, command_named, asked_as, asked_under, hello_of, ping_of, write_of, find_of, find_in, aggregate_of, cursor_size, first_batch_size, get_more_of, kill_cursors_of, create_of, drop_of, create_indexes_of, drop_indexes_of, explain_of, view_stats_of, explained_command, explained_by, ViewOn, ViewFields, view_fields, view_fields_in, view_of, looked_database, checked_database, check_count, statement_limit}
 use Rattle.dv_command.specs.declared.asking.WriteKind.{WriteKind}
 use Rattle.dv_command.specs.declared.asking.WriteKind.TheVariants as writes
 use Rattle.dv_command.specs.declared.names.CommandName.{CommandName}
 use Rattle.dv_command.specs.declared.names.CommandName.TheVariants as names
 use Rattle.dv_fields.specs.Fields as reading
-use Rattle.dv_fields.specs.Fields.{Table, update_in, update_under, document_under, check_fields, first_name, text_in, document_in, array_in, integer_in, each_document, documents_in, required, text_under, array_under, boolean_under, integer_under, integers_under, natural_under}
+use Rattle.dv_fields.specs.Fields.{Table, update_in, update_under, document_under, check_fields, first_name, text_field, document_in, array_field, integer_in, each_document, documents_in, required, text_under, array_under, boolean_under, integer_under, integers_under, natural_under}
 use Rattle.dv_command.specs.Tables.{updating_table, index_table, write_table, find_fields, find_table, aggregate_table, get_more_table, kill_cursors_table, create_table, drop_table, create_indexes_table, drop_indexes_table, explain_table, view_stats_table}
-use Rattle.dv_command.specs.Lists.{Lists, check_none, check_only, list_under, in_either, documents_under}
-use Rattle.dv_command.specs.Forms.{filter_under, sort_under, filter_of, pipeline_of}
+use Rattle.dv_command.specs.Lists.{CommandLists, check_no_list, check_only, list_under, in_either, listed_documents}
+use Rattle.dv_command.specs.Forms.{filter_under, sort_under, filter_of, stages_asked}
 use Rattle.dv_command.specs.Forms as forms
 use Rattle.dv_command.specs.Entries as entries
-use Rattle.dv_command.specs.Entries.{Updating, IndexAsked, index_of, key_path, check_index_name, longest_index_name}
+use Rattle.dv_command.specs.Entries.{Updating, IndexAsked, index_asked, key_path, check_index_name, longest_index_name}
 use Rattle.dv_fields.specs.Kinds as kinds
 use Rattle.dv_fields.specs.Namespaces.{database, database_in, namespace, dotted, is_database_name, is_collection_name, longest_namespace}
 use Rattle.dv_fields.specs.Refusals.{refused_by, pipeline_refusal, update_refusal}
 use Rattle.dv_bson.specs.Results.{◌>>=◌, each}
-use Rattle.dv_command.specs.Sound.{AreValid, AreValidLists, AreIds, IsIndexName, AreIndexes, IsNamespace, IsSoundPipeline, IsSoundView, IsSoundlyAsked, IsSoundUpdate}
+use Rattle.dv_command.specs.Sound.{AreSpellable, AreValidLists, AreIds, IsIndexName, AreIndexes, IsNamespace, IsSoundPipeline, IsSoundViewAsked, IsSoundRequest, IsSoundUpdate}
 use Rattle.dv_command.proofs.Lengths.{FieldsAdd, under_long, array_long}
 use Rattle.dv_fields.specs.declared.refusal.Refusal.{Refusal}
 use Rattle.dv_fields.specs.declared.refusal.Refusal.TheVariants.{BadValue, CommandNotFound, LimitReached}
@@ -64,40 +64,40 @@ fields_again : (fs : Fields) → fields_of (list_of_fields fs) ≡ fs
 fields_again no_fields = refl
 fields_again (field name value fs) = ap (field name value) (fields_again fs)
 
-more_valid : (fs : Fields) (rest : Result (List (List Field)) Refusal) (ds : List (List Field)) → AreFields fs → ((es : List (List Field)) → rest ≡ Ok es → AreValid es)
-    → (rest >>= λ es. Ok (list_of_fields fs ∷ es)) ≡ Ok ds → AreValid ds
+more_valid : (fs : Fields) (rest : Result (List (List Field)) Refusal) (ds : List (List Field)) → AreFields fs → ((es : List (List Field)) → rest ≡ Ok es → AreSpellable es)
+    → (rest >>= λ es. Ok (list_of_fields fs ∷ es)) ≡ Ok ds → AreSpellable ds
 more_valid fs (Ok es) ds valid others is =
     let same : list_of_fields fs ∷ es ≡ ds = cc in
-    subst AreValid same (rw (fields_again fs) valid, others es refl)
+    subst AreSpellable same (rw (fields_again fs) valid, others es refl)
 more_valid fs (Err refusal) ds valid others is = absurd cc
 
-each_valid : (vs : Elements) (ds : List (List Field)) → AreElements vs → each_document vs ≡ Ok ds → AreValid ds
-each_valid no_elements ds valid is = let same : [] ≡ ds = cc in subst AreValid same tt
+each_valid : (vs : Elements) (ds : List (List Field)) → AreElements vs → each_document vs ≡ Ok ds → AreSpellable ds
+each_valid no_elements ds valid is = let same : [] ≡ ds = cc in subst AreSpellable same tt
 each_valid (element (document fs) vs) ds valid is = more_valid fs (each_document vs) ds valid.0 (λ es rest. each_valid vs es valid.1 rest) is
 each_valid (element v vs) ds valid is = absurd cc
 
-documents_valid : (under : Option Tree) (ds : List (List Field)) → ((v : Tree) → under ≡ Some v → IsValue v) → required documents_in under ≡ Ok ds → AreValid ds
+documents_valid : (under : Option Tree) (ds : List (List Field)) → ((v : Tree) → under ≡ Some v → IsValue v) → required documents_in under ≡ Ok ds → AreSpellable ds
 documents_valid None ds valid is = absurd cc
 documents_valid (Some (array vs)) ds valid is = each_valid vs ds (valid (array vs) refl) is
 documents_valid (Some v) ds valid is = absurd cc
 
-one_list_valid : (list others : Option (List (List Field))) (b : Bool) (ds : List (List Field)) → (list ≡ Some ds → AreValid ds) → (others ≡ Some ds → AreValid ds) → (if b then list else others) ≡ Some ds → AreValid ds
+one_list_valid : (list others : Option (List (List Field))) (b : Bool) (ds : List (List Field)) → (list ≡ Some ds → AreSpellable ds) → (others ≡ Some ds → AreSpellable ds) → (if b then list else others) ≡ Some ds → AreSpellable ds
 one_list_valid list others true ds first rest is = first is
 one_list_valid list others false ds first rest is = rest is
 
-beside_valid : (name : List ℕ) (lists : Lists) (ds : List (List Field)) → AreValidLists lists → list_under name lists ≡ Some ds → AreValid ds
+beside_valid : (name : List ℕ) (lists : CommandLists) (ds : List (List Field)) → AreValidLists lists → list_under name lists ≡ Some ds → AreSpellable ds
 beside_valid name [] ds valid is = absurd cc
 beside_valid name (list ∷ lists) ds valid is =
-    one_list_valid (Some list.1) (list_under name lists) (bytes_eq name list.0) ds (λ e. let same : list.1 ≡ ds = cc in subst AreValid same valid.0) (beside_valid name lists ds valid.1) is
+    one_list_valid (Some list.1) (list_under name lists) (bytes_eq name list.0) ds (λ e. let same : list.1 ≡ ds = cc in subst AreSpellable same valid.0) (beside_valid name lists ds valid.1) is
 
-either_valid : (under : Option Tree) (beside : Option (List (List Field))) (ds : List (List Field)) → ((v : Tree) → under ≡ Some v → IsValue v) → ((es : List (List Field)) → beside ≡ Some es → AreValid es)
-    → in_either under beside ≡ Ok ds → AreValid ds
+either_valid : (under : Option Tree) (beside : Option (List (List Field))) (ds : List (List Field)) → ((v : Tree) → under ≡ Some v → IsValue v) → ((es : List (List Field)) → beside ≡ Some es → AreSpellable es)
+    → in_either under beside ≡ Ok ds → AreSpellable ds
 either_valid (Some value) None ds valid others is = documents_valid (Some value) ds valid is
-either_valid None (Some documents) ds valid others is = subst AreValid (ends documents ds is) (others documents refl)
+either_valid None (Some documents) ds valid others is = subst AreSpellable (ends documents ds is) (others documents refl)
 either_valid None None ds valid others is = absurd cc
 either_valid (Some value) (Some documents) ds valid others is = absurd cc
 
-text_valid : (under : Option Tree) (c : List ℕ) → ((v : Tree) → under ≡ Some v → IsValue v) → required text_in under ≡ Ok c → IsUtf8 c
+text_valid : (under : Option Tree) (c : List ℕ) → ((v : Tree) → under ≡ Some v → IsValue v) → required text_field under ≡ Ok c → IsUtf8 c
 text_valid None c valid is = absurd cc
 text_valid (Some (string name)) c valid is = let same : name ≡ c = cc in subst IsUtf8 same (valid (string name) refl)
 text_valid (Some v) c valid is = absurd cc
@@ -106,7 +106,7 @@ elements_again : (vs : Elements) → elements_of (list_of_elements vs) ≡ vs
 elements_again no_elements = refl
 elements_again (element value vs) = ap (element value) (elements_again vs)
 
-list_valid : (under : Option Tree) (list : List Tree) → ((v : Tree) → under ≡ Some v → IsValue v) → required array_in under ≡ Ok list → AreElements (elements_of list)
+list_valid : (under : Option Tree) (list : List Tree) → ((v : Tree) → under ≡ Some v → IsValue v) → required array_field under ≡ Ok list → AreElements (elements_of list)
 list_valid None list valid is = absurd cc
 list_valid (Some (array vs)) list valid is =
     let elements : AreElements (elements_of (list_of_elements vs)) = rw (elements_again vs) (valid (array vs) refl) in
@@ -193,7 +193,7 @@ index_name_short name t is = by_test (nat_lt 120 (length name)) refl is
     by_test true test e = absurd cc
     by_test false test e = grind (arith, nat_tests)
 
-index_valid : (entry : List Field) (index : IndexAsked) → AreFields (fields_of entry) → index_of entry ≡ Ok index → IsIndexName index.name
+index_valid : (entry : List Field) (index : IndexAsked) → AreFields (fields_of entry) → index_asked entry ≡ Ok index → IsIndexName index.name
 index_valid entry index valid is =
     let looked = succeeds (check_fields kinds.entry index_table entry) _ index is in
     let key = succeeds (document_under (codes "key") entry) _ index looked.rest_is in
@@ -207,16 +207,16 @@ index_valid entry index valid is =
       index_name_short name.given short.given short.first_is,
     )
 
-indexes_valid : (list : List (List Field)) (indexes : List IndexAsked) → AreValid list → each index_of list ≡ Ok indexes → AreIndexes indexes
+indexes_valid : (list : List (List Field)) (indexes : List IndexAsked) → AreSpellable list → each index_asked list ≡ Ok indexes → AreIndexes indexes
 indexes_valid [] indexes valid is = subst AreIndexes (ends [] indexes is) tt
 indexes_valid (entry ∷ list) indexes valid is =
-    let first = succeeds (index_of entry) _ indexes is in
-    let others = succeeds (each index_of list) _ indexes first.rest_is in
+    let first = succeeds (index_asked entry) _ indexes is in
+    let others = succeeds (each index_asked list) _ indexes first.rest_is in
     subst AreIndexes (ends (first.given ∷ others.given) indexes others.rest_is) (index_valid entry first.given valid.0 first.first_is, indexes_valid list others.given valid.1 others.first_is)
 
 -- ---- pipelines and views
 
-pipeline_valid : (list : List Tree) (stages : List Stage) → AreElements (elements_of list) → pipeline_of list ≡ Ok stages → IsSoundPipeline stages
+pipeline_valid : (list : List Tree) (stages : List Stage) → AreElements (elements_of list) → stages_asked list ≡ Ok stages → IsSoundPipeline stages
 pipeline_valid list stages valid is = record { list = list; valid = valid; is = parsed pipeline_refusal (pipelines.pipeline_of list) stages is }
 
 abbrev AreViewFields : Option ViewFields → Type 0
@@ -227,20 +227,20 @@ fields_valid : (view_on pipeline : Option Tree) (fields : Option ViewFields) →
     → view_fields_in view_on pipeline ≡ Ok fields → AreViewFields fields
 fields_valid None None fields first second is = subst AreViewFields (ends None fields is) tt
 fields_valid (Some view_on) (Some pipeline) fields first second is =
-    let collection = succeeds (text_in view_on) _ fields is in
-    let list = succeeds (array_in pipeline) _ fields collection.rest_is in
+    let collection = succeeds (text_field view_on) _ fields is in
+    let list = succeeds (array_field pipeline) _ fields collection.rest_is in
     let both : Option ViewFields = Some (record { collection = collection.given; list = list.given }) in
     subst AreViewFields {x = both} (ends both fields list.rest_is)
     (text_valid (Some view_on) collection.given first collection.first_is, list_valid (Some pipeline) list.given second list.first_is)
 fields_valid view_on pipeline fields first second is = absurd cc
 
-view_valid : (d : List ℕ) (fields : Option ViewFields) (view : Option ViewOn) → IsUtf8 d → AreViewFields fields → view_of d fields ≡ Ok view → IsSoundView view
-view_valid d None view named valid is = subst IsSoundView (ends None view is) tt
+view_valid : (d : List ℕ) (fields : Option ViewFields) (view : Option ViewOn) → IsUtf8 d → AreViewFields fields → view_of d fields ≡ Ok view → IsSoundViewAsked view
+view_valid d None view named valid is = subst IsSoundViewAsked (ends None view is) tt
 view_valid d (Some fields) view named valid is =
     let source = succeeds (namespace d fields.collection) _ view is in
-    let stages = succeeds (pipeline_of fields.list) _ view source.rest_is in
+    let stages = succeeds (stages_asked fields.list) _ view source.rest_is in
     let made : Option ViewOn = Some (record { source = source.given; stages = stages.given }) in
-    subst IsSoundView {x = made} (ends made view stages.rest_is)
+    subst IsSoundViewAsked {x = made} (ends made view stages.rest_is)
     (namespace_valid d fields.collection source.given named valid.0 source.first_is, pipeline_valid fields.list stages.given valid.1 stages.first_is)
 
 -- ---- finds
@@ -277,16 +277,16 @@ each_long f (x ∷ xs) ys is =
     let others = succeeds (each f xs) _ ys first.rest_is in
     ap length (sym (ends (first.given ∷ others.given) ys others.rest_is)) ∙ ap suc (each_long f xs others.given others.first_is)
 
-list_long : (under : Option Tree) (list : List Tree) (most : ℕ) → ((v : Tree) → under ≡ Some v → length (payload v) ≤ most) → required array_in under ≡ Ok list → length list ≤ most
+list_long : (under : Option Tree) (list : List Tree) (most : ℕ) → ((v : Tree) → under ≡ Some v → length (payload v) ≤ most) → required array_field under ≡ Ok list → length list ≤ most
 list_long None list most long is = absurd cc
 list_long (Some (array vs)) list most long is = subst (λ (l : List Tree). length l ≤ most) (ends (list_of_elements vs) list is) (omega (arith, array_long vs, long (array vs) refl))
 list_long (Some v) list most long is = absurd cc
 
 -- ---- each command
 
-module _ (adds : FieldsAdd) (body : List Field) (lists : Lists) (valid : AreFields (fields_of body)) (beside : AreValidLists lists) where
+module _ (adds : FieldsAdd) (body : List Field) (lists : CommandLists) (valid : AreFields (fields_of body)) (beside : AreValidLists lists) where
   abbrev IsAsked : Asked → Type 0
-  IsAsked asked = IsSoundlyAsked (length (spelling body)) asked
+  IsAsked asked = IsSoundRequest (length (spelling body)) asked
 
   valid_under : (name : List ℕ) (v : Tree) → value_under name body ≡ Some v → IsValue v
   valid_under name v under = under_valid name body v valid under
@@ -303,7 +303,7 @@ module _ (adds : FieldsAdd) (body : List Field) (lists : Lists) (valid : AreFiel
   checked_valid : (table : Table) (d : List ℕ) → checked_database table body lists ≡ Ok d → IsUtf8 d
   checked_valid table d is =
       let looked = succeeds (looked_database table body) _ d is in
-      let none = succeeds (check_none lists) _ d looked.rest_is in
+      let none = succeeds (check_no_list lists) _ d looked.rest_is in
       subst IsUtf8 (ends looked.given d none.rest_is) (looked_valid table looked.given looked.first_is)
 
   name_valid : (command d c ns : List ℕ) → IsUtf8 d → text_under command body ≡ Ok c → namespace d c ≡ Ok ns → IsNamespace ns
@@ -315,7 +315,7 @@ module _ (adds : FieldsAdd) (body : List Field) (lists : Lists) (valid : AreFiel
       let db = succeeds (looked_database (write_table command list) body) _ a is in
       let only = succeeds (check_only list lists) _ a db.rest_is in
       let collection = succeeds (text_under command body) _ a only.rest_is in
-      let entries = succeeds (documents_under list body lists) _ a collection.rest_is in
+      let entries = succeeds (listed_documents list body lists) _ a collection.rest_is in
       let ordered = succeeds (boolean_under (codes "ordered") true body) _ a entries.rest_is in
       let into = succeeds (namespace db.given collection.given) _ a ordered.rest_is in
       let few = succeeds (check_count entries.given) _ a into.rest_is in
@@ -339,7 +339,7 @@ module _ (adds : FieldsAdd) (body : List Field) (lists : Lists) (valid : AreFiel
       let list = succeeds (array_under (codes "pipeline") body) _ a collection.rest_is in
       let batch_size = succeeds (cursor_size body) _ a list.rest_is in
       let from = succeeds (namespace db.given collection.given) _ a batch_size.rest_is in
-      let stages = succeeds (pipeline_of list.given) _ a from.rest_is in
+      let stages = succeeds (stages_asked list.given) _ a from.rest_is in
       let asked : Asked = aggregate (record { namespace = from.given; stages = stages.given; batch_size = batch_size.given }) in
       subst IsAsked {x = asked} (ends asked a stages.rest_is) (
         name_valid (codes "aggregate") db.given collection.given from.given (checked_valid aggregate_table db.given db.first_is) collection.first_is from.first_is,
@@ -402,7 +402,7 @@ module _ (adds : FieldsAdd) (body : List Field) (lists : Lists) (valid : AreFiel
       let collection = succeeds (text_under (codes "createIndexes") body) _ a db.rest_is in
       let list = succeeds (reading.documents_under (codes "indexes") body) _ a collection.rest_is in
       let name = succeeds (namespace db.given collection.given) _ a list.rest_is in
-      let indexes = succeeds (each index_of list.given) _ a name.rest_is in
+      let indexes = succeeds (each index_asked list.given) _ a name.rest_is in
       let asked : Asked = create_indexes (record { namespace = name.given; indexes = indexes.given }) in
       subst IsAsked {x = asked} (ends asked a indexes.rest_is) (
         name_valid (codes "createIndexes") db.given collection.given name.given (checked_valid create_indexes_table db.given db.first_is) collection.first_is name.first_is,
@@ -421,7 +421,7 @@ module _ (adds : FieldsAdd) (body : List Field) (lists : Lists) (valid : AreFiel
 
   explain_sound : (a : Asked) → explain_of body lists ≡ Ok a → IsAsked a
   explain_sound a is =
-      let inside = succeeds (explained body) _ a is in
+      let inside = succeeds (explained_command body) _ a is in
       let db = succeeds (database body) _ a inside.rest_is in
       let looked = succeeds (check_fields kinds.command find_fields inside.given) _ a db.rest_is in
       let others = succeeds (checked_database explain_table body lists) _ a looked.rest_is in
@@ -477,7 +477,7 @@ updating_sound entry asked valid is =
     let multi = succeeds (boolean_under (codes "multi") false entry) _ asked u.rest_is in
     let many = succeeds (entries.check_multi multi.given u.given) _ asked multi.rest_is in
     let filter = succeeds (filter_of q.given) _ asked many.rest_is in
-    let update = succeeds (forms.update_of u.given) _ asked filter.rest_is in
+    let update = succeeds (forms.update_asked u.given) _ asked filter.rest_is in
     let made : Updating = record { filter = filter.given; update = update.given; multi = multi.given } in
     let sound : IsSoundUpdate update.given = record {
       document = u.given;

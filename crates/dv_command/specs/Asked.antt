@@ -12,7 +12,7 @@ use Rattle.dv_fields.specs.Refusals.{refusal_of}
 use Rattle.dv_bson.specs.Results.{◌>>=◌, each}
 use Rattle.dv_fields.specs.Kinds as kinds
 use Rattle.dv_fields.specs.Fields as reading
-use Rattle.dv_fields.specs.Fields.{Table, first_name, check_fields, text_in, array_in, text_under, array_under, boolean_under, document_under, document_or_none, integer_under, integers_under, natural_under}
+use Rattle.dv_fields.specs.Fields.{Table, first_name, check_fields, text_field, array_field, text_under, array_under, boolean_under, document_under, document_or_none, integer_under, integers_under, natural_under}
 use Rattle.dv_fields.specs.Namespaces.{database, namespace}
 use Rattle.dv_command.specs.declared.command.Command.{Command}
 use Rattle.dv_command.specs.declared.command.Command.TheVariants.{Sections, Invalid}
@@ -21,9 +21,9 @@ use Rattle.dv_command.specs.declared.asking.WriteKind.TheVariants as writes
 use Rattle.dv_command.specs.declared.names.CommandName.{CommandName}
 use Rattle.dv_command.specs.declared.names.CommandName.TheVariants as names
 use Rattle.dv_command.specs.Tables.{write_table, find_fields, find_table, aggregate_table, get_more_table, kill_cursors_table, create_table, drop_table, create_indexes_table, drop_indexes_table, explain_table, view_stats_table}
-use Rattle.dv_command.specs.Lists.{Lists, check_none, check_only, documents_under}
-use Rattle.dv_command.specs.Forms.{filter_under, sort_under, pipeline_of}
-use Rattle.dv_command.specs.Entries.{IndexAsked, index_of}
+use Rattle.dv_command.specs.Lists.{CommandLists, check_no_list, check_only, listed_documents}
+use Rattle.dv_command.specs.Forms.{filter_under, sort_under, stages_asked}
+use Rattle.dv_command.specs.Entries.{IndexAsked, index_asked}
 
 -- what these entries say is inserted, updated or deleted in this namespace, in order; whether the first that is refused ends the command
 pub record Write : Type 0 where
@@ -134,19 +134,19 @@ looked_database table body =
     Ok name
 
 -- that of one that has no list beside its body either
-abbrev pub checked_database : Table → List Field → Lists → Result (List ℕ) Refusal
+abbrev pub checked_database : Table → List Field → CommandLists → Result (List ℕ) Refusal
 checked_database table body lists =
     looked_database table body >>= λ name.
-    check_none lists >>= λ _.
+    check_no_list lists >>= λ _.
     Ok name
 
 -- a write, by the names of the command and of the list of its entries
-abbrev pub write_of : WriteKind → List ℕ → List ℕ → List Field → Lists → Result Asked Refusal
+abbrev pub write_of : WriteKind → List ℕ → List ℕ → List Field → CommandLists → Result Asked Refusal
 write_of kind command list body lists =
     looked_database (write_table command list) body >>= λ database_name.
     check_only list lists >>= λ _.
     text_under command body >>= λ collection.
-    documents_under list body lists >>= λ entries.
+    listed_documents list body lists >>= λ entries.
     boolean_under (codes "ordered") true body >>= λ ordered.
     namespace database_name collection >>= λ into.
     check_count entries >>= λ _.
@@ -165,7 +165,7 @@ find_in database_name body =
     boolean_under (codes "singleBatch") false body >>= λ single_batch.
     Ok (record { namespace = from; filter = filter; sort = sort; skip = skip; limit = limit; batch_size = batch_size; single_batch = single_batch })
 
-abbrev pub find_of : List Field → Lists → Result Asked Refusal
+abbrev pub find_of : List Field → CommandLists → Result Asked Refusal
 find_of body lists =
     checked_database find_table body lists >>= λ database_name.
     find_in database_name body >>= λ asked.
@@ -177,17 +177,17 @@ cursor_size body =
     document_or_none (codes "cursor") body >>= λ cursor.
     natural_under (codes "batchSize") first_batch_size cursor
 
-abbrev pub aggregate_of : List Field → Lists → Result Asked Refusal
+abbrev pub aggregate_of : List Field → CommandLists → Result Asked Refusal
 aggregate_of body lists =
     checked_database aggregate_table body lists >>= λ database_name.
     text_under (codes "aggregate") body >>= λ collection.
     array_under (codes "pipeline") body >>= λ list.
     cursor_size body >>= λ batch_size.
     namespace database_name collection >>= λ from.
-    pipeline_of list >>= λ stages.
+    stages_asked list >>= λ stages.
     Ok (aggregate (record { namespace = from; stages = stages; batch_size = batch_size }))
 
-abbrev pub get_more_of : List Field → Lists → Result Asked Refusal
+abbrev pub get_more_of : List Field → CommandLists → Result Asked Refusal
 get_more_of body lists =
     checked_database get_more_table body lists >>= λ database_name.
     integer_under (codes "getMore") body >>= λ id.
@@ -196,7 +196,7 @@ get_more_of body lists =
     namespace database_name collection >>= λ from.
     Ok (get_more (record { id = id; namespace = from; batch_size = batch_size }))
 
-abbrev pub kill_cursors_of : List Field → Lists → Result Asked Refusal
+abbrev pub kill_cursors_of : List Field → CommandLists → Result Asked Refusal
 kill_cursors_of body lists =
     checked_database kill_cursors_table body lists >>= λ database_name.
     text_under (codes "killCursors") body >>= λ collection.
@@ -213,8 +213,8 @@ pub record ViewFields : Type 0 where
 abbrev pub view_fields_in : Option Tree → Option Tree → Result (Option ViewFields) Refusal
 view_fields_in None None = Ok None
 view_fields_in (Some view_on) (Some pipeline) =
-    text_in view_on >>= λ collection.
-    array_in pipeline >>= λ list.
+    text_field view_on >>= λ collection.
+    array_field pipeline >>= λ list.
     Ok (Some (record { collection = collection; list = list }))
 view_fields_in view_on pipeline = Err FailedToParse
 
@@ -225,10 +225,10 @@ abbrev pub view_of : List ℕ → Option ViewFields → Result (Option ViewOn) R
 view_of database_name None = Ok None
 view_of database_name (Some fields) =
     namespace database_name fields.collection >>= λ source.
-    pipeline_of fields.list >>= λ stages.
+    stages_asked fields.list >>= λ stages.
     Ok (Some (record { source = source; stages = stages }))
 
-abbrev pub create_of : List Field → Lists → Result Asked Refusal
+abbrev pub create_of : List Field → CommandLists → Result Asked Refusal
 create_of body lists =
     checked_database create_table body lists >>= λ database_name.
     text_under (codes "create") body >>= λ collection.
@@ -237,23 +237,23 @@ create_of body lists =
     view_of database_name fields >>= λ view.
     Ok (create (record { namespace = name; view = view }))
 
-abbrev pub drop_of : List Field → Lists → Result Asked Refusal
+abbrev pub drop_of : List Field → CommandLists → Result Asked Refusal
 drop_of body lists =
     checked_database drop_table body lists >>= λ database_name.
     text_under (codes "drop") body >>= λ collection.
     namespace database_name collection >>= λ name.
     Ok (drop (record { namespace = name }))
 
-abbrev pub create_indexes_of : List Field → Lists → Result Asked Refusal
+abbrev pub create_indexes_of : List Field → CommandLists → Result Asked Refusal
 create_indexes_of body lists =
     checked_database create_indexes_table body lists >>= λ database_name.
     text_under (codes "createIndexes") body >>= λ collection.
     reading.documents_under (codes "indexes") body >>= λ entries.
     namespace database_name collection >>= λ name.
-    each index_of entries >>= λ indexes.
+    each index_asked entries >>= λ indexes.
     Ok (create_indexes (record { namespace = name; indexes = indexes }))
 
-abbrev pub drop_indexes_of : List Field → Lists → Result Asked Refusal
+abbrev pub drop_indexes_of : List Field → CommandLists → Result Asked Refusal
 drop_indexes_of body lists =
     checked_database drop_indexes_table body lists >>= λ database_name.
     text_under (codes "dropIndexes") body >>= λ collection.
@@ -266,20 +266,20 @@ abbrev pub explained_by : Result (List Field) Refusal → Result (List Field) Re
 explained_by (Ok fields) = if bytes_eq (first_name fields) (codes "find") then Ok fields else Err CommandNotFound
 explained_by (Err refusal) = Err CommandNotFound
 
-abbrev pub explained : List Field → Result (List Field) Refusal
-explained body = explained_by (document_under (codes "explain") body)
+abbrev pub explained_command : List Field → Result (List Field) Refusal
+explained_command body = explained_by (document_under (codes "explain") body)
 
 -- the command's own field stands first, so what is in it is looked at before the other fields
-abbrev pub explain_of : List Field → Lists → Result Asked Refusal
+abbrev pub explain_of : List Field → CommandLists → Result Asked Refusal
 explain_of body lists =
-    explained body >>= λ inside.
+    explained_command body >>= λ inside.
     database body >>= λ database_name.
     check_fields kinds.command find_fields inside >>= λ _.
     checked_database explain_table body lists >>= λ _.
     find_in database_name inside >>= λ asked.
     Ok (explain (record { find = asked }))
 
-abbrev pub view_stats_of : List Field → Lists → Result Asked Refusal
+abbrev pub view_stats_of : List Field → CommandLists → Result Asked Refusal
 view_stats_of body lists =
     checked_database view_stats_table body lists >>= λ database_name.
     text_under (codes "viewStats") body >>= λ collection.
@@ -311,7 +311,7 @@ command_named text =
     else None
 
 -- what the command of this name asks; of another name there is none
-abbrev pub asked_as : Option CommandName → List Field → Lists → Result Asked Refusal
+abbrev pub asked_as : Option CommandName → List Field → CommandLists → Result Asked Refusal
 asked_as None body lists = Err CommandNotFound
 asked_as (Some names.Hello) body lists = hello_of body
 asked_as (Some names.Ping) body lists = ping_of body
@@ -329,7 +329,7 @@ asked_as (Some names.DropIndexes) body lists = drop_indexes_of body lists
 asked_as (Some names.Explain) body lists = explain_of body lists
 asked_as (Some names.ViewStats) body lists = view_stats_of body lists
 
-abbrev pub asked_under : List ℕ → List Field → Lists → Result Asked Refusal
+abbrev pub asked_under : List ℕ → List Field → CommandLists → Result Asked Refusal
 asked_under name body lists = asked_as (command_named name) body lists
 
 -- what a command asks, or the first refusal

@@ -12,7 +12,7 @@ use Rattle.dv_bson.specs.Results.{◌>>=◌}
 use Rattle.dv_fields.specs.Kinds as kinds
 use Rattle.dv_fields.specs.Fields.{check_fields, boolean_under, document_under, only_first_under, text_under, update_under}
 use Rattle.dv_command.specs.Tables.{deletion_table, updating_table, index_table}
-use Rattle.dv_command.specs.Forms.{filter_of, update_of, is_replacement, or_bad_value}
+use Rattle.dv_command.specs.Forms.{filter_of, update_asked, is_replacement, or_bad_value}
 
 -- the documents that match go: all, or only the first
 pub record Deletion : Type 0 where
@@ -47,7 +47,7 @@ updating_of entry =
     boolean_under (codes "multi") false entry >>= λ multi.
     check_multi multi u >>= λ _.
     filter_of q >>= λ filter.
-    update_of u >>= λ update.
+    update_asked u >>= λ update.
     Ok (record { filter = filter; update = update; multi = multi })
 
 -- an index over a path; its direction has no effect
@@ -69,8 +69,8 @@ abbrev pub check_index_name : List ℕ → Result ⊤ Refusal
 check_index_name name = if nat_lt longest_index_name (length name) then Err BadValue else Ok tt
 
 -- its fields as they stand, then those that are missing, then the key, then the name
-abbrev pub index_of : List Field → Result IndexAsked Refusal
-index_of entry =
+abbrev pub index_asked : List Field → Result IndexAsked Refusal
+index_asked entry =
     check_fields kinds.entry index_table entry >>= λ _.
     document_under (codes "key") entry >>= λ key.
     text_under (codes "name") entry >>= λ name.

@@ -30,16 +30,16 @@ sort_of [] = Ok []
 sort_of (f ∷ fs) = or_bad_value (sort_spec_of (f ∷ fs))
 
 -- the update that a document is
-abbrev pub update_of : List Field → Result Update Refusal
-update_of d = refused_by update_refusal (updates.update_of d)
+abbrev pub update_asked : List Field → Result Update Refusal
+update_asked d = refused_by update_refusal (updates.update_of d)
 
 -- whether it is a replacement: its first name doesn't begin with a dollar sign
 abbrev pub is_replacement : List Field → Bool
 is_replacement d = not (begins_with_dollar (first_name d))
 
 -- the stages that a list is
-abbrev pub pipeline_of : List Tree → Result (List Stage) Refusal
-pipeline_of list = refused_by pipeline_refusal (pipelines.pipeline_of list)
+abbrev pub stages_asked : List Tree → Result (List Stage) Refusal
+stages_asked list = refused_by pipeline_refusal (pipelines.pipeline_of list)
 
 -- those under a name: where there is none, the document without fields stands for it
 

@@ -9,24 +9,24 @@ use Rattle.dv_fields.specs.declared.refusal.Refusal.{Refusal}
 use Rattle.dv_fields.specs.declared.refusal.Refusal.TheVariants.{FailedToParse}
 
 -- lists of documents, by their names
-abbrev pub Lists : Type 0
-Lists = List (List ℕ × List (List Field))
+abbrev pub CommandLists : Type 0
+CommandLists = List (List ℕ × List (List Field))
 
 -- most commands have no list that may stand beside the body
-abbrev pub check_none : Lists → Result ⊤ Refusal
-check_none [] = Ok tt
-check_none (list ∷ lists) = Err FailedToParse
+abbrev pub check_no_list : CommandLists → Result ⊤ Refusal
+check_no_list [] = Ok tt
+check_no_list (list ∷ lists) = Err FailedToParse
 
 -- a command of statements has one
-abbrev pub check_only : List ℕ → Lists → Result ⊤ Refusal
+abbrev pub check_only : List ℕ → CommandLists → Result ⊤ Refusal
 check_only name lists = if list_all (λ list. bytes_eq name list.0) lists then Ok tt else Err FailedToParse
 
-abbrev pub list_under : List ℕ → Lists → Option (List (List Field))
+abbrev pub list_under : List ℕ → CommandLists → Option (List (List Field))
 list_under name [] = None
 list_under name (list ∷ lists) = if bytes_eq name list.0 then Some list.1 else list_under name lists
 
 -- the first document of the first list
-abbrev pub first_document : Lists → Option (List Field)
+abbrev pub first_document : CommandLists → Option (List Field)
 first_document [] = None
 first_document ((name, []) ∷ lists) = None
 first_document ((name, document ∷ documents) ∷ lists) = Some document
@@ -38,5 +38,5 @@ in_either None (Some documents) = Ok documents
 in_either None None = Err FailedToParse
 in_either (Some value) (Some documents) = Err FailedToParse
 
-abbrev pub documents_under : List ℕ → List Field → Lists → Result (List (List Field)) Refusal
-documents_under name body lists = in_either (value_under name body) (list_under name lists)
+abbrev pub listed_documents : List ℕ → List Field → CommandLists → Result (List (List Field)) Refusal
+listed_documents name body lists = in_either (value_under name body) (list_under name lists)

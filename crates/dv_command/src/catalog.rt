@@ -102,7 +102,7 @@ pub(crate) fn create_indexes_of<'a>(
 
 /// The indexes that entries ask, or the first refusal of one.
 fn indexes_of(alloc: Global, entries: Documents<'_>) -> Result<Vec<IndexAsked>, Refusal>
-    ensures { UnlessWanting (λ indexes. map index_seen indexes.items) (each entered.index_of entries.entry) result }
+    ensures { UnlessWanting (λ indexes. map index_seen indexes.items) (each entered.index_asked entries.entry) result }
 {
     let mut indexes = Vec::with_capacity(alloc, entries.len())?;
     'entries: for entry in entries {

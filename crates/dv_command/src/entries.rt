@@ -91,7 +91,7 @@ const LONGEST_INDEX_NAME: usize = 120;
 /// for a key with more than one field), for those that are missing (`FailedToParse`), for its key and its name
 /// (`BadValue`). It may be refused with `WantOfMemory` in place of any of these.
 pub(crate) fn index_of(alloc: Global, entry: &Document) -> Result<IndexAsked, Refusal>
-    ensures { UnlessWanting index_seen (entries.index_of entry.now) result }
+    ensures { UnlessWanting index_seen (entries.index_asked entry.now) result }
 {
     check_fields(Place::Entry, &INDEX_RULES, entry)?;
     let key = document_under(entry, "key")?;

@@ -63,7 +63,7 @@ fn sort_of(alloc: Global, document: &Document) -> Result<Option<SortSpec>, Refus
 /// The update that the document is. Refused where it is none (`FailedToParse` for operators and operands, `TypeMismatch`
 /// for what `$inc` adds, `BadValue` for names, `ConflictingUpdateOperators`), and with `WantOfMemory`.
 pub(crate) fn update_of(alloc: Global, document: &Document) -> Result<Update, Refusal>
-    ensures { UnlessWanting update (forms.update_of document.now) result }
+    ensures { UnlessWanting update (forms.update_asked document.now) result }
 {
     Ok(Update::parse(alloc, document)?)
 }
@@ -72,7 +72,7 @@ pub(crate) fn update_of(alloc: Global, document: &Document) -> Result<Update, Re
 /// what one doesn't take, with `BadValue` for a filter, with `ConflictingUpdateOperators` for paths of a `$project`, and
 /// with `LimitReached` for a seventeenth stage; and with `WantOfMemory`.
 pub(crate) fn pipeline_of(alloc: Global, list: &List) -> Result<Pipeline, Refusal>
-    ensures { UnlessWanting (λ pipeline. pipeline) (forms.pipeline_of list.now) result }
+    ensures { UnlessWanting (λ pipeline. pipeline) (forms.stages_asked list.now) result }
 {
     Ok(Pipeline::parse(alloc, list.as_slice())?)
 }

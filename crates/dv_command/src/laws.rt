@@ -4,16 +4,16 @@ ghost use Rattle.std.specs.Prelude.{◌≡◌, ℕ, List, Ok, length};
 ghost use Rattle.dv_bson.specs.Spelling.{AreFields, IsValue, spelling};
 ghost use Rattle.dv_bson.specs.Tree.{Field, fields_of};
 ghost use Rattle.dv_command.specs.Asked.{Asked, asked_under, command_name};
-ghost use Rattle.dv_command.specs.Lists.{Lists};
+ghost use Rattle.dv_command.specs.Lists.{CommandLists};
 ghost use Rattle.dv_command.specs.Replies.{count};
 ghost use Rattle.dv_command.specs.Entries.{Updating, updating_of};
-ghost use Rattle.dv_command.specs.Sound.{AreValidLists, IsSoundlyAsked, IsSoundUpdate};
+ghost use Rattle.dv_command.specs.Sound.{AreValidLists, IsSoundRequest, IsSoundUpdate};
 
 /// What a command asks is sound where the fields of its body and the lists beside it are: the documents in its list, how
 /// many they are, the names of its collections and of its indexes, its pipeline, and the ids of its cursors, of which there
 /// are no more than the body has bytes.
 pub fn what_is_asked_is_sound()
-    ensures { (body : List Field) (lists : Lists) (asked : Asked) → AreFields (fields_of body) → AreValidLists lists → asked_under (command_name body) body lists ≡ Ok asked → IsSoundlyAsked (length (spelling body)) asked }
+    ensures { (body : List Field) (lists : CommandLists) (asked : Asked) → AreFields (fields_of body) → AreValidLists lists → asked_under (command_name body) body lists ≡ Ok asked → IsSoundRequest (length (spelling body)) asked }
 {
     dv_bson::laws::what_a_field_adds();
 }

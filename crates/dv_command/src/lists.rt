@@ -10,7 +10,7 @@ use dv_fields::{Documents, Refusal};
 
 /// Looks at the lists beside the body of a command that has none: one is refused with `FailedToParse`.
 pub(crate) fn check_none(lists: &DocumentLists) -> Result<(), Refusal>
-    ensures { result ≡ defined.check_none lists.now }
+    ensures { result ≡ defined.check_no_list lists.now }
 {
     if lists.is_empty() {
         Ok(())
@@ -39,7 +39,7 @@ pub(crate) fn documents_under<'a>(
     body: &'a Document,
     lists: &'a DocumentLists,
 ) -> Result<Documents<'a>, Refusal>
-    ensures { MatchResult result (λ documents. defined.documents_under name.now body.now lists.now ≡ Ok documents) (λ refusal. defined.documents_under name.now body.now lists.now ≡ Err refusal) }
+    ensures { MatchResult result (λ documents. defined.listed_documents name.now body.now lists.now ≡ Ok documents) (λ refusal. defined.listed_documents name.now body.now lists.now ≡ Err refusal) }
 {
     match (body.get(name), lists.under(name)) {
         (Some(value), None) => documents_of(value),

@@ -143,7 +143,7 @@ pub(crate) fn explain_of<'a>(
 /// The document that is explained. Refused with `CommandNotFound` where another value stands there, or a document that
 /// doesn't begin with `find`.
 fn explained(body: &Document) -> Result<&Document, Refusal>
-    ensures { MatchResult result (λ inside. asking.explained body.now ≡ Ok inside.now) (λ refusal. asking.explained body.now ≡ Err refusal) }
+    ensures { MatchResult result (λ inside. asking.explained_command body.now ≡ Ok inside.now) (λ refusal. asking.explained_command body.now ≡ Err refusal) }
 {
     match document_under(body, "explain") {
         Ok(inside) if first_name(inside) == "find" => Ok(inside),

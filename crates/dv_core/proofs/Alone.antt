@@ -7,7 +7,7 @@ use Rattle.dv_catalog.specs.Changes.{Change, Effect, apply, changes_of, done_to,
 use Rattle.dv_catalog.specs.EffectLaws.{done_so}
 use Rattle.dv_catalog.specs.Effects.{put_new}
 use Rattle.dv_catalog.specs.Marks.{AreMarkedBy}
-use Rattle.dv_catalog.specs.Parts.{Makes, one}
+use Rattle.dv_catalog.specs.Parts.{Makes, one_changed}
 use Rattle.dv_catalog.specs.State.{Collection, collection_of, is_view, lists_of}
 use Rattle.dv_catalog.specs.declared.stopped.Stopped.{Stopped}
 use Rattle.dv_coll.specs.Collection.{found, id_key}
@@ -24,7 +24,7 @@ use Rattle.dv_fields.specs.declared.refusal.Refusal.{Refusal}
 use Rattle.dv_fields.specs.declared.refusal.Refusal.TheVariants.{BadValue, DuplicateKey, OnView, WantOfMemory}
 use Rattle.dv_core.specs.Load.{IsLoaded, insert_alone, left_by, loaded, namespace_in}
 use Rattle.dv_core.specs.State.{State}
-use Rattle.dv_core.specs.Statements.{Write, nothing_written, with_result}
+use Rattle.dv_core.specs.Statements.{WriteCounts, nothing_written, with_result}
 use Rattle.dv_core.specs.Step.{Answer, answer_to, answered, carried_out, step, write_answer}
 use Rattle.dv_core.specs.Storable.{storable}
 use Rattle.dv_core.specs.Writes.{insert_one, write_by}
@@ -46,19 +46,19 @@ module _ (old : State) (namespace : List ℕ) (ordered : Bool) where
   abbrev alone_by : Bool → Result Effect Refusal → Result State Refusal
   alone_by b does = if b then Err OnView else (does >>= λ effect. Ok (left_by namespace old effect))
 
-  abbrev write : Write
+  abbrev write : WriteCounts
   write = write_by (record { kind = Insert; namespace = namespace; entries = []; ordered = ordered })
 
   abbrev answer_by : Bool → Result Effect Refusal → Answer
   answer_by b does = answered old (if b then Err OnView else Ok (write_answer old write (with_result namespace ordered (nothing_written old.catalog.namespaces) does)))
 
   pub stored_by : (b : Bool) (does : Result Effect Refusal) (new : State) → alone_by b does ≡ Ok new → ((effect : Effect) → does ≡ Ok effect → effect.matched ≡ 1) → answer_by b does ≡ record { reply = write_reply 1 []; state = new }
-  stored_by true does new is one = absurd cc
-  stored_by false (Ok effect) new is one =
+  stored_by true does new is one_changed = absurd cc
+  stored_by false (Ok effect) new is one_changed =
       let leaves : left_by namespace old effect ≡ new = cc in
-      let matched : 0 + effect.matched ≡ 1 = omega (arith, one effect refl) in
+      let matched : 0 + effect.matched ≡ 1 = omega (arith, one_changed effect refl) in
       λ i. record { reply = write_reply (matched i) []; state = leaves i }
-  stored_by false (Err refusal) new is one = absurd cc
+  stored_by false (Err refusal) new is one_changed = absurd cc
 
   pub refused_by : (does : Result Effect Refusal) (refusal : Refusal) → alone_by false does ≡ Err refusal → answer_by false does ≡ record { reply = write_reply 0 (document_of (write_error 0 refusal) ∷ []); state = old }
   refused_by (Ok effect) refusal is = absurd cc
@@ -147,7 +147,7 @@ module _ (text namespace : List ℕ) (d stored : List Field) (old new : State) (
   loads_so : (does : Result Effect Refusal) → puts ≡ does → loaded text d old ≡ (does >>= λ effect. Ok (left_by namespace old effect))
   loads_so does is = rw (named, on, stores, is) refl
 
-  pub load_done : Makes {B = Unit {0}} (λ x. one) namespace (put_new stored) old.catalog.namespaces (Ok tt) new.catalog.namespaces → MarkedBy (changes_of puts) → IsLoaded text d old new
+  pub load_done : Makes {B = Unit {0}} (λ x. one_changed) namespace (put_new stored) old.catalog.namespaces (Ok tt) new.catalog.namespaces → MarkedBy (changes_of puts) → IsLoaded text d old new
   load_done (changes, does, many, leaves) marked = record {
     so = loads_so _ does ∙ (λ i. Ok (record { catalog = record { namespaces = sym leaves i; views = sym views i }; cursors = sym cursors i; marks = old.marks }));
     marks = rw (← named_so text namespace named, stores) marked;
@@ -159,7 +159,7 @@ module _ (text namespace : List ℕ) (d stored : List Field) (old new : State) (
       let marks = none_changed namespace (lists_of old.catalog.namespaces) old.catalog.views old.marks new.marks first in
       λ i. record { catalog = record { namespaces = same i; views = views i }; cursors = cursors i; marks = marks i }
 
-  pub load_stopped : (stopped : Stopped) → Makes {B = Unit {0}} (λ x. one) namespace (put_new stored) old.catalog.namespaces (Err stopped) new.catalog.namespaces
+  pub load_stopped : (stopped : Stopped) → Makes {B = Unit {0}} (λ x. one_changed) namespace (put_new stored) old.catalog.namespaces (Err stopped) new.catalog.namespaces
       → MarkedBy (take stopped.done (changes_of puts)) → ((loaded text d old ≡ Err stopped.refusal) ⊎ (stopped.refusal ≡ WantOfMemory)) × (new ≡ old)
   load_stopped stopped (inl refused) marked = (inl (loads_so _ refused.so), kept stopped.done refused.none refused.kept marked)
   load_stopped stopped (inr cut) marked =

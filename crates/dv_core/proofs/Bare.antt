@@ -9,16 +9,16 @@ use Rattle.dv_fields.specs.declared.refusal.Refusal.TheVariants.{WantOfMemory}
 use Rattle.dv_core.specs.declared.outcome.Outcome.{Outcome}
 use Rattle.dv_core.specs.declared.outcome.Outcome.TheVariants.{Reply, Wanting, NoReply}
 use Rattle.dv_core.specs.State.{State, standing}
-use Rattle.dv_core.specs.Statements.{Write, Written, IsCut}
-use Rattle.dv_core.specs.Step.{Answer, Cut, MemoryStep, Wants, WriteCut, answered, step, write_answer, write_of}
+use Rattle.dv_core.specs.Statements.{WriteCounts, Written, IsCutWrite}
+use Rattle.dv_core.specs.Step.{Answer, Cut, MemoryStep, Wants, WriteCut, answered, step, write_answer, asked_write}
 
-abbrev pub BareWriteCut : State → Option Write → Answer → Type 0
+abbrev pub BareWriteCut : State → Option WriteCounts → Answer → Type 0
 BareWriteCut old None answer = ⊥
 BareWriteCut old (Some write) answer =
-    (is_view write.namespace old.catalog.views ≡ false) × ((left : Written) × IsCut write old.catalog.namespaces left × (answer ≡ write_answer old write left))
+    (is_view write.namespace old.catalog.views ≡ false) × ((left : Written) × IsCutWrite write old.catalog.namespaces left × (answer ≡ write_answer old write left))
 
 abbrev pub BareCut : State → Result Asked Refusal → Answer → Type 0
-BareCut old (Ok asked) answer = BareWriteCut old (write_of asked) answer
+BareCut old (Ok asked) answer = BareWriteCut old (asked_write asked) answer
 BareCut old (Err refusal) answer = ⊥
 
 abbrev pub BareWants : State → Command → Answer → Type 0
@@ -29,12 +29,12 @@ BareStep old session command (Reply reply) new = step old session command ≡ re
 BareStep old session command (Wanting reply) new = BareWants old command (record { reply = reply; state = new })
 BareStep old session command NoReply new = (new ≡ (step old session command).state) ⊎ ((answer : Answer) × BareWants old command answer × (new ≡ answer.state))
 
-bare_write : (old : State) (write : Option Write) (answer : Answer) (marks : Marks) → WriteCut old write answer marks → BareWriteCut old write answer
+bare_write : (old : State) (write : Option WriteCounts) (answer : Answer) (marks : Marks) → WriteCut old write answer marks → BareWriteCut old write answer
 bare_write old None answer marks cut = cut
 bare_write old (Some write) answer marks (on, (left, is_cut, answers, marked)) = (on, (left, is_cut, answers))
 
 pub bare_cut : (old : State) (asked : Result Asked Refusal) (answer : Answer) (marks : Marks) → Cut old asked answer marks → BareCut old asked answer
-bare_cut old (Ok asked) answer marks cut = bare_write old (write_of asked) answer marks cut
+bare_cut old (Ok asked) answer marks cut = bare_write old (asked_write asked) answer marks cut
 bare_cut old (Err refusal) answer marks cut = cut
 
 pub bare_wants : (old : State) (command : Command) (answer : Answer) (marks : Marks) → Wants old command answer marks → BareWants old command answer

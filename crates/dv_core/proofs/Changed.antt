@@ -15,9 +15,9 @@ use Rattle.dv_fields.specs.declared.refusal.Refusal.{Refusal}
 use Rattle.dv_core.specs.declared.outcome.Outcome.{Outcome}
 use Rattle.dv_core.specs.declared.outcome.Outcome.TheVariants.{Reply, Wanting, NoReply}
 use Rattle.dv_catalog.specs.Changes.{Effect, Statement, done_to}
-use Rattle.dv_core.specs.Find.{are_too_large, replied, found, gathered}
+use Rattle.dv_core.specs.Find.{are_too_large, replied, reply_to_find, reply_to_aggregate}
 use Rattle.dv_core.specs.Indexes.{form_asked, index_count}
-use Rattle.dv_core.specs.More.{next_batch, next_of, number_of, rows_asked}
+use Rattle.dv_core.specs.More.{next_batch, next_of, cursor_number, rows_asked}
 use Rattle.dv_cursor.specs.Batch.{batch}
 use Rattle.dv_cursor.specs.Cursors.{Cursors}
 use Rattle.dv_catalog.specs.IndexMaking.{indexes_created, indexes_dropped}
@@ -26,22 +26,22 @@ use Rattle.dv_catalog.specs.State as stored
 use Rattle.dv_core.specs.State.{State, marked}
 use Rattle.dv_core.specs.Stats.{view_told}
 use Rattle.dv_catalog.specs.Views.{created, dropped}
-use Rattle.dv_core.specs.Statements.{Write, Written, nothing_written, carry_out, with_all, with_next, with_result, is_due, IsCut}
-use Rattle.dv_core.specs.Step.{Answer, answered, read_answer, write_answer, on_catalog, on_cursors, answer_to, step, write_of, makes, moves}
+use Rattle.dv_core.specs.Statements.{WriteCounts, Written, nothing_written, carry_out, with_all, with_next, with_result, is_due, IsCutWrite}
+use Rattle.dv_core.specs.Step.{Answer, answered, read_answer, write_answer, on_catalog, on_cursors, answer_to, step, asked_write, makes, moves}
 use Rattle.dv_core.specs.Writes.{reply_by, write_by}
 use Rattle.dv_core.proofs.Bare.{BareCut, BareStep, BareWants, BareWriteCut}
 
 -- what a write did, be it cut
-abbrev pub Did : Write → State → Written → Type 0
-Did write old did = (did ≡ carry_out write old.catalog.namespaces) ⊎ IsCut write old.catalog.namespaces did
+abbrev pub Did : WriteCounts → State → Written → Type 0
+Did write old did = (did ≡ carry_out write old.catalog.namespaces) ⊎ IsCutWrite write old.catalog.namespaces did
 
 -- the answer of a write
 pub record Writes (old : State) (asked : Result Asked Refusal) (answer : Answer) : Type 0 where
   pub what : Asked
-  pub write : Write
+  pub write : WriteCounts
   pub did : Written
   pub asks : asked ≡ Ok what
-  pub is_write : write_of what ≡ Some write
+  pub is_write : asked_write what ≡ Some write
   pub did_so : Did write old did
   pub answers : answer ≡ write_answer old write did
 
@@ -71,7 +71,7 @@ pub record Makes (old : State) (asked : Result Asked Refusal) (answer : Answer) 
 abbrev pub MayWrite : State → Result Asked Refusal → Answer → Type 0
 MayWrite old asked answer = (answer.state ≡ old) ⊎ (Writes old asked answer ⊎ Makes old asked answer)
 
-carried_may : (old : State) (what : Asked) (write : Write) → write_of what ≡ Some write → (b : Bool) → MayWrite old (Ok what) (answered old (if b then Err OnView else Ok (write_answer old write (carry_out write old.catalog.namespaces))))
+carried_may : (old : State) (what : Asked) (write : WriteCounts) → asked_write what ≡ Some write → (b : Bool) → MayWrite old (Ok what) (answered old (if b then Err OnView else Ok (write_answer old write (carry_out write old.catalog.namespaces))))
 carried_may old what write is true = inl refl
 carried_may old what write is false = inr (inl (record { what = what; write = write; did = carry_out write old.catalog.namespaces; asks = refl; is_write = is; did_so = inl refl; answers = refl }))
 
@@ -126,10 +126,10 @@ step_may old session (Err refusal) = inl refl
 step_may old session (Ok hello) = inl refl
 step_may old session (Ok ping) = inl refl
 step_may old session (Ok (asking.write w)) = carried_may old (asking.write w) (write_by w) refl (is_view w.namespace old.catalog.views)
-step_may old session (Ok (find f)) = cursors_may old (find f) (found session f old.catalog old.cursors) (first_told f.namespace f.batch_size _ _) (λ done. refl)
-step_may old session (Ok (aggregate a)) = cursors_may old (aggregate a) (gathered session a old.catalog old.cursors) (first_told a.namespace a.batch_size _ _) (λ done. refl)
+step_may old session (Ok (find f)) = cursors_may old (find f) (reply_to_find session f old.catalog old.cursors) (first_told f.namespace f.batch_size _ _) (λ done. refl)
+step_may old session (Ok (aggregate a)) = cursors_may old (aggregate a) (reply_to_aggregate session a old.catalog old.cursors) (first_told a.namespace a.batch_size _ _) (λ done. refl)
 step_may old session (Ok (get_more g)) =
-    cursors_may old (get_more g) (next_batch session g old.cursors) (next_told session g.namespace (number_of g.id) g.batch_size (rows_asked session g.namespace g.id old.cursors) old.cursors) (λ done. refl)
+    cursors_may old (get_more g) (next_batch session g old.cursors) (next_told session g.namespace (cursor_number g.id) g.batch_size (rows_asked session g.namespace g.id old.cursors) old.cursors) (λ done. refl)
 step_may old session (Ok (kill_cursors k)) = inr (inr (record { what = kill_cursors k; asks = refl; made = refl; tells = refl }))
 step_may old session (Ok (create c)) =
     let made = created c.namespace c.view old.catalog in
@@ -148,13 +148,13 @@ step_may old session (Ok (drop_indexes d)) =
 step_may old session (Ok (explain e)) = inl refl
 step_may old session (Ok (view_stats v)) = read_may old (view_stats v) (view_told v (marked old))
 
-write_cut_may : (old : State) (what : Asked) (write : Option Write) → write_of what ≡ write → (answer : Answer) → BareWriteCut old write answer → MayWrite old (Ok what) answer
+write_cut_may : (old : State) (what : Asked) (write : Option WriteCounts) → asked_write what ≡ write → (answer : Answer) → BareWriteCut old write answer → MayWrite old (Ok what) answer
 write_cut_may old what None is answer cut = absurd cut
 write_cut_may old what (Some write) is answer (on, (left, is_cut, answers)) =
     inr (inl (record { what = what; write = write; did = left; asks = refl; is_write = is; did_so = inr is_cut; answers = answers }))
 
 cut_may : (old : State) (asked : Result Asked Refusal) (answer : Answer) → BareCut old asked answer → MayWrite old asked answer
-cut_may old (Ok what) answer cut = write_cut_may old what (write_of what) refl answer cut
+cut_may old (Ok what) answer cut = write_cut_may old what (asked_write what) refl answer cut
 cut_may old (Err refusal) answer cut = absurd cut
 
 wants_may : (old : State) (command : Command) (answer : Answer) → BareWants old command answer → MayWrite old (asked_by command) answer
@@ -195,7 +195,7 @@ made_cursors old new (kill_cursors k) made idle = absurd cc
 made_cursors old new what made idle = absurd made
 
 -- a command that asks for no write, and makes nothing
-pub others_leave : (old new : State) (session : ℕ) (command : Command) (asked : Asked) (outcome : Outcome) → asked_by command ≡ Ok asked → write_of asked ≡ None → makes asked ≡ false
+pub others_leave : (old new : State) (session : ℕ) (command : Command) (asked : Asked) (outcome : Outcome) → asked_by command ≡ Ok asked → asked_write asked ≡ None → makes asked ≡ false
     → BareStep old session command outcome new → new.catalog ≡ old.catalog
 others_leave old new session command asked outcome asks none idle steps =
     let (answer, may, stands) = outcome_may old new session command outcome steps in
@@ -203,7 +203,7 @@ others_leave old new session command asked outcome asks none idle steps =
   where
     leave : (answer : Answer) → MayWrite old (asked_by command) answer → answer.state.catalog ≡ old.catalog
     leave answer (inl same) = ap (λ (s : State). s.catalog) same
-    leave answer (inr (inl w)) = let same : w.what ≡ asked = cc (w.asks, asks) in let some : write_of asked ≡ Some w.write = rw (← same) w.is_write in absurd cc
+    leave answer (inr (inl w)) = let same : w.what ≡ asked = cc (w.asks, asks) in let some : asked_write asked ≡ Some w.write = rw (← same) w.is_write in absurd cc
     leave answer (inr (inr m)) = let same : m.what ≡ asked = cc (m.asks, asks) in made_catalog old answer.state m.what m.made (rw same idle)
 
 -- a command that moves no cursors
@@ -241,7 +241,7 @@ views_stay old new session command asked outcome asks idle steps =
     leave answer (inr (inr m)) = let same : m.what ≡ asked = cc (m.asks, asks) in ap (λ (s : stored.State). s.views) (made_catalog old answer.state m.what m.made (rw same idle))
 
 -- what a command leaves that isn't a write: the state, or what it made
-pub others_made : (old new : State) (session : ℕ) (command : Command) (asked : Asked) (outcome : Outcome) → asked_by command ≡ Ok asked → write_of asked ≡ None → BareStep old session command outcome new
+pub others_made : (old new : State) (session : ℕ) (command : Command) (asked : Asked) (outcome : Outcome) → asked_by command ≡ Ok asked → asked_write asked ≡ None → BareStep old session command outcome new
     → (new ≡ old) ⊎ Made old asked new
 others_made old new session command asked outcome asks none steps =
     let (answer, may, stands) = outcome_may old new session command outcome steps in
@@ -249,7 +249,7 @@ others_made old new session command asked outcome asks none steps =
   where
     leave : (answer : Answer) → MayWrite old (asked_by command) answer → new ≡ answer.state → (new ≡ old) ⊎ Made old asked new
     leave answer (inl same) stands = inl (stands ∙ same)
-    leave answer (inr (inl w)) stands = let same : w.what ≡ asked = cc (w.asks, asks) in let some : write_of asked ≡ Some w.write = rw (← same) w.is_write in absurd cc
+    leave answer (inr (inl w)) stands = let same : w.what ≡ asked = cc (w.asks, asks) in let some : asked_write asked ≡ Some w.write = rw (← same) w.is_write in absurd cc
     leave answer (inr (inr m)) stands = let same : m.what ≡ asked = cc (m.asks, asks) in inr (rw (stands, ← same) m.made)
 
 -- ---- what is told as refused
@@ -268,8 +268,8 @@ reply_told Update n changed errors = update_told errors (count n) (count changed
 reply_told Delete n changed errors = errors_told errors (count n)
 
 -- a write that is carried out says so
-pub write_told : (what : Asked) (write : Write) → write_of what ≡ Some write → (n changed : ℕ) (errors : List Tree) → told (write.reply n changed errors) ≡ Some (int32 (pos 1))
-write_told (asking.write w) write is n changed errors = let same : write_by w ≡ write = cc in subst (λ (made : Write). told (made.reply n changed errors) ≡ Some (int32 (pos 1))) same (reply_told w.kind n changed errors)
+pub write_told : (what : Asked) (write : WriteCounts) → asked_write what ≡ Some write → (n changed : ℕ) (errors : List Tree) → told (write.reply n changed errors) ≡ Some (int32 (pos 1))
+write_told (asking.write w) write is n changed errors = let same : write_by w ≡ write = cc in subst (λ (made : WriteCounts). told (made.reply n changed errors) ≡ Some (int32 (pos 1))) same (reply_told w.kind n changed errors)
 write_told what write is n changed errors = absurd cc
 
 refused_may : (old : State) (asked : Result Asked Refusal) (answer : Answer) → MayWrite old asked answer → told answer.reply ≡ Some (int32 (pos 0)) → answer.state ≡ old
@@ -294,7 +294,7 @@ due_none : (ordered : Bool) (es : List Tree) → ordered ≡ true → is_due ord
 due_none ordered [] is due = refl
 due_none ordered (e ∷ es) is due = absurd cc
 
-module _ (write : Write) (ordered : write.ordered ≡ true) where
+module _ (write : WriteCounts) (ordered : write.ordered ≡ true) where
   one_result : (so_far : Written) (result : Result Effect Refusal) → so_far.errors ≡ [] → length (with_result write.namespace write.ordered so_far result).errors ≤ 1
   one_result so_far (Ok effect) none = rw none (omega arith)
   one_result so_far (Err refusal) none = rw none (omega arith)
@@ -313,7 +313,7 @@ module _ (write : Write) (ordered : write.ordered ≡ true) where
   pub one_error : (old : Namespaces) → length (carry_out write old).errors ≤ 1
   one_error old = one_all (nothing_written old) write.statements (omega arith)
 
-  pub cut_error_alone : (old : Namespaces) (left : Written) → IsCut write old left → length left.errors ≡ 1
+  pub cut_error_alone : (old : Namespaces) (left : Written) → IsCutWrite write old left → length left.errors ≡ 1
   cut_error_alone old left c =
       let none = due_none write.ordered (with_all write.namespace write.ordered (nothing_written old) c.before).errors ordered c.reached in
       rw c.left_so (rw none refl)

@@ -16,18 +16,18 @@ use Rattle.dv_catalog.specs.Scan.{scan}
 use Rattle.dv_catalog.specs.State as stored
 use Rattle.dv_catalog.specs.State.{rows_of}
 use Rattle.dv_catalog.specs.Views.{aggregated}
-use Rattle.dv_cursor.specs.Batch.{batch, behind}
-use Rattle.dv_cursor.specs.Cursors.{Cursor, Cursors, added, advanced, closed, cursor_behind, cursor_over, free_id, rows_to_come, rows_under, without_session}
-use Rattle.dv_cursor.specs.Runs.{is_place}
+use Rattle.dv_cursor.specs.Batch.{batch, rows_behind}
+use Rattle.dv_cursor.specs.Cursors.{Cursor, Cursors, added, advanced, closed, cursor_behind, cursor_over, free_id, rows_to_come, cursor_rows, without_session}
+use Rattle.dv_cursor.specs.Runs.{is_cursor_place}
 use Rattle.dv_core.specs.declared.outcome.Outcome.{Outcome}
 use Rattle.dv_core.specs.declared.outcome.Outcome.TheVariants.{Reply, Wanting, NoReply}
-use Rattle.dv_core.specs.Find.{are_too_large, found, first_batch, kept, kept_under, left_behind, replied}
-use Rattle.dv_core.specs.More.{id_behind, next_of, number_of, rows_asked, wanted, without, without_each}
-use Rattle.dv_core.specs.Runs.{Move, carries, ends, wants, stands, state_behind, state_behind_all, is_number, batch_told, is_nil, is_last_batch, asked_rows, asked_last, rows_told, tells_last, all_told, is_told_out, BatchesAreFront, IsToldOf, Shows}
-use Rattle.dv_core.specs.State.{State, empty_state, marked}
+use Rattle.dv_core.specs.Find.{are_too_large, reply_to_find, first_batch, kept, kept_under, kept_by_cursor, replied}
+use Rattle.dv_core.specs.More.{id_behind, next_of, cursor_number, rows_asked, rows_wanted, without_cursor, without_cursors}
+use Rattle.dv_core.specs.Runs.{Move, carries, ends, wants, stands, state_after_move, state_behind_all, is_cursor_number, batch_told, is_nil, is_last_batch, asked_rows, asked_last, rows_told, tells_last, all_told, is_told_out, BatchesAreFront, IsToldOf, Shows}
+use Rattle.dv_core.specs.State.{State, empty_store_state, marked}
 use Rattle.dv_core.specs.Stats.{view_told}
-use Rattle.dv_core.specs.Statements.{Write}
-use Rattle.dv_core.specs.Step.{Answer, answered, answer_to, read_answer, on_catalog, on_cursors, step, write_of, end_session}
+use Rattle.dv_core.specs.Statements.{WriteCounts}
+use Rattle.dv_core.specs.Step.{Answer, answered, answer_to, read_answer, on_catalog, on_cursors, step, asked_write, end_session}
 use Rattle.dv_core.proofs.Bare.{BareCut, BareStep, BareWants, BareWriteCut}
 
 abbrev Rows : Type 0
@@ -36,14 +36,14 @@ Rows = List (List Field)
 -- what holds of cursors that are changed, and of batches, by the laws of cursors
 pub record CursorLaws : Type 0 where
   pub added_at : (session id other : ℕ) (namespace : List ℕ) (rows : Rows) (cursors : Cursors)
-      → finite.get (added other namespace rows cursors).kept (session, id) ≡ (if is_place other cursors.next session id then Some (record { namespace = namespace; rows = rows }) else finite.get cursors.kept (session, id))
+      → finite.get (added other namespace rows cursors).kept (session, id) ≡ (if is_cursor_place other cursors.next session id then Some (record { namespace = namespace; rows = rows }) else finite.get cursors.kept (session, id))
   pub advanced_at : (session id other number count : ℕ) (cursors : Cursors)
-      → finite.get (advanced other number count cursors).kept (session, id) ≡ (if is_place other number session id then cursor_behind count (finite.get cursors.kept (other, number)) else finite.get cursors.kept (session, id))
+      → finite.get (advanced other number count cursors).kept (session, id) ≡ (if is_cursor_place other number session id then cursor_behind count (finite.get cursors.kept (other, number)) else finite.get cursors.kept (session, id))
   pub closed_at : (session id other number : ℕ) (cursors : Cursors)
-      → finite.get (closed other number cursors).kept (session, id) ≡ (if is_place other number session id then None else finite.get cursors.kept (session, id))
+      → finite.get (closed other number cursors).kept (session, id) ≡ (if is_cursor_place other number session id then None else finite.get cursors.kept (session, id))
   pub ended_at : (session id other : ℕ) (cursors : Cursors) → finite.get (without_session other cursors).kept (session, id) ≡ (if session == other then None else finite.get cursors.kept (session, id))
   pub next_stays : (session id count : ℕ) (cursors : Cursors) → (advanced session id count cursors).next ≡ cursors.next
-  pub front : (count : ℕ) (rows : Rows) → batch count rows ++ behind count rows ≡ rows
+  pub front : (count : ℕ) (rows : Rows) → batch count rows ++ rows_behind count rows ≡ rows
 
 -- the cursor of a session under an id
 abbrev pub at : ℕ → ℕ → Cursors → Option Cursor
@@ -66,9 +66,9 @@ record Tells (session id : ℕ) (before after : Cursors) (told : Rows) (last : B
   cursor : Cursor
   count : ℕ
   was : at session id before ≡ Some cursor
-  left : at session id after ≡ cursor_over cursor.namespace (behind count cursor.rows)
+  left : at session id after ≡ cursor_over cursor.namespace (rows_behind count cursor.rows)
   tells : told ≡ batch count cursor.rows
-  is_last : last ≡ is_nil (behind count cursor.rows)
+  is_last : last ≡ is_nil (rows_behind count cursor.rows)
 
 -- what a move does to it
 record Moves (session id : ℕ) (before after : Cursors) (told : Rows) (last : Bool) : Type 0 where
@@ -94,7 +94,7 @@ catalog_cursors state (Err refusal) = refl
 module _ (laws : CursorLaws) (session id : ℕ) where
   -- ---- a cursor is added
 
-  other_id : (next other : ℕ) → id < next → is_place other next session id ≡ false
+  other_id : (next other : ℕ) → id < next → is_cursor_place other next session id ≡ false
   other_id next other new = grind (arith, nat_tests)
 
   adds : (other : ℕ) (namespace : List ℕ) (rows : Rows) (before : Cursors) → id < before.next → Moves session id before (added other namespace rows before) [] false
@@ -135,7 +135,7 @@ module _ (laws : CursorLaws) (session id : ℕ) where
       is : there ≡ Some cursor
       has : cursor.rows ≡ rows
 
-    found_cursor : (namespace : List ℕ) (there : Option Cursor) (rows : Rows) → rows_under namespace there ≡ Some rows → FoundCursor namespace there rows
+    found_cursor : (namespace : List ℕ) (there : Option Cursor) (rows : Rows) → cursor_rows namespace there ≡ Some rows → FoundCursor namespace there rows
     found_cursor namespace None rows is = absurd cc
     found_cursor namespace (Some cursor) rows is = record { cursor = cursor; is = refl; has = by_name (bytes_eq namespace cursor.namespace) is }
       where
@@ -148,30 +148,30 @@ module _ (laws : CursorLaws) (session id : ℕ) where
     both_true true false is = absurd cc
     both_true false b is = absurd cc
 
-    found_moves : (other : ℕ) (namespace : List ℕ) (n count : ℕ) (rows : Rows) → rows_to_come other namespace n state.cursors ≡ Some rows → (b : Bool) → is_place other n session id ≡ b
-        → Moves session id state.cursors (advanced other n (length (batch (wanted count rows) rows)) state.cursors) (if b then batch (wanted count rows) rows else []) (b && is_nil (behind (wanted count rows) rows))
+    found_moves : (other : ℕ) (namespace : List ℕ) (n count : ℕ) (rows : Rows) → rows_to_come other namespace n state.cursors ≡ Some rows → (b : Bool) → is_cursor_place other n session id ≡ b
+        → Moves session id state.cursors (advanced other n (length (batch (rows_wanted count rows) rows)) state.cursors) (if b then batch (rows_wanted count rows) rows else []) (b && is_nil (rows_behind (rows_wanted count rows) rows))
     found_moves other namespace n count rows there true is =
         let equal = both_true (other == session) (n == id) is in
         let own : other ≡ session = eqb-true other session equal.0 in
         let same : n ≡ id = eqb-true n id equal.1 in
         let c = found_cursor namespace (at other n state.cursors) rows there in
-        let left = laws.advanced_at session id other n (length (batch (wanted count rows) rows)) state.cursors in
+        let left = laws.advanced_at session id other n (length (batch (rows_wanted count rows) rows)) state.cursors in
         record {
           does = inr (inr (record {
             cursor = c.cursor;
-            count = wanted count rows;
+            count = rows_wanted count rows;
             was = (λ i. at (sym own i) (sym same i) state.cursors) ∙ c.is;
             left = left
-                ∙ (λ i. if is i then cursor_behind (length (batch (wanted count rows) rows)) (c.is i) else at session id state.cursors)
-                ∙ ap (λ (rs : Rows). cursor_over c.cursor.namespace (behind_first (length (batch (wanted count rows) rs)) c.cursor.rows)) (sym c.has);
-            tells = ap (batch (wanted count rows)) (sym c.has);
-            is_last = ap (λ (rs : Rows). is_nil (behind (wanted count rows) rs)) (sym c.has);
+                ∙ (λ i. if is i then cursor_behind (length (batch (rows_wanted count rows) rows)) (c.is i) else at session id state.cursors)
+                ∙ ap (λ (rs : Rows). cursor_over c.cursor.namespace (behind_first (length (batch (rows_wanted count rows) rs)) c.cursor.rows)) (sym c.has);
+            tells = ap (batch (rows_wanted count rows)) (sym c.has);
+            is_last = ap (λ (rs : Rows). is_nil (rows_behind (rows_wanted count rows) rs)) (sym c.has);
           }));
-          next = omega (arith, laws.next_stays other n (length (batch (wanted count rows) rows)) state.cursors);
+          next = omega (arith, laws.next_stays other n (length (batch (rows_wanted count rows) rows)) state.cursors);
         }
     found_moves other namespace n count rows there false is = record {
-      does = inl (record { same = laws.advanced_at session id other n (length (batch (wanted count rows) rows)) state.cursors ∙ rw is refl; none = refl; more = refl });
-      next = omega (arith, laws.next_stays other n (length (batch (wanted count rows) rows)) state.cursors);
+      does = inl (record { same = laws.advanced_at session id other n (length (batch (rows_wanted count rows) rows)) state.cursors ∙ rw is refl; none = refl; more = refl });
+      next = omega (arith, laws.next_stays other n (length (batch (rows_wanted count rows) rows)) state.cursors);
     }
 
     nothing_moves : (b : Bool) → Moves session id state.cursors state.cursors (if b then [] else []) (b && false)
@@ -179,10 +179,10 @@ module _ (laws : CursorLaws) (session id : ℕ) where
     nothing_moves false = unmoved session id state.cursors state.cursors refl
 
     more_moves : (other : ℕ) (namespace : List ℕ) (asked : ℤ) (count : ℕ) (found : Option Rows) → rows_asked other namespace asked state.cursors ≡ found
-        → Moves session id state.cursors (answered state (on_cursors state (next_of other namespace (number_of asked) count found state.cursors))).state.cursors
-        (if (other == session) && is_number id asked then batch_told count found else []) (((other == session) && is_number id asked) && is_last_batch count found)
-    more_moves other namespace asked count None is = nothing_moves ((other == session) && is_number id asked)
-    more_moves other namespace (pos n) count (Some rows) is = found_moves other namespace n count rows is (is_place other n session id) refl
+        → Moves session id state.cursors (answered state (on_cursors state (next_of other namespace (cursor_number asked) count found state.cursors))).state.cursors
+        (if (other == session) && is_cursor_number id asked then batch_told count found else []) (((other == session) && is_cursor_number id asked) && is_last_batch count found)
+    more_moves other namespace asked count None is = nothing_moves ((other == session) && is_cursor_number id asked)
+    more_moves other namespace (pos n) count (Some rows) is = found_moves other namespace n count rows is (is_cursor_place other n session id) refl
     more_moves other namespace (negsuc n) count (Some rows) is = absurd cc
 
   -- ---- cursors are killed
@@ -191,16 +191,16 @@ module _ (laws : CursorLaws) (session id : ℕ) where
   LeftOrGone : Cursors → Cursors → Type 0
   LeftOrGone before after = ((at session id after ≡ at session id before) ⊎ (at session id after ≡ None)) × (before.next ≤ after.next)
 
-  one_gone : (other : ℕ) (namespace : List ℕ) (asked : ℤ) (before : Cursors) → LeftOrGone before (without other namespace asked before)
+  one_gone : (other : ℕ) (namespace : List ℕ) (asked : ℤ) (before : Cursors) → LeftOrGone before (without_cursor other namespace asked before)
   unfolding LeftOrGone
   one_gone other namespace asked before = by_found (is_some (rows_asked other namespace asked before))
     where
-      closed_at : (b : Bool) → is_place other (number_of asked) session id ≡ b → (at session id (closed other (number_of asked) before) ≡ at session id before) ⊎ (at session id (closed other (number_of asked) before) ≡ None)
-      closed_at true is = inr (laws.closed_at session id other (number_of asked) before ∙ rw is refl)
-      closed_at false is = inl (laws.closed_at session id other (number_of asked) before ∙ rw is refl)
+      closed_at : (b : Bool) → is_cursor_place other (cursor_number asked) session id ≡ b → (at session id (closed other (cursor_number asked) before) ≡ at session id before) ⊎ (at session id (closed other (cursor_number asked) before) ≡ None)
+      closed_at true is = inr (laws.closed_at session id other (cursor_number asked) before ∙ rw is refl)
+      closed_at false is = inl (laws.closed_at session id other (cursor_number asked) before ∙ rw is refl)
 
-      by_found : (b : Bool) → LeftOrGone before (if b then closed other (number_of asked) before else before)
-      by_found true = (closed_at (is_place other (number_of asked) session id) refl, omega arith)
+      by_found : (b : Bool) → LeftOrGone before (if b then closed other (cursor_number asked) before else before)
+      by_found true = (closed_at (is_cursor_place other (cursor_number asked) session id) refl, omega arith)
       by_found false = (inl refl, omega arith)
 
   then_left : (a b c : Cursors) → LeftOrGone a b → LeftOrGone b c → LeftOrGone a c
@@ -209,12 +209,12 @@ module _ (laws : CursorLaws) (session id : ℕ) where
   then_left a b c (inl same, up) (inl again, more) = (inl (again ∙ same), omega (arith, up, more))
   then_left a b c (inr gone, up) (inl again, more) = (inr (again ∙ gone), omega (arith, up, more))
 
-  each_gone : (other : ℕ) (namespace : List ℕ) (ids : List ℤ) (before : Cursors) → LeftOrGone before (without_each other namespace ids before)
+  each_gone : (other : ℕ) (namespace : List ℕ) (ids : List ℤ) (before : Cursors) → LeftOrGone before (without_cursors other namespace ids before)
   unfolding LeftOrGone
   each_gone other namespace [] before = (inl refl, omega arith)
   each_gone other namespace (asked ∷ ids) before =
-      let next : Cursors = without other namespace asked before in
-      then_left before next (without_each other namespace ids next) (one_gone other namespace asked before) (each_gone other namespace ids next)
+      let next : Cursors = without_cursor other namespace asked before in
+      then_left before next (without_cursors other namespace ids next) (one_gone other namespace asked before) (each_gone other namespace ids next)
 
   gone_moves : (before after : Cursors) → LeftOrGone before after → Moves session id before after [] false
   unfolding LeftOrGone
@@ -244,7 +244,7 @@ module _ (laws : CursorLaws) (session id : ℕ) where
   session_moves state other true is = record { does = inr (inl (record { gone = laws.ended_at session id other state.cursors ∙ rw is refl; none = refl; more = refl })); next = omega arith }
   session_moves state other false is = record { does = inl (record { same = laws.ended_at session id other state.cursors ∙ rw is refl; none = refl; more = refl }); next = omega arith }
 
-  each_moves : (move : Move) (state : State) → id < state.cursors.next → Moves session id state.cursors (state_behind move state).cursors (rows_told session id move state) (tells_last session id move state)
+  each_moves : (move : Move) (state : State) → id < state.cursors.next → Moves session id state.cursors (state_after_move move state).cursors (rows_told session id move state) (tells_last session id move state)
   each_moves (carries other command) state new = command_moves state other (asked_by command) new
   each_moves (ends other) state new = session_moves state other (session == other) refl
   each_moves (wants catalog) state new = unmoved session id state.cursors state.cursors refl
@@ -303,7 +303,7 @@ module _ (laws : CursorLaws) (session id : ℕ) where
       nothing_after told = told
   by_effect before after told later last out run c is (inr (inr t)) =
       rw (t.tells, t.is_last)
-      (tells_by before (batch t.count t.cursor.rows) (behind t.count t.cursor.rows) later out t.cursor t.was (laws.front t.count t.cursor.rows) (run (cursor_over t.cursor.namespace (behind t.count t.cursor.rows)) t.left) c is)
+      (tells_by before (batch t.count t.cursor.rows) (rows_behind t.count t.cursor.rows) later out t.cursor t.was (laws.front t.count t.cursor.rows) (run (cursor_over t.cursor.namespace (rows_behind t.count t.cursor.rows)) t.left) c is)
 
   run : (moves : List Move) (state : State) → id < state.cursors.next → (c : Option Cursor) → at session id state.cursors ≡ c → ToldOf c (all_told session id moves state) (is_told_out session id moves state)
   unfolding ToldOf
@@ -311,7 +311,7 @@ module _ (laws : CursorLaws) (session id : ℕ) where
   run [] state new (Some cursor) is = record { rest = cursor.rows; front = refl; whole = λ last. absurd cc }
   run (move ∷ moves) state new c is =
       let moved = each_moves move state new in
-      let after : State = state_behind move state in
+      let after : State = state_after_move move state in
       let up : id < after.cursors.next = omega (arith, moved.next) in
       by_effect state.cursors after.cursors (rows_told session id move state) (all_told session id moves after) (tells_last session id move state) (is_told_out session id moves after) (run moves after up) c is moved.does
 
@@ -323,9 +323,9 @@ module _ (laws : CursorLaws) where
   above_zero [] state above = above
   above_zero (move ∷ moves) state above =
       let moved = each_moves laws 0 0 move state above in
-      above_zero moves (state_behind move state) (omega (arith, moved.next))
+      above_zero moves (state_after_move move state) (omega (arith, moved.next))
 
-  own_place : (session next : ℕ) → is_place session next session next ≡ true
+  own_place : (session next : ℕ) → is_cursor_place session next session next ≡ true
   own_place session next = (λ i. eq-eqb session session refl i && eq-eqb next next refl i)
 
   module _ (session : ℕ) (namespace : List ℕ) (count : ℕ) (rows : Rows) where
@@ -333,10 +333,10 @@ module _ (laws : CursorLaws) where
     told_made true made told is = absurd cc
     told_made false made told is = cc
 
-    none_kept : (single : Bool) → left_behind count single rows ≡ [] → BatchesAreFront count rows [] (not single)
+    none_kept : (single : Bool) → kept_by_cursor count single rows ≡ [] → BatchesAreFront count rows [] (not single)
     none_kept true none = record {
-      rest = behind count rows;
-      front = ap (λ (rs : Rows). rs ++ behind count rows) (append-nil (batch count rows)) ∙ laws.front count rows;
+      rest = rows_behind count rows;
+      front = ap (λ (rs : Rows). rs ++ rows_behind count rows) (append-nil (batch count rows)) ∙ laws.front count rows;
       whole = λ last. absurd cc;
     }
     none_kept false none = record {
@@ -345,7 +345,7 @@ module _ (laws : CursorLaws) where
       whole = λ last. refl;
     }
 
-    kept_told : (single : Bool) (row : List Field) (left : Rows) (state : State) → left_behind count single rows ≡ row ∷ left → (moves : List Move)
+    kept_told : (single : Bool) (row : List Field) (left : Rows) (state : State) → kept_by_cursor count single rows ≡ row ∷ left → (moves : List Move)
         → BatchesAreFront count rows (all_told session state.cursors.next moves (record state { cursors = added session namespace (row ∷ left) state.cursors }))
         (is_told_out session state.cursors.next moves (record state { cursors = added session namespace (row ∷ left) state.cursors }))
     unfolding ToldOf
@@ -367,7 +367,7 @@ module _ (laws : CursorLaws) where
     free_is true next i is = cc
     free_is false next i is = absurd cc
 
-    kept_is : (single : Bool) (state : State) → 0 < state.cursors.next → (over : Rows) → left_behind count single rows ≡ over → (reply : List Field) (left : Cursors)
+    kept_is : (single : Bool) (state : State) → 0 < state.cursors.next → (over : Rows) → kept_by_cursor count single rows ≡ over → (reply : List Field) (left : Cursors)
         → (kept session namespace over state.cursors >>= replied namespace count rows) ≡ Ok (reply, left) → IsToldOf session namespace count single rows reply (record state { cursors = left })
     kept_is single state above [] none reply left is =
         let made : (first_batch_reply namespace 0 (map document_of (batch count rows)), state.cursors) ≡ (reply, left) = told_made (are_too_large rows) _ _ is in
@@ -392,26 +392,26 @@ module _ (laws : CursorLaws) where
 
     shown : (single : Bool) (state : State) → 0 < state.cursors.next → (result : Result (List Field × Cursors) Refusal) → first_batch session namespace count single rows state.cursors ≡ result
         → Shows session namespace count single rows state (answered state (on_cursors state result))
-    shown single state above (Ok told) is = inr (kept_is single state above (left_behind count single rows) refl told.0 told.1 is)
+    shown single state above (Ok told) is = inr (kept_is single state above (kept_by_cursor count single rows) refl told.0 told.1 is)
     shown single state above (Err refusal) is = inl (refusal, refl)
 
   pub find_told : (before : List Move) (session : ℕ) (command : Command) (asked : Find) → asked_by command ≡ Ok (find asked)
-      → Shows session asked.namespace asked.batch_size asked.single_batch (scan asked.filter asked.sort asked.skip asked.limit (rows_of asked.namespace (state_behind_all before empty_state).catalog))
-      (state_behind_all before empty_state) (step (state_behind_all before empty_state) session command)
+      → Shows session asked.namespace asked.batch_size asked.single_batch (scan asked.filter asked.sort asked.skip asked.limit (rows_of asked.namespace (state_behind_all before empty_store_state).catalog))
+      (state_behind_all before empty_store_state) (step (state_behind_all before empty_store_state) session command)
   find_told before session command asked asks =
-      let state : State = state_behind_all before empty_state in
+      let state : State = state_behind_all before empty_store_state in
       let rows : Rows = scan asked.filter asked.sort asked.skip asked.limit (rows_of asked.namespace state.catalog) in
       subst (λ (r : Result Asked Refusal). Shows session asked.namespace asked.batch_size asked.single_batch rows state (answered state (r >>= answer_to state session))) (sym asks)
-      (shown session asked.namespace asked.batch_size rows asked.single_batch state (above_zero before empty_state (omega arith)) _ refl)
+      (shown session asked.namespace asked.batch_size rows asked.single_batch state (above_zero before empty_store_state (omega arith)) _ refl)
 
   pub pipeline_told : (before : List Move) (session : ℕ) (command : Command) (asked : Aggregate) → asked_by command ≡ Ok (aggregate asked)
-      → Shows session asked.namespace asked.batch_size false (aggregated asked.stages asked.namespace (state_behind_all before empty_state).catalog)
-      (state_behind_all before empty_state) (step (state_behind_all before empty_state) session command)
+      → Shows session asked.namespace asked.batch_size false (aggregated asked.stages asked.namespace (state_behind_all before empty_store_state).catalog)
+      (state_behind_all before empty_store_state) (step (state_behind_all before empty_store_state) session command)
   pipeline_told before session command asked asks =
-      let state : State = state_behind_all before empty_state in
+      let state : State = state_behind_all before empty_store_state in
       let rows : Rows = aggregated asked.stages asked.namespace state.catalog in
       subst (λ (r : Result Asked Refusal). Shows session asked.namespace asked.batch_size false rows state (answered state (r >>= answer_to state session))) (sym asks)
-      (shown session asked.namespace asked.batch_size rows false state (above_zero before empty_state (omega arith)) _ refl)
+      (shown session asked.namespace asked.batch_size rows false state (above_zero before empty_store_state (omega arith)) _ refl)
 
   -- ---- what a getMore replies
 
@@ -425,7 +425,7 @@ module _ (laws : CursorLaws) where
   found_reply state session id count namespace rows false own found is = absurd cc
   found_reply state session id count namespace rows true own None is = absurd cc
   found_reply state session id count namespace rows true own (Some others) is =
-      ap (λ (n : ℕ). next_batch_reply namespace n (map document_of (batch (wanted count others) others))) (id_is id (behind (wanted count others) others))
+      ap (λ (n : ℕ). next_batch_reply namespace n (map document_of (batch (rows_wanted count others) others))) (id_is id (rows_behind (rows_wanted count others) others))
 
   pub more_told : (state : State) (session id : ℕ) (command : Command) (asked : GetMore) (rows : Rows) → asked_by command ≡ Ok (get_more asked) → asked.id ≡ pos id
       → rows_to_come session asked.namespace id state.cursors ≡ Some rows
@@ -434,27 +434,27 @@ module _ (laws : CursorLaws) where
   more_told state session id command asked rows asks number there =
       subst (λ (r : Result Asked Refusal). (answered state (r >>= answer_to state session)).reply
       ≡ next_batch_reply asked.namespace (if asked_last session id session r state then 0 else id) (map document_of (asked_rows session id session r state))) (sym asks)
-      (subst (λ (z : ℤ). (answered state (on_cursors state (next_of session asked.namespace (number_of z) asked.batch_size (rows_asked session asked.namespace z state.cursors) state.cursors))).reply
-      ≡ next_batch_reply asked.namespace (if ((session == session) && is_number id z) && is_last_batch asked.batch_size (rows_asked session asked.namespace z state.cursors) then 0 else id)
-      (map document_of (if (session == session) && is_number id z then batch_told asked.batch_size (rows_asked session asked.namespace z state.cursors) else []))) (sym number)
-      (found_reply state session id asked.batch_size asked.namespace rows (is_place session id session id) (own_place session id) (rows_to_come session asked.namespace id state.cursors) there))
+      (subst (λ (z : ℤ). (answered state (on_cursors state (next_of session asked.namespace (cursor_number z) asked.batch_size (rows_asked session asked.namespace z state.cursors) state.cursors))).reply
+      ≡ next_batch_reply asked.namespace (if ((session == session) && is_cursor_number id z) && is_last_batch asked.batch_size (rows_asked session asked.namespace z state.cursors) then 0 else id)
+      (map document_of (if (session == session) && is_cursor_number id z then batch_told asked.batch_size (rows_asked session asked.namespace z state.cursors) else []))) (sym number)
+      (found_reply state session id asked.batch_size asked.namespace rows (is_cursor_place session id session id) (own_place session id) (rows_to_come session asked.namespace id state.cursors) there))
 
 -- ---- want of memory
 
-write_wants : (old : State) (write : Option Write) (answer : Answer) → BareWriteCut old write answer → (catalog : stored.State) × (answer.state ≡ state_behind (wants catalog) old)
+write_wants : (old : State) (write : Option WriteCounts) (answer : Answer) → BareWriteCut old write answer → (catalog : stored.State) × (answer.state ≡ state_after_move (wants catalog) old)
 write_wants old None answer cut = absurd cut
 write_wants old (Some write) answer (on, (left, is_cut, answers)) = (record old.catalog { namespaces = left.namespaces }, ap (λ (a : Answer). a.state) answers)
 
-cut_wants : (old : State) (asked : Result Asked Refusal) (answer : Answer) → BareCut old asked answer → (catalog : stored.State) × (answer.state ≡ state_behind (wants catalog) old)
-cut_wants old (Ok asked) answer cut = write_wants old (write_of asked) answer cut
+cut_wants : (old : State) (asked : Result Asked Refusal) (answer : Answer) → BareCut old asked answer → (catalog : stored.State) × (answer.state ≡ state_after_move (wants catalog) old)
+cut_wants old (Ok asked) answer cut = write_wants old (asked_write asked) answer cut
 cut_wants old (Err refusal) answer cut = absurd cut
 
-answer_wants : (old : State) (command : Command) (answer : Answer) → BareWants old command answer → (catalog : stored.State) × (answer.state ≡ state_behind (wants catalog) old)
+answer_wants : (old : State) (command : Command) (answer : Answer) → BareWants old command answer → (catalog : stored.State) × (answer.state ≡ state_after_move (wants catalog) old)
 answer_wants old command answer (inl refused) = (old.catalog, ap (λ (a : Answer). a.state) refused)
 answer_wants old command answer (inr cut) = cut_wants old (asked_by command) answer cut
 
 pub memory_moves : (old new : State) (session : ℕ) (command : Command) (outcome : Outcome) → BareStep old session command outcome new
-    → (new ≡ state_behind (carries session command) old) ⊎ ((catalog : stored.State) × (new ≡ state_behind (wants catalog) old))
+    → (new ≡ state_after_move (carries session command) old) ⊎ ((catalog : stored.State) × (new ≡ state_after_move (wants catalog) old))
 memory_moves old new session command (Reply reply) is = inl (ap (λ (a : Answer). a.state) (sym is))
 memory_moves old new session command (Wanting reply) is = inr (answer_wants old command (record { reply = reply; state = new }) is)
 memory_moves old new session command NoReply (inl is) = inl is

@@ -12,7 +12,7 @@ use Rattle.dv_fields.specs.declared.refusal.Refusal.TheVariants.{WantOfMemory}
 use Rattle.dv_core.specs.declared.outcome.Outcome.{Outcome}
 use Rattle.dv_core.specs.declared.outcome.Outcome.TheVariants.{Reply, NoReply}
 use Rattle.dv_core.specs.Indexes.{form_asked, index_count, indexed, unindexed}
-use Rattle.dv_core.specs.More.{gone_ids, killed, missing_ids, went_each, without, without_each}
+use Rattle.dv_core.specs.More.{gone_ids, killed, missing_ids, went_each, without_cursor, without_cursors}
 use Rattle.dv_core.specs.StepParts.{Ends, Refuses, TellsOrNot}
 
 -- a reply for which there is memory or isn't
@@ -42,8 +42,8 @@ unindexed_so asked old new is = ap (λ (r : Result State Refusal). r >>= λ left
 -- there is an answer for each id
 pub went_each-length : (session : ℕ) (namespace : List ℕ) (ids : List ℤ) (cursors : Cursors) → length (went_each session namespace ids cursors) ≡ length ids
 went_each-length session namespace [] cursors = refl
-went_each-length session namespace (id ∷ ids) cursors = ap suc (went_each-length session namespace ids (without session namespace id cursors))
+went_each-length session namespace (id ∷ ids) cursors = ap suc (went_each-length session namespace ids (without_cursor session namespace id cursors))
 
-pub killed_so : (session : ℕ) (asked : KillCursors) (old new : Cursors) (went : List Bool) → went ≡ went_each session asked.namespace asked.ids old → new ≡ without_each session asked.namespace asked.ids old
+pub killed_so : (session : ℕ) (asked : KillCursors) (old new : Cursors) (went : List Bool) → went ≡ went_each session asked.namespace asked.ids old → new ≡ without_cursors session asked.namespace asked.ids old
     → killed session asked old ≡ (kill_cursors_reply (gone_ids asked.ids went) (missing_ids asked.ids went), new)
 killed_so session asked old new went is left = λ i. (kill_cursors_reply (gone_ids asked.ids (sym is i)) (missing_ids asked.ids (sym is i)), sym left i)

@@ -14,7 +14,7 @@ use Rattle.dv_catalog.specs.Views.{created, dropped, made, reads_name, with_view
 use Rattle.dv_command.specs.Asked.{Asked, Create, Drop, ViewOn, create, drop, create_indexes, drop_indexes, asked_by}
 use Rattle.dv_command.specs.declared.command.Command.{Command}
 use Rattle.dv_core.specs.declared.outcome.Outcome.{Outcome}
-use Rattle.dv_core.specs.Step.{write_of, indexes}
+use Rattle.dv_core.specs.Step.{asked_write, indexes}
 use Rattle.dv_fields.specs.declared.refusal.Refusal.{Refusal}
 use Rattle.dv_fields.specs.declared.refusal.Refusal.TheVariants.{NamespaceExists, NamespaceNotFound, OnView, ReadByView}
 use Rattle.dv_core.proofs.Bare.{BareStep}
@@ -151,7 +151,7 @@ made_indexes old new (create_indexes c) is made = created_so old.catalog new.cat
 made_indexes old new (drop_indexes d) is made = dropped_so old.catalog new.catalog d.namespace d.index made.0
 made_indexes old new asked is made = absurd cc
 
-no_write : (asked : Asked) → indexes asked ≡ true → write_of asked ≡ None
+no_write : (asked : Asked) → indexes asked ≡ true → asked_write asked ≡ None
 no_write (create_indexes c) is = refl
 no_write (drop_indexes d) is = refl
 no_write asked is = absurd cc

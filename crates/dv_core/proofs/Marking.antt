@@ -8,7 +8,7 @@ use Rattle.dv_catalog.specs.declared.stopped.Stopped.{Stopped}
 use Rattle.dv_fields.specs.declared.refusal.Refusal.{Refusal}
 use Rattle.dv_pipe.specs.Stages.{Lists}
 use Rattle.dv_views.specs.Flow.{Share, nothing, shares}
-use Rattle.dv_views.specs.Forms.{ViewForm, is_among, needed}
+use Rattle.dv_views.specs.Forms.{ViewForm, is_name_among, needed}
 use Rattle.dv_core.specs.Marks.{AreMarkedByCut, AreMarkedByEach, due_changes, marks_where_read, marks_written}
 use Rattle.dv_core.specs.State.{State}
 use Rattle.dv_core.specs.Statements.{AreCut, Written, is_due, next_changes, nothing_written, with_all, with_next}
@@ -129,9 +129,9 @@ module _ (names : List (List ℕ)) where
   all_some : (views : List ViewForm) (marks : Marks) → ArePartlyNamed names views marks (marks_named names views marks)
   all_some [] marks = refl
   all_some (v ∷ views) [] = refl
-  all_some (v ∷ views) (mark ∷ marks) = (one (is_among v.name names) refl, all_some views marks)
+  all_some (v ∷ views) (mark ∷ marks) = (one (is_name_among v.name names) refl, all_some views marks)
     where
-      one : (b : Bool) → is_among v.name names ≡ b → IsPartlyRead (is_among v.name names) mark (cond b (mark_read mark) mark)
+      one : (b : Bool) → is_name_among v.name names ≡ b → IsPartlyRead (is_name_among v.name names) mark (cond b (mark_read mark) mark)
       one true named = inr (named, refl)
       one false named = inl refl
 

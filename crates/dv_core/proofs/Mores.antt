@@ -8,7 +8,7 @@ use Rattle.dv_bson.specs.declared.value.Value.{Value}
 use Rattle.dv_command.specs.Replies.{document_of, next_batch_reply}
 use Rattle.dv_cursor.specs.Batch.{batch}
 use Rattle.dv_cursor.specs.Cursors.{Cursors, advanced}
-use Rattle.dv_core.specs.More.{gone_ids, id_behind, missing_ids, next_of, number_of, rows_asked, wanted, went_each, without, without_each}
+use Rattle.dv_core.specs.More.{gone_ids, id_behind, missing_ids, next_of, cursor_number, rows_asked, rows_wanted, went_each, without_cursor, without_cursors}
 
 abbrev pub Rows : Type 0
 Rows = List (List Field)
@@ -32,17 +32,17 @@ pub told_none : (n m taken long id told : ℕ) → taken ≡ n → long ≡ m �
 told_none n m taken long id told a b less is = grind (arith, nat_tests)
 
 pub more_given : (session : ℕ) (namespace : List ℕ) (id : ℤ) (count : ℕ) (rows : Rows) (cursors : Cursors) → rows_asked session namespace id cursors ≡ Some rows
-    → (told : ℕ) → told ≡ cond (nat_lt (length (batch (wanted count rows) rows)) (length rows)) (number_of id) 0
-    → (reply : List Field) → reply ≡ next_batch_reply namespace told (map document_of (batch (wanted count rows) rows)) → (left : Cursors) → left ≡ advanced session (number_of id) (length (batch (wanted count rows) rows)) cursors
-    → next_of session namespace (number_of id) count (rows_asked session namespace id cursors) cursors ≡ Ok (reply, left)
+    → (told : ℕ) → told ≡ cond (nat_lt (length (batch (rows_wanted count rows) rows)) (length rows)) (cursor_number id) 0
+    → (reply : List Field) → reply ≡ next_batch_reply namespace told (map document_of (batch (rows_wanted count rows) rows)) → (left : Cursors) → left ≡ advanced session (cursor_number id) (length (batch (rows_wanted count rows) rows)) cursors
+    → next_of session namespace (cursor_number id) count (rows_asked session namespace id cursors) cursors ≡ Ok (reply, left)
 more_given session namespace id count rows cursors there told told_is reply is left leaves =
-    let taken : Rows = batch (wanted count rows) rows in
-    let as_told = ap (λ (t : ℕ). next_batch_reply namespace t (map document_of taken)) (id_behind-drop (number_of id) (length taken) rows ∙ sym told_is) ∙ sym is in
-    ap (λ (found : Option Rows). next_of session namespace (number_of id) count found cursors) there ∙ (λ i. Ok (as_told i, sym leaves i))
+    let taken : Rows = batch (rows_wanted count rows) rows in
+    let as_told = ap (λ (t : ℕ). next_batch_reply namespace t (map document_of taken)) (id_behind-drop (cursor_number id) (length taken) rows ∙ sym told_is) ∙ sym is in
+    ap (λ (found : Option Rows). next_of session namespace (cursor_number id) count found cursors) there ∙ (λ i. Ok (as_told i, sym leaves i))
 
 -- ---- the ids of cursors
 
-module _ (session : ℕ) (namespace : List ℕ) (ids : List ℤ) (place : ℕ) (id : ℤ) (next : drop place ids ≡ id ∷ drop (place + 1) ids) (cursors after : Cursors) (leaves : after ≡ without session namespace id cursors) where
+module _ (session : ℕ) (namespace : List ℕ) (ids : List ℤ) (place : ℕ) (id : ℤ) (next : drop place ids ≡ id ∷ drop (place + 1) ids) (cursors after : Cursors) (leaves : after ≡ without_cursor session namespace id cursors) where
   pub went_more : (went all : List Bool) (b : Bool) → place < length went → b ≡ is_some (rows_asked session namespace id cursors) → take place went ++ went_each session namespace (drop place ids) cursors ≡ all
       → take (place + 1) (set went place b) ++ went_each session namespace (drop (place + 1) ids) after ≡ all
   went_more went all b within is told =
@@ -53,10 +53,10 @@ module _ (session : ℕ) (namespace : List ℕ) (ids : List ℤ) (place : ℕ) (
       ∙ ap (λ (rest : List ℤ). take place went ++ went_each session namespace rest cursors) (sym next)
       ∙ told
 
-  pub without_more : (all : Cursors) → without_each session namespace (drop place ids) cursors ≡ all → without_each session namespace (drop (place + 1) ids) after ≡ all
+  pub without_more : (all : Cursors) → without_cursors session namespace (drop place ids) cursors ≡ all → without_cursors session namespace (drop (place + 1) ids) after ≡ all
   without_more all left =
-      (λ i. without_each session namespace (drop (place + 1) ids) (leaves i))
-      ∙ ap (λ (rest : List ℤ). without_each session namespace rest cursors) (sym next) ∙ left
+      (λ i. without_cursors session namespace (drop (place + 1) ids) (leaves i))
+      ∙ ap (λ (rest : List ℤ). without_cursors session namespace rest cursors) (sym next) ∙ left
 
 module _ (ids : List ℤ) (went : List Bool) (place : ℕ) (id : ℤ) (b : Bool) (next : drop place ids ≡ id ∷ drop (place + 1) ids) (next_went : drop place went ≡ b ∷ drop (place + 1) went) where
   abbrev gone_rest : List Tree

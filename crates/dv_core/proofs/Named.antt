@@ -16,12 +16,12 @@ use Rattle.dv_catalog.specs.State as stored
 use Rattle.dv_catalog.specs.StateLaws.{get-insert}
 use Rattle.dv_command.specs.Asked.{Asked, create_indexes, drop_indexes, asked_by}
 use Rattle.dv_command.specs.Entries.{IndexAsked}
-use Rattle.dv_command.specs.Sound.{AreIndexes, IsIndexName, IsSoundlyAsked}
+use Rattle.dv_command.specs.Sound.{AreIndexes, IsIndexName, IsSoundRequest}
 use Rattle.dv_command.specs.declared.command.Command.{Command}
 use Rattle.dv_core.specs.Indexes.{form_asked, index_name}
 use Rattle.dv_core.specs.Sound.{AreSoundIndexes, IsSoundCommand}
-use Rattle.dv_core.specs.State.{State, empty_state}
-use Rattle.dv_core.specs.Statements.{Write, Written, nothing_written, with_all, with_next, with_result, is_due}
+use Rattle.dv_core.specs.State.{State, empty_store_state}
+use Rattle.dv_core.specs.Statements.{WriteCounts, Written, nothing_written, with_all, with_next, with_result, is_due}
 use Rattle.dv_core.specs.Step.{Answer}
 use Rattle.dv_core.specs.declared.outcome.Outcome.{Outcome}
 use Rattle.dv_core.proofs.Bare.{BareStep}
@@ -80,7 +80,7 @@ module _ (namespace : List ℕ) (ordered : Bool) (name : List ℕ) where
   all_leave so_far [] = refl
   all_leave so_far (statement ∷ statements) = all_leave (with_next namespace ordered so_far statement) statements ∙ next_leaves so_far statement
 
-did_leave : (write : Write) (old : State) (did : Written) → Did write old did → (name : List ℕ) → indexes_of name did.namespaces ≡ indexes_of name old.catalog.namespaces
+did_leave : (write : WriteCounts) (old : State) (did : Written) → Did write old did → (name : List ℕ) → indexes_of name did.namespaces ≡ indexes_of name old.catalog.namespaces
 did_leave write old did (inl whole) name = ap (λ (w : Written). indexes_of name w.namespaces) whole ∙ all_leave write.namespace write.ordered name (nothing_written old.catalog.namespaces) write.statements
 did_leave write old did (inr c) name =
     let before : Written = with_all write.namespace write.ordered (nothing_written old.catalog.namespaces) c.before in
@@ -155,10 +155,10 @@ asked_named (x ∷ asked) sound = (sound.0, asked_named asked sound.1)
 abbrev HasNames : List ℕ → Collection → Type 0
 HasNames namespace c = Named c.indexes
 
-names_kept : (size : ℕ) (what : Asked) → IsSoundlyAsked size what → IsKeptBy HasNames what
+names_kept : (size : ℕ) (what : Asked) → IsSoundRequest size what → IsKeptBy HasNames what
 names_kept size what asked = record { none = λ name. id_named; emptied = λ name c named. named; indexed = λ name c indexes is named. subst IfMade is (left what asked c named) }
   where
-    left : (what : Asked) → IsSoundlyAsked size what → (c : Collection) → Named c.indexes → IfMade (indexes_by what c)
+    left : (what : Asked) → IsSoundRequest size what → (c : Collection) → Named c.indexes → IfMade (indexes_by what c)
     left (create_indexes a) asked c named = all_named (map form_asked a.indexes) c (asked_named a.indexes asked.1) named
     left (drop_indexes a) asked c named = left_named a.index c.indexes named
     left what asked c named = named
@@ -177,7 +177,7 @@ steps_named asks old new session command outcome sound all steps =
 
 -- ---- the first state
 
-pub empty_named : AreSoundIndexes empty_state
+pub empty_named : AreSoundIndexes empty_store_state
 empty_named name = subst (λ (there : Option Standing). Named (collection_at there).indexes) (sym (finite.get-empty (slice_cmp nat_cmp) name)) id_named
 
 -- ---- the index by which a find is answered

@@ -6,7 +6,7 @@ use Rattle.std.specs.FinMap as finite
 use Rattle.std.specs.List.{AllByRecursion}
 use Rattle.std.specs.List.Sorted.{IsStrictlySortedBy}
 use Rattle.std.specs.Ordering.{nat_cmp, is_lt}
-use Rattle.dv_bson.specs.Names.{value_under}
+use Rattle.dv_bson.specs.Names.{value_under, without}
 use Rattle.dv_bson.specs.Spelling.{AreFields, Fits}
 use Rattle.dv_bson.specs.Tree.{Tree, array, Field, fields_of}
 use Rattle.dv_order.specs.Key.{KeyTree, key_order}
@@ -15,7 +15,7 @@ use Rattle.dv_command.specs.Asked.{Asked, asked_by}
 use Rattle.dv_command.specs.Asked as asking
 use Rattle.dv_bson.specs.Results.{◌>>=◌}
 use Rattle.dv_command.specs.Entries.{Updating, updating_of}
-use Rattle.dv_command.specs.Sound.{AreValid, IsSoundUpdate}
+use Rattle.dv_command.specs.Sound.{AreSpellable, IsSoundUpdate}
 use Rattle.dv_command.specs.declared.asking.WriteKind.{WriteKind}
 use Rattle.dv_command.specs.declared.asking.WriteKind.TheVariants.{Insert, Update, Delete}
 use Rattle.dv_command.specs.declared.command.Command.{Command}
@@ -30,11 +30,11 @@ use Rattle.dv_catalog.specs.Effects.{after}
 use Rattle.dv_core.specs.Sound.{IsSoundDocument, AreSound, IsSoundCommand}
 use Rattle.dv_core.specs.Load.{insert_alone, left_by, loaded, namespace_in}
 use Rattle.dv_catalog.specs.State.{AreOrdered, Collection, IsOrdered, Standing, collection_at, collection_of, documents_of, indexes_of, is_view}
-use Rattle.dv_core.specs.State.{State, empty_state}
-use Rattle.dv_core.specs.Statements.{Write}
-use Rattle.dv_core.specs.Step.{write_of}
+use Rattle.dv_core.specs.State.{State, empty_store_state}
+use Rattle.dv_core.specs.Statements.{WriteCounts}
+use Rattle.dv_core.specs.Step.{asked_write}
 use Rattle.dv_path.specs.Names.{has_bad_name}
-use Rattle.dv_core.specs.Storable.{id_in, is_within_limits, storable, with_id_first, without_field}
+use Rattle.dv_core.specs.Storable.{id_in, is_within_limits, storable, with_id_first}
 use Rattle.dv_core.specs.Writes.{insert_one, statement_of, write_by}
 use Rattle.dv_core.proofs.Bare.{BareStep}
 use Rattle.dv_core.proofs.Asking.{AsksSoundly, soundly_asked}
@@ -49,8 +49,8 @@ use Rattle.dv_core.proofs.Stored.{storable_fits}
 use Rattle.dv_catalog.specs.EffectLaws.{KeepsId, told_after, after_id}
 use Rattle.dv_core.proofs.Valid.{storable_valid}
 
-nothing_there : (namespace : List ℕ) → [] ≡ documents_of namespace empty_state.catalog.namespaces
-nothing_there namespace = sym (documents_there empty_state.catalog.namespaces namespace None (finite.get-empty (slice_cmp nat_cmp) namespace))
+nothing_there : (namespace : List ℕ) → [] ≡ documents_of namespace empty_store_state.catalog.namespaces
+nothing_there namespace = sym (documents_there empty_store_state.catalog.namespaces namespace None (finite.get-empty (slice_cmp nat_cmp) namespace))
 
 none_ordered : AreOrdered []
 unfolding IsStrictlySortedBy
@@ -79,7 +79,7 @@ pub record IsWhole (namespace : List ℕ) (c : Collection) : Type 0 where
 abbrev pub AreWhole : State → Type 0
 AreWhole state = Stands IsWhole state.catalog.namespaces
 
-pub empty_ordered : IsOrdered empty_state.catalog
+pub empty_ordered : IsOrdered empty_store_state.catalog
 empty_ordered namespace = subst AreOrdered (nothing_there namespace) none_ordered
 
 none_apart : (namespace : List ℕ) → IsApart namespace empty_indexed
@@ -88,7 +88,7 @@ none_apart namespace = record { documents = none_ordered; unique = refl }
 none_whole : (namespace : List ℕ) → IsWhole namespace empty_indexed
 none_whole namespace = record { documents = none_sound; unique = refl }
 
-pub empty_whole : AreWhole empty_state
+pub empty_whole : AreWhole empty_store_state
 empty_whole namespace = subst (λ (there : Option Standing). IsWhole namespace (collection_at there)) (sym (finite.get-empty (slice_cmp nat_cmp) namespace)) (none_whole namespace)
 
 -- ---- what is stored begins with its `_id`
@@ -117,7 +117,7 @@ within_limits (Err refusal) h = tt
 stored_id : (d stored : List Field) → storable d ≡ Ok stored → HasId stored
 stored_id d stored is =
     subst GivesId is
-    (within_limits (with_id_first d) (first_with_id (has_bad_name d) _ (id_given (codes "_id") refl (value_under (codes "_id") d) (without_field (codes "_id") d))))
+    (within_limits (with_id_first d) (first_with_id (has_bad_name d) _ (id_given (codes "_id") refl (value_under (codes "_id") d) (without (codes "_id") d))))
 
 -- ---- what becomes of a document that is updated begins with its `_id`
 
@@ -178,8 +178,8 @@ module _ (laws : CollectionLaws) where
         updates_keep P BeginsWithId changes (λ form. Unit {0}) (λ form any namespace c holds. afters_ids laws.id_stays form c.documents (in_order namespace c holds).1) entries (asks_any entries)
     statements_hold Delete entries = deletes_keep P BeginsWithId changes (λ k. tt) entries
 
-    writes_hold : (what : Asked) (write : Write) → write_of what ≡ Some write → AllByRecursion (Keeps P BeginsWithId changes) write.statements
-    writes_hold (asking.write w) write is = let same : write_by w ≡ write = cc in subst (λ (w : Write). AllByRecursion (Keeps P BeginsWithId changes) w.statements) same (statements_hold w.kind w.entries)
+    writes_hold : (what : Asked) (write : WriteCounts) → asked_write what ≡ Some write → AllByRecursion (Keeps P BeginsWithId changes) write.statements
+    writes_hold (asking.write w) write is = let same : write_by w ≡ write = cc in subst (λ (w : WriteCounts). AllByRecursion (Keeps P BeginsWithId changes) w.statements) same (statements_hold w.kind w.entries)
     writes_hold what write is = absurd cc
 
     steps_hold : ((what : Asked) → IsKeptBy P what) → (old new : State) (session : ℕ) (command : Command) (outcome : Outcome) → Stands P old.catalog.namespaces → BareStep old session command outcome new → Stands P new.catalog.namespaces
@@ -276,10 +276,10 @@ module _ (laws : CollectionLaws) (unique_laws : UniqueLaws) where
     unique = change_unbroken unique_laws c.indexes change c.documents whole.documents.0 whole.unique apart;
   }
 
-  abbrev KeepsSound : Write → Type 0
+  abbrev KeepsSound : WriteCounts → Type 0
   KeepsSound write = AllByRecursion (Keeps IsWhole IsSoundChange change_whole) write.statements
 
-  inserts_sound : (documents : List (List Field)) → AreValid documents → AllByRecursion (Keeps IsWhole IsSoundChange change_whole) (map insert_one documents)
+  inserts_sound : (documents : List (List Field)) → AreSpellable documents → AllByRecursion (Keeps IsWhole IsSoundChange change_whole) (map insert_one documents)
   inserts_sound [] valid = tt
   inserts_sound (d ∷ ds) valid = (
     insert_keeps IsWhole IsSoundChange change_whole d (λ stored is. (stored_id d stored is, record { valid = storable_valid d stored valid.0 is; fits = storable_fits d stored is })),
@@ -297,17 +297,17 @@ module _ (laws : CollectionLaws) (unique_laws : UniqueLaws) where
       afters_sound how asked ds ids.1 all.1,
     )
 
-    entries_sound : (entries : List (List Field)) → AreValid entries → AllByRecursion (λ entry. (updating : Updating) → updating_of entry ≡ Ok updating → IsSoundUpdate updating.update) entries
+    entries_sound : (entries : List (List Field)) → AreSpellable entries → AllByRecursion (λ entry. (updating : Updating) → updating_of entry ≡ Ok updating → IsSoundUpdate updating.update) entries
     entries_sound [] valid = tt
     entries_sound (entry ∷ entries) valid = ((λ updating is. sound_laws.of_entries entry updating valid.0 is), entries_sound entries valid.1)
 
-    statements_sound : (kind : WriteKind) (entries : List (List Field)) → AreValid entries → AllByRecursion (Keeps IsWhole IsSoundChange change_whole) (map (statement_of kind) entries)
+    statements_sound : (kind : WriteKind) (entries : List (List Field)) → AreSpellable entries → AllByRecursion (Keeps IsWhole IsSoundChange change_whole) (map (statement_of kind) entries)
     statements_sound Insert entries valid = inserts_sound entries valid
     statements_sound Update entries valid =
         updates_keep IsWhole IsSoundChange change_whole IsSoundUpdate (λ form asked namespace c whole. afters_sound form asked c.documents whole.documents.0.1 whole.documents.1) entries (entries_sound entries valid)
     statements_sound Delete entries valid = deletes_keep IsWhole IsSoundChange change_whole (λ k. tt) entries
 
-    writes_sound : (command : Command) → IsSoundCommand command → (what : Asked) (write : Write) → asked_by command ≡ Ok what → write_of what ≡ Some write → KeepsSound write
+    writes_sound : (command : Command) → IsSoundCommand command → (what : Asked) (write : WriteCounts) → asked_by command ≡ Ok what → asked_write what ≡ Some write → KeepsSound write
     writes_sound command sound (asking.write w) write asked is =
         let same : write_by w ≡ write = cc in
         subst KeepsSound same (statements_sound w.kind w.entries (soundly_asked asks command (asking.write w) sound asked).1)

@@ -3,7 +3,7 @@ use Rattle.std.proofs.Common.{◌&&◌, Bool, true, false, cond, ℤ, pos, negsu
 use Rattle.std.specs.List.{AllByRecursion}
 use Rattle.std.specs.Prelude.{codes}
 use Rattle.std.specs.Str.{bytes_eq}
-use Rattle.dv_bson.specs.Names.{value_under}
+use Rattle.dv_bson.specs.Names.{value_under, without}
 use Rattle.dv_bson.specs.Tree.{Tree, int32, int64, string, boolean, document, array, no_fields, Elements, no_elements, element, Field, fields_of}
 use Rattle.dv_coll.specs.Collection.{id_key, found}
 use Rattle.dv_match.specs.declared.fault.FilterFault.{FilterFault}
@@ -18,18 +18,18 @@ use Rattle.dv_fields.specs.declared.refusal.Refusal.{Refusal}
 use Rattle.dv_fields.specs.declared.refusal.Refusal.TheVariants.{InvalidBson, BadValue, FailedToParse, DuplicateKey, TooLarge}
 use Rattle.dv_fields.specs.Refusals.{refused_by, filter_refusal, update_refusal}
 use Rattle.dv_bson.specs.Results.{◌>>=◌, each}
-use Rattle.dv_fields.specs.Kinds.{Kind, Place}
+use Rattle.dv_fields.specs.Kinds.{Kind, FieldPlace}
 use Rattle.dv_fields.specs.Kinds as kinds
-use Rattle.dv_fields.specs.Fields.{Table, update_in, check_false, optional, boolean_under, update_under, text_in, boolean_in, document_in, each_document, documents_in, array_in, integer_in, not_negative, natural_in, one_or_all, only_first_in, check_batch_size, check_cursor, check_empty, check_none, check_single, integers_in, check_value, check_known, check_field, check_fields, is_ignored, kind_in, required, document_under, only_first_under}
+use Rattle.dv_fields.specs.Fields.{Table, update_in, check_false, optional, boolean_under, update_under, text_field, boolean_in, document_in, each_document, documents_in, array_field, integer_in, not_negative, natural_in, one_or_all, only_first_in, check_batch_size, check_cursor, check_empty, check_none, check_single, integers_in, check_value, check_known, check_field, check_fields, is_ignored, kind_in, required, document_under, only_first_under}
 use Rattle.dv_command.specs.Tables.{updating_table, deletion_table}
-use Rattle.dv_command.specs.Forms.{filter_of, update_of, is_replacement}
+use Rattle.dv_command.specs.Forms.{filter_of, update_asked, is_replacement}
 use Rattle.dv_command.specs.Entries.{Updating, deletion_of, updating_of, check_multi}
 use Rattle.dv_catalog.specs.Changes.{put, Effect, Statement, breaks, done_to, unless_it_breaks}
 use Rattle.dv_catalog.specs.Effects.{after, all_or_first, changed_by, delete_chosen, put_new, update_chosen}
 use Rattle.dv_catalog.specs.Scan.{matching}
 use Rattle.dv_catalog.specs.State.{Collection}
 use Rattle.dv_path.specs.Names.{has_bad_name}
-use Rattle.dv_core.specs.Storable.{without_field, id_in, is_within_limits, with_id_first, storable}
+use Rattle.dv_core.specs.Storable.{id_in, is_within_limits, with_id_first, storable}
 use Rattle.dv_core.specs.Writes.{insert_one, update_one, delete_one}
 
 -- a refusal of a statement, which tells of no fault in bytes
@@ -60,7 +60,7 @@ done_plainly c statement is =
 
 -- ---- what is read out of an entry
 
-text_plainly : (v : Tree) → IsPlainly (text_in v)
+text_plainly : (v : Tree) → IsPlainly (text_field v)
 text_plainly (string s) = tt
 text_plainly v = tt
 
@@ -81,7 +81,7 @@ documents_plainly : (v : Tree) → IsPlainly (documents_in v)
 documents_plainly (array vs) = each_plainly vs
 documents_plainly v = tt
 
-array_plainly : (v : Tree) → IsPlainly (array_in v)
+array_plainly : (v : Tree) → IsPlainly (array_field v)
 array_plainly (array vs) = tt
 array_plainly v = tt
 
@@ -120,7 +120,7 @@ each_integer_plainly [] = tt
 each_integer_plainly (v ∷ vs) = then_plainly (integer_in v) _ (integer_plainly v) (λ n. then_plainly (each integer_in vs) _ (each_integer_plainly vs) (λ ns. tt))
 
 integers_plainly : (v : Tree) → IsPlainly (integers_in v)
-integers_plainly v = then_plainly (array_in v) (each integer_in) (array_plainly v) each_integer_plainly
+integers_plainly v = then_plainly (array_field v) (each integer_in) (array_plainly v) each_integer_plainly
 
 natural_read_plainly : (v : Tree) → IsPlainly (natural_in v)
 natural_read_plainly v = then_plainly (integer_in v) not_negative (integer_plainly v) natural_plainly
@@ -138,11 +138,11 @@ cursor_plainly (f ∷ fs) = then_plainly (check_batch_size f) _ (batch_size_plai
 
 value_plainly : (kind : Kind) (v : Tree) → IsPlainly (check_value kind v)
 value_plainly kinds.anything v = tt
-value_plainly kinds.text v = then_plainly (text_in v) _ (text_plainly v) (λ x. tt)
+value_plainly kinds.text v = then_plainly (text_field v) _ (text_plainly v) (λ x. tt)
 value_plainly kinds.boolean v = then_plainly (boolean_in v) _ (boolean_plainly v) (λ x. tt)
 value_plainly kinds.document v = then_plainly (document_in v) _ (document_plainly v) (λ x. tt)
 value_plainly kinds.documents v = then_plainly (documents_in v) _ (documents_plainly v) (λ x. tt)
-value_plainly kinds.array v = then_plainly (array_in v) _ (array_plainly v) (λ x. tt)
+value_plainly kinds.array v = then_plainly (array_field v) _ (array_plainly v) (λ x. tt)
 value_plainly kinds.natural v = then_plainly (natural_in v) _ (then_plainly (integer_in v) not_negative (integer_plainly v) natural_plainly) (λ x. tt)
 value_plainly kinds.how_many v = then_plainly (only_first_in v) _ (only_first_plainly v) (λ x. tt)
 value_plainly kinds.update v = then_plainly (update_in v) _ (update_plainly v) (λ x. tt)
@@ -157,7 +157,7 @@ known_plainly : (kind : Option Kind) (v : Tree) → IsPlainly (check_known kind 
 known_plainly None v = tt
 known_plainly (Some kind) v = value_plainly kind v
 
-fields_plainly : (place : Place) (table : Table) (fs : List Field) → IsPlainly (check_fields place table fs)
+fields_plainly : (place : FieldPlace) (table : Table) (fs : List Field) → IsPlainly (check_fields place table fs)
 fields_plainly place table [] = tt
 fields_plainly place table (f ∷ fs) =
     then_plainly (check_field place table f) _ (test_plainly (is_ignored place f.0) (Ok tt) (check_known (kind_in table f.0) f.1) tt (known_plainly (kind_in table f.0) f.1)) (λ x. fields_plainly place table fs)
@@ -211,7 +211,7 @@ updating_plainly entry =
     (λ u. then_plainly (boolean_under (codes "multi") false entry) _ (optional_plainly false boolean_in (value_under (codes "multi") entry) boolean_plainly)
     (λ multi. then_plainly (check_multi multi u) _ (test_plainly (multi && is_replacement u) (Err FailedToParse) (Ok tt) tt tt)
     (λ y. then_plainly (filter_of q) _ (filter_plainly (filter_in (fields_of q)))
-    (λ filter. then_plainly (update_of u) _ (updated_plainly (updates.update_of u)) (λ update. tt)))))))
+    (λ filter. then_plainly (update_asked u) _ (updated_plainly (updates.update_of u)) (λ update. tt)))))))
 
 changed_plainly : (update : form.Update) (documents : List (List Field)) → IsPlainly (changed_by update documents)
 changed_plainly update [] = tt
@@ -226,7 +226,7 @@ id_plainly (Some v) d = tt
 
 storable_plainly : (d : List Field) → IsPlainly (storable d)
 storable_plainly d =
-    then_plainly (with_id_first d) _ (test_plainly (has_bad_name d) (Err BadValue) _ tt (id_plainly (value_under (codes "_id") d) (without_field (codes "_id") d)))
+    then_plainly (with_id_first d) _ (test_plainly (has_bad_name d) (Err BadValue) _ tt (id_plainly (value_under (codes "_id") d) (without (codes "_id") d)))
     (λ stored. test_plainly (is_within_limits stored) (Ok stored) (Err TooLarge) tt tt)
 
 -- ---- statements

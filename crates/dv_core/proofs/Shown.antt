@@ -12,20 +12,20 @@ use Rattle.dv_catalog.specs.State as stored
 use Rattle.dv_catalog.specs.State.{rows_of}
 use Rattle.dv_command.specs.Asked.{Asked, hello, ping, find, aggregate, get_more, kill_cursors, create, drop, create_indexes, drop_indexes, explain, view_stats, asked_by}
 use Rattle.dv_command.specs.Asked as asking
-use Rattle.dv_command.specs.Sound.{AreValid, IsSoundlyAsked}
+use Rattle.dv_command.specs.Sound.{AreSpellable, IsSoundRequest}
 use Rattle.dv_command.specs.declared.command.Command.{Command}
 use Rattle.dv_cursor.specs.Batch.{batch}
-use Rattle.dv_cursor.specs.Cursors.{Cursor, Cursors, added, advanced, closed, cursor_behind, cursor_over, free_id, place_cmp, rows_to_come, rows_under}
-use Rattle.dv_cursor.specs.Runs.{is_place}
+use Rattle.dv_cursor.specs.Cursors.{Cursor, Cursors, added, advanced, closed, cursor_behind, cursor_over, free_id, place_cmp, rows_to_come, cursor_rows}
+use Rattle.dv_cursor.specs.Runs.{is_cursor_place}
 use Rattle.dv_bson.specs.Results.{◌>>=◌}
 use Rattle.dv_fields.specs.declared.refusal.Refusal.{Refusal}
 use Rattle.dv_fields.specs.declared.refusal.Refusal.TheVariants.{TooLarge}
-use Rattle.dv_core.specs.Find.{are_too_large, found, first_batch, gathered, kept, kept_under, left_behind, replied}
+use Rattle.dv_core.specs.Find.{are_too_large, reply_to_find, first_batch, reply_to_aggregate, kept, kept_under, kept_by_cursor, replied}
 use Rattle.dv_core.specs.Load.{loaded}
-use Rattle.dv_core.specs.More.{next_of, number_of, rows_asked, wanted, without, without_each}
-use Rattle.dv_core.specs.Runs.{carries, wants, state_behind}
+use Rattle.dv_core.specs.More.{next_of, cursor_number, rows_asked, rows_wanted, without_cursor, without_cursors}
+use Rattle.dv_core.specs.Runs.{carries, wants, state_after_move}
 use Rattle.dv_core.specs.Sound.{AreShown, AreSoundCursors, AreSoundDocuments, AreSoundViews, IsSoundCommand}
-use Rattle.dv_core.specs.State.{State, empty_state, marked}
+use Rattle.dv_core.specs.State.{State, empty_store_state, marked}
 use Rattle.dv_core.specs.Stats.{view_told}
 use Rattle.dv_core.specs.Step.{answered, answer_to, on_cursors, end_session}
 use Rattle.dv_core.specs.Storable.{is_within_limits}
@@ -41,7 +41,7 @@ Rows = List (List Field)
 
 -- the rows of a cursor, where it is one of the namespace
 abbrev IsShown : List ℕ → Option Cursor → Type 0
-IsShown namespace cursor = AreShown (rows_under namespace cursor)
+IsShown namespace cursor = AreShown (cursor_rows namespace cursor)
 
 abbrev Shown : Cursors → Type 0
 Shown cursors = (session : ℕ) (namespace : List ℕ) (id : ℕ) → AreShown (rows_to_come session namespace id cursors)
@@ -54,7 +54,7 @@ behind_shown (suc n) [] shown = shown
 behind_shown (suc n) (row ∷ rows) shown =
     behind_shown n rows (shown.0.1, ap not (both_hold (is_within_limits row) (list_all is_within_limits rows) shown.1).1)
 
-left_shown : (count : ℕ) (single : Bool) (rows : Rows) → AreShown (Some rows) → AreShown (Some (left_behind count single rows))
+left_shown : (count : ℕ) (single : Bool) (rows : Rows) → AreShown (Some rows) → AreShown (Some (kept_by_cursor count single rows))
 left_shown count true rows shown = (tt, refl)
 left_shown count false rows shown = behind_shown (length (batch count rows)) rows shown
 
@@ -96,14 +96,14 @@ left_by_command old (Err refusal) all left = all
 module _ (laws : CursorLaws) where
   added_shown : (other : ℕ) (namespace : List ℕ) (rows : Rows) (cursors : Cursors) → AreShown (Some rows) → Shown cursors → Shown (added other namespace rows cursors)
   added_shown other namespace rows cursors shown all session asked id =
-      changed_shown asked (is_place other cursors.next session id) _ _ _ (laws.added_at session id other namespace rows cursors) (if_named (bytes_eq asked namespace) rows shown) (all session asked id)
+      changed_shown asked (is_cursor_place other cursors.next session id) _ _ _ (laws.added_at session id other namespace rows cursors) (if_named (bytes_eq asked namespace) rows shown) (all session asked id)
 
   advanced_shown : (other number count : ℕ) (cursors : Cursors) → Shown cursors → Shown (advanced other number count cursors)
   advanced_shown other number count cursors all session asked id =
-      changed_shown asked (is_place other number session id) _ _ _ (laws.advanced_at session id other number count cursors) (cursor_shown count asked (at other number cursors) (all other asked number)) (all session asked id)
+      changed_shown asked (is_cursor_place other number session id) _ _ _ (laws.advanced_at session id other number count cursors) (cursor_shown count asked (at other number cursors) (all other asked number)) (all session asked id)
 
   closed_shown : (other number : ℕ) (cursors : Cursors) → Shown cursors → Shown (closed other number cursors)
-  closed_shown other number cursors all session asked id = changed_shown asked (is_place other number session id) _ None _ (laws.closed_at session id other number cursors) tt (all session asked id)
+  closed_shown other number cursors all session asked id = changed_shown asked (is_cursor_place other number session id) _ None _ (laws.closed_at session id other number cursors) tt (all session asked id)
 
   pub ended_shown : (other : ℕ) (state : State) → AreSoundCursors state → AreSoundCursors (end_session other state)
   ended_shown other state all session asked id = changed_shown asked (session == other) _ None _ (laws.ended_at session id other state.cursors) tt (all session asked id)
@@ -111,7 +111,7 @@ module _ (laws : CursorLaws) where
   -- ---- commands on cursors
 
   module _ (session : ℕ) (namespace : List ℕ) (cursors : Cursors) (all : Shown cursors) where
-    module _ (count : ℕ) (rows : Rows) (valid : AreValid rows) where
+    module _ (count : ℕ) (rows : Rows) (valid : AreSpellable rows) where
       replied_shown : (told : ℕ × Cursors) (b : Bool) → are_too_large rows ≡ b → (AreShown (Some rows) → Shown told.1) → (reply : List Field) → Leaves (if b then Err TooLarge else Ok (reply, told.1))
       replied_shown told true large left reply = tt
       replied_shown told false fit left reply = left (valid, fit)
@@ -125,35 +125,35 @@ module _ (laws : CursorLaws) where
           by_free (Some id) = replied_shown (id, added session namespace (row ∷ left) cursors) (are_too_large rows) refl (λ fit. added_shown session namespace (row ∷ left) cursors (shown fit) all) _
 
       first_shown : (single : Bool) → Leaves (first_batch session namespace count single rows cursors)
-      first_shown single = kept_shown (left_behind count single rows) (left_shown count single rows)
+      first_shown single = kept_shown (kept_by_cursor count single rows) (left_shown count single rows)
 
     next_shown : (id count : ℕ) (rows : Option Rows) → Leaves (next_of session namespace id count rows cursors)
     next_shown id count None = tt
-    next_shown id count (Some rows) = advanced_shown session id (length (batch (wanted count rows) rows)) cursors all
+    next_shown id count (Some rows) = advanced_shown session id (length (batch (rows_wanted count rows) rows)) cursors all
 
-  without_shown : (session : ℕ) (namespace : List ℕ) (ids : List ℤ) (cursors : Cursors) → Shown cursors → Shown (without_each session namespace ids cursors)
+  without_shown : (session : ℕ) (namespace : List ℕ) (ids : List ℤ) (cursors : Cursors) → Shown cursors → Shown (without_cursors session namespace ids cursors)
   without_shown session namespace [] cursors all = all
-  without_shown session namespace (id ∷ ids) cursors all = without_shown session namespace ids (without session namespace id cursors) (by_found (is_some (rows_asked session namespace id cursors)))
+  without_shown session namespace (id ∷ ids) cursors all = without_shown session namespace ids (without_cursor session namespace id cursors) (by_found (is_some (rows_asked session namespace id cursors)))
     where
-      by_found : (b : Bool) → Shown (if b then closed session (number_of id) cursors else cursors)
-      by_found true = closed_shown session (number_of id) cursors all
+      by_found : (b : Bool) → Shown (if b then closed session (cursor_number id) cursors else cursors)
+      by_found true = closed_shown session (cursor_number id) cursors all
       by_found false = all
 
   -- ---- each step
 
   module _ (asks : AsksSoundly) (pipes : PipesStayValid) (old : State) (documents : AreSoundDocuments old) (views : AreSoundViews old) (all : AreSoundCursors old) (session : ℕ) where
-    asked_shown : (size : ℕ) (asked : Asked) → IsSoundlyAsked size asked → AreSoundCursors (answered old (answer_to old session asked)).state
+    asked_shown : (size : ℕ) (asked : Asked) → IsSoundRequest size asked → AreSoundCursors (answered old (answer_to old session asked)).state
     asked_shown size (find f) sound =
         let rows : Rows = rows_of f.namespace old.catalog in
-        left_by_command old (found session f old.catalog old.cursors) all
+        left_by_command old (reply_to_find session f old.catalog old.cursors) all
         (first_shown session f.namespace old.cursors all f.batch_size (scan f.filter f.sort f.skip f.limit rows)
         (all_scanned (λ d. AreFields (fields_of d)) f.filter f.sort f.skip f.limit rows (rows_valid pipes old documents views f.namespace)) f.single_batch)
     asked_shown size (aggregate a) sound =
-        left_by_command old (gathered session a old.catalog old.cursors) all
+        left_by_command old (reply_to_aggregate session a old.catalog old.cursors) all
         (first_shown session a.namespace old.cursors all a.batch_size _ (gathered_valid pipes old documents views a.stages a.namespace sound.1) false)
     asked_shown size (get_more g) sound =
-        left_by_command old (next_of session g.namespace (number_of g.id) g.batch_size (rows_asked session g.namespace g.id old.cursors) old.cursors) all
-        (next_shown session g.namespace old.cursors all (number_of g.id) g.batch_size (rows_asked session g.namespace g.id old.cursors))
+        left_by_command old (next_of session g.namespace (cursor_number g.id) g.batch_size (rows_asked session g.namespace g.id old.cursors) old.cursors) all
+        (next_shown session g.namespace old.cursors all (cursor_number g.id) g.batch_size (rows_asked session g.namespace g.id old.cursors))
     asked_shown size (kill_cursors k) sound = without_shown session k.namespace k.ids old.cursors all
     asked_shown size (asking.write w) sound = same_shown old.cursors _ (write_cursors old _ _ _ refl) all
     asked_shown size (create c) sound = same_shown old.cursors _ (catalog_cursors old _) all
@@ -173,13 +173,13 @@ module _ (laws : CursorLaws) where
       → BareStep old session command outcome new → AreSoundCursors new
   steps_shown asks pipes old new session command outcome sound documents views all steps = stay (memory_moves old new session command outcome steps)
     where
-      stay : (new ≡ state_behind (carries session command) old) ⊎ ((catalog : stored.State) × (new ≡ state_behind (wants catalog) old)) → AreSoundCursors new
+      stay : (new ≡ state_after_move (carries session command) old) ⊎ ((catalog : stored.State) × (new ≡ state_after_move (wants catalog) old)) → AreSoundCursors new
       stay (inl same) = subst AreSoundCursors (sym same) (command_shown asks pipes old documents views all session command sound (asked_by command) refl)
       stay (inr (catalog, same)) = subst AreSoundCursors (sym same) all
 
 -- ---- the first state, and a load
 
-pub empty_shown : AreSoundCursors empty_state
+pub empty_shown : AreSoundCursors empty_store_state
 empty_shown session namespace id = subst (IsShown namespace) (sym (finite.get-empty place_cmp (session, id))) tt
 
 pub loaded_shown : (old new : State) (text : List ℕ) (d : List Field) → loaded text d old ≡ Ok new → AreSoundCursors old → AreSoundCursors new

@@ -40,16 +40,16 @@ use Rattle.dv_catalog.specs.State.{Collection, Namespaces, collection_of, docume
 use Rattle.dv_core.specs.State.{State, marked}
 use Rattle.dv_core.specs.Stats.{told_of}
 use Rattle.dv_catalog.specs.Marks.{Stats, stats_of}
-use Rattle.dv_cursor.specs.Batch.{batch, behind, total_size}
+use Rattle.dv_cursor.specs.Batch.{batch, rows_behind, total_size}
 use Rattle.dv_cursor.specs.Cursors.{Cursors, added, free_id}
-use Rattle.dv_cursor.specs.Runs.{IsWithin}
+use Rattle.dv_cursor.specs.Runs.{IsWithinBatch}
 use Rattle.dv_index.specs.Index.{IndexForm, id_form}
 use Rattle.dv_index.specs.Indexed.{is_dropped, without_index}
 use Rattle.dv_catalog.specs.State as states
 use Rattle.dv_catalog.specs.Views.{aggregated, created, dropped, made, reads_name, with_view, with_view_by, with_views}
-use Rattle.dv_core.specs.Statements.{Write, Written, nothing_written, is_due, with_result, with_next, with_all, carry_out, IsCut}
-use Rattle.dv_core.specs.Step.{Answer, answered, read_answer, write_answer, on_catalog, on_cursors, answer_to, step, write_of}
-use Rattle.dv_command.specs.Sound.{AreValid, AreIds, IsNamespace, IsSoundlyAsked}
+use Rattle.dv_core.specs.Statements.{WriteCounts, Written, nothing_written, is_due, with_result, with_next, with_all, carry_out, IsCutWrite}
+use Rattle.dv_core.specs.Step.{Answer, answered, read_answer, write_answer, on_catalog, on_cursors, answer_to, step, asked_write}
+use Rattle.dv_command.specs.Sound.{AreSpellable, AreIds, IsNamespace, IsSoundRequest}
 use Rattle.dv_core.specs.Writes.{statement_of, reply_by, write_by}
 use Rattle.dv_core.proofs.Bare.{BareCut, BareStep, BareWriteCut}
 use Rattle.dv_core.proofs.Viewed.{PipesStayValid, gathered_valid, rows_valid}
@@ -57,9 +57,9 @@ use Rattle.dv_core.proofs.Named.{IsNamed, explained_named}
 use Rattle.dv_core.proofs.Asking.{AsksSoundly, body_fits, body_size, soundly_asked}
 use Rattle.dv_core.proofs.Plain.{IsPlain, IsPlainly, IsPlainStatement, done_plainly, inserts_plain, updates_plain, deletes_plain}
 use Rattle.dv_catalog.specs.ScanLaws.{all_scanned}
-use Rattle.dv_core.specs.Find.{are_too_large, found, gathered, kept, kept_under, left_behind, replied}
+use Rattle.dv_core.specs.Find.{are_too_large, reply_to_find, reply_to_aggregate, kept, kept_under, kept_by_cursor, replied}
 use Rattle.dv_core.specs.Indexes.{explained_reply, form_asked, index_count, index_name}
-use Rattle.dv_core.specs.More.{gone_ids, id_behind, missing_ids, next_of, number_of, rows_asked, wanted, went_each}
+use Rattle.dv_core.specs.More.{gone_ids, id_behind, missing_ids, next_of, cursor_number, rows_asked, rows_wanted, went_each}
 use Rattle.dv_core.specs.Sound.{AreShown, AreSoundCursors, HasSpelling, IsTold, IsSound, IsSoundCommand}
 use Rattle.dv_core.specs.Storable.{is_within_limits}
 use Rattle.dv_core.proofs.Spellings.{spelling-field, spelling-nil, spelling-long, length-int32, length-int64, length-string, sizes, array-bound}
@@ -93,7 +93,7 @@ ping_spelled = spelled ok_fields ok_valid (omega (arith, ok_size))
 
 -- ---- the documents that a find replies
 
-documents_valid : (ds : List (List Field)) → AreValid ds → AreElements (elements_of (map document_of ds))
+documents_valid : (ds : List (List Field)) → AreSpellable ds → AreElements (elements_of (map document_of ds))
 documents_valid [] valid = tt
 documents_valid (d ∷ ds) valid = (valid.0, documents_valid ds valid.1)
 
@@ -122,7 +122,7 @@ first_name = record { ascii = refl; whole = refl; fresh = λ id namespace. refl;
 next_name : IsBatchName (codes "nextBatch")
 next_name = record { ascii = refl; whole = refl; fresh = λ id namespace. refl; short = omega arith }
 
-module _ (name : List ℕ) (is_name : IsBatchName name) (namespace : List ℕ) (text : IsUtf8 namespace) (short : length namespace ≤ 120) (id : ℕ) (fits : id < 2 ^ 63) (ds : List (List Field)) (valid : AreValid ds) (together : total_size ds ≤ 16777216) where
+module _ (name : List ℕ) (is_name : IsBatchName name) (namespace : List ℕ) (text : IsUtf8 namespace) (short : length namespace ≤ 120) (id : ℕ) (fits : id < 2 ^ 63) (ds : List (List Field)) (valid : AreSpellable ds) (together : total_size ds ≤ 16777216) where
   abbrev rows : Tree
   rows = array (elements_of (map document_of ds))
 
@@ -379,18 +379,18 @@ abbrev IsSpelled : (ℕ → ℕ → List Tree → List Field) → Type 0
 IsSpelled reply = (n changed : ℕ) (es : List Tree) → length es ≤ 100000 → AllByRecursion IsSmall es → HasSpelling (reply n changed es)
 
 -- a write of so few statements, each refused plainly, whose reply has a spelling
-record IsTellable (write : Write) : Type 0 where
+record IsTellable (write : WriteCounts) : Type 0 where
   within : length write.statements ≤ 100000
   plain : AllByRecursion IsPlainStatement write.statements
   reply : IsSpelled write.reply
 
-few_written : (write : Write) (old : Namespaces) (statements : List Statement) → length statements ≤ 100000 → AllByRecursion IsPlainStatement statements
+few_written : (write : WriteCounts) (old : Namespaces) (statements : List Statement) → length statements ≤ 100000 → AllByRecursion IsPlainStatement statements
     → AreFew (length statements) (with_all write.namespace write.ordered (nothing_written old) statements)
 few_written write old statements within plain =
     let all = few_all write.namespace write.ordered 0 (nothing_written old) statements (omega (arith, within)) plain (record { statements = omega arith; errors = omega arith; small = tt }) in
     record { statements = omega (arith, all.statements); errors = omega (arith, all.errors); small = all.small }
 
-write_spelled : (write : Write) (old : Namespaces) → IsTellable write → HasSpelling (write.reply (carry_out write old).n (carry_out write old).changed (carry_out write old).errors)
+write_spelled : (write : WriteCounts) (old : Namespaces) → IsTellable write → HasSpelling (write.reply (carry_out write old).n (carry_out write old).changed (carry_out write old).errors)
 write_spelled write old is =
     let all = few_written write old write.statements is.within is.plain in
     is.reply (carry_out write old).n (carry_out write old).changed (carry_out write old).errors (omega (arith, all.errors, is.within)) all.small
@@ -409,7 +409,7 @@ done_behind counts changes = record {
 }
 
 -- one that is cut: the errors of the statements before, and that of the one that found no memory
-cut_spelled : CountsAreValid → (write : Write) (old : Namespaces) (left : Written) → IsTellable write → IsCut write old left → HasSpelling (write.reply left.n left.changed left.errors)
+cut_spelled : CountsAreValid → (write : WriteCounts) (old : Namespaces) (left : Written) → IsTellable write → IsCutWrite write old left → HasSpelling (write.reply left.n left.changed left.errors)
 cut_spelled counts write old left is c =
     let so_far : Written = with_all write.namespace write.ordered (nothing_written old) c.before in
     let many : length write.statements ≡ length c.before + suc (length c.behind) = rw (c.stands, length-append) refl in
@@ -491,8 +491,8 @@ refusal_spelled refusal told =
 
 -- what holds of batches, by the laws of cursors
 pub record BatchLaws : Type 0 where
-  pub front : (count : ℕ) (rows : List (List Field)) → batch count rows ++ behind count rows ≡ rows
-  pub within : (count : ℕ) (rows : List (List Field)) → IsWithin count (batch count rows)
+  pub front : (count : ℕ) (rows : List (List Field)) → batch count rows ++ rows_behind count rows ≡ rows
+  pub within : (count : ℕ) (rows : List (List Field)) → IsWithinBatch count (batch count rows)
 
 limited : (size depth : ℕ) → (not (nat_lt 16777216 size) && not (nat_lt 100 depth)) ≡ true → size ≤ 16777216
 limited size depth is = grind (arith, nat_tests)
@@ -512,11 +512,11 @@ within_limit_by (row ∷ []) others fit (inl one) =
 within_limit_by (row ∷ other ∷ rows) others fit (inl one) = absurd (omega arith)
 
 module _ (laws : BatchLaws) (count : ℕ) (rows : List (List Field)) where
-  batch_valid : AreValid rows → AreValid (batch count rows)
-  batch_valid valid = front_all (λ d. AreFields (fields_of d)) (batch count rows) (behind count rows) (subst AreValid (sym (laws.front count rows)) valid)
+  batch_valid : AreSpellable rows → AreSpellable (batch count rows)
+  batch_valid valid = front_all (λ d. AreFields (fields_of d)) (batch count rows) (rows_behind count rows) (subst AreSpellable (sym (laws.front count rows)) valid)
 
   batch_within : are_too_large rows ≡ false → total_size (batch count rows) ≤ 16777216
-  batch_within fit = within_limit_by (batch count rows) (behind count rows) (subst (λ (rs : List (List Field)). are_too_large rs ≡ false) (sym (laws.front count rows)) fit) (laws.within count rows).1
+  batch_within fit = within_limit_by (batch count rows) (rows_behind count rows) (subst (λ (rs : List (List Field)). are_too_large rs ≡ false) (sym (laws.front count rows)) fit) (laws.within count rows).1
 
 -- what is told of a part of the state, or why it is refused
 record IsSpelledSo {S : Type 0} (defined : Result (List Field × S) Refusal) : Type 0 where
@@ -533,7 +533,7 @@ is_refused why told = record { reply = λ done is. absurd cc; refusal = λ other
 is_told : {S : Type 0} (done : List Field × S) → HasSpelling done.0 → IsSpelledSo (Ok done)
 is_told {S} done spelt = record { reply = λ other is. let same : done ≡ other = cc in subst (λ (d : List Field × S). HasSpelling d.0) same spelt; refusal = λ why is. absurd cc }
 
-module _ (laws : BatchLaws) (namespace : List ℕ) (named : IsNamespace namespace) (count : ℕ) (rows : List (List Field)) (valid : AreValid rows) where
+module _ (laws : BatchLaws) (namespace : List ℕ) (named : IsNamespace namespace) (count : ℕ) (rows : List (List Field)) (valid : AreSpellable rows) where
   replied_spelled : (id : ℕ × Cursors) → id.0 < 2 ^ 63 → (b : Bool) → are_too_large rows ≡ b
       → IsSpelledSo (if b then Err TooLarge else Ok (first_batch_reply namespace id.0 (map document_of (batch count rows)), id.1))
   replied_spelled id fits true is = is_refused TooLarge tt
@@ -557,15 +557,15 @@ module _ (laws : BatchLaws) (namespace : List ℕ) (named : IsNamespace namespac
   id_fits id (row ∷ left) fits = fits
 
 -- an id that an int64 holds
-number_small : (id : ℤ) → IsValue (int64 id) → number_of id < 2 ^ 63
+number_small : (id : ℤ) → IsValue (int64 id) → cursor_number id < 2 ^ 63
 number_small (pos n) fits = omega arith
 number_small (negsuc n) fits = omega arith
 
 next_spelled : BatchLaws → (session : ℕ) (namespace : List ℕ) → IsNamespace namespace → (id count : ℕ) → id < 2 ^ 63 → (rows : Option (List (List Field))) (cursors : Cursors) → AreShown rows → IsSpelledSo (next_of session namespace id count rows cursors)
 next_spelled laws session namespace named id count fits None cursors shown = is_refused CursorNotFound tt
 next_spelled laws session namespace named id count fits (Some rows) cursors shown =
-    let many : ℕ = wanted count rows in
-    is_told _ (rows_spelled (codes "nextBatch") next_name namespace named.0 named.1 (id_behind id (behind many rows)) (id_fits laws namespace named many rows shown.0 id (behind many rows) fits)
+    let many : ℕ = rows_wanted count rows in
+    is_told _ (rows_spelled (codes "nextBatch") next_name namespace named.0 named.1 (id_behind id (rows_behind many rows)) (id_fits laws namespace named many rows shown.0 id (rows_behind many rows) fits)
     (batch many rows) (batch_valid laws many rows shown.0) (batch_within laws many rows shown.1))
 
 asked_shown : (session : ℕ) (namespace : List ℕ) (id : ℤ) (state : State) → AreSoundCursors state → AreShown (rows_asked session namespace id state.cursors)
@@ -618,7 +618,7 @@ killed_spelled most gone missing few all others =
 
 -- ---- writes
 
-write_or_refusal : (old : State) (b : Bool) (write : Write) (did : Written) → HasSpelling (write.reply did.n did.changed did.errors) → HasSpelling (answered old (if b then Err OnView else Ok (write_answer old write did))).reply
+write_or_refusal : (old : State) (b : Bool) (write : WriteCounts) (did : Written) → HasSpelling (write.reply did.n did.changed did.errors) → HasSpelling (answered old (if b then Err OnView else Ok (write_answer old write did))).reply
 write_or_refusal old true write did spelt = refusal_spelled OnView tt
 write_or_refusal old false write did spelt = spelt
 
@@ -771,7 +771,7 @@ told_spelled state None = refusal_spelled NamespaceNotFound tt
 told_spelled state (Some s) = stats_spelled s.is_live s.rows s.ticks
 
 module _ (asks : AsksSoundly) (counts : CountsAreValid) (laws : BatchLaws) (pipes : PipesStayValid) where
-  asked_spelled : (state : State) (session size : ℕ) (asked : Asked) → size ≤ 16777216 → IsSoundlyAsked size asked → IsSound state → HasSpelling (answered state (answer_to state session asked)).reply
+  asked_spelled : (state : State) (session size : ℕ) (asked : Asked) → size ≤ 16777216 → IsSoundRequest size asked → IsSound state → HasSpelling (answered state (answer_to state session asked)).reply
   asked_spelled state session size hello fits sound all = hello_spelled
   asked_spelled state session size ping fits sound all = ping_spelled
   asked_spelled state session size (asking.write w) fits sound all =
@@ -780,15 +780,15 @@ module _ (asks : AsksSoundly) (counts : CountsAreValid) (laws : BatchLaws) (pipe
   asked_spelled state session size (find f) fits sound all =
       let rows : List (List Field) = rows_of f.namespace state.catalog in
       let shown : List (List Field) = scan f.filter f.sort f.skip f.limit rows in
-      cursors_spelled state (found session f state.catalog state.cursors)
-      (first_spelled laws f.namespace sound f.batch_size shown (all_scanned (λ d. AreFields (fields_of d)) f.filter f.sort f.skip f.limit rows (rows_valid pipes state all.documents all.views f.namespace)) session (left_behind f.batch_size f.single_batch shown) state.cursors)
+      cursors_spelled state (reply_to_find session f state.catalog state.cursors)
+      (first_spelled laws f.namespace sound f.batch_size shown (all_scanned (λ d. AreFields (fields_of d)) f.filter f.sort f.skip f.limit rows (rows_valid pipes state all.documents all.views f.namespace)) session (kept_by_cursor f.batch_size f.single_batch shown) state.cursors)
   asked_spelled state session size (aggregate a) fits sound all =
       let rows : List (List Field) = aggregated a.stages a.namespace state.catalog in
-      cursors_spelled state (gathered session a state.catalog state.cursors)
-      (first_spelled laws a.namespace sound.0 a.batch_size rows (gathered_valid pipes state all.documents all.views a.stages a.namespace sound.1) session (left_behind a.batch_size false rows) state.cursors)
+      cursors_spelled state (reply_to_aggregate session a state.catalog state.cursors)
+      (first_spelled laws a.namespace sound.0 a.batch_size rows (gathered_valid pipes state all.documents all.views a.stages a.namespace sound.1) session (kept_by_cursor a.batch_size false rows) state.cursors)
   asked_spelled state session size (get_more g) fits sound all =
-      cursors_spelled state (next_of session g.namespace (number_of g.id) g.batch_size (rows_asked session g.namespace g.id state.cursors) state.cursors)
-      (next_spelled laws session g.namespace sound.0 (number_of g.id) g.batch_size (number_small g.id sound.1) (rows_asked session g.namespace g.id state.cursors) state.cursors (asked_shown session g.namespace g.id state all.cursors))
+      cursors_spelled state (next_of session g.namespace (cursor_number g.id) g.batch_size (rows_asked session g.namespace g.id state.cursors) state.cursors)
+      (next_spelled laws session g.namespace sound.0 (cursor_number g.id) g.batch_size (number_small g.id sound.1) (rows_asked session g.namespace g.id state.cursors) state.cursors (asked_shown session g.namespace g.id state all.cursors))
   asked_spelled state session size (kill_cursors k) fits sound all =
       let went : List Bool = went_each session k.namespace k.ids state.cursors in
       killed_spelled (length k.ids) (gone_ids k.ids went) (missing_ids k.ids went) (omega (arith, sound.2, fits)) (gone_numbers k.ids went sound.1) (missing_numbers k.ids went sound.1)
@@ -815,10 +815,10 @@ module _ (asks : AsksSoundly) (counts : CountsAreValid) (laws : BatchLaws) (pipe
 
 module _ (asks : AsksSoundly) (counts : CountsAreValid) where
   -- the reply of a write that is cut
-  left_spelled : (old : State) (write : Write) (answer : Answer) → IsTellable write → BareWriteCut old (Some write) answer → HasSpelling answer.reply
+  left_spelled : (old : State) (write : WriteCounts) (answer : Answer) → IsTellable write → BareWriteCut old (Some write) answer → HasSpelling answer.reply
   left_spelled old write answer is (on, (left, is_cut, answers)) = subst (λ (a : Answer). HasSpelling a.reply) (sym answers) (cut_spelled counts write old.catalog.namespaces left is is_cut)
 
-  asked_cut_spelled : (old : State) (size : ℕ) (what : Asked) (answer : Answer) → IsSoundlyAsked size what → BareWriteCut old (write_of what) answer → HasSpelling answer.reply
+  asked_cut_spelled : (old : State) (size : ℕ) (what : Asked) (answer : Answer) → IsSoundRequest size what → BareWriteCut old (asked_write what) answer → HasSpelling answer.reply
   asked_cut_spelled old size (asking.write w) answer sound cut = left_spelled old (write_by w) answer (write_tellable counts w sound.2) cut
   asked_cut_spelled old size what answer sound cut = absurd cut
 

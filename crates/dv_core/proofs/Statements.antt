@@ -12,12 +12,12 @@ use Rattle.dv_catalog.specs.Marks.{AreMarkedBy, Marked, Marks}
 use Rattle.dv_catalog.specs.State.{Namespaces, collection_of, lists_of}
 use Rattle.dv_views.specs.Forms.{ViewForm}
 use Rattle.dv_catalog.specs.Changes.{Change, Effect, Statement, apply, changes_of, done_to}
-use Rattle.dv_core.specs.Statements.{Write, Written, nothing_written, with_next, with_all, with_result, is_due, next_changes, cut, AreCut, IsCut}
+use Rattle.dv_core.specs.Statements.{WriteCounts, Written, nothing_written, with_next, with_all, with_result, is_due, next_changes, cut, AreCut, IsCutWrite}
 use Rattle.dv_catalog.specs.Parts as Parts
 use Rattle.dv_catalog.specs.declared.stopped.Stopped.{Stopped}
 use Rattle.dv_command.specs.Replies.{document_of, cut_error}
 use Rattle.dv_core.specs.Marks.{AreMarkedByCut, AreMarkedByEach, due_changes}
-use Rattle.dv_core.specs.WriteParts.{with_stopped, next_behind, reply_seen, CarriesOut, CutsNext, CutsWrite, DoesNext, NextStep, Notes, Writes}
+use Rattle.dv_core.specs.WriteParts.{with_stopped, next_behind, reply_seen, CarriesOutWrite, CutsNext, CutsWrite, DoesNext, NextStep, Notes, WritesOrCuts}
 use Rattle.dv_core.proofs.Marking.{each_append, each_stopped}
 
 is_due-push : (ordered : Bool) (es : List Tree) (e : Tree) → is_due ordered (es ++ e ∷ []) ≡ not ordered
@@ -190,29 +190,29 @@ module _ (namespace : List ℕ) (ordered : Bool) (views : List ViewForm) where
         counts now after next = ap (λ (w : Written). w.statements) next.is_next ∙ rw reached.due (counts_result so_far _)
 
 -- what an ended write answers
-module _ (write : Write) (old new : Marked) (left : Written) where
+module _ (write : WriteCounts) (old new : Marked) (left : Written) where
   abbrev pub WholeOf : Type 0
   WholeOf = AreCarried write.namespace write.ordered old.state.views write.statements old.state.namespaces old.marks left new.marks
 
   abbrev pub CutOf : Type 0
   CutOf =
-      (is_cut : IsCut write old.state.namespaces left)
+      (is_cut : IsCutWrite write old.state.namespaces left)
       × AreMarkedByCut write.namespace write.ordered old.state.views write.statements old.state.namespaces left is_cut old.marks new.marks
 
-  whole_so : WholeOf → new.state.namespaces ≡ left.namespaces → CarriesOut write old new
+  whole_so : WholeOf → new.state.namespaces ≡ left.namespaces → CarriesOutWrite write old new
   whole_so (is, marked) leaves = record { leaves = leaves ∙ ap (λ (w : Written). w.namespaces) is; marked = marked }
 
   cut_so : CutOf → new.state.namespaces ≡ left.namespaces → CutsWrite write old left new
   cut_so (is_cut, marked) leaves = record { is_cut = is_cut; leaves = leaves; marked = marked }
 
-  pub done_replied : (reply : List Field) → WholeOf → new.state.namespaces ≡ left.namespaces → reply ≡ reply_seen write left → Writes write old (Reply reply) new
+  pub done_replied : (reply : List Field) → WholeOf → new.state.namespaces ≡ left.namespaces → reply ≡ reply_seen write left → WritesOrCuts write old (Reply reply) new
   done_replied reply whole leaves replies = (replies ∙ ap (reply_seen write) whole.0, whole_so whole leaves)
 
-  pub done_untold : WholeOf → new.state.namespaces ≡ left.namespaces → Writes write old NoReply new
+  pub done_untold : WholeOf → new.state.namespaces ≡ left.namespaces → WritesOrCuts write old NoReply new
   done_untold whole leaves = inl (whole_so whole leaves)
 
-  pub cut_replied : (reply : List Field) → CutOf → new.state.namespaces ≡ left.namespaces → reply ≡ reply_seen write left → Writes write old (Wanting reply) new
+  pub cut_replied : (reply : List Field) → CutOf → new.state.namespaces ≡ left.namespaces → reply ≡ reply_seen write left → WritesOrCuts write old (Wanting reply) new
   cut_replied reply cuts leaves replies = (left, replies, cut_so cuts leaves)
 
-  pub cut_untold : CutOf → new.state.namespaces ≡ left.namespaces → Writes write old NoReply new
+  pub cut_untold : CutOf → new.state.namespaces ≡ left.namespaces → WritesOrCuts write old NoReply new
   cut_untold cuts leaves = inr (left, cut_so cuts leaves)

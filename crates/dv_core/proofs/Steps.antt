@@ -17,11 +17,11 @@ use Rattle.dv_fields.specs.declared.refusal.Refusal.{Refusal}
 use Rattle.dv_fields.specs.declared.refusal.Refusal.TheVariants.{OnView, WantOfMemory}
 use Rattle.dv_core.specs.declared.outcome.Outcome.{Outcome}
 use Rattle.dv_core.specs.declared.outcome.Outcome.TheVariants.{Reply, Wanting, NoReply}
-use Rattle.dv_core.specs.Statements.{Write, Written, carry_out}
+use Rattle.dv_core.specs.Statements.{WriteCounts, Written, carry_out}
 use Rattle.dv_core.specs.Marks.{AreMarked, AreMarkedAll, AreMarkedByWrite, AreMarkedForWant, marks_where_read, read_by}
 use Rattle.dv_core.specs.Step.{Answer, answered, read_answer, write_answer, on_catalog, on_cursors, answer_to, replying, Cut, MemoryStep, Wants}
-use Rattle.dv_core.specs.StepParts.{Ends, Gives, Refuses, StandRead, Tells, TellsOrNot}
-use Rattle.dv_core.specs.WriteParts.{CarriesOut, CutsWrite, Writes, WritesOn, WritesWhere}
+use Rattle.dv_core.specs.StepParts.{Ends, GivesAndLeaves, Refuses, StandRead, TellsReply, TellsOrNot}
+use Rattle.dv_core.specs.WriteParts.{CarriesOutWrite, CutsWrite, WritesOrCuts, WritesOn, WritesWhere}
 use Rattle.dv_core.specs.Writes.{write_by}
 use Rattle.dv_core.proofs.Marking.{where_read}
 
@@ -98,7 +98,7 @@ module _ (old : State) (session : ℕ) (command : Command) where
     ends_so defined before after outcome marks (inl (done, is, leaves, tells)) same left = inl (done, is, leaves, tells, left same)
     ends_so defined before after outcome marks (inr (refusal, why, refuses, kept)) same left = inr (refusal, why, refuses, kept, (inr (left same), inl same))
 
-    gives_so : {S : Type 0} (defined : Result (List Field × S) Refusal) (before after : S) (told : Result (List Field) Refusal) (outcome : Outcome) (marks : Marks) → Gives defined before told after → Tells told outcome → StandBy asked told marks
+    gives_so : {S : Type 0} (defined : Result (List Field × S) Refusal) (before after : S) (told : Result (List Field) Refusal) (outcome : Outcome) (marks : Marks) → GivesAndLeaves defined before told after → TellsReply told outcome → StandBy asked told marks
         → EndsSo defined before outcome after marks
     gives_so defined before after (Ok reply) outcome marks is tells stand = inl ((reply, after), is, refl, subst (TellsOrNot reply) (sym tells) refl, stand)
     gives_so defined before after (Err refusal) outcome marks (why, same) refuses stand = inr (refusal, why, refuses, same, stand)
@@ -137,7 +137,7 @@ module _ (old : State) (session : ℕ) (command : Command) where
 
     -- by what is given, and how views stand behind it; and by an end that leaves them
     pub catalog_given : (new : State) (defined : Result (List Field × stored.State) Refusal) (told : Result (List Field) Refusal) (outcome : Outcome) → answer_to old session asked ≡ on_catalog old defined → new.cursors ≡ old.cursors
-        → Gives defined old.catalog told new.catalog → Tells told outcome → StandBy asked told new.marks → MemoryStep old session command outcome new
+        → GivesAndLeaves defined old.catalog told new.catalog → TellsReply told outcome → StandBy asked told new.marks → MemoryStep old session command outcome new
     catalog_given new defined told outcome answers cursors gives tells stands =
         catalog_steps new defined outcome answers cursors (gives_so defined old.catalog new.catalog told outcome new.marks gives tells stands)
 
@@ -146,7 +146,7 @@ module _ (old : State) (session : ℕ) (command : Command) where
     catalog_ended new defined outcome answers cursors ends same left = catalog_steps new defined outcome answers cursors (ends_so defined old.catalog new.catalog outcome new.marks ends same left)
 
     pub cursors_given : (new : State) (defined : Result (List Field × Cursors) Refusal) (told : Result (List Field) Refusal) (outcome : Outcome) → answer_to old session asked ≡ on_cursors old defined → new.catalog ≡ old.catalog
-        → Gives defined old.cursors told new.cursors → Tells told outcome → StandBy asked told new.marks → MemoryStep old session command outcome new
+        → GivesAndLeaves defined old.cursors told new.cursors → TellsReply told outcome → StandBy asked told new.marks → MemoryStep old session command outcome new
     cursors_given new defined told outcome answers catalog gives tells stands =
         cursor_steps new defined outcome answers catalog (gives_so defined old.cursors new.cursors told outcome new.marks gives tells stands)
 
@@ -155,7 +155,7 @@ module _ (old : State) (session : ℕ) (command : Command) where
     cursors_ended new defined outcome answers catalog ends same left = cursor_steps new defined outcome answers catalog (ends_so defined old.cursors new.cursors outcome new.marks ends same left)
 
     -- nothing but, perhaps, how views stand
-    pub read_steps : (new : State) (defined told : Result (List Field) Refusal) (outcome : Outcome) → answer_to old session asked ≡ read_answer old defined → standing old.marks new ≡ old → UnlessWanting (λ reply. reply) defined told → Tells told outcome
+    pub read_steps : (new : State) (defined told : Result (List Field) Refusal) (outcome : Outcome) → answer_to old session asked ≡ read_answer old defined → standing old.marks new ≡ old → UnlessWanting (λ reply. reply) defined told → TellsReply told outcome
         → StandBy asked told new.marks → MemoryStep old session command outcome new
     read_steps new defined (Ok reply) outcome answers same is tells marks =
         done_steps new reply old outcome (answers ∙ ap (read_answer old) is) same (subst (TellsOrNot reply) (sym tells) refl) marks
@@ -165,7 +165,7 @@ module _ (old : State) (session : ℕ) (command : Command) where
   -- ---- a create, and a drop
 
   -- what is refused leaves views as they stood, unless memory is wanting
-  pub create_stands : (c : Create) (reply : List Field) (told : Result (List Field) Refusal) (before after : stored.State) (made : Result stored.State Refusal) (marks : Marks) → created c.namespace c.view old.catalog ≡ made → Gives (replying reply made) before told after
+  pub create_stands : (c : Create) (reply : List Field) (told : Result (List Field) Refusal) (before after : stored.State) (made : Result stored.State Refusal) (marks : Marks) → created c.namespace c.view old.catalog ≡ made → GivesAndLeaves (replying reply made) before told after
       → StandMade (names_of_new c.view) (marks_made c.view old.catalog.views old.marks) (marked old) told marks → StandBy (create c) told marks
   create_stands c reply (Ok told) before after (Ok state) marks is gives so = rw is so
   create_stands c reply (Ok told) before after (Err refusal) marks is gives so = absurd cc
@@ -174,7 +174,7 @@ module _ (old : State) (session : ℕ) (command : Command) where
   create_stands c reply (Err refusal) before after (Err other) marks is (inl e, kept) (inr same) = (inr (rw is same), inl same)
   create_stands c reply (Err refusal) before after made marks is (inr want, kept) (inr same) = (inl want, inl same)
 
-  pub drop_stands : (d : Drop) (reply : List Field) (told : Result (List Field) Refusal) (before after : stored.State) (made : Result stored.State Refusal) (marks : Marks) → dropped d.namespace old.catalog ≡ made → Gives (replying reply made) before told after
+  pub drop_stands : (d : Drop) (reply : List Field) (told : Result (List Field) Refusal) (before after : stored.State) (made : Result stored.State Refusal) (marks : Marks) → dropped d.namespace old.catalog ≡ made → GivesAndLeaves (replying reply made) before told after
       → StandSo (AreMarkedByDrop d.namespace old.catalog old.marks) old.marks told marks → StandBy (drop d) told marks
   drop_stands d reply (Ok told) before after (Ok state) marks is gives so = rw is so
   drop_stands d reply (Ok told) before after (Err refusal) marks is gives so = absurd cc
@@ -185,7 +185,7 @@ module _ (old : State) (session : ℕ) (command : Command) where
   -- ---- a write
 
   module _ (w : asking.Write) (asks : asked_by command ≡ Ok (asking.write w)) (new : State) where
-    abbrev writes : Write
+    abbrev writes : WriteCounts
     writes = write_by w
 
     abbrev done : Written
@@ -198,13 +198,13 @@ module _ (old : State) (session : ℕ) (command : Command) where
       carried : answer_to old session (asking.write w) ≡ Ok (write_answer old writes done)
       carried = rw on refl
 
-      marks_so : CarriesOut writes (marked old) (marked new) → AreMarked old (asking.write w) new.marks
+      marks_so : CarriesOutWrite writes (marked old) (marked new) → AreMarked old (asking.write w) new.marks
       marks_so carries = subst (λ (b : Bool). AreMarkedByWrite b writes old new.marks) (sym on) carries.marked
 
       write_cut : (left : Written) → CutsWrite writes (marked old) left (marked new) → (answer : Answer) → answer ≡ write_answer old writes left → Wants old command answer new.marks
       write_cut left cuts answer is = inr (subst (λ (a : Result Asked Refusal). Cut old a answer new.marks) (sym asks) (on, (left, cuts.is_cut, is, cuts.marked)))
 
-      write_done : (outcome : Outcome) → Writes writes (marked old) outcome (marked new) → MemoryStep old session command outcome new
+      write_done : (outcome : Outcome) → WritesOrCuts writes (marked old) outcome (marked new) → MemoryStep old session command outcome new
       write_done (Reply reply) (replies, carries) =
           done_steps (asking.write w) asks new (writes.reply done.n done.changed done.errors) (write_answer old writes done).state (Reply reply) carried (left_by done carries.leaves) replies (marks_so carries)
       write_done (Wanting reply) (left, replies, cuts) = write_cut left cuts (answer_of reply (standing old.marks new)) (λ i. answer_of (replies i) (left_by left cuts.leaves i))
@@ -225,6 +225,6 @@ module _ (old : State) (session : ℕ) (command : Command) where
         by_view false on (done, views, cursors) = write_done on views cursors outcome done
 
 -- a write on a collection
-pub on_collection : (write : Write) (old new : State) (outcome : Outcome) → is_view write.namespace old.catalog.views ≡ false → Writes write (marked old) outcome (marked new) → new.catalog.views ≡ old.catalog.views → new.cursors ≡ old.cursors
+pub on_collection : (write : WriteCounts) (old new : State) (outcome : Outcome) → is_view write.namespace old.catalog.views ≡ false → WritesOrCuts write (marked old) outcome (marked new) → new.catalog.views ≡ old.catalog.views → new.cursors ≡ old.cursors
     → WritesOn write old outcome new
 on_collection write old new outcome on does views cursors = subst (λ (b : Bool). WritesWhere b write old outcome new) (sym on) (does, views, cursors)

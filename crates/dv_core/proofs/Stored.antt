@@ -6,14 +6,14 @@ use Rattle.std.proofs.lemmas.List.{append-nil}
 use Rattle.std.proofs.lemmas.Bool.Decides.{nat_tests}
 use Rattle.std.proofs.lemmas.Slice.Eq.{bytes_eq-Decides}
 use Rattle.dv_bson.specs.Tree.{Tree, document, array, Field, fields_of}
-use Rattle.dv_bson.specs.Names.{value_under, has_name, has_zero, AreNamed}
+use Rattle.dv_bson.specs.Names.{value_under, has_name, has_zero, AreNamed, without}
 use Rattle.dv_bson.specs.Spelling.{spelling, fields_levels, levels, Fits}
 use Rattle.dv_catalog.specs.StateLaws.{bytes_eq-symmetric}
 use Rattle.dv_core.proofs.Spellings.{spelling-field}
 use Rattle.dv_fields.specs.declared.refusal.Refusal.{Refusal}
 use Rattle.dv_fields.specs.declared.refusal.Refusal.TheVariants.{TooLarge}
 use Rattle.dv_bson.specs.Results.{◌>>=◌}
-use Rattle.dv_core.specs.Storable.{without_field, id_in, is_within_limits, with_id_first, storable}
+use Rattle.dv_core.specs.Storable.{id_in, is_within_limits, with_id_first, storable}
 
 -- past the last field nothing is left
 pub drop-none : (fs : List Field) (place : ℕ) → None ≡ slice_get fs place → drop place fs ≡ []
@@ -23,21 +23,21 @@ drop-none (f ∷ fs) (suc place) none = drop-none fs place none
 
 -- ---- a document without one of its fields
 
-without_field-none : (name : List ℕ) (fs : List Field) → has_name name fs ≡ false → without_field name fs ≡ fs
-without_field-none name [] none = refl
-without_field-none name (f ∷ fs) none = grind (arith, without_field-none name fs)
+without-none : (name : List ℕ) (fs : List Field) → has_name name fs ≡ false → without name fs ≡ fs
+without-none name [] none = refl
+without-none name (f ∷ fs) none = grind (arith, without-none name fs)
 
-pub has_name-without_field : (other name : List ℕ) (fs : List Field) → has_name other fs ≡ false → has_name other (without_field name fs) ≡ false
-has_name-without_field other name [] none = refl
-has_name-without_field other name (f ∷ fs) none = grind (arith, has_name-without_field other name fs)
+pub has_name-without : (other name : List ℕ) (fs : List Field) → has_name other fs ≡ false → has_name other (without name fs) ≡ false
+has_name-without other name [] none = refl
+has_name-without other name (f ∷ fs) none = grind (arith, has_name-without other name fs)
 
-AreNamed-without_field : (name : List ℕ) (fs : List Field) → AreNamed fs → AreNamed (without_field name fs)
-AreNamed-without_field name [] named = named
-AreNamed-without_field name (f ∷ fs) named = grind (arith, AreNamed-without_field name fs, has_name-without_field f.0 name fs)
+AreNamed-without : (name : List ℕ) (fs : List Field) → AreNamed fs → AreNamed (without name fs)
+AreNamed-without name [] named = named
+AreNamed-without name (f ∷ fs) named = grind (arith, AreNamed-without name fs, has_name-without f.0 name fs)
 
-pub without_field-gone : (name : List ℕ) (fs : List Field) → AreNamed fs → has_name name (without_field name fs) ≡ false
-without_field-gone name [] named = refl
-without_field-gone name (f ∷ fs) named = grind (arith, without_field-gone name fs, (bytes_eq-Decides name f.0).0)
+pub without-gone : (name : List ℕ) (fs : List Field) → AreNamed fs → has_name name (without name fs) ≡ false
+without-gone name [] named = refl
+without-gone name (f ∷ fs) named = grind (arith, without-gone name fs, (bytes_eq-Decides name f.0).0)
 
 has_name-append : (name : List ℕ) (fs gs : List Field) → has_name name (fs ++ gs) ≡ (has_name name fs || has_name name gs)
 has_name-append name [] gs = grind arith
@@ -53,50 +53,50 @@ named_apart (g ∷ fs) gs f named =
 
 -- the copy so far, and what is left without `_id`, are the document with `_id` in front
 pub record IsCopied (first : Field) (d copy left : List Field) : Type 0 where
-  pub whole : copy ++ without_field (codes "_id") left ≡ first ∷ without_field (codes "_id") d
-  pub apart : AreNamed (copy ++ without_field (codes "_id") left)
+  pub whole : copy ++ without (codes "_id") left ≡ first ∷ without (codes "_id") d
+  pub apart : AreNamed (copy ++ without (codes "_id") left)
   pub named : AreNamed left
 
 pub nothing_copied : (id : Tree) (d copy : List Field) → AreNamed d → copy ≡ (codes "_id", id) ∷ [] → IsCopied (codes "_id", id) d copy d
 nothing_copied id d copy named is =
-    rw is (record { whole = refl; apart = (refl, without_field-gone (codes "_id") d named, AreNamed-without_field (codes "_id") d named); named = named })
+    rw is (record { whole = refl; apart = (refl, without-gone (codes "_id") d named, AreNamed-without (codes "_id") d named); named = named })
 
 module _ {first : Field} {d copy left : List Field} (copied : IsCopied first d copy left) where
-  pub all_copied : left ≡ [] → copy ≡ first ∷ without_field (codes "_id") d
-  all_copied over = sym (append-nil copy) ∙ ap (λ (rest : List Field). copy ++ without_field (codes "_id") rest) (sym over) ∙ copied.whole
+  pub all_copied : left ≡ [] → copy ≡ first ∷ without (codes "_id") d
+  all_copied over = sym (append-nil copy) ∙ ap (λ (rest : List Field). copy ++ without (codes "_id") rest) (sym over) ∙ copied.whole
 
   module _ (f : Field) (next : List Field) (here : left ≡ f ∷ next) where
     named_here : AreNamed (f ∷ next)
     named_here = subst AreNamed here copied.named
 
-    left_here : copy ++ without_field (codes "_id") left ≡ copy ++ (if bytes_eq (codes "_id") f.0 then next else f ∷ without_field (codes "_id") next)
-    left_here = ap (λ (rest : List Field). copy ++ without_field (codes "_id") rest) here
+    left_here : copy ++ without (codes "_id") left ≡ copy ++ (if bytes_eq (codes "_id") f.0 then next else f ∷ without (codes "_id") next)
+    left_here = ap (λ (rest : List Field). copy ++ without (codes "_id") rest) here
 
     pub IsCopied-id : false ≡ not (bytes_eq f.0 (codes "_id")) → IsCopied first d copy next
     IsCopied-id test =
         let id : bytes_eq (codes "_id") f.0 ≡ true = grind (arith, bytes_eq-symmetric (codes "_id") f.0) in
         let fresh : has_name (codes "_id") next ≡ false = rw (← (bytes_eq-Decides (codes "_id") f.0).0 id) at named_here.1 in
-        let same : copy ++ without_field (codes "_id") left ≡ copy ++ without_field (codes "_id") next = rw (without_field-none (codes "_id") next fresh) (rw id at left_here) in
+        let same : copy ++ without (codes "_id") left ≡ copy ++ without (codes "_id") next = rw (without-none (codes "_id") next fresh) (rw id at left_here) in
         record { whole = sym same ∙ copied.whole; apart = subst AreNamed same copied.apart; named = named_here.2 }
 
     pub whole_name : has_zero f.0 ≡ false
     whole_name = named_here.0
 
     module _ (test : true ≡ not (bytes_eq f.0 (codes "_id"))) where
-      kept_here : copy ++ without_field (codes "_id") left ≡ copy ++ f ∷ without_field (codes "_id") next
+      kept_here : copy ++ without (codes "_id") left ≡ copy ++ f ∷ without (codes "_id") next
       kept_here = let other : bytes_eq (codes "_id") f.0 ≡ false = grind (arith, bytes_eq-symmetric (codes "_id") f.0) in rw other at left_here
 
       pub fresh_name : has_name f.0 copy ≡ false
-      fresh_name = named_apart copy (without_field (codes "_id") next) f (subst AreNamed kept_here copied.apart)
+      fresh_name = named_apart copy (without (codes "_id") next) f (subst AreNamed kept_here copied.apart)
 
       pub IsCopied-more : IsCopied first d (copy ++ f ∷ []) next
       IsCopied-more =
-          let same : copy ++ without_field (codes "_id") left ≡ (copy ++ f ∷ []) ++ without_field (codes "_id") next = kept_here ∙ sym (append_assoc copy (f ∷ []) (without_field (codes "_id") next)) in
+          let same : copy ++ without (codes "_id") left ≡ (copy ++ f ∷ []) ++ without (codes "_id") next = kept_here ∙ sym (append_assoc copy (f ∷ []) (without (codes "_id") next)) in
           record { whole = sym same ∙ copied.whole; apart = subst AreNamed same copied.apart; named = named_here.2 }
 
 -- where `_id` stands in front, nothing is moved
 pub first_already : (d : List Field) (name : List ℕ) (value id : Tree) → Some (name, value) ≡ slice_get d 0 → true ≡ bytes_eq name (codes "_id") → value_under (codes "_id") d ≡ Some id
-    → d ≡ (codes "_id", id) ∷ without_field (codes "_id") d
+    → d ≡ (codes "_id", id) ∷ without (codes "_id") d
 first_already [] name value id here is under = absurd cc
 first_already (f ∷ fs) name value id here is under =
     let same : f ≡ (name, value) = cc in
@@ -115,17 +115,17 @@ around f g fs gs same = record {
   depth = omega (arith, same.depth);
 }
 
-moved_by : (name : List ℕ) (value : Tree) (f : Field) (fs : List Field) (test : Bool) → bytes_eq name f.0 ≡ test → (value_under name fs ≡ Some value → IsAsLarge ((name, value) ∷ without_field name fs) fs)
-    → value_under name (f ∷ fs) ≡ Some value → IsAsLarge ((name, value) ∷ without_field name (f ∷ fs)) (f ∷ fs)
+moved_by : (name : List ℕ) (value : Tree) (f : Field) (fs : List Field) (test : Bool) → bytes_eq name f.0 ≡ test → (value_under name fs ≡ Some value → IsAsLarge ((name, value) ∷ without name fs) fs)
+    → value_under name (f ∷ fs) ≡ Some value → IsAsLarge ((name, value) ∷ without name (f ∷ fs)) (f ∷ fs)
 moved_by name value f fs true is rest under =
     let name_is : name ≡ f.0 = (bytes_eq-Decides name f.0).0 is in
     let value_is : Some f.1 ≡ Some value = rw is at under in
     let fields : value ≡ f.1 = cc in
     let same : (name, value) ≡ f = λ i. (name_is i, fields i) in
     rw is (record { size = ap (λ (g : Field). length (spelling (g ∷ fs))) same; depth = ap (λ (g : Field). fields_levels (fields_of (g ∷ fs))) same })
-moved_by name value f fs false is rest under = rw is (around f (name, value) (without_field name fs) fs (rest (rw is at under)))
+moved_by name value f fs false is rest under = rw is (around f (name, value) (without name fs) fs (rest (rw is at under)))
 
-moved_large : (name : List ℕ) (value : Tree) (d : List Field) → value_under name d ≡ Some value → IsAsLarge ((name, value) ∷ without_field name d) d
+moved_large : (name : List ℕ) (value : Tree) (d : List Field) → value_under name d ≡ Some value → IsAsLarge ((name, value) ∷ without name d) d
 moved_large name value [] under = absurd cc
 moved_large name value (f ∷ fs) under = moved_by name value f fs (bytes_eq name f.0) refl (moved_large name value fs) under
 
@@ -150,7 +150,7 @@ within_limits_fits d = (
   (λ fits. limits_hold (length (spelling d)) (levels (document (fields_of d))) fits.size fits.depth),
 )
 
-pub moved_within : (id : Tree) (d : List Field) (told : Bool) → id_in (value_under (codes "_id") d) ≡ Ok id → IsTrue told ↔ Fits d → is_within_limits ((codes "_id", id) ∷ without_field (codes "_id") d) ≡ told
+pub moved_within : (id : Tree) (d : List Field) (told : Bool) → id_in (value_under (codes "_id") d) ≡ Ok id → IsTrue told ↔ Fits d → is_within_limits ((codes "_id", id) ∷ without (codes "_id") d) ≡ told
 moved_within id d told is fits =
     let same = moved_large (codes "_id") id d (id_shown (value_under (codes "_id") d) id is) in
     (λ i. not (nat_lt 16777216 (same.size i)) && not (nat_lt 100 (suc (same.depth i))))

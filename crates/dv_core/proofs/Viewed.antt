@@ -9,7 +9,7 @@ use Rattle.dv_catalog.specs.Changes.{Effect, done_to}
 use Rattle.dv_catalog.specs.State as stored
 use Rattle.dv_catalog.specs.Views.{made, reads_name, with_view, with_view_by, with_views}
 use Rattle.dv_command.specs.Asked.{Asked, ViewOn, find, aggregate, get_more, kill_cursors, create, drop, create_indexes, drop_indexes, asked_by}
-use Rattle.dv_command.specs.Sound.{AreValid, IsSoundPipeline, IsSoundView, IsSoundlyAsked}
+use Rattle.dv_command.specs.Sound.{AreSpellable, IsSoundPipeline, IsSoundViewAsked, IsSoundRequest}
 use Rattle.dv_command.specs.declared.command.Command.{Command}
 use Rattle.dv_core.specs.Indexes.{form_asked}
 use Rattle.dv_core.specs.Load.{insert_alone, left_by, loaded, namespace_in}
@@ -64,13 +64,13 @@ module _ (old new : stored.State) (all : Sound old.views) where
   with_views_sound v (Ok views) so sound is = let same : record old { views = views } ≡ new = cc in as_before (record old { views = views }) same (with_view_sound v old.views views so all sound)
   with_views_sound v (Err refusal) so sound is = absurd cc
 
-  made_sound : (namespace : List ℕ) (view : Option ViewOn) → IsSoundView view → made namespace view old ≡ Ok new → Sound new.views
+  made_sound : (namespace : List ℕ) (view : Option ViewOn) → IsSoundViewAsked view → made namespace view old ≡ Ok new → Sound new.views
   made_sound namespace None sound is =
       let same : record old { namespaces = with_documents namespace [] old.namespaces } ≡ new = cc in
       as_before (record old { namespaces = with_documents namespace [] old.namespaces }) same all
   made_sound namespace (Some on) sound is = with_views_sound (record { name = namespace; source = on.source; stages = on.stages }) _ refl sound.1 is
 
-  created_sound : (namespace : List ℕ) (view : Option ViewOn) (b : Bool) → IsSoundView view → (if b then Err NamespaceExists else made namespace view old) ≡ Ok new → Sound new.views
+  created_sound : (namespace : List ℕ) (view : Option ViewOn) (b : Bool) → IsSoundViewAsked view → (if b then Err NamespaceExists else made namespace view old) ≡ Ok new → Sound new.views
   created_sound namespace view true sound is = absurd cc
   created_sound namespace view false sound is = made_sound namespace view sound is
 
@@ -88,7 +88,7 @@ module _ (old new : stored.State) (all : Sound old.views) where
 same_views : (old new : State) → new.catalog ≡ old.catalog → Sound old.catalog.views → Sound new.catalog.views
 same_views old new same all = subst (λ (s : stored.State). Sound s.views) (sym same) all
 
-made_views : (old new : State) (size : ℕ) (what : Asked) → IsSoundlyAsked size what → Made old what new → Sound old.catalog.views → Sound new.catalog.views
+made_views : (old new : State) (size : ℕ) (what : Asked) → IsSoundRequest size what → Made old what new → Sound old.catalog.views → Sound new.catalog.views
 made_views old new size (create c) asked made all = created_sound old.catalog new.catalog all c.namespace c.view (is_there c.namespace old.catalog) asked.1 made.0
 made_views old new size (drop d) asked made all = dropped_sound old.catalog new.catalog all d.namespace _ (is_collection d.namespace old.catalog.namespaces) (is_view d.namespace old.catalog.views) (reads_name old.catalog.views d.namespace) made.0
 made_views old new size (create_indexes c) asked made all = subst Sound (sym (created_so old.catalog new.catalog c.namespace (map form_asked c.indexes) made.0).views) all
@@ -117,13 +117,13 @@ PipesStayValid =
     → AllByRecursion (λ d. AreFields (fields_of d)) (evaluated stages source lists)
 
 abbrev ValidLists : Lists → Type 0
-ValidLists lists = (name : List ℕ) → AreValid (lists name)
+ValidLists lists = (name : List ℕ) → AreSpellable (lists name)
 
 module _ (pipes : PipesStayValid) where
   with_valid : (v : ViewForm) (lists : Lists) → IsSoundPipeline v.stages → ValidLists lists → ValidLists (with_rows v lists)
   with_valid v lists sound valid name = by_name (bytes_eq name v.name)
     where
-      by_name : (b : Bool) → AreValid (if b then evaluated v.stages v.source lists else lists name)
+      by_name : (b : Bool) → AreSpellable (if b then evaluated v.stages v.source lists else lists name)
       by_name true = pipes sound.list v.stages v.source lists sound.valid sound.is valid
       by_name false = valid name
 
@@ -133,10 +133,10 @@ module _ (pipes : PipesStayValid) where
   over_valid (v ∷ views) lists all valid = over_valid views (with_rows v lists) all.1 (with_valid v lists all.0 valid)
 
 module _ (pipes : PipesStayValid) (state : State) (sound : AreSoundDocuments state) (views : AreSoundViews state) where
-  pub rows_valid : (namespace : List ℕ) → AreValid (rows_of namespace state.catalog)
+  pub rows_valid : (namespace : List ℕ) → AreSpellable (rows_of namespace state.catalog)
   rows_valid namespace = over_valid pipes state.catalog.views (lists_of state.catalog.namespaces) views (λ name. documents_valid (documents_of name state.catalog.namespaces) (sound name).1) namespace
 
-  pub gathered_valid : (stages : List Stage) (source : List ℕ) → IsSoundPipeline stages → AreValid (evaluated stages source (λ name. rows_of name state.catalog))
+  pub gathered_valid : (stages : List Stage) (source : List ℕ) → IsSoundPipeline stages → AreSpellable (evaluated stages source (λ name. rows_of name state.catalog))
   gathered_valid stages source h = pipes h.list stages source (λ name. rows_of name state.catalog) h.valid h.is rows_valid
 
 -- ---- a load

@@ -24,8 +24,8 @@ use Rattle.dv_core.specs.Marks.{AreMarkedByCut, AreMarkedForWant, due_changes}
 use Rattle.dv_cursor.specs.Batch.{batch}
 use Rattle.dv_catalog.specs.Scan.{scan}
 use Rattle.dv_catalog.specs.State.{Collection, Standing, Namespaces, collection, collection_at, collection_of, documents_of, lists_of, with_documents}
-use Rattle.dv_core.specs.State.{State, empty_state}
-use Rattle.dv_core.specs.Statements.{Written, nothing_written, is_due, with_result, with_next, with_all, next_changes, cut, IsCut}
+use Rattle.dv_core.specs.State.{State, empty_store_state}
+use Rattle.dv_core.specs.Statements.{Written, nothing_written, is_due, with_result, with_next, with_all, next_changes, cut, IsCutWrite}
 use Rattle.dv_core.specs.Step.{Answer, answered, on_cursors, write_answer}
 use Rattle.dv_catalog.specs.StateLaws.{same_namespaces}
 use Rattle.dv_core.specs.Writes.{insert_one, write_by}
@@ -41,10 +41,10 @@ t_c = codes "t.c"
 abbrev pub with_only : List (List Field) → Collection
 with_only documents = record empty_indexed { documents = documents }
 
-pub nothing_there : (namespace : List ℕ) → collection_of namespace empty_state.catalog.namespaces ≡ with_only []
+pub nothing_there : (namespace : List ℕ) → collection_of namespace empty_store_state.catalog.namespaces ≡ with_only []
 nothing_there namespace = ap collection_at (finite.get-empty (slice_cmp nat_cmp) namespace)
 
-pub nothing_in : (namespace : List ℕ) → documents_of namespace empty_state.catalog.namespaces ≡ []
+pub nothing_in : (namespace : List ℕ) → documents_of namespace empty_store_state.catalog.namespaces ≡ []
 nothing_in namespace = ap (λ (c : Collection). c.documents) (nothing_there namespace)
 
 collection_there : (documents : List (List Field)) (namespaces : Namespaces) → collection_of t_c (with_documents t_c documents namespaces) ≡ record (collection_of t_c namespaces) { documents = documents }
@@ -52,7 +52,7 @@ collection_there documents namespaces =
     ap collection_at (finite.get-insert nat_list_cmp_total namespaces t_c (collection (record (collection_of t_c namespaces) { documents = documents })) t_c)
 
 pub put_there : (documents : List (List Field)) → collection_of t_c (holding documents).catalog.namespaces ≡ with_only documents
-put_there documents = collection_there documents empty_state.catalog.namespaces ∙ ap (λ (c : Collection). record c { documents = documents }) (nothing_there t_c)
+put_there documents = collection_there documents empty_store_state.catalog.namespaces ∙ ap (λ (c : Collection). record c { documents = documents }) (nothing_there t_c)
 
 pub put_in : (documents : List (List Field)) → documents_of t_c (holding documents).catalog.namespaces ≡ documents
 put_in documents = ap (λ (c : Collection). c.documents) (put_there documents)
@@ -71,7 +71,7 @@ put_twice now before namespaces =
 other_there : collection_of (codes "u.c") (holding (only 5 ∷ [])).catalog.namespaces ≡ with_only []
 other_there =
     let none : finite.get (holding (only 5 ∷ [])).catalog.namespaces (codes "u.c") ≡ None =
-    rw (finite.get-insert nat_list_cmp_total empty_state.catalog.namespaces t_c (collection (record (collection_of t_c empty_state.catalog.namespaces) { documents = only 5 ∷ [] })) (codes "u.c")) (finite.get-empty (slice_cmp nat_cmp) (codes "u.c")) in
+    rw (finite.get-insert nat_list_cmp_total empty_store_state.catalog.namespaces t_c (collection (record (collection_of t_c empty_store_state.catalog.namespaces) { documents = only 5 ∷ [] })) (codes "u.c")) (finite.get-empty (slice_cmp nat_cmp) (codes "u.c")) in
     ap collection_at none
 
 -- ---- one statement, by the documents that it finds
@@ -105,7 +105,7 @@ abbrev after : Bool → List (List Field) → Written → Written
 after ordered documents w = with_all t_c ordered w (map insert_one documents)
 
 abbrev nothing : Written
-nothing = nothing_written empty_state.catalog.namespaces
+nothing = nothing_written empty_store_state.catalog.namespaces
 
 abbrev duplicate : Tree
 duplicate = document_of (write_error 1 DuplicateKey)
@@ -122,7 +122,7 @@ put_third : with_next t_c false (wrote 2 1 (duplicate ∷ []) (holding (only 2 �
 unfolding framed element_spelling payload counted
 put_third =
     puts t_c false (wrote 2 1 (duplicate ∷ []) (holding (only 2 ∷ [])).catalog.namespaces) (only 2 ∷ []) (put_there (only 2 ∷ [])) refl (only 1) (only 1) (only 1 ∷ only 2 ∷ []) refl refl
-    ∙ ap (wrote 3 2 (duplicate ∷ [])) (put_twice (only 1 ∷ only 2 ∷ []) (only 2 ∷ []) empty_state.catalog.namespaces)
+    ∙ ap (wrote 3 2 (duplicate ∷ [])) (put_twice (only 1 ∷ only 2 ∷ []) (only 2 ∷ []) empty_store_state.catalog.namespaces)
 
 -- an insert, whose reply is that of all inserts
 abbrev two : asking.Write
@@ -139,22 +139,22 @@ moved = (codes "_id", number 2) ∷ (codes "a", number 1) ∷ []
 pub inserts : InsertExamples
 unfolding framed element_spelling payload counted
 inserts = record {
-  first = λ session. ap (write_answer empty_state (write_by two)) (puts t_c true nothing [] (nothing_there t_c) refl (only 5) (only 5) (only 5 ∷ []) refl refl);
+  first = λ session. ap (write_answer empty_store_state (write_by two)) (puts t_c true nothing [] (nothing_there t_c) refl (only 5) (only 5) (only 5 ∷ []) refl refl);
   equal = λ session.
       ap (write_answer (holding (only 5 ∷ [])) (write_by two))
       (refuses t_c true (nothing_written (holding (only 5 ∷ [])).catalog.namespaces) (only 5 ∷ []) (put_there (only 5 ∷ [])) refl ((codes "_id", int64 (pos 5)) ∷ []) DuplicateKey refl);
-  ordered = λ session. ap (write_answer empty_state (write_by two)) (ap (after true (only 2 ∷ only 1 ∷ [])) (put_first true) ∙ ap (after true (only 1 ∷ [])) (put_again true));
-  unordered = λ session. ap (write_answer empty_state (write_by two)) (ap (after false (only 2 ∷ only 1 ∷ [])) (put_first false) ∙ ap (after false (only 1 ∷ [])) (put_again false) ∙ put_third);
-  id_behind = λ session. ap (write_answer empty_state (write_by two)) (puts t_c true nothing [] (nothing_there t_c) refl ((codes "a", number 1) ∷ (codes "_id", number 2) ∷ []) moved (moved ∷ []) refl refl);
+  ordered = λ session. ap (write_answer empty_store_state (write_by two)) (ap (after true (only 2 ∷ only 1 ∷ [])) (put_first true) ∙ ap (after true (only 1 ∷ [])) (put_again true));
+  unordered = λ session. ap (write_answer empty_store_state (write_by two)) (ap (after false (only 2 ∷ only 1 ∷ [])) (put_first false) ∙ ap (after false (only 1 ∷ [])) (put_again false) ∙ put_third);
+  id_behind = λ session. ap (write_answer empty_store_state (write_by two)) (puts t_c true nothing [] (nothing_there t_c) refl ((codes "a", number 1) ∷ (codes "_id", number 2) ∷ []) moved (moved ∷ []) refl refl);
   no_id = λ session. refl;
   unfit = λ session. refl;
   elsewhere = λ session. ap (write_answer (holding (only 5 ∷ [])) (write_by two)) (puts (codes "u.c") true (nothing_written (holding (only 5 ∷ [])).catalog.namespaces) [] other_there refl (only 5) (only 5) (only 5 ∷ []) refl refl);
   dotted = λ session. refl;
   classes = λ session.
-      ap (write_answer empty_state (write_by two))
+      ap (write_answer empty_store_state (write_by two))
       (ap (after true (only 1 ∷ [])) (puts t_c true nothing [] (nothing_there t_c) refl falsely falsely (falsely ∷ []) refl refl)
       ∙ puts t_c true (wrote 1 1 [] (holding (falsely ∷ [])).catalog.namespaces) (falsely ∷ []) (put_there (falsely ∷ [])) refl (only 1) (only 1) (only 1 ∷ falsely ∷ []) refl refl
-      ∙ ap (wrote 2 2 []) (put_twice (only 1 ∷ falsely ∷ []) (falsely ∷ []) empty_state.catalog.namespaces));
+      ∙ ap (wrote 2 2 []) (put_twice (only 1 ∷ falsely ∷ []) (falsely ∷ []) empty_store_state.catalog.namespaces));
 }
 
 -- a find of all documents
@@ -168,7 +168,7 @@ reads = record {
   greeted = λ state session. refl;
   pinged = λ state session. refl;
   found = λ session. finds (holding (only 5 ∷ only 6 ∷ [])) t_c (only 5 ∷ only 6 ∷ []) session (put_in (only 5 ∷ only 6 ∷ []));
-  not_found = λ session. finds empty_state t_c [] session (nothing_in t_c);
+  not_found = λ session. finds empty_store_state t_c [] session (nothing_in t_c);
 }
 
 pub refusals : RefusalExamples
@@ -188,7 +188,7 @@ refusals = record {
   unreadable = λ state session. refl;
   listed = λ state session list. refl;
   zero_in_name = λ state session. refl;
-  longest_namespace = λ session. finds empty_state (codes "t." ++ letters 118) [] session (nothing_in (codes "t." ++ letters 118));
+  longest_namespace = λ session. finds empty_store_state (codes "t." ++ letters 118) [] session (nothing_in (codes "t." ++ letters 118));
   namespace_too_long = λ state session. refl;
 }
 
@@ -201,7 +201,7 @@ put_five = puts t_c true nothing [] (nothing_there t_c) refl (only 5) (only 5) (
 abbrev left : Written
 left = wrote 2 1 (document_of (cut_error 1 0) ∷ []) (holding (only 5 ∷ [])).catalog.namespaces
 
-cut_second : IsCut (write_by two) empty_state.catalog.namespaces left
+cut_second : IsCutWrite (write_by two) empty_store_state.catalog.namespaces left
 cut_second = record {
   before = insert_one (only 5) ∷ [];
   statement = insert_one (only 6);
@@ -218,7 +218,7 @@ left_marked : (state : State) (asked : Result Asked Refusal) → AreMarkedForWan
 left_marked state (Ok asked) = inl refl
 left_marked state (Err refusal) = refl
 
-no_marks : AreMarkedByCut t_c true [] (write_by two).statements empty_state.catalog.namespaces left cut_second [] []
+no_marks : AreMarkedByCut t_c true [] (write_by two).statements empty_store_state.catalog.namespaces left cut_second [] []
 unfolding cut_second
 no_marks =
     let five = with_all t_c true nothing (insert_one (only 5) ∷ []) in (
@@ -231,6 +231,6 @@ pub wants : WantExamples
 wants = record {
   refused = λ state session command. inl (refl, left_marked state (asked_by command));
   cut = λ session. inr (refl, (left, cut_second, refl, no_marks));
-  untold = λ session. inr (write_answer empty_state (write_by two) left, inr (refl, (left, cut_second, refl, no_marks)), refl);
+  untold = λ session. inr (write_answer empty_store_state (write_by two) left, inr (refl, (left, cut_second, refl, no_marks)), refl);
   pinged = λ state new session is. let replies : reply_of [] ≡ refusal_reply WantOfMemory = ap (λ (a : Answer). a.reply) is.0 in cc;
 }

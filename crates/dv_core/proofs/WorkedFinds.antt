@@ -19,13 +19,13 @@ use Rattle.dv_sort.specs.Sorting.{stable}
 use Rattle.dv_catalog.specs.Changes.{Change, gone, apply, done_to, with_changes}
 use Rattle.dv_command.specs.Asked as asking
 use Rattle.dv_command.specs.declared.asking.WriteKind.TheVariants.{Delete}
-use Rattle.dv_core.specs.Examples.{only, one_field, number, deletion, holding, three, bounded, nulls, keyed, DeleteExamples, FindExamples}
+use Rattle.dv_core.specs.Examples.{only, one_field, number, deletion, holding, three, bounded, nulls, keyed_documents, DeleteExamples, FindExamples}
 use Rattle.dv_core.specs.Find.{first_batch}
 use Rattle.dv_cursor.specs.Batch.{batch}
 use Rattle.dv_cursor.specs.Cursors.{no_cursors}
 use Rattle.dv_catalog.specs.Scan.{scan}
 use Rattle.dv_catalog.specs.State.{documents_of, with_documents}
-use Rattle.dv_core.specs.State.{empty_state}
+use Rattle.dv_core.specs.State.{empty_store_state}
 use Rattle.dv_core.specs.Statements.{nothing_written, with_next}
 use Rattle.dv_core.specs.Step.{answered, on_cursors, write_answer}
 use Rattle.dv_core.specs.Writes.{delete_one, write_by}
@@ -40,7 +40,7 @@ module _ (documents after : List (List Field)) (entry : List Field) (matched : �
       ∙ ap (λ (n : ℕ). wrote_so 1 (0 + matched) (0 + n) [] (apply t_c (change ∷ changes) (holding documents).catalog.namespaces)) many
       ∙ ap (wrote 1 (0 + matched) [])
       (ap (λ (ds : List (List Field)). with_documents t_c (with_changes ds (change ∷ changes)) (holding documents).catalog.namespaces) (put_in documents)
-      ∙ ap (λ (ds : List (List Field)). with_documents t_c ds (holding documents).catalog.namespaces) leaves ∙ put_twice after documents empty_state.catalog.namespaces)
+      ∙ ap (λ (ds : List (List Field)). with_documents t_c ds (holding documents).catalog.namespaces) leaves ∙ put_twice after documents empty_store_state.catalog.namespaces)
 
 -- the document with this number as its `_id` goes
 abbrev goes : ℕ → Change
@@ -56,7 +56,7 @@ deletes = record {
   first = λ session. ap (write_answer (holding three) (write_by no_entries)) (deletes_there three (only 2 ∷ only 3 ∷ []) (deletion [] 1) 1 (goes 1) [] refl refl refl);
   greater = λ session. ap (write_answer (holding three) (write_by no_entries)) (deletes_there three (only 1 ∷ []) (deletion (one_field (codes "_id") (document_of (one_field (codes "$gt") (number 1)))) 0) 2 (goes 2) (goes 3 ∷ []) refl refl refl);
   all = λ session. ap (write_answer (holding three) (write_by no_entries)) (deletes_there three [] (deletion [] 0) 3 (goes 1) (goes 2 ∷ goes 3 ∷ []) refl refl refl);
-  nothing = λ session. ap (write_answer empty_state (write_by no_entries)) (looked_at t_c true (nothing_written empty_state.catalog.namespaces) [] (nothing_there t_c) refl (delete_one (deletion [] 0)) (Ok (record { matched = 0; changes = [] })) refl);
+  nothing = λ session. ap (write_answer empty_store_state (write_by no_entries)) (looked_at t_c true (nothing_written empty_store_state.catalog.namespaces) [] (nothing_there t_c) refl (delete_one (deletion [] 0)) (Ok (record { matched = 0; changes = [] })) refl);
   no_limit = λ session. refl;
   two = λ session. refl;
 }
@@ -77,7 +77,7 @@ unfolding filter_in conditions_in operators_in member_named operator_named match
 finds = record {
   between = λ session. found_in bounded (at_a (more_conditions (in_range Above (number 1)) (more_conditions (in_range Below (number 3)) no_conditions))) [] 0 0 session;
   null_or_missing = λ session. found_in nulls (at_a (more_conditions (equal null) no_conditions)) [] 0 0 session;
-  ascending = λ session. found_in keyed no_members ((codes "a" ∷ [], Ascending) ∷ []) 0 0 session;
-  descending = λ session. found_in keyed no_members ((codes "a" ∷ [], Descending) ∷ []) 0 0 session;
+  ascending = λ session. found_in keyed_documents no_members ((codes "a" ∷ [], Ascending) ∷ []) 0 0 session;
+  descending = λ session. found_in keyed_documents no_members ((codes "a" ∷ [], Descending) ∷ []) 0 0 session;
   window = λ session. found_in three no_members [] 1 1 session;
 }

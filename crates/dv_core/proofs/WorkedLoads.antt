@@ -5,9 +5,9 @@ use Rattle.dv_bson.specs.Spelling.{framed, element_spelling, payload, counted}
 use Rattle.dv_bson.specs.Tree.{Field, int64}
 use Rattle.dv_catalog.specs.Changes.{Effect, done_to, put, unless_it_breaks, with_put}
 use Rattle.dv_catalog.specs.State.{Collection, collection_of}
-use Rattle.dv_core.specs.Examples.{LoadExamples, number, only, holding, with_a, with_collection}
+use Rattle.dv_core.specs.Examples.{LoadExamples, number, only, holding, with_id_and_a, with_collection}
 use Rattle.dv_core.specs.Load.{left_by}
-use Rattle.dv_core.specs.State.{State, empty_state}
+use Rattle.dv_core.specs.State.{State, empty_store_state}
 use Rattle.dv_bson.specs.Results.{◌>>=◌}
 use Rattle.dv_fields.specs.declared.refusal.Refusal.{Refusal}
 use Rattle.dv_fields.specs.declared.refusal.Refusal.TheVariants.{DuplicateKey}
@@ -33,9 +33,9 @@ module _ (old : State) (documents : List (List Field)) (are : collection_of t_c 
 pub loads : LoadExamples
 unfolding framed element_spelling payload counted
 loads = record {
-  first = puts empty_state [] (nothing_there t_c) (only 5) (only 5) (only 5 ∷ []) refl refl;
+  first = puts empty_store_state [] (nothing_there t_c) (only 5) (only 5) (only 5 ∷ []) refl refl;
   equal = refuses (holding (only 5 ∷ [])) (only 5 ∷ []) (put_there (only 5 ∷ [])) ((codes "_id", int64 (pos 5)) ∷ []) DuplicateKey refl;
-  id_behind = puts empty_state [] (nothing_there t_c) ((codes "a", number 1) ∷ (codes "_id", number 2) ∷ []) (with_a 2 (number 1)) (with_a 2 (number 1) ∷ []) refl refl;
+  id_behind = puts empty_store_state [] (nothing_there t_c) ((codes "a", number 1) ∷ (codes "_id", number 2) ∷ []) (with_id_and_a 2 (number 1)) (with_id_and_a 2 (number 1) ∷ []) refl refl;
   no_id = refl;
   written = refl;
   dotted_collection = refl;

@@ -24,7 +24,7 @@ use Rattle.dv_sort.specs.Sorting.{stable}
 use Rattle.dv_catalog.specs.Scan.{scan}
 use Rattle.dv_catalog.specs.State.{Collection, Standing, Namespaces, collection, collection_of, lists_of, documents_of, is_collection, is_view, without_view}
 use Rattle.dv_catalog.specs.State as stored
-use Rattle.dv_core.specs.State.{State, empty_state}
+use Rattle.dv_core.specs.State.{State, empty_store_state}
 use Rattle.dv_catalog.specs.StateLaws.{same_namespaces, get-insert, get-remove}
 use Rattle.dv_catalog.specs.Views.{created, dropped, made, reads_name}
 use Rattle.dv_command.specs.Asked.{ViewOn}
@@ -41,23 +41,23 @@ use Rattle.dv_core.proofs.Worked.{t_c, nothing_in, nothing_there, put_in}
 -- ---- what stands where
 
 abbrev two_standing : Standing
-two_standing = collection (record (collection_of t_c empty_state.catalog.namespaces) { documents = two })
+two_standing = collection (record (collection_of t_c empty_store_state.catalog.namespaces) { documents = two })
 
-none_there : (namespace : List ℕ) → is_collection namespace empty_state.catalog.namespaces ≡ false
+none_there : (namespace : List ℕ) → is_collection namespace empty_store_state.catalog.namespaces ≡ false
 none_there namespace = ap is_some (finite.get-empty (slice_cmp nat_cmp) namespace)
 
 two_there : is_collection t_c (holding two).catalog.namespaces ≡ true
-two_there = ap is_some (finite.get-insert nat_list_cmp_total empty_state.catalog.namespaces t_c two_standing t_c)
+two_there = ap is_some (finite.get-insert nat_list_cmp_total empty_store_state.catalog.namespaces t_c two_standing t_c)
 
 same_gone : (b : Bool) (there : Option Standing) → cond b None (cond b there None) ≡ None
 same_gone true there = refl
 same_gone false there = refl
 
 -- what was put goes
-put_and_gone : finite.remove (holding two).catalog.namespaces t_c ≡ empty_state.catalog.namespaces
+put_and_gone : finite.remove (holding two).catalog.namespaces t_c ≡ empty_store_state.catalog.namespaces
 put_and_gone =
     same_namespaces _ _ (λ q. get-remove (holding two).catalog.namespaces t_c q
-    ∙ ap (cond (bytes_eq t_c q) None) (get-insert empty_state.catalog.namespaces t_c two_standing q ∙ ap (cond (bytes_eq t_c q) (Some two_standing)) (finite.get-empty (slice_cmp nat_cmp) q))
+    ∙ ap (cond (bytes_eq t_c q) None) (get-insert empty_store_state.catalog.namespaces t_c two_standing q ∙ ap (cond (bytes_eq t_c q) (Some two_standing)) (finite.get-empty (slice_cmp nat_cmp) q))
     ∙ same_gone (bytes_eq t_c q) (Some two_standing) ∙ sym (finite.get-empty (slice_cmp nat_cmp) q))
 
 -- ---- commands, by whether a collection stands there
@@ -96,7 +96,7 @@ abbrev greatest_of : List (List Field) → List (List Field)
 greatest_of documents = take 1 (stable ((codes "_id" ∷ [], Descending) ∷ []) documents)
 
 abbrev bare : State
-bare = viewing empty_state
+bare = viewing empty_store_state
 
 abbrev full : State
 full = viewing (holding two)
@@ -104,12 +104,12 @@ full = viewing (holding two)
 pub views : ViewExamples
 unfolding framed element_spelling payload counted filter_in matches stable sort_key whole pipeline_of through stage batch
 views = record {
-  created = λ session. creates empty_state (codes "t.v") false (none_there (codes "t.v")) (on t_c);
+  created = λ session. creates empty_store_state (codes "t.v") false (none_there (codes "t.v")) (on t_c);
   read = λ session. creates bare t_c false (none_there t_c) (on (codes "t.d"));
   collection = λ session. creates bare t_c false (none_there t_c) None;
   itself = λ session. creates bare (codes "t.w") false (none_there (codes "t.w")) (on (codes "t.w"));
   over_view = λ session. creates bare (codes "t.w") false (none_there (codes "t.w")) (on (codes "t.v"));
-  ninth = λ session. creates (chained empty_state) (codes "t.9") false (none_there (codes "t.9")) (on (codes "t.8"));
+  ninth = λ session. creates (chained empty_store_state) (codes "t.9") false (none_there (codes "t.9")) (on (codes "t.8"));
   again = λ session. creates bare (codes "t.v") false (none_there (codes "t.v")) (on t_c);
   collection_again = λ session. creates (holding two) t_c true two_there None;
   written = λ session. refl;
@@ -117,10 +117,10 @@ views = record {
   found = λ session. shows (codes "t.v") all_of full two session (put_in two);
   aggregated = λ session. shows_all (codes "t.v") all_of full two session (put_in two);
   nested = λ session. shows (codes "t.w") greatest_of (nesting (holding two)) two session (put_in two);
-  read_dropped = λ session. drops (nesting empty_state) (codes "t.v") false (none_there (codes "t.v"));
+  read_dropped = λ session. drops (nesting empty_store_state) (codes "t.v") false (none_there (codes "t.v"));
   source_dropped = λ session. drops full t_c true two_there ∙ ap (λ (ns : Namespaces). answered full (on_catalog full (replying (drop_reply t_c) (Ok (record full.catalog { namespaces = ns }))))) put_and_gone;
   dropped = λ session. drops bare (codes "t.v") false (none_there (codes "t.v"));
-  nothing_there = λ session. drops empty_state (codes "t.v") false (none_there (codes "t.v"));
+  nothing_there = λ session. drops empty_store_state (codes "t.v") false (none_there (codes "t.v"));
 }
 
 -- ---- how they stand
@@ -132,18 +132,18 @@ stale_counted (share ∷ []) = refl
 stale_counted (share ∷ other ∷ rest) = refl
 
 -- a document comes into nothing, through both views
-five_put : next_changes t_c true (nothing_written empty_state.catalog.namespaces) (insert_one (only 5)) ≡ put (only 5) ∷ []
+five_put : next_changes t_c true (nothing_written empty_store_state.catalog.namespaces) (insert_one (only 5)) ≡ put (only 5) ∷ []
 unfolding payload framed element_spelling
 five_put = ap (λ (c : Collection). changes_of (done_to c (insert_one (only 5)))) (nothing_there t_c) ∙ refl
 
 abbrev counted_behind : List Change → Lists → Marks
-counted_behind changes lists = marks_counted t_c changes lists (limiting empty_state).catalog.views (live 0 ∷ live 0 ∷ [])
+counted_behind changes lists = marks_counted t_c changes lists (limiting empty_store_state).catalog.views (live 0 ∷ live 0 ∷ [])
 
 five_passed : counted_behind (put (only 5) ∷ []) (λ name. []) ≡ live 2 ∷ live 2 ∷ []
 unfolding shares stage_at
 five_passed = refl
 
-five_counted : counted_behind (next_changes t_c true (nothing_written empty_state.catalog.namespaces) (insert_one (only 5))) (lists_of empty_state.catalog.namespaces) ≡ live 2 ∷ live 2 ∷ []
+five_counted : counted_behind (next_changes t_c true (nothing_written empty_store_state.catalog.namespaces) (insert_one (only 5))) (lists_of empty_store_state.catalog.namespaces) ≡ live 2 ∷ live 2 ∷ []
 five_counted = (λ i. counted_behind (five_put i) (λ name. nothing_in name i)) ∙ five_passed
 
 pub marks : MarkExamples

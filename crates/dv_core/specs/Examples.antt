@@ -16,7 +16,7 @@ use Rattle.dv_pipe.specs.declared.stage.Stage.TheVariants.{Limit, Sort}
 use Rattle.dv_views.specs.Forms.{ViewForm}
 use Rattle.dv_core.specs.Load.{loaded, namespace_in}
 use Rattle.dv_core.specs.Marks.{marks_behind_all}
-use Rattle.dv_core.specs.State.{State, empty_state, standing}
+use Rattle.dv_core.specs.State.{State, empty_store_state, standing}
 use Rattle.dv_core.specs.Step.{step, MemoryStep}
 
 -- ---- words for them
@@ -26,15 +26,15 @@ abbrev pub of_body : List Field → Command
 of_body body = Sections body []
 
 -- a command of any session is answered by this reply, and leaves this state
-abbrev pub Does : State → List Field → List Field → State → Type 0
-Does old body reply new = (session : ℕ) → step old session (of_body body) ≡ record { reply = reply; state = new }
+abbrev pub AnswersAlways : State → List Field → List Field → State → Type 0
+AnswersAlways old body reply new = (session : ℕ) → step old session (of_body body) ≡ record { reply = reply; state = new }
 
 abbrev pub refusal : ℕ → List ℕ → List Field
 refusal code name = (codes "ok", int32 (pos 0)) ∷ (codes "errmsg", string name) ∷ (codes "code", int32 (pos code)) ∷ (codes "codeName", string name) ∷ []
 
 -- a command is refused with this code and its name in any state, and leaves it
-abbrev pub IsRefused : List Field → ℕ → List ℕ → Type 0
-IsRefused body code name = (state : State) → Does state body (refusal code name) state
+abbrev pub IsRefusedAlways : List Field → ℕ → List ℕ → Type 0
+IsRefusedAlways body code name = (state : State) → AnswersAlways state body (refusal code name) state
 
 -- with these documents in the collection of a namespace
 abbrev pub with_collection : List ℕ → List (List Field) → State → State
@@ -42,7 +42,7 @@ with_collection namespace documents state = record state { catalog = record stat
 
 -- the state with these documents alone
 abbrev pub holding : List (List Field) → State
-holding documents = with_collection (codes "t.c") documents empty_state
+holding documents = with_collection (codes "t.c") documents empty_store_state
 
 abbrev pub number : ℕ → Tree
 number n = int32 (pos n)
@@ -54,8 +54,8 @@ on database fields = fields ++ (codes "$db", string database) ∷ []
 abbrev pub one_field : List ℕ → Tree → List Field
 one_field name value = (name, value) ∷ []
 
-abbrev pub ping : List Field
-ping = (codes "ping", number 1) ∷ []
+abbrev pub ping_command : List Field
+ping_command = (codes "ping_command", number 1) ∷ []
 
 -- these values into a collection of t
 abbrev pub insert_values : List ℕ → List Tree → List Field
@@ -68,11 +68,11 @@ insert documents = insert_values (codes "c") (map document_of documents)
 abbrev pub unordered_insert : List (List Field) → List Field
 unordered_insert documents = insert documents ++ (codes "ordered", boolean false) ∷ []
 
-abbrev pub find_in : List ℕ → List Field
-find_in collection = on (codes "t") ((codes "find", string collection) ∷ [])
+abbrev pub find_command : List ℕ → List Field
+find_command collection = on (codes "t") ((codes "find", string collection) ∷ [])
 
 abbrev pub find : List Field
-find = find_in (codes "c")
+find = find_command (codes "c")
 
 -- a find in c by a filter, with other fields
 abbrev pub find_by : List Field → List Field → List Field
@@ -91,8 +91,8 @@ abbrev pub only : ℕ → List Field
 only id = (codes "_id", number id) ∷ []
 
 -- a document with an `_id`, and a value under `a`
-abbrev pub with_a : ℕ → Tree → List Field
-with_a id value = only id ++ one_field (codes "a") value
+abbrev pub with_id_and_a : ℕ → Tree → List Field
+with_id_and_a id value = only id ++ one_field (codes "a") value
 
 -- an array of numbers
 abbrev pub numbers : List ℕ → Tree
@@ -102,8 +102,8 @@ abbrev pub error : ℕ → ℕ → List ℕ → Tree
 error index code message = document_of ((codes "index", number index) ∷ (codes "code", number code) ∷ (codes "errmsg", string message) ∷ [])
 
 -- the statements are counted for so many documents
-abbrev pub write_reply : ℕ → List Field
-write_reply count = (codes "n", number count) ∷ (codes "ok", number 1) ∷ []
+abbrev pub counted_reply : ℕ → List Field
+counted_reply count = (codes "n", number count) ∷ (codes "ok", number 1) ∷ []
 
 -- they are counted for so many documents, and the other statements that were looked at have these errors
 abbrev pub errors_reply : ℕ → List Tree → List Field
@@ -124,32 +124,32 @@ letters (suc count) = 99 ∷ letters count
 
 pub record InsertExamples : Type 0 where
   -- {_id: 5} into nothing
-  pub first : Does empty_state (insert (only 5 ∷ [])) (write_reply 1) (holding (only 5 ∷ []))
+  pub first : AnswersAlways empty_store_state (insert (only 5 ∷ [])) (counted_reply 1) (holding (only 5 ∷ []))
   -- then {_id: 5} as an int64, whose _id is equal
-  pub equal : Does (holding (only 5 ∷ [])) (insert (((codes "_id", int64 (pos 5)) ∷ []) ∷ []))
+  pub equal : AnswersAlways (holding (only 5 ∷ [])) (insert (((codes "_id", int64 (pos 5)) ∷ []) ∷ []))
       (errors_reply 0 (error 0 11000 (codes "DuplicateKey") ∷ [])) (holding (only 5 ∷ []))
   -- {_id: 2}, {_id: 2} and {_id: 1}: an ordered insert ends at its first error, and an unordered one goes on behind it
-  pub ordered : Does empty_state (insert (only 2 ∷ only 2 ∷ only 1 ∷ []))
+  pub ordered : AnswersAlways empty_store_state (insert (only 2 ∷ only 2 ∷ only 1 ∷ []))
       (errors_reply 1 (error 1 11000 (codes "DuplicateKey") ∷ [])) (holding (only 2 ∷ []))
-  pub unordered : Does empty_state (unordered_insert (only 2 ∷ only 2 ∷ only 1 ∷ []))
+  pub unordered : AnswersAlways empty_store_state (unordered_insert (only 2 ∷ only 2 ∷ only 1 ∷ []))
       (errors_reply 2 (error 1 11000 (codes "DuplicateKey") ∷ [])) (holding (only 1 ∷ only 2 ∷ []))
   -- {a: 1, _id: 2} is stored with its _id in front
-  pub id_behind : Does empty_state (insert (((codes "a", number 1) ∷ (codes "_id", number 2) ∷ []) ∷ []))
-      (write_reply 1) (holding (((codes "_id", number 2) ∷ (codes "a", number 1) ∷ []) ∷ []))
+  pub id_behind : AnswersAlways empty_store_state (insert (((codes "a", number 1) ∷ (codes "_id", number 2) ∷ []) ∷ []))
+      (counted_reply 1) (holding (((codes "_id", number 2) ∷ (codes "a", number 1) ∷ []) ∷ []))
   -- {a: 1} has no _id, and no collection is made
-  pub no_id : Does empty_state (insert (((codes "a", number 1) ∷ []) ∷ [])) (errors_reply 0 (error 0 2 (codes "BadValue") ∷ [])) empty_state
+  pub no_id : AnswersAlways empty_store_state (insert (((codes "a", number 1) ∷ []) ∷ [])) (errors_reply 0 (error 0 2 (codes "BadValue") ∷ [])) empty_store_state
   -- {_id: [1]}, {_id: 1, $a: 1} and {_id: 1, a: {b.c: 1}} are not stored
-  pub unfit : Does empty_state
+  pub unfit : AnswersAlways empty_store_state
       (unordered_insert (one_field (codes "_id") (array (elements_of (number 1 ∷ []))) ∷ (only 1 ++ one_field (codes "$a") (number 1)) ∷ (only 1 ++ one_field (codes "a") (document_of (one_field (codes "b.c") (number 1)))) ∷ []))
-      (errors_reply 0 (error 0 2 (codes "BadValue") ∷ error 1 2 (codes "BadValue") ∷ error 2 2 (codes "BadValue") ∷ [])) empty_state
+      (errors_reply 0 (error 0 2 (codes "BadValue") ∷ error 1 2 (codes "BadValue") ∷ error 2 2 (codes "BadValue") ∷ [])) empty_store_state
   -- a document of a database that has none, where another has {_id: 5} in a collection of the same name
-  pub elsewhere : Does (holding (only 5 ∷ [])) (on (codes "u") ((codes "insert", string (codes "c")) ∷ (codes "documents", array (elements_of (document_of (only 5) ∷ []))) ∷ []))
-      (write_reply 1) (with_collection (codes "u.c") (only 5 ∷ []) (holding (only 5 ∷ [])))
+  pub elsewhere : AnswersAlways (holding (only 5 ∷ [])) (on (codes "u") ((codes "insert", string (codes "c")) ∷ (codes "documents", array (elements_of (document_of (only 5) ∷ []))) ∷ []))
+      (counted_reply 1) (with_collection (codes "u.c") (only 5 ∷ []) (holding (only 5 ∷ [])))
   -- nor is {_id: 1, a: [{b.c: 1}]}
-  pub dotted : Does empty_state (insert ((only 1 ++ one_field (codes "a") (array (elements_of (document_of (one_field (codes "b.c") (number 1)) ∷ [])))) ∷ []))
-      (errors_reply 0 (error 0 2 (codes "BadValue") ∷ [])) empty_state
+  pub dotted : AnswersAlways empty_store_state (insert ((only 1 ++ one_field (codes "a") (array (elements_of (document_of (one_field (codes "b.c") (number 1)) ∷ [])))) ∷ []))
+      (errors_reply 0 (error 0 2 (codes "BadValue") ∷ [])) empty_store_state
   -- numbers stand before booleans
-  pub classes : Does empty_state (insert (one_field (codes "_id") (boolean false) ∷ only 1 ∷ [])) (write_reply 2) (holding (only 1 ∷ one_field (codes "_id") (boolean false) ∷ []))
+  pub classes : AnswersAlways empty_store_state (insert (one_field (codes "_id") (boolean false) ∷ only 1 ∷ [])) (counted_reply 2) (holding (only 1 ∷ one_field (codes "_id") (boolean false) ∷ []))
 
 -- {_id: 1}, {_id: 2} and {_id: 3}
 abbrev pub three : List (List Field)
@@ -157,106 +157,106 @@ three = only 1 ∷ only 2 ∷ only 3 ∷ []
 
 pub record DeleteExamples : Type 0 where
   -- the first of all documents
-  pub first : Does (holding three) (delete (deletion [] 1 ∷ [])) (write_reply 1) (holding (only 2 ∷ only 3 ∷ []))
+  pub first : AnswersAlways (holding three) (delete (deletion [] 1 ∷ [])) (counted_reply 1) (holding (only 2 ∷ only 3 ∷ []))
   -- those with an _id greater than 1
-  pub greater : Does (holding three) (delete (deletion (one_field (codes "_id") (document_of (one_field (codes "$gt") (number 1)))) 0 ∷ [])) (write_reply 2) (holding (only 1 ∷ []))
+  pub greater : AnswersAlways (holding three) (delete (deletion (one_field (codes "_id") (document_of (one_field (codes "$gt") (number 1)))) 0 ∷ [])) (counted_reply 2) (holding (only 1 ∷ []))
   -- all; the collection is left, without documents
-  pub all : Does (holding three) (delete (deletion [] 0 ∷ [])) (write_reply 3) (holding [])
+  pub all : AnswersAlways (holding three) (delete (deletion [] 0 ∷ [])) (counted_reply 3) (holding [])
   -- out of nothing; no collection is made
-  pub nothing : Does empty_state (delete (deletion [] 0 ∷ [])) (write_reply 0) empty_state
+  pub nothing : AnswersAlways empty_store_state (delete (deletion [] 0 ∷ [])) (counted_reply 0) empty_store_state
   -- without a limit
-  pub no_limit : Does (holding three) (delete (one_field (codes "q") (document no_fields) ∷ [])) (errors_reply 0 (error 0 9 (codes "FailedToParse") ∷ [])) (holding three)
+  pub no_limit : AnswersAlways (holding three) (delete (one_field (codes "q") (document no_fields) ∷ [])) (errors_reply 0 (error 0 9 (codes "FailedToParse") ∷ [])) (holding three)
   -- with another one than 0 and 1
-  pub two : Does (holding three) (delete (deletion [] 2 ∷ [])) (errors_reply 0 (error 0 2 (codes "BadValue") ∷ [])) (holding three)
+  pub two : AnswersAlways (holding three) (delete (deletion [] 2 ∷ [])) (errors_reply 0 (error 0 2 (codes "BadValue") ∷ [])) (holding three)
 
 -- {_id: 1, a: [0, 5]}, {_id: 2, a: 4} and {_id: 3, a: 1}
 abbrev pub bounded : List (List Field)
-bounded = with_a 1 (numbers (0 ∷ 5 ∷ [])) ∷ with_a 2 (number 4) ∷ with_a 3 (number 1) ∷ []
+bounded = with_id_and_a 1 (numbers (0 ∷ 5 ∷ [])) ∷ with_id_and_a 2 (number 4) ∷ with_id_and_a 3 (number 1) ∷ []
 
 -- {_id: 1}, {_id: 2, a: null}, {_id: 3, a: []} and {_id: 4, a: [null]}
 abbrev pub nulls : List (List Field)
-nulls = only 1 ∷ with_a 2 null ∷ with_a 3 (numbers []) ∷ with_a 4 (array (elements_of (null ∷ []))) ∷ []
+nulls = only 1 ∷ with_id_and_a 2 null ∷ with_id_and_a 3 (numbers []) ∷ with_id_and_a 4 (array (elements_of (null ∷ []))) ∷ []
 
 -- {_id: 1, a: [3, 1]}, {_id: 2, a: 2}, {_id: 3} and {_id: 4, a: []}
-abbrev pub keyed : List (List Field)
-keyed = with_a 1 (numbers (3 ∷ 1 ∷ [])) ∷ with_a 2 (number 2) ∷ only 3 ∷ with_a 4 (numbers []) ∷ []
+abbrev pub keyed_documents : List (List Field)
+keyed_documents = with_id_and_a 1 (numbers (3 ∷ 1 ∷ [])) ∷ with_id_and_a 2 (number 2) ∷ only 3 ∷ with_id_and_a 4 (numbers []) ∷ []
 
 pub record FindExamples : Type 0 where
   -- two bounds, each of which another element of an array may meet
-  pub between : Does (holding bounded) (find_by (one_field (codes "a") (document_of ((codes "$gt", number 1) ∷ (codes "$lt", number 3) ∷ []))) [])
-      (find_reply (codes "t.c") (with_a 1 (numbers (0 ∷ 5 ∷ [])) ∷ [])) (holding bounded)
+  pub between : AnswersAlways (holding bounded) (find_by (one_field (codes "a") (document_of ((codes "$gt", number 1) ∷ (codes "$lt", number 3) ∷ []))) [])
+      (find_reply (codes "t.c") (with_id_and_a 1 (numbers (0 ∷ 5 ∷ [])) ∷ [])) (holding bounded)
   -- a field that isn't there counts as null, an empty array doesn't
-  pub null_or_missing : Does (holding nulls) (find_by (one_field (codes "a") null) []) (find_reply (codes "t.c") (only 1 ∷ with_a 2 null ∷ with_a 4 (array (elements_of (null ∷ []))) ∷ [])) (holding nulls)
+  pub null_or_missing : AnswersAlways (holding nulls) (find_by (one_field (codes "a") null) []) (find_reply (codes "t.c") (only 1 ∷ with_id_and_a 2 null ∷ with_id_and_a 4 (array (elements_of (null ∷ []))) ∷ [])) (holding nulls)
   -- an empty array stands before null, which a missing field counts as
-  pub ascending : Does (holding keyed) (find ++ one_field (codes "sort") (document_of (one_field (codes "a") (number 1))))
-      (find_reply (codes "t.c") (with_a 4 (numbers []) ∷ only 3 ∷ with_a 1 (numbers (3 ∷ 1 ∷ [])) ∷ with_a 2 (number 2) ∷ [])) (holding keyed)
-  pub descending : Does (holding keyed) (find ++ one_field (codes "sort") (document_of (one_field (codes "a") (int32 (negsuc 0)))))
-      (find_reply (codes "t.c") (with_a 1 (numbers (3 ∷ 1 ∷ [])) ∷ with_a 2 (number 2) ∷ only 3 ∷ with_a 4 (numbers []) ∷ [])) (holding keyed)
+  pub ascending : AnswersAlways (holding keyed_documents) (find ++ one_field (codes "sort") (document_of (one_field (codes "a") (number 1))))
+      (find_reply (codes "t.c") (with_id_and_a 4 (numbers []) ∷ only 3 ∷ with_id_and_a 1 (numbers (3 ∷ 1 ∷ [])) ∷ with_id_and_a 2 (number 2) ∷ [])) (holding keyed_documents)
+  pub descending : AnswersAlways (holding keyed_documents) (find ++ one_field (codes "sort") (document_of (one_field (codes "a") (int32 (negsuc 0)))))
+      (find_reply (codes "t.c") (with_id_and_a 1 (numbers (3 ∷ 1 ∷ [])) ∷ with_id_and_a 2 (number 2) ∷ only 3 ∷ with_id_and_a 4 (numbers []) ∷ [])) (holding keyed_documents)
   -- one is left out, and one found
-  pub window : Does (holding three) (find ++ (codes "skip", number 1) ∷ (codes "limit", number 1) ∷ []) (find_reply (codes "t.c") (only 2 ∷ [])) (holding three)
+  pub window : AnswersAlways (holding three) (find ++ (codes "skip", number 1) ∷ (codes "limit", number 1) ∷ []) (find_reply (codes "t.c") (only 2 ∷ [])) (holding three)
 
 pub record ReadExamples : Type 0 where
-  pub greeted : (state : State) → Does state (on (codes "t") ((codes "hello", number 1) ∷ [])) hello_reply state
-  pub pinged : (state : State) → Does state (on (codes "t") ping) ((codes "ok", number 1) ∷ []) state
-  pub found : Does (holding (only 5 ∷ only 6 ∷ [])) find (find_reply (codes "t.c") (only 5 ∷ only 6 ∷ [])) (holding (only 5 ∷ only 6 ∷ []))
+  pub greeted : (state : State) → AnswersAlways state (on (codes "t") ((codes "hello", number 1) ∷ [])) hello_reply state
+  pub pinged : (state : State) → AnswersAlways state (on (codes "t") ping_command) ((codes "ok", number 1) ∷ []) state
+  pub found : AnswersAlways (holding (only 5 ∷ only 6 ∷ [])) find (find_reply (codes "t.c") (only 5 ∷ only 6 ∷ [])) (holding (only 5 ∷ only 6 ∷ []))
   -- no collection is made; a comment is ignored, whatever it is
-  pub not_found : Does empty_state (find ++ (codes "filter", document no_fields) ∷ (codes "comment", number 1) ∷ []) (find_reply (codes "t.c") []) empty_state
+  pub not_found : AnswersAlways empty_store_state (find ++ (codes "filter", document no_fields) ∷ (codes "comment", number 1) ∷ []) (find_reply (codes "t.c") []) empty_store_state
 
 pub record RefusalExamples : Type 0 where
-  pub no_database : IsRefused ping 9 (codes "FailedToParse")
-  pub dotted_database : IsRefused (on (codes "a.b") ping) 2 (codes "BadValue")
-  pub unknown_command : IsRefused (on (codes "t") ((codes "count", string (codes "c")) ∷ [])) 59 (codes "CommandNotFound")
-  pub no_documents : IsRefused (on (codes "t") ((codes "insert", string (codes "c")) ∷ [])) 9 (codes "FailedToParse")
+  pub no_database : IsRefusedAlways ping_command 9 (codes "FailedToParse")
+  pub dotted_database : IsRefusedAlways (on (codes "a.b") ping_command) 2 (codes "BadValue")
+  pub unknown_command : IsRefusedAlways (on (codes "t") ((codes "count", string (codes "c")) ∷ [])) 59 (codes "CommandNotFound")
+  pub no_documents : IsRefusedAlways (on (codes "t") ((codes "insert", string (codes "c")) ∷ [])) 9 (codes "FailedToParse")
   -- 1 is to be inserted, which is no document
-  pub no_document : IsRefused (insert_values (codes "c") (number 1 ∷ [])) 14 (codes "TypeMismatch")
-  pub no_collection : IsRefused (insert_values [] []) 2 (codes "BadValue")
-  pub typed_database : IsRefused (ping ++ one_field (codes "$db") (number 1)) 14 (codes "TypeMismatch")
+  pub no_document : IsRefusedAlways (insert_values (codes "c") (number 1 ∷ [])) 14 (codes "TypeMismatch")
+  pub no_collection : IsRefusedAlways (insert_values [] []) 2 (codes "BadValue")
+  pub typed_database : IsRefusedAlways (ping_command ++ one_field (codes "$db") (number 1)) 14 (codes "TypeMismatch")
   -- the database is looked at before the other fields
-  pub database_first : IsRefused (on (codes "a.b") (one_field (codes "find") (number 1))) 2 (codes "BadValue")
-  pub typed_ordered : IsRefused (insert (only 1 ∷ []) ++ one_field (codes "ordered") (number 1)) 14 (codes "TypeMismatch")
-  pub unknown_field : IsRefused (insert (only 1 ∷ []) ++ one_field (codes "upsert") (boolean false)) 9 (codes "FailedToParse")
-  pub projected : IsRefused (find ++ one_field (codes "projection") (document_of (only 1))) 9 (codes "FailedToParse")
+  pub database_first : IsRefusedAlways (on (codes "a.b") (one_field (codes "find") (number 1))) 2 (codes "BadValue")
+  pub typed_ordered : IsRefusedAlways (insert (only 1 ∷ []) ++ one_field (codes "ordered") (number 1)) 14 (codes "TypeMismatch")
+  pub unknown_field : IsRefusedAlways (insert (only 1 ∷ []) ++ one_field (codes "upsert") (boolean false)) 9 (codes "FailedToParse")
+  pub projected : IsRefusedAlways (find ++ one_field (codes "projection") (document_of (only 1))) 9 (codes "FailedToParse")
   pub unreadable : (state : State) (session : ℕ) → step state session (Invalid TooDeep)
       ≡ record { reply = (codes "ok", int32 (pos 0)) ∷ (codes "errmsg", string (codes "InvalidBSON: TooDeep")) ∷ (codes "code", int32 (pos 22)) ∷ (codes "codeName", string (codes "InvalidBSON")) ∷ []; state = state }
   -- a list beside the body
   pub listed : (state : State) (session : ℕ) (list : List ℕ × List (List Field)) → step state session (Sections find (list ∷ []))
       ≡ record { reply = refusal 9 (codes "FailedToParse"); state = state }
   -- a zero byte in a collection's name
-  pub zero_in_name : IsRefused (find_in (99 ∷ 0 ∷ [])) 2 (codes "BadValue")
+  pub zero_in_name : IsRefusedAlways (find_command (99 ∷ 0 ∷ [])) 2 (codes "BadValue")
   -- a namespace of 120 bytes, and one of 121
-  pub longest_namespace : Does empty_state (find_in (letters 118)) (find_reply (codes "t." ++ letters 118) []) empty_state
-  pub namespace_too_long : IsRefused (find_in (letters 119)) 2 (codes "BadValue")
+  pub longest_namespace : AnswersAlways empty_store_state (find_command (letters 118)) (find_reply (codes "t." ++ letters 118) []) empty_store_state
+  pub namespace_too_long : IsRefusedAlways (find_command (letters 119)) 2 (codes "BadValue")
 
 -- {_id: 1} and {_id: 2}
 abbrev pub two : List (List Field)
 two = only 1 ∷ only 2 ∷ []
 
 -- a view over what stands under another name, through stages
-abbrev pub over : List ℕ → List ℕ → List Stage → ViewForm
-over name source stages = record { name = codes "t." ++ name; source = codes "t." ++ source; stages = stages }
+abbrev pub view_over : List ℕ → List ℕ → List Stage → ViewForm
+view_over name source stages = record { name = codes "t." ++ name; source = codes "t." ++ source; stages = stages }
 
 -- with these views, each of which has counted nothing
-abbrev pub with_views : List ViewForm → State → State
-with_views views state = record state { catalog = record state.catalog { views = views }; marks = map (λ v. live 0) views }
+abbrev pub with_fresh_views : List ViewForm → State → State
+with_fresh_views views state = record state { catalog = record state.catalog { views = views }; marks = map (λ v. live 0) views }
 
 -- with a view v over c, which has no stages
 abbrev pub viewing : State → State
-viewing state = with_views (over (codes "v") (codes "c") [] ∷ []) state
+viewing state = with_fresh_views (view_over (codes "v") (codes "c") [] ∷ []) state
 
 -- with a view v of the documents of c from the greatest `_id` on, and a view w of its first row
 abbrev pub nesting : State → State
-nesting state = with_views (over (codes "v") (codes "c") (Sort ((codes "_id" ∷ [], Descending) ∷ []) ∷ []) ∷ over (codes "w") (codes "v") (Limit 1 ∷ []) ∷ []) state
+nesting state = with_fresh_views (view_over (codes "v") (codes "c") (Sort ((codes "_id" ∷ [], Descending) ∷ []) ∷ []) ∷ view_over (codes "w") (codes "v") (Limit 1 ∷ []) ∷ []) state
 
 -- with a view v of the first two documents of c, and a view w of its first row
 abbrev pub limiting : State → State
-limiting state = with_views (over (codes "v") (codes "c") (Limit 2 ∷ []) ∷ over (codes "w") (codes "v") (Limit 1 ∷ []) ∷ []) state
+limiting state = with_fresh_views (view_over (codes "v") (codes "c") (Limit 2 ∷ []) ∷ view_over (codes "w") (codes "v") (Limit 1 ∷ []) ∷ []) state
 
 -- with eight views, each over the one before, the first over c
 abbrev pub chained : State → State
 chained state =
-    with_views
-    (over (codes "1") (codes "c") [] ∷ over (codes "2") (codes "1") [] ∷ over (codes "3") (codes "2") [] ∷ over (codes "4") (codes "3") [] ∷ over (codes "5") (codes "4") [] ∷ over (codes "6") (codes "5") []
-    ∷ over (codes "7") (codes "6") [] ∷ over (codes "8") (codes "7") [] ∷ []) state
+    with_fresh_views
+    (view_over (codes "1") (codes "c") [] ∷ view_over (codes "2") (codes "1") [] ∷ view_over (codes "3") (codes "2") [] ∷ view_over (codes "4") (codes "3") [] ∷ view_over (codes "5") (codes "4") [] ∷ view_over (codes "6") (codes "5") []
+    ∷ view_over (codes "7") (codes "6") [] ∷ view_over (codes "8") (codes "7") [] ∷ []) state
 
 abbrev pub create : List ℕ → List Field
 create name = on (codes "t") ((codes "create", string name) ∷ [])
@@ -275,15 +275,15 @@ aggregate name = on (codes "t") ((codes "aggregate", string name) ∷ (codes "pi
 -- what loading documents leaves, or why it is refused
 pub record LoadExamples : Type 0 where
   -- {_id: 5} into nothing
-  pub first : loaded (codes "t.c") (only 5) empty_state ≡ Ok (holding (only 5 ∷ []))
+  pub first : loaded (codes "t.c") (only 5) empty_store_state ≡ Ok (holding (only 5 ∷ []))
   -- then {_id: 5} as an int64, whose _id is equal
   pub equal : loaded (codes "t.c") ((codes "_id", int64 (pos 5)) ∷ []) (holding (only 5 ∷ [])) ≡ Err DuplicateKey
   -- {a: 1, _id: 2} is stored with its _id in front
-  pub id_behind : loaded (codes "t.c") ((codes "a", number 1) ∷ (codes "_id", number 2) ∷ []) empty_state ≡ Ok (holding (with_a 2 (number 1) ∷ []))
+  pub id_behind : loaded (codes "t.c") ((codes "a", number 1) ∷ (codes "_id", number 2) ∷ []) empty_store_state ≡ Ok (holding (with_id_and_a 2 (number 1) ∷ []))
   -- {a: 1} has no _id
-  pub no_id : loaded (codes "t.c") ((codes "a", number 1) ∷ []) empty_state ≡ Err BadValue
+  pub no_id : loaded (codes "t.c") ((codes "a", number 1) ∷ []) empty_store_state ≡ Err BadValue
   -- a view takes no documents; it is looked at before the document
-  pub written : loaded (codes "t.v") ((codes "a", number 1) ∷ []) (viewing empty_state) ≡ Err OnView
+  pub written : loaded (codes "t.v") ((codes "a", number 1) ∷ []) (viewing empty_store_state) ≡ Err OnView
   -- the first dot ends the name of the database
   pub dotted_collection : namespace_in (codes "t.c.d") ≡ Ok (codes "t.c.d")
   pub no_dot : namespace_in (codes "t") ≡ Err BadValue
@@ -298,37 +298,37 @@ pub record LoadExamples : Type 0 where
 abbrev pub done : List Field
 done = (codes "ok", number 1) ∷ []
 
-abbrev pub drop_reply : List ℕ → List Field
-drop_reply namespace = (codes "ns", string namespace) ∷ done
+abbrev pub dropped_reply : List ℕ → List Field
+dropped_reply namespace = (codes "ns", string namespace) ∷ done
 
 -- an answer leaves the marks: how views stand behind it is told beside it
 pub record ViewExamples : Type 0 where
-  pub created : Does empty_state (create_view (codes "v") (codes "c")) done (standing [] (viewing empty_state))
+  pub created : AnswersAlways empty_store_state (create_view (codes "v") (codes "c")) done (standing [] (viewing empty_store_state))
   -- a view reads c, which isn't there; so no view may stand there, but a collection may
-  pub read : Does (viewing empty_state) (create_view (codes "c") (codes "d")) (refusal 904 (codes "ReadByView")) (viewing empty_state)
-  pub collection : Does (viewing empty_state) (create (codes "c")) done (viewing (holding []))
+  pub read : AnswersAlways (viewing empty_store_state) (create_view (codes "c") (codes "d")) (refusal 904 (codes "ReadByView")) (viewing empty_store_state)
+  pub collection : AnswersAlways (viewing empty_store_state) (create (codes "c")) done (viewing (holding []))
   -- a view over itself, one over a view, and one over the eighth of a chain
-  pub itself : Does (viewing empty_state) (create_view (codes "w") (codes "w")) (refusal 904 (codes "ReadByView")) (viewing empty_state)
-  pub over_view : Does (viewing empty_state) (create_view (codes "w") (codes "v")) done
-      (standing (live 0 ∷ []) (with_views (over (codes "v") (codes "c") [] ∷ over (codes "w") (codes "v") [] ∷ []) empty_state))
-  pub ninth : Does (chained empty_state) (create_view (codes "9") (codes "8")) (refusal 903 (codes "LimitReached")) (chained empty_state)
+  pub itself : AnswersAlways (viewing empty_store_state) (create_view (codes "w") (codes "w")) (refusal 904 (codes "ReadByView")) (viewing empty_store_state)
+  pub over_view : AnswersAlways (viewing empty_store_state) (create_view (codes "w") (codes "v")) done
+      (standing (live 0 ∷ []) (with_fresh_views (view_over (codes "v") (codes "c") [] ∷ view_over (codes "w") (codes "v") [] ∷ []) empty_store_state))
+  pub ninth : AnswersAlways (chained empty_store_state) (create_view (codes "9") (codes "8")) (refusal 903 (codes "LimitReached")) (chained empty_store_state)
   -- a view where a view stands
-  pub again : Does (viewing empty_state) (create_view (codes "v") (codes "c")) (refusal 48 (codes "NamespaceExists")) (viewing empty_state)
+  pub again : AnswersAlways (viewing empty_store_state) (create_view (codes "v") (codes "c")) (refusal 48 (codes "NamespaceExists")) (viewing empty_store_state)
   -- a collection where a collection stands
-  pub collection_again : Does (holding two) (create (codes "c")) (refusal 48 (codes "NamespaceExists")) (holding two)
+  pub collection_again : AnswersAlways (holding two) (create (codes "c")) (refusal 48 (codes "NamespaceExists")) (holding two)
   -- a view takes no documents
-  pub written : Does (viewing empty_state) (insert_values (codes "v") (document_of (only 1) ∷ [])) (refusal 902 (codes "OnView")) (viewing empty_state)
+  pub written : AnswersAlways (viewing empty_store_state) (insert_values (codes "v") (document_of (only 1) ∷ [])) (refusal 902 (codes "OnView")) (viewing empty_store_state)
   -- it has those of c, as long as c has them
-  pub empty : Does (viewing empty_state) (find_in (codes "v")) (find_reply (codes "t.v") []) (viewing empty_state)
-  pub found : Does (viewing (holding two)) (find_in (codes "v")) (find_reply (codes "t.v") two) (viewing (holding two))
-  pub aggregated : Does (viewing (holding two)) (aggregate (codes "v")) (find_reply (codes "t.v") two) (viewing (holding two))
+  pub empty : AnswersAlways (viewing empty_store_state) (find_command (codes "v")) (find_reply (codes "t.v") []) (viewing empty_store_state)
+  pub found : AnswersAlways (viewing (holding two)) (find_command (codes "v")) (find_reply (codes "t.v") two) (viewing (holding two))
+  pub aggregated : AnswersAlways (viewing (holding two)) (aggregate (codes "v")) (find_reply (codes "t.v") two) (viewing (holding two))
   -- a view over it has what its stages make of those rows
-  pub nested : Does (nesting (holding two)) (find_in (codes "w")) (find_reply (codes "t.w") (only 2 ∷ [])) (nesting (holding two))
+  pub nested : AnswersAlways (nesting (holding two)) (find_command (codes "w")) (find_reply (codes "t.w") (only 2 ∷ [])) (nesting (holding two))
   -- it can't be dropped while a view reads it
-  pub read_dropped : Does (nesting empty_state) (drop (codes "v")) (refusal 904 (codes "ReadByView")) (nesting empty_state)
-  pub source_dropped : Does (viewing (holding two)) (drop (codes "c")) (drop_reply (codes "t.c")) (viewing empty_state)
-  pub dropped : Does (viewing empty_state) (drop (codes "v")) (drop_reply (codes "t.v")) (standing (live 0 ∷ []) empty_state)
-  pub nothing_there : Does empty_state (drop (codes "v")) (refusal 26 (codes "NamespaceNotFound")) empty_state
+  pub read_dropped : AnswersAlways (nesting empty_store_state) (drop (codes "v")) (refusal 904 (codes "ReadByView")) (nesting empty_store_state)
+  pub source_dropped : AnswersAlways (viewing (holding two)) (drop (codes "c")) (dropped_reply (codes "t.c")) (viewing empty_store_state)
+  pub dropped : AnswersAlways (viewing empty_store_state) (drop (codes "v")) (dropped_reply (codes "t.v")) (standing (live 0 ∷ []) empty_store_state)
+  pub nothing_there : AnswersAlways empty_store_state (drop (codes "v")) (refusal 26 (codes "NamespaceNotFound")) empty_store_state
 
 -- the same views, but that one is stale
 abbrev pub struck : State → State
@@ -346,36 +346,36 @@ Marking old body marks = marks_behind_all old (asked_by (of_body body)) ≡ mark
 
 -- how views stand, and what is told of it
 pub record MarkExamples : Type 0 where
-  pub told_live : Does (viewing (holding two)) (view_stats (codes "v")) (stats_reply (codes "live") 2 0) (viewing (holding two))
+  pub told_live : AnswersAlways (viewing (holding two)) (view_stats (codes "v")) (stats_reply (codes "live") 2 0) (viewing (holding two))
   -- a stale view has no rows
-  pub told_stale : Does (struck (holding two)) (view_stats (codes "v")) (stats_reply (codes "stale") 0 0) (struck (holding two))
+  pub told_stale : AnswersAlways (struck (holding two)) (view_stats (codes "v")) (stats_reply (codes "stale") 0 0) (struck (holding two))
   -- a collection is no view
-  pub no_view : Does (viewing (holding two)) (view_stats (codes "c")) (refusal 26 (codes "NamespaceNotFound")) (viewing (holding two))
-  pub created : Marking empty_state (create_view (codes "v") (codes "c")) (live 0 ∷ [])
-  pub dropped : Marking (viewing empty_state) (drop (codes "v")) []
+  pub no_view : AnswersAlways (viewing (holding two)) (view_stats (codes "c")) (refusal 26 (codes "NamespaceNotFound")) (viewing (holding two))
+  pub created : Marking empty_store_state (create_view (codes "v") (codes "c")) (live 0 ∷ [])
+  pub dropped : Marking (viewing empty_store_state) (drop (codes "v")) []
   -- a stale view is made anew where it is read, be the find answered or not; and not by a read of its source
-  pub read : Marking (struck (holding two)) (find_in (codes "v")) (live 0 ∷ [])
+  pub read : Marking (struck (holding two)) (find_command (codes "v")) (live 0 ∷ [])
   pub aggregated : Marking (struck (holding two)) (aggregate (codes "v")) (live 0 ∷ [])
-  pub source_read : Marking (struck (holding two)) (find_in (codes "c")) (stale ∷ [])
+  pub source_read : Marking (struck (holding two)) (find_command (codes "c")) (stale ∷ [])
   -- so are stale views that it reads, and not those that read it
-  pub nested : Marking (standing (stale ∷ stale ∷ []) (nesting (holding two))) (find_in (codes "w")) (live 0 ∷ live 0 ∷ [])
-  pub below : Marking (standing (stale ∷ stale ∷ []) (nesting (holding two))) (find_in (codes "v")) (live 0 ∷ stale ∷ [])
+  pub nested : Marking (standing (stale ∷ stale ∷ []) (nesting (holding two))) (find_command (codes "w")) (live 0 ∷ live 0 ∷ [])
+  pub below : Marking (standing (stale ∷ stale ∷ []) (nesting (holding two))) (find_command (codes "v")) (live 0 ∷ stale ∷ [])
   -- a new view reads what it stands over
-  pub created_over : Marking (struck empty_state) (create_view (codes "w") (codes "v")) (live 0 ∷ live 0 ∷ [])
+  pub created_over : Marking (struck empty_store_state) (create_view (codes "w") (codes "v")) (live 0 ∷ live 0 ∷ [])
   -- a change passes from view to view: one comes to the stage of v, which hands one on, and this to that of w, which hands one on
-  pub passed : Marking (limiting empty_state) (insert (only 5 ∷ [])) (live 2 ∷ live 2 ∷ [])
+  pub passed : Marking (limiting empty_store_state) (insert (only 5 ∷ [])) (live 2 ∷ live 2 ∷ [])
   -- a stale view counts no work
-  pub written : Marking (struck empty_state) (insert (only 5 ∷ [])) (stale ∷ [])
+  pub written : Marking (struck empty_store_state) (insert (only 5 ∷ [])) (stale ∷ [])
 
 -- what is told of want of memory
 pub record WantExamples : Type 0 where
   -- any command may be refused for it; then nothing is changed
   pub refused : (state : State) (session : ℕ) (command : Command) → MemoryStep state session command (Wanting (refusal 900 (codes "WantOfMemory"))) state
   -- an insert that finds no memory at its second document
-  pub cut : (session : ℕ) → MemoryStep empty_state session (of_body (insert (only 5 ∷ only 6 ∷ [])))
+  pub cut : (session : ℕ) → MemoryStep empty_store_state session (of_body (insert (only 5 ∷ only 6 ∷ [])))
       (Wanting (errors_reply 1 (document_of ((codes "index", number 1) ∷ (codes "code", number 900) ∷ (codes "errmsg", string (codes "WantOfMemory")) ∷ (codes "done", number 0) ∷ []) ∷ [])))
       (holding (only 5 ∷ []))
   -- and whose reply finds none
-  pub untold : (session : ℕ) → MemoryStep empty_state session (of_body (insert (only 5 ∷ only 6 ∷ []))) NoReply (holding (only 5 ∷ []))
+  pub untold : (session : ℕ) → MemoryStep empty_store_state session (of_body (insert (only 5 ∷ only 6 ∷ []))) NoReply (holding (only 5 ∷ []))
   -- the reply to a ping never tells of it
-  pub pinged : (state new : State) (session : ℕ) → MemoryStep state session (of_body (on (codes "t") ping)) (Reply (refusal 900 (codes "WantOfMemory"))) new → ⊥
+  pub pinged : (state new : State) (session : ℕ) → MemoryStep state session (of_body (on (codes "t") ping_command)) (Reply (refusal 900 (codes "WantOfMemory"))) new → ⊥

@@ -3,7 +3,7 @@
 use Rattle.std.specs.Prelude.{ℕ, not, Bool, false, List, [], ◌∷◌, map, Option, Some, None, Result, Ok, Err, if◌then◌else◌}
 use Rattle.std.specs.List.{list_all}
 use Rattle.dv_bson.specs.Tree.{Field}
-use Rattle.dv_cursor.specs.Batch.{batch, behind}
+use Rattle.dv_cursor.specs.Batch.{batch, rows_behind}
 use Rattle.dv_cursor.specs.Cursors.{Cursors, added, free_id}
 use Rattle.dv_fields.specs.declared.refusal.Refusal.{Refusal}
 use Rattle.dv_fields.specs.declared.refusal.Refusal.TheVariants.{LimitReached, TooLarge}
@@ -20,8 +20,8 @@ abbrev pub are_too_large : List (List Field) → Bool
 are_too_large rows = not (list_all is_within_limits rows)
 
 -- the rows that a cursor keeps behind a first batch: none, where that is the only one
-abbrev pub left_behind : ℕ → Bool → List (List Field) → List (List Field)
-left_behind count single rows = if single then [] else behind count rows
+abbrev pub kept_by_cursor : ℕ → Bool → List (List Field) → List (List Field)
+kept_by_cursor count single rows = if single then [] else rows_behind count rows
 
 abbrev pub kept_under : Option ℕ → ℕ → List ℕ → List (List Field) → Cursors → Result (ℕ × Cursors) Refusal
 kept_under None session namespace rows cursors = Err LimitReached
@@ -38,14 +38,14 @@ replied namespace count rows told =
 
 -- the reply with the first batch of these rows of a namespace, and the cursors with one that keeps the others
 abbrev pub first_batch : ℕ → List ℕ → ℕ → Bool → List (List Field) → Cursors → Result (List Field × Cursors) Refusal
-first_batch session namespace count single rows cursors = kept session namespace (left_behind count single rows) cursors >>= replied namespace count rows
+first_batch session namespace count single rows cursors = kept session namespace (kept_by_cursor count single rows) cursors >>= replied namespace count rows
 
 -- what a find replies: the rows under its namespace that it is for
-abbrev pub found : ℕ → Find → State → Cursors → Result (List Field × Cursors) Refusal
-found session asked state cursors =
+abbrev pub reply_to_find : ℕ → Find → State → Cursors → Result (List Field × Cursors) Refusal
+reply_to_find session asked state cursors =
     first_batch session asked.namespace asked.batch_size asked.single_batch (scan asked.filter asked.sort asked.skip asked.limit (rows_of asked.namespace state)) cursors
 
 -- what an aggregate replies: the rows of its pipeline
-abbrev pub gathered : ℕ → Aggregate → State → Cursors → Result (List Field × Cursors) Refusal
-gathered session asked state cursors =
+abbrev pub reply_to_aggregate : ℕ → Aggregate → State → Cursors → Result (List Field × Cursors) Refusal
+reply_to_aggregate session asked state cursors =
     first_batch session asked.namespace asked.batch_size false (aggregated asked.stages asked.namespace state) cursors

@@ -30,10 +30,10 @@ unindexed asked state =
     Ok (drop_indexes_reply (index_count asked.namespace state), left)
 
 -- the stage that finds rows in a way, and the index that it takes
-abbrev pub stage_of : Way → List ℕ
-stage_of over_view = codes "VIEW"
-stage_of (by_index name) = codes "IXSCAN"
-stage_of over_all = codes "COLLSCAN"
+abbrev pub way_stage : Way → List ℕ
+way_stage over_view = codes "VIEW"
+way_stage (by_index name) = codes "IXSCAN"
+way_stage over_all = codes "COLLSCAN"
 
 abbrev pub index_name : Way → Option (List ℕ)
 index_name over_view = None
@@ -41,7 +41,7 @@ index_name (by_index name) = Some name
 index_name over_all = None
 
 abbrev pub explained_reply : Explained → List Field
-explained_reply told = explain_reply (stage_of told.way) (index_name told.way) told.documents
+explained_reply told = explain_reply (way_stage told.way) (index_name told.way) told.documents
 
 -- the reply to an explain: how its find is answered
 abbrev pub find_explained : Explain → State → List Field

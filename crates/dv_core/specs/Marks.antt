@@ -10,7 +10,7 @@ use Rattle.dv_catalog.specs.Views.{created, dropped}
 use Rattle.dv_fields.specs.declared.refusal.Refusal.{Refusal}
 use Rattle.dv_views.specs.Forms.{ViewForm, names_read}
 use Rattle.dv_core.specs.State.{State}
-use Rattle.dv_core.specs.Statements.{AreCut, Write, Written, is_due, next_changes, nothing_written, with_all, with_next}
+use Rattle.dv_core.specs.Statements.{AreCut, WriteCounts, Written, is_due, next_changes, nothing_written, with_all, with_next}
 use Rattle.dv_core.specs.Writes.{write_by}
 
 -- ---- writes, whose statements come one after the other
@@ -64,7 +64,7 @@ marks_of_drop namespace state marks =
     then marks_counted namespace (all_gone (documents_of namespace state.namespaces)) (lists_of state.namespaces) state.views marks
     else marks_without namespace state.views marks
 
-abbrev pub marks_of_write : Write → State → Marks
+abbrev pub marks_of_write : WriteCounts → State → Marks
 marks_of_write write old =
     if is_view write.namespace old.catalog.views then old.marks
     else marks_written write.namespace write.ordered old.catalog.views (nothing_written old.catalog.namespaces) write.statements old.marks
@@ -76,7 +76,7 @@ marks_behind old (create asked) = marks_where_made (created asked.namespace aske
 marks_behind old (drop asked) = marks_where_made (dropped asked.namespace old.catalog) (marks_of_drop asked.namespace old.catalog old.marks) old.marks
 marks_behind old asked = marks_where_read (read_by asked) old
 
-abbrev pub AreMarkedByWrite : Bool → Write → State → Marks → Type 0
+abbrev pub AreMarkedByWrite : Bool → WriteCounts → State → Marks → Type 0
 AreMarkedByWrite true write old marks = marks ≡ old.marks
 AreMarkedByWrite false write old marks = AreMarkedByEach write.namespace write.ordered old.catalog.views (nothing_written old.catalog.namespaces) write.statements old.marks marks
 

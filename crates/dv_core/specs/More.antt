@@ -1,7 +1,7 @@
 -- What is asked of cursors that are there (MongoDB manual, "getMore", "killCursors").
 use Rattle.std.specs.Prelude.{ℕ, ℤ, pos, negsuc, ◌==◌, Bool, List, [], ◌∷◌, length, map, is_some, Option, Some, None, Result, Ok, Err, if◌then◌else◌}
 use Rattle.dv_bson.specs.Tree.{Tree, int64, Field}
-use Rattle.dv_cursor.specs.Batch.{batch, behind}
+use Rattle.dv_cursor.specs.Batch.{batch, rows_behind}
 use Rattle.dv_cursor.specs.Cursors.{Cursors, rows_to_come, advanced, closed}
 use Rattle.dv_fields.specs.declared.refusal.Refusal.{Refusal}
 use Rattle.dv_fields.specs.declared.refusal.Refusal.TheVariants.{CursorNotFound}
@@ -13,15 +13,15 @@ abbrev pub rows_asked : ℕ → List ℕ → ℤ → Cursors → Option (List (L
 rows_asked session namespace (pos id) cursors = rows_to_come session namespace id cursors
 rows_asked session namespace (negsuc n) cursors = None
 
-abbrev pub number_of : ℤ → ℕ
-number_of (pos id) = id
-number_of (negsuc n) = 0
+abbrev pub cursor_number : ℤ → ℕ
+cursor_number (pos id) = id
+cursor_number (negsuc n) = 0
 
 -- ---- more rows
 
 -- how many rows may come: for 0 as many as the limit of bytes lets
-abbrev pub wanted : ℕ → List (List Field) → ℕ
-wanted count rows = if count == 0 then length rows else count
+abbrev pub rows_wanted : ℕ → List (List Field) → ℕ
+rows_wanted count rows = if count == 0 then length rows else count
 
 -- the id that is told with a batch: 0 where no row is left behind it
 abbrev pub id_behind : ℕ → List (List Field) → ℕ
@@ -31,26 +31,26 @@ id_behind id (row ∷ rows) = id
 abbrev pub next_of : ℕ → List ℕ → ℕ → ℕ → Option (List (List Field)) → Cursors → Result (List Field × Cursors) Refusal
 next_of session namespace id count None cursors = Err CursorNotFound
 next_of session namespace id count (Some rows) cursors =
-    Ok (next_batch_reply namespace (id_behind id (behind (wanted count rows) rows)) (map document_of (batch (wanted count rows) rows)), advanced session id (length (batch (wanted count rows) rows)) cursors)
+    Ok (next_batch_reply namespace (id_behind id (rows_behind (rows_wanted count rows) rows)) (map document_of (batch (rows_wanted count rows) rows)), advanced session id (length (batch (rows_wanted count rows) rows)) cursors)
 
 -- the reply with the next batch of a cursor, and the cursors without its rows
 abbrev pub next_batch : ℕ → GetMore → Cursors → Result (List Field × Cursors) Refusal
-next_batch session asked cursors = next_of session asked.namespace (number_of asked.id) asked.batch_size (rows_asked session asked.namespace asked.id cursors) cursors
+next_batch session asked cursors = next_of session asked.namespace (cursor_number asked.id) asked.batch_size (rows_asked session asked.namespace asked.id cursors) cursors
 
 -- ---- no more rows
 
 -- the cursors without the one of an id, where there is one
-abbrev pub without : ℕ → List ℕ → ℤ → Cursors → Cursors
-without session namespace id cursors = if is_some (rows_asked session namespace id cursors) then closed session (number_of id) cursors else cursors
+abbrev pub without_cursor : ℕ → List ℕ → ℤ → Cursors → Cursors
+without_cursor session namespace id cursors = if is_some (rows_asked session namespace id cursors) then closed session (cursor_number id) cursors else cursors
 
 -- whether there is a cursor of each of the ids, one after the other
 abbrev pub went_each : ℕ → List ℕ → List ℤ → Cursors → List Bool
 went_each session namespace [] cursors = []
-went_each session namespace (id ∷ ids) cursors = is_some (rows_asked session namespace id cursors) ∷ went_each session namespace ids (without session namespace id cursors)
+went_each session namespace (id ∷ ids) cursors = is_some (rows_asked session namespace id cursors) ∷ went_each session namespace ids (without_cursor session namespace id cursors)
 
-abbrev pub without_each : ℕ → List ℕ → List ℤ → Cursors → Cursors
-without_each session namespace [] cursors = cursors
-without_each session namespace (id ∷ ids) cursors = without_each session namespace ids (without session namespace id cursors)
+abbrev pub without_cursors : ℕ → List ℕ → List ℤ → Cursors → Cursors
+without_cursors session namespace [] cursors = cursors
+without_cursors session namespace (id ∷ ids) cursors = without_cursors session namespace ids (without_cursor session namespace id cursors)
 
 -- the ids of cursors that went, in order; and those of which there was none
 abbrev pub gone_ids : List ℤ → List Bool → List Tree
@@ -65,4 +65,4 @@ missing_ids ids others = []
 abbrev pub killed : ℕ → KillCursors → Cursors → List Field × Cursors
 killed session asked cursors =
     let went = went_each session asked.namespace asked.ids cursors in
-    (kill_cursors_reply (gone_ids asked.ids went) (missing_ids asked.ids went), without_each session asked.namespace asked.ids cursors)
+    (kill_cursors_reply (gone_ids asked.ids went) (missing_ids asked.ids went), without_cursors session asked.namespace asked.ids cursors)

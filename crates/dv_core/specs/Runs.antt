@@ -7,8 +7,8 @@ use Rattle.dv_command.specs.declared.command.Command.{Command}
 use Rattle.dv_fields.specs.declared.refusal.Refusal.{Refusal}
 use Rattle.dv_catalog.specs.Marks.{Marks}
 use Rattle.dv_catalog.specs.State as stored
-use Rattle.dv_cursor.specs.Batch.{batch, behind}
-use Rattle.dv_core.specs.More.{rows_asked, wanted}
+use Rattle.dv_cursor.specs.Batch.{batch, rows_behind}
+use Rattle.dv_core.specs.More.{rows_asked, rows_wanted}
 use Rattle.dv_core.specs.State.{State, standing}
 use Rattle.dv_core.specs.Step.{Answer, answered, step, end_session}
 
@@ -20,26 +20,26 @@ pub data Move : Type 0 where
   wants : stored.State → Move
   stands : Marks → Move
 
-abbrev pub state_behind : Move → State → State
-state_behind (carries session command) state = (step state session command).state
-state_behind (ends session) state = end_session session state
-state_behind (wants catalog) state = record state { catalog = catalog }
-state_behind (stands marks) state = standing marks state
+abbrev pub state_after_move : Move → State → State
+state_after_move (carries session command) state = (step state session command).state
+state_after_move (ends session) state = end_session session state
+state_after_move (wants catalog) state = record state { catalog = catalog }
+state_after_move (stands marks) state = standing marks state
 
 -- ---- one move
 
-abbrev pub is_number : ℕ → ℤ → Bool
-is_number id (pos n) = n == id
-is_number id (negsuc n) = false
+abbrev pub is_cursor_number : ℕ → ℤ → Bool
+is_cursor_number id (pos n) = n == id
+is_cursor_number id (negsuc n) = false
 
 -- whether a getMore of a session asks for the cursor of this session under this id
 abbrev pub asks_for : ℕ → ℕ → ℕ → GetMore → Bool
-asks_for session id other asked = (other == session) && is_number id asked.id
+asks_for session id other asked = (other == session) && is_cursor_number id asked.id
 
 -- the batch of rows that are still to come, where there are any
 abbrev pub batch_told : ℕ → Option (List (List Field)) → List (List Field)
 batch_told count None = []
-batch_told count (Some rows) = batch (wanted count rows) rows
+batch_told count (Some rows) = batch (rows_wanted count rows) rows
 
 abbrev pub is_nil : List (List Field) → Bool
 is_nil [] = true
@@ -48,7 +48,7 @@ is_nil (row ∷ rows) = false
 -- whether it is the last one, which is told with the id 0
 abbrev pub is_last_batch : ℕ → Option (List (List Field)) → Bool
 is_last_batch count None = false
-is_last_batch count (Some rows) = is_nil (behind (wanted count rows) rows)
+is_last_batch count (Some rows) = is_nil (rows_behind (rows_wanted count rows) rows)
 
 abbrev pub asked_rows : ℕ → ℕ → ℕ → Result Asked Refusal → State → List (List Field)
 asked_rows session id other (Ok (get_more asked)) state =
@@ -78,15 +78,15 @@ tells_last session id (stands marks) state = false
 
 abbrev pub state_behind_all : List Move → State → State
 state_behind_all [] state = state
-state_behind_all (move ∷ moves) state = state_behind_all moves (state_behind move state)
+state_behind_all (move ∷ moves) state = state_behind_all moves (state_after_move move state)
 
 abbrev pub all_told : ℕ → ℕ → List Move → State → List (List Field)
 all_told session id [] state = []
-all_told session id (move ∷ moves) state = rows_told session id move state ++ all_told session id moves (state_behind move state)
+all_told session id (move ∷ moves) state = rows_told session id move state ++ all_told session id moves (state_after_move move state)
 
 abbrev pub is_told_out : ℕ → ℕ → List Move → State → Bool
 is_told_out session id [] state = false
-is_told_out session id (move ∷ moves) state = tells_last session id move state || is_told_out session id moves (state_behind move state)
+is_told_out session id (move ∷ moves) state = tells_last session id move state || is_told_out session id moves (state_after_move move state)
 
 -- the first batch of these rows and those that were told behind it are a front of them, and all of them once it was told that none is left
 pub record BatchesAreFront (count : ℕ) (rows told : List (List Field)) (out : Bool) : Type 0 where

@@ -13,7 +13,7 @@ use Rattle.dv_catalog.specs.State.{documents_of, indexes_of, AreOrdered}
 use Rattle.dv_core.specs.State.{State}
 use Rattle.dv_cursor.specs.Cursors.{rows_to_come}
 use Rattle.dv_core.specs.Find.{are_too_large}
-use Rattle.dv_command.specs.Sound.{AreValid, IsIndexName, IsSoundPipeline}
+use Rattle.dv_command.specs.Sound.{AreSpellable, IsIndexName, IsSoundPipeline}
 
 -- a document that is valid at each of its levels, and within the limits for what is read and stored
 pub record IsSoundDocument (d : List Field) : Type 0 where
@@ -43,7 +43,7 @@ AreSoundViews state = AllByRecursion (λ v. IsSoundPipeline v.stages) state.cata
 -- rows that can be shown: they are valid at each of their levels, and none is over the limits for documents
 abbrev pub AreShown : Option (List (List Field)) → Type 0
 AreShown None = ⊤
-AreShown (Some rows) = AreValid rows × (are_too_large rows ≡ false)
+AreShown (Some rows) = AreSpellable rows × (are_too_large rows ≡ false)
 
 -- the rows that are still to come of each cursor can be shown
 abbrev pub AreSoundCursors : State → Type 0

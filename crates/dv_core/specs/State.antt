@@ -10,8 +10,8 @@ pub record State : Type 0 where
   -- of the views, in their order
   pub marks : Marks
 
-abbrev pub empty_state : State
-empty_state = record { catalog = stored.empty_state; cursors = no_cursors; marks = [] }
+abbrev pub empty_store_state : State
+empty_store_state = record { catalog = stored.empty_state; cursors = no_cursors; marks = [] }
 
 -- the views with how they stand
 abbrev pub marked : State → Marked

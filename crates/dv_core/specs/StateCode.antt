@@ -7,7 +7,7 @@ use Rattle.dv_cursor.specs.Cursors.{Cursors}
 use Rattle.dv_cursor.specs.CursorsCode.{coded_cursors}
 use Rattle.dv_core.specs.State.{State, marked}
 
-abbrev pub coded_state : Coded State
-coded_state =
+abbrev pub coded_store_state : Coded State
+coded_store_state =
     code_by (Marked × Cursors) (coded× codes.coded_marked coded_cursors)
     (λ s. (marked s, s.cursors)) (λ parts. record { catalog = parts.0.state; cursors = parts.1; marks = parts.0.marks }) (λ _. refl)

@@ -68,15 +68,15 @@ module _ (namespace : List ℕ) (ordered : Bool) where
 -- ---- a command of statements
 
 -- its reply, by how many documents its statements are counted for, how many changes they made, and their errors
-pub record Write : Type 0 where
+pub record WriteCounts : Type 0 where
   pub namespace : List ℕ
   pub ordered : Bool
   pub statements : List Statement
   pub reply : ℕ → ℕ → List Tree → List Field
 
 -- what its statements do
-abbrev pub carry_out : Write → Namespaces → Written
+abbrev pub carry_out : WriteCounts → Namespaces → Written
 carry_out write old = with_all write.namespace write.ordered (nothing_written old) write.statements
 
-abbrev pub IsCut : Write → Namespaces → Written → Type 0
-IsCut write old left = AreCut write.namespace write.ordered write.statements old left
+abbrev pub IsCutWrite : WriteCounts → Namespaces → Written → Type 0
+IsCutWrite write old left = AreCut write.namespace write.ordered write.statements old left

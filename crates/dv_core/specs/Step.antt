@@ -14,9 +14,9 @@ use Rattle.dv_catalog.specs.Marks.{Marks}
 use Rattle.dv_catalog.specs.State.{is_view}
 use Rattle.dv_catalog.specs.State as stored
 use Rattle.dv_catalog.specs.Views.{created, dropped}
-use Rattle.dv_core.specs.Statements.{Write, Written, carry_out, IsCut}
+use Rattle.dv_core.specs.Statements.{WriteCounts, Written, carry_out, IsCutWrite}
 use Rattle.dv_core.specs.Writes.{write_by}
-use Rattle.dv_core.specs.Find.{found, gathered}
+use Rattle.dv_core.specs.Find.{reply_to_find, reply_to_aggregate}
 use Rattle.dv_core.specs.Indexes.{find_explained, indexed, unindexed}
 use Rattle.dv_core.specs.Marks.{AreMarkedAll, AreMarkedByCut, AreMarkedForWant, marks_behind_all}
 use Rattle.dv_core.specs.More.{killed, next_batch}
@@ -36,12 +36,12 @@ abbrev pub read_answer : State → Result (List Field) Refusal → Result Answer
 read_answer state result = result >>= λ reply. Ok (record { reply = reply; state = state })
 
 -- a write whose statements did this
-abbrev pub write_answer : State → Write → Written → Answer
+abbrev pub write_answer : State → WriteCounts → Written → Answer
 write_answer old write did =
     record { reply = write.reply did.n did.changed did.errors; state = record old { catalog = record old.catalog { namespaces = did.namespaces } } }
 
 -- what a write answers and leaves; there is none on a view
-abbrev pub carried_out : State → Write → Result Answer Refusal
+abbrev pub carried_out : State → WriteCounts → Result Answer Refusal
 carried_out state write =
     if is_view write.namespace state.catalog.views then Err OnView else Ok (write_answer state write (carry_out write state.catalog.namespaces))
 
@@ -61,8 +61,8 @@ abbrev pub answer_to : State → ℕ → Asked → Result Answer Refusal
 answer_to state session hello = read_answer state (Ok hello_reply)
 answer_to state session ping = read_answer state (Ok (reply_of []))
 answer_to state session (asking.write asked) = carried_out state (write_by asked)
-answer_to state session (find asked) = on_cursors state (found session asked state.catalog state.cursors)
-answer_to state session (aggregate asked) = on_cursors state (gathered session asked state.catalog state.cursors)
+answer_to state session (find asked) = on_cursors state (reply_to_find session asked state.catalog state.cursors)
+answer_to state session (aggregate asked) = on_cursors state (reply_to_aggregate session asked state.catalog state.cursors)
 answer_to state session (get_more asked) = on_cursors state (next_batch session asked state.cursors)
 answer_to state session (kill_cursors asked) = on_cursors state (Ok (killed session asked state.cursors))
 answer_to state session (create asked) = on_catalog state (replying (reply_of []) (created asked.namespace asked.view state.catalog))
@@ -84,9 +84,9 @@ step state session command = answered state (asked_by command >>= answer_to stat
 -- ---- under want of memory
 
 -- the write that a command is, if it is one
-abbrev pub write_of : Asked → Option Write
-write_of (asking.write asked) = Some (write_by asked)
-write_of asked = None
+abbrev pub asked_write : Asked → Option WriteCounts
+asked_write (asking.write asked) = Some (write_by asked)
+asked_write asked = None
 
 -- whether a command makes something under a namespace, or takes it out
 abbrev pub makes : Asked → Bool
@@ -111,16 +111,16 @@ moves (kill_cursors asked) = true
 moves asked = false
 
 -- the answers of a write that is cut at one of its statements, and how views stand behind it; one on a view isn't carried out
-abbrev pub WriteCut : State → Option Write → Answer → Marks → Type 0
+abbrev pub WriteCut : State → Option WriteCounts → Answer → Marks → Type 0
 WriteCut old None answer marks = ⊥
 WriteCut old (Some write) answer marks =
     (is_view write.namespace old.catalog.views ≡ false)
-    × ((left : Written) × (cut : IsCut write old.catalog.namespaces left) × (answer ≡ write_answer old write left)
+    × ((left : Written) × (cut : IsCutWrite write old.catalog.namespaces left) × (answer ≡ write_answer old write left)
     × AreMarkedByCut write.namespace write.ordered old.catalog.views write.statements old.catalog.namespaces left cut old.marks marks)
 
 -- a command that is refused isn't cut
 abbrev pub Cut : State → Result Asked Refusal → Answer → Marks → Type 0
-Cut old (Ok asked) answer marks = WriteCut old (write_of asked) answer marks
+Cut old (Ok asked) answer marks = WriteCut old (asked_write asked) answer marks
 Cut old (Err refusal) answer marks = ⊥
 
 -- the answers of a command for which memory is wanting, and how views stand then: it is refused and nothing changed, or it is a write and cut

@@ -19,15 +19,15 @@ Refuses refusal (Wanting reply) = reply ≡ refusal_reply WantOfMemory
 Refuses refusal NoReply = ⊤
 
 -- a command that changes nothing: its reply, or why it is refused
-abbrev pub Tells : Result (List Field) Refusal → Outcome → Type 0
-Tells (Ok reply) outcome = outcome ≡ Reply reply
-Tells (Err refusal) outcome = Refuses refusal outcome
+abbrev pub TellsReply : Result (List Field) Refusal → Outcome → Type 0
+TellsReply (Ok reply) outcome = outcome ≡ Reply reply
+TellsReply (Err refusal) outcome = Refuses refusal outcome
 
 -- a command that changes a part of the state: its reply, and what it leaves, which is as defined; or why it is refused, and nothing is
 -- changed
-abbrev pub Gives : {S : Type 0} → Result (List Field × S) Refusal → S → Result (List Field) Refusal → S → Type 0
-Gives defined old (Ok reply) new = defined ≡ Ok (reply, new)
-Gives defined old (Err refusal) new = ((defined ≡ Err refusal) ⊎ (refusal ≡ WantOfMemory)) × (new ≡ old)
+abbrev pub GivesAndLeaves : {S : Type 0} → Result (List Field × S) Refusal → S → Result (List Field) Refusal → S → Type 0
+GivesAndLeaves defined old (Ok reply) new = defined ≡ Ok (reply, new)
+GivesAndLeaves defined old (Err refusal) new = ((defined ≡ Err refusal) ⊎ (refusal ≡ WantOfMemory)) × (new ≡ old)
 
 -- a command whose reply may find no memory behind what it changes: it is carried out, be its reply given or not; or it is refused
 abbrev pub TellsOrNot : List Field → Outcome → Type 0
@@ -46,6 +46,6 @@ StandRead asked old (Ok x) after = after ≡ marks_where_read (read_by asked) ol
 StandRead asked old (Err refusal) after = (after ≡ marks_where_read (read_by asked) old) ⊎ ((refusal ≡ WantOfMemory) × ArePartlyRead (read_by asked) old.catalog.views old.marks after)
 
 -- a document is loaded, or it is refused, if only for want of memory; then all is left as it is
-abbrev pub Loads : {B : Type 0} → List ℕ → List Field → State → Result B Refusal → State → Type 0
-Loads text d old (Ok x) new = IsLoaded text d old new
-Loads text d old (Err refusal) new = ((loaded text d old ≡ Err refusal) ⊎ (refusal ≡ WantOfMemory)) × (new ≡ old)
+abbrev pub LoadsOne : {B : Type 0} → List ℕ → List Field → State → Result B Refusal → State → Type 0
+LoadsOne text d old (Ok x) new = IsLoaded text d old new
+LoadsOne text d old (Err refusal) new = ((loaded text d old ≡ Err refusal) ⊎ (refusal ≡ WantOfMemory)) × (new ≡ old)

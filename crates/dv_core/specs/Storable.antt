@@ -3,29 +3,19 @@
 use Rattle.std.specs.Prelude.{ℕ, ◌&&◌, not, Bool, List, [], ◌∷◌, Option, Some, None, Result, Ok, Err, codes, nat_lt, length, if◌then◌else◌}
 use Rattle.std.specs.Str.{bytes_eq}
 use Rattle.dv_bson.specs.Tree.{Tree, document, array, Field, fields_of}
-use Rattle.dv_bson.specs.Names.{value_under}
+use Rattle.dv_bson.specs.Names.{value_under, without}
 use Rattle.dv_bson.specs.Spelling.{spelling, levels}
 use Rattle.dv_fields.specs.declared.refusal.Refusal.{Refusal}
 use Rattle.dv_fields.specs.declared.refusal.Refusal.TheVariants.{BadValue, TooLarge}
 use Rattle.dv_path.specs.Names.{has_bad_name}
+use Rattle.dv_update.specs.Apply.{document_limit, level_limit}
 use Rattle.dv_bson.specs.Results.{◌>>=◌}
-
-abbrev pub without_field : List ℕ → List Field → List Field
-without_field name [] = []
-without_field name (f ∷ fs) = if bytes_eq name f.0 then fs else f ∷ without_field name fs
 
 -- there has to be an `_id`, and it can't be an array
 abbrev pub id_in : Option Tree → Result Tree Refusal
 id_in None = Err BadValue
 id_in (Some (array vs)) = Err BadValue
 id_in (Some value) = Ok value
-
--- in bytes
-abbrev pub document_limit : ℕ
-document_limit = 16777216
-
-abbrev pub level_limit : ℕ
-level_limit = 100
 
 -- within the limits for what is stored, which are those for what is read: a law says that it is `Fits`
 abbrev pub is_within_limits : List Field → Bool
@@ -35,7 +25,7 @@ is_within_limits d = not (nat_lt document_limit (length (spelling d))) && not (n
 abbrev pub with_id_first : List Field → Result (List Field) Refusal
 with_id_first d =
     if has_bad_name d then Err BadValue
-    else id_in (value_under (codes "_id") d) >>= λ id. Ok ((codes "_id", id) ∷ without_field (codes "_id") d)
+    else id_in (value_under (codes "_id") d) >>= λ id. Ok ((codes "_id", id) ∷ without (codes "_id") d)
 
 -- a document as it is stored, or why it can't be: first for its names and `_id`, then for its size
 abbrev pub storable : List Field → Result (List Field) Refusal

@@ -20,13 +20,13 @@ use Rattle.dv_views.specs.Forms.{ViewForm}
 use Rattle.dv_core.specs.State.{State, marked}
 use Rattle.dv_catalog.specs.Changes.{Statement}
 use Rattle.dv_core.specs.StepParts.{Refuses}
-use Rattle.dv_core.specs.Statements.{Write, Written, carry_out, nothing_written, with_next, is_due, next_changes, cut, IsCut}
+use Rattle.dv_core.specs.Statements.{WriteCounts, Written, carry_out, nothing_written, with_next, is_due, next_changes, cut, IsCutWrite}
 
 -- what statements did, and what they left
 abbrev pub written_seen : declared.Written → Namespaces → Written
 written_seen w namespaces = record { statements = w.statements; n = w.n; changed = w.changed; errors = map tree w.errors.items; namespaces = namespaces }
 
-abbrev pub reply_seen : Write → Written → List Field
+abbrev pub reply_seen : WriteCounts → Written → List Field
 reply_seen write did = write.reply did.n did.changed did.errors
 
 -- one statement more, which was carried out, is counted for so many documents, and made so many changes
@@ -85,27 +85,27 @@ module _ (namespace : List ℕ) (ordered : Bool) (views : List ViewForm) where
   NextStep so_far statement before (Err e) now after = (cuts : Written) × CutsNext so_far statement before cuts after × (now.namespaces ≡ cuts.namespaces)
 
 -- the statements of a write as they are defined
-pub record CarriesOut (write : Write) (old new : Marked) : Type 0 where
+pub record CarriesOutWrite (write : WriteCounts) (old new : Marked) : Type 0 where
   pub leaves : new.state.namespaces ≡ (carry_out write old.state.namespaces).namespaces
   pub marked : AreMarkedByEach write.namespace write.ordered old.state.views (nothing_written old.state.namespaces) write.statements old.marks new.marks
 
 -- cut at one of them
-pub record CutsWrite (write : Write) (old : Marked) (left : Written) (new : Marked) : Type 0 where
-  pub is_cut : IsCut write old.state.namespaces left
+pub record CutsWrite (write : WriteCounts) (old : Marked) (left : Written) (new : Marked) : Type 0 where
+  pub is_cut : IsCutWrite write old.state.namespaces left
   pub leaves : new.state.namespaces ≡ left.namespaces
   pub marked : AreMarkedByCut write.namespace write.ordered old.state.views write.statements old.state.namespaces left is_cut old.marks new.marks
 
 -- a write: the statements as they are defined, or cut at one of them; no reply after either
-abbrev pub Writes : Write → Marked → Outcome → Marked → Type 0
-Writes write old (Reply reply) new = (reply ≡ reply_seen write (carry_out write old.state.namespaces)) × CarriesOut write old new
-Writes write old (Wanting reply) new = (left : Written) × (reply ≡ reply_seen write left) × CutsWrite write old left new
-Writes write old NoReply new = CarriesOut write old new ⊎ ((left : Written) × CutsWrite write old left new)
+abbrev pub WritesOrCuts : WriteCounts → Marked → Outcome → Marked → Type 0
+WritesOrCuts write old (Reply reply) new = (reply ≡ reply_seen write (carry_out write old.state.namespaces)) × CarriesOutWrite write old new
+WritesOrCuts write old (Wanting reply) new = (left : Written) × (reply ≡ reply_seen write left) × CutsWrite write old left new
+WritesOrCuts write old NoReply new = CarriesOutWrite write old new ⊎ ((left : Written) × CutsWrite write old left new)
 
-abbrev pub WritesWhere : Bool → Write → State → Outcome → State → Type 0
+abbrev pub WritesWhere : Bool → WriteCounts → State → Outcome → State → Type 0
 WritesWhere false write old outcome new =
-    Writes write (marked old) outcome (marked new) × (new.catalog.views ≡ old.catalog.views) × (new.cursors ≡ old.cursors)
+    WritesOrCuts write (marked old) outcome (marked new) × (new.catalog.views ≡ old.catalog.views) × (new.cursors ≡ old.cursors)
 WritesWhere true write old outcome new = Refuses OnView outcome × (new ≡ old)
 
 -- a write on a collection; one on a view is refused
-abbrev pub WritesOn : Write → State → Outcome → State → Type 0
+abbrev pub WritesOn : WriteCounts → State → Outcome → State → Type 0
 WritesOn write old outcome new = WritesWhere (is_view write.namespace old.catalog.views) write old outcome new

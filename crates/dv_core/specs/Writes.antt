@@ -10,7 +10,7 @@ use Rattle.dv_command.specs.declared.asking.WriteKind.{WriteKind}
 use Rattle.dv_command.specs.declared.asking.WriteKind.TheVariants.{Insert, Update, Delete}
 use Rattle.dv_bson.specs.Results.{◌>>=◌}
 use Rattle.dv_core.specs.Storable.{storable}
-use Rattle.dv_core.specs.Statements.{Write}
+use Rattle.dv_core.specs.Statements.{WriteCounts}
 
 -- one document to insert, as it is stored
 abbrev pub insert_one : List Field → Statement
@@ -36,5 +36,5 @@ reply_by Update n changed errors = update_reply n changed errors
 reply_by Delete n changed errors = write_reply n errors
 
 -- a write's statements are its entries
-abbrev pub write_by : asking.Write → Write
+abbrev pub write_by : asking.Write → WriteCounts
 write_by asked = record { namespace = asked.namespace; ordered = asked.ordered; statements = map (statement_of asked.kind) asked.entries; reply = reply_by asked.kind }

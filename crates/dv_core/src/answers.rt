@@ -5,7 +5,7 @@ ghost use Rattle.dv_fields.specs.declared.refusal.Refusal.TheVariants.{WantOfMem
 ghost use Rattle.dv_fields.specs.Refusals.{UnlessWanting};
 ghost use Rattle.dv_command.specs.Replies as replies;
 ghost use Rattle.dv_core.specs.declared.outcome.Outcome.TheVariants.{Reply, NoReply};
-ghost use Rattle.dv_core.specs.StepParts.{Refuses, Tells};
+ghost use Rattle.dv_core.specs.StepParts.{Refuses, TellsReply};
 
 use crate::outcome::Outcome;
 use dv_bson::{Document, NoMemory};
@@ -15,7 +15,7 @@ use std::alloc::Global;
 
 /// The outcome of a command that changes nothing: its reply, or why it is refused.
 pub(crate) fn outcome_of(alloc: Global, reply: Result<Document, Refusal>) -> Outcome
-    ensures { Tells reply result }
+    ensures { TellsReply reply result }
 {
     match reply {
         Ok(reply) => Outcome::Reply(reply),

@@ -3,7 +3,7 @@
 ghost use Rattle.std.specs.Prelude.{◌≡◌, ◌<◌, ◌^◌, IfOk, map};
 ghost use Rattle.std.specs.String.{string_bytes};
 ghost use Rattle.dv_core.specs.Find as finding;
-ghost use Rattle.dv_core.specs.StepParts.{Gives};
+ghost use Rattle.dv_core.specs.StepParts.{GivesAndLeaves};
 ghost use Rattle.dv_command.specs.Replies as replies;
 ghost use Rattle.dv_command.specs.Replies.{document_of};
 
@@ -33,7 +33,7 @@ pub(crate) fn first_batch(
     first: First,
     rows: Vec<Document>,
 ) -> Result<Document, Refusal>
-    ensures { Gives (finding.first_batch first.session (string_bytes first.namespace) first.count first.single rows.items cursors.old) cursors.old result cursors.new }
+    ensures { GivesAndLeaves (finding.first_batch first.session (string_bytes first.namespace) first.count first.single rows.items cursors.old) cursors.old result cursors.new }
 {
     let First {
         session,

@@ -7,7 +7,7 @@ ghost use Rattle.dv_bson.specs.Tree.{Field, int32};
 ghost use Rattle.dv_command.specs.Asked.{Aggregate, Asked, Create, Drop, Find, GetMore, aggregate, create, drop, find, get_more, asked_by};
 ghost use Rattle.dv_command.specs.Asked as asking;
 ghost use Rattle.dv_command.specs.Replies.{document_of, next_batch_reply, refusal_reply, write_error, write_reply};
-ghost use Rattle.dv_command.specs.Sound.{AreValid};
+ghost use Rattle.dv_command.specs.Sound.{AreSpellable};
 ghost use Rattle.dv_command.specs.declared.asking.WriteKind.TheVariants.{Insert, Delete};
 ghost use Rattle.dv_command.specs.declared.command.Command.{Command};
 ghost use Rattle.dv_fields.specs.declared.refusal.Refusal.{Refusal};
@@ -20,16 +20,16 @@ ghost use Rattle.dv_core.specs.Load.{IsLoaded, insert_alone, loaded, namespace_i
 ghost use Rattle.dv_core.specs.Part.{IsPart};
 ghost use Rattle.dv_core.specs.Sound.{AreUnique, HasSpelling, IsSound, IsSoundCommand, IsSoundDocument, IsTold};
 ghost use Rattle.dv_catalog.specs.State.{Namespaces, IsOrdered, documents_of, is_view, rows_of};
-ghost use Rattle.dv_core.specs.State.{State, empty_state};
+ghost use Rattle.dv_core.specs.State.{State, empty_store_state};
 ghost use Rattle.std.specs.Str.{bytes_eq};
-ghost use Rattle.dv_core.specs.Runs.{Move, Shows, carries, stands, wants, rows_told, state_behind, state_behind_all, tells_last};
-ghost use Rattle.dv_cursor.specs.Batch.{behind};
+ghost use Rattle.dv_core.specs.Runs.{Move, Shows, carries, stands, wants, rows_told, state_after_move, state_behind_all, tells_last};
+ghost use Rattle.dv_cursor.specs.Batch.{rows_behind};
 ghost use Rattle.dv_cursor.specs.Cursors.{Cursors, free_id, rows_to_come};
 ghost use Rattle.dv_catalog.specs.Scan.{scan};
 ghost use Rattle.dv_catalog.specs.State as stored;
 ghost use Rattle.dv_catalog.specs.Views.{aggregated};
-ghost use Rattle.dv_core.specs.Statements.{Write, Written, carry_out, IsCut};
-ghost use Rattle.dv_core.specs.Step.{IsLeft, MemoryStep, counted_step, step, write_of, makes, moves, indexes, end_session};
+ghost use Rattle.dv_core.specs.Statements.{WriteCounts, Written, carry_out, IsCutWrite};
+ghost use Rattle.dv_core.specs.Step.{IsLeft, MemoryStep, counted_step, step, asked_write, makes, moves, indexes, end_session};
 ghost use Rattle.dv_core.specs.Storable.{storable, is_within_limits};
 
 /// A command that is told as refused, with `ok: 0`, changed nothing, be it for want of memory; but stale views that are
@@ -46,7 +46,7 @@ pub fn a_refused_command_changes_nothing()
 /// One that asks nothing changes nothing, as it is refused. Of the first a write and what makes and drops indexes leave the
 /// views, a create and indexes the documents of each namespace, and a drop those of each other namespace.
 pub fn only_writes_change_documents()
-    ensures others { (old new : State) (session : ℕ) (command : Command) (asked : Asked) (outcome : Outcome) → asked_by command ≡ Ok asked → write_of asked ≡ None → makes asked ≡ false
+    ensures others { (old new : State) (session : ℕ) (command : Command) (asked : Asked) (outcome : Outcome) → asked_by command ≡ Ok asked → asked_write asked ≡ None → makes asked ≡ false
         → MemoryStep old session command outcome new → new.catalog ≡ old.catalog }
     ensures cursors { (old new : State) (session : ℕ) (command : Command) (asked : Asked) (outcome : Outcome) → asked_by command ≡ Ok asked → moves asked ≡ false
         → MemoryStep old session command outcome new → new.cursors ≡ old.cursors }
@@ -71,7 +71,7 @@ pub fn the_counted_step_is_allowed()
 /// Each view has its mark, and no other marks are there: so it is before the first command, and so after each command, each
 /// load and each end of a session.
 pub fn each_view_has_its_mark()
-    ensures before { length empty_state.marks ≡ length empty_state.catalog.views }
+    ensures before { length empty_store_state.marks ≡ length empty_store_state.catalog.views }
     ensures after { (old new : State) (session : ℕ) (command : Command) (outcome : Outcome) → length old.marks ≡ length old.catalog.views
         → MemoryStep old session command outcome new → length new.marks ≡ length new.catalog.views }
     ensures loaded { (old new : State) (namespace : List ℕ) (d : List Field) → length old.marks ≡ length old.catalog.views → IsLoaded namespace d old new → length new.marks ≡ length new.catalog.views }
@@ -87,7 +87,7 @@ pub fn a_delete_leaves_a_part()
 /// The documents of each namespace stay in the order of their `_id`s, no two of which are equal, whatever the width of
 /// their integers: so it is before the first command, and so after each.
 pub fn documents_stay_in_order()
-    ensures before { IsOrdered empty_state.catalog }
+    ensures before { IsOrdered empty_store_state.catalog }
     ensures after { (old new : State) (session : ℕ) (command : Command) (outcome : Outcome) → IsOrdered old.catalog
         → MemoryStep old session command outcome new → IsOrdered new.catalog }
 {
@@ -103,7 +103,7 @@ pub fn documents_stay_in_order()
 /// No key of a unique index comes into two documents, whatever commands and loads bring: so it is before the first command, and
 /// so after each command, each load and each end of a session.
 pub fn unique_keys_stay_apart()
-    ensures before { AreUnique empty_state }
+    ensures before { AreUnique empty_store_state }
     ensures after { (old new : State) (session : ℕ) (command : Command) (outcome : Outcome) → IsOrdered old.catalog → AreUnique old
         → MemoryStep old session command outcome new → AreUnique new }
     ensures loaded { (old new : State) (namespace : List ℕ) (d : List Field) → IsOrdered old.catalog → AreUnique old → loaded namespace d old ≡ Ok new → AreUnique new }
@@ -129,7 +129,7 @@ pub fn unique_keys_stay_apart()
 /// values, and its cursors, whose rows that are still to come are valid and none of them over the limits. So it is before the
 /// first command, and so after each command, each load and each end of a session.
 pub fn states_stay_sound()
-    ensures before { IsSound empty_state }
+    ensures before { IsSound empty_store_state }
     ensures after { (old new : State) (session : ℕ) (command : Command) (outcome : Outcome) → IsSoundCommand command → IsSound old
         → MemoryStep old session command outcome new → IsSound new }
     ensures loaded { (old new : State) (namespace : List ℕ) (d : List Field) → IsSoundDocument d → IsSound old → loaded namespace d old ≡ Ok new → IsSound new }
@@ -163,7 +163,7 @@ pub fn states_stay_sound()
 pub fn replies_have_a_spelling()
     ensures answered { (state : State) (session : ℕ) (command : Command) (asked : Asked) → IsSoundCommand command → IsSound state → asked_by command ≡ Ok asked → HasSpelling (step state session command).reply }
     ensures wanting { (old new : State) (session : ℕ) (command : Command) (reply : List Field) → IsSoundCommand command → MemoryStep old session command (Wanting reply) new → HasSpelling reply }
-    ensures rows { (state : State) → IsSound state → (namespace : List ℕ) → AreValid (rows_of namespace state.catalog) }
+    ensures rows { (state : State) → IsSound state → (namespace : List ℕ) → AreSpellable (rows_of namespace state.catalog) }
     ensures refused { (refusal : Refusal) → IsTold refusal → HasSpelling (refusal_reply refusal) }
 {
     dv_command::laws::what_is_asked_is_sound();
@@ -175,8 +175,8 @@ pub fn replies_have_a_spelling()
 
 /// An ordered write tells of one error at most; and where it is cut, of that alone.
 pub fn an_ordered_write_ends_at_its_first_error()
-    ensures whole { (write : Write) (old : Namespaces) → write.ordered ≡ true → length (carry_out write old).errors ≤ 1 }
-    ensures cut { (write : Write) (old : Namespaces) (left : Written) → write.ordered ≡ true → IsCut write old left → length left.errors ≡ 1 }
+    ensures whole { (write : WriteCounts) (old : Namespaces) → write.ordered ≡ true → length (carry_out write old).errors ≤ 1 }
+    ensures cut { (write : WriteCounts) (old : Namespaces) (left : Written) → write.ordered ≡ true → IsCutWrite write old left → length left.errors ≡ 1 }
 {}
 
 /// What the replies of a run tell of a cursor's rows, be they left out or not: the first batch and the batches of later
@@ -279,5 +279,5 @@ pub fn wants_by_example()
 /// told before it.
 pub fn each_row_is_within_the_limits()
     ensures refused { (session count : ℕ) (single : Bool) (namespace : List ℕ) (rows : List (List Field)) (cursors : Cursors) → are_too_large rows ≡ true → IsSome (free_id cursors) → first_batch session namespace count single rows cursors ≡ Err TooLarge }
-    ensures behind { (session count : ℕ) (namespace : List ℕ) (row : List Field) (rows rest : List (List Field)) (cursors : Cursors) → behind count rows ≡ row ∷ rest → free_id cursors ≡ None → first_batch session namespace count false rows cursors ≡ Err LimitReached }
+    ensures behind { (session count : ℕ) (namespace : List ℕ) (row : List Field) (rows rest : List (List Field)) (cursors : Cursors) → rows_behind count rows ≡ row ∷ rest → free_id cursors ≡ None → first_batch session namespace count false rows cursors ≡ Err LimitReached }
 {}

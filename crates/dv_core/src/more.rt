@@ -5,7 +5,7 @@ ghost use Rattle.std.specs.Option.{option_map};
 ghost use Rattle.dv_command.specs.View.{get_more_seen, kill_cursors_seen};
 ghost use Rattle.dv_core.specs.More as more;
 ghost use Rattle.dv_command.specs.Replies as replies;
-ghost use Rattle.dv_core.specs.StepParts.{Ends, Gives};
+ghost use Rattle.dv_core.specs.StepParts.{Ends, GivesAndLeaves};
 
 use crate::answers::{refuse, told};
 use crate::find::values_of;
@@ -25,7 +25,7 @@ pub(crate) fn next_batch(
     session: u32,
     asked: GetMore,
 ) -> Result<Document, Refusal>
-    ensures { Gives (more.next_batch session (get_more_seen asked) cursors.old) cursors.old result cursors.new }
+    ensures { GivesAndLeaves (more.next_batch session (get_more_seen asked) cursors.old) cursors.old result cursors.new }
 {
     let GetMore {
         id,
@@ -71,7 +71,7 @@ fn kill_each(
     ids: &[i64],
 ) -> Result<Vec<bool>, NoMemory>
     ensures went { IfOk result (λ went. went.items ≡ more.went_each session namespace.now ids.now cursors.old) }
-    ensures left { OnOk result (cursors.new ≡ more.without_each session namespace.now ids.now cursors.old) }
+    ensures left { OnOk result (cursors.new ≡ more.without_cursors session namespace.now ids.now cursors.old) }
     ensures err { OnErr result (cursors.new ≡ cursors.old) }
 {
     // Behind the first change nothing may want memory.
@@ -85,7 +85,7 @@ fn kill_each(
 /// Ends the cursor of an id, and answers whether there was one.
 fn kill_one(cursors: &mut Cursors, session: u32, namespace: &str, id: i64) -> bool
     ensures found { result ≡ is_some (more.rows_asked session namespace.now id cursors.old) }
-    ensures left { cursors.new ≡ more.without session namespace.now id cursors.old }
+    ensures left { cursors.new ≡ more.without_cursor session namespace.now id cursors.old }
 {
     match u64::try_from(id) {
         Ok(number) => cursors.kill(session, namespace, number),
@@ -122,7 +122,7 @@ fn rows_asked<'a>(cursors: &'a Cursors, session: u32, namespace: &str, id: i64) 
 
 /// The number of an id; 0 for a negative one, which no cursor has.
 fn number_of(id: i64) -> u64
-    ensures number { result ≡ more.number_of id }
+    ensures number { result ≡ more.cursor_number id }
     ensures fits { result < 2 ^ 63 }
 {
     u64::try_from(id).unwrap_or(0)
@@ -130,7 +130,7 @@ fn number_of(id: i64) -> u64
 
 /// How many rows may come in a batch; for 0 as many as the limit of bytes lets.
 fn wanted(count: u64, rows: &Rows) -> u64
-    ensures { result ≡ more.wanted count rows.now }
+    ensures { result ≡ more.rows_wanted count rows.now }
 {
     if count == 0 { rows.len() as u64 } else { count }
 }

@@ -35,11 +35,11 @@ pub struct Store {
 
 impl Model for Store {
     ghost use Rattle.dv_core.specs.State.{State};
-    ghost use Rattle.dv_core.specs.StateCode.{coded_state};
+    ghost use Rattle.dv_core.specs.StateCode.{coded_store_state};
 
     ghost Value = { State };
 
-    ghost coded = { coded_state };
+    ghost coded = { coded_store_state };
 
     ghost view = { λ s. record { catalog = s.catalog.state; cursors = s.cursors; marks = s.catalog.marks } };
 }
@@ -59,16 +59,16 @@ impl Store {
     ghost use Rattle.dv_core.specs.Indexes as indexing;
     ghost use Rattle.dv_core.specs.More as more;
     ghost use Rattle.dv_core.specs.Load as loading;
-    ghost use Rattle.dv_core.specs.State.{empty_state, marked, standing};
+    ghost use Rattle.dv_core.specs.State.{empty_store_state, marked, standing};
     ghost use Rattle.dv_core.specs.Stats as telling;
     ghost use Rattle.dv_core.specs.Step.{MemoryStep, TellsOfWant, end_session, replying};
-    ghost use Rattle.dv_core.specs.StepParts.{Ends, Gives, Loads, StandRead};
+    ghost use Rattle.dv_core.specs.StepParts.{Ends, GivesAndLeaves, LoadsOne, StandRead};
     ghost use Rattle.dv_core.specs.WriteParts.{WritesOn};
     ghost use Rattle.dv_core.specs.Writes.{write_by};
 
     /// A store without any collection.
     pub fn new(alloc: Global) -> Self
-        ensures { result ≡ empty_state }
+        ensures { result ≡ empty_store_state }
     {
         Store {
             alloc,
@@ -120,7 +120,7 @@ impl Store {
 
     fn find(&mut self, session: u32, find: Find) -> Result<Document, Refusal>
         ensures catalog { self.new.catalog ≡ self.old.catalog }
-        ensures reply { Gives (finding.found session (find_seen find) self.old.catalog self.old.cursors) self.old.cursors result self.new.cursors }
+        ensures reply { GivesAndLeaves (finding.reply_to_find session (find_seen find) self.old.catalog self.old.cursors) self.old.cursors result self.new.cursors }
         ensures marks { StandRead (asking.find (find_seen find)) self.old result self.new.marks }
     {
         let rows = self.catalog.find(&find)?;
@@ -142,7 +142,7 @@ impl Store {
 
     fn aggregate(&mut self, session: u32, aggregate: Aggregate) -> Result<Document, Refusal>
         ensures catalog { self.new.catalog ≡ self.old.catalog }
-        ensures reply { Gives (finding.gathered session (aggregate_seen aggregate) self.old.catalog self.old.cursors) self.old.cursors result self.new.cursors }
+        ensures reply { GivesAndLeaves (finding.reply_to_aggregate session (aggregate_seen aggregate) self.old.catalog self.old.cursors) self.old.cursors result self.new.cursors }
         ensures marks { StandRead (asking.aggregate (aggregate_seen aggregate)) self.old result self.new.marks }
     {
         let rows = self.catalog.aggregate(&aggregate)?;
@@ -163,7 +163,7 @@ impl Store {
 
     fn get_more(&mut self, session: u32, asked: GetMore) -> Result<Document, Refusal>
         ensures catalog { self.new.catalog ≡ self.old.catalog }
-        ensures reply { Gives (more.next_batch session (get_more_seen asked) self.old.cursors) self.old.cursors result self.new.cursors }
+        ensures reply { GivesAndLeaves (more.next_batch session (get_more_seen asked) self.old.cursors) self.old.cursors result self.new.cursors }
         ensures marks { self.new.marks ≡ self.old.marks }
     {
         self.names.prepare(self.alloc);
@@ -180,7 +180,7 @@ impl Store {
 
     fn create(&mut self, create: Create) -> Result<Document, Refusal>
         ensures cursors { self.new.cursors ≡ self.old.cursors }
-        ensures reply { let asked = create_seen create in Gives (replying (replies.reply_of []) (views.created asked.namespace asked.view self.old.catalog)) self.old.catalog result self.new.catalog }
+        ensures reply { let asked = create_seen create in GivesAndLeaves (replying (replies.reply_of []) (views.created asked.namespace asked.view self.old.catalog)) self.old.catalog result self.new.catalog }
         ensures marks { let view = (create_seen create).view in StandMade (names_of_new view) (marks_made view self.old.catalog.views self.old.marks) (marked self.old) result self.new.marks }
     {
         // Behind the change nothing may want memory.
@@ -191,7 +191,7 @@ impl Store {
 
     fn drop_namespace(&mut self, drop: DropNamespace) -> Result<Document, Refusal>
         ensures cursors { self.new.cursors ≡ self.old.cursors }
-        ensures reply { let asked = drop_seen drop in Gives (replying (replies.drop_reply asked.namespace) (views.dropped asked.namespace self.old.catalog)) self.old.catalog result self.new.catalog }
+        ensures reply { let asked = drop_seen drop in GivesAndLeaves (replying (replies.drop_reply asked.namespace) (views.dropped asked.namespace self.old.catalog)) self.old.catalog result self.new.catalog }
         ensures marks { StandSo (AreMarkedByDrop (drop_seen drop).namespace self.old.catalog self.old.marks) self.old.marks result self.new.marks }
     {
         let DropNamespace { namespace } = drop;
@@ -268,7 +268,7 @@ impl Store {
 
     /// Inserts a document into the collection of the namespace that a text is. Refused as `load` is; then nothing is changed.
     fn insert_alone(&mut self, text: &str, document: &Document) -> Result<(), Refusal>
-        ensures { Loads text.now document.now self.old result self.new }
+        ensures { LoadsOne text.now document.now self.old result self.new }
     {
         let namespace = namespace_in(self.alloc, text)?;
         if self.catalog.is_view(&namespace) {

@@ -8,7 +8,7 @@ ghost use Rattle.dv_command.specs.View.{write_seen};
 ghost use Rattle.dv_core.specs.Statements.{is_due};
 ghost use Rattle.dv_catalog.specs.Parts.{Makes, StandBehind};
 ghost use Rattle.dv_catalog.specs.State.{is_view};
-ghost use Rattle.dv_core.specs.WriteParts.{written_seen, outcome_of, NextStep, Writes};
+ghost use Rattle.dv_core.specs.WriteParts.{written_seen, outcome_of, NextStep, WritesOrCuts};
 ghost use Rattle.dv_core.specs.Writes.{statement_of, write_by};
 
 use crate::next::Next;
@@ -29,7 +29,7 @@ pub(crate) fn write_all(
     write: Write<'_>,
 ) -> Outcome
     requires { is_view (string_bytes write.namespace) catalog.old.state.views ≡ false }
-    ensures writes { Writes (write_by (write_seen write.entry)) catalog.old result catalog.new }
+    ensures writes { WritesOrCuts (write_by (write_seen write.entry)) catalog.old result catalog.new }
     ensures views { catalog.new.state.views ≡ catalog.old.state.views }
 {
     match write_each(alloc, names, catalog, write) {
@@ -46,7 +46,7 @@ fn write_each(
     write: Write<'_>,
 ) -> Result<Outcome, NoMemory>
     requires { is_view (string_bytes write.namespace) catalog.old.state.views ≡ false }
-    ensures writes { Writes (write_by (write_seen write.entry)) catalog.old (outcome_of result) catalog.new }
+    ensures writes { WritesOrCuts (write_by (write_seen write.entry)) catalog.old (outcome_of result) catalog.new }
     ensures views { catalog.new.state.views ≡ catalog.old.state.views }
 {
     let Write {

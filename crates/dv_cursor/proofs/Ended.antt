@@ -2,13 +2,13 @@
 use Rattle.std.proofs.Common.{◌≡◌, ℕ, ◌-◌, ◌<◌, ◌==◌, ◌≢◌, Bool, true, false, not, Option, Some, None, IsSome, is_some, cond, refl, ap, sym, subst, ◌∙◌, arith, eqb-true, eq-eqb}
 use Rattle.std.specs.FinMap as finite
 use Rattle.std.specs.Ordering.{eq_by_cmp}
-use Rattle.dv_cursor.specs.Cursors.{Cursor, Cursors, Place, place_cmp, closed, without_session}
+use Rattle.dv_cursor.specs.Cursors.{Cursor, Cursors, CursorPlace, place_cmp, closed, without_session}
 use Rattle.dv_cursor.proofs.Kept.{Kept, place_cmp_total, place_cmp-IsAntisymmetric, same_kept, same_if_tied}
 
-abbrev pub apart_from : ℕ → Place → Bool
+abbrev pub apart_from : ℕ → CursorPlace → Bool
 apart_from session p = not (p.0 == session)
 
-pub get-apart : (m : Kept) (session : ℕ) (q : Place) → finite.get (finite.retain_keys m (apart_from session)) q ≡ cond (apart_from session q) (finite.get m q) None
+pub get-apart : (m : Kept) (session : ℕ) (q : CursorPlace) → finite.get (finite.retain_keys m (apart_from session)) q ≡ cond (apart_from session q) (finite.get m q) None
 get-apart m session q = finite.get-retain_keys m (apart_from session) q (λ x is. ap (apart_from session) (sym (place_cmp-IsAntisymmetric q x is)))
 
 both_gone : {X : Type 0} (b own : Bool) (x : Option X) → (b ≡ true → own ≡ false) → cond own (cond b None x) None ≡ cond own x None
@@ -40,7 +40,7 @@ without_session-none session cursors none =
     ∙ none_gone (apart_from session q) (finite.get cursors.kept q) (λ own. subst (λ s. finite.get cursors.kept (s, q.1) ≡ None) (sym (eqb-true q.0 session (turned (q.0 == session) own))) (none q.1))))
 
 -- there are fewer after one that is there is taken out
-none_of_empty : (m : Kept) (p : Place) → finite.len m ≡ 0 → finite.get m p ≡ None
+none_of_empty : (m : Kept) (p : CursorPlace) → finite.len m ≡ 0 → finite.get m p ≡ None
 none_of_empty m p none = ap (λ (n : Kept). finite.get n p) (finite.empty_of_len m none) ∙ finite.get-empty place_cmp p
 
 lower : (n m : ℕ) → m ≡ n - 1 → n ≢ 0 → m < n

@@ -4,7 +4,7 @@ use Rattle.std.specs.BTreeMap.{BTreeMap}
 use Rattle.std.specs.BTreeMap.Range.{IsRangeOf}
 use Rattle.std.specs.FinMap as finite
 use Rattle.std.specs.declared.ops.Bound.TheVariants.{Included, Unbounded}
-use Rattle.dv_cursor.specs.Cursors.{Cursor, Place, place_cmp}
+use Rattle.dv_cursor.specs.Cursors.{Cursor, CursorPlace, place_cmp}
 use Rattle.dv_cursor.proofs.Kept.{Entries, kept, get-kept, session_order, first_place}
 
 none_of : {X : Type 0} (there : Option X) → (IsSome there → ⊥) → there ≡ None
@@ -15,11 +15,11 @@ meet : (a b : ℕ) → a ≤ b → b ≤ a → a ≡ b
 meet a b up down = omega arith
 
 -- what stands in the map from a session's first place on
-module _ (m : BTreeMap Place Cursor) (session : ℕ) (r : Entries) (range : IsRangeOf place_cmp (Included (session, 0)) Unbounded m r) where
+module _ (m : BTreeMap CursorPlace Cursor) (session : ℕ) (r : Entries) (range : IsRangeOf place_cmp (Included (session, 0)) Unbounded m r) where
   pub none_from_there : r ≡ [] → (id : ℕ) → finite.get (kept m.entries) (session, id) ≡ None
   none_from_there empty id = get-kept m.entries (session, id) ∙ range.5 empty (session, id) (first_place session id, tt)
 
-  module _ (p : Place) (c : Cursor) (rest : Entries) (is : r ≡ (p, c) ∷ rest) where
+  module _ (p : CursorPlace) (c : Cursor) (rest : Entries) (is : r ≡ (p, c) ∷ rest) where
     pub own_first : p.0 ≡ session → IsSome (finite.get (kept m.entries) (session, p.1))
     own_first own =
         let here = rw is at range.1 in

@@ -5,7 +5,7 @@ use Rattle.std.proofs.lemmas.Bool.{lt-ltb}
 use Rattle.std.proofs.lemmas.List.{length-take-le}
 use Rattle.dv_bson.specs.Tree.{Field}
 use Rattle.dv_cursor.specs.Batch.{total_size, batch_limit, can_hold, longest_front, batch}
-use Rattle.dv_cursor.specs.Runs.{IsWithin}
+use Rattle.dv_cursor.specs.Runs.{IsWithinBatch}
 use Rattle.dv_cursor.proofs.Batches.{none_held}
 
 abbrev Rows : Type 0
@@ -25,7 +25,7 @@ within zero total count held = (omega arith, inl (omega arith))
 within (suc zero) total count held = (grind (arith, nat_tests), inl (omega arith))
 within (suc (suc n)) total count held = (grind (arith, nat_tests), inr (grind (arith, nat_tests)))
 
-pub batch_within : (count : ℕ) (rows : Rows) → IsWithin count (batch count rows)
+pub batch_within : (count : ℕ) (rows : Rows) → IsWithinBatch count (batch count rows)
 unfolding batch
 batch_within count rows = let b = longest_front count (length rows) rows in within (length b) (total_size b) count (longest_is_held count (length rows) rows)
 

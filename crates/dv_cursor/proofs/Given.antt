@@ -7,8 +7,8 @@ use Rattle.std.specs.Ordering.{nat_cmp, MatchOrdering}
 use Rattle.std.specs.declared.cmp.Ordering.{Ordering}
 use Rattle.std.specs.declared.cmp.Ordering.TheVariants.{Less, Equal, Greater}
 use Rattle.dv_bson.specs.Tree.{Field}
-use Rattle.dv_cursor.specs.Cursors.{Cursor, Cursors, Place, free_id, with_cursor}
-use Rattle.dv_cursor.specs.Runs.{Event, add, advance, close, end, after, added_under, with_id, id_given, ids_given}
+use Rattle.dv_cursor.specs.Cursors.{Cursor, Cursors, CursorPlace, free_id, with_cursor}
+use Rattle.dv_cursor.specs.Runs.{Event, add, advance, close, end, after_event, added_under, with_cursor_id, id_given, ids_given}
 
 -- a free id is the next one
 free_next : (b : Bool) (n id : ℕ) → cond b (Some n) None ≡ Some id → id ≡ n
@@ -19,7 +19,7 @@ pub free_id-next : (cursors : Cursors) (id : ℕ) → free_id cursors ≡ Some i
 free_id-next cursors id is = free_next _ cursors.next id is
 
 -- no event takes the next id back, and the one that gives it goes on
-next-with_cursor : (place : Place) (cursor : Option Cursor) (cursors : Cursors) → (with_cursor place cursor cursors).next ≡ cursors.next
+next-with_cursor : (place : CursorPlace) (cursor : Option Cursor) (cursors : Cursors) → (with_cursor place cursor cursors).next ≡ cursors.next
 next-with_cursor place None cursors = refl
 next-with_cursor place (Some cursor) cursors = refl
 
@@ -32,7 +32,7 @@ unfolding goes_on
 next-added_under None session namespace rows cursors = refl
 next-added_under (Some id) session namespace rows cursors = refl
 
-next-after : (event : Event) (cursors : Cursors) → (after event cursors).next ≡ goes_on (id_given event cursors) cursors.next
+next-after : (event : Event) (cursors : Cursors) → (after_event event cursors).next ≡ goes_on (id_given event cursors) cursors.next
 unfolding goes_on
 next-after (add session namespace rows) cursors = next-added_under (free_id cursors) session namespace rows cursors
 next-after (advance session id count) cursors = next-with_cursor (session, id) _ cursors
@@ -68,7 +68,7 @@ all_above n (id ∷ ids) all = (less n id (nat_cmp n id) (ranks n id) (omega (ar
 abbrev Ascend : ℕ → List ℕ → Type 0
 Ascend n ids = AreFrom n ids × IsStrictlySortedBy nat_cmp ids
 
-ascend_by : (n m : ℕ) (given : Option ℕ) (ids : List ℕ) → m ≡ goes_on given n → ((id : ℕ) → given ≡ Some id → id ≡ n) → Ascend m ids → Ascend n (with_id given ids)
+ascend_by : (n m : ℕ) (given : Option ℕ) (ids : List ℕ) → m ≡ goes_on given n → ((id : ℕ) → given ≡ Some id → id ≡ n) → Ascend m ids → Ascend n (with_cursor_id given ids)
 unfolding AreFrom goes_on IsStrictlySortedBy
 ascend_by n m None ids goes is up = subst (λ k. Ascend k ids) goes up
 ascend_by n m (Some id) ids goes is up =
@@ -80,7 +80,7 @@ ids_ascend : (events : List Event) (cursors : Cursors) → Ascend cursors.next (
 unfolding AreFrom IsStrictlySortedBy
 ids_ascend [] cursors = (tt, tt)
 ids_ascend (event ∷ events) cursors =
-    ascend_by cursors.next (after event cursors).next (id_given event cursors) (ids_given events (after event cursors)) (next-after event cursors) (id_given-next event cursors) (ids_ascend events (after event cursors))
+    ascend_by cursors.next (after_event event cursors).next (id_given event cursors) (ids_given events (after_event event cursors)) (next-after event cursors) (id_given-next event cursors) (ids_ascend events (after_event event cursors))
 
 pub ids_given_once : (events : List Event) (cursors : Cursors) → IsStrictlySortedBy nat_cmp (ids_given events cursors)
 ids_given_once events cursors = (ids_ascend events cursors).1

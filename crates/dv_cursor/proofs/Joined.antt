@@ -1,8 +1,8 @@
 -- Batches joined.
 use Rattle.std.proofs.Common.{◌≡◌, ℕ, zero, suc, Bool, true, false, List, [], ◌∷◌, ◌++◌, take, drop, length, cond, refl, ap, sym, ◌∙◌, append_assoc}
 use Rattle.dv_bson.specs.Tree.{Field}
-use Rattle.dv_cursor.specs.Batch.{can_hold, longest_front, batch, behind}
-use Rattle.dv_cursor.specs.Runs.{joined, behind_all}
+use Rattle.dv_cursor.specs.Batch.{can_hold, longest_front, batch, rows_behind}
+use Rattle.dv_cursor.specs.Runs.{batches_joined, behind_all}
 
 abbrev Rows : Type 0
 Rows = List (List Field)
@@ -21,13 +21,13 @@ longest_behind count (suc n) rows = at (can_hold count (take (suc n) rows)) (lon
     at true shorter = front (suc n) rows
     at false shorter = shorter
 
-pub batch_behind : (count : ℕ) (rows : Rows) → batch count rows ++ behind count rows ≡ rows
+pub batch_behind : (count : ℕ) (rows : Rows) → batch count rows ++ rows_behind count rows ≡ rows
 unfolding batch
 batch_behind count rows = longest_behind count (length rows) rows
 
-pub joined_behind : (counts : List ℕ) (rows : Rows) → joined counts rows ++ behind_all counts rows ≡ rows
+pub joined_behind : (counts : List ℕ) (rows : Rows) → batches_joined counts rows ++ behind_all counts rows ≡ rows
 joined_behind [] rows = refl
 joined_behind (count ∷ counts) rows =
-    append_assoc (batch count rows) (joined counts (behind count rows)) (behind_all counts (behind count rows))
-    ∙ ap (λ (rs : Rows). batch count rows ++ rs) (joined_behind counts (behind count rows))
+    append_assoc (batch count rows) (batches_joined counts (rows_behind count rows)) (behind_all counts (rows_behind count rows))
+    ∙ ap (λ (rs : Rows). batch count rows ++ rs) (joined_behind counts (rows_behind count rows))
     ∙ batch_behind count rows

@@ -26,5 +26,5 @@ unfoldable pub batch : ℕ → List (List Field) → List (List Field)
 batch count rows = longest_front count (length rows) rows
 
 -- the rows that are left behind it
-abbrev pub behind : ℕ → List (List Field) → List (List Field)
-behind count rows = drop (length (batch count rows)) rows
+abbrev pub rows_behind : ℕ → List (List Field) → List (List Field)
+rows_behind count rows = drop (length (batch count rows)) rows

@@ -13,10 +13,10 @@ pub record Cursor : Type 0 where
   pub rows : List (List Field)
 
 -- what a cursor is found by: its session, and its id
-abbrev pub Place : Type 0
-Place = ℕ × ℕ
+abbrev pub CursorPlace : Type 0
+CursorPlace = ℕ × ℕ
 
-abbrev pub place_cmp : Place → Place → Ordering
+abbrev pub place_cmp : CursorPlace → CursorPlace → Ordering
 place_cmp p q = ordering_then (nat_cmp p.0 q.0) (nat_cmp p.1 q.1)
 
 -- the cursors that are open, and the id of the next one
@@ -41,13 +41,13 @@ abbrev pub added : ℕ → List ℕ → List (List Field) → Cursors → Cursor
 added session namespace rows cursors =
     record { kept = finite.insert cursors.kept (session, cursors.next) (record { namespace = namespace; rows = rows }); next = cursors.next + 1 }
 
-abbrev pub rows_under : List ℕ → Option Cursor → Option (List (List Field))
-rows_under namespace None = None
-rows_under namespace (Some cursor) = if bytes_eq namespace cursor.namespace then Some cursor.rows else None
+abbrev pub cursor_rows : List ℕ → Option Cursor → Option (List (List Field))
+cursor_rows namespace None = None
+cursor_rows namespace (Some cursor) = if bytes_eq namespace cursor.namespace then Some cursor.rows else None
 
 -- the rows that are still to come of the cursor of a session and a namespace, where there is one
 abbrev pub rows_to_come : ℕ → List ℕ → ℕ → Cursors → Option (List (List Field))
-rows_to_come session namespace id cursors = rows_under namespace (finite.get cursors.kept (session, id))
+rows_to_come session namespace id cursors = cursor_rows namespace (finite.get cursors.kept (session, id))
 
 -- a cursor over these rows; none where they are out
 abbrev pub cursor_over : List ℕ → List (List Field) → Option Cursor
@@ -59,7 +59,7 @@ abbrev pub cursor_behind : ℕ → Option Cursor → Option Cursor
 cursor_behind count None = None
 cursor_behind count (Some cursor) = cursor_over cursor.namespace (drop count cursor.rows)
 
-abbrev pub with_cursor : Place → Option Cursor → Cursors → Cursors
+abbrev pub with_cursor : CursorPlace → Option Cursor → Cursors → Cursors
 with_cursor place None cursors = record cursors { kept = finite.remove cursors.kept place }
 with_cursor place (Some cursor) cursors = record cursors { kept = finite.insert cursors.kept place cursor }
 

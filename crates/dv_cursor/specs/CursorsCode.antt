@@ -6,12 +6,12 @@ use Rattle.dv_bson.specs.Tree.{Field}
 use Rattle.dv_bson.specs.TreeCode.{coded_tree}
 use Rattle.dv_cursor.specs.Cursors.{Cursor, Cursors, place_cmp}
 
-abbrev pub coded_rows : Coded (List (List Field))
-coded_rows = coded_list (coded_list (coded× (coded_list coded_ℕ) coded_tree))
+abbrev pub coded_batch : Coded (List (List Field))
+coded_batch = coded_list (coded_list (coded× (coded_list coded_ℕ) coded_tree))
 
 abbrev pub coded_cursor : Coded Cursor
 coded_cursor =
-    code_by (List ℕ × List (List Field)) (coded× (coded_list coded_ℕ) coded_rows)
+    code_by (List ℕ × List (List Field)) (coded× (coded_list coded_ℕ) coded_batch)
     (λ c. (c.namespace, c.rows)) (λ parts. record { namespace = parts.0; rows = parts.1 }) (λ _. refl)
 
 abbrev pub coded_cursors : Coded Cursors

@@ -1,22 +1,22 @@
 -- Batches one after the other, and cursors over whole runs.
 use Rattle.std.specs.Prelude.{ℕ, ◌≤◌, ◌⊎◌, ◌++◌, List, [], ◌∷◌, Option, Some, None, length, ◌==◌, ◌&&◌, Bool}
 use Rattle.dv_bson.specs.Tree.{Field}
-use Rattle.dv_cursor.specs.Batch.{batch, batch_limit, behind, total_size}
+use Rattle.dv_cursor.specs.Batch.{batch, batch_limit, rows_behind, total_size}
 use Rattle.dv_cursor.specs.Cursors.{Cursors, free_id, added, advanced, closed, without_session}
 
 -- fewer than `count` rows or as many, and within the limit of bytes where there is more than one
-abbrev pub IsWithin : ℕ → List (List Field) → Type 0
-IsWithin count rows = (length rows ≤ count) × ((length rows ≤ 1) ⊎ (total_size rows ≤ batch_limit))
+abbrev pub IsWithinBatch : ℕ → List (List Field) → Type 0
+IsWithinBatch count rows = (length rows ≤ count) × ((length rows ≤ 1) ⊎ (total_size rows ≤ batch_limit))
 
 -- the rows of batches of at most so many rows, one batch after the other
-abbrev pub joined : List ℕ → List (List Field) → List (List Field)
-joined [] rows = []
-joined (count ∷ counts) rows = batch count rows ++ joined counts (behind count rows)
+abbrev pub batches_joined : List ℕ → List (List Field) → List (List Field)
+batches_joined [] rows = []
+batches_joined (count ∷ counts) rows = batch count rows ++ batches_joined counts (rows_behind count rows)
 
 -- the rows that are left behind them
 abbrev pub behind_all : List ℕ → List (List Field) → List (List Field)
 behind_all [] rows = rows
-behind_all (count ∷ counts) rows = behind_all counts (behind count rows)
+behind_all (count ∷ counts) rows = behind_all counts (rows_behind count rows)
 
 -- what may happen to cursors
 pub data Event : Type 0 where
@@ -34,15 +34,15 @@ abbrev pub added_under : Option ℕ → ℕ → List ℕ → List (List Field) �
 added_under None session namespace rows cursors = cursors
 added_under (Some id) session namespace rows cursors = added session namespace rows cursors
 
-abbrev pub after : Event → Cursors → Cursors
-after (add session namespace rows) cursors = added_under (free_id cursors) session namespace rows cursors
-after (advance session id count) cursors = advanced session id count cursors
-after (close session id) cursors = closed session id cursors
-after (end session) cursors = without_session session cursors
+abbrev pub after_event : Event → Cursors → Cursors
+after_event (add session namespace rows) cursors = added_under (free_id cursors) session namespace rows cursors
+after_event (advance session id count) cursors = advanced session id count cursors
+after_event (close session id) cursors = closed session id cursors
+after_event (end session) cursors = without_session session cursors
 
-abbrev pub with_id : Option ℕ → List ℕ → List ℕ
-with_id None ids = ids
-with_id (Some id) ids = id ∷ ids
+abbrev pub with_cursor_id : Option ℕ → List ℕ → List ℕ
+with_cursor_id None ids = ids
+with_cursor_id (Some id) ids = id ∷ ids
 
 -- the id that an event gives
 abbrev pub id_given : Event → Cursors → Option ℕ
@@ -52,8 +52,8 @@ id_given event cursors = None
 -- the ids that are given in a run of events
 abbrev pub ids_given : List Event → Cursors → List ℕ
 ids_given [] cursors = []
-ids_given (event ∷ events) cursors = with_id (id_given event cursors) (ids_given events (after event cursors))
+ids_given (event ∷ events) cursors = with_cursor_id (id_given event cursors) (ids_given events (after_event event cursors))
 
 -- whether these are the session and the id of a cursor
-abbrev pub is_place : ℕ → ℕ → ℕ → ℕ → Bool
-is_place other number session id = (other == session) && (number == id)
+abbrev pub is_cursor_place : ℕ → ℕ → ℕ → ℕ → Bool
+is_cursor_place other number session id = (other == session) && (number == id)

@@ -26,7 +26,7 @@ impl Cursor {
     ghost use Rattle.std.specs.Option.{option_map};
     ghost use Rattle.std.specs.Prelude.{◌≡◌, [], drop, IsTrue, ◌↔◌, Some};
     ghost use Rattle.std.specs.String.{string_bytes};
-    ghost use Rattle.dv_cursor.specs.Cursors.{rows_under};
+    ghost use Rattle.dv_cursor.specs.Cursors.{cursor_rows};
 
     /// A cursor over these rows of a namespace.
     pub(crate) fn new(namespace: String, rows: Rows) -> Self
@@ -37,7 +37,7 @@ impl Cursor {
 
     /// The rows, where they are of this namespace.
     pub(crate) fn rows(&self, namespace: &str) -> Option<&Rows>
-        ensures { option_map (λ rows. rows.now) result ≡ rows_under namespace.now (Some self.now) }
+        ensures { option_map (λ rows. rows.now) result ≡ cursor_rows namespace.now (Some self.now) }
     {
         if namespace == self.namespace.as_str() {
             Some(&self.rows)

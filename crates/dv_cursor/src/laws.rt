@@ -5,26 +5,26 @@ ghost use Rattle.std.specs.Prelude.{◌≡◌, ◌≢◌, ◌++◌, ◌∷◌, �
 ghost use Rattle.std.specs.List.Sorted.{IsStrictlySortedBy};
 ghost use Rattle.std.specs.Ordering.{nat_cmp};
 ghost use Rattle.dv_bson.specs.Tree.{Field};
-ghost use Rattle.dv_cursor.specs.Batch.{batch, behind, can_hold};
+ghost use Rattle.dv_cursor.specs.Batch.{batch, rows_behind, can_hold};
 ghost use Rattle.dv_cursor.specs.Cursors.{Cursors, added, advanced, closed, cursor_behind, free_id, without_session};
-ghost use Rattle.dv_cursor.specs.Runs.{Event, IsWithin, behind_all, ids_given, is_place, joined};
+ghost use Rattle.dv_cursor.specs.Runs.{Event, IsWithinBatch, behind_all, ids_given, is_cursor_place, batches_joined};
 
 /// A batch and the rows behind it are the rows.
 pub fn a_batch_is_a_front()
-    ensures { (count : ℕ) (rows : List (List Field)) → batch count rows ++ behind count rows ≡ rows }
+    ensures { (count : ℕ) (rows : List (List Field)) → batch count rows ++ rows_behind count rows ≡ rows }
 {}
 
 /// A batch is within its bounds: no more rows than `count`, and where there is more than one no more bytes than the limit. No
 /// longer front is, and where any row may go into it, one does.
 pub fn a_batch_is_full()
-    ensures within { (count : ℕ) (rows : List (List Field)) → IsWithin count (batch count rows) }
+    ensures within { (count : ℕ) (rows : List (List Field)) → IsWithinBatch count (batch count rows) }
     ensures longest { (count n : ℕ) (rows : List (List Field)) → length (batch count rows) < n → n ≤ length rows → can_hold count (take n rows) ≡ false }
     ensures some { (count : ℕ) (row : List Field) (rows : List (List Field)) → 0 < count → batch count (row ∷ rows) ≢ [] }
 {}
 
 /// Batches that are had one after the other, joined, are a front of the rows.
 pub fn batches_are_a_front()
-    ensures { (counts : List ℕ) (rows : List (List Field)) → joined counts rows ++ behind_all counts rows ≡ rows }
+    ensures { (counts : List ℕ) (rows : List (List Field)) → batches_joined counts rows ++ behind_all counts rows ≡ rows }
 {}
 
 /// No id is given twice: in any run of events each id that is given is greater than those before it.

@@ -20,11 +20,11 @@ pub struct Rows {
 impl Model for Rows {
     ghost use Rattle.std.specs.Prelude as prelude;
     ghost use Rattle.dv_bson.specs.Tree.{Field};
-    ghost use Rattle.dv_cursor.specs.CursorsCode.{coded_rows};
+    ghost use Rattle.dv_cursor.specs.CursorsCode.{coded_batch};
 
     ghost Value = { prelude.List (prelude.List Field) };
 
-    ghost coded = { coded_rows };
+    ghost coded = { coded_batch };
 
     ghost view = { λ r. r.rows.items };
 }

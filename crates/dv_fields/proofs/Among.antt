@@ -5,7 +5,7 @@ use Rattle.dv_bson.specs.declared.value.Value.{Value}
 use Rattle.dv_bson.specs.declared.value.Value.TheVariants.{Doc, Int32, Int64}
 use Rattle.dv_bson.specs.Tree.{Tree, Field, elements_of, list_of_elements, fields_of, list_of_fields}
 use Rattle.dv_bson.specs.View.{tree}
-use Rattle.dv_fields.specs.Fields.{each_document, integer_in, is_read}
+use Rattle.dv_fields.specs.Fields.{each_document, integer_in, check_read}
 use Rattle.dv_bson.specs.Results.{◌>>=◌, each}
 use Rattle.dv_fields.specs.declared.refusal.Refusal.{Refusal}
 use Rattle.dv_fields.specs.declared.refusal.Refusal.TheVariants.{TypeMismatch}
@@ -41,17 +41,17 @@ length_documents (v ∷ vs) h = absurd h
 
 -- ---- integers
 
-read_more : (n : ℤ) (r : Result (List ℤ) Refusal) → is_read (r >>= λ ns. Ok (n ∷ ns)) ≡ is_read r
+read_more : (n : ℤ) (r : Result (List ℤ) Refusal) → check_read (r >>= λ ns. Ok (n ∷ ns)) ≡ check_read r
 read_more n (Ok ns) = refl
 read_more n (Err refusal) = refl
 
-pub integers_all : (vs : List Value) → list_all is_integer vs ≡ true → is_read (each integer_in (map tree vs)) ≡ Ok tt
+pub integers_all : (vs : List Value) → list_all is_integer vs ≡ true → check_read (each integer_in (map tree vs)) ≡ Ok tt
 integers_all [] e = refl
 integers_all (Int32 n ∷ vs) e = read_more n (each integer_in (map tree vs)) ∙ integers_all vs e
 integers_all (Int64 n ∷ vs) e = read_more n (each integer_in (map tree vs)) ∙ integers_all vs e
 integers_all (v ∷ vs) e = absurd cc
 
-pub integers_not_all : (vs : List Value) → list_all is_integer vs ≡ false → is_read (each integer_in (map tree vs)) ≡ Err TypeMismatch
+pub integers_not_all : (vs : List Value) → list_all is_integer vs ≡ false → check_read (each integer_in (map tree vs)) ≡ Err TypeMismatch
 integers_not_all [] e = absurd cc
 integers_not_all (Int32 n ∷ vs) e = read_more n (each integer_in (map tree vs)) ∙ integers_not_all vs e
 integers_not_all (Int64 n ∷ vs) e = read_more n (each integer_in (map tree vs)) ∙ integers_not_all vs e

@@ -2,14 +2,14 @@
 use Rattle.std.proofs.Common.{◌≡◌, ◌≢◌, ℕ, ◌+◌, List, [], ◌∷◌, drop, length, ◌<◌, ap, refl, arith, Some, Err}
 use Rattle.std.specs.List.{slice_get}
 use Rattle.dv_bson.specs.Tree.{document, Field, fields_of}
-use Rattle.dv_fields.specs.Kinds.{Place}
+use Rattle.dv_fields.specs.Kinds.{FieldPlace}
 use Rattle.dv_fields.specs.declared.refusal.Refusal.TheVariants.{FailedToParse}
 use Rattle.dv_fields.specs.Fields.{Table, check_fields, check_field, check_empty, check_none, check_single}
 use Rattle.dv_bson.specs.Results.{◌>>=◌}
 use Rattle.dv_fields.proofs.Lists.{drop_at}
 
 -- the field at an index is looked at, and then those behind it
-pub check_fields-at : (place : Place) (table : Table) (fs : List Field) (index : ℕ) (f : Field) → slice_get fs index ≡ Some f
+pub check_fields-at : (place : FieldPlace) (table : Table) (fs : List Field) (index : ℕ) (f : Field) → slice_get fs index ≡ Some f
     → check_fields place table (drop index fs) ≡ (check_field place table f >>= λ _. check_fields place table (drop (index + 1) fs))
 check_fields-at place table fs index f e = ap (check_fields place table) (drop_at fs index f e)
 

@@ -5,7 +5,7 @@ use Rattle.std.specs.Ordering.{int_eq}
 use Rattle.std.specs.Str.{bytes_eq}
 use Rattle.dv_bson.specs.Tree.{Tree, int32, int64, string, document, array, boolean, no_fields, Elements, no_elements, element, Field, list_of_fields, list_of_elements}
 use Rattle.dv_bson.specs.Names.{value_under}
-use Rattle.dv_fields.specs.Kinds.{Kind, Place}
+use Rattle.dv_fields.specs.Kinds.{Kind, FieldPlace}
 use Rattle.dv_fields.specs.Kinds as kinds
 use Rattle.dv_fields.specs.declared.refusal.Refusal.{Refusal}
 use Rattle.dv_fields.specs.declared.refusal.Refusal.TheVariants.{BadValue, FailedToParse, TypeMismatch}
@@ -23,13 +23,13 @@ ignored_names =
     codes "lsid" ∷ codes "$readPreference" ∷ codes "$clusterTime" ∷ codes "readConcern" ∷ codes "writeConcern" ∷ codes "comment"
     ∷ codes "maxTimeMS" ∷ codes "apiVersion" ∷ codes "apiStrict" ∷ codes "apiDeprecationErrors" ∷ codes "bypassDocumentValidation" ∷ []
 
-abbrev pub is_among : List ℕ → List (List ℕ) → Bool
-is_among name [] = false
-is_among name (n ∷ ns) = bytes_eq name n || is_among name ns
+abbrev pub is_listed_name : List ℕ → List (List ℕ) → Bool
+is_listed_name name [] = false
+is_listed_name name (n ∷ ns) = bytes_eq name n || is_listed_name name ns
 
 -- nothing is ignored in an entry
-abbrev pub is_ignored : Place → List ℕ → Bool
-is_ignored kinds.command name = is_among name ignored_names
+abbrev pub is_ignored : FieldPlace → List ℕ → Bool
+is_ignored kinds.command name = is_listed_name name ignored_names
 is_ignored kinds.entry name = false
 
 abbrev pub kind_in : Table → List ℕ → Option Kind
@@ -38,9 +38,9 @@ kind_in (f ∷ fs) name = if bytes_eq name f.0 then Some f.1 else kind_in fs nam
 
 -- ---- what is read out of a value
 
-abbrev pub text_in : Tree → Result (List ℕ) Refusal
-text_in (string s) = Ok s
-text_in value = Err TypeMismatch
+abbrev pub text_field : Tree → Result (List ℕ) Refusal
+text_field (string s) = Ok s
+text_field value = Err TypeMismatch
 
 abbrev pub boolean_in : Tree → Result Bool Refusal
 boolean_in (boolean b) = Ok b
@@ -60,9 +60,9 @@ abbrev pub documents_in : Tree → Result (List (List Field)) Refusal
 documents_in (array vs) = each_document vs
 documents_in value = Err TypeMismatch
 
-abbrev pub array_in : Tree → Result (List Tree) Refusal
-array_in (array vs) = Ok (list_of_elements vs)
-array_in value = Err TypeMismatch
+abbrev pub array_field : Tree → Result (List Tree) Refusal
+array_field (array vs) = Ok (list_of_elements vs)
+array_field value = Err TypeMismatch
 
 -- an integer of either width
 abbrev pub integer_in : Tree → Result ℤ Refusal
@@ -72,7 +72,7 @@ integer_in value = Err TypeMismatch
 
 -- an array of integers of either width
 abbrev pub integers_in : Tree → Result (List ℤ) Refusal
-integers_in value = array_in value >>= each integer_in
+integers_in value = array_field value >>= each integer_in
 
 abbrev pub not_negative : ℤ → Result ℕ Refusal
 not_negative (pos n) = Ok n
@@ -96,8 +96,8 @@ update_in value = Err TypeMismatch
 -- ---- fields as they stand
 
 -- that something can be read
-abbrev pub is_read : {A : Type 0} → Result A Refusal → Result ⊤ Refusal
-is_read reading = reading >>= λ _. Ok tt
+abbrev pub check_read : {A : Type 0} → Result A Refusal → Result ⊤ Refusal
+check_read reading = reading >>= λ _. Ok tt
 
 abbrev pub check_empty : Tree → Result ⊤ Refusal
 check_empty (document no_fields) = Ok tt
@@ -113,7 +113,7 @@ check_single [] = Ok tt
 check_single (f ∷ fs) = check_none fs
 
 abbrev pub check_batch_size : Field → Result ⊤ Refusal
-check_batch_size f = if bytes_eq f.0 (codes "batchSize") then is_read (natural_in f.1) else Err FailedToParse
+check_batch_size f = if bytes_eq f.0 (codes "batchSize") then check_read (natural_in f.1) else Err FailedToParse
 
 -- of one field at most, and that is the number of rows in a batch
 abbrev pub check_cursor : List Field → Result ⊤ Refusal
@@ -126,16 +126,16 @@ check_false b = if b then Err FailedToParse else Ok tt
 -- a value that has to be of a kind
 abbrev pub check_value : Kind → Tree → Result ⊤ Refusal
 check_value kinds.anything value = Ok tt
-check_value kinds.text value = is_read (text_in value)
-check_value kinds.boolean value = is_read (boolean_in value)
-check_value kinds.document value = is_read (document_in value)
-check_value kinds.documents value = is_read (documents_in value)
-check_value kinds.array value = is_read (array_in value)
-check_value kinds.integer value = is_read (integer_in value)
-check_value kinds.integers value = is_read (integers_in value)
-check_value kinds.natural value = is_read (natural_in value)
-check_value kinds.how_many value = is_read (only_first_in value)
-check_value kinds.update value = is_read (update_in value)
+check_value kinds.text value = check_read (text_field value)
+check_value kinds.boolean value = check_read (boolean_in value)
+check_value kinds.document value = check_read (document_in value)
+check_value kinds.documents value = check_read (documents_in value)
+check_value kinds.array value = check_read (array_field value)
+check_value kinds.integer value = check_read (integer_in value)
+check_value kinds.integers value = check_read (integers_in value)
+check_value kinds.natural value = check_read (natural_in value)
+check_value kinds.how_many value = check_read (only_first_in value)
+check_value kinds.update value = check_read (update_in value)
 check_value kinds.only_false value = boolean_in value >>= check_false
 check_value kinds.empty_document value = check_empty value
 check_value kinds.single value = document_in value >>= check_single
@@ -146,11 +146,11 @@ abbrev pub check_known : Option Kind → Tree → Result ⊤ Refusal
 check_known None value = Err FailedToParse
 check_known (Some kind) value = check_value kind value
 
-abbrev pub check_field : Place → Table → Field → Result ⊤ Refusal
+abbrev pub check_field : FieldPlace → Table → Field → Result ⊤ Refusal
 check_field place table f = if is_ignored place f.0 then Ok tt else check_known (kind_in table f.0) f.1
 
 -- fields as they stand: the first that is unknown or has a value of another kind is told
-abbrev pub check_fields : Place → Table → List Field → Result ⊤ Refusal
+abbrev pub check_fields : FieldPlace → Table → List Field → Result ⊤ Refusal
 check_fields place table [] = Ok tt
 check_fields place table (f ∷ fs) = check_field place table f >>= λ _. check_fields place table fs
 
@@ -172,7 +172,7 @@ optional default read None = Ok default
 optional default read (Some value) = read value
 
 abbrev pub text_under : List ℕ → List Field → Result (List ℕ) Refusal
-text_under name fields = required text_in (value_under name fields)
+text_under name fields = required text_field (value_under name fields)
 
 abbrev pub boolean_under : List ℕ → Bool → List Field → Result Bool Refusal
 boolean_under name default fields = optional default boolean_in (value_under name fields)
@@ -194,7 +194,7 @@ abbrev pub documents_under : List ℕ → List Field → Result (List (List Fiel
 documents_under name fields = required documents_in (value_under name fields)
 
 abbrev pub array_under : List ℕ → List Field → Result (List Tree) Refusal
-array_under name fields = required array_in (value_under name fields)
+array_under name fields = required array_field (value_under name fields)
 
 abbrev pub integers_under : List ℕ → List Field → Result (List ℤ) Refusal
 integers_under name fields = array_under name fields >>= each integer_in

@@ -1,9 +1,9 @@
 -- Where fields stand, and what the value of a field has to be.
 
 -- in a command, or in an entry of its list
-pub data Place : Type 0 where
-  command : Place
-  entry : Place
+pub data FieldPlace : Type 0 where
+  command : FieldPlace
+  entry : FieldPlace
 
 pub data Kind : Type 0 where
   anything : Kind

@@ -24,7 +24,7 @@ kind_seen EmptyDocument = kinds.empty_document
 kind_seen Single = kinds.single
 kind_seen Cursor = kinds.cursor
 
-abbrev pub place_seen : places.Place → kinds.Place
+abbrev pub place_seen : places.Place → kinds.FieldPlace
 place_seen Command = kinds.command
 place_seen Entry = kinds.entry
 

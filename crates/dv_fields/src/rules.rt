@@ -97,7 +97,7 @@ fn is_ignored(place: Place, name: &str) -> bool
 }
 
 fn is_ignored_in_commands(name: &str) -> bool
-    ensures { result ≡ defined.is_among name.now defined.ignored_names }
+    ensures { result ≡ defined.is_listed_name name.now defined.ignored_names }
 {
     matches!(
         name,

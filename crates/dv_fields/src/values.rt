@@ -13,7 +13,7 @@ use std::alloc::Global;
 
 /// The text that a value is. Refused with `TypeMismatch` where it is another value.
 pub fn text_of(value: &Value) -> Result<&str, Refusal>
-    ensures { MatchResult result (λ text. defined.text_in (tree value.now) ≡ Ok text.now) (λ refusal. defined.text_in (tree value.now) ≡ Err refusal) }
+    ensures { MatchResult result (λ text. defined.text_field (tree value.now) ≡ Ok text.now) (λ refusal. defined.text_field (tree value.now) ≡ Err refusal) }
 {
     match value {
         Value::Text(text) => Ok(text.as_str()),
@@ -56,7 +56,7 @@ pub fn documents_of(value: &Value) -> Result<Documents<'_>, Refusal>
 /// The list that an array is. Refused with `TypeMismatch` where it is another value.
 #[tactic(auto, using(crate::proofs::Among::same_elements))]
 pub fn array_of(value: &Value) -> Result<&List, Refusal>
-    ensures { MatchResult result (λ list. defined.array_in (tree value.now) ≡ Ok list.now) (λ refusal. defined.array_in (tree value.now) ≡ Err refusal) }
+    ensures { MatchResult result (λ list. defined.array_field (tree value.now) ≡ Ok list.now) (λ refusal. defined.array_field (tree value.now) ≡ Err refusal) }
 {
     match value {
         Value::Array(list) => Ok(list),

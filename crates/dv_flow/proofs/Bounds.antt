@@ -16,14 +16,14 @@ use Rattle.dv_row.specs.Projecting.{projected}
 use Rattle.dv_row.specs.Unwinding.{unwound}
 use Rattle.dv_change.specs.declared.change.Change.{Change}
 use Rattle.dv_change.specs.declared.change.Change.TheVariants.{Gone, Put}
-use Rattle.dv_change.specs.Changes.{IsExactChange, IsPositioned, Positioned, alone, at, in_order, place_of, row_in, with_change}
-use Rattle.dv_change.specs.Difference.{diff, gones, puts, stands}
+use Rattle.dv_change.specs.Changes.{IsExactChange, IsPositioned, Positioned, alone, at, in_row_order, position_changed, row_in, with_change}
+use Rattle.dv_change.specs.Difference.{diff, gones, puts, stands_as}
 use Rattle.dv_change.specs.Ordered.{put}
 use Rattle.dv_change.specs.PositionLaws.{pos_order_total}
 use Rattle.dv_change.specs.Positions.{PosTree, pos_order}
 use Rattle.dv_flow.specs.Bounds.{rows_made}
 use Rattle.dv_flow.specs.Matching.{match_ordered, match_single}
-use Rattle.dv_flow.specs.Placed.{matched_at, numbered, shown_at, sorted_at, unwound_at}
+use Rattle.dv_flow.specs.Placed.{matched_at, rows_numbered, shown_at, sorted_at, unwound_at}
 use Rattle.dv_flow.specs.Projecting.{project_ordered, project_single}
 use Rattle.dv_flow.specs.Sorting.{sort_empty, sort_exact, sort_ordered, sort_single}
 use Rattle.dv_flow.specs.Unwinding.{but_last, unwind_empty, unwind_exact, unwind_ordered, unwind_single}
@@ -53,7 +53,7 @@ both-length (c ∷ some) others = omega (arith, both-length some others)
 
 pub diff-length : (old new : Positioned) → length (diff old new) ≤ length old + length new
 diff-length old new =
-    omega (arith, both-length (gones old new) (puts old new), all_go-length (filter (λ e. is_none (at e.0 new)) old), filter-length (λ e. is_none (at e.0 new)) old, all_come-length (filter (λ e. not (stands (at e.0 old) e.1)) new), filter-length (λ e. not (stands (at e.0 old) e.1)) new)
+    omega (arith, both-length (gones old new) (puts old new), all_go-length (filter (λ e. is_none (at e.0 new)) old), filter-length (λ e. is_none (at e.0 new)) old, all_come-length (filter (λ e. not (stands_as (at e.0 old) e.1)) new), filter-length (λ e. not (stands_as (at e.0 old) e.1)) new)
 
 -- at one position a row goes or comes
 pub diff-alone : (p : PosTree) (a b : Option (List Field)) → length (diff (alone p a) (alone p b)) ≤ 1
@@ -66,7 +66,7 @@ diff-alone p (Some v) None = diff-length ((p, v) ∷ []) []
 diff-alone p (Some v) (Some w) =
     let here : is_eq (pos_order p p) ≡ true = ap is_eq (tied_itself pos_order_total p) in
     let stays : gones ((p, v) ∷ []) ((p, w) ∷ []) ≡ [] = ap (λ b. map {A = PosTree × List Field} (λ e. Gone e.0) (cond (is_none (cond b (Some w) None)) ((p, v) ∷ []) [])) here in
-    omega (arith, both-length (gones ((p, v) ∷ []) ((p, w) ∷ [])) (puts ((p, v) ∷ []) ((p, w) ∷ [])), ap length stays, all_come-length (filter (λ e. not (stands (at e.0 ((p, v) ∷ [])) e.1)) ((p, w) ∷ [])), filter-length (λ e. not (stands (at e.0 ((p, v) ∷ [])) e.1)) ((p, w) ∷ []))
+    omega (arith, both-length (gones ((p, v) ∷ []) ((p, w) ∷ [])) (puts ((p, v) ∷ []) ((p, w) ∷ [])), ap length stays, all_come-length (filter (λ e. not (stands_as (at e.0 ((p, v) ∷ [])) e.1)) ((p, w) ∷ [])), filter-length (λ e. not (stands_as (at e.0 ((p, v) ∷ [])) e.1)) ((p, w) ∷ []))
 
 put-length : (p : PosTree) (v : List Field) (es : Positioned) → length (put p v es) ≤ suc (length es)
 put-length p v [] = omega arith
@@ -77,9 +77,9 @@ put-length p v (e ∷ es) = by (pos_order p e.0) (put-length p v es)
     by Equal h = omega arith
     by Greater h = omega (arith, h)
 
-in_order-length : (es : Positioned) → length (in_order es) ≤ length es
+in_order-length : (es : Positioned) → length (in_row_order es) ≤ length es
 in_order-length [] = omega arith
-in_order-length (e ∷ es) = omega (arith, put-length e.0 e.1 (in_order es), in_order-length es)
+in_order-length (e ∷ es) = omega (arith, put-length e.0 e.1 (in_row_order es), in_order-length es)
 
 -- ---- the stages
 
@@ -100,34 +100,34 @@ unfolding sorted_at
 sort-alone parts p None = omega arith
 sort-alone parts p (Some v) = omega arith
 
-numbered-length : (i : ℕ) (p : PosTree) (ds : List (List Field)) → length (numbered i p ds ++ []) ≡ length ds
+numbered-length : (i : ℕ) (p : PosTree) (ds : List (List Field)) → length (rows_numbered i p ds ++ []) ≡ length ds
 numbered-length i p [] = refl
 numbered-length i p (d ∷ ds) = ap suc (numbered-length (suc i) p ds)
 
 unwind-alone : (u : Unwind) (p : PosTree) (row : Option (List Field)) → length (unwound_at u (alone p row)) ≤ rows_made u row
 unfolding unwound_at
 unwind-alone u p None = omega arith
-unwind-alone u p (Some v) = omega (arith, in_order-length (numbered 0 p (unwound u v) ++ []), numbered-length 0 p (unwound u v))
+unwind-alone u p (Some v) = omega (arith, in_order-length (rows_numbered 0 p (unwound u v) ++ []), numbered-length 0 p (unwound u v))
 
 module _ (rows : Positioned) (change : Change) (are : IsPositioned rows) (exact : IsExactChange change) where
   pub match-bound : (form : Members) → length (diff (matched_at form rows) (matched_at form (with_change rows change))) ≤ 1
   match-bound form =
-      let p = place_of change in
+      let p = position_changed change in
       let old = match-alone form p (at p rows) in
       let new = match-alone form p (row_in change) in
       rw (row-owed (matched_at form) (λ q. q) (match_ordered form) refl (λ q x. x) (match_single form) rows change are exact) (rw (old.1, new.1) (diff-alone p old.0 new.0))
 
   pub project-bound : (s : Project) → length (diff (shown_at s rows) (shown_at s (with_change rows change))) ≤ 1
   project-bound s =
-      let p = place_of change in
+      let p = position_changed change in
       rw (row-owed (shown_at s) (λ q. q) (project_ordered s) refl (λ q x. x) (project_single s) rows change are exact) (rw (show-alone s p (at p rows), show-alone s p (row_in change)) (diff-alone p (option_map (projected s) (at p rows)) (option_map (projected s) (row_in change))))
 
   pub sort-bound : (parts : List sorts.Part) → length (diff (sorted_at parts rows) (sorted_at parts (with_change rows change))) ≤ 2
   sort-bound parts =
-      let p = place_of change in
+      let p = position_changed change in
       omega (arith, ap length (row-owed (sorted_at parts) (λ q. drop (length parts) q) (sort_ordered parts) (sort_empty parts) (sort_exact parts) (sort_single parts) rows change are exact), diff-length (sorted_at parts (alone p (at p rows))) (sorted_at parts (alone p (row_in change))), sort-alone parts p (at p rows), sort-alone parts p (row_in change))
 
-  pub unwind-bound : (u : Unwind) → length (diff (unwound_at u rows) (unwound_at u (with_change rows change))) ≤ rows_made u (at (place_of change) rows) + rows_made u (row_in change)
+  pub unwind-bound : (u : Unwind) → length (diff (unwound_at u rows) (unwound_at u (with_change rows change))) ≤ rows_made u (at (position_changed change) rows) + rows_made u (row_in change)
   unwind-bound u =
-      let p = place_of change in
+      let p = position_changed change in
       omega (arith, ap length (row-owed (unwound_at u) but_last (unwind_ordered u) (unwind_empty u) (unwind_exact u) (unwind_single u) rows change are exact), diff-length (unwound_at u (alone p (at p rows))) (unwound_at u (alone p (row_in change))), unwind-alone u p (at p rows), unwind-alone u p (row_in change))

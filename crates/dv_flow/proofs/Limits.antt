@@ -15,14 +15,14 @@ use Rattle.std.specs.Ordering.{is_eq, is_gt, is_lt, match_ordering, ordering_rev
 use Rattle.dv_bson.specs.Tree.{Field}
 use Rattle.dv_change.specs.declared.change.Change.{Change}
 use Rattle.dv_change.specs.declared.change.Change.TheVariants.{Gone, Put}
-use Rattle.dv_change.specs.Changes.{IsExactChange, IsPositioned, Positioned, at, forget, place_of, with_change}
+use Rattle.dv_change.specs.Changes.{IsExactChange, IsPositioned, Positioned, at, forget, position_changed, with_change}
 use Rattle.dv_change.specs.DiffLaws.{IsPartAt, at-differs, at-went, diff-parts, exact-place, or_else, positioned-changed, positioned-filter}
-use Rattle.dv_change.specs.Difference.{diff, gones, puts, stands}
+use Rattle.dv_change.specs.Difference.{diff, gones, puts, stands_as}
 use Rattle.dv_change.specs.Ordered.{gone, put}
 use Rattle.dv_change.specs.PositionLaws.{pos_order_total}
 use Rattle.dv_change.specs.Positions.{IsExact, PosTree, pos_order}
 use Rattle.dv_change.specs.RowLaws.{at-gone, at-like, at-put, at_back, positioned-gone, positioned-none, positioned-put, positioned-tail, put-front, same_rows}
-use Rattle.dv_flow.specs.Limiting.{at_either, edge_of, is_past, last_place, limit_ordered, next_place, with_row}
+use Rattle.dv_flow.specs.Limiting.{at_either, edge_of, is_past, last_place, limit_ordered, next_place, with_limited_row}
 use Rattle.dv_flow.specs.Placed.{front_at}
 
 -- ---- what a change makes of the first rows, at positions that stand beside neither its own nor the edge
@@ -69,7 +69,7 @@ at-front-gone q p (suc n) (e ∷ rows) apart other = by (is_eq (pos_order p e.0)
         sym (at-next q n rows other) ∙ sym (ap (λ b. cond b (Some e.1) (at q (front_at n rows))) here)
     by false b rest = ap (cond (is_eq (pos_order q e.0)) (Some e.1)) rest
 
-at-front-changed : (q : PosTree) (n : ℕ) (rows : Positioned) (change : Change) → is_eq (pos_order q (place_of change)) ≡ false → is_beside q (edge_of n change rows) ≡ false → at q (front_at n (with_change rows change)) ≡ at q (front_at n rows)
+at-front-changed : (q : PosTree) (n : ℕ) (rows : Positioned) (change : Change) → is_eq (pos_order q (position_changed change)) ≡ false → is_beside q (edge_of n change rows) ≡ false → at q (front_at n (with_change rows change)) ≡ at q (front_at n rows)
 at-front-changed q n rows (Put p r) apart other = at-front-put q p r n rows apart other
 at-front-changed q n rows (Gone p) apart other = at-front-gone q p n rows apart other
 
@@ -81,7 +81,7 @@ or-same true (Some v) = refl
 or-same false None = refl
 or-same false (Some v) = refl
 
-at-with-row : (q p : PosTree) (row : Option (List Field)) (rows : Positioned) → at q (with_row p row rows) ≡ cond (is_eq (pos_order q p)) (or_else row (at q rows)) (at q rows)
+at-with-row : (q p : PosTree) (row : Option (List Field)) (rows : Positioned) → at q (with_limited_row p row rows) ≡ cond (is_eq (pos_order q p)) (or_else row (at q rows)) (at q rows)
 at-with-row q p None rows = by (is_eq (pos_order q p))
   where
     by : (b : Bool) → at q rows ≡ cond b (at q rows) (at q rows)
@@ -90,7 +90,7 @@ at-with-row q p None rows = by (is_eq (pos_order q p))
 at-with-row q p (Some v) rows = at-put q p v rows
 
 -- one position more at which the rows have what others have
-at-one-more : (q p : PosTree) (b : Bool) (rows some : Positioned) → at q some ≡ cond b (at q rows) None → at q (with_row p (at p rows) some) ≡ cond (is_eq (pos_order q p) || b) (at q rows) None
+at-one-more : (q p : PosTree) (b : Bool) (rows some : Positioned) → at q some ≡ cond b (at q rows) None → at q (with_limited_row p (at p rows) some) ≡ cond (is_eq (pos_order q p) || b) (at q rows) None
 at-one-more q p b rows some there = at-with-row q p (at p rows) some ∙ by (is_eq (pos_order q p)) refl
   where
     by : (c : Bool) → is_eq (pos_order q p) ≡ c → cond c (or_else (at p rows) (at q some)) (at q some) ≡ cond (c || b) (at q rows) None
@@ -103,7 +103,7 @@ is_either q p (Some edge) = is_eq (pos_order q edge) || (is_eq (pos_order q p) |
 
 at-at-either : (q p : PosTree) (edge : Option PosTree) (rows : Positioned) → at q (at_either p edge rows) ≡ cond (is_either q p edge) (at q rows) None
 at-at-either q p None rows = at-one-more q p false rows [] refl
-at-at-either q p (Some edge) rows = at-one-more q edge (is_eq (pos_order q p) || false) rows (with_row p (at p rows) []) (at-one-more q p false rows [] refl)
+at-at-either q p (Some edge) rows = at-one-more q edge (is_eq (pos_order q p) || false) rows (with_limited_row p (at p rows) []) (at-one-more q p false rows [] refl)
 
 none-of : (b c : Bool) → (b || c) ≡ false → (b ≡ false) × (c ≡ false)
 none-of true c e = cc
@@ -119,13 +119,13 @@ abbrev IsExactEdge : Option PosTree → Type 0
 IsExactEdge None = ⊤
 IsExactEdge (Some edge) = IsExact edge
 
-positioned-with-row : (p : PosTree) (row : Option (List Field)) (rows : Positioned) → IsExact p → IsPositioned rows → IsPositioned (with_row p row rows)
+positioned-with-row : (p : PosTree) (row : Option (List Field)) (rows : Positioned) → IsExact p → IsPositioned rows → IsPositioned (with_limited_row p row rows)
 positioned-with-row p None rows exact are = are
 positioned-with-row p (Some v) rows exact are = positioned-put p v rows are exact
 
 positioned-either : (p : PosTree) (edge : Option PosTree) (rows : Positioned) → IsExact p → IsExactEdge edge → IsPositioned (at_either p edge rows)
 positioned-either p None rows exact also = positioned-with-row p (at p rows) [] exact positioned-none
-positioned-either p (Some edge) rows exact also = positioned-with-row edge (at edge rows) (with_row p (at p rows) []) also (positioned-with-row p (at p rows) [] exact positioned-none)
+positioned-either p (Some edge) rows exact also = positioned-with-row edge (at edge rows) (with_limited_row p (at p rows) []) also (positioned-with-row p (at p rows) [] exact positioned-none)
 
 exact-next : (n : ℕ) (rows : Positioned) → AllByRecursion IsExact (keys_of rows) → IsExactEdge (next_place n rows)
 exact-next n [] exact = tt
@@ -146,17 +146,17 @@ module _ (n : ℕ) (rows : Positioned) (change : Change) (are : IsPositioned row
   after : IsPositioned (with_change rows change)
   after = positioned-changed rows change are exact
 
-  part : (q : PosTree) (here : Bool) → is_either q (place_of change) (edge_of n change rows) ≡ here
-      → IsPartAt (front_at n rows) (front_at n (with_change rows change)) (at_either (place_of change) (edge_of n change rows) (front_at n rows)) (at_either (place_of change) (edge_of n change rows) (front_at n (with_change rows change))) q
+  part : (q : PosTree) (here : Bool) → is_either q (position_changed change) (edge_of n change rows) ≡ here
+      → IsPartAt (front_at n rows) (front_at n (with_change rows change)) (at_either (position_changed change) (edge_of n change rows) (front_at n rows)) (at_either (position_changed change) (edge_of n change rows) (front_at n (with_change rows change))) q
   part q true here =
-      let p = place_of change in
+      let p = position_changed change in
       let edge = edge_of n change rows in
       inl (
         at-at-either q p edge (front_at n rows) ∙ ap (λ b. cond b (at q (front_at n rows)) None) here,
         at-at-either q p edge (front_at n (with_change rows change)) ∙ ap (λ b. cond b (at q (front_at n (with_change rows change))) None) here,
       )
   part q false here =
-      let p = place_of change in
+      let p = position_changed change in
       let edge = edge_of n change rows in
       let apart = neither q p edge here in
       inr (
@@ -165,9 +165,9 @@ module _ (n : ℕ) (rows : Positioned) (change : Change) (are : IsPositioned row
         sym (at-front-changed q n rows change apart.0 apart.1),
       )
 
-  pub limit-owed : diff (front_at n rows) (front_at n (with_change rows change)) ≡ diff (at_either (place_of change) (edge_of n change rows) (front_at n rows)) (at_either (place_of change) (edge_of n change rows) (front_at n (with_change rows change)))
+  pub limit-owed : diff (front_at n rows) (front_at n (with_change rows change)) ≡ diff (at_either (position_changed change) (edge_of n change rows) (front_at n rows)) (at_either (position_changed change) (edge_of n change rows) (front_at n (with_change rows change)))
   limit-owed =
-      let p = place_of change in
+      let p = position_changed change in
       let edge = edge_of n change rows in
       let old = front_at n rows in
       let new = front_at n (with_change rows change) in
@@ -177,7 +177,7 @@ module _ (n : ℕ) (rows : Positioned) (change : Change) (are : IsPositioned row
       part q (is_either q p edge) refl)
 
   -- with the values that the code has
-  pub limit-handed : (pos : PosTree) (edge : Option PosTree) (front shown old new : Positioned) → pos ≡ place_of change → edge ≡ edge_of n change rows → front ≡ front_at n rows → shown ≡ front_at n (with_change rows change)
+  pub limit-handed : (pos : PosTree) (edge : Option PosTree) (front shown old new : Positioned) → pos ≡ position_changed change → edge ≡ edge_of n change rows → front ≡ front_at n rows → shown ≡ front_at n (with_change rows change)
       → old ≡ at_either pos edge front → new ≡ at_either pos edge shown
       → diff old new ≡ diff (front_at n rows) (front_at n (with_change rows change))
   limit-handed pos edge front shown old new p e f s o w =
@@ -358,11 +358,11 @@ gone-none p xs found = sym (ap (gone p) (append-nil xs)) ∙ sym (gone-behind p 
 
 -- ---- a change behind all of the front leaves that as it is
 
-pub changed-past : (change : Change) (xs ys : Positioned) → is_past (place_of change) xs ≡ true → with_change (xs ++ ys) change ≡ xs ++ with_change ys change
+pub changed-past : (change : Change) (xs ys : Positioned) → is_past (position_changed change) xs ≡ true → with_change (xs ++ ys) change ≡ xs ++ with_change ys change
 changed-past (Put p r) xs ys past = put-past p r xs ys past
 changed-past (Gone p) xs ys past = sym (gone-behind p xs ys (past-apart p xs past))
 
-pub nothing-owed : (n : ℕ) (change : Change) (xs ys : Positioned) → IsPositioned (xs ++ ys) → length xs ≡ n → is_past (place_of change) xs ≡ true → diff (front_at n (xs ++ ys)) (front_at n (with_change (xs ++ ys) change)) ≡ []
+pub nothing-owed : (n : ℕ) (change : Change) (xs ys : Positioned) → IsPositioned (xs ++ ys) → length xs ≡ n → is_past (position_changed change) xs ≡ true → diff (front_at n (xs ++ ys)) (front_at n (with_change (xs ++ ys) change)) ≡ []
 nothing-owed n change xs ys are long past =
     let front = limit_ordered n (xs ++ ys) are in
     let same : front_at n (with_change (xs ++ ys) change) ≡ front_at n (xs ++ ys) = ap (front_at n) (changed-past change xs ys past) ∙ sym (cut-full n xs (with_change ys change) long) ∙ cut-full n xs ys long in
@@ -425,7 +425,7 @@ abbrev went : Positioned → Positioned → Positioned
 went old new = filter (λ e. is_none (at e.0 new)) old
 
 abbrev came : Positioned → Positioned → Positioned
-came old new = filter (λ e. not (stands (at e.0 old) e.1)) new
+came old new = filter (λ e. not (stands_as (at e.0 old) e.1)) new
 
 diff-length : (old new : Positioned) → length (diff old new) ≡ length (went old new) + length (came old new)
 diff-length old new =
@@ -444,11 +444,11 @@ nothing-of f true a = refl
 nothing-of f false a = refl
 
 -- at a position one row goes or one comes
-one-change : (a b : Option (List Field)) → cond (is_some (option_filter (λ v. is_none b) a)) 1 0 + cond (is_some (option_filter (λ v. not (stands a v)) b)) 1 0 ≤ 1
+one-change : (a b : Option (List Field)) → cond (is_some (option_filter (λ v. is_none b) a)) 1 0 + cond (is_some (option_filter (λ v. not (stands_as a v)) b)) 1 0 ≤ 1
 one-change None None = omega arith
 one-change (Some v) None = omega arith
 one-change None (Some w) = omega arith
-one-change (Some v) (Some w) = by (stands (Some v) w)
+one-change (Some v) (Some w) = by (stands_as (Some v) w)
   where
     by : (s : Bool) → 0 + cond (is_some (cond (not s) (Some w) None)) 1 0 ≤ 1
     by true = omega arith
@@ -470,14 +470,14 @@ module _ (p : PosTree) (old new : Positioned) (o : IsPositioned old) (n : IsPosi
 
   came-others : came (gone p old) (gone p new) ≡ gone p (came old new)
   came-others =
-      same_rows (came (gone p old) (gone p new)) (gone p (came old new)) (positioned-filter (λ e. not (stands (at e.0 (gone p old)) e.1)) (gone p new) (positioned-gone p new n)) (positioned-gone p (came old new) (positioned-filter (λ e. not (stands (at e.0 old) e.1)) new n)) (λ q exact.
+      same_rows (came (gone p old) (gone p new)) (gone p (came old new)) (positioned-filter (λ e. not (stands_as (at e.0 (gone p old)) e.1)) (gone p new) (positioned-gone p new n)) (positioned-gone p (came old new) (positioned-filter (λ e. not (stands_as (at e.0 old) e.1)) new n)) (λ q exact.
       at-differs (gone p old) (gone p new) q (positioned-gone p new n)
-      ∙ (λ i. option_filter (λ v. not (stands (at-gone q p old o.ascending i) v)) (at-gone q p new n.ascending i))
+      ∙ (λ i. option_filter (λ v. not (stands_as (at-gone q p old o.ascending i) v)) (at-gone q p new n.ascending i))
       ∙ by (is_eq (pos_order p q)) (at q old) (at q new)
       ∙ ap (cond (is_eq (pos_order p q)) None) (sym (at-differs old new q n))
-      ∙ sym (at-gone q p (came old new) (positioned-filter (λ e. not (stands (at e.0 old) e.1)) new n).ascending))
+      ∙ sym (at-gone q p (came old new) (positioned-filter (λ e. not (stands_as (at e.0 old) e.1)) new n).ascending))
     where
-      by : (b : Bool) (x y : Option (List Field)) → option_filter (λ v. not (stands (cond b None x) v)) (cond b None y) ≡ cond b None (option_filter (λ v. not (stands x v)) y)
+      by : (b : Bool) (x y : Option (List Field)) → option_filter (λ v. not (stands_as (cond b None x) v)) (cond b None y) ≡ cond b None (option_filter (λ v. not (stands_as x v)) y)
       by true x y = refl
       by false x y = refl
 
@@ -486,7 +486,7 @@ module _ (p : PosTree) (old new : Positioned) (o : IsPositioned old) (n : IsPosi
   diff-others =
       let goes : length (went old new) ≡ cond (is_some (option_filter (λ v. is_none (at p new)) (at p old))) 1 0 + length (went (gone p old) (gone p new)) =
       gone-length p (went old new) ∙ (λ i. cond (is_some (at-went old new p o i)) 1 0 + length (sym went-others i)) in
-      let comes : length (came old new) ≡ cond (is_some (option_filter (λ v. not (stands (at p old) v)) (at p new))) 1 0 + length (came (gone p old) (gone p new)) =
+      let comes : length (came old new) ≡ cond (is_some (option_filter (λ v. not (stands_as (at p old) v)) (at p new))) 1 0 + length (came (gone p old) (gone p new)) =
       gone-length p (came old new) ∙ (λ i. cond (is_some (at-differs old new p n i)) 1 0 + length (sym came-others i)) in
       omega (arith, goes, comes, one-change (at p old) (at p new), diff-length old new, diff-length (gone p old) (gone p new))
 
@@ -501,7 +501,7 @@ pub limit-bound : (n : ℕ) (rows : Positioned) (change : Change) → IsPosition
 limit-bound n rows change are exact = by (edge_of n change rows) refl
   where
     p : PosTree
-    p = place_of change
+    p = position_changed change
 
     old : Positioned
     old = front_at n rows

@@ -3,17 +3,17 @@ use Rattle.std.specs.Prelude.{◌≡◌, ◌+◌, ℕ, suc, List, [], ◌∷◌,
 use Rattle.std.proofs.Common.{ap, arith, ◌∙◌}
 use Rattle.dv_bson.specs.Tree.{Field}
 use Rattle.dv_change.specs.declared.position.Part.TheVariants.{At}
-use Rattle.dv_change.specs.Changes.{Positioned, in_order}
+use Rattle.dv_change.specs.Changes.{Positioned, in_row_order}
 use Rattle.dv_change.specs.Ordered.{put}
 use Rattle.dv_change.specs.Positions.{PosTree}
-use Rattle.dv_flow.specs.Placed.{numbered}
+use Rattle.dv_flow.specs.Placed.{rows_numbered}
 
 -- rows behind a position, each at its number, in front of others
 abbrev pub onto : ℕ → PosTree → List (List Field) → Positioned → Positioned
 onto i pos [] es = es
 onto i pos (d ∷ ds) es = put (pos ++ At i ∷ []) d (onto (suc i) pos ds es)
 
-pub onto-none : (i : ℕ) (pos : PosTree) (ds : List (List Field)) → onto i pos ds [] ≡ in_order (numbered i pos ds)
+pub onto-none : (i : ℕ) (pos : PosTree) (ds : List (List Field)) → onto i pos ds [] ≡ in_row_order (rows_numbered i pos ds)
 onto-none i pos [] = refl
 onto-none i pos (d ∷ ds) = ap (put (pos ++ At i ∷ []) d) (onto-none (suc i) pos ds)
 

@@ -6,7 +6,7 @@ use Rattle.std.specs.Cmp.{Equal-is, tied_itself}
 use Rattle.std.specs.Ordering.{is_eq}
 use Rattle.dv_bson.specs.Tree.{Field}
 use Rattle.dv_change.specs.declared.change.Change.{Change}
-use Rattle.dv_change.specs.Changes.{IsExactChange, IsPositioned, Positioned, alone, at, place_of, row_in, with_change}
+use Rattle.dv_change.specs.Changes.{IsExactChange, IsPositioned, Positioned, alone, at, position_changed, row_in, with_change}
 use Rattle.dv_change.specs.Difference.{diff}
 use Rattle.dv_change.specs.DiffLaws.{IsPartAt, at-alone, at-changed, diff-parts, exact-place, positioned-alone, positioned-changed}
 use Rattle.dv_change.specs.PositionLaws.{pos_order_total}
@@ -32,16 +32,16 @@ module _ (makes : Positioned → Positioned) (origin : PosTree → PosTree)
     after : IsPositioned (with_change rows change)
     after = positioned-changed rows change are changes
 
-    part : (q : PosTree) (own : Bool) → IsExact q → is_eq (pos_order (origin q) (place_of change)) ≡ own
-        → IsPartAt (makes rows) (makes (with_change rows change)) (makes (alone (place_of change) (at (place_of change) rows))) (makes (alone (place_of change) (row_in change))) q
+    part : (q : PosTree) (own : Bool) → IsExact q → is_eq (pos_order (origin q) (position_changed change)) ≡ own
+        → IsPartAt (makes rows) (makes (with_change rows change)) (makes (alone (position_changed change) (at (position_changed change) rows))) (makes (alone (position_changed change) (row_in change))) q
     part q true x own =
-        let p = place_of change in
+        let p = position_changed change in
         let place = exact-place change changes in
         let beside = (Equal-is (pos_order (origin q) p)).0 own in
         let there : at p (with_change rows change) ≡ row_in change = at-changed p rows change are ∙ ap (λ r. cond (is_eq r) (row_in change) (at p rows)) (tied_itself pos_order_total p) in
         inl (sym (single rows q p are x place beside), sym (single (with_change rows change) q p after x place beside ∙ ap (λ r. at q (makes (alone p r))) there))
     part q false x other =
-        let p = place_of change in
+        let p = position_changed change in
         let place = exact-place change changes in
         let same : at (origin q) (with_change rows change) ≡ at (origin q) rows = at-changed (origin q) rows change are ∙ ap (λ b. cond b (row_in change) (at (origin q) rows)) other in
         inr (
@@ -50,9 +50,9 @@ module _ (makes : Positioned → Positioned) (origin : PosTree → PosTree)
           at-own rows q are x ∙ ap (λ r. at q (makes (alone (origin q) r))) (sym same) ∙ sym (at-own (with_change rows change) q after x),
         )
 
-    pub row-owed : diff (makes rows) (makes (with_change rows change)) ≡ diff (makes (alone (place_of change) (at (place_of change) rows))) (makes (alone (place_of change) (row_in change)))
+    pub row-owed : diff (makes rows) (makes (with_change rows change)) ≡ diff (makes (alone (position_changed change) (at (position_changed change) rows))) (makes (alone (position_changed change) (row_in change)))
     row-owed =
-        let p = place_of change in
+        let p = position_changed change in
         let place = exact-place change changes in
         diff-parts (makes rows) (makes (with_change rows change)) (makes (alone p (at p rows))) (makes (alone p (row_in change))) (ordered rows are) (ordered (with_change rows change) after) (ordered (alone p (at p rows)) (positioned-alone p (at p rows) place)) (ordered (alone p (row_in change)) (positioned-alone p (row_in change) place)) (λ q x.
         part q (is_eq (pos_order (origin q) p)) x refl)

@@ -17,11 +17,11 @@ use Rattle.dv_path.specs.declared.direction.Direction.TheVariants.{Ascending, De
 use Rattle.dv_path.specs.SortKey.{sort_key, stands_first}
 use Rattle.dv_path.specs.SortSpec.{Part}
 use Rattle.dv_sort.specs.Sorting.{ordered, placed, stable, stands_before}
-use Rattle.dv_change.specs.Changes.{IsPositioned, Positioned, forget, in_order}
+use Rattle.dv_change.specs.Changes.{IsPositioned, Positioned, forget, in_row_order}
 use Rattle.dv_change.specs.Ordered.{put}
 use Rattle.dv_change.specs.PositionLaws.{part_order_total, pos_order_total}
 use Rattle.dv_change.specs.Positions.{PosTree, part_order, pos_order}
-use Rattle.dv_flow.specs.Placed.{part_at, places_of, sorted_at}
+use Rattle.dv_flow.specs.Placed.{part_at, sort_place, sorted_at}
 
 -- ---- the first of some elements put in order is put in front of its ties
 
@@ -64,7 +64,7 @@ decided Less rest = refl
 decided Equal rest = refl
 decided Greater rest = refl
 
-before-is : (parts : List Part) (d e : List Field) → stands_before parts d e ≡ is_lt (pos_order (places_of parts d) (places_of parts e))
+before-is : (parts : List Part) (d e : List Field) → stands_before parts d e ≡ is_lt (pos_order (sort_place parts d) (sort_place parts e))
 before-is [] d e = refl
 before-is (part ∷ parts) d e =
     let k = sort_key d part.0 part.1 in
@@ -72,21 +72,21 @@ before-is (part ∷ parts) d e =
     let a = part_at part.1 k in
     let b = part_at part.1 l in
     let back : stands_first part.1 l k ≡ is_lt (ordering_reverse (part_order a b)) = first-is part.1 l k ∙ ap is_lt (part_order_total.antisymm b a) in
-    (λ i. cond (first-is part.1 k l i) true (cond (back i) false (before-is parts d e i))) ∙ decided (part_order a b) (pos_order (places_of parts d) (places_of parts e))
+    (λ i. cond (first-is part.1 k l i) true (cond (back i) false (before-is parts d e i))) ∙ decided (part_order a b) (pos_order (sort_place parts d) (sort_place parts e))
 
 before-ranks : (parts : List Part) → IsStrictWeakOrder (stands_before parts)
-before-ranks parts = subst IsStrictWeakOrder (λ i d e. sym (before-is parts d e) i) (ranks_by pos_order_total (places_of parts))
+before-ranks parts = subst IsStrictWeakOrder (λ i d e. sym (before-is parts d e) i) (ranks_by pos_order_total (sort_place parts))
 
 -- behind places these decide first
-places-first : (parts : List Part) (d e : List Field) (p q : PosTree) → pos_order (places_of parts d ++ p) (places_of parts e ++ q) ≡ ordering_then (pos_order (places_of parts d) (places_of parts e)) (pos_order p q)
+places-first : (parts : List Part) (d e : List Field) (p q : PosTree) → pos_order (sort_place parts d ++ p) (sort_place parts e ++ q) ≡ ordering_then (pos_order (sort_place parts d) (sort_place parts e)) (pos_order p q)
 places-first [] d e p q = refl
 places-first (part ∷ parts) d e p q = by (part_order (part_at part.1 (sort_key d part.0 part.1)) (part_at part.1 (sort_key e part.0 part.1))) (places-first parts d e p q)
   where
     both : Ordering
-    both = pos_order (places_of parts d ++ p) (places_of parts e ++ q)
+    both = pos_order (sort_place parts d ++ p) (sort_place parts e ++ q)
 
     places : Ordering
-    places = pos_order (places_of parts d) (places_of parts e)
+    places = pos_order (sort_place parts d) (sort_place parts e)
 
     by : (r : Ordering) → both ≡ ordering_then places (pos_order p q) → ordering_then r both ≡ ordering_then (ordering_then r places) (pos_order p q)
     by Less rest = refl
@@ -102,27 +102,27 @@ turned Greater = refl
 
 module _ (parts : List Part) where
   abbrev row_of : PosTree × List Field → PosTree × List Field
-  row_of e = (places_of parts e.1 ++ e.0, e.1)
+  row_of e = (sort_place parts e.1 ++ e.0, e.1)
 
   abbrev comes_before : PosTree × List Field → PosTree × List Field → Bool
   comes_before e f = stands_before parts e.1 f.1
 
   -- the later of two rows comes first only where it stands before the other one
-  earlier-row : (e f : PosTree × List Field) → pos_order e.0 f.0 ≡ Less → pos_order (places_of parts e.1 ++ e.0) (places_of parts f.1 ++ f.0) ≡ cond (comes_before f e) Greater Less
+  earlier-row : (e f : PosTree × List Field) → pos_order e.0 f.0 ≡ Less → pos_order (sort_place parts e.1 ++ e.0) (sort_place parts f.1 ++ f.0) ≡ cond (comes_before f e) Greater Less
   earlier-row e f less =
-      let ones = places_of parts e.1 in
-      let others = places_of parts f.1 in
+      let ones = sort_place parts e.1 in
+      let others = sort_place parts f.1 in
       let back : comes_before f e ≡ is_lt (ordering_reverse (pos_order ones others)) = before-is parts f.1 e.1 ∙ ap is_lt (pos_order_total.antisymm others ones) in
       places-first parts e.1 f.1 e.0 f.0 ∙ ap (ordering_then (pos_order ones others)) less ∙ turned (pos_order ones others) ∙ ap (λ b. cond b Greater Less) (sym back)
 
-  put-fronted : (e : PosTree × List Field) (es : Positioned) → AllByRecursion (λ q. pos_order e.0 q ≡ Less) (keys_of es) → put (places_of parts e.1 ++ e.0) e.1 (map row_of es) ≡ map row_of (fronted comes_before e es)
+  put-fronted : (e : PosTree × List Field) (es : Positioned) → AllByRecursion (λ q. pos_order e.0 q ≡ Less) (keys_of es) → put (sort_place parts e.1 ++ e.0) e.1 (map row_of es) ≡ map row_of (fronted comes_before e es)
   put-fronted e [] below = refl
   put-fronted e (f ∷ es) below = by (comes_before f e) (earlier-row e f below.0) (put-fronted e es below.1)
     where
       pos : PosTree
-      pos = places_of parts e.1 ++ e.0
+      pos = sort_place parts e.1 ++ e.0
 
-      by : (b : Bool) → pos_order pos (places_of parts f.1 ++ f.0) ≡ cond b Greater Less → put pos e.1 (map row_of es) ≡ map row_of (fronted comes_before e es)
+      by : (b : Bool) → pos_order pos (sort_place parts f.1 ++ f.0) ≡ cond b Greater Less → put pos e.1 (map row_of es) ≡ map row_of (fronted comes_before e es)
           → put pos e.1 (row_of f ∷ map row_of es) ≡ map row_of (cond b (f ∷ fronted comes_before e es) (e ∷ f ∷ es))
       by true h rest = rw h (ap (λ fs. row_of f ∷ fs) rest)
       by false h rest = rw h refl
@@ -153,10 +153,10 @@ module _ (parts : List Part) where
   all-fronts P [] all = tt
   all-fronts P (e ∷ rows) all = all-fronted P e (fronts rows) all.0 (all-fronts P rows all.1)
 
-  in_order-fronts : (rows : Positioned) → IsStrictlySortedBy pos_order (keys_of rows) → in_order (map row_of rows) ≡ map row_of (fronts rows)
+  in_order-fronts : (rows : Positioned) → IsStrictlySortedBy pos_order (keys_of rows) → in_row_order (map row_of rows) ≡ map row_of (fronts rows)
   in_order-fronts [] up = refl
   in_order-fronts (e ∷ rows) up =
-      ap (put (places_of parts e.1 ++ e.0) e.1) (in_order-fronts rows (sorted_tail pos_order e.0 (keys_of rows) up))
+      ap (put (sort_place parts e.1 ++ e.0) e.1) (in_order-fronts rows (sorted_tail pos_order e.0 (keys_of rows) up))
       ∙ put-fronted e (fronts rows) (all-fronts (λ q. pos_order e.0 q ≡ Less) rows (sorted_head pos_order e.0 (keys_of rows) up))
 
   rows-forget : (rows : Positioned) → forget (map row_of rows) ≡ forget rows

@@ -14,13 +14,13 @@ use Rattle.dv_bson.specs.Tree.{Field}
 use Rattle.dv_row.specs.declared.unwind.Unwind.{Unwind}
 use Rattle.dv_row.specs.Unwinding.{unwound}
 use Rattle.dv_change.specs.declared.position.Part.TheVariants.{At}
-use Rattle.dv_change.specs.Changes.{HaveOneLength, IsPositioned, Positioned, forget, in_order}
+use Rattle.dv_change.specs.Changes.{HaveOneLength, IsPositioned, Positioned, forget, in_row_order}
 use Rattle.dv_change.specs.Ordered.{put}
 use Rattle.dv_change.specs.PositionLaws.{part_order_total}
 use Rattle.dv_change.specs.Positions.{PosTree, part_order, pos_order}
 use Rattle.dv_change.specs.RowLaws.{put-front}
 use Rattle.dv_flow.specs.Gathered.{all-both}
-use Rattle.dv_flow.specs.Placed.{numbered, unwound_at}
+use Rattle.dv_flow.specs.Placed.{rows_numbered, unwound_at}
 
 -- a position stands below all of some rows
 abbrev IsBelow : PosTree → Positioned → Type 0
@@ -32,7 +32,7 @@ Ascend es = IsStrictlySortedBy pos_order (keys_of es)
 -- ---- rows in order
 
 -- rows in order stay as they are
-in_order-stays : (es : Positioned) → Ascend es → in_order es ≡ es
+in_order-stays : (es : Positioned) → Ascend es → in_row_order es ≡ es
 in_order-stays [] up = refl
 in_order-stays (e ∷ es) up = ap (put e.0 e.1) (in_order-stays es (sorted_tail pos_order e.0 (keys_of es) up)) ∙ put-front e.0 e.1 es (sorted_head pos_order e.0 (keys_of es) up)
 
@@ -63,16 +63,16 @@ less-behind (a ∷ p) (b ∷ q) s t long less = by (part_order a b) less (λ res
 
 -- ---- numbered rows
 
-all-numbered : (P : PosTree → Type 0) (i : ℕ) (p : PosTree) (ds : List (List Field)) → ((j : ℕ) → i ≤ j → P (p ++ At j ∷ [])) → AllByRecursion P (keys_of (numbered i p ds))
+all-numbered : (P : PosTree → Type 0) (i : ℕ) (p : PosTree) (ds : List (List Field)) → ((j : ℕ) → i ≤ j → P (p ++ At j ∷ [])) → AllByRecursion P (keys_of (rows_numbered i p ds))
 all-numbered P i p [] each = tt
 all-numbered P i p (d ∷ ds) each = (each i (omega arith), all-numbered P (suc i) p ds (λ j above. each j (omega arith)))
 
-ascend-numbered : (i : ℕ) (p : PosTree) (ds : List (List Field)) → Ascend (numbered i p ds)
+ascend-numbered : (i : ℕ) (p : PosTree) (ds : List (List Field)) → Ascend (rows_numbered i p ds)
 unfolding IsStrictlySortedBy
 ascend-numbered i p [] = tt
 ascend-numbered i p (d ∷ ds) = (all-numbered (λ q. pos_order (p ++ At i ∷ []) q ≡ Less) (suc i) p ds (λ j above. less-numbered p i j (omega arith)), ascend-numbered (suc i) p ds)
 
-numbered-forgets : (i : ℕ) (p : PosTree) (ds : List (List Field)) → forget (numbered i p ds) ≡ ds
+numbered-forgets : (i : ℕ) (p : PosTree) (ds : List (List Field)) → forget (rows_numbered i p ds) ≡ ds
 numbered-forgets i p [] = refl
 numbered-forgets i p (d ∷ ds) = ap (λ es. d ∷ es) (numbered-forgets (suc i) p ds)
 
@@ -80,7 +80,7 @@ numbered-forgets i p (d ∷ ds) = ap (λ es. d ∷ es) (numbered-forgets (suc i)
 
 module _ (u : Unwind) where
   abbrev rows_of : PosTree × List Field → Positioned
-  rows_of e = numbered 0 e.0 (unwound u e.1)
+  rows_of e = rows_numbered 0 e.0 (unwound u e.1)
 
   rows-forget : (rows : Positioned) → forget (flat_map rows_of rows) ≡ flat_map (unwound u) (forget rows)
   rows-forget [] = refl

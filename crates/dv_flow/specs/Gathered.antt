@@ -8,7 +8,7 @@ use Rattle.std.specs.Ordering.{is_eq}
 use Rattle.std.specs.List.{AllByRecursion, flat_map}
 use Rattle.std.specs.Map.{keys_of}
 use Rattle.dv_bson.specs.Tree.{Field}
-use Rattle.dv_change.specs.Changes.{IsPositioned, Positioned, alone, at, in_order}
+use Rattle.dv_change.specs.Changes.{IsPositioned, Positioned, alone, at, in_row_order}
 use Rattle.dv_change.specs.DiffLaws.{or_else}
 use Rattle.dv_change.specs.PositionLaws.{pos_order_total}
 use Rattle.dv_change.specs.Positions.{IsExact, PosTree, pos_order}
@@ -22,17 +22,17 @@ at-both q (e ∷ es) fs = by (is_eq (pos_order q e.0)) (at-both q es fs)
     by true rest = refl
     by false rest = rest
 
-pub at-in_order : (q : PosTree) (es : Positioned) → at q (in_order es) ≡ at q es
+pub at-in_order : (q : PosTree) (es : Positioned) → at q (in_row_order es) ≡ at q es
 at-in_order q [] = refl
-at-in_order q (e ∷ es) = at-put q e.0 e.1 (in_order es) ∙ ap (cond (is_eq (pos_order q e.0)) (Some e.1)) (at-in_order q es)
+at-in_order q (e ∷ es) = at-put q e.0 e.1 (in_row_order es) ∙ ap (cond (is_eq (pos_order q e.0)) (Some e.1)) (at-in_order q es)
 
-pub all-in_order : (P : PosTree → Type 0) (es : Positioned) → AllByRecursion P (keys_of es) → AllByRecursion P (keys_of (in_order es))
+pub all-in_order : (P : PosTree → Type 0) (es : Positioned) → AllByRecursion P (keys_of es) → AllByRecursion P (keys_of (in_row_order es))
 all-in_order P [] all = tt
-all-in_order P (e ∷ es) all = all-put P e.0 e.1 (in_order es) (all-in_order P es all.1) all.0
+all-in_order P (e ∷ es) all = all-put P e.0 e.1 (in_row_order es) (all-in_order P es all.1) all.0
 
-pub positioned-in_order : (es : Positioned) → AllByRecursion IsExact (keys_of es) → IsPositioned (in_order es)
+pub positioned-in_order : (es : Positioned) → AllByRecursion IsExact (keys_of es) → IsPositioned (in_row_order es)
 positioned-in_order [] all = positioned-none
-positioned-in_order (e ∷ es) all = positioned-put e.0 e.1 (in_order es) (positioned-in_order es all.1) all.0
+positioned-in_order (e ∷ es) all = positioned-put e.0 e.1 (in_row_order es) (positioned-in_order es all.1) all.0
 
 pub all-both : (P : PosTree → Type 0) (es fs : Positioned) → AllByRecursion P (keys_of es) → AllByRecursion P (keys_of fs) → AllByRecursion P (keys_of (es ++ fs))
 all-both P [] fs some others = others
@@ -43,7 +43,7 @@ module _ (made : PosTree × List Field → Positioned) where
   all-made P Q each [] all = tt
   all-made P Q each (e ∷ rows) all = all-both Q (made e) (flat_map made rows) (each e all.0) (all-made P Q each rows all.1)
 
-  pub positioned-gathered : ((e : PosTree × List Field) → IsExact e.0 → AllByRecursion IsExact (keys_of (made e))) → (rows : Positioned) → IsPositioned rows → IsPositioned (in_order (flat_map made rows))
+  pub positioned-gathered : ((e : PosTree × List Field) → IsExact e.0 → AllByRecursion IsExact (keys_of (made e))) → (rows : Positioned) → IsPositioned rows → IsPositioned (in_row_order (flat_map made rows))
   positioned-gathered each rows are = positioned-in_order (flat_map made rows) (all-made IsExact IsExact each rows are.exact)
 
   module _ (origin : PosTree → PosTree) (apart : (e : PosTree × List Field) (q : PosTree) → is_eq (pos_order (origin q) e.0) ≡ false → at q (made e) ≡ None) where
@@ -71,5 +71,5 @@ module _ (made : PosTree × List Field → Positioned) where
             ∙ sym (ap (λ b. at q (flat_map made (alone p (cond b (Some f.1) (at p rows))))) here)
 
     -- what stands at a position is made of one row alone
-    pub single-gathered : (rows : Positioned) (q p : PosTree) → IsPositioned rows → IsExact q → IsExact p → pos_order (origin q) p ≡ Equal → at q (in_order (flat_map made rows)) ≡ at q (in_order (flat_map made (alone p (at p rows))))
+    pub single-gathered : (rows : Positioned) (q p : PosTree) → IsPositioned rows → IsExact q → IsExact p → pos_order (origin q) p ≡ Equal → at q (in_row_order (flat_map made rows)) ≡ at q (in_row_order (flat_map made (alone p (at p rows))))
     single-gathered rows q p are x y e = at-in_order q (flat_map made rows) ∙ at-made rows q p are y e ∙ sym (at-in_order q (flat_map made (alone p (at p rows))))

@@ -49,8 +49,8 @@ pub record IsBehind (t : LimitTurn) (pos : PosTree) : Type 0 where
   pub past : is_past pos t.front.entries ≡ true
 
 -- it would be one of them
-abbrev pub IsWithin : LimitTurn → PosTree → Type 0
-IsWithin t pos = t.count ≤ length t.front.entries → is_past pos t.front.entries ≡ false
+abbrev pub IsWithinLimit : LimitTurn → PosTree → Type 0
+IsWithinLimit t pos = t.count ≤ length t.front.entries → is_past pos t.front.entries ≡ false
 
 -- the position of the last of the first rows, where there are as many
 abbrev pub last_place : ℕ → Positioned → Option PosTree
@@ -67,14 +67,14 @@ edge_of n (Put pos row) rows = last_place n rows
 edge_of n (Gone pos) rows = next_place n rows
 
 -- rows with one more, where there is one
-abbrev pub with_row : PosTree → Option (List Field) → Positioned → Positioned
-with_row pos None rows = rows
-with_row pos (Some row) rows = put pos row rows
+abbrev pub with_limited_row : PosTree → Option (List Field) → Positioned → Positioned
+with_limited_row pos None rows = rows
+with_limited_row pos (Some row) rows = put pos row rows
 
 -- the rows at one or two positions
 abbrev pub at_either : PosTree → Option PosTree → Positioned → Positioned
-at_either pos None rows = with_row pos (at pos rows) []
-at_either pos (Some edge) rows = with_row edge (at edge rows) (with_row pos (at pos rows) [])
+at_either pos None rows = with_limited_row pos (at pos rows) []
+at_either pos (Some edge) rows = with_limited_row edge (at edge rows) (with_limited_row pos (at pos rows) [])
 
 -- ---- the first rows
 

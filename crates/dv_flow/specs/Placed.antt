@@ -9,7 +9,7 @@ use Rattle.dv_path.specs.SortKey.{sort_key}
 use Rattle.dv_path.specs.SortSpec as sorts
 use Rattle.dv_change.specs.declared.position.Part.{Part}
 use Rattle.dv_change.specs.declared.position.Part.TheVariants.{At, Down, Up}
-use Rattle.dv_change.specs.Changes.{Positioned, in_order}
+use Rattle.dv_change.specs.Changes.{Positioned, in_row_order}
 use Rattle.dv_change.specs.Positions.{PosTree}
 use Rattle.dv_match.specs.Filter.{Members}
 use Rattle.dv_match.specs.Match.{matches}
@@ -27,13 +27,13 @@ abbrev pub shown_at : Project → Positioned → Positioned
 shown_at p rows = map (λ e. (e.0, projected p e.1)) rows
 
 -- rows behind a position, each at its number
-abbrev pub numbered : ℕ → PosTree → List (List Field) → Positioned
-numbered i pos [] = []
-numbered i pos (d ∷ ds) = (pos ++ At i ∷ [], d) ∷ numbered (suc i) pos ds
+abbrev pub rows_numbered : ℕ → PosTree → List (List Field) → Positioned
+rows_numbered i pos [] = []
+rows_numbered i pos (d ∷ ds) = (pos ++ At i ∷ [], d) ∷ rows_numbered (suc i) pos ds
 
 -- the rows of each row, behind its position
 unfoldable pub unwound_at : Unwind → Positioned → Positioned
-unwound_at u rows = in_order (flat_map (λ e. numbered 0 e.0 (unwound u e.1)) rows)
+unwound_at u rows = in_row_order (flat_map (λ e. rows_numbered 0 e.0 (unwound u e.1)) rows)
 
 -- a sort key as a part of a position
 abbrev pub part_at : Direction → KeyTree → Part
@@ -41,12 +41,12 @@ part_at Ascending k = Up k
 part_at Descending k = Down k
 
 -- where a sort places a row: its sort keys
-abbrev pub places_of : List sorts.Part → List Field → PosTree
-places_of parts d = map (λ p. part_at p.1 (sort_key d p.0 p.1)) parts
+abbrev pub sort_place : List sorts.Part → List Field → PosTree
+sort_place parts d = map (λ p. part_at p.1 (sort_key d p.0 p.1)) parts
 
 -- each row at its sort keys, and behind them where it was
 unfoldable pub sorted_at : List sorts.Part → Positioned → Positioned
-sorted_at parts rows = in_order (map (λ e. (places_of parts e.1 ++ e.0, e.1)) rows)
+sorted_at parts rows = in_row_order (map (λ e. (sort_place parts e.1 ++ e.0, e.1)) rows)
 
 -- the first rows
 abbrev pub front_at : ℕ → Positioned → Positioned

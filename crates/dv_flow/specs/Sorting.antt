@@ -14,11 +14,11 @@ use Rattle.dv_path.specs.declared.direction.Direction.TheVariants.{Ascending, De
 use Rattle.dv_path.specs.SortKey as keys
 use Rattle.dv_path.specs.SortKey.{array_keys, earliest, sort_key, stands_first}
 use Rattle.dv_path.specs.SortSpec as sorts
-use Rattle.dv_change.specs.Changes.{HaveOneLength, IsPositioned, Positioned, alone, at, in_order}
+use Rattle.dv_change.specs.Changes.{HaveOneLength, IsPositioned, Positioned, alone, at, in_row_order}
 use Rattle.dv_change.specs.Positions.{IsExact, IsExactPart, PosTree, part_order, pos_order}
 use Rattle.dv_change.specs.RowLaws.{both_Equal}
 use Rattle.dv_flow.specs.Gathered.{all-in_order, all-made, positioned-gathered, single-gathered}
-use Rattle.dv_flow.specs.Placed.{part_at, places_of, sorted_at}
+use Rattle.dv_flow.specs.Placed.{part_at, sort_place, sorted_at}
 
 -- ---- a sort key is the key of some value, or the one that no value has
 
@@ -68,16 +68,16 @@ exact-part : (d : Direction) (k : KeyTree) → IsOwn k → IsExactPart (part_at 
 exact-part Ascending k one = one
 exact-part Descending k one = one
 
-exact-places : (parts : List sorts.Part) (d : List Field) (p : PosTree) → IsExact p → IsExact (places_of parts d ++ p)
+exact-places : (parts : List sorts.Part) (d : List Field) (p : PosTree) → IsExact p → IsExact (sort_place parts d ++ p)
 exact-places [] d p x = x
 exact-places (part ∷ parts) d p x = (exact-part part.1 (sort_key d part.0 part.1) (own-sort_key d part.0 part.1), exact-places parts d p x)
 
-places-length : (parts : List sorts.Part) (d : List Field) (p : PosTree) → length (places_of parts d ++ p) ≡ length parts + length p
+places-length : (parts : List sorts.Part) (d : List Field) (p : PosTree) → length (sort_place parts d ++ p) ≡ length parts + length p
 places-length [] d p = omega arith
 places-length (part ∷ parts) d p = omega (arith, places-length parts d p)
 
 abbrev row_of : List sorts.Part → PosTree × List Field → PosTree × List Field
-row_of parts e = (places_of parts e.1 ++ e.0, e.1)
+row_of parts e = (sort_place parts e.1 ++ e.0, e.1)
 
 abbrev rows_of : List sorts.Part → PosTree × List Field → Positioned
 rows_of parts e = row_of parts e ∷ []
@@ -86,23 +86,23 @@ one-each : (parts : List sorts.Part) (rows : Positioned) → map (row_of parts) 
 one-each parts [] = refl
 one-each parts (e ∷ rows) = ap (λ es. row_of parts e ∷ es) (one-each parts rows)
 
-sorted-gathered : (parts : List sorts.Part) (rows : Positioned) → sorted_at parts rows ≡ in_order (flat_map (rows_of parts) rows)
+sorted-gathered : (parts : List sorts.Part) (rows : Positioned) → sorted_at parts rows ≡ in_row_order (flat_map (rows_of parts) rows)
 unfolding sorted_at
-sorted-gathered parts rows = ap in_order (one-each parts rows)
+sorted-gathered parts rows = ap in_row_order (one-each parts rows)
 
 -- a position behind the places of a row is of that row
-behind-of : (parts : List sorts.Part) (d : List Field) (q p : PosTree) → pos_order q (places_of parts d ++ p) ≡ Equal → pos_order (drop (length parts) q) p ≡ Equal
+behind-of : (parts : List sorts.Part) (d : List Field) (q p : PosTree) → pos_order q (sort_place parts d ++ p) ≡ Equal → pos_order (drop (length parts) q) p ≡ Equal
 behind-of [] d q p e = e
 behind-of (part ∷ parts) d [] p e = cc
 behind-of (part ∷ parts) d (a ∷ q) p e =
-    let both = both_Equal (part_order a (part_at part.1 (sort_key d part.0 part.1))) (pos_order q (places_of parts d ++ p)) e in
+    let both = both_Equal (part_order a (part_at part.1 (sort_key d part.0 part.1))) (pos_order q (sort_place parts d ++ p)) e in
     behind-of parts d q p both.1
 
 sort-apart : (parts : List sorts.Part) (e : PosTree × List Field) (q : PosTree) → is_eq (pos_order (drop (length parts) q) e.0) ≡ false → at q (rows_of parts e) ≡ None
-sort-apart parts e q other = by (is_eq (pos_order q (places_of parts e.1 ++ e.0))) refl
+sort-apart parts e q other = by (is_eq (pos_order q (sort_place parts e.1 ++ e.0))) refl
   where
-    by : (b : Bool) → is_eq (pos_order q (places_of parts e.1 ++ e.0)) ≡ b → at q (rows_of parts e) ≡ None
-    by true here = let there = behind-of parts e.1 q e.0 ((Equal-is (pos_order q (places_of parts e.1 ++ e.0))).0 here) in cc
+    by : (b : Bool) → is_eq (pos_order q (sort_place parts e.1 ++ e.0)) ≡ b → at q (rows_of parts e) ≡ None
+    by true here = let there = behind-of parts e.1 q e.0 ((Equal-is (pos_order q (sort_place parts e.1 ++ e.0))).0 here) in cc
     by false here = rw here refl
 
 drop-exact : (n : ℕ) (q : PosTree) → IsExact q → IsExact (drop n q)

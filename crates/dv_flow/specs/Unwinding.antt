@@ -10,11 +10,11 @@ use Rattle.dv_bson.specs.Tree.{Field}
 use Rattle.dv_row.specs.declared.unwind.Unwind.{Unwind}
 use Rattle.dv_row.specs.Unwinding.{unwound}
 use Rattle.dv_change.specs.declared.position.Part.TheVariants.{At}
-use Rattle.dv_change.specs.Changes.{HaveOneLength, IsPositioned, Positioned, alone, at, in_order}
+use Rattle.dv_change.specs.Changes.{HaveOneLength, IsPositioned, Positioned, alone, at, in_row_order}
 use Rattle.dv_change.specs.Positions.{IsExact, PosTree, part_order, pos_order}
 use Rattle.dv_change.specs.RowLaws.{both_Equal}
 use Rattle.dv_flow.specs.Gathered.{all-in_order, all-made, positioned-gathered, single-gathered}
-use Rattle.dv_flow.specs.Placed.{numbered, unwound_at}
+use Rattle.dv_flow.specs.Placed.{rows_numbered, unwound_at}
 
 -- a position without its last part
 abbrev pub but_last : PosTree → PosTree
@@ -23,7 +23,7 @@ but_last (a ∷ []) = []
 but_last (a ∷ b ∷ p) = a ∷ but_last (b ∷ p)
 
 abbrev rows_of : Unwind → PosTree × List Field → Positioned
-rows_of u e = numbered 0 e.0 (unwound u e.1)
+rows_of u e = rows_numbered 0 e.0 (unwound u e.1)
 
 behind-exact : (p : PosTree) (i : ℕ) → IsExact p → IsExact (p ++ At i ∷ [])
 behind-exact [] i x = (tt, tt)
@@ -33,11 +33,11 @@ behind-length : (p : PosTree) (i : ℕ) → length (p ++ At i ∷ []) ≡ suc (l
 behind-length [] i = refl
 behind-length (a ∷ p) i = ap suc (behind-length p i)
 
-numbered-exact : (i : ℕ) (p : PosTree) (ds : List (List Field)) → IsExact p → AllByRecursion IsExact (keys_of (numbered i p ds))
+numbered-exact : (i : ℕ) (p : PosTree) (ds : List (List Field)) → IsExact p → AllByRecursion IsExact (keys_of (rows_numbered i p ds))
 numbered-exact i p [] x = tt
 numbered-exact i p (d ∷ ds) x = (behind-exact p i x, numbered-exact (suc i) p ds x)
 
-numbered-length : (n i : ℕ) (p : PosTree) (ds : List (List Field)) → length p ≡ n → AllByRecursion (λ q. length q ≡ suc n) (keys_of (numbered i p ds))
+numbered-length : (n i : ℕ) (p : PosTree) (ds : List (List Field)) → length p ≡ n → AllByRecursion (λ q. length q ≡ suc n) (keys_of (rows_numbered i p ds))
 numbered-length n i p [] e = tt
 numbered-length n i p (d ∷ ds) e = (behind-length p i ∙ ap suc e, numbered-length n (suc i) p ds e)
 
@@ -54,11 +54,11 @@ behind-of (a ∷ c ∷ q) (b ∷ p) i e =
     let rest = behind-of (c ∷ q) p i both.1 in
     rw both.0 rest
 
-numbered-apart : (q p : PosTree) (i : ℕ) (ds : List (List Field)) → is_eq (pos_order (but_last q) p) ≡ false → at q (numbered i p ds) ≡ None
+numbered-apart : (q p : PosTree) (i : ℕ) (ds : List (List Field)) → is_eq (pos_order (but_last q) p) ≡ false → at q (rows_numbered i p ds) ≡ None
 numbered-apart q p i [] other = refl
 numbered-apart q p i (d ∷ ds) other = by (is_eq (pos_order q (p ++ At i ∷ []))) refl (numbered-apart q p (suc i) ds other)
   where
-    by : (b : Bool) → is_eq (pos_order q (p ++ At i ∷ [])) ≡ b → at q (numbered (suc i) p ds) ≡ None → at q (numbered i p (d ∷ ds)) ≡ None
+    by : (b : Bool) → is_eq (pos_order q (p ++ At i ∷ [])) ≡ b → at q (rows_numbered (suc i) p ds) ≡ None → at q (rows_numbered i p (d ∷ ds)) ≡ None
     by true here rest = let there = behind-of q p i ((Equal-is (pos_order q (p ++ At i ∷ []))).0 here) in cc
     by false here rest = rw here rest
 
@@ -85,6 +85,6 @@ unfolding unwound_at
 unwind_single u rows q p are x y e = single-gathered (rows_of u) but_last (λ f r other. numbered-apart r f.0 0 (unwound u f.1) other) rows q p are x y e
 
 -- the rows of one row
-pub unwound_alone : (u : Unwind) (p : PosTree) (d : List Field) (ds : List (List Field)) → ds ≡ unwound u d → in_order (numbered 0 p ds) ≡ unwound_at u ((p, d) ∷ [])
+pub unwound_alone : (u : Unwind) (p : PosTree) (d : List Field) (ds : List (List Field)) → ds ≡ unwound u d → in_row_order (rows_numbered 0 p ds) ≡ unwound_at u ((p, d) ∷ [])
 unfolding unwound_at
-unwound_alone u p d ds e = ap (λ ds. in_order (numbered 0 p ds)) e ∙ ap in_order (sym (append-nil (numbered 0 p (unwound u d))))
+unwound_alone u p d ds e = ap (λ ds. in_row_order (rows_numbered 0 p ds)) e ∙ ap in_row_order (sym (append-nil (rows_numbered 0 p (unwound u d))))

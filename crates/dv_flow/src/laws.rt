@@ -6,7 +6,7 @@ ghost use Rattle.std.specs.List.{flat_map};
 ghost use Rattle.dv_match.specs.Filter.{Members};
 ghost use Rattle.dv_match.specs.Match.{matches};
 ghost use Rattle.dv_change.specs.declared.change.Change.{Change};
-ghost use Rattle.dv_change.specs.Changes.{HaveOneLength, IsExactChange, IsPositioned, Positioned, at, forget, place_of, row_in, with_change};
+ghost use Rattle.dv_change.specs.Changes.{HaveOneLength, IsExactChange, IsPositioned, Positioned, at, forget, position_changed, row_in, with_change};
 ghost use Rattle.dv_change.specs.Difference.{diff};
 ghost use Rattle.dv_path.specs.SortSpec.{Part};
 ghost use Rattle.dv_row.specs.declared.project.Project.{Project};
@@ -45,7 +45,7 @@ pub fn a_project_hands_on_one_change()
 /// stands there now.
 #[tactic(auto, using(crate::proofs::Lawful::lawful))]
 pub fn an_unwind_hands_on_the_rows_of_a_row()
-    ensures { (unwind : Unwind) (rows : Positioned) (change : Change) → IsPositioned rows → IsExactChange change → length (diff (unwound_at unwind rows) (unwound_at unwind (with_change rows change))) ≤ rows_made unwind (at (place_of change) rows) + rows_made unwind (row_in change) }
+    ensures { (unwind : Unwind) (rows : Positioned) (change : Change) → IsPositioned rows → IsExactChange change → length (diff (unwound_at unwind rows) (unwound_at unwind (with_change rows change))) ≤ rows_made unwind (at (position_changed change) rows) + rows_made unwind (row_in change) }
 {}
 
 /// Of the rows in order, a change of a row changes two at most: one goes, and one comes.

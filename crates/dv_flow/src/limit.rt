@@ -1,11 +1,11 @@
 //! `$limit`, kept by changes.
 
 ghost use Rattle.std.specs.Prelude.{◌≡◌, ◌+◌, ◌++◌, ◌≤◌, ◌∷◌, false, [], length, IfOk, IsTrue, OnOk};
-ghost use Rattle.dv_change.specs.Changes.{at, place_of, with_change};
+ghost use Rattle.dv_change.specs.Changes.{at, position_changed, with_change};
 ghost use Rattle.dv_change.specs.Difference.{diff};
 ghost use Rattle.dv_change.specs.Ordered.{gone, put};
 ghost use Rattle.dv_change.specs.Raised.{raised};
-ghost use Rattle.dv_flow.specs.Limiting.{IsBehind, IsOverfull, IsSoundLimit, IsUnderfull, IsWithin, at_either, edge_of, is_past, last_place, limit_empty, limit_even, limit_left, limit_makes, limit_ordered, next_place, with_row};
+ghost use Rattle.dv_flow.specs.Limiting.{IsBehind, IsOverfull, IsSoundLimit, IsUnderfull, IsWithinLimit, at_either, edge_of, is_past, last_place, limit_empty, limit_even, limit_left, limit_makes, limit_ordered, next_place, with_limited_row};
 ghost use Rattle.dv_flow.specs.Placed.{front_at};
 
 use dv_bson::{Document, NoMemory};
@@ -117,7 +117,7 @@ impl LimitTurn {
 
     /// The rows with the one that is shown at the position, where one is.
     fn with_shown(&self, rows: Ordered<Document>, pos: &Pos) -> Result<Ordered<Document>, NoMemory>
-        ensures { IfOk result (λ more. more ≡ with_row pos.now (at pos.now self.now.front.entries) rows) }
+        ensures { IfOk result (λ more. more ≡ with_limited_row pos.now (at pos.now self.now.front.entries) rows) }
     {
         match self.front.get(pos) {
             Some(row) => rows.with(pos.try_clone()?, row.try_clone()?),
@@ -128,7 +128,7 @@ impl LimitTurn {
     /// Takes a change into the rows, at a position at which a row would be one of the first.
     fn change_front(&mut self, change: Change) -> Result<(), NoMemory>
         requires sound { IsSoundLimit self.old }
-        requires within { IsWithin self.old (place_of change) }
+        requires within { IsWithinLimit self.old (position_changed change) }
         ensures sound { OnOk result (IsSoundLimit self.new) }
         ensures count { OnOk result (self.new.count ≡ self.old.count) }
         ensures left { OnOk result (limit_left self.new ≡ with_change (limit_left self.old) change) }
@@ -142,7 +142,7 @@ impl LimitTurn {
     /// Sets the row at the position, at which it is one of the first.
     fn put(&mut self, pos: Pos, row: Document) -> Result<(), NoMemory>
         requires sound { IsSoundLimit self.old }
-        requires within { IsWithin self.old pos }
+        requires within { IsWithinLimit self.old pos }
         ensures sound { OnOk result (IsSoundLimit self.new) }
         ensures count { OnOk result (self.new.count ≡ self.old.count) }
         ensures left { OnOk result (limit_left self.new ≡ put pos row (limit_left self.old)) }
@@ -155,7 +155,7 @@ impl LimitTurn {
     /// Whether a row at the position would be none of the first ones.
     fn is_behind(&self, pos: &Pos) -> bool
         ensures behind { IsTrue result → IsBehind self.now pos.now }
-        ensures within { result ≡ false → IsWithin self.now pos.now }
+        ensures within { result ≡ false → IsWithinLimit self.now pos.now }
     {
         self.front.len() as u64 >= self.count && self.is_past(pos)
     }
@@ -251,7 +251,7 @@ impl Turn for LimitTurn {
 
 /// The position of the change.
 fn position_of(change: &Change) -> &Pos
-    ensures { result.now ≡ place_of change.now }
+    ensures { result.now ≡ position_changed change.now }
 {
     match change {
         Change::Put { pos, .. } => pos,

@@ -49,7 +49,7 @@ impl ByRow for SortSpec {
 
 /// Where the sort places the row: its sort keys. Fails where memory is wanting.
 fn places_of(alloc: Global, spec: &SortSpec, row: &Document) -> Result<Vec<Part>, NoMemory>
-    ensures { IfOk result (λ places. places.items ≡ defined.places_of spec.now row.now) }
+    ensures { IfOk result (λ places. places.items ≡ defined.sort_place spec.now row.now) }
 {
     let parts = spec.parts();
     let mut places = Vec::with_capacity(alloc, parts.len())?;

@@ -1,8 +1,8 @@
 //! `$unwind`, kept by changes.
 
 ghost use Rattle.std.specs.Prelude.{◌≡◌, IfOk};
-ghost use Rattle.dv_change.specs.Changes.{in_order};
-ghost use Rattle.dv_flow.specs.Placed.{numbered, unwound_at};
+ghost use Rattle.dv_change.specs.Changes.{in_row_order};
+ghost use Rattle.dv_flow.specs.Placed.{rows_numbered, unwound_at};
 ghost use Rattle.dv_flow.specs.Unwinding.{but_last, unwind_empty, unwind_even, unwind_exact, unwind_ordered, unwind_single};
 
 use crate::by_row::{ByRow, RowTurn};
@@ -46,7 +46,7 @@ impl ByRow for Unwind {
 
 /// The rows behind the position, each at its number.
 fn place_all(alloc: Global, pos: &Pos, rows: Vec<Document>) -> Result<Ordered<Document>, NoMemory>
-    ensures { IfOk result (λ placed. placed ≡ in_order (numbered 0 pos.now rows.items)) }
+    ensures { IfOk result (λ placed. placed ≡ in_row_order (rows_numbered 0 pos.now rows.items)) }
 {
     let mut rows = rows;
     let mut placed = Ordered::new(alloc);

@@ -13,7 +13,7 @@ use Rattle.dv_gather.specs.declared.accumulator.Accumulator.{Accumulator}
 use Rattle.dv_gather.specs.declared.accumulator.Accumulator.TheVariants.{Sum, Min, Max, Push}
 use Rattle.dv_gather.specs.declared.total.Total as memory
 use Rattle.dv_gather.specs.declared.tally.Tally.{Tally}
-use Rattle.dv_gather.specs.Bounds.{IsWithin, AreWithin, EachWithin}
+use Rattle.dv_gather.specs.Bounds.{IsWithinCount, AreWithin, EachWithin}
 use Rattle.dv_gather.specs.Grouping.{Accumulation}
 use Rattle.dv_gather.specs.Tallies.{Tallied, started, started_from, totals_of_none, without_rows}
 use Rattle.dv_gather.specs.Totals.{Total, summed, best, all, of_none}
@@ -22,24 +22,24 @@ use Rattle.dv_gather.proofs.GroupRows.{seen-inserted}
 
 -- ---- totals
 
-later : (t : Total) (m n : ℕ) → m ≤ n → IsWithin m t → IsWithin n t
+later : (t : Total) (m n : ℕ) → m ≤ n → IsWithinCount m t → IsWithinCount n t
 later (summed x narrow) m n le h = (omega (arith, ints), omega (arith, ints))
 later (best e v) m n le h = tt
 later (all vs) m n le h = tt
 
-none-yet : (a : Accumulator) (count : ℕ) → IsWithin count (of_none a)
+none-yet : (a : Accumulator) (count : ℕ) → IsWithinCount count (of_none a)
 none-yet Sum count = (omega (arith, ints), omega (arith, ints))
 none-yet Min count = tt
 none-yet Max count = tt
 none-yet Push count = tt
 
 -- the total at a place
-pub at-place : (place count : ℕ) (ts : List memory.Total) (t : memory.Total) → place < length ts → AreWithin place count (map total_seen ts) → IsWithin count (total_seen (get_or ts place t))
+pub at-place : (place count : ℕ) (ts : List memory.Total) (t : memory.Total) → place < length ts → AreWithin place count (map total_seen ts) → IsWithinCount count (total_seen (get_or ts place t))
 at-place place count [] t within h = absurd (omega arith)
 at-place zero count (u ∷ ts) t within h = h.0
 at-place (suc place) count (u ∷ ts) t within h = at-place place count ts t (omega arith) h.1
 
-pub one-more : (place count : ℕ) (ts : List memory.Total) (now : memory.Total) → IsWithin (suc count) (total_seen now) → AreWithin place count (map total_seen ts) → AreWithin (suc place) count (map total_seen (slice_set ts place now))
+pub one-more : (place count : ℕ) (ts : List memory.Total) (now : memory.Total) → IsWithinCount (suc count) (total_seen now) → AreWithin place count (map total_seen ts) → AreWithin (suc place) count (map total_seen (slice_set ts place now))
 one-more place count [] now is h = tt
 one-more zero count (t ∷ ts) now is h = (is, h.1)
 one-more (suc place) count (t ∷ ts) now is h = (h.0, one-more place count ts now is h.1)

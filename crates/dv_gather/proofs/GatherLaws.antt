@@ -17,7 +17,7 @@ use Rattle.dv_gather.specs.GroupParsing.{group_in}
 use Rattle.dv_gather.specs.Valid.{IsSoundGroup, IsSoundLookup, grouped-valid, group_in-sound, looked_up-valid, lookup_in-sound}
 use Rattle.dv_gather.specs.declared.lookup.Lookup as lookups
 use Rattle.dv_gather.specs.Grouping.{Grouping, grouped, values_over}
-use Rattle.dv_gather.specs.Groups.{Keyed, keys_of}
+use Rattle.dv_gather.specs.Groups.{Keyed, group_keys}
 use Rattle.dv_gather.specs.GroupLaws.{Above, above-same, any-equal, key_there, keys_ascend}
 use Rattle.dv_gather.specs.Lookups.{looked_up, lookup_in, set_field}
 use Rattle.dv_gather.specs.Sums.{total, is_int64, spelled, sum_of}
@@ -41,8 +41,8 @@ one-equal x (k ∷ ks) h some = go (order x k) refl (one-equal x ks h.1)
     go Equal e rest = ap (λ l. suc (length l)) (none-above x ks (above-same x k ks e h.0))
     go Greater e rest = rest (sym (ap (λ o. is_eq o || any-equal x ks) e) ∙ some)
 
-pub one_key : (before after : List Keyed) (row : Keyed) → length (filter (λ k. is_eq (order row.0 k)) (keys_of (before ++ row ∷ after))) ≡ 1
-one_key before after row = one-equal row.0 (keys_of (before ++ row ∷ after)) (keys_ascend (before ++ row ∷ after)) (key_there before after row)
+pub one_key : (before after : List Keyed) (row : Keyed) → length (filter (λ k. is_eq (order row.0 k)) (group_keys (before ++ row ∷ after))) ≡ 1
+one_key before after row = one-equal row.0 (group_keys (before ++ row ∷ after)) (keys_ascend (before ++ row ∷ after)) (key_there before after row)
 
 -- ---- sums
 

@@ -12,17 +12,17 @@ use Rattle.dv_bson.specs.Tree.{Tree, Field}
 use Rattle.dv_order.specs.Order.{canon, order}
 use Rattle.dv_order.specs.Key.{KeyTree, value, key_order}
 use Rattle.dv_path.specs.Candidates.{Candidate}
-use Rattle.dv_row.specs.Expressions.{Expression, value_of, with_field}
+use Rattle.dv_row.specs.Expressions.{Expression, value_of, with_field_behind}
 use Rattle.dv_row.specs.Row.{Row}
 use Rattle.dv_gather.specs.declared.extreme.Extreme.{Extreme}
 use Rattle.dv_gather.specs.declared.accumulator.Accumulator.{Accumulator}
 use Rattle.dv_gather.specs.declared.accumulator.Accumulator.TheVariants.{Sum, Min, Max, Push}
 use Rattle.dv_gather.specs.Extremes.{better, extreme_from}
-use Rattle.dv_gather.specs.Gathering.{Entry, listed, put, gathered}
+use Rattle.dv_gather.specs.Gathering.{Entry, listed, group_put, gathered}
 use Rattle.dv_gather.specs.Grouping.{Accumulation, Grouping, key_in, keyed, with_present, values_over, accumulated, with_accumulated, key_of_group, group_row, grouped}
 use Rattle.dv_gather.specs.Sums.{addend, is_int64, total}
-use Rattle.dv_gather.specs.Tallies.{Tallied, with_present_at, with_values_from, with_values, with_row, without_rows, with_row_under, with_rows_put, with_finished, key_or_null, finished_row}
-use Rattle.dv_gather.specs.Totals.{Total, summed, best, all, of_none, with_value, with_each, with_value_at, finished}
+use Rattle.dv_gather.specs.Tallies.{Tallied, with_present_at, with_values_from, with_values, with_tallied_row, without_rows, with_row_under, with_rows_put, with_finished, key_or_null, finished_row}
+use Rattle.dv_gather.specs.Totals.{Total, summed, best, all, of_none, with_value, with_each, with_total_at, finished}
 use Rattle.dv_gather.proofs.Grouped.{groups-are}
 
 -- ---- maps whose values are seen as others
@@ -125,7 +125,7 @@ from-next i (a ∷ fields) d t ts = go (value_of a.argument d) (from-next (suc i
   where
     go : (c : Candidate) → ((us : List Total) → with_values_from (suc (suc i)) fields d (t ∷ us) ≡ t ∷ with_values_from (suc i) fields d us) → with_values_from (suc (suc i)) fields d (with_present_at (suc i) c (t ∷ ts)) ≡ t ∷ with_values_from (suc i) fields d (with_present_at i c ts)
     go None rest = rest ts
-    go (Some v) rest = rest (with_value_at i v ts)
+    go (Some v) rest = rest (with_total_at i v ts)
 
 totals-more : (fields : List Accumulation) (ds : List Row) (d : Row) → with_values fields d (map (total_over ds) fields) ≡ map (total_over (ds ++ d ∷ [])) fields
 totals-more [] ds d = refl
@@ -141,8 +141,8 @@ totals-more (a ∷ fields) ds d =
 finished-fields : (fields : List Accumulation) (ds : List Row) (fs : List Field) → with_finished fields (map (total_over ds) fields) fs ≡ with_accumulated fields ds fs
 finished-fields [] ds fs = refl
 finished-fields (a ∷ fields) ds fs =
-    ap (λ v. with_finished fields (map (total_over ds) fields) (with_field a.name (Some v) fs)) (finished-each a.accumulator (values_over a.argument ds))
-    ∙ finished-fields fields ds (with_field a.name (Some (accumulated a.accumulator (values_over a.argument ds))) fs)
+    ap (λ v. with_finished fields (map (total_over ds) fields) (with_field_behind a.name (Some v) fs)) (finished-each a.accumulator (values_over a.argument ds))
+    ∙ finished-fields fields ds (with_field_behind a.name (Some (accumulated a.accumulator (values_over a.argument ds))) fs)
 
 -- ---- groups
 
@@ -158,16 +158,16 @@ module _ (g : Grouping) where
   abbrev pair : List Tree → List Total → Tallied
   pair k ts = (k, ts)
 
-  so_far-more : (ds : List Row) (d : Row) → with_row g d (so_far ds) ≡ so_far (ds ++ d ∷ [])
+  so_far-more : (ds : List Row) (d : Row) → with_tallied_row g d (so_far ds) ≡ so_far (ds ++ d ∷ [])
   so_far-more [] d = ap (pair (key_in g d ∷ [])) (totals-more g.fields [] d)
   so_far-more (c ∷ ds) d = ap (pair (key_in g c ∷ [])) (totals-more g.fields (c ∷ ds) d)
 
-  put-so_far : (d : Row) (k : KeyTree) (es : List Entry) → seen-by so_far (put k d es) ≡ with_row_under g d k (seen-by so_far es)
+  put-so_far : (d : Row) (k : KeyTree) (es : List Entry) → seen-by so_far (group_put k d es) ≡ with_row_under g d k (seen-by so_far es)
   put-so_far d k es =
       seen-inserted so_far key_order es k (listed k es ++ d ∷ [])
-      ∙ ap (insert_entry key_order (seen-by so_far es) k) (sym (so_far-more (listed k es) d) ∙ there (lookup (is_at (key_order k)) es) ∙ ap (λ o. with_row g d (unwrap_or o without_rows)) (sym (seen-found so_far (is_at (key_order k)) es)))
+      ∙ ap (insert_entry key_order (seen-by so_far es) k) (sym (so_far-more (listed k es) d) ∙ there (lookup (is_at (key_order k)) es) ∙ ap (λ o. with_tallied_row g d (unwrap_or o without_rows)) (sym (seen-found so_far (is_at (key_order k)) es)))
     where
-      there : (o : Option (List Row)) → with_row g d (so_far (unwrap_or o [])) ≡ with_row g d (unwrap_or (option_map so_far o) without_rows)
+      there : (o : Option (List Row)) → with_tallied_row g d (so_far (unwrap_or o [])) ≡ with_tallied_row g d (unwrap_or (option_map so_far o) without_rows)
       there None = refl
       there (Some ds) = refl
 
@@ -175,7 +175,7 @@ module _ (g : Grouping) where
   rows-put [] es = refl
   rows-put (d ∷ ds) es =
       let k = value (canon (key_in g d)) in
-      ap (with_rows_put g ds) (sym (put-so_far d k es)) ∙ rows-put ds (put k d es)
+      ap (with_rows_put g ds) (sym (put-so_far d k es)) ∙ rows-put ds (group_put k d es)
 
   row-so_far : (ds : List Row) → finished_row g.fields (so_far ds) ≡ group_row g ds
   row-so_far ds = finished-fields g.fields ds _ ∙ ap (λ k. with_accumulated g.fields ds ((codes "_id", k) ∷ [])) (keys ds)

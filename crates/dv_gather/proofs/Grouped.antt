@@ -12,8 +12,8 @@ use Rattle.std.specs.declared.cmp.Ordering.TheVariants.{Less, Equal, Greater}
 use Rattle.dv_bson.specs.Tree.{Tree, Field}
 use Rattle.dv_order.specs.Order.{canon, order}
 use Rattle.dv_order.specs.Key.{value, key_order}
-use Rattle.dv_gather.specs.Groups.{Keyed, with_key, keys_from, keys_of, under, groups_of}
-use Rattle.dv_gather.specs.Gathering.{Entry, listed, put, gathered}
+use Rattle.dv_gather.specs.Groups.{Keyed, with_key, keys_from, group_keys, documents_under_key, groups_of}
+use Rattle.dv_gather.specs.Gathering.{Entry, listed, group_put, gathered}
 use Rattle.dv_gather.specs.GroupLaws.{above-earlier, above-same, Above, any-with, back, itself, same-as, sorted-with}
 
 -- ---- entries
@@ -58,20 +58,20 @@ module _ (stands : (v w : Tree) → key_order (value (canon v)) (value (canon w)
   -- documents that were gathered
   record IsGathered (ks : List Tree) (ds : List Keyed) (es : List Entry) : Type 0 where
     sorted : IsStrictlySortedBy order ks
-    complete : (v : Tree) → list_any (λ k. is_eq (order v k)) ks ≡ false → under v ds ≡ []
-    are : es ≡ entries (λ k. under k ds) ks
+    complete : (v : Tree) → list_any (λ k. is_eq (order v k)) ks ≡ false → documents_under_key v ds ≡ []
+    are : es ≡ entries (λ k. documents_under_key k ds) ks
 
   first-more : {X : Type 0} (b : Bool) (x : X) (xs ys last : List X) → xs ≡ ys ++ last → (if b then x ∷ xs else xs) ≡ (if b then x ∷ ys else ys) ++ last
   first-more true x xs ys last e = ap (λ l. x ∷ l) e
   first-more false x xs ys last e = e
 
-  under-more : (k : Tree) (ds : List Keyed) (d : Keyed) → under k (ds ++ d ∷ []) ≡ under k ds ++ (if is_eq (order k d.0) then d.1 ∷ [] else [])
+  under-more : (k : Tree) (ds : List Keyed) (d : Keyed) → documents_under_key k (ds ++ d ∷ []) ≡ documents_under_key k ds ++ (if is_eq (order k d.0) then d.1 ∷ [] else [])
   under-more k [] d = refl
-  under-more k (e ∷ ds) d = first-more (is_eq (order k e.0)) e.1 (under k (ds ++ d ∷ [])) (under k ds) (if is_eq (order k d.0) then d.1 ∷ [] else []) (under-more k ds d)
+  under-more k (e ∷ ds) d = first-more (is_eq (order k e.0)) e.1 (documents_under_key k (ds ++ d ∷ [])) (documents_under_key k ds) (if is_eq (order k d.0) then d.1 ∷ [] else []) (under-more k ds d)
 
-  under-alike : (v k : Tree) → order v k ≡ Equal → (ds : List Keyed) → under v ds ≡ under k ds
+  under-alike : (v k : Tree) → order v k ≡ Equal → (ds : List Keyed) → documents_under_key v ds ≡ documents_under_key k ds
   under-alike v k e [] = refl
-  under-alike v k e (d ∷ ds) = ap (λ o. if is_eq o then d.1 ∷ under v ds else under v ds) (same-as v k d.0 e) ∙ ap (λ l. if is_eq (order k d.0) then d.1 ∷ l else l) (under-alike v k e ds)
+  under-alike v k e (d ∷ ds) = ap (λ o. if is_eq o then d.1 ∷ documents_under_key v ds else documents_under_key v ds) (same-as v k d.0 e) ∙ ap (λ l. if is_eq (order k d.0) then d.1 ∷ l else l) (under-alike v k e ds)
 
   is-equal : (o : Ordering) → is_eq o ≡ true → o ≡ Equal
   is-equal Less e = cc
@@ -82,29 +82,29 @@ module _ (stands : (v w : Tree) → key_order (value (canon v)) (value (canon w)
   neither true b e = absurd cc
   neither false b e = (refl, e)
 
-  gathered-one : (ks : List Tree) (ds : List Keyed) (es : List Entry) → IsGathered ks ds es → (d : Keyed) → IsGathered (with_key d.0 ks) (ds ++ d ∷ []) (put (value (canon d.0)) d.1 es)
+  gathered-one : (ks : List Tree) (ds : List Keyed) (es : List Entry) → IsGathered ks ds es → (d : Keyed) → IsGathered (with_key d.0 ks) (ds ++ d ∷ []) (group_put (value (canon d.0)) d.1 es)
   gathered-one ks ds es h d = record {
     sorted = sorted-with d.0 ks h.sorted;
     complete = λ v none.
         let both = neither (is_eq (order v d.0)) (list_any (λ k. is_eq (order v k)) ks) (sym (any-with v d.0 ks) ∙ none) in
-        under-more v ds d ∙ ap (λ (b : Bool). under v ds ++ (if b then d.1 ∷ [] else [])) both.0 ∙ append-nil (under v ds) ∙ h.complete v both.1;
+        under-more v ds d ∙ ap (λ (b : Bool). documents_under_key v ds ++ (if b then d.1 ∷ [] else [])) both.0 ∙ append-nil (documents_under_key v ds) ∙ h.complete v both.1;
     are =
-        let f = λ (k : Tree). under k ds in
-        let all = under d.0 ds ++ d.1 ∷ [] in
-        ap (put (value (canon d.0)) d.1) h.are
+        let f = λ (k : Tree). documents_under_key k ds in
+        let all = documents_under_key d.0 ds ++ d.1 ∷ [] in
+        ap (group_put (value (canon d.0)) d.1) h.are
         ∙ ap (λ l. insert_entry key_order (entries f ks) (value (canon d.0)) (l ++ d.1 ∷ [])) (found d.0 f (λ k e. sym (under-alike d.0 k (is-equal (order d.0 k) e) ds)) ks (h.complete d.0))
-        ∙ inserted d.0 f (λ k. under k (ds ++ d ∷ [])) all
-        (λ k e. under-more k ds d ∙ ap (λ (b : Bool). under k ds ++ (if b then d.1 ∷ [] else [])) e ∙ append-nil (under k ds))
-        (λ k e. under-more k ds d ∙ ap (λ (b : Bool). under k ds ++ (if b then d.1 ∷ [] else [])) e ∙ ap (λ l. l ++ d.1 ∷ []) (under-alike k d.0 (is-equal (order k d.0) e) ds))
+        ∙ inserted d.0 f (λ k. documents_under_key k (ds ++ d ∷ [])) all
+        (λ k e. under-more k ds d ∙ ap (λ (b : Bool). documents_under_key k ds ++ (if b then d.1 ∷ [] else [])) e ∙ append-nil (documents_under_key k ds))
+        (λ k e. under-more k ds d ∙ ap (λ (b : Bool). documents_under_key k ds ++ (if b then d.1 ∷ [] else [])) e ∙ ap (λ l. l ++ d.1 ∷ []) (under-alike k d.0 (is-equal (order k d.0) e) ds))
         ks h.sorted;
   }
 
   gathered-all : (ks : List Tree) (before : List Keyed) (es : List Entry) → IsGathered ks before es → (ds : List Keyed) → IsGathered (keys_from ks ds) (before ++ ds) (gathered es ds)
-  gathered-all ks before es h [] = record { sorted = h.sorted; complete = λ v none. ap (under v) (append-nil before) ∙ h.complete v none; are = h.are ∙ ap (λ l. entries (λ k. under k l) ks) (sym (append-nil before)) }
+  gathered-all ks before es h [] = record { sorted = h.sorted; complete = λ v none. ap (documents_under_key v) (append-nil before) ∙ h.complete v none; are = h.are ∙ ap (λ l. entries (λ k. documents_under_key k l) ks) (sym (append-nil before)) }
   gathered-all ks before es h (d ∷ ds) =
-      let rest = gathered-all (with_key d.0 ks) (before ++ d ∷ []) (put (value (canon d.0)) d.1 es) (gathered-one ks before es h d) ds in
+      let rest = gathered-all (with_key d.0 ks) (before ++ d ∷ []) (group_put (value (canon d.0)) d.1 es) (gathered-one ks before es h d) ds in
       let joined : (before ++ d ∷ []) ++ ds ≡ before ++ d ∷ ds = append_assoc before (d ∷ []) ds in
-      record { sorted = rest.sorted; complete = λ v none. ap (under v) (sym joined) ∙ rest.complete v none; are = rest.are ∙ ap (λ l. entries (λ k. under k l) (keys_from (with_key d.0 ks) ds)) joined }
+      record { sorted = rest.sorted; complete = λ v none. ap (documents_under_key v) (sym joined) ∙ rest.complete v none; are = rest.are ∙ ap (λ l. entries (λ k. documents_under_key k l) (keys_from (with_key d.0 ks) ds)) joined }
 
   second-of : (f : Tree → List (List Field)) (ks : List Tree) → map (λ e. e.1) (entries f ks) ≡ map f ks
   second-of f [] = refl
@@ -116,7 +116,7 @@ module _ (stands : (v w : Tree) → key_order (value (canon v)) (value (canon w)
 
   pub groups-are : (ds : List Keyed) → map (λ e. e.1) (gathered [] ds) ≡ groups_of ds
   unfolding groups_of
-  groups-are ds = ap (map (λ e. e.1)) (gathered-all [] [] [] start ds).are ∙ second-of (λ k. under k ds) (keys_of ds)
+  groups-are ds = ap (map (λ e. e.1)) (gathered-all [] [] [] start ds).are ∙ second-of (λ k. documents_under_key k ds) (group_keys ds)
 
 pub if-ok : {X E : Type 0} {P Q : X → Type 0} → ((x : X) → P x → Q x) → (r : Result X E) → IfOk r P → IfOk r Q
 if-ok f (Ok x) h = f x h

@@ -9,14 +9,14 @@ use Rattle.dv_order.specs.Order.{order}
 use Rattle.dv_order.specs.TotalOrder.{order_total}
 use Rattle.dv_gather.specs.declared.extreme.Extreme.{Extreme}
 use Rattle.dv_gather.specs.declared.extreme.Extreme.TheVariants.{Least, Greatest}
-use Rattle.dv_gather.specs.Extremes.{is_null, stands_so, better, extreme_from, extreme_of}
+use Rattle.dv_gather.specs.Extremes.{is_null, extreme_stands_so, better, extreme_from, extreme_of}
 use Rattle.dv_gather.specs.Leading.{Leads, IsLeader}
 
 abbrev ahead : Extreme → Ordering
 ahead Least = Less
 ahead Greatest = Greater
 
-stands-ahead : (e : Extreme) (o : Ordering) → stands_so e o ≡ true → o ≡ ahead e
+stands-ahead : (e : Extreme) (o : Ordering) → extreme_stands_so e o ≡ true → o ≡ ahead e
 stands-ahead Least Less h = refl
 stands-ahead Least Equal h = absurd cc
 stands-ahead Least Greater h = absurd cc
@@ -24,9 +24,9 @@ stands-ahead Greatest Less h = absurd cc
 stands-ahead Greatest Equal h = absurd cc
 stands-ahead Greatest Greater h = refl
 
-stands-not : (e : Extreme) (o : Ordering) → stands_so e o ≡ false → o ≢ ahead e
-stands-not Least o h is = absurd (let same : stands_so Least o ≡ true = ap (stands_so Least) is in cc)
-stands-not Greatest o h is = absurd (let same : stands_so Greatest o ≡ true = ap (stands_so Greatest) is in cc)
+stands-not : (e : Extreme) (o : Ordering) → extreme_stands_so e o ≡ false → o ≢ ahead e
+stands-not Least o h is = absurd (let same : extreme_stands_so Least o ≡ true = ap (extreme_stands_so Least) is in cc)
+stands-not Greatest o h is = absurd (let same : extreme_stands_so Greatest o ≡ true = ap (extreme_stands_so Greatest) is in cc)
 
 null-is : (v : Tree) → is_null v ≡ true → v ≡ null
 null-is (int32 n) h = absurd cc
@@ -105,9 +105,9 @@ module _ (e : Extreme) (vs : List Tree) (v : Tree) where
           apart Greatest o is also = absurd (let same : Greater ≡ Less = sym is ∙ also in cc)
 
   one-more : (b : Tree) → IsLeader (ahead e) vs b → IsLeader (ahead e) (vs ++ v ∷ []) (better e v b)
-  one-more b leader = go (is_null v) refl (is_null b) refl (stands_so e (order v b)) refl leader
+  one-more b leader = go (is_null v) refl (is_null b) refl (extreme_stands_so e (order v b)) refl leader
     where
-      go : (n : Bool) → is_null v ≡ n → (m : Bool) → is_null b ≡ m → (s : Bool) → stands_so e (order v b) ≡ s → IsLeader (ahead e) vs b → IsLeader (ahead e) (vs ++ v ∷ []) (if not n && (m || s) then v else b)
+      go : (n : Bool) → is_null v ≡ n → (m : Bool) → is_null b ≡ m → (s : Bool) → extreme_stands_so e (order v b) ≡ s → IsLeader (ahead e) vs b → IsLeader (ahead e) (vs ++ v ∷ []) (if not n && (m || s) then v else b)
       go true n m is s so (inl none) = inl (none.0, all-join (λ w. w ≡ null) vs (v ∷ []) none.1 (null-is v n, tt))
       go true n m is s so (inr leads) = inr (passed b leads (λ some. absurd (some (null-is v n))))
       go false n m is s so (inl none) = go-first m is

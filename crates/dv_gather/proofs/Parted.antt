@@ -12,41 +12,41 @@ use Rattle.dv_row.specs.Expressions.{Expression, value_of}
 use Rattle.dv_row.specs.Row.{Row}
 use Rattle.dv_gather.specs.Counting.{is_number}
 use Rattle.dv_gather.specs.Grouping.{Grouping, key_in, keyed, with_present, values_over, group_row, grouped}
-use Rattle.dv_gather.specs.Groups.{Keyed, with_key, keys_from, keys_of, under, groups_of}
+use Rattle.dv_gather.specs.Groups.{Keyed, with_key, keys_from, group_keys, documents_under_key, groups_of}
 use Rattle.dv_gather.specs.Sums.{addend, total, is_int64, spelled, sum_of}
 
 -- ---- groups
 
-under-filter : (k : Tree) (rows : List Keyed) → under k rows ≡ map (λ row. row.1) (filter (λ row. is_eq (order k row.0)) rows)
+under-filter : (k : Tree) (rows : List Keyed) → documents_under_key k rows ≡ map (λ row. row.1) (filter (λ row. is_eq (order k row.0)) rows)
 under-filter k [] = refl
 under-filter k (d ∷ ds) = go (is_eq (order k d.0)) (under-filter k ds)
   where
     others : List Keyed
     others = filter (λ row. is_eq (order k row.0)) ds
 
-    go : (b : Bool) → under k ds ≡ map (λ row. row.1) others → (if b then d.1 ∷ under k ds else under k ds) ≡ map (λ (row : Keyed). row.1) (if b then d ∷ others else others)
+    go : (b : Bool) → documents_under_key k ds ≡ map (λ row. row.1) others → (if b then d.1 ∷ documents_under_key k ds else documents_under_key k ds) ≡ map (λ (row : Keyed). row.1) (if b then d ∷ others else others)
     go true rest = ap (λ l. d.1 ∷ l) rest
     go false rest = rest
 
-each-under : (rows : List Keyed) (ks : List Tree) → map (λ k. under k rows) ks ≡ map (λ k. map (λ row. row.1) (filter (λ row. is_eq (order k row.0)) rows)) ks
+each-under : (rows : List Keyed) (ks : List Tree) → map (λ k. documents_under_key k rows) ks ≡ map (λ k. map (λ row. row.1) (filter (λ row. is_eq (order k row.0)) rows)) ks
 each-under rows [] = refl
-each-under rows (k ∷ ks) = ap (λ l. l ∷ map (λ k. under k rows) ks) (under-filter k rows) ∙ ap (λ l. map (λ row. row.1) (filter (λ row. is_eq (order k row.0)) rows) ∷ l) (each-under rows ks)
+each-under rows (k ∷ ks) = ap (λ l. l ∷ map (λ k. documents_under_key k rows) ks) (under-filter k rows) ∙ ap (λ l. map (λ row. row.1) (filter (λ row. is_eq (order k row.0)) rows) ∷ l) (each-under rows ks)
 
-pub groups_filter : (rows : List Keyed) → groups_of rows ≡ map (λ k. map (λ row. row.1) (filter (λ row. is_eq (order k row.0)) rows)) (keys_of rows)
+pub groups_filter : (rows : List Keyed) → groups_of rows ≡ map (λ k. map (λ row. row.1) (filter (λ row. is_eq (order k row.0)) rows)) (group_keys rows)
 unfolding groups_of
-groups_filter rows = each-under rows (keys_of rows)
+groups_filter rows = each-under rows (group_keys rows)
 
-under-keyed : (g : Grouping) (k : Tree) (rows : List Row) → under k (map (keyed g) rows) ≡ filter (λ d. is_eq (order k (key_in g d))) rows
+under-keyed : (g : Grouping) (k : Tree) (rows : List Row) → documents_under_key k (map (keyed g) rows) ≡ filter (λ d. is_eq (order k (key_in g d))) rows
 under-keyed g k [] = refl
 under-keyed g k (d ∷ ds) = ap (λ l. if is_eq (order k (key_in g d)) then d ∷ l else l) (under-keyed g k ds)
 
-each-row : (g : Grouping) (rows : List Row) (ks : List Tree) → map (group_row g) (map (λ k. under k (map (keyed g) rows)) ks) ≡ map (λ k. group_row g (filter (λ d. is_eq (order k (key_in g d))) rows)) ks
+each-row : (g : Grouping) (rows : List Row) (ks : List Tree) → map (group_row g) (map (λ k. documents_under_key k (map (keyed g) rows)) ks) ≡ map (λ k. group_row g (filter (λ d. is_eq (order k (key_in g d))) rows)) ks
 each-row g rows [] = refl
-each-row g rows (k ∷ ks) = ap (λ l. group_row g l ∷ map (group_row g) (map (λ k. under k (map (keyed g) rows)) ks)) (under-keyed g k rows) ∙ ap (λ l. group_row g (filter (λ d. is_eq (order k (key_in g d))) rows) ∷ l) (each-row g rows ks)
+each-row g rows (k ∷ ks) = ap (λ l. group_row g l ∷ map (group_row g) (map (λ k. documents_under_key k (map (keyed g) rows)) ks)) (under-keyed g k rows) ∙ ap (λ l. group_row g (filter (λ d. is_eq (order k (key_in g d))) rows) ∷ l) (each-row g rows ks)
 
-pub grouped_filter : (g : Grouping) (rows : List Row) → grouped g rows ≡ map (λ k. group_row g (filter (λ d. is_eq (order k (key_in g d))) rows)) (keys_of (map (keyed g) rows))
+pub grouped_filter : (g : Grouping) (rows : List Row) → grouped g rows ≡ map (λ k. group_row g (filter (λ d. is_eq (order k (key_in g d))) rows)) (group_keys (map (keyed g) rows))
 unfolding grouped groups_of
-grouped_filter g rows = each-row g rows (keys_of (map (keyed g) rows))
+grouped_filter g rows = each-row g rows (group_keys (map (keyed g) rows))
 
 -- ---- keys
 
@@ -75,7 +75,7 @@ module _ (holds : Tree → Bool) where
   all-from ks [] have all = have
   all-from ks (d ∷ ds) have all = all-from (with_key d.0 ks) ds (all-with d.0 ks (and-first (holds d.0) (list_all (λ row. holds row.0) ds) all) have) (and-second (holds d.0) (list_all (λ row. holds row.0) ds) all)
 
-  pub no_other_key : (rows : List Keyed) → list_all (λ row. holds row.0) rows ≡ true → list_all holds (keys_of rows) ≡ true
+  pub no_other_key : (rows : List Keyed) → list_all (λ row. holds row.0) rows ≡ true → list_all holds (group_keys rows) ≡ true
   no_other_key rows all = all-from [] rows refl all
 
 -- ---- sums

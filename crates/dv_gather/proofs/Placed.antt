@@ -23,9 +23,9 @@ use Rattle.dv_order.specs.KeyLaws.{key_order_total}
 use Rattle.dv_path.specs.LeafKeys.{leaf_values}
 use Rattle.dv_gather.specs.Joining.{as_value, joined_by, matches}
 use Rattle.dv_gather.specs.Lookups.{set_field}
-use Rattle.dv_row.specs.Expressions.{with_field}
+use Rattle.dv_row.specs.Expressions.{with_field_behind}
 use Rattle.dv_gather.specs.KeySets.{AreKeysOf, any_key, referred}
-use Rattle.dv_gather.specs.Places.{ArePlaces, is_place, is_kept, is_under, is_found, passes_at, chosen, item_at, items_at}
+use Rattle.dv_gather.specs.Places.{ArePlaces, is_place, is_kept, is_under, is_found, item_passes_at, items_chosen, item_at, items_at}
 use Rattle.dv_gather.proofs.Lists.{or-false, or-assoc, cond-or, any-same, equal-back}
 use Rattle.dv_gather.proofs.Shared.{matches-by_keys}
 
@@ -70,10 +70,10 @@ zero-raised : (ls : List ℕ) → member (map suc ls) 0 ≡ false
 zero-raised [] = refl
 zero-raised (l ∷ ls) = ap (λ b. b || member (map suc ls) 0) (not-zero l) ∙ zero-raised ls
 
-chosen-same : {X : Type 0} (p q : ℕ → Bool) → ((i : ℕ) → p i ≡ q i) → (xs : List X) → chosen p xs ≡ chosen q xs
+chosen-same : {X : Type 0} (p q : ℕ → Bool) → ((i : ℕ) → p i ≡ q i) → (xs : List X) → items_chosen p xs ≡ items_chosen q xs
 chosen-same p q same [] = refl
 chosen-same p q same (x ∷ xs) =
-    ap (λ b. if b then x ∷ chosen (λ i. p (suc i)) xs else chosen (λ i. p (suc i)) xs) (same 0)
+    ap (λ b. if b then x ∷ items_chosen (λ i. p (suc i)) xs else items_chosen (λ i. p (suc i)) xs) (same 0)
     ∙ ap (λ l. if q 0 then x ∷ l else l) (chosen-same (λ i. p (suc i)) (λ i. q (suc i)) (λ i. same (suc i)) xs)
 
 above-zero : (i : ℕ) → is_eq (nat_cmp (suc i) 0) ≡ false
@@ -102,7 +102,7 @@ module _ {X : Type 0} where
   items-nowhere (k ∷ ks) = items-nowhere ks
 
   -- the items at places in order are those that are chosen by them
-  pub items-chosen : (xs : List X) (ks : List ℕ) → IsStrictlySortedBy nat_cmp ks → items_at ks xs ≡ chosen (member ks) xs
+  pub items-chosen : (xs : List X) (ks : List ℕ) → IsStrictlySortedBy nat_cmp ks → items_at ks xs ≡ items_chosen (member ks) xs
   unfolding IsStrictlySortedBy
   items-chosen [] ks h = items-nowhere ks
   items-chosen (x ∷ xs) [] h = items-chosen xs [] tt
@@ -121,28 +121,28 @@ module _ {X : Type 0} where
       let below : IsStrictlySortedBy nat_cmp ls = sorted-lower ls (subst Sorted all h) in
       ap (λ l. items_at l (x ∷ xs)) all ∙ items-raised ls x xs ∙ items-chosen xs ls below
       ∙ chosen-same (member ls) (λ i. member (suc k ∷ ks) (suc i)) (λ i. sym (ap (λ l. member l (suc i)) all ∙ member-raised ls i)) xs
-      ∙ sym (ap (λ b. if b then x ∷ chosen (λ i. member (suc k ∷ ks) (suc i)) xs else chosen (λ i. member (suc k ∷ ks) (suc i)) xs) (ap (λ l. member l 0) all ∙ zero-raised ls))
+      ∙ sym (ap (λ b. if b then x ∷ items_chosen (λ i. member (suc k ∷ ks) (suc i)) xs else items_chosen (λ i. member (suc k ∷ ks) (suc i)) xs) (ap (λ l. member l 0) all ∙ zero-raised ls))
 
   -- the items at the places of those that pass
-  pub chosen-filter : (p : ℕ → Bool) (q : X → Bool) (xs : List X) → ((i : ℕ) → p i ≡ passes_at q xs i) → chosen p xs ≡ filter q xs
+  pub chosen-filter : (p : ℕ → Bool) (q : X → Bool) (xs : List X) → ((i : ℕ) → p i ≡ item_passes_at q xs i) → items_chosen p xs ≡ filter q xs
   chosen-filter p q [] h = refl
   chosen-filter p q (x ∷ xs) h =
-      ap (λ b. if b then x ∷ chosen (λ i. p (suc i)) xs else chosen (λ i. p (suc i)) xs) (h 0)
+      ap (λ b. if b then x ∷ items_chosen (λ i. p (suc i)) xs else items_chosen (λ i. p (suc i)) xs) (h 0)
       ∙ ap (λ l. if q x then x ∷ l else l) (chosen-filter (λ i. p (suc i)) q xs (λ i. h (suc i)))
 
   -- an item that passes some test at a place
-  pub any-passes : {K : Type 0} (test : K → X → Bool) (ks : List K) (xs : List X) (i : ℕ) → list_any (λ k. passes_at (test k) xs i) ks ≡ passes_at (λ x. list_any (λ k. test k x) ks) xs i
+  pub any-passes : {K : Type 0} (test : K → X → Bool) (ks : List K) (xs : List X) (i : ℕ) → list_any (λ k. item_passes_at (test k) xs i) ks ≡ item_passes_at (λ x. list_any (λ k. test k x) ks) xs i
   any-passes test ks [] i = none-passes ks
   any-passes test ks (x ∷ xs) zero = refl
   any-passes test ks (x ∷ xs) (suc i) = any-passes test ks xs i
 
   -- one item more
-  pub passes-more : (p : X → Bool) (xs : List X) (n : ℕ) (x : X) → slice_get xs n ≡ Some x → (i : ℕ) → passes_at p (take (suc n) xs) i ≡ passes_at p (take n xs) i || ((n == i) && p x)
+  pub passes-more : (p : X → Bool) (xs : List X) (n : ℕ) (x : X) → slice_get xs n ≡ Some x → (i : ℕ) → item_passes_at p (take (suc n) xs) i ≡ item_passes_at p (take n xs) i || ((n == i) && p x)
   passes-more p [] n x e i = absurd cc
   passes-more p (y ∷ xs) zero x e zero = let same : y ≡ x = cc in ap p same
   passes-more p (y ∷ xs) zero x e (suc i) = ap (λ b. false || (b && p x)) (apart i)
   passes-more p (y ∷ xs) (suc n) x e zero = sym (or-false (p y)) ∙ ap (λ b. p y || (b && p x)) (apart-back n)
-  passes-more p (y ∷ xs) (suc n) x e (suc i) = passes-more p xs n x e i ∙ ap (λ b. passes_at p (take n xs) i || (b && p x)) (alike-suc n i)
+  passes-more p (y ∷ xs) (suc n) x e (suc i) = passes-more p xs n x e i ∙ ap (λ b. item_passes_at p (take n xs) i || (b && p x)) (alike-suc n i)
 
 -- ---- places kept under keys
 
@@ -180,10 +180,10 @@ module _ {A : Type 0} (k l : KeyTree) (old : BTreeMap KeyTree (Vec ℕ A)) where
 
 -- the documents that have some of the keys
 pub matches-by_places : {A : Type 0} (stands : (v w : Tree) → key_order (value (canon v)) (value (canon w)) ≡ order v w) (m : BTreeMap KeyTree (Vec ℕ A)) (keys : List KeyTree) (found : ℕ → Bool) (local foreign : List (List ℕ)) (d : List Field) (ds : List (List Field))
-    → AreKeysOf keys (joined_by local d) → ((i : ℕ) → found i ≡ list_any (λ k. is_under m k i) keys) → ArePlaces m foreign ds → chosen found ds ≡ matches local foreign ds d
+    → AreKeysOf keys (joined_by local d) → ((i : ℕ) → found i ≡ list_any (λ k. is_under m k i) keys) → ArePlaces m foreign ds → items_chosen found ds ≡ matches local foreign ds d
 matches-by_places stands m keys found local foreign d ds own under are =
     let test = λ (f : List Field). any_key keys (leaf_values foreign f) in
-    chosen-filter found test ds (λ i. under i ∙ any-same (λ k. is_under m k i) (λ k. passes_at (is_found foreign k) ds i) (λ k. are k i) keys ∙ any-passes (is_found foreign) keys ds i)
+    chosen-filter found test ds (λ i. under i ∙ any-same (λ k. is_under m k i) (λ k. item_passes_at (is_found foreign k) ds i) (λ k. are k i) keys ∙ any-passes (is_found foreign) keys ds i)
     ∙ matches-by_keys stands keys local foreign d ds own
 
 member-is : (ps : List ℕ) (i : ℕ) → member ps i ≡ is_place ps i
@@ -243,12 +243,12 @@ slice-get_map f (x ∷ xs) zero = refl
 slice-get_map f (x ∷ xs) (suc n) = slice-get_map f xs n
 
 -- one document more
-pub passes-referred : (p : List Field → Bool) (ds : List (Bor (List Field))) (n : ℕ) (d : Bor (List Field)) → n < length ds → d ≡ get_or ds n d → (i : ℕ) → passes_at p (referred (take (n + 1) ds)) i ≡ passes_at p (referred (take n ds)) i || ((n == i) && p d.now)
+pub passes-referred : (p : List Field → Bool) (ds : List (Bor (List Field))) (n : ℕ) (d : Bor (List Field)) → n < length ds → d ≡ get_or ds n d → (i : ℕ) → item_passes_at p (referred (take (n + 1) ds)) i ≡ item_passes_at p (referred (take n ds)) i || ((n == i) && p d.now)
 passes-referred p ds n d within is i =
     let now = λ (r : Bor (List Field)). r.now in
-    ap (λ l. passes_at p l i) (sym (take-map now (n + 1) ds)) ∙ ap (λ m. passes_at p (take m (referred ds)) i) (add-one n)
+    ap (λ l. item_passes_at p l i) (sym (take-map now (n + 1) ds)) ∙ ap (λ m. item_passes_at p (take m (referred ds)) i) (add-one n)
     ∙ passes-more p (referred ds) n d.now (slice-get_map now ds n ∙ ap (option_map now) (slice_get_read ds (length ds) n d refl within is)) i
-    ∙ ap (λ l. passes_at p l i || ((n == i) && p d.now)) (take-map now n ds)
+    ∙ ap (λ l. item_passes_at p l i || ((n == i) && p d.now)) (take-map now n ds)
 
 -- a value under a name that isn't there
 pub under-nothing : (name : List ℕ) (v : Tree) (fs : List Field) → has_name name fs ≡ false → with_value_under name v fs ≡ fs
@@ -265,12 +265,12 @@ came-back true v w e = absurd cc
 came-back false v w e = (refl, cc)
 
 -- a value behind the others, where nothing stood under the name
-pub set-behind : (name : List ℕ) (v w : Tree) (d after : List Field) → Some w ≡ (if has_name name d then None else Some v) → after ≡ with_value_under name v d → set_field name v d ≡ with_field name (Some w) after
+pub set-behind : (name : List ℕ) (v w : Tree) (d after : List Field) → Some w ≡ (if has_name name d then None else Some v) → after ≡ with_value_under name v d → set_field name v d ≡ with_field_behind name (Some w) after
 set-behind name v w d after back is =
     let came = came-back (has_name name d) v w back in
-    ap (λ b. if b then with_value_under name v d else with_field name (Some v) d) came.0
-    ∙ ap (λ u. with_field name (Some u) d) (sym came.1)
-    ∙ ap (with_field name (Some w)) (sym (is ∙ under-nothing name v d came.0))
+    ap (λ b. if b then with_value_under name v d else with_field_behind name (Some v) d) came.0
+    ∙ ap (λ u. with_field_behind name (Some u) d) (sym came.1)
+    ∙ ap (with_field_behind name (Some w)) (sym (is ∙ under-nothing name v d came.0))
 
 -- the documents at one place more
 module _ (ds : List (Bor (List Field))) (p : ℕ) (rest : List ℕ) (vs : List Tree) where

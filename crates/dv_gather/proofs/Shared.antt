@@ -10,7 +10,7 @@ use Rattle.dv_order.specs.Order.{canon, order}
 use Rattle.dv_order.specs.Key.{KeyTree, value, key_order}
 use Rattle.dv_order.specs.KeyLaws.{key_order_total}
 use Rattle.dv_path.specs.LeafKeys.{is_key_of, is_some_key, leaf_values}
-use Rattle.dv_gather.specs.Joining.{is_among, is_joined, joined_by, matches}
+use Rattle.dv_gather.specs.Joining.{is_equal_to_one, is_joined, joined_by, matches}
 use Rattle.dv_gather.specs.KeySets.{AreKeysOf, any_key}
 use Rattle.dv_gather.proofs.Lists.{same-truth, any-same}
 
@@ -47,21 +47,21 @@ key-itself k = (eq_by_cmp_equiv key_order_total).refl k
 
 module _ (stands : (v w : Tree) → key_order (value (canon v)) (value (canon w)) ≡ order v w) where
   -- keys of some values have one of others exactly where one of the values is among them
-  pub any-key_is : (keys : List KeyTree) (vs ws : List Tree) → AreKeysOf keys vs → any_key keys ws ≡ list_any (is_among ws) vs
-  any-key_is keys vs ws is = same-truth (any_key keys ws) (list_any (is_among ws) vs) there back
+  pub any-key_is : (keys : List KeyTree) (vs ws : List Tree) → AreKeysOf keys vs → any_key keys ws ≡ list_any (is_equal_to_one ws) vs
+  any-key_is keys vs ws is = same-truth (any_key keys ws) (list_any (is_equal_to_one ws) vs) there back
     where
-      among-is : (v : Tree) → is_some_key (value (canon v)) ws ≡ is_among ws v
+      among-is : (v : Tree) → is_some_key (value (canon v)) ws ≡ is_equal_to_one ws v
       among-is v = any-same (is_key_of (value (canon v))) (λ w. is_eq (order v w)) (λ w. ap is_eq (stands v w)) ws
 
-      there : any_key keys ws ≡ true → list_any (is_among ws) vs ≡ true
+      there : any_key keys ws ≡ true → list_any (is_equal_to_one ws) vs ≡ true
       there e =
           let k : Some-of (λ k. is_some_key k ws) keys = some-of (λ k. is_some_key k ws) keys e in
           let v : Some-of (is_key_of k.one) vs = some-of (is_key_of k.one) vs (sym (is k.one) ∙ k.among (λ l. is_eq (key_order k.one l)) (key-itself k.one)) in
-          v.among (is_among ws) (sym (among-is v.one) ∙ sym (alike k.one (value (canon v.one)) ws v.passes) ∙ k.passes)
+          v.among (is_equal_to_one ws) (sym (among-is v.one) ∙ sym (alike k.one (value (canon v.one)) ws v.passes) ∙ k.passes)
 
-      back : list_any (is_among ws) vs ≡ true → any_key keys ws ≡ true
+      back : list_any (is_equal_to_one ws) vs ≡ true → any_key keys ws ≡ true
       back e =
-          let v : Some-of (is_among ws) vs = some-of (is_among ws) vs e in
+          let v : Some-of (is_equal_to_one ws) vs = some-of (is_equal_to_one ws) vs e in
           let key = value (canon v.one) in
           let k : Some-of (λ l. is_eq (key_order key l)) keys = some-of (λ l. is_eq (key_order key l)) keys (is key ∙ v.among (is_key_of key) (key-itself key)) in
           k.among (λ k. is_some_key k ws) (sym (alike key k.one ws k.passes) ∙ among-is v.one ∙ v.passes)

@@ -6,16 +6,16 @@ use Rattle.dv_gather.specs.Tallies.{Tallied}
 use Rattle.dv_gather.specs.Totals.{Total, summed, best, all}
 
 -- no farther than so many numbers can bring it
-abbrev pub IsWithin : ℕ → Total → Type 0
-IsWithin count (summed n narrow) = (pos 0 ≤ℤ (n +ℤ pos (count * 2 ^ 63))) × (n ≤ℤ pos (count * 2 ^ 63))
-IsWithin count (best e v) = Unit {0}
-IsWithin count (all vs) = Unit {0}
+abbrev pub IsWithinCount : ℕ → Total → Type 0
+IsWithinCount count (summed n narrow) = (pos 0 ≤ℤ (n +ℤ pos (count * 2 ^ 63))) × (n ≤ℤ pos (count * 2 ^ 63))
+IsWithinCount count (best e v) = Unit {0}
+IsWithinCount count (all vs) = Unit {0}
 
 -- totals of so many rows, and in front of a place of one row more
 abbrev pub AreWithin : ℕ → ℕ → List Total → Type 0
 AreWithin place count [] = Unit {0}
-AreWithin zero count (t ∷ ts) = IsWithin count t × AreWithin zero count ts
-AreWithin (suc place) count (t ∷ ts) = IsWithin (suc count) t × AreWithin place count ts
+AreWithin zero count (t ∷ ts) = IsWithinCount count t × AreWithin zero count ts
+AreWithin (suc place) count (t ∷ ts) = IsWithinCount (suc count) t × AreWithin place count ts
 
 -- groups of so many rows
 abbrev pub EachWithin : ℕ → List (KeyTree × Tallied) → Type 0

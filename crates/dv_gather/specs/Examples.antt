@@ -3,22 +3,11 @@ use Rattle.std.specs.Prelude.{ℕ, pos, true, List, [], ◌∷◌, Result, Ok, c
 use Rattle.dv_bson.specs.Tree.{Tree, int32, int64, string, document, array, boolean, null, Field, fields_of, elements_of}
 use Rattle.dv_row.specs.declared.fault.PipelineFault.{PipelineFault}
 use Rattle.dv_bson.specs.Results.{◌>>=◌}
+use Rattle.dv_bson.specs.Short.{int, text, doc, list}
 use Rattle.dv_row.specs.Row.{Row}
 use Rattle.dv_gather.specs.GroupParsing.{group_in}
 use Rattle.dv_gather.specs.Grouping.{grouped}
 use Rattle.dv_gather.specs.Lookups.{lookup_in, looked_up}
-
-abbrev pub int : ℕ → Tree
-int n = int32 (pos n)
-
-abbrev pub text : List ℕ → Tree
-text bytes = string bytes
-
-abbrev pub doc : List Field → Tree
-doc fields = document (fields_of fields)
-
-abbrev pub list : List Tree → Tree
-list vs = array (elements_of vs)
 
 -- a field of a $group: an accumulator of a value
 abbrev pub by : List ℕ → List ℕ → Tree → Field

@@ -12,13 +12,13 @@ abbrev pub is_null : Tree → Bool
 is_null null = true
 is_null v = false
 
-abbrev pub stands_so : Extreme → Ordering → Bool
-stands_so Least o = is_lt o
-stands_so Greatest o = is_gt o
+abbrev pub extreme_stands_so : Extreme → Ordering → Bool
+extreme_stands_so Least o = is_lt o
+extreme_stands_so Greatest o = is_gt o
 
 -- whether a value takes the place of the best before it: not where they are equal, and null never
 abbrev pub is_better : Extreme → Tree → Tree → Bool
-is_better e v best = not (is_null v) && (is_null best || stands_so e (order v best))
+is_better e v best = not (is_null v) && (is_null best || extreme_stands_so e (order v best))
 
 abbrev pub better : Extreme → Tree → Tree → Tree
 better e v best = if is_better e v best then v else best

@@ -17,9 +17,9 @@ abbrev pub listed : KeyTree → List Entry → List (List Field)
 listed k es = unwrap_or (lookup (is_at (key_order k)) es) []
 
 -- a document more, behind the others under its key
-abbrev pub put : KeyTree → List Field → List Entry → List Entry
-put k d es = insert_entry key_order es k (listed k es ++ d ∷ [])
+abbrev pub group_put : KeyTree → List Field → List Entry → List Entry
+group_put k d es = insert_entry key_order es k (listed k es ++ d ∷ [])
 
 abbrev pub gathered : List Entry → List Keyed → List Entry
 gathered es [] = es
-gathered es (d ∷ ds) = gathered (put (value (canon d.0)) d.1 es) ds
+gathered es (d ∷ ds) = gathered (group_put (value (canon d.0)) d.1 es) ds

@@ -9,7 +9,7 @@ use Rattle.std.specs.declared.cmp.Ordering.TheVariants.{Less, Equal, Greater}
 use Rattle.dv_bson.specs.Tree.{Tree}
 use Rattle.dv_order.specs.Order.{order}
 use Rattle.dv_order.specs.TotalOrder.{order_total}
-use Rattle.dv_gather.specs.Groups.{Keyed, with_key, keys_from, keys_of}
+use Rattle.dv_gather.specs.Groups.{Keyed, with_key, keys_from, group_keys}
 
 pub same-as : (v w x : Tree) → order v w ≡ Equal → order v x ≡ order w x
 same-as v w x e = order_total.congr v w x e
@@ -101,7 +101,7 @@ module _ (test : Tree → Bool) (alike : (v w : Tree) → order v w ≡ Equal �
       ∙ or-first (test d.0) (list_any test ks) (list_any (λ d. test d.0) ds)
 
   -- it finds a key among those of documents exactly where it finds a document's
-  pub any_key_of : (ds : List Keyed) → list_any test (keys_of ds) ≡ list_any (λ d. test d.0) ds
+  pub any_key_of : (ds : List Keyed) → list_any test (group_keys ds) ≡ list_any (λ d. test d.0) ds
   any_key_of ds = any-from [] ds
 
 pub any-with : (x v : Tree) (ls : List Tree) → any-equal x (with_key v ls) ≡ is_eq (order x v) || any-equal x ls
@@ -116,13 +116,13 @@ keys-have ks [] after d = keys-keep d.0 (with_key d.0 ks) after (any-with d.0 d.
 keys-have ks (e ∷ before) after d = keys-have (with_key e.0 ks) before after d
 
 -- each document's key is one of the keys
-pub key_there : (before after : List Keyed) (d : Keyed) → any-equal d.0 (keys_of (before ++ d ∷ after)) ≡ true
+pub key_there : (before after : List Keyed) (d : Keyed) → any-equal d.0 (group_keys (before ++ d ∷ after)) ≡ true
 key_there before after d = keys-have [] before after d
 
 keys-sorted : (ks : List Tree) (ds : List Keyed) → IsStrictlySortedBy order ks → IsStrictlySortedBy order (keys_from ks ds)
 keys-sorted ks [] h = h
 keys-sorted ks (d ∷ ds) h = keys-sorted (with_key d.0 ks) ds (sorted-with d.0 ks h)
 
-pub keys_ascend : (ds : List Keyed) → IsStrictlySortedBy order (keys_of ds)
+pub keys_ascend : (ds : List Keyed) → IsStrictlySortedBy order (group_keys ds)
 unfolding IsStrictlySortedBy
 keys_ascend ds = keys-sorted [] ds tt

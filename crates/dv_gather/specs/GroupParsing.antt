@@ -25,12 +25,12 @@ abbrev pub accumulation : List ℕ → Accumulator → Expression → Accumulati
 accumulation name a e = record { name = name; accumulator = a; argument = e }
 
 -- one accumulator with its argument
-abbrev pub alone : List ℕ → List Field → Result Accumulation PipelineFault
-alone name (f ∷ []) = accumulator_named f.0 >>= λ a. expression_in true f.1 >>= λ e. Ok (accumulation name a e)
-alone name fs = Err BadSpec
+abbrev pub accumulator_alone : List ℕ → List Field → Result Accumulation PipelineFault
+accumulator_alone name (f ∷ []) = accumulator_named f.0 >>= λ a. expression_in true f.1 >>= λ e. Ok (accumulation name a e)
+accumulator_alone name fs = Err BadSpec
 
 abbrev pub accumulation_in : List ℕ → Tree → Result Accumulation PipelineFault
-accumulation_in name (document fs) = alone name (list_of_fields fs)
+accumulation_in name (document fs) = accumulator_alone name (list_of_fields fs)
 accumulation_in name v = Err BadSpec
 
 abbrev pub field_in : Field → Result Accumulation PipelineFault

@@ -3,7 +3,7 @@
 use Rattle.std.specs.Prelude.{ℕ, List, [], ◌∷◌, Option, Some, None, codes, map}
 use Rattle.dv_bson.specs.Tree.{Tree, array, null, Field, elements_of}
 use Rattle.dv_path.specs.Candidates.{Candidate, or_null}
-use Rattle.dv_row.specs.Expressions.{Expression, value_of, with_field}
+use Rattle.dv_row.specs.Expressions.{Expression, value_of, with_field_behind}
 use Rattle.dv_row.specs.Row.{Row}
 use Rattle.dv_gather.specs.declared.extreme.Extreme.TheVariants.{Least, Greatest}
 use Rattle.dv_gather.specs.declared.accumulator.Accumulator.{Accumulator}
@@ -53,7 +53,7 @@ field_over a ds = accumulated a.accumulator (values_over a.argument ds)
 -- fields, and behind them those that come of rows
 abbrev pub with_accumulated : List Accumulation → List Row → List Field → List Field
 with_accumulated [] ds fs = fs
-with_accumulated (a ∷ more) ds fs = with_accumulated more ds (with_field a.name (Some (field_over a ds)) fs)
+with_accumulated (a ∷ more) ds fs = with_accumulated more ds (with_field_behind a.name (Some (field_over a ds)) fs)
 
 -- the key of a group, spelled as in its first row
 abbrev pub key_of_group : Grouping → List Row → Tree

@@ -19,14 +19,14 @@ keys_from ks [] = ks
 keys_from ks (d ∷ ds) = keys_from (with_key d.0 ks) ds
 
 -- the keys of documents, ascending, each once
-abbrev pub keys_of : List Keyed → List Tree
-keys_of ds = keys_from [] ds
+abbrev pub group_keys : List Keyed → List Tree
+group_keys ds = keys_from [] ds
 
 -- the documents whose key compares equal to a key, in their order
-abbrev pub under : Tree → List Keyed → List (List Field)
-under k [] = []
-under k (d ∷ ds) = if is_eq (order k d.0) then d.1 ∷ under k ds else under k ds
+abbrev pub documents_under_key : Tree → List Keyed → List (List Field)
+documents_under_key k [] = []
+documents_under_key k (d ∷ ds) = if is_eq (order k d.0) then d.1 ∷ documents_under_key k ds else documents_under_key k ds
 
 -- the documents of each key
 unfoldable pub groups_of : List Keyed → List (List (List Field))
-groups_of ds = map (λ k. under k ds) (keys_of ds)
+groups_of ds = map (λ k. documents_under_key k ds) (group_keys ds)

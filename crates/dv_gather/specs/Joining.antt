@@ -19,12 +19,12 @@ unfoldable pub joined_by : List (List ℕ) → List Field → List Tree
 joined_by path d = flat_map local_values (whole d path)
 
 -- whether a value compares equal to one of these
-abbrev pub is_among : List Tree → Tree → Bool
-is_among ws v = list_any (λ w. is_eq (order v w)) ws
+abbrev pub is_equal_to_one : List Tree → Tree → Bool
+is_equal_to_one ws v = list_any (λ w. is_eq (order v w)) ws
 
 -- whether a document is joined with another, by a local path and a foreign one: the other has one of its values as a leaf
 abbrev pub is_joined : List (List ℕ) → List (List ℕ) → List Field → List Field → Bool
-is_joined local foreign d f = list_any (is_among (leaf_values foreign f)) (joined_by local d)
+is_joined local foreign d f = list_any (is_equal_to_one (leaf_values foreign f)) (joined_by local d)
 
 -- the documents that a document is joined with, in their order
 abbrev pub matches : List (List ℕ) → List (List ℕ) → List (List Field) → List Field → List (List Field)

@@ -7,7 +7,7 @@ use Rattle.dv_path.specs.Candidates.{Candidate}
 use Rattle.dv_path.specs.Path.{path_of}
 use Rattle.dv_row.specs.declared.fault.PipelineFault.{PipelineFault}
 use Rattle.dv_row.specs.declared.fault.PipelineFault.TheVariants.{BadSpec}
-use Rattle.dv_row.specs.Expressions.{with_field}
+use Rattle.dv_row.specs.Expressions.{with_field_behind}
 use Rattle.dv_bson.specs.Results.{◌>>=◌}
 use Rattle.dv_path.specs.Names.{has_dot}
 use Rattle.dv_row.specs.Row.{Row}
@@ -18,14 +18,14 @@ use Rattle.dv_gather.specs.Joining.{as_value, matches}
 
 -- fields with a value under a name: in place of the one that stands there, or behind the others
 abbrev pub set_field : List ℕ → Tree → List Field → List Field
-set_field name v fs = if has_name name fs then with_value_under name v fs else with_field name (Some v) fs
+set_field name v fs = if has_name name fs then with_value_under name v fs else with_field_behind name (Some v) fs
 
 -- the documents that a row is joined with, as an array
-abbrev pub found : Lookup → List Row → Row → Tree
-found l others d = array (elements_of (map as_value (matches l.local l.foreign others d)))
+abbrev pub joined_documents : Lookup → List Row → Row → Tree
+joined_documents l others d = array (elements_of (map as_value (matches l.local l.foreign others d)))
 
 abbrev pub joined_row : Lookup → List Row → Row → Row
-joined_row l others d = set_field l.target (found l others d) d
+joined_row l others d = set_field l.target (joined_documents l others d) d
 
 -- each row with the documents of another list that it is joined with
 unfoldable pub looked_up : Lookup → List Row → List Row → List Row
@@ -42,8 +42,8 @@ abbrev pub text_option : List ℕ → List Field → Result (List ℕ) PipelineF
 text_option name options = text_in (value_under name options)
 
 -- the name of a collection
-abbrev pub collection_in : List ℕ → Result (List ℕ) PipelineFault
-collection_in text = if length text == 0 || begins_with_dollar text || has_zero text then Err BadSpec else Ok text
+abbrev pub collection_name : List ℕ → Result (List ℕ) PipelineFault
+collection_name text = if length text == 0 || begins_with_dollar text || has_zero text then Err BadSpec else Ok text
 
 abbrev pub path_or_fault : Option (List (List ℕ)) → Result (List (List ℕ)) PipelineFault
 path_or_fault None = Err BadSpec
@@ -54,7 +54,7 @@ abbrev pub target_in : List ℕ → Result (List ℕ) PipelineFault
 target_in text = if has_dot text || begins_with_dollar text || has_zero text then Err BadSpec else Ok text
 
 abbrev pub from_option : List Field → Result (List ℕ) PipelineFault
-from_option options = text_option (codes "from") options >>= collection_in
+from_option options = text_option (codes "from") options >>= collection_name
 
 abbrev pub field_option : List ℕ → List Field → Result (List (List ℕ)) PipelineFault
 field_option name options = text_option name options >>= λ text. path_or_fault (path_of text)

@@ -20,10 +20,10 @@ abbrev pub is_under : {A : Type 0} → BTreeMap KeyTree (Vec ℕ A) → KeyTree 
 is_under m k i = is_kept (get key_order m k) i
 
 -- whether an item passes at a place
-abbrev pub passes_at : {X : Type 0} → (X → Bool) → List X → ℕ → Bool
-passes_at p [] i = false
-passes_at p (x ∷ xs) zero = p x
-passes_at p (x ∷ xs) (suc i) = passes_at p xs i
+abbrev pub item_passes_at : {X : Type 0} → (X → Bool) → List X → ℕ → Bool
+item_passes_at p [] i = false
+item_passes_at p (x ∷ xs) zero = p x
+item_passes_at p (x ∷ xs) (suc i) = item_passes_at p xs i
 
 -- whether a document is found under the value of a key
 abbrev pub is_found : List (List ℕ) → KeyTree → List Field → Bool
@@ -31,16 +31,16 @@ is_found path k d = is_some_key k (leaf_values path d)
 
 -- under each key are the places of the documents that are found under it
 abbrev pub ArePlaces : {A : Type 0} → BTreeMap KeyTree (Vec ℕ A) → List (List ℕ) → List (List Field) → Type 0
-ArePlaces m path ds = (k : KeyTree) (i : ℕ) → is_under m k i ≡ passes_at (is_found path k) ds i
+ArePlaces m path ds = (k : KeyTree) (i : ℕ) → is_under m k i ≡ item_passes_at (is_found path k) ds i
 
 -- what the documents are that a document is joined with, by places of documents
 abbrev pub AreMatches : {A : Type 0} → BTreeMap KeyTree (Vec ℕ A) → List (List ℕ) → List (List Field) → List Field → List Tree → Type 0
 AreMatches m local ds d vs = (foreign : List (List ℕ)) → ArePlaces m foreign ds → vs ≡ map as_value (matches local foreign ds d)
 
 -- the items at the places that pass
-abbrev pub chosen : {X : Type 0} → (ℕ → Bool) → List X → List X
-chosen p [] = []
-chosen p (x ∷ xs) = if p 0 then x ∷ chosen (λ i. p (suc i)) xs else chosen (λ i. p (suc i)) xs
+abbrev pub items_chosen : {X : Type 0} → (ℕ → Bool) → List X → List X
+items_chosen p [] = []
+items_chosen p (x ∷ xs) = if p 0 then x ∷ items_chosen (λ i. p (suc i)) xs else items_chosen (λ i. p (suc i)) xs
 
 -- the item at a place, where there is one
 abbrev pub item_at : {X : Type 0} → Option X → List X

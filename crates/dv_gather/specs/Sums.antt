@@ -4,6 +4,7 @@ use Rattle.std.specs.Prelude.{ℤ, pos, negsuc, ◌+ℤ◌, ◌^◌, Bool, true,
 use Rattle.std.specs.Fmt.{signed_decimal}
 use Rattle.std.specs.List.{list_any}
 use Rattle.dv_bson.specs.Tree.{Tree, int32, int64, string, document, field, no_fields}
+use Rattle.dv_bson.specs.Widths.{fits_32, fits_64}
 
 -- what a value adds: a number itself, and any other value nothing
 abbrev pub addend : Tree → ℤ
@@ -18,14 +19,6 @@ total (v ∷ vs) = addend v +ℤ total vs
 abbrev pub is_int64 : Tree → Bool
 is_int64 (int64 n) = true
 is_int64 v = false
-
-abbrev pub fits_32 : ℤ → Bool
-fits_32 (pos n) = nat_lt n (2 ^ 31)
-fits_32 (negsuc n) = nat_lt n (2 ^ 31)
-
-abbrev pub fits_64 : ℤ → Bool
-fits_64 (pos n) = nat_lt n (2 ^ 63)
-fits_64 (negsuc n) = nat_lt n (2 ^ 63)
 
 -- a number beyond 64 bits, by its decimal digits
 abbrev pub digits : ℤ → Tree

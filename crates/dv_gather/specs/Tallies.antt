@@ -7,10 +7,10 @@ use Rattle.dv_bson.specs.Tree.{Tree, null, Field}
 use Rattle.dv_order.specs.Order.{canon}
 use Rattle.dv_order.specs.Key.{KeyTree, value, key_order}
 use Rattle.dv_path.specs.Candidates.{Candidate}
-use Rattle.dv_row.specs.Expressions.{value_of, with_field}
+use Rattle.dv_row.specs.Expressions.{value_of, with_field_behind}
 use Rattle.dv_row.specs.Row.{Row}
 use Rattle.dv_gather.specs.Grouping.{Accumulation, Grouping, key_in}
-use Rattle.dv_gather.specs.Totals.{Total, of_none, with_value_at, finished}
+use Rattle.dv_gather.specs.Totals.{Total, of_none, with_total_at, finished}
 
 -- the key, where there was a row, and the totals of the fields
 abbrev pub Tallied : Type 0
@@ -22,7 +22,7 @@ totals_of_none = map (λ a. of_none a.accumulator)
 -- the total at a place with a value, where there is one
 abbrev pub with_present_at : ℕ → Candidate → List Total → List Total
 with_present_at i None ts = ts
-with_present_at i (Some v) ts = with_value_at i v ts
+with_present_at i (Some v) ts = with_total_at i v ts
 
 -- the totals with a row's values, from a place on
 abbrev pub with_values_from : ℕ → List Accumulation → Row → List Total → List Total
@@ -45,15 +45,15 @@ abbrev pub taken : List Accumulation → Row → Tallied → Tallied
 taken fields d t = (t.0, with_values fields d t.1)
 
 -- a group with a row more
-abbrev pub with_row : Grouping → Row → Tallied → Tallied
-with_row g d t = taken g.fields d (started g.fields (key_in g d) t)
+abbrev pub with_tallied_row : Grouping → Row → Tallied → Tallied
+with_tallied_row g d t = taken g.fields d (started g.fields (key_in g d) t)
 
 abbrev pub without_rows : Tallied
 without_rows = ([], [])
 
 -- groups with a row more, under its key
 abbrev pub with_row_under : Grouping → Row → KeyTree → List (KeyTree × Tallied) → List (KeyTree × Tallied)
-with_row_under g d k es = insert_entry key_order es k (with_row g d (unwrap_or (lookup (is_at (key_order k)) es) without_rows))
+with_row_under g d k es = insert_entry key_order es k (with_tallied_row g d (unwrap_or (lookup (is_at (key_order k)) es) without_rows))
 
 abbrev pub with_row_put : Grouping → Row → List (KeyTree × Tallied) → List (KeyTree × Tallied)
 with_row_put g d es = with_row_under g d (value (canon (key_in g d))) es
@@ -66,7 +66,7 @@ with_rows_put g (d ∷ ds) es = with_rows_put g ds (with_row_put g d es)
 abbrev pub with_finished : List Accumulation → List Total → List Field → List Field
 with_finished [] ts fs = fs
 with_finished (a ∷ fields) [] fs = fs
-with_finished (a ∷ fields) (t ∷ ts) fs = with_finished fields ts (with_field a.name (Some (finished t)) fs)
+with_finished (a ∷ fields) (t ∷ ts) fs = with_finished fields ts (with_field_behind a.name (Some (finished t)) fs)
 
 abbrev pub key_or_null : List Tree → Tree
 key_or_null [] = null

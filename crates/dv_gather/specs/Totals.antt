@@ -32,10 +32,10 @@ with_each [] t = t
 with_each (v ∷ vs) t = with_each vs (with_value v t)
 
 -- with a value in the total at a place, where there is one
-abbrev pub with_value_at : ℕ → Tree → List Total → List Total
-with_value_at i v [] = []
-with_value_at zero v (t ∷ ts) = with_value v t ∷ ts
-with_value_at (suc i) v (t ∷ ts) = t ∷ with_value_at i v ts
+abbrev pub with_total_at : ℕ → Tree → List Total → List Total
+with_total_at i v [] = []
+with_total_at zero v (t ∷ ts) = with_value v t ∷ ts
+with_total_at (suc i) v (t ∷ ts) = t ∷ with_total_at i v ts
 
 -- what comes of the values
 abbrev pub finished : Total → Tree

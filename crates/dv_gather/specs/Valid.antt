@@ -20,7 +20,7 @@ use Rattle.dv_row.specs.declared.fault.PipelineFault.{PipelineFault}
 use Rattle.dv_row.specs.declared.fault.PipelineFault.TheVariants.{BadSpec}
 use Rattle.dv_path.specs.Names.{has_dot}
 use Rattle.dv_row.specs.ExpressionParsing.{expression_in}
-use Rattle.dv_row.specs.Expressions.{Expression, value_of, with_field}
+use Rattle.dv_row.specs.Expressions.{Expression, value_of, with_field_behind}
 use Rattle.dv_bson.specs.Results.{◌>>=◌, each}
 use Rattle.dv_row.specs.Row.{Row}
 use Rattle.dv_row.specs.Valid.{AreValues, IsValid, AreValid, IsSound, listed-fields, valid-fields, valid-elements, either, bound, unless, any-ok, each-sound, value_under-valid, with_field-valid, with_value_under-valid, without-valid, value_of-valid, expression_in-sound}
@@ -30,19 +30,20 @@ use Rattle.dv_gather.specs.declared.extreme.Extreme.{Extreme}
 use Rattle.dv_gather.specs.declared.extreme.Extreme.TheVariants.{Least, Greatest}
 use Rattle.dv_gather.specs.declared.lookup.Lookup.{Lookup}
 use Rattle.dv_gather.specs.Extremes.{is_better, better, extreme_from}
-use Rattle.dv_gather.specs.GroupParsing.{accumulator_named, accumulation, alone, accumulation_in, field_in, key_form, grouping, group_of, group_in}
+use Rattle.dv_gather.specs.GroupParsing.{accumulator_named, accumulation, accumulator_alone, accumulation_in, field_in, key_form, grouping, group_of, group_in}
 use Rattle.dv_gather.specs.Grouping.{Accumulation, Grouping, key_in, keyed, with_present, values_over, accumulated, field_over, with_accumulated, key_of_group, group_row, grouped}
-use Rattle.dv_gather.specs.Groups.{under, keys_of, groups_of}
+use Rattle.dv_gather.specs.Groups.{documents_under_key, group_keys, groups_of}
 use Rattle.dv_gather.specs.Joining.{as_value, is_joined, matches}
-use Rattle.dv_gather.specs.Lookups.{set_field, found, looked_up, text_in, target_in, from_option, field_option, as_option, looking, lookup_of, lookup_in}
-use Rattle.dv_gather.specs.Sums.{fits_32, fits_64, digits as spelled_out, total, is_int64, spelled}
+use Rattle.dv_gather.specs.Lookups.{set_field, joined_documents, looked_up, text_in, target_in, from_option, field_option, as_option, looking, lookup_of, lookup_in}
+use Rattle.dv_gather.specs.Sums.{digits as spelled_out, total, is_int64, spelled}
+use Rattle.dv_bson.specs.Widths.{fits_32, fits_64}
 
-abbrev pub IsSoundField : Accumulation → Type 0
-IsSoundField a = IsUtf8 a.name × IsSound a.argument
+abbrev pub IsSoundAccumulation : Accumulation → Type 0
+IsSoundAccumulation a = IsUtf8 a.name × IsSound a.argument
 
 -- a grouping whose own values and names are valid
 abbrev pub IsSoundGroup : Grouping → Type 0
-IsSoundGroup g = IsSound g.key × AllByRecursion IsSoundField g.fields
+IsSoundGroup g = IsSound g.key × AllByRecursion IsSoundAccumulation g.fields
 
 abbrev pub IsSoundLookup : Lookup → Type 0
 IsSoundLookup l = IsUtf8 l.target
@@ -136,10 +137,10 @@ values_over-valid : (e : Expression) (ds : List Row) → IsSound e → AreValid 
 values_over-valid e [] sound valid = tt
 values_over-valid e (d ∷ ds) sound valid = with_present-valid (value_of e d) (values_over e ds) (value_of-valid e d sound valid.0) (values_over-valid e ds sound valid.1)
 
-with_accumulated-valid : (fields : List Accumulation) (ds : List Row) (fs : List Field) → AllByRecursion IsSoundField fields → AreValid ds → IsValid fs → IsValid (with_accumulated fields ds fs)
+with_accumulated-valid : (fields : List Accumulation) (ds : List Row) (fs : List Field) → AllByRecursion IsSoundAccumulation fields → AreValid ds → IsValid fs → IsValid (with_accumulated fields ds fs)
 with_accumulated-valid [] ds fs sounds valid fine = fine
 with_accumulated-valid (a ∷ more) ds fs sounds valid fine =
-    with_accumulated-valid more ds (with_field a.name (Some (field_over a ds)) fs) sounds.1 valid
+    with_accumulated-valid more ds (with_field_behind a.name (Some (field_over a ds)) fs) sounds.1 valid
     (with_field-valid a.name (Some (field_over a ds)) fs sounds.0.0 (accumulated-valid a.accumulator (values_over a.argument ds) (values_over-valid a.argument ds sounds.0.1 valid)) fine)
 
 key-valid : (g : Grouping) (d : Row) → IsSoundGroup g → IsValid d → IsValue (key_in g d)
@@ -155,19 +156,19 @@ id-ascii = low-ascii (codes "_id") refl
 group_row-valid : (g : Grouping) (ds : List Row) → IsSoundGroup g → AreValid ds → IsValid (group_row g ds)
 group_row-valid g ds sound valid = with_accumulated-valid g.fields ds ((codes "_id", key_of_group g ds) ∷ []) sound.1 valid (IsUtf8-from_ascii (codes "_id") id-ascii, refl, refl, key_of_group-valid g ds sound valid, tt)
 
-under-valid : (g : Grouping) (k : Tree) (ds : List Row) → AreValid ds → AreValid (under k (map (keyed g) ds))
+under-valid : (g : Grouping) (k : Tree) (ds : List Row) → AreValid ds → AreValid (documents_under_key k (map (keyed g) ds))
 under-valid g k [] valid = tt
 under-valid g k (d ∷ ds) valid =
     let rest = under-valid g k ds valid.1 in
-    either AreValid (is_eq (order k (key_in g d))) (d ∷ under k (map (keyed g) ds)) (under k (map (keyed g) ds)) (valid.0, rest) rest
+    either AreValid (is_eq (order k (key_in g d))) (d ∷ documents_under_key k (map (keyed g) ds)) (documents_under_key k (map (keyed g) ds)) (valid.0, rest) rest
 
 pub grouped-valid : (g : Grouping) (ds : List Row) → IsSoundGroup g → AreValid ds → AreValid (grouped g ds)
 unfolding grouped groups_of
-grouped-valid g ds sound valid = rows (keys_of (map (keyed g) ds))
+grouped-valid g ds sound valid = rows (group_keys (map (keyed g) ds))
   where
-    rows : (ks : List Tree) → AreValid (map (group_row g) (map (λ k. under k (map (keyed g) ds)) ks))
+    rows : (ks : List Tree) → AreValid (map (group_row g) (map (λ k. documents_under_key k (map (keyed g) ds)) ks))
     rows [] = tt
-    rows (k ∷ ks) = (group_row-valid g (under k (map (keyed g) ds)) sound (under-valid g k ds valid), rows ks)
+    rows (k ∷ ks) = (group_row-valid g (documents_under_key k (map (keyed g) ds)) sound (under-valid g k ds valid), rows ks)
 
 abbrev IsFine : Field → Type 0
 IsFine f = IsUtf8 f.0 × IsValue f.1
@@ -176,15 +177,15 @@ fine : (fs : List Field) → IsValid fs → AllByRecursion IsFine fs
 fine [] valid = tt
 fine (f ∷ fs) valid = ((valid.0, valid.3), fine fs valid.4)
 
-alone-sound : (name : List ℕ) (fs : List Field) → IsUtf8 name → IsValid fs → IfOk (alone name fs) IsSoundField
+alone-sound : (name : List ℕ) (fs : List Field) → IsUtf8 name → IsValid fs → IfOk (accumulator_alone name fs) IsSoundAccumulation
 alone-sound name [] text valid = tt
 alone-sound name (f ∷ []) text valid =
-    bound (λ a. ⊤) IsSoundField (λ a. expression_in true f.1 >>= λ e. Ok (accumulation name a e))
-    (λ a h. bound IsSound IsSoundField (λ e. Ok (accumulation name a e)) (λ e sound. (text, sound)) (expression_in true f.1) (expression_in-sound true f.1 valid.3))
+    bound (λ a. ⊤) IsSoundAccumulation (λ a. expression_in true f.1 >>= λ e. Ok (accumulation name a e))
+    (λ a h. bound IsSound IsSoundAccumulation (λ e. Ok (accumulation name a e)) (λ e sound. (text, sound)) (expression_in true f.1) (expression_in-sound true f.1 valid.3))
     (accumulator_named f.0) (any-ok (accumulator_named f.0))
 alone-sound name (f ∷ g ∷ fs) text valid = tt
 
-accumulation_in-sound : (name : List ℕ) (v : Tree) → IsUtf8 name → IsValue v → IfOk (accumulation_in name v) IsSoundField
+accumulation_in-sound : (name : List ℕ) (v : Tree) → IsUtf8 name → IsValue v → IfOk (accumulation_in name v) IsSoundAccumulation
 accumulation_in-sound name (document fs) text value = alone-sound name (list_of_fields fs) text (listed-fields fs value)
 accumulation_in-sound name v text value = tt
 
@@ -196,8 +197,8 @@ group_of-sound : (fs : List Field) → IsValid fs → IfOk (group_of fs) IsSound
 group_of-sound fs valid =
     let others = without (codes "_id") fs in
     bound IsSound IsSoundGroup (λ key. each field_in others >>= λ fields. Ok (grouping key fields))
-    (λ key sound. bound (AllByRecursion IsSoundField) IsSoundGroup (λ fields. Ok (grouping key fields)) (λ fields sounds. (sound, sounds)) (each field_in others)
-    (each-sound IsFine IsSoundField field_in (λ f holds. accumulation_in-sound f.0 f.1 holds.0 holds.1) others (fine others (without-valid (codes "_id") fs valid))))
+    (λ key sound. bound (AllByRecursion IsSoundAccumulation) IsSoundGroup (λ fields. Ok (grouping key fields)) (λ fields sounds. (sound, sounds)) (each field_in others)
+    (each-sound IsFine IsSoundAccumulation field_in (λ f holds. accumulation_in-sound f.0 f.1 holds.0 holds.1) others (fine others (without-valid (codes "_id") fs valid))))
     (key_form (value_under (codes "_id") fs)) (key_form-sound (value_under (codes "_id") fs) (value_under-valid (codes "_id") fs valid))
 
 pub group_in-sound : (v : Tree) → IsValue v → IfOk (group_in v) IsSoundGroup
@@ -208,7 +209,7 @@ group_in-sound v value = tt
 -- ---- lookups
 
 set_field-valid : (name : List ℕ) (v : Tree) (fs : List Field) → IsUtf8 name → IsValue v → IsValid fs → IsValid (set_field name v fs)
-set_field-valid name v fs text value valid = either IsValid (has_name name fs) (with_value_under name v fs) (with_field name (Some v) fs) (with_value_under-valid name v fs value valid) (with_field-valid name (Some v) fs text value valid)
+set_field-valid name v fs text value valid = either IsValid (has_name name fs) (with_value_under name v fs) (with_field_behind name (Some v) fs) (with_value_under-valid name v fs value valid) (with_field-valid name (Some v) fs text value valid)
 
 found-values : (test : Row → Bool) (others : List Row) → AreValid others → AreValues (map as_value (filter test others))
 found-values test [] valid = tt
@@ -221,7 +222,7 @@ pub looked_up-valid : (l : Lookup) (ds others : List Row) → IsSoundLookup l �
 unfolding looked_up
 looked_up-valid l [] others sound valid fine = tt
 looked_up-valid l (d ∷ ds) others sound valid fine =
-    (set_field-valid l.target (found l others d) d sound (valid-elements (map as_value (matches l.local l.foreign others d)) (found-values (is_joined l.local l.foreign d) others fine)) valid.0, looked_up-valid l ds others sound valid.1 fine)
+    (set_field-valid l.target (joined_documents l others d) d sound (valid-elements (map as_value (matches l.local l.foreign others d)) (found-values (is_joined l.local l.foreign d) others fine)) valid.0, looked_up-valid l ds others sound valid.1 fine)
 
 target-sound : (c : Candidate) → IfSome c IsValue → IfOk (text_in c >>= target_in) IsUtf8
 target-sound None value = tt

@@ -2,7 +2,7 @@
 
 ghost use Rattle.std.specs.Prelude.{◌≡◌, ℕ, suc, IfOk, pos, true};
 ghost use Rattle.dv_bson.specs.View.{tree};
-ghost use Rattle.dv_gather.specs.Bounds.{IsWithin, most};
+ghost use Rattle.dv_gather.specs.Bounds.{IsWithinCount, most};
 ghost use Rattle.dv_gather.specs.Sums as defined;
 ghost use Rattle.dv_gather.specs.Totals.{summed, with_value, finished};
 ghost use Rattle.dv_gather.specs.TotalView.{sum_seen};
@@ -32,9 +32,9 @@ impl Sum {
 
     /// Adds the value, if it is a number.
     pub(crate) fn add(&mut self, value: &Value)
-        requires { IsWithin most (sum_seen self.old) }
+        requires { IsWithinCount most (sum_seen self.old) }
         ensures sum { sum_seen self.new ≡ with_value (tree value.now) (sum_seen self.old) }
-        ensures within { (count : ℕ) → IsWithin count (sum_seen self.old) → IsWithin (suc count) (sum_seen self.new) }
+        ensures within { (count : ℕ) → IsWithinCount count (sum_seen self.old) → IsWithinCount (suc count) (sum_seen self.new) }
     {
         self.total += i128::from(addend(value));
         self.narrow = self.narrow && !is_int64(value);

@@ -1,7 +1,7 @@
 //! `$group`.
 
 ghost use Rattle.std.specs.Prelude.{◌≡◌, [], ℕ, suc, map, IfOk, OnOk};
-ghost use Rattle.dv_row.specs.ExpressionView.{expression};
+ghost use Rattle.dv_row.specs.ExpressionView.{expression_seen};
 ghost use Rattle.dv_row.specs.RowValueView.{row_value};
 ghost use Rattle.dv_gather.specs.Bounds.{EachWithin, most};
 ghost use Rattle.dv_gather.specs.Grouping as defined;
@@ -40,7 +40,7 @@ pub struct Group {
 
 impl Model for Group {
     ghost use Rattle.std.specs.Prelude.{map};
-    ghost use Rattle.dv_row.specs.ExpressionView.{expression};
+    ghost use Rattle.dv_row.specs.ExpressionView.{expression_seen};
     ghost use Rattle.dv_gather.specs.Grouping.{Grouping};
     ghost use Rattle.dv_gather.specs.GroupCode.{coded_grouping};
 
@@ -51,7 +51,7 @@ impl Model for Group {
     ghost use Rattle.dv_gather.specs.GroupView.{accumulation};
     ghost use Rattle.dv_gather.specs.GroupParsing.{grouping};
 
-    ghost view = { λ g. grouping (expression g.key) (map accumulation g.fields.items) };
+    ghost view = { λ g. grouping (expression_seen g.key) (map accumulation g.fields.items) };
 }
 
 impl GroupField {
@@ -70,14 +70,14 @@ impl GroupField {
 impl Group {
     /// The grouping by this expression, with these fields. Takes no memory.
     pub fn of(key: Expr, fields: Vec<GroupField>) -> Self
-        ensures { result ≡ grouping (expression key) (map accumulation fields.items) }
+        ensures { result ≡ grouping (expression_seen key) (map accumulation fields.items) }
     {
         Group { key, fields }
     }
 
     /// What gives a row's key. Takes no memory.
     pub fn key(&self) -> &Expr
-        ensures { expression result.now ≡ self.now.key }
+        ensures { expression_seen result.now ≡ self.now.key }
     {
         &self.key
     }

@@ -3,7 +3,7 @@
 ghost use Rattle.std.specs.Prelude.{◌≡◌, map, codes, IfOk};
 ghost use Rattle.dv_bson.specs.Names.{value_under, without};
 ghost use Rattle.dv_bson.specs.View.{tree};
-ghost use Rattle.dv_row.specs.ExpressionView.{expression};
+ghost use Rattle.dv_row.specs.ExpressionView.{expression_seen};
 ghost use Rattle.dv_row.specs.Parsing.{Gives};
 ghost use Rattle.dv_bson.specs.Results.{each};
 ghost use Rattle.dv_gather.specs.GroupParsing as defined;
@@ -41,7 +41,7 @@ impl Group {
 
 /// The expression under `_id`.
 fn key_of(alloc: Global, document: &Document) -> Result<Expr, PipelineFault>
-    ensures { Gives expression result (defined.key_form (value_under (codes "_id") document.now)) }
+    ensures { Gives expression_seen result (defined.key_form (value_under (codes "_id") document.now)) }
 {
     match document.get("_id") {
         Some(key) => Expr::parse(alloc, key),
@@ -84,7 +84,7 @@ fn field_of(alloc: Global, name: &str, value: &Value) -> Result<GroupField, Pipe
 
 /// The field that one accumulator with its expression makes.
 fn field_alone(alloc: Global, name: &str, document: &Document) -> Result<GroupField, PipelineFault>
-    ensures { Gives accumulation result (defined.alone name.now document.now) }
+    ensures { Gives accumulation result (defined.accumulator_alone name.now document.now) }
 {
     if document.len() != 1 {
         return Err(PipelineFault::BadSpec);

@@ -7,7 +7,7 @@ ghost use Rattle.std.specs.Ordering.{is_eq, nat_cmp};
 ghost use Rattle.dv_order.specs.Key.{KeyTree, key_order};
 ghost use Rattle.dv_gather.specs.Joining.{as_value};
 ghost use Rattle.dv_gather.specs.KeySets.{referred};
-ghost use Rattle.dv_gather.specs.Places.{AreMatches, ArePlaces, chosen, is_found, is_place, is_under, item_at};
+ghost use Rattle.dv_gather.specs.Places.{AreMatches, ArePlaces, items_chosen, is_found, is_place, is_under, item_at};
 
 use crate::keys::sole_key;
 use crate::lookup::Lookup;
@@ -153,7 +153,7 @@ fn documents_at(
     documents: &[&Document],
     places: &BTreeSet<usize>,
 ) -> Result<List, NoMemory>
-    ensures { IfOk result (λ list. list ≡ map as_value (chosen (λ i. contains nat_cmp places.now i) (referred documents.now))) }
+    ensures { IfOk result (λ list. list ≡ map as_value (items_chosen (λ i. contains nat_cmp places.now i) (referred documents.now))) }
 {
     let mut list = Vec::with_capacity(alloc, places.len())?;
     'places: for place in places.iter() {

@@ -17,7 +17,7 @@ ghost use Rattle.dv_gather.specs.Examples as examples;
 ghost use Rattle.dv_gather.specs.GroupParsing.{group_in};
 ghost use Rattle.dv_gather.specs.declared.lookup.Lookup as lookups;
 ghost use Rattle.dv_gather.specs.Grouping.{Grouping, accumulated, group_row, grouped, key_in, keyed, values_over};
-ghost use Rattle.dv_gather.specs.Groups.{Keyed, groups_of, keys_of};
+ghost use Rattle.dv_gather.specs.Groups.{Keyed, groups_of, group_keys};
 ghost use Rattle.dv_gather.specs.Leading.{IsLeader};
 ghost use Rattle.dv_gather.specs.Lookups.{looked_up, lookup_in, set_field};
 ghost use Rattle.dv_gather.specs.Sums.{sum_of};
@@ -27,16 +27,16 @@ use crate::accumulator::Accumulator;
 /// The keys of the groups ascend and are apart, and each row's key is one of them alone: so it is in one group.
 #[tactic(auto, using(crate::specs::GroupLaws::keys_ascend, crate::proofs::GatherLaws::one_key))]
 pub fn each_row_is_in_one_group()
-    ensures ascending { (rows : List Keyed) → IsStrictlySortedBy order (keys_of rows) }
-    ensures one { (before after : List Keyed) (row : Keyed) → length (filter (λ k. is_eq (order row.0 k)) (keys_of (before ++ row ∷ after))) ≡ 1 }
+    ensures ascending { (rows : List Keyed) → IsStrictlySortedBy order (group_keys rows) }
+    ensures one { (before after : List Keyed) (row : Keyed) → length (filter (λ k. is_eq (order row.0 k)) (group_keys (before ++ row ∷ after))) ≡ 1 }
 {}
 
 /// A group is made of the rows whose key compares equal to the group's, in their order, and a group's key is the key of a row.
 #[tactic(auto, using(crate::proofs::Parted::groups_filter, crate::proofs::Parted::grouped_filter, crate::proofs::Parted::no_other_key))]
 pub fn groups_are_parted_by_their_keys()
-    ensures parted { (rows : List Keyed) → groups_of rows ≡ map (λ k. map (λ row. row.1) (filter (λ row. is_eq (order k row.0)) rows)) (keys_of rows) }
-    ensures grouped { (group : Grouping) (rows : List Row) → grouped group rows ≡ map (λ k. group_row group (filter (λ row. is_eq (order k (key_in group row))) rows)) (keys_of (map (keyed group) rows)) }
-    ensures no_other_key { (holds : Tree → Bool) (rows : List Keyed) → list_all (λ row. holds row.0) rows ≡ true → list_all holds (keys_of rows) ≡ true }
+    ensures parted { (rows : List Keyed) → groups_of rows ≡ map (λ k. map (λ row. row.1) (filter (λ row. is_eq (order k row.0)) rows)) (group_keys rows) }
+    ensures grouped { (group : Grouping) (rows : List Row) → grouped group rows ≡ map (λ k. group_row group (filter (λ row. is_eq (order k (key_in group row))) rows)) (group_keys (map (keyed group) rows)) }
+    ensures no_other_key { (holds : Tree → Bool) (rows : List Keyed) → list_all (λ row. holds row.0) rows ≡ true → list_all holds (group_keys rows) ≡ true }
 {}
 
 /// A sum is that of the numbers among the values: no other value counts.

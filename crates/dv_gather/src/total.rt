@@ -3,7 +3,7 @@
 ghost use Rattle.std.specs.Prelude.{◌≡◌, ℕ, suc, map, IfOk, OnOk};
 ghost use Rattle.dv_bson.specs.View.{tree};
 ghost use Rattle.dv_row.specs.RowValueView.{row_value};
-ghost use Rattle.dv_gather.specs.Bounds.{AreWithin, IsWithin, most};
+ghost use Rattle.dv_gather.specs.Bounds.{AreWithin, IsWithinCount, most};
 ghost use Rattle.dv_gather.specs.Totals as defined;
 ghost use Rattle.dv_gather.specs.TotalView.{total_seen};
 
@@ -40,9 +40,9 @@ impl Total {
 
     /// Takes a value in behind the others. Fails where memory is wanting.
     pub(crate) fn add(&mut self, value: RowValue<'_>) -> Result<(), NoMemory>
-        requires { IsWithin most (total_seen self.old) }
+        requires { IsWithinCount most (total_seen self.old) }
         ensures total { OnOk result (total_seen self.new ≡ defined.with_value (row_value value.entry) (total_seen self.old)) }
-        ensures within { OnOk result ((count : ℕ) → IsWithin count (total_seen self.old) → IsWithin (suc count) (total_seen self.new)) }
+        ensures within { OnOk result ((count : ℕ) → IsWithinCount count (total_seen self.old) → IsWithinCount (suc count) (total_seen self.new)) }
     {
         match self {
             Total::Sum(sum) => sum.add(value.get()),
@@ -75,7 +75,7 @@ pub(crate) fn add_at(
     value: RowValue<'_>,
 ) -> Result<(), NoMemory>
     requires { AreWithin place most (map total_seen totals.old) }
-    ensures totals { OnOk result (map total_seen totals.new ≡ defined.with_value_at place (row_value value.entry) (map total_seen totals.old)) }
+    ensures totals { OnOk result (map total_seen totals.new ≡ defined.with_total_at place (row_value value.entry) (map total_seen totals.old)) }
     ensures within { OnOk result ((count : ℕ) → AreWithin place count (map total_seen totals.old) → AreWithin (suc place) count (map total_seen totals.new)) }
 {
     if place < totals.len() {

@@ -13,8 +13,8 @@ use Rattle.dv_row.specs.Row.{Row}
 use Rattle.dv_change.specs.declared.change.Change.{Change}
 use Rattle.dv_change.specs.declared.change.Change.TheVariants.{Gone, Put}
 use Rattle.dv_change.specs.declared.position.Part.TheVariants.{Up}
-use Rattle.dv_change.specs.Changes.{IsExactChange, IsPositioned, Positioned, at, forget, place_of, row_in, with_change}
-use Rattle.dv_change.specs.Difference.{diff, gones, puts, stands}
+use Rattle.dv_change.specs.Changes.{IsExactChange, IsPositioned, Positioned, at, forget, position_changed, row_in, with_change}
+use Rattle.dv_change.specs.Difference.{diff, gones, puts, stands_as}
 use Rattle.dv_change.specs.DiffLaws.{all-filter, positioned-filter}
 use Rattle.dv_change.specs.PositionLaws.{pos_order_total}
 use Rattle.dv_change.specs.Positions.{PosTree, pos_order}
@@ -120,10 +120,10 @@ module _ (a b : PosTree) where
   diff-two : (old new : Positioned) → IsPositioned old → IsPositioned new → AllByRecursion IsOne (keys_of old) → AllByRecursion IsOne (keys_of new) → length (diff old new) ≤ 2
   diff-two old new are-old are-new all-old all-new =
       let left = filter (goes new) old in
-      let came = filter (λ (e : PosTree × Row). not (stands (at e.0 old) e.1)) new in
+      let came = filter (λ (e : PosTree × Row). not (stands_as (at e.0 old) e.1)) new in
       let two = two-at-most (keys_of left ++ keys_of new) (apart-both (keys_of left) (keys_of new) (less-apart (keys_of left) (positioned-filter (goes new) old are-old).ascending) (less-apart (keys_of new) are-new.ascending) (all-gone new old))
       (all-both IsOne (keys_of left) (keys_of new) (all-filter (goes new) IsOne old all-old) all-new) in
-      omega (arith, two, both-length (gones old new) (puts old new), both-length (keys_of left) (keys_of new), map-length {A = PosTree × Row} (λ e. Gone e.0) left, map-length {A = PosTree × Row} (λ e. Put e.0 e.1) came, map-length {A = PosTree × Row} (λ e. e.0) left, map-length {A = PosTree × Row} (λ e. e.0) new, filter-length (λ e. not (stands (at e.0 old) e.1)) new)
+      omega (arith, two, both-length (gones old new) (puts old new), both-length (keys_of left) (keys_of new), map-length {A = PosTree × Row} (λ e. Gone e.0) left, map-length {A = PosTree × Row} (λ e. Put e.0 e.1) came, map-length {A = PosTree × Row} (λ e. e.0) left, map-length {A = PosTree × Row} (λ e. e.0) new, filter-length (λ e. not (stands_as (at e.0 old) e.1)) new)
 
 -- ---- the rows of the groups of two keys
 
@@ -148,7 +148,7 @@ module _ (g : Grouping) (under : KeyTree → Positioned) (key other : Option Key
 
 pub group-bound : (g : Grouping) (rows : Positioned) (change : Change) → IsPositioned rows → IsExactChange change → length (diff (grouped_at g rows) (grouped_at g (with_change rows change))) ≤ 2
 group-bound g rows change are exact =
-    let key = option_map (row_key g) (at (place_of change) rows) in
+    let key = option_map (row_key g) (at (position_changed change) rows) in
     let other = option_map (row_key g) (row_in change) in
     let was = λ (k : KeyTree). rows_with g k rows in
     let now = λ (k : KeyTree). rows_with g k (with_change rows change) in

@@ -17,8 +17,8 @@ use Rattle.dv_group.specs.declared.running.Running as memory
 use Rattle.dv_group.specs.declared.running.Running.TheVariants.{Summed}
 use Rattle.dv_group.specs.declared.running.Way.TheVariants.{Comes, Goes}
 use Rattle.dv_group.specs.declared.summing.KeptSum.{KeptSum}
-use Rattle.dv_group.specs.Room.{AreNarrowIn, HaveRoom, IsBundle, IsNarrow, IsNarrowIn, IsNarrowValue, most}
-use Rattle.dv_group.specs.Running.{Running, moved_from, running_of, value_at, with_told}
+use Rattle.dv_group.specs.Room.{AreNarrowIn, HaveRoom, IsBundle, IsNarrow, IsNarrowIn, IsNarrowValue, most_rows}
+use Rattle.dv_group.specs.Running.{Running, moved_from, running_of, field_value, with_told}
 use Rattle.dv_group.specs.RunningView.{running_seen}
 use Rattle.dv_group.proofs.Following.{all-came, all-come, all-left, all-may-come, all-may-go, all-narrow, all-told, all-went}
 
@@ -54,10 +54,10 @@ gone-none p (e ∷ rows) none = by (is_eq (pos_order p e.0)) none (λ none. gone
 module _ (fields : List Accumulation) (p : PosTree) (x : IsExact p) (before : Bundle) (sound : IsBundle fields before) where
   -- ---- there is room
 
-  pub may-come : (d : Row) → length before.members ≤ most → HaveRoom Comes fields p d (map running_seen before.totals.items)
+  pub may-come : (d : Row) → length before.members ≤ most_rows → HaveRoom Comes fields p d (map running_seen before.totals.items)
   may-come d few = subst (λ ts. HaveRoom Comes fields p d ts) (sym sound.totals) (all-may-come p d before.members sound.positioned x few fields sound.narrow)
 
-  pub may-go : (d : Row) → length before.members ≤ most → at p before.members ≡ Some d → HaveRoom Goes fields p d (map running_seen before.totals.items)
+  pub may-go : (d : Row) → length before.members ≤ most_rows → at p before.members ≡ Some d → HaveRoom Goes fields p d (map running_seen before.totals.items)
   may-go d few there = subst (λ ts. HaveRoom Goes fields p d ts) (sym sound.totals) (all-may-go p d before.members sound.positioned x few fields there sound.narrow)
 
   -- ---- a row comes, or goes
@@ -94,7 +94,7 @@ module _ (fields : List Accumulation) (p : PosTree) (x : IsExact p) (before : Bu
 
 -- ---- what is told
 
-pub narrow-seen : (t : memory.Running) (sum : KeptSum) (a : Accumulation) (d : Row) (v : Option Tree) → t ≡ Summed sum → v ≡ value_at a d → IsNarrowValue v → IsNarrowIn (running_seen t) a d
+pub narrow-seen : (t : memory.Running) (sum : KeptSum) (a : Accumulation) (d : Row) (v : Option Tree) → t ≡ Summed sum → v ≡ field_value a d → IsNarrowValue v → IsNarrowIn (running_seen t) a d
 narrow-seen t sum a d v is same narrow = subst (λ u. IsNarrowIn (running_seen u) a d) (sym is) (subst (λ (o : Option Tree). IsNarrowValue o) same narrow)
 
 -- the row of a group is made of its first row, and of what is told of its fields

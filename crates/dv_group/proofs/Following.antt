@@ -6,7 +6,7 @@ use Rattle.std.specs.declared.cmp.Ordering.TheVariants.{Less, Equal, Greater}
 use Rattle.std.specs.List.{AllByRecursion}
 use Rattle.std.specs.Ordering.{is_eq, match_ordering}
 use Rattle.dv_bson.specs.Tree.{Field}
-use Rattle.dv_row.specs.Expressions.{with_field}
+use Rattle.dv_row.specs.Expressions.{with_field_behind}
 use Rattle.dv_row.specs.Row.{Row}
 use Rattle.dv_change.specs.Changes.{IsPositioned, Positioned, at, forget}
 use Rattle.dv_change.specs.Ordered.{gone, put}
@@ -17,8 +17,8 @@ use Rattle.dv_gather.specs.Grouping.{Accumulation, accumulated, field_over, valu
 use Rattle.dv_gather.specs.Sums.{spelled}
 use Rattle.dv_group.specs.declared.running.Way.{Way}
 use Rattle.dv_group.specs.declared.running.Way.TheVariants.{Comes, Goes}
-use Rattle.dv_group.specs.Room.{AreNarrowIn, HasRoom, HaveRoom, IsNarrow, IsNarrowFor, IsNarrowIn, IsWithin, most}
-use Rattle.dv_group.specs.Running.{Running, moved_at, moved_by, moved_from, running_by, running_of, summed, told_by, with_row, with_told, without_row}
+use Rattle.dv_group.specs.Room.{AreNarrowIn, HasRoomFor, HaveRoom, IsNarrow, IsNarrowFor, IsNarrowIn, IsWithinRows, most_rows}
+use Rattle.dv_group.specs.Running.{Running, moved_at, moved_by, moved_from, running_by, running_of, summed, told_by, with_running_row, with_told, without_row}
 use Rattle.dv_group.proofs.Ranking.{first-greatest, first-least, ranked-gone, ranked-put}
 use Rattle.dv_group.proofs.SumsKept.{counted, narrow-is, sum-gone, sum-put, total-is, wides-gone, wides-put, within-most}
 
@@ -63,7 +63,7 @@ module _ {A B : Type 0} (P : A → B → Type 0) where
 -- ---- one field
 
 module _ (a : Accumulation) (p : PosTree) (d : Row) (rows : Positioned) (are : IsPositioned rows) (x : IsExact p) where
-  came : (accumulator : Accumulator) → a.accumulator ≡ accumulator → at p rows ≡ None → with_row a p d (running_by accumulator a rows) ≡ running_by accumulator a (put p d rows)
+  came : (accumulator : Accumulator) → a.accumulator ≡ accumulator → at p rows ≡ None → with_running_row a p d (running_by accumulator a rows) ≡ running_by accumulator a (put p d rows)
   came Sum is none = sym (λ i. summed (sum-put a p d rows none i) (wides-put a p d rows none i))
   came Min is none = ap Running.ranked (sym (ranked-put a p d rows are x none))
   came Max is none = ap Running.ranked (sym (ranked-put a p d rows are x none))
@@ -75,16 +75,16 @@ module _ (a : Accumulation) (p : PosTree) (d : Row) (rows : Positioned) (are : I
   went Max is there = ap Running.ranked (sym (ranked-gone a p d rows are x there))
   went Push is there = refl
 
-  room-to-come : (accumulator : Accumulator) → length rows ≤ most → AllByRecursion (λ e. IsNarrowFor accumulator a e.1) rows → HasRoom Comes a p d (running_by accumulator a rows)
+  room-to-come : (accumulator : Accumulator) → length rows ≤ most_rows → AllByRecursion (λ e. IsNarrowFor accumulator a e.1) rows → HasRoomFor Comes a p d (running_by accumulator a rows)
   room-to-come Sum few all = within-most a rows few all
   room-to-come Min few all = tt
   room-to-come Max few all = tt
   room-to-come Push few all = tt
 
-  room-to-go : (accumulator : Accumulator) → a.accumulator ≡ accumulator → at p rows ≡ Some d → length rows ≤ most → AllByRecursion (λ e. IsNarrowFor accumulator a e.1) rows → HasRoom Goes a p d (running_by accumulator a rows)
+  room-to-go : (accumulator : Accumulator) → a.accumulator ≡ accumulator → at p rows ≡ Some d → length rows ≤ most_rows → AllByRecursion (λ e. IsNarrowFor accumulator a e.1) rows → HasRoomFor Goes a p d (running_by accumulator a rows)
   room-to-go Sum is there few all =
       let left = fewer p rows in
-      (subst (λ (t : Running). IsWithin most t) (sym (went Sum is there)) (within-most a (gone p rows) (omega (arith, left, few)) (all-left (λ e. IsNarrowFor Sum a e.1) p rows all)), counted a p d rows there)
+      (subst (λ (t : Running). IsWithinRows most_rows t) (sym (went Sum is there)) (within-most a (gone p rows) (omega (arith, left, few)) (all-left (λ e. IsNarrowFor Sum a e.1) p rows all)), counted a p d rows there)
   room-to-go Min is there few all = (tt, tt)
   room-to-go Max is there few all = (tt, tt)
   room-to-go Push is there few all = (tt, tt)
@@ -127,8 +127,8 @@ module _ (fields : List Accumulation) (p : PosTree) (d : Row) (rows : Positioned
   pub all-went : at p rows ≡ Some d → moved_from Goes p d 0 fields (map (λ a. running_of a rows) fields) ≡ map (λ a. running_of a (gone p rows)) fields
   all-went there = moved-each Goes p d (λ a. running_of a rows) (λ a. running_of a (gone p rows)) (λ a. went a p d rows are x a.accumulator refl there) [] fields
 
-module _ (p : PosTree) (d : Row) (rows : Positioned) (are : IsPositioned rows) (x : IsExact p) (few : length rows ≤ most) where
-  rooms : (way : Way) → ((a : Accumulation) → AllByRecursion (λ e. IsNarrow a e.1) rows → HasRoom way a p d (running_of a rows))
+module _ (p : PosTree) (d : Row) (rows : Positioned) (are : IsPositioned rows) (x : IsExact p) (few : length rows ≤ most_rows) where
+  rooms : (way : Way) → ((a : Accumulation) → AllByRecursion (λ e. IsNarrow a e.1) rows → HasRoomFor way a p d (running_of a rows))
       → (fields : List Accumulation) → AllByRecursion (λ a. AllByRecursion (λ e. IsNarrow a e.1) rows) fields → HaveRoom way fields p d (map (λ a. running_of a rows) fields)
   rooms way one [] all = tt
   rooms way one (a ∷ fields) all = (one a all.0, rooms way one fields all.1)
@@ -147,5 +147,5 @@ all-narrow (a ∷ fields) d rows narrow = (narrow-for a.accumulator a d rows nar
 pub all-told : (fields : List Accumulation) (rows : Positioned) (fs : List Field) → IsPositioned rows → with_told fields rows (map (λ a. running_of a rows) fields) fs ≡ with_accumulated fields (forget rows) fs
 all-told [] rows fs are = refl
 all-told (a ∷ fields) rows fs are =
-    ap (λ v. with_told fields rows (map (λ a. running_of a rows) fields) (with_field a.name (Some v) fs)) (told a rows are a.accumulator refl)
-    ∙ all-told fields rows (with_field a.name (Some (field_over a (forget rows))) fs) are
+    ap (λ v. with_told fields rows (map (λ a. running_of a rows) fields) (with_field_behind a.name (Some v) fs)) (told a rows are a.accumulator refl)
+    ∙ all-told fields rows (with_field_behind a.name (Some (field_over a (forget rows))) fs) are

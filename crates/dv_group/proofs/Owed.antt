@@ -13,7 +13,7 @@ use Rattle.dv_order.specs.Key.{KeyTree, key_order}
 use Rattle.dv_row.specs.Row.{Row}
 use Rattle.dv_change.specs.declared.change.Change.{Change}
 use Rattle.dv_change.specs.declared.position.Part.TheVariants.{Up, Down, At}
-use Rattle.dv_change.specs.Changes.{IsExactChange, IsPositioned, Positioned, at, forget, place_of, row_in, with_change}
+use Rattle.dv_change.specs.Changes.{IsExactChange, IsPositioned, Positioned, at, forget, position_changed, row_in, with_change}
 use Rattle.dv_change.specs.Difference.{diff}
 use Rattle.dv_change.specs.DiffLaws.{IsPartAt, at-changed, at-filter, diff-parts, exact-place, or_else, positioned-changed, positioned-filter}
 use Rattle.dv_change.specs.Ordered.{gone}
@@ -21,7 +21,7 @@ use Rattle.dv_change.specs.Positions.{IsExact, PosTree, pos_order}
 use Rattle.dv_change.specs.RowLaws.{all-put, at-gone, at-like, at-put, at_back, positioned-gone, positioned-none, positioned-put, same_rows}
 use Rattle.dv_gather.specs.Grouping.{Grouping, row_shown}
 use Rattle.dv_group.specs.Grouped.{IsKeyPlace, at-grouped, beside, group_ordered, grouped-places, one-part}
-use Rattle.dv_group.specs.Members.{AreMembers, Kept, has_key, is_key, members, moved, put_some, row_key, rows_with, shown_of, with_shown}
+use Rattle.dv_group.specs.Members.{AreMembers, KeptGroups, row_has_key, is_key, group_members, moved, put_some, row_key, rows_with, shown_of, with_shown}
 use Rattle.dv_group.specs.Placed.{grouped_at}
 
 -- ---- a row more, where there is one
@@ -126,11 +126,11 @@ module _ (g : Grouping) where
 
   -- ---- a change of a row
 
-  without-key : (k : KeyTree) (r : Option Row) → is_key k (option_map (row_key g) r) ≡ false → option_filter (has_key g k) r ≡ None
+  without-key : (k : KeyTree) (r : Option Row) → is_key k (option_map (row_key g) r) ≡ false → option_filter (row_has_key g k) r ≡ None
   without-key k None other = refl
   without-key k (Some d) other = ap (λ b. cond b (Some d) None) other
 
-  with-key : (k : KeyTree) (r : Option Row) → is_key k (option_map (row_key g) r) ≡ true → option_filter (has_key g k) r ≡ r
+  with-key : (k : KeyTree) (r : Option Row) → is_key k (option_map (row_key g) r) ≡ true → option_filter (row_has_key g k) r ≡ r
   with-key k None own = refl
   with-key k (Some d) own = ap (λ b. cond b (Some d) None) own
 
@@ -139,7 +139,7 @@ module _ (g : Grouping) where
     after = with_change rows change
 
     abbrev pos : PosTree
-    pos = place_of change
+    pos = position_changed change
 
     abbrev key : Option KeyTree
     key = option_map (row_key g) (at pos rows)
@@ -151,8 +151,8 @@ module _ (g : Grouping) where
     changed = positioned-changed rows change are exact
 
     -- the rows with a key after it
-    at-with : (k : KeyTree) (q : PosTree) (es : Positioned) → IsPositioned es → at q (rows_with g k es) ≡ option_filter (has_key g k) (at q es)
-    at-with k q es these = at-filter (λ e. has_key g k e.1) q (has_key g k) (λ p v e. refl) es these
+    at-with : (k : KeyTree) (q : PosTree) (es : Positioned) → IsPositioned es → at q (rows_with g k es) ≡ option_filter (row_has_key g k) (at q es)
+    at-with k q es these = at-filter (λ e. row_has_key g k e.1) q (row_has_key g k) (λ p v e. refl) es these
 
     either : {A : Type 0} (P : A → Type 0) (b : Bool) (x y : A) → P x → P y → P (cond b x y)
     either P true x y p q = p
@@ -169,7 +169,7 @@ module _ (g : Grouping) where
       now = cond (is_key k other) (put_some pos (row_in change) left) left
 
       are-have : IsPositioned have
-      are-have = positioned-filter (λ e. has_key g k e.1) rows are
+      are-have = positioned-filter (λ e. row_has_key g k e.1) rows are
 
       are-left : IsPositioned left
       are-left = either (λ (es : Positioned). IsPositioned es) (is_key k key) (gone pos have) have (positioned-gone pos have are-have) are-have
@@ -181,7 +181,7 @@ module _ (g : Grouping) where
       at-either q true es fs = refl
       at-either q false es fs = refl
 
-      at-left : (q : PosTree) → at q left ≡ cond (is_key k key) (cond (is_eq (pos_order q pos)) None (option_filter (has_key g k) (at q rows))) (option_filter (has_key g k) (at q rows))
+      at-left : (q : PosTree) → at q left ≡ cond (is_key k key) (cond (is_eq (pos_order q pos)) None (option_filter (row_has_key g k) (at q rows))) (option_filter (row_has_key g k) (at q rows))
       at-left q =
           let there = at-with k q rows are in
           at-either q (is_key k key) (gone pos have) have
@@ -192,11 +192,11 @@ module _ (g : Grouping) where
       at-now q =
           at-either q (is_key k other) (put_some pos (row_in change) left) left
           ∙ ap (λ a. cond (is_key k other) a (at q left)) (at-put_some q pos (row_in change) left)
-          ∙ settled (has_key g k) (is_key k key) (is_key k other) (is_eq (pos_order q pos)) (at pos rows) (row_in change) (at q rows) (without-key k (at pos rows)) (without-key k (row_in change)) (with-key k (row_in change)) (λ here. at-like q pos ((Equal-is (pos_order q pos)).0 here) rows) (at q left) (at-left q)
-          ∙ sym (at-with k q after changed ∙ ap (option_filter (has_key g k)) (at-changed q rows change are))
+          ∙ settled (row_has_key g k) (is_key k key) (is_key k other) (is_eq (pos_order q pos)) (at pos rows) (row_in change) (at q rows) (without-key k (at pos rows)) (without-key k (row_in change)) (with-key k (row_in change)) (λ here. at-like q pos ((Equal-is (pos_order q pos)).0 here) rows) (at q left) (at-left q)
+          ∙ sym (at-with k q after changed ∙ ap (option_filter (row_has_key g k)) (at-changed q rows change are))
 
       now-is : now ≡ rows_with g k after
-      now-is = same_rows now (rows_with g k after) are-now (positioned-filter (λ e. has_key g k e.1) after changed) (λ q x. at-now q)
+      now-is = same_rows now (rows_with g k after) are-now (positioned-filter (λ e. row_has_key g k e.1) after changed) (λ q x. at-now q)
 
       stays : is_key k key || is_key k other ≡ false → rows_with g k after ≡ have
       stays apart = sym now-is ∙ by (is_key k key) (is_key k other) apart
@@ -249,29 +249,29 @@ module _ (g : Grouping) where
 
   -- ---- the same in memory: the key of the row that went, and of the one that came, and the groups before and after
 
-  module _ (rows : Positioned) (change : Change) (are : IsPositioned rows) (exact : IsExactChange change) (kept still : Kept) (pos : PosTree) (old new : Option Row) (key other : Option KeyTree)
-      (pos-is : pos ≡ place_of change) (old-is : old ≡ at (place_of change) rows) (new-is : new ≡ row_in change) (key-is : key ≡ option_map (row_key g) old) (other-is : other ≡ option_map (row_key g) new)
-      (are-kept : AreMembers g (λ k. members k kept) rows)
-      (is-moved : (k : KeyTree) → members k still ≡ moved pos key other new k (members k kept)) where
-    own-key : key ≡ option_map (row_key g) (at (place_of change) rows)
+  module _ (rows : Positioned) (change : Change) (are : IsPositioned rows) (exact : IsExactChange change) (kept still : KeptGroups) (pos : PosTree) (old new : Option Row) (key other : Option KeyTree)
+      (pos-is : pos ≡ position_changed change) (old-is : old ≡ at (position_changed change) rows) (new-is : new ≡ row_in change) (key-is : key ≡ option_map (row_key g) old) (other-is : other ≡ option_map (row_key g) new)
+      (are-kept : AreMembers g (λ k. group_members k kept) rows)
+      (is-moved : (k : KeyTree) → group_members k still ≡ moved pos key other new k (group_members k kept)) where
+    own-key : key ≡ option_map (row_key g) (at (position_changed change) rows)
     own-key = key-is ∙ ap (option_map (row_key g)) old-is
 
     own-other : other ≡ option_map (row_key g) (row_in change)
     own-other = other-is ∙ ap (option_map (row_key g)) new-is
 
-    are-still : AreMembers g (λ k. members k still) (with_change rows change)
+    are-still : AreMembers g (λ k. group_members k still) (with_change rows change)
     are-still =
-        still-members rows change are exact (λ k. members k kept) (λ k. members k still) are-kept
-        (λ k. is-moved k ∙ (λ i. moved (pos-is i) (own-key i) (own-other i) (new-is i) k (members k kept)))
+        still-members rows change are exact (λ k. group_members k kept) (λ k. group_members k still) are-kept
+        (λ k. is-moved k ∙ (λ i. moved (pos-is i) (own-key i) (own-other i) (new-is i) k (group_members k kept)))
 
     -- it is sound after it
-    pub taken-sound : (h : Grouping) (left : Positioned) → h ≡ g → left ≡ with_change rows change → IsPositioned left × AreMembers h (λ k. members k still) left
+    pub taken-sound : (h : Grouping) (left : Positioned) → h ≡ g → left ≡ with_change rows change → IsPositioned left × AreMembers h (λ k. group_members k still) left
     taken-sound h left same here = (rw here (positioned-changed rows change are exact), λ k. are-still k ∙ (λ i. rows_with (sym same i) k (sym here i)))
 
-    pub taken-owed : diff (shown_of g (λ k. members k kept) key other) (shown_of g (λ k. members k still) key other) ≡ diff (grouped_at g rows) (grouped_at g (with_change rows change))
+    pub taken-owed : diff (shown_of g (λ k. group_members k kept) key other) (shown_of g (λ k. group_members k still) key other) ≡ diff (grouped_at g rows) (grouped_at g (with_change rows change))
     taken-owed =
-        (λ i. diff (shown_of g (λ k. members k kept) (own-key i) (own-other i)) (shown_of g (λ k. members k still) (own-key i) (own-other i)))
-        ∙ sym (group-owed rows change are exact (λ k. members k kept) (λ k. members k still) are-kept are-still)
+        (λ i. diff (shown_of g (λ k. group_members k kept) (own-key i) (own-other i)) (shown_of g (λ k. group_members k still) (own-key i) (own-other i)))
+        ∙ sym (group-owed rows change are exact (λ k. group_members k kept) (λ k. group_members k still) are-kept are-still)
 
 -- where all goes well
 pub both-ok : {A E P Q R : Type 0} (r : Result A E) → OnOk r P → OnOk r Q → (P → Q → R) → OnOk r R

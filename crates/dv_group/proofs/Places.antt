@@ -9,7 +9,7 @@ use Rattle.dv_change.specs.Positions.{PosTree}
 use Rattle.dv_gather.specs.Grouping.{Accumulation}
 use Rattle.dv_group.specs.declared.running.Running as memory
 use Rattle.dv_group.specs.declared.running.Way.{Way}
-use Rattle.dv_group.specs.Room.{AreNarrowIn, HasRoom, HaveRoom, IsNarrowIn}
+use Rattle.dv_group.specs.Room.{AreNarrowIn, HasRoomFor, HaveRoom, IsNarrowIn}
 use Rattle.dv_group.specs.Running.{Running, moved_at, moved_by, moved_from, with_told}
 use Rattle.dv_group.specs.RunningView.{running_seen}
 
@@ -34,7 +34,7 @@ module _ (way : Way) (a : Accumulation) (p : PosTree) (d : Row) where
   room-rest (b ∷ fields) [] room = tt
   room-rest (b ∷ fields) (t ∷ ts) room = room.1
 
-  pub room-at : (place : ℕ) (ts : List memory.Running) (none : memory.Running) → place < length ts → HaveRoom way (a ∷ []) p d (drop place (map running_seen ts)) → HasRoom way a p d (running_seen (get_or ts place none))
+  pub room-at : (place : ℕ) (ts : List memory.Running) (none : memory.Running) → place < length ts → HaveRoom way (a ∷ []) p d (drop place (map running_seen ts)) → HasRoomFor way a p d (running_seen (get_or ts place none))
   room-at place [] none within room = absurd (omega arith)
   room-at zero (t ∷ ts) none within room = room.0
   room-at (suc place) (t ∷ ts) none within room = room-at place ts none (omega arith) room

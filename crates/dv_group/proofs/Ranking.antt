@@ -24,10 +24,10 @@ use Rattle.dv_change.specs.Positions.{IsExact, IsExactPart, PosTree, part_order,
 use Rattle.dv_change.specs.RowLaws.{at-gone, at-like, at-put, at_back, past, positioned-gone, positioned-none, positioned-put, positioned-tail, same_rows}
 use Rattle.dv_gather.specs.declared.accumulator.Accumulator.{Accumulator}
 use Rattle.dv_gather.specs.declared.accumulator.Accumulator.TheVariants.{Sum, Min, Max, Push}
-use Rattle.dv_gather.specs.Extremes.{extreme_from, is_null, stands_so}
+use Rattle.dv_gather.specs.Extremes.{extreme_from, is_null, extreme_stands_so}
 use Rattle.dv_gather.specs.Grouping.{Accumulation, accumulated, values_over, with_present}
 use Rattle.dv_gather.specs.Totals.{best, of_none}
-use Rattle.dv_group.specs.Running.{first_value, rank, ranked_over, value_at, with_ranked, without_ranked}
+use Rattle.dv_group.specs.Running.{value_of_first, rank, ranked_over, field_value, with_ranked, without_ranked}
 
 -- ---- a row that comes and goes
 
@@ -111,15 +111,15 @@ module _ (accumulator : Accumulator) (p : PosTree) (d : Row) (rows : Positioned)
 
 module _ (a : Accumulation) where
   abbrev ranks_at : Part → Row → Bool
-  ranks_at part d = ranks a.accumulator part (value_at a d)
+  ranks_at part d = ranks a.accumulator part (field_value a d)
 
   pub ranked-positioned : (rows : Positioned) → IsPositioned rows → IsPositioned (ranked_over a rows)
   ranked-positioned [] are = positioned-none
-  ranked-positioned (r ∷ rows) are = positioned-with a.accumulator r.0 r.1 (ranked_over a rows) (value_at a r.1) (ranked-positioned rows (positioned-tail r rows are)) are.exact.0
+  ranked-positioned (r ∷ rows) are = positioned-with a.accumulator r.0 r.1 (ranked_over a rows) (field_value a r.1) (ranked-positioned rows (positioned-tail r rows are)) are.exact.0
 
   none-ranked : (rows : Positioned) → at [] (ranked_over a rows) ≡ None
   none-ranked [] = refl
-  none-ranked (r ∷ rows) = none-with a.accumulator r.0 r.1 (ranked_over a rows) (value_at a r.1) ∙ none-ranked rows
+  none-ranked (r ∷ rows) = none-with a.accumulator r.0 r.1 (ranked_over a rows) (field_value a r.1) ∙ none-ranked rows
 
   -- what passes comes where nothing stood
   comes : (f : Row → Bool) (b : Bool) (d : Row) (there : Option Row) → (b ≡ true → there ≡ None) → cond b (cond (f d) (Some d) (option_filter f there)) (option_filter f there) ≡ option_filter f (cond b (Some d) there)
@@ -130,33 +130,33 @@ module _ (a : Accumulation) where
   at-ranked : (part : Part) (q : PosTree) (rows : Positioned) → IsPositioned rows → at (part ∷ q) (ranked_over a rows) ≡ option_filter (ranks_at part) (at q rows)
   at-ranked part q [] are = refl
   at-ranked part q (r ∷ rows) are =
-      at-with a.accumulator r.0 r.1 (ranked_over a rows) part q (value_at a r.1)
+      at-with a.accumulator r.0 r.1 (ranked_over a rows) part q (field_value a r.1)
       ∙ ap (λ s. cond (is_eq (pos_order q r.0)) (cond (ranks_at part r.1) (Some r.1) s) s) (at-ranked part q rows (positioned-tail r rows are))
       ∙ comes (ranks_at part) (is_eq (pos_order q r.0)) r.1 (at q rows) (past q r rows are)
 
   -- a row more, at a position where none stands
-  pub ranked-put : (p : PosTree) (d : Row) (rows : Positioned) → IsPositioned rows → IsExact p → at p rows ≡ None → ranked_over a (put p d rows) ≡ with_ranked a.accumulator (value_at a d) p d (ranked_over a rows)
-  ranked-put p d rows are exact none = same_rows (ranked_over a (put p d rows)) (with_ranked a.accumulator (value_at a d) p d (ranked_over a rows)) (ranked-positioned (put p d rows) after) (positioned-with a.accumulator p d (ranked_over a rows) (value_at a d) (ranked-positioned rows are) exact) by
+  pub ranked-put : (p : PosTree) (d : Row) (rows : Positioned) → IsPositioned rows → IsExact p → at p rows ≡ None → ranked_over a (put p d rows) ≡ with_ranked a.accumulator (field_value a d) p d (ranked_over a rows)
+  ranked-put p d rows are exact none = same_rows (ranked_over a (put p d rows)) (with_ranked a.accumulator (field_value a d) p d (ranked_over a rows)) (ranked-positioned (put p d rows) after) (positioned-with a.accumulator p d (ranked_over a rows) (field_value a d) (ranked-positioned rows are) exact) by
     where
       after : IsPositioned (put p d rows)
       after = positioned-put p d rows are exact
 
-      by : (q : PosTree) → IsExact q → at q (ranked_over a (put p d rows)) ≡ at q (with_ranked a.accumulator (value_at a d) p d (ranked_over a rows))
-      by [] x = none-ranked (put p d rows) ∙ sym (none-with a.accumulator p d (ranked_over a rows) (value_at a d) ∙ none-ranked rows)
+      by : (q : PosTree) → IsExact q → at q (ranked_over a (put p d rows)) ≡ at q (with_ranked a.accumulator (field_value a d) p d (ranked_over a rows))
+      by [] x = none-ranked (put p d rows) ∙ sym (none-with a.accumulator p d (ranked_over a rows) (field_value a d) ∙ none-ranked rows)
       by (part ∷ q) x =
           at-ranked part q (put p d rows) after
           ∙ ap (option_filter (ranks_at part)) (at-put q p d rows)
-          ∙ sym (at-with a.accumulator p d (ranked_over a rows) part q (value_at a d)
+          ∙ sym (at-with a.accumulator p d (ranked_over a rows) part q (field_value a d)
           ∙ ap (λ s. cond (is_eq (pos_order q p)) (cond (ranks_at part d) (Some d) s) s) (at-ranked part q rows are)
           ∙ comes (ranks_at part) (is_eq (pos_order q p)) d (at q rows) (same-there p d rows are exact None none q))
 
   -- a row that stands at a position goes
-  pub ranked-gone : (p : PosTree) (d : Row) (rows : Positioned) → IsPositioned rows → IsExact p → at p rows ≡ Some d → ranked_over a (gone p rows) ≡ without_ranked a.accumulator (value_at a d) p (ranked_over a rows)
+  pub ranked-gone : (p : PosTree) (d : Row) (rows : Positioned) → IsPositioned rows → IsExact p → at p rows ≡ Some d → ranked_over a (gone p rows) ≡ without_ranked a.accumulator (field_value a d) p (ranked_over a rows)
   ranked-gone p d rows are exact some =
       let left : IsPositioned (gone p rows) = positioned-gone p rows are in
       let none : at p (gone p rows) ≡ None = at-gone p p rows are.ascending ∙ ap (λ o. cond (is_eq o) None (at p rows)) (tied_itself pos_order_total p) in
-      sym (without-with a.accumulator p d (ranked_over a (gone p rows)) (value_at a d) (ranked-positioned (gone p rows) left) exact (λ part. at-ranked part p (gone p rows) left ∙ ap (option_filter (ranks_at part)) none))
-      ∙ ap (without_ranked a.accumulator (value_at a d) p) (sym (ranked-put p d (gone p rows) left exact none) ∙ ap (ranked_over a) (gone-put p d rows are exact some))
+      sym (without-with a.accumulator p d (ranked_over a (gone p rows)) (field_value a d) (ranked-positioned (gone p rows) left) exact (λ part. at-ranked part p (gone p rows) left ∙ ap (option_filter (ranks_at part)) none))
+      ∙ ap (without_ranked a.accumulator (field_value a d) p) (sym (ranked-put p d (gone p rows) left exact none) ∙ ap (ranked_over a) (gone-put p d rows are exact some))
 
 -- ---- which of values is better
 
@@ -250,16 +250,16 @@ module _ (a : Accumulation) where
 
     -- a ranked row behind it has a value, and the first stands to it as their ranks do
     abbrev Stands : Tree → PosTree → Row → Type 0
-    Stands v q d = (w : Tree) × (value_at a d ≡ Some w) × (is_null w ≡ false) × (pos_order (rank_of v ∷ r.0) q ≡ ordering_then (part_order (rank_of v) (rank_of w)) Less)
+    Stands v q d = (w : Tree) × (field_value a d ≡ Some w) × (is_null w ≡ false) × (pos_order (rank_of v ∷ r.0) q ≡ ordering_then (part_order (rank_of v) (rank_of w)) Less)
 
     stands : (v : Tree) (q : PosTree) (d : Row) → at q others ≡ Some d → Stands v q d
     stands v [] d there = absurd (let none = none-ranked a rows in cc)
-    stands v (part ∷ q) d there = by (value_at a d) refl here.1
+    stands v (part ∷ q) d there = by (field_value a d) refl here.1
       where
-        here : (at q rows ≡ Some d) × (ranks a.accumulator part (value_at a d) ≡ true)
+        here : (at q rows ≡ Some d) × (ranks a.accumulator part (field_value a d) ≡ true)
         here = filtered (ranks_at a part) d (at q rows) (sym (at-ranked a part q rows (positioned-tail r rows are)) ∙ there)
 
-        by : (o : Option Tree) → value_at a d ≡ o → ranks a.accumulator part o ≡ true → Stands v (part ∷ q) d
+        by : (o : Option Tree) → field_value a d ≡ o → ranks a.accumulator part o ≡ true → Stands v (part ∷ q) d
         by None is ranked = absurd cc
         by (Some w) is ranked = each (is_null w) refl ranked
           where
@@ -267,46 +267,46 @@ module _ (a : Accumulation) where
             each true none ranked = absurd cc
             each false some ranked = (w, is, some, λ i. ordering_then (alike_right part_order_total part (rank_of w) (rank_of v) ((Equal-is (part_order part (rank_of w))).0 ranked) i) (stands-behind q d here.0 i))
 
-    first-put : (v : Tree) → value_at a r.1 ≡ Some v → is_null v ≡ false → first_value a (put (rank_of v ∷ r.0) r.1 others) ≡ better a.accumulator (first_value a others) v
+    first-put : (v : Tree) → field_value a r.1 ≡ Some v → is_null v ≡ false → value_of_first a (put (rank_of v ∷ r.0) r.1 others) ≡ better a.accumulator (value_of_first a others) v
     first-put v is some = by others refl
       where
-        by : (ranked : Positioned) → others ≡ ranked → first_value a (put (rank_of v ∷ r.0) r.1 ranked) ≡ better a.accumulator (first_value a ranked) v
+        by : (ranked : Positioned) → others ≡ ranked → value_of_first a (put (rank_of v ∷ r.0) r.1 ranked) ≡ better a.accumulator (value_of_first a ranked) v
         by [] same = ap or_null is
         by (x ∷ xs) same =
-            ap (λ o. first_value a (match_ordering o ((rank_of v ∷ r.0, r.1) ∷ x ∷ xs) ((x.0, r.1) ∷ xs) (x ∷ put (rank_of v ∷ r.0) r.1 xs))) first.3
+            ap (λ o. value_of_first a (match_ordering o ((rank_of v ∷ r.0, r.1) ∷ x ∷ xs) ((x.0, r.1) ∷ xs) (x ∷ put (rank_of v ∷ r.0) r.1 xs))) first.3
             ∙ which (part_order (rank_of v) (rank_of first.0))
             ∙ sym (ap (λ o. better a.accumulator (or_null o) v) first.1 ∙ both-better a.accumulator first.0 v first.2 some)
           where
             first : Stands v x.0 x.1
             first = stands v x.0 x.1 (ap (at x.0) same ∙ ap (λ o. cond (is_eq o) (Some x.1) (at x.0 xs)) (tied_itself pos_order_total x.0))
 
-            which : (o : Ordering) → first_value a (match_ordering (ordering_then o Less) ((rank_of v ∷ r.0, r.1) ∷ x ∷ xs) ((x.0, r.1) ∷ xs) (x ∷ put (rank_of v ∷ r.0) r.1 xs)) ≡ cond (is_gt o) first.0 v
+            which : (o : Ordering) → value_of_first a (match_ordering (ordering_then o Less) ((rank_of v ∷ r.0, r.1) ∷ x ∷ xs) ((x.0, r.1) ∷ xs) (x ∷ put (rank_of v ∷ r.0) r.1 xs)) ≡ cond (is_gt o) first.0 v
             which Less = ap or_null is
             which Equal = ap or_null is
             which Greater = ap or_null first.1
 
-    first-more : (vs : List Tree) → ((b : Tree) → best_from a.accumulator b vs ≡ better a.accumulator (first_value a others) b) → (b : Tree) (o : Option Tree) → value_at a r.1 ≡ o
-        → best_from a.accumulator b (with_present o vs) ≡ better a.accumulator (first_value a (with_ranked a.accumulator o r.0 r.1 others)) b
+    first-more : (vs : List Tree) → ((b : Tree) → best_from a.accumulator b vs ≡ better a.accumulator (value_of_first a others) b) → (b : Tree) (o : Option Tree) → field_value a r.1 ≡ o
+        → best_from a.accumulator b (with_present o vs) ≡ better a.accumulator (value_of_first a (with_ranked a.accumulator o r.0 r.1 others)) b
     first-more vs rest b None is = rest b
     first-more vs rest b (Some v) is = by (is_null v) refl
       where
-        by : (n : Bool) → is_null v ≡ n → best_from a.accumulator (better a.accumulator v b) vs ≡ better a.accumulator (first_value a (cond n others (put (rank_of v ∷ r.0) r.1 others))) b
+        by : (n : Bool) → is_null v ≡ n → best_from a.accumulator (better a.accumulator v b) vs ≡ better a.accumulator (value_of_first a (cond n others (put (rank_of v ∷ r.0) r.1 others))) b
         by true none = ap (λ w. best_from a.accumulator w vs) (null-better a.accumulator v b none) ∙ rest b
-        by false some = rest (better a.accumulator v b) ∙ better-both a.accumulator (first_value a others) v b some ∙ ap (λ w. better a.accumulator w b) (sym (first-put v is some))
+        by false some = rest (better a.accumulator v b) ∙ better-both a.accumulator (value_of_first a others) v b some ∙ ap (λ w. better a.accumulator w b) (sym (first-put v is some))
 
-  first-from : (rows : Positioned) → IsPositioned rows → (b : Tree) → best_from a.accumulator b (values_over a.argument (forget rows)) ≡ better a.accumulator (first_value a (ranked_over a rows)) b
+  first-from : (rows : Positioned) → IsPositioned rows → (b : Tree) → best_from a.accumulator b (values_over a.argument (forget rows)) ≡ better a.accumulator (value_of_first a (ranked_over a rows)) b
   first-from [] are b = refl
-  first-from (r ∷ rows) are b = first-more r rows are (values_over a.argument (forget rows)) (first-from rows (positioned-tail r rows are)) b (value_at a r.1) refl
+  first-from (r ∷ rows) are b = first-more r rows are (values_over a.argument (forget rows)) (first-from rows (positioned-tail r rows are)) b (field_value a r.1) refl
 
-  first-best : (rows : Positioned) → IsPositioned rows → first_value a (ranked_over a rows) ≡ best_from a.accumulator null (values_over a.argument (forget rows))
-  first-best rows are = sym (first-from rows are null ∙ better-null a.accumulator (first_value a (ranked_over a rows)))
+  first-best : (rows : Positioned) → IsPositioned rows → value_of_first a (ranked_over a rows) ≡ best_from a.accumulator null (values_over a.argument (forget rows))
+  first-best rows are = sym (first-from rows are null ∙ better-null a.accumulator (value_of_first a (ranked_over a rows)))
 
 -- ---- the least and the greatest
 
 -- an extreme is what ranks best, where it stands as ranks do
-extreme-best : (e : _) (accumulator : Accumulator) → of_none accumulator ≡ best e null → ((v w : Tree) → is_gt (part_order (rank accumulator v) (rank accumulator w)) ≡ stands_so e (order w v)) → (vs : List Tree) (b : Tree) → best_from accumulator b vs ≡ extreme_from e b vs
+extreme-best : (e : _) (accumulator : Accumulator) → of_none accumulator ≡ best e null → ((v w : Tree) → is_gt (part_order (rank accumulator v) (rank accumulator w)) ≡ extreme_stands_so e (order w v)) → (vs : List Tree) (b : Tree) → best_from accumulator b vs ≡ extreme_from e b vs
 extreme-best e accumulator of so [] b = refl
-extreme-best e accumulator of so (v ∷ vs) b = ap (λ s. best_from accumulator (cond (not (is_null v) && (is_null b || s)) v b) vs) (so b v) ∙ extreme-best e accumulator of so vs (cond (not (is_null v) && (is_null b || stands_so e (order v b))) v b)
+extreme-best e accumulator of so (v ∷ vs) b = ap (λ s. best_from accumulator (cond (not (is_null v) && (is_null b || s)) v b) vs) (so b v) ∙ extreme-best e accumulator of so vs (cond (not (is_null v) && (is_null b || extreme_stands_so e (order v b))) v b)
 
 turned : (o : Ordering) → is_gt o ≡ is_lt (ordering_reverse o)
 turned Less = refl
@@ -314,13 +314,13 @@ turned Equal = refl
 turned Greater = refl
 
 -- the first ranked row has the least value
-pub first-least : (a : Accumulation) (rows : Positioned) → a.accumulator ≡ Min → IsPositioned rows → first_value a (ranked_over a rows) ≡ accumulated Min (values_over a.argument (forget rows))
+pub first-least : (a : Accumulation) (rows : Positioned) → a.accumulator ≡ Min → IsPositioned rows → value_of_first a (ranked_over a rows) ≡ accumulated Min (values_over a.argument (forget rows))
 first-least a rows is are =
     first-best a rows are ∙ ap (λ accumulator. best_from accumulator null (values_over a.argument (forget rows))) is
     ∙ extreme-best _ Min refl (λ v w. ap is_gt (order_of_canon v w) ∙ turned (order v w) ∙ ap is_lt (sym (order_total.antisymm w v))) (values_over a.argument (forget rows)) null
 
 -- or the greatest
-pub first-greatest : (a : Accumulation) (rows : Positioned) → a.accumulator ≡ Max → IsPositioned rows → first_value a (ranked_over a rows) ≡ accumulated Max (values_over a.argument (forget rows))
+pub first-greatest : (a : Accumulation) (rows : Positioned) → a.accumulator ≡ Max → IsPositioned rows → value_of_first a (ranked_over a rows) ≡ accumulated Max (values_over a.argument (forget rows))
 first-greatest a rows is are =
     first-best a rows are ∙ ap (λ accumulator. best_from accumulator null (values_over a.argument (forget rows))) is
     ∙ extreme-best _ Max refl (λ v w. ap is_gt (order_of_canon w v)) (values_over a.argument (forget rows)) null

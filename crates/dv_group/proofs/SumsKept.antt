@@ -15,8 +15,8 @@ use Rattle.dv_change.specs.Positions.{PosTree, pos_order}
 use Rattle.dv_gather.specs.declared.accumulator.Accumulator.TheVariants.{Sum}
 use Rattle.dv_gather.specs.Grouping.{Accumulation, values_over, with_present}
 use Rattle.dv_gather.specs.Sums.{addend, is_int64, total}
-use Rattle.dv_group.specs.Room.{IsNarrowFor, IsWithin, most}
-use Rattle.dv_group.specs.Running.{adds, sum_over, summed, value_at, widens, wides_over}
+use Rattle.dv_group.specs.Room.{IsNarrowFor, IsWithinRows, most_rows}
+use Rattle.dv_group.specs.Running.{adds, sum_over, summed, field_value, widens, wides_over}
 
 -- ---- one row more, and one less
 
@@ -34,52 +34,52 @@ some-there true d e r is there = cc
 some-there false d e r is there = there
 
 module _ (a : Accumulation) (p : PosTree) (d : Row) where
-  pub sum-put : (rows : Positioned) → at p rows ≡ None → sum_over a (put p d rows) ≡ sum_over a rows +ℤ adds (value_at a d)
+  pub sum-put : (rows : Positioned) → at p rows ≡ None → sum_over a (put p d rows) ≡ sum_over a rows +ℤ adds (field_value a d)
   sum-put [] none = omega (arith, ints)
   sum-put (e ∷ rows) none = by (pos_order p e.0) (λ none. sum-put rows none) (none-there (is_eq (pos_order p e.0)) e.1 (at p rows) none)
     where
-      by : (r : Ordering) → (at p rows ≡ None → sum_over a (put p d rows) ≡ sum_over a rows +ℤ adds (value_at a d)) → (is_eq r ≡ true → ⊥) × (at p rows ≡ None) → sum_over a (match_ordering r ((p, d) ∷ e ∷ rows) ((e.0, d) ∷ rows) (e ∷ put p d rows)) ≡ sum_over a (e ∷ rows) +ℤ adds (value_at a d)
+      by : (r : Ordering) → (at p rows ≡ None → sum_over a (put p d rows) ≡ sum_over a rows +ℤ adds (field_value a d)) → (is_eq r ≡ true → ⊥) × (at p rows ≡ None) → sum_over a (match_ordering r ((p, d) ∷ e ∷ rows) ((e.0, d) ∷ rows) (e ∷ put p d rows)) ≡ sum_over a (e ∷ rows) +ℤ adds (field_value a d)
       by Less rest none = omega (arith, ints)
       by Equal rest none = absurd (none.0 refl)
       by Greater rest none = let behind = rest none.1 in omega (arith, ints, behind)
 
-  pub wides-put : (rows : Positioned) → at p rows ≡ None → wides_over a (put p d rows) ≡ wides_over a rows + widens (value_at a d)
+  pub wides-put : (rows : Positioned) → at p rows ≡ None → wides_over a (put p d rows) ≡ wides_over a rows + widens (field_value a d)
   wides-put [] none = omega arith
   wides-put (e ∷ rows) none = by (pos_order p e.0) (λ none. wides-put rows none) (none-there (is_eq (pos_order p e.0)) e.1 (at p rows) none)
     where
-      by : (r : Ordering) → (at p rows ≡ None → wides_over a (put p d rows) ≡ wides_over a rows + widens (value_at a d)) → (is_eq r ≡ true → ⊥) × (at p rows ≡ None) → wides_over a (match_ordering r ((p, d) ∷ e ∷ rows) ((e.0, d) ∷ rows) (e ∷ put p d rows)) ≡ wides_over a (e ∷ rows) + widens (value_at a d)
+      by : (r : Ordering) → (at p rows ≡ None → wides_over a (put p d rows) ≡ wides_over a rows + widens (field_value a d)) → (is_eq r ≡ true → ⊥) × (at p rows ≡ None) → wides_over a (match_ordering r ((p, d) ∷ e ∷ rows) ((e.0, d) ∷ rows) (e ∷ put p d rows)) ≡ wides_over a (e ∷ rows) + widens (field_value a d)
       by Less rest none = omega arith
       by Equal rest none = absurd (none.0 refl)
       by Greater rest none = let behind = rest none.1 in omega (arith, behind)
 
-  pub sum-gone : (rows : Positioned) → at p rows ≡ Some d → sum_over a (gone p rows) ≡ sum_over a rows -ℤ adds (value_at a d)
+  pub sum-gone : (rows : Positioned) → at p rows ≡ Some d → sum_over a (gone p rows) ≡ sum_over a rows -ℤ adds (field_value a d)
   sum-gone [] there = cc
   sum-gone (e ∷ rows) there = by (is_eq (pos_order p e.0)) refl (λ here. sum-gone rows (some-there (is_eq (pos_order p e.0)) d e.1 (at p rows) here there))
     where
-      by : (b : Bool) → is_eq (pos_order p e.0) ≡ b → (is_eq (pos_order p e.0) ≡ false → sum_over a (gone p rows) ≡ sum_over a rows -ℤ adds (value_at a d)) → sum_over a (cond b rows (e ∷ gone p rows)) ≡ sum_over a (e ∷ rows) -ℤ adds (value_at a d)
+      by : (b : Bool) → is_eq (pos_order p e.0) ≡ b → (is_eq (pos_order p e.0) ≡ false → sum_over a (gone p rows) ≡ sum_over a rows -ℤ adds (field_value a d)) → sum_over a (cond b rows (e ∷ gone p rows)) ≡ sum_over a (e ∷ rows) -ℤ adds (field_value a d)
       by true here rest =
-          let same : adds (value_at a e.1) ≡ adds (value_at a d) = ap (λ f. adds (value_at a f)) (first-there (is_eq (pos_order p e.0)) d e.1 (at p rows) here there) in
+          let same : adds (field_value a e.1) ≡ adds (field_value a d) = ap (λ f. adds (field_value a f)) (first-there (is_eq (pos_order p e.0)) d e.1 (at p rows) here there) in
           omega (arith, ints, same)
       by false here rest = let behind = rest here in omega (arith, ints, behind)
 
   -- a row that stands there was counted
-  pub counted : (rows : Positioned) → at p rows ≡ Some d → widens (value_at a d) ≤ wides_over a rows
+  pub counted : (rows : Positioned) → at p rows ≡ Some d → widens (field_value a d) ≤ wides_over a rows
   counted [] there = cc
   counted (e ∷ rows) there = by (is_eq (pos_order p e.0)) refl (λ here. counted rows (some-there (is_eq (pos_order p e.0)) d e.1 (at p rows) here there))
     where
-      by : (b : Bool) → is_eq (pos_order p e.0) ≡ b → (is_eq (pos_order p e.0) ≡ false → widens (value_at a d) ≤ wides_over a rows) → widens (value_at a d) ≤ wides_over a (e ∷ rows)
+      by : (b : Bool) → is_eq (pos_order p e.0) ≡ b → (is_eq (pos_order p e.0) ≡ false → widens (field_value a d) ≤ wides_over a rows) → widens (field_value a d) ≤ wides_over a (e ∷ rows)
       by true here rest =
-          let same : widens (value_at a e.1) ≡ widens (value_at a d) = ap (λ f. widens (value_at a f)) (first-there (is_eq (pos_order p e.0)) d e.1 (at p rows) here there) in
+          let same : widens (field_value a e.1) ≡ widens (field_value a d) = ap (λ f. widens (field_value a f)) (first-there (is_eq (pos_order p e.0)) d e.1 (at p rows) here there) in
           omega (arith, same)
       by false here rest = let behind = rest here in omega (arith, behind)
 
-  pub wides-gone : (rows : Positioned) → at p rows ≡ Some d → wides_over a (gone p rows) ≡ wides_over a rows - widens (value_at a d)
+  pub wides-gone : (rows : Positioned) → at p rows ≡ Some d → wides_over a (gone p rows) ≡ wides_over a rows - widens (field_value a d)
   wides-gone [] there = cc
   wides-gone (e ∷ rows) there = by (is_eq (pos_order p e.0)) refl (λ here. let behind = some-there (is_eq (pos_order p e.0)) d e.1 (at p rows) here there in (wides-gone rows behind, counted rows behind))
     where
-      by : (b : Bool) → is_eq (pos_order p e.0) ≡ b → (is_eq (pos_order p e.0) ≡ false → (wides_over a (gone p rows) ≡ wides_over a rows - widens (value_at a d)) × (widens (value_at a d) ≤ wides_over a rows)) → wides_over a (cond b rows (e ∷ gone p rows)) ≡ wides_over a (e ∷ rows) - widens (value_at a d)
+      by : (b : Bool) → is_eq (pos_order p e.0) ≡ b → (is_eq (pos_order p e.0) ≡ false → (wides_over a (gone p rows) ≡ wides_over a rows - widens (field_value a d)) × (widens (field_value a d) ≤ wides_over a rows)) → wides_over a (cond b rows (e ∷ gone p rows)) ≡ wides_over a (e ∷ rows) - widens (field_value a d)
       by true here rest =
-          let same : widens (value_at a e.1) ≡ widens (value_at a d) = ap (λ f. widens (value_at a f)) (first-there (is_eq (pos_order p e.0)) d e.1 (at p rows) here there) in
+          let same : widens (field_value a e.1) ≡ widens (field_value a d) = ap (λ f. widens (field_value a f)) (first-there (is_eq (pos_order p e.0)) d e.1 (at p rows) here there) in
           omega (arith, same)
       by false here rest = let behind = rest here in omega (arith, behind.0, behind.1)
 
@@ -94,7 +94,7 @@ module _ (a : Accumulation) where
 
   pub total-is : (rows : Positioned) → sum_over a rows ≡ total (values_over a.argument (forget rows))
   total-is [] = refl
-  total-is (r ∷ rows) = by (value_at a r.1) (total-is rows)
+  total-is (r ∷ rows) = by (field_value a r.1) (total-is rows)
     where
       by : (v : Option Tree) → sum_over a rows ≡ total (values_over a.argument (forget rows)) → adds v +ℤ sum_over a rows ≡ total (with_present v (values_over a.argument (forget rows)))
       by None rest = omega (arith, ints, rest)
@@ -102,7 +102,7 @@ module _ (a : Accumulation) where
 
   pub narrow-is : (rows : Positioned) → nat_eq (wides_over a rows) 0 ≡ not (list_any is_int64 (values_over a.argument (forget rows)))
   narrow-is [] = refl
-  narrow-is (r ∷ rows) = by (value_at a r.1) (narrow-is rows)
+  narrow-is (r ∷ rows) = by (field_value a r.1) (narrow-is rows)
     where
       by : (v : Option Tree) → nat_eq (wides_over a rows) 0 ≡ not (list_any is_int64 (values_over a.argument (forget rows))) → nat_eq (widens v + wides_over a rows) 0 ≡ not (list_any is_int64 (with_present v (values_over a.argument (forget rows))))
       by None rest = none-wide (wides_over a rows) ∙ rest
@@ -122,16 +122,16 @@ module _ (a : Accumulation) where
       one true = omega arith
       one false = omega arith
 
-  within-rows : (rows : Positioned) → AllByRecursion (λ e. IsNarrowFor Sum a e.1) rows → IsWithin (length rows) (summed (sum_over a rows) (wides_over a rows))
+  within-rows : (rows : Positioned) → AllByRecursion (λ e. IsNarrowFor Sum a e.1) rows → IsWithinRows (length rows) (summed (sum_over a rows) (wides_over a rows))
   within-rows [] all = ((omega (arith, ints), omega (arith, ints)), omega arith)
   within-rows (r ∷ rows) all =
       let rest = within-rows rows all.1 in
       let low = all.0.0 in
       let high = all.0.1 in
-      let wide = widens-one (value_at a r.1) in
+      let wide = widens-one (field_value a r.1) in
       ((omega (arith, ints, rest.0.0, low), omega (arith, ints, rest.0.1, high)), omega (arith, rest.1, wide))
 
-  pub within-most : (rows : Positioned) → length rows ≤ most → AllByRecursion (λ e. IsNarrowFor Sum a e.1) rows → IsWithin most (summed (sum_over a rows) (wides_over a rows))
+  pub within-most : (rows : Positioned) → length rows ≤ most_rows → AllByRecursion (λ e. IsNarrowFor Sum a e.1) rows → IsWithinRows most_rows (summed (sum_over a rows) (wides_over a rows))
   within-most rows few all =
       let rest = within-rows rows all in
       ((omega (arith, ints, rest.0.0, few), omega (arith, ints, rest.0.1, few)), omega (arith, rest.1, few))

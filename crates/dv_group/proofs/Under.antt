@@ -16,16 +16,16 @@ use Rattle.dv_gather.specs.Grouping.{Grouping, row_shown}
 use Rattle.dv_group.specs.declared.bundle.Bundle.{Bundle}
 use Rattle.dv_group.specs.Grouped.{beside}
 use Rattle.dv_group.specs.Room.{IsBundle}
-use Rattle.dv_group.specs.Members.{AreBundles, Kept, are_one, members, put_some, rows_in, shown_of, with_shown}
+use Rattle.dv_group.specs.Members.{AreBundles, KeptGroups, are_one, group_members, put_some, rows_in, shown_of, with_shown}
 
 back : (k l : KeyTree) → is_eq (key_order k l) ≡ is_eq (key_order l k)
 back k l = (eq_by_cmp_equiv key_order_total).symm k l
 
 -- under equal keys stands the same
-pub members-alike : (k l : KeyTree) → key_order k l ≡ Equal → (es : Kept) → members k es ≡ members l es
+pub members-alike : (k l : KeyTree) → key_order k l ≡ Equal → (es : KeptGroups) → group_members k es ≡ group_members l es
 members-alike k l e es = ap rows_in (found es)
   where
-    found : (es : Kept) → lookup (is_at (key_order k)) es ≡ lookup (is_at (key_order l)) es
+    found : (es : KeptGroups) → lookup (is_at (key_order k)) es ≡ lookup (is_at (key_order l)) es
     found [] = refl
     found (x ∷ es) = λ i. cond (beside k l x.0 e i) (Some x.1) (found es i)
 
@@ -34,13 +34,13 @@ pub none-first : {A : Type 0} (xs : List A) → slice_get xs 0 ≡ None → xs �
 none-first [] e = refl
 none-first (x ∷ xs) e = absurd cc
 
-module _ (es fs : Kept) (key : KeyTree) where
+module _ (es fs : KeptGroups) (key : KeyTree) where
   -- one key's rows become others
-  pub changed-under : (change : Positioned → Positioned) (new : Option Bundle) → rows_in new ≡ change (members key es) → ((k : KeyTree) → lookup (is_at (key_order k)) fs ≡ cond (is_at (key_order key) k) new (lookup (is_at (key_order k)) es))
-      → (k : KeyTree) → members k fs ≡ cond (is_eq (key_order k key)) (change (members k es)) (members k es)
+  pub changed-under : (change : Positioned → Positioned) (new : Option Bundle) → rows_in new ≡ change (group_members key es) → ((k : KeyTree) → lookup (is_at (key_order k)) fs ≡ cond (is_at (key_order key) k) new (lookup (is_at (key_order k)) es))
+      → (k : KeyTree) → group_members k fs ≡ cond (is_eq (key_order k key)) (change (group_members k es)) (group_members k es)
   changed-under change new is written k = ap rows_in (written k ∙ ap (λ b. cond b new (lookup (is_at (key_order k)) es)) (back key k)) ∙ by (is_eq (key_order k key)) refl
     where
-      by : (b : Bool) → is_eq (key_order k key) ≡ b → rows_in (cond b new (lookup (is_at (key_order k)) es)) ≡ cond b (change (members k es)) (members k es)
+      by : (b : Bool) → is_eq (key_order k key) ≡ b → rows_in (cond b new (lookup (is_at (key_order k)) es)) ≡ cond b (change (group_members k es)) (group_members k es)
       by true here = is ∙ ap change (sym (members-alike k key ((Equal-is (key_order k key)).0 here) es))
       by false here = refl
 
@@ -49,7 +49,7 @@ cond-over true x y z = refl
 cond-over false x y z = refl
 
 -- rows come in the place of those that were taken out
-pub put-back : (es ms fs : Kept) (key own : KeyTree) (new : Bundle) → own ≡ key
+pub put-back : (es ms fs : KeptGroups) (key own : KeyTree) (new : Bundle) → own ≡ key
     → ((k : KeyTree) → lookup (is_at (key_order k)) ms ≡ cond (is_at (key_order key) k) None (lookup (is_at (key_order k)) es))
     → ((k : KeyTree) → lookup (is_at (key_order k)) fs ≡ cond (is_at (key_order own) k) (Some new) (lookup (is_at (key_order k)) ms))
     → (k : KeyTree) → lookup (is_at (key_order k)) fs ≡ cond (is_at (key_order key) k) (Some new) (lookup (is_at (key_order k)) es)
@@ -58,12 +58,12 @@ put-back es ms fs key own new same out come k =
     ∙ cond-over (is_at (key_order key) k) (Some new) None (lookup (is_at (key_order k)) es)
 
 -- the row of the group of a key comes once, where another key is equal
-pub shown-once : (g : Grouping) (es : Kept) (key other : Option KeyTree) → are_one key other ≡ true → with_shown g (λ k. members k es) key [] ≡ shown_of g (λ k. members k es) key other
+pub shown-once : (g : Grouping) (es : KeptGroups) (key other : Option KeyTree) → are_one key other ≡ true → with_shown g (λ k. group_members k es) key [] ≡ shown_of g (λ k. group_members k es) key other
 shown-once g es None other one = cc
 shown-once g es (Some k) None one = cc
 shown-once g es (Some k) (Some l) one =
     let beside_l : key_order k l ≡ Equal = (Equal-is (key_order k l)).0 one in
-    by (row_shown g (forget (members k es))) (order_back k l beside_l) ∙ ap (λ rows. put_some (Up l ∷ []) (row_shown g (forget rows)) (put_some (Up k ∷ []) (row_shown g (forget (members k es))) [])) (members-alike k l beside_l es)
+    by (row_shown g (forget (group_members k es))) (order_back k l beside_l) ∙ ap (λ rows. put_some (Up l ∷ []) (row_shown g (forget rows)) (put_some (Up k ∷ []) (row_shown g (forget (group_members k es))) [])) (members-alike k l beside_l es)
   where
     order_back : (k l : KeyTree) → key_order k l ≡ Equal → key_order l k ≡ Equal
     order_back k l e = key_order_total.antisymm l k ∙ ap ordering_reverse e
@@ -78,7 +78,7 @@ module _ (g : Grouping) where
   abbrev SoundEntry : KeyTree × Bundle → Type 0
   SoundEntry e = IsBundle g.fields e.1
 
-  with-entry : (k : KeyTree) (b : Bundle) (es : Kept) → IsBundle g.fields b → AreBundles g es → AreBundles g (insert_entry key_order es k b)
+  with-entry : (k : KeyTree) (b : Bundle) (es : KeptGroups) → IsBundle g.fields b → AreBundles g es → AreBundles g (insert_entry key_order es k b)
   with-entry k b [] sound all = (sound, tt)
   with-entry k b (e ∷ es) sound all = by (key_order k e.0) (with-entry k b es sound all.1)
     where
@@ -87,10 +87,10 @@ module _ (g : Grouping) where
       by Equal rest = (sound, all.1)
       by Greater rest = (all.0, rest)
 
-  pub bundles-put : (k : KeyTree) (b : Bundle) (es fs : Kept) → fs ≡ insert_entry key_order es k b → IsBundle g.fields b → AreBundles g es → AreBundles g fs
+  pub bundles-put : (k : KeyTree) (b : Bundle) (es fs : KeptGroups) → fs ≡ insert_entry key_order es k b → IsBundle g.fields b → AreBundles g es → AreBundles g fs
   bundles-put k b es fs is sound all = subst (AreBundles g) (sym is) (with-entry k b es sound all)
 
-  without-entry : (k : KeyTree) (es : Kept) → AreBundles g es → AreBundles g (remove_entry (is_at (key_order k)) es)
+  without-entry : (k : KeyTree) (es : KeptGroups) → AreBundles g es → AreBundles g (remove_entry (is_at (key_order k)) es)
   without-entry k [] all = tt
   without-entry k (e ∷ es) all = by (is_eq (key_order k e.0)) (without-entry k es all.1)
     where
@@ -98,10 +98,10 @@ module _ (g : Grouping) where
       by true rest = all.1
       by false rest = (all.0, rest)
 
-  pub bundles-left : (k : KeyTree) (es fs : Kept) → fs ≡ remove_entry (is_at (key_order k)) es → AreBundles g es → AreBundles g fs
+  pub bundles-left : (k : KeyTree) (es fs : KeptGroups) → fs ≡ remove_entry (is_at (key_order k)) es → AreBundles g es → AreBundles g fs
   bundles-left k es fs is all = subst (AreBundles g) (sym is) (without-entry k es all)
 
-  pub bundle-there : (k : KeyTree) (b : Bundle) (es : Kept) → lookup (is_at (key_order k)) es ≡ Some b → AreBundles g es → IsBundle g.fields b
+  pub bundle-there : (k : KeyTree) (b : Bundle) (es : KeptGroups) → lookup (is_at (key_order k)) es ≡ Some b → AreBundles g es → IsBundle g.fields b
   bundle-there k b [] there all = cc
   bundle-there k b (e ∷ es) there all = by (is_eq (key_order k e.0)) there (λ there. bundle-there k b es there all.1)
     where

@@ -21,8 +21,8 @@ use Rattle.dv_change.specs.Positions.{IsExact, PosTree, pos_order}
 use Rattle.dv_gather.specs.GroupLaws.{any_key_of, itself, keys_ascend}
 use Rattle.dv_gather.specs.Grouping.{Grouping, group_row, key_in, key_of_group, keyed, row_shown}
 use Rattle.dv_gather.specs.Groups as groups
-use Rattle.dv_gather.specs.Groups.{Keyed, groups_of, under}
-use Rattle.dv_group.specs.Members.{has_key, row_key, rows_with}
+use Rattle.dv_gather.specs.Groups.{Keyed, groups_of, documents_under_key}
+use Rattle.dv_group.specs.Members.{row_has_key, row_key, rows_with}
 use Rattle.dv_group.specs.Placed.{grouped_at}
 
 -- ---- keys
@@ -52,32 +52,32 @@ or-right false b e = e
 module _ (g : Grouping) where
   -- ---- the rows under a key
 
-  same-test : (k : KeyTree) (v : Tree) → key_order k (value (canon v)) ≡ Equal → (d : Row) → is_eq (order v (key_in g d)) ≡ has_key g k d
+  same-test : (k : KeyTree) (v : Tree) → key_order k (value (canon v)) ≡ Equal → (d : Row) → is_eq (order v (key_in g d)) ≡ row_has_key g k d
   same-test k v e d = ap is_eq (sym (order_of_canon v (key_in g d))) ∙ sym (beside k (value (canon v)) (row_key g d) e)
 
   -- they are those that have it
-  under-with : (k : KeyTree) (v : Tree) → key_order k (value (canon v)) ≡ Equal → (rows : Positioned) → under v (map (keyed g) (forget rows)) ≡ forget (rows_with g k rows)
+  under-with : (k : KeyTree) (v : Tree) → key_order k (value (canon v)) ≡ Equal → (rows : Positioned) → documents_under_key v (map (keyed g) (forget rows)) ≡ forget (rows_with g k rows)
   under-with k v e [] = refl
-  under-with k v e (r ∷ rows) = ap (λ b. if b then r.1 ∷ others else others) (same-test k v e r.1) ∙ by (has_key g k r.1) (under-with k v e rows)
+  under-with k v e (r ∷ rows) = ap (λ b. if b then r.1 ∷ others else others) (same-test k v e r.1) ∙ by (row_has_key g k r.1) (under-with k v e rows)
     where
       others : List Row
-      others = under v (map (keyed g) (forget rows))
+      others = documents_under_key v (map (keyed g) (forget rows))
 
       by : (b : Bool) → others ≡ forget (rows_with g k rows) → (if b then r.1 ∷ others else others) ≡ forget (cond b (r ∷ rows_with g k rows) (rows_with g k rows))
       by true rest = ap (λ ds. r.1 ∷ ds) rest
       by false rest = rest
 
-  none-with : (k : KeyTree) (rows : Positioned) → list_any (has_key g k) (forget rows) ≡ false → rows_with g k rows ≡ []
+  none-with : (k : KeyTree) (rows : Positioned) → list_any (row_has_key g k) (forget rows) ≡ false → rows_with g k rows ≡ []
   none-with k [] none = refl
-  none-with k (r ∷ rows) none = by (has_key g k r.1) none (none-with k rows)
+  none-with k (r ∷ rows) none = by (row_has_key g k r.1) none (none-with k rows)
     where
-      by : (b : Bool) → b || list_any (has_key g k) (forget rows) ≡ false → (list_any (has_key g k) (forget rows) ≡ false → rows_with g k rows ≡ []) → cond b (r ∷ rows_with g k rows) (rows_with g k rows) ≡ []
+      by : (b : Bool) → b || list_any (row_has_key g k) (forget rows) ≡ false → (list_any (row_has_key g k) (forget rows) ≡ false → rows_with g k rows ≡ []) → cond b (r ∷ rows_with g k rows) (rows_with g k rows) ≡ []
       by true none rest = cc
       by false none rest = rest none
 
-  any-keyed : (k : KeyTree) (ds : List Row) → list_any (λ d. is_eq (key_order k (value (canon d.0)))) (map (keyed g) ds) ≡ list_any (has_key g k) ds
+  any-keyed : (k : KeyTree) (ds : List Row) → list_any (λ d. is_eq (key_order k (value (canon d.0)))) (map (keyed g) ds) ≡ list_any (row_has_key g k) ds
   any-keyed k [] = refl
-  any-keyed k (d ∷ ds) = ap (λ b. has_key g k d || b) (any-keyed k ds)
+  any-keyed k (d ∷ ds) = ap (λ b. row_has_key g k d || b) (any-keyed k ds)
 
   -- ---- a key of some rows
 
@@ -85,23 +85,23 @@ module _ (g : Grouping) where
   HasSome ds v = list_any (λ d. is_eq (order v d.0)) (map (keyed g) ds) ≡ true
 
   -- the first row under it has it
-  own-key : (v : Tree) (ds : List Row) → HasSome ds v → canon (key_of_group g (under v (map (keyed g) ds))) ≡ canon v
+  own-key : (v : Tree) (ds : List Row) → HasSome ds v → canon (key_of_group g (documents_under_key v (map (keyed g) ds))) ≡ canon v
   own-key v [] some = cc
   own-key v (d ∷ ds) some = by (is_eq (order v (key_in g d))) refl some (own-key v ds)
     where
       others : List Row
-      others = under v (map (keyed g) ds)
+      others = documents_under_key v (map (keyed g) ds)
 
       by : (b : Bool) → is_eq (order v (key_in g d)) ≡ b → b || list_any (λ d. is_eq (order v d.0)) (map (keyed g) ds) ≡ true → (HasSome ds v → canon (key_of_group g others) ≡ canon v) → canon (key_of_group g (if b then d ∷ others else others)) ≡ canon v
       by true is some rest = sym ((equal_is_canon v (key_in g d)).0 ((Equal-is (order v (key_in g d))).0 is))
       by false is some rest = rest some
 
-  own-shown : (v : Tree) (ds : List Row) → HasSome ds v → row_shown g (under v (map (keyed g) ds)) ≡ Some (group_row g (under v (map (keyed g) ds)))
+  own-shown : (v : Tree) (ds : List Row) → HasSome ds v → row_shown g (documents_under_key v (map (keyed g) ds)) ≡ Some (group_row g (documents_under_key v (map (keyed g) ds)))
   own-shown v [] some = cc
   own-shown v (d ∷ ds) some = by (is_eq (order v (key_in g d))) some (own-shown v ds)
     where
       others : List Row
-      others = under v (map (keyed g) ds)
+      others = documents_under_key v (map (keyed g) ds)
 
       by : (b : Bool) → b || list_any (λ d. is_eq (order v d.0)) (map (keyed g) ds) ≡ true → (HasSome ds v → row_shown g others ≡ Some (group_row g others)) → row_shown g (if b then d ∷ others else others) ≡ Some (group_row g (if b then d ∷ others else others))
       by true some rest = refl
@@ -112,23 +112,23 @@ module _ (g : Grouping) where
     docs = map (keyed g) (forget rows)
 
     abbrev keys : List Tree
-    keys = groups.keys_of docs
+    keys = groups.group_keys docs
 
     -- ---- the rows, one for each key
 
     abbrev as_made : Tree → PosTree × Row
-    as_made v = (Up (value (canon (key_of_group g (under v docs)))) ∷ [], group_row g (under v docs))
+    as_made v = (Up (value (canon (key_of_group g (documents_under_key v docs)))) ∷ [], group_row g (documents_under_key v docs))
 
     abbrev at_own : Tree → PosTree × Row
-    at_own v = (Up (value (canon v)) ∷ [], group_row g (under v docs))
+    at_own v = (Up (value (canon v)) ∷ [], group_row g (documents_under_key v docs))
 
-    each-made : (ks : List Tree) → map (λ ds. (Up (value (canon (key_of_group g ds))) ∷ [], group_row g ds)) (map (λ k. under k docs) ks) ≡ map as_made ks
+    each-made : (ks : List Tree) → map (λ ds. (Up (value (canon (key_of_group g ds))) ∷ [], group_row g ds)) (map (λ k. documents_under_key k docs) ks) ≡ map as_made ks
     each-made [] = refl
     each-made (k ∷ ks) = ap (λ es. as_made k ∷ es) (each-made ks)
 
     each-own : (ks : List Tree) → AllByRecursion (HasSome (forget rows)) ks → map as_made ks ≡ map at_own ks
     each-own [] all = refl
-    each-own (k ∷ ks) all = let own = own-key k (forget rows) all.0 in let rest = each-own ks all.1 in λ i. (Up (value (own i)) ∷ [], group_row g (under k docs)) ∷ rest i
+    each-own (k ∷ ks) all = let own = own-key k (forget rows) all.0 in let rest = each-own ks all.1 in λ i. (Up (value (own i)) ∷ [], group_row g (documents_under_key k docs)) ∷ rest i
 
     each-some : (ks : List Tree) → ((v : Tree) → list_any (λ k. is_eq (order v k)) ks ≡ true → HasSome (forget rows) v) → AllByRecursion (HasSome (forget rows)) ks
     each-some [] from = tt
@@ -152,9 +152,9 @@ module _ (g : Grouping) where
 
       at-each : (ks : List Tree) → AllByRecursion (HasSome (forget rows)) ks → at (Up k ∷ []) (map at_own ks) ≡ cond (list_any is_of ks) shown None
       at-each [] all = refl
-      at-each (v ∷ ks) all = ap (λ b. cond b (Some (group_row g (under v docs))) (at (Up k ∷ []) (map at_own ks))) (one-part (key_order k (value (canon v)))) ∙ by (is_of v) refl (at-each ks all.1)
+      at-each (v ∷ ks) all = ap (λ b. cond b (Some (group_row g (documents_under_key v docs))) (at (Up k ∷ []) (map at_own ks))) (one-part (key_order k (value (canon v)))) ∙ by (is_of v) refl (at-each ks all.1)
         where
-          by : (b : Bool) → is_of v ≡ b → at (Up k ∷ []) (map at_own ks) ≡ cond (list_any is_of ks) shown None → cond b (Some (group_row g (under v docs))) (at (Up k ∷ []) (map at_own ks)) ≡ cond (b || list_any is_of ks) shown None
+          by : (b : Bool) → is_of v ≡ b → at (Up k ∷ []) (map at_own ks) ≡ cond (list_any is_of ks) shown None → cond b (Some (group_row g (documents_under_key v docs))) (at (Up k ∷ []) (map at_own ks)) ≡ cond (b || list_any is_of ks) shown None
           by true is rest = sym (own-shown v (forget rows) all.0) ∙ ap (row_shown g) (under-with k v ((Equal-is (key_order k (value (canon v)))).0 is) rows)
           by false is rest = rest
 

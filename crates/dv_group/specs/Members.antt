@@ -20,16 +20,16 @@ abbrev pub row_key : Grouping → Row → KeyTree
 row_key g d = value (canon (key_in g d))
 
 -- whether a row has a key
-abbrev pub has_key : Grouping → KeyTree → Row → Bool
-has_key g k d = is_eq (key_order k (row_key g d))
+abbrev pub row_has_key : Grouping → KeyTree → Row → Bool
+row_has_key g k d = is_eq (key_order k (row_key g d))
 
 -- the rows that have a key
 abbrev pub rows_with : Grouping → KeyTree → Positioned → Positioned
-rows_with g k rows = filter (λ e. has_key g k e.1) rows
+rows_with g k rows = filter (λ e. row_has_key g k e.1) rows
 
 -- groups under keys
-abbrev pub Kept : Type 0
-Kept = List (KeyTree × Bundle)
+abbrev pub KeptGroups : Type 0
+KeptGroups = List (KeyTree × Bundle)
 
 -- the rows of a group, where there is one
 abbrev pub rows_in : Option Bundle → Positioned
@@ -37,11 +37,11 @@ rows_in None = []
 rows_in (Some b) = b.members
 
 -- the rows under a key
-abbrev pub members : KeyTree → Kept → Positioned
-members k es = rows_in (lookup (is_at (key_order k)) es)
+abbrev pub group_members : KeyTree → KeptGroups → Positioned
+group_members k es = rows_in (lookup (is_at (key_order k)) es)
 
 -- each group is sound
-abbrev pub AreBundles : Grouping → Kept → Type 0
+abbrev pub AreBundles : Grouping → KeptGroups → Type 0
 AreBundles g es = AllByRecursion (λ e. IsBundle g.fields e.1) es
 
 -- under each key stand the rows that have it

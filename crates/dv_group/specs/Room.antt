@@ -11,7 +11,7 @@ use Rattle.dv_gather.specs.Grouping.{Accumulation}
 use Rattle.dv_group.specs.declared.bundle.Bundle.{Bundle}
 use Rattle.dv_group.specs.declared.running.Way.{Way}
 use Rattle.dv_group.specs.declared.running.Way.TheVariants.{Comes, Goes}
-use Rattle.dv_group.specs.Running.{Running, adds, pushed, ranked, running_of, summed, value_at, widens, without_row}
+use Rattle.dv_group.specs.Running.{Running, adds, pushed, ranked, running_of, summed, field_value, widens, without_row}
 use Rattle.dv_group.specs.RunningView.{running_seen}
 
 -- what so many numbers of 64 bits can bring
@@ -19,30 +19,30 @@ abbrev pub reach : ℕ → ℕ
 reach count = count * 2 ^ 63
 
 -- no farther than so many rows can bring it
-abbrev pub IsWithin : ℕ → Running → Type 0
-IsWithin count (summed n wides) = ((pos 0 ≤ℤ (n +ℤ pos (reach count))) × (n ≤ℤ pos (reach count))) × (wides ≤ count)
-IsWithin count (ranked rows) = ⊤
-IsWithin count pushed = ⊤
+abbrev pub IsWithinRows : ℕ → Running → Type 0
+IsWithinRows count (summed n wides) = ((pos 0 ≤ℤ (n +ℤ pos (reach count))) × (n ≤ℤ pos (reach count))) × (wides ≤ count)
+IsWithinRows count (ranked rows) = ⊤
+IsWithinRows count pushed = ⊤
 
 -- so many rows as there can be
-abbrev pub most : ℕ
-most = 2 ^ 64 - 1
+abbrev pub most_rows : ℕ
+most_rows = 2 ^ 64 - 1
 
 -- a row that goes was counted
 abbrev pub IsCounted : Accumulation → Row → Running → Type 0
-IsCounted a d (summed n wides) = widens (value_at a d) ≤ wides
+IsCounted a d (summed n wides) = widens (field_value a d) ≤ wides
 IsCounted a d (ranked rows) = ⊤
 IsCounted a d pushed = ⊤
 
 -- there is room for what comes, or for what is left
-abbrev pub HasRoom : Way → Accumulation → PosTree → Row → Running → Type 0
-HasRoom Comes a p d t = IsWithin most t
-HasRoom Goes a p d t = IsWithin most (without_row a p d t) × IsCounted a d t
+abbrev pub HasRoomFor : Way → Accumulation → PosTree → Row → Running → Type 0
+HasRoomFor Comes a p d t = IsWithinRows most_rows t
+HasRoomFor Goes a p d t = IsWithinRows most_rows (without_row a p d t) × IsCounted a d t
 
 abbrev pub HaveRoom : Way → List Accumulation → PosTree → Row → List Running → Type 0
 HaveRoom way [] p d ts = ⊤
 HaveRoom way (a ∷ fields) p d [] = ⊤
-HaveRoom way (a ∷ fields) p d (t ∷ ts) = HasRoom way a p d t × HaveRoom way fields p d ts
+HaveRoom way (a ∷ fields) p d (t ∷ ts) = HasRoomFor way a p d t × HaveRoom way fields p d ts
 
 -- a number of 64 bits
 abbrev pub IsNarrowValue : Option Tree → Type 0
@@ -50,7 +50,7 @@ IsNarrowValue v = (pos 0 ≤ℤ (adds v +ℤ pos (2 ^ 63))) × (adds v ≤ℤ po
 
 -- a row's number is one, where it is summed
 abbrev pub IsNarrowFor : Accumulator → Accumulation → Row → Type 0
-IsNarrowFor Sum a d = IsNarrowValue (value_at a d)
+IsNarrowFor Sum a d = IsNarrowValue (field_value a d)
 IsNarrowFor Min a d = ⊤
 IsNarrowFor Max a d = ⊤
 IsNarrowFor Push a d = ⊤

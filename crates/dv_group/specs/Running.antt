@@ -4,7 +4,7 @@ use Rattle.dv_bson.specs.Tree.{Field, Tree, array, elements_of, null}
 use Rattle.dv_order.specs.Order.{canon}
 use Rattle.dv_order.specs.Key.{value}
 use Rattle.dv_path.specs.Candidates.{or_null}
-use Rattle.dv_row.specs.Expressions.{value_of, with_field}
+use Rattle.dv_row.specs.Expressions.{value_of, with_field_behind}
 use Rattle.dv_row.specs.Row.{Row}
 use Rattle.dv_change.specs.declared.position.Part.{Part}
 use Rattle.dv_change.specs.declared.position.Part.TheVariants.{Up, Down}
@@ -26,8 +26,8 @@ pub data Running : Type 0 where
   pushed : Running
 
 -- the value of a field in a row
-abbrev pub value_at : Accumulation → Row → Option Tree
-value_at a d = value_of a.argument d
+abbrev pub field_value : Accumulation → Row → Option Tree
+field_value a d = value_of a.argument d
 
 -- ---- sums
 
@@ -41,11 +41,11 @@ widens (Some v) = cond (is_int64 v) 1 0
 
 abbrev pub sum_over : Accumulation → Positioned → ℤ
 sum_over a [] = pos 0
-sum_over a (r ∷ rows) = adds (value_at a r.1) +ℤ sum_over a rows
+sum_over a (r ∷ rows) = adds (field_value a r.1) +ℤ sum_over a rows
 
 abbrev pub wides_over : Accumulation → Positioned → ℕ
 wides_over a [] = 0
-wides_over a (r ∷ rows) = widens (value_at a r.1) + wides_over a rows
+wides_over a (r ∷ rows) = widens (field_value a r.1) + wides_over a rows
 
 -- ---- ranks
 
@@ -66,17 +66,17 @@ without_ranked accumulator None p rows = rows
 without_ranked accumulator (Some v) p rows = cond (is_null v) rows (gone (rank accumulator v ∷ p) rows)
 
 abbrev pub reranked : Way → Accumulation → PosTree → Row → Positioned → Positioned
-reranked Comes a p d rows = with_ranked a.accumulator (value_at a d) p d rows
-reranked Goes a p d rows = without_ranked a.accumulator (value_at a d) p rows
+reranked Comes a p d rows = with_ranked a.accumulator (field_value a d) p d rows
+reranked Goes a p d rows = without_ranked a.accumulator (field_value a d) p rows
 
 abbrev pub ranked_over : Accumulation → Positioned → Positioned
 ranked_over a [] = []
-ranked_over a (r ∷ rows) = with_ranked a.accumulator (value_at a r.1) r.0 r.1 (ranked_over a rows)
+ranked_over a (r ∷ rows) = with_ranked a.accumulator (field_value a r.1) r.0 r.1 (ranked_over a rows)
 
 -- the value of the first row, null where there is none
-abbrev pub first_value : Accumulation → Positioned → Tree
-first_value a [] = null
-first_value a (r ∷ rows) = or_null (value_at a r.1)
+abbrev pub value_of_first : Accumulation → Positioned → Tree
+value_of_first a [] = null
+value_of_first a (r ∷ rows) = or_null (field_value a r.1)
 
 -- ---- what comes of rows
 
@@ -90,19 +90,19 @@ abbrev pub running_of : Accumulation → Positioned → Running
 running_of a rows = running_by a.accumulator a rows
 
 -- with a row more
-abbrev pub with_row : Accumulation → PosTree → Row → Running → Running
-with_row a p d (summed n wides) = summed (n +ℤ adds (value_at a d)) (wides + widens (value_at a d))
-with_row a p d (ranked rows) = ranked (with_ranked a.accumulator (value_at a d) p d rows)
-with_row a p d pushed = pushed
+abbrev pub with_running_row : Accumulation → PosTree → Row → Running → Running
+with_running_row a p d (summed n wides) = summed (n +ℤ adds (field_value a d)) (wides + widens (field_value a d))
+with_running_row a p d (ranked rows) = ranked (with_ranked a.accumulator (field_value a d) p d rows)
+with_running_row a p d pushed = pushed
 
 -- without a row that it has
 abbrev pub without_row : Accumulation → PosTree → Row → Running → Running
-without_row a p d (summed n wides) = summed (n -ℤ adds (value_at a d)) (wides - widens (value_at a d))
-without_row a p d (ranked rows) = ranked (without_ranked a.accumulator (value_at a d) p rows)
+without_row a p d (summed n wides) = summed (n -ℤ adds (field_value a d)) (wides - widens (field_value a d))
+without_row a p d (ranked rows) = ranked (without_ranked a.accumulator (field_value a d) p rows)
 without_row a p d pushed = pushed
 
 abbrev pub moved_by : Way → Accumulation → PosTree → Row → Running → Running
-moved_by Comes a p d t = with_row a p d t
+moved_by Comes a p d t = with_running_row a p d t
 moved_by Goes a p d t = without_row a p d t
 
 -- at a place, where there is one
@@ -121,11 +121,11 @@ moved_from way p d i (a ∷ fields) ts = moved_from way p d (suc i) fields (move
 -- what it tells of the values of these rows
 abbrev pub told_by : Accumulation → Positioned → Running → Tree
 told_by a rows (summed n wides) = spelled (nat_eq wides 0) n
-told_by a rows (ranked some) = first_value a some
+told_by a rows (ranked some) = value_of_first a some
 told_by a rows pushed = array (elements_of (values_over a.argument (forget rows)))
 
 -- fields, and behind them those that are told of these rows
 abbrev pub with_told : List Accumulation → Positioned → List Running → List Field → List Field
 with_told [] rows ts fs = fs
 with_told (a ∷ fields) rows [] fs = fs
-with_told (a ∷ fields) rows (t ∷ ts) fs = with_told fields rows ts (with_field a.name (Some (told_by a rows t)) fs)
+with_told (a ∷ fields) rows (t ∷ ts) fs = with_told fields rows ts (with_field_behind a.name (Some (told_by a rows t)) fs)

@@ -4,10 +4,10 @@ use Rattle.dv_group.specs.declared.running.Running.TheVariants.{Summed, Ranked, 
 use Rattle.dv_group.specs.declared.summing.KeptSum.{KeptSum}
 use Rattle.dv_group.specs.Running.{Running, pushed, ranked, summed}
 
-abbrev pub sum_seen : KeptSum → Running
-sum_seen s = summed s.total s.wides
+abbrev pub kept_sum_seen : KeptSum → Running
+kept_sum_seen s = summed s.total s.wides
 
 abbrev pub running_seen : memory.Running → Running
-running_seen (Summed sum) = sum_seen sum
+running_seen (Summed sum) = kept_sum_seen sum
 running_seen (Ranked rows) = ranked rows
 running_seen Pushed = pushed

@@ -9,7 +9,7 @@ ghost use Rattle.dv_change.specs.Raised.{raised};
 ghost use Rattle.dv_gather.specs.Grouping.{row_shown};
 ghost use Rattle.dv_group.specs.Grouped.{group_empty, group_even, group_ordered};
 ghost use Rattle.dv_group.specs.Members as defined;
-ghost use Rattle.dv_group.specs.Members.{AreBundles, members, moved, row_key, shown_of};
+ghost use Rattle.dv_group.specs.Members.{AreBundles, group_members, moved, row_key, shown_of};
 ghost use Rattle.dv_order.specs.Key.{KeyTree};
 ghost use Rattle.dv_group.specs.Placed.{grouped_at};
 ghost use Rattle.dv_group.specs.Turned.{IsSoundGroups, rows_left};
@@ -85,10 +85,10 @@ impl GroupTurn {
         requires { AreBundles self.old.group self.old.groups.entries }
         ensures rows { OnOk result (self.new.rows.entries ≡ self.old.rows.entries) }
         ensures group { OnOk result (self.new.group ≡ self.old.group) }
-        ensures groups { OnOk result ((k : KeyTree) → members k self.new.groups.entries ≡ moved pos key.now other.now new k (members k self.old.groups.entries)) }
+        ensures groups { OnOk result ((k : KeyTree) → group_members k self.new.groups.entries ≡ moved pos key.now other.now new k (group_members k self.old.groups.entries)) }
         ensures sound { OnOk result (AreBundles self.new.group self.new.groups.entries) }
-        ensures out { OnOk result (out.new.items ≡ out.old.items ++ diff (shown_of self.old.group (λ k. members k self.old.groups.entries) key.now other.now) (shown_of self.old.group (λ k. members k self.new.groups.entries) key.now other.now)) }
-        ensures ticks { OnOk result (ticks.new ≡ raised ticks.old (1 + length (diff (shown_of self.old.group (λ k. members k self.old.groups.entries) key.now other.now) (shown_of self.old.group (λ k. members k self.new.groups.entries) key.now other.now)))) }
+        ensures out { OnOk result (out.new.items ≡ out.old.items ++ diff (shown_of self.old.group (λ k. group_members k self.old.groups.entries) key.now other.now) (shown_of self.old.group (λ k. group_members k self.new.groups.entries) key.now other.now)) }
+        ensures ticks { OnOk result (ticks.new ≡ raised ticks.old (1 + length (diff (shown_of self.old.group (λ k. group_members k self.old.groups.entries) key.now other.now) (shown_of self.old.group (λ k. group_members k self.new.groups.entries) key.now other.now)))) }
     {
         let before = self.shown(key, other)?;
         move_row(
@@ -116,8 +116,8 @@ impl GroupTurn {
         ensures rows { self.new.rows.entries ≡ self.old.rows.entries }
         ensures group { self.new.group ≡ self.old.group }
         ensures groups { self.new.groups.entries ≡ self.old.groups.entries }
-        ensures out { OnOk result (out.new.items ≡ out.old.items ++ diff before.now (shown_of self.old.group (λ k. members k self.old.groups.entries) key.now other.now)) }
-        ensures ticks { OnOk result (ticks.new ≡ raised ticks.old (1 + length (diff before.now (shown_of self.old.group (λ k. members k self.old.groups.entries) key.now other.now)))) }
+        ensures out { OnOk result (out.new.items ≡ out.old.items ++ diff before.now (shown_of self.old.group (λ k. group_members k self.old.groups.entries) key.now other.now)) }
+        ensures ticks { OnOk result (ticks.new ≡ raised ticks.old (1 + length (diff before.now (shown_of self.old.group (λ k. group_members k self.old.groups.entries) key.now other.now)))) }
     {
         let after = self.shown(key, other)?;
         self.keep_last(&after)?;
@@ -140,7 +140,7 @@ impl GroupTurn {
     /// The rows of the groups of two keys.
     fn shown(&self, key: &Option<Key>, other: &Option<Key>) -> Result<Ordered<Document>, NoMemory>
         requires { AreBundles self.now.group self.now.groups.entries }
-        ensures { IfOk result (λ rows. rows ≡ shown_of self.now.group (λ k. members k self.now.groups.entries) key.now other.now) }
+        ensures { IfOk result (λ rows. rows ≡ shown_of self.now.group (λ k. group_members k self.now.groups.entries) key.now other.now) }
     {
         let rows = self.with_shown(Ordered::new(self.alloc), key)?;
         if are_one(key, other) {
@@ -156,7 +156,7 @@ impl GroupTurn {
         key: &Option<Key>,
     ) -> Result<Ordered<Document>, NoMemory>
         requires { AreBundles self.now.group self.now.groups.entries }
-        ensures { IfOk result (λ more. more ≡ defined.with_shown self.now.group (λ k. members k self.now.groups.entries) key.now rows) }
+        ensures { IfOk result (λ more. more ≡ defined.with_shown self.now.group (λ k. group_members k self.now.groups.entries) key.now rows) }
     {
         let Some(key) = key else {
             return Ok(rows);
@@ -170,7 +170,7 @@ impl GroupTurn {
     /// The row of the group of the key, where it has rows.
     fn row_of(&self, key: &Key) -> Result<Option<Document>, NoMemory>
         requires { AreBundles self.now.group self.now.groups.entries }
-        ensures { IfOk result (λ row. row ≡ row_shown self.now.group (forget (members key.now self.now.groups.entries))) }
+        ensures { IfOk result (λ row. row ≡ row_shown self.now.group (forget (group_members key.now self.now.groups.entries))) }
     {
         match self.groups.get(key) {
             Some(bundle) => bundle.row(self.alloc, &self.group, self.last.as_ref()),

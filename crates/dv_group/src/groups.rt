@@ -8,7 +8,7 @@ ghost use Rattle.dv_change.specs.Ordered.{gone, put};
 ghost use Rattle.dv_gather.specs.KeySets.{referred};
 ghost use Rattle.dv_order.specs.Key.{KeyTree, key_order};
 ghost use Rattle.dv_group.specs.Members as defined;
-ghost use Rattle.dv_group.specs.Members.{AreBundles, is_key, members, moved, put_some};
+ghost use Rattle.dv_group.specs.Members.{AreBundles, is_key, group_members, moved, put_some};
 ghost use Rattle.dv_group.specs.Room.{IsBundle};
 
 use crate::bundle::Bundle;
@@ -34,7 +34,7 @@ pub(crate) fn move_row(
     new: Option<Document>,
 ) -> Result<(), NoMemory>
     requires { AreBundles group.now groups.old.entries }
-    ensures rows { OnOk result ((k : KeyTree) → members k groups.new.entries ≡ moved pos key.now other.now new k (members k groups.old.entries)) }
+    ensures rows { OnOk result ((k : KeyTree) → group_members k groups.new.entries ≡ moved pos key.now other.now new k (group_members k groups.old.entries)) }
     ensures sound { OnOk result (AreBundles group.now groups.new.entries) }
 {
     take_out(alloc, group, groups, key, &pos)?;
@@ -50,7 +50,7 @@ fn take_out(
     pos: &Pos,
 ) -> Result<(), NoMemory>
     requires { AreBundles group.now groups.old.entries }
-    ensures rows { OnOk result ((k : KeyTree) → members k groups.new.entries ≡ cond (is_key k key.now) (gone pos.now (members k groups.old.entries)) (members k groups.old.entries)) }
+    ensures rows { OnOk result ((k : KeyTree) → group_members k groups.new.entries ≡ cond (is_key k key.now) (gone pos.now (group_members k groups.old.entries)) (group_members k groups.old.entries)) }
     ensures sound { OnOk result (AreBundles group.now groups.new.entries) }
 {
     match key {
@@ -68,7 +68,7 @@ fn take_from(
     pos: &Pos,
 ) -> Result<(), NoMemory>
     requires { AreBundles group.now groups.old.entries }
-    ensures rows { OnOk result ((k : KeyTree) → members k groups.new.entries ≡ cond (is_key k (Some key.now)) (gone pos.now (members k groups.old.entries)) (members k groups.old.entries)) }
+    ensures rows { OnOk result ((k : KeyTree) → group_members k groups.new.entries ≡ cond (is_key k (Some key.now)) (gone pos.now (group_members k groups.old.entries)) (group_members k groups.old.entries)) }
     ensures sound { OnOk result (AreBundles group.now groups.new.entries) }
 {
     let bundle = bundle_of(alloc, group, groups, key)?;
@@ -87,7 +87,7 @@ fn bundle_of(
     key: &Key,
 ) -> Result<Bundle, NoMemory>
     requires { AreBundles group.now groups.old.entries }
-    ensures rows { IfOk result (λ bundle. bundle.members ≡ members key.now groups.old.entries) }
+    ensures rows { IfOk result (λ bundle. bundle.members ≡ group_members key.now groups.old.entries) }
     ensures sound { IfOk result (λ bundle. IsBundle group.now.fields bundle) }
     ensures left { OnOk result (AreBundles group.now groups.new.entries) }
     ensures others { OnOk result ((k : KeyTree) → lookup (is_at (key_order k)) groups.new.entries ≡ cond (is_at (key_order key.now) k) None (lookup (is_at (key_order k)) groups.old.entries)) }
@@ -108,7 +108,7 @@ fn put_in(
     row: Option<Document>,
 ) -> Result<(), NoMemory>
     requires { AreBundles group.now groups.old.entries }
-    ensures rows { OnOk result ((k : KeyTree) → members k groups.new.entries ≡ cond (is_key k key.now) (put_some pos row (members k groups.old.entries)) (members k groups.old.entries)) }
+    ensures rows { OnOk result ((k : KeyTree) → group_members k groups.new.entries ≡ cond (is_key k key.now) (put_some pos row (group_members k groups.old.entries)) (group_members k groups.old.entries)) }
     ensures sound { OnOk result (AreBundles group.now groups.new.entries) }
 {
     let Some(key) = key else {
@@ -130,7 +130,7 @@ fn put_under(
     row: Document,
 ) -> Result<(), NoMemory>
     requires { AreBundles group.now groups.old.entries }
-    ensures rows { OnOk result ((k : KeyTree) → members k groups.new.entries ≡ cond (is_key k (Some key.now)) (put pos row (members k groups.old.entries)) (members k groups.old.entries)) }
+    ensures rows { OnOk result ((k : KeyTree) → group_members k groups.new.entries ≡ cond (is_key k (Some key.now)) (put pos row (group_members k groups.old.entries)) (group_members k groups.old.entries)) }
     ensures sound { OnOk result (AreBundles group.now groups.new.entries) }
 {
     let bundle = bundle_of(alloc, group, groups, key)?;

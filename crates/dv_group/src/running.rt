@@ -6,10 +6,10 @@ ghost use Rattle.dv_bson.specs.View.{tree};
 ghost use Rattle.dv_change.specs.Changes.{forget};
 ghost use Rattle.dv_gather.specs.GroupView.{accumulation};
 ghost use Rattle.dv_gather.specs.Grouping.{Accumulation, values_over};
-ghost use Rattle.dv_row.specs.ExpressionView.{expression};
-ghost use Rattle.dv_group.specs.Room.{HasRoom, IsNarrowIn};
+ghost use Rattle.dv_row.specs.ExpressionView.{expression_seen};
+ghost use Rattle.dv_group.specs.Room.{HasRoomFor, IsNarrowIn};
 ghost use Rattle.dv_group.specs.Running as defined;
-ghost use Rattle.dv_group.specs.Running.{first_value, moved_by, rank, running_by, told_by};
+ghost use Rattle.dv_group.specs.Running.{value_of_first, moved_by, rank, running_by, told_by};
 ghost use Rattle.dv_group.specs.RunningView.{running_seen};
 
 use crate::groups::documents;
@@ -64,7 +64,7 @@ impl Running {
         pos: &Pos,
         row: &Document,
     ) -> Result<(), NoMemory>
-        requires { HasRoom way (accumulation field.now) pos.now row.now (running_seen self.old) }
+        requires { HasRoomFor way (accumulation field.now) pos.now row.now (running_seen self.old) }
         ensures moved { OnOk result (running_seen self.new ≡ moved_by way (accumulation field.now) pos.now row.now (running_seen self.old)) }
         ensures narrow { OnOk result (IsNarrowIn (running_seen self.old) (accumulation field.now) row.now) }
     {
@@ -152,7 +152,7 @@ fn value_of_first(
     field: &GroupField,
     rows: &Ordered<Document>,
 ) -> Result<Value, NoMemory>
-    ensures { IfOk result (λ value. tree value ≡ first_value (accumulation field.now) rows.now) }
+    ensures { IfOk result (λ value. tree value ≡ value_of_first (accumulation field.now) rows.now) }
 {
     let Some((_, row)) = rows.first() else {
         return Ok(Value::Null);
@@ -168,7 +168,7 @@ const MOST_PUSHED: usize = 256;
 
 /// The values of the expression over the rows, as an array. Fails where memory is wanting, and where there are too many rows.
 fn pushed(alloc: Global, expr: &Expr, rows: &Ordered<Document>) -> Result<Value, NoMemory>
-    ensures { IfOk result (λ value. tree value ≡ array (elements_of (values_over (expression expr.now) (forget rows.now)))) }
+    ensures { IfOk result (λ value. tree value ≡ array (elements_of (values_over (expression_seen expr.now) (forget rows.now)))) }
 {
     if rows.len() > MOST_PUSHED {
         return Err(AllocError);

@@ -3,9 +3,9 @@
 ghost use Rattle.std.specs.Prelude.{◌≡◌, ◌≤◌, ◌+◌, ◌-◌, ◌+ℤ◌, ◌-ℤ◌, IfOk, Some, nat_eq, pos};
 ghost use Rattle.dv_bson.specs.View.{tree};
 ghost use Rattle.dv_gather.specs.Sums as sums;
-ghost use Rattle.dv_group.specs.Room.{IsNarrowValue, IsWithin, most};
+ghost use Rattle.dv_group.specs.Room.{IsNarrowValue, IsWithinRows, most_rows};
 ghost use Rattle.dv_group.specs.Running.{adds, summed, widens};
-ghost use Rattle.dv_group.specs.RunningView.{sum_seen};
+ghost use Rattle.dv_group.specs.RunningView.{kept_sum_seen};
 
 use dv_bson::{NoMemory, Value};
 use dv_gather::{addend, is_int64, sum_value};
@@ -22,15 +22,15 @@ pub(crate) struct KeptSum {
 impl KeptSum {
     /// The sum of no numbers.
     pub(crate) fn of_none() -> Self
-        ensures { sum_seen result ≡ summed (pos 0) 0 }
+        ensures { kept_sum_seen result ≡ summed (pos 0) 0 }
     {
         KeptSum { total: 0, wides: 0 }
     }
 
     /// Adds the value, if it is a number.
     pub(crate) fn add(&mut self, value: &Value)
-        requires { IsWithin most (sum_seen self.old) }
-        ensures sum { sum_seen self.new ≡ summed (self.old.total +ℤ adds (Some (tree value.now))) (self.old.wides + widens (Some (tree value.now))) }
+        requires { IsWithinRows most_rows (kept_sum_seen self.old) }
+        ensures sum { kept_sum_seen self.new ≡ summed (self.old.total +ℤ adds (Some (tree value.now))) (self.old.wides + widens (Some (tree value.now))) }
         ensures narrow { IsNarrowValue (Some (tree value.now)) }
     {
         self.total += i128::from(addend(value));
@@ -41,9 +41,9 @@ impl KeptSum {
 
     /// Takes the value away, if it is a number.
     pub(crate) fn take(&mut self, value: &Value)
-        requires within { IsWithin most (summed (self.old.total -ℤ adds (Some (tree value.now))) (self.old.wides - widens (Some (tree value.now)))) }
+        requires within { IsWithinRows most_rows (summed (self.old.total -ℤ adds (Some (tree value.now))) (self.old.wides - widens (Some (tree value.now)))) }
         requires counted { widens (Some (tree value.now)) ≤ self.old.wides }
-        ensures sum { sum_seen self.new ≡ summed (self.old.total -ℤ adds (Some (tree value.now))) (self.old.wides - widens (Some (tree value.now))) }
+        ensures sum { kept_sum_seen self.new ≡ summed (self.old.total -ℤ adds (Some (tree value.now))) (self.old.wides - widens (Some (tree value.now))) }
         ensures narrow { IsNarrowValue (Some (tree value.now)) }
     {
         self.total -= i128::from(addend(value));

@@ -6,7 +6,7 @@ use Rattle.dv_order.specs.Order.{canon}
 use Rattle.dv_order.specs.Key.{value}
 use Rattle.dv_path.specs.LeafKeys.{is_leaf_key}
 use Rattle.dv_match.specs.declared.fault.FilterFault.{FilterFault}
-use Rattle.dv_match.specs.Examples.{int, list}
+use Rattle.dv_bson.specs.Short.{int, list}
 use Rattle.dv_match.specs.Parsing.{filter_in}
 use Rattle.dv_bson.specs.Results.{◌>>=◌}
 use Rattle.dv_index.specs.Index.{IndexForm, id_form}

@@ -1,6 +1,6 @@
 //! A collection with its indexes.
 
-ghost use Rattle.std.specs.Prelude.{◌≡◌, ◌↔◌, ◌||◌, ◌&&◌, ◌++◌, ◌∷◌, [], None, List, codes, false, true, not, filter as kept, is_some, length, map, take, IfOk, IfSome, IsErrOf, IsSome, IsTrue, OnErr, OnOk};
+ghost use Rattle.std.specs.Prelude.{◌≡◌, ◌↔◌, ◌++◌, ◌∷◌, [], None, List, codes, false, true, filter as kept, is_some, length, map, take, IfOk, IfSome, IsErrOf, IsSome, IsTrue, OnErr, OnOk};
 ghost use Rattle.std.specs.List.{AllByRecursion, list_any};
 ghost use Rattle.std.specs.Option.{option_map};
 ghost use Rattle.std.specs.Str.{bytes_eq};
@@ -8,18 +8,13 @@ ghost use Rattle.dv_bson.specs.Tree.{Field};
 ghost use Rattle.dv_bson.specs.View.{tree};
 ghost use Rattle.dv_coll.specs.Collection.{AreStanding, HasId, IsAscending, found, id_key, inserted, removed, replaced, with_value_in};
 ghost use Rattle.dv_match.specs.Match.{matches};
-ghost use Rattle.std.specs.Ordering.{is_eq};
-ghost use Rattle.dv_order.specs.Key.{KeyTree, key_order};
-ghost use Rattle.dv_path.specs.LeafKeys.{is_leaf_key};
 ghost use Rattle.dv_path.specs.Parts.{part};
 ghost use Rattle.dv_index.specs.Ahead.{is_ahead};
 ghost use Rattle.dv_index.specs.Change.{AreIndexesOf, IsChangeOf, IsTaken, documents_after};
 ghost use Rattle.dv_index.specs.Index.{form_of, id_form};
 ghost use Rattle.dv_index.specs.View.{afters, befores, form_of_new, plan_seen};
 ghost use Rattle.dv_index.specs.Indexed.{empty_indexed, is_dropped, with_documents, with_indexes, without_index};
-ghost use Rattle.dv_index.specs.Pairs.{has_pair, is_under_another};
-ghost use Rattle.dv_index.specs.Search.{IsIndexOf, is_key_under};
-ghost use Rattle.dv_index.specs.Unique.{are_apart, are_broken, is_broken};
+ghost use Rattle.dv_index.specs.Unique.{are_broken};
 ghost use Rattle.dv_index.specs.Indexed as defined;
 ghost use Rattle.dv_index.specs.Unique as uniqueness;
 
@@ -27,16 +22,15 @@ use crate::ahead::{Ahead, candidates_ahead, index_on};
 use crate::change::{Change, key_of_id};
 use crate::coverage::covered;
 use crate::indexes::{Index, Indexes, NewIndex};
-use crate::keys::keys_of;
-use crate::multi_index::MultiIndex;
+use crate::making::indexes_over;
 use crate::plan::{Plan, Planner};
 use crate::search::{all_matching, run, run_first};
 use crate::unique::{Replacing, clashes, replacing_clashes};
-use dv_bson::{Document, NoMemory, Str, Value};
+use dv_bson::{Document, NoMemory, Value};
 use dv_coll::{Collection, InsertFault, Iter, laws};
 use dv_match::Filter;
 use dv_order::Key;
-use dv_path::{Path, SortPart};
+use dv_path::SortPart;
 use std::alloc::{AllocError, Global};
 use std::marker::Model;
 
@@ -370,81 +364,6 @@ fn are_only_id(indexes: &Indexes) -> bool
     ensures { IsTrue result → (documents : List (List Field)) → AreIndexesOf indexes.now documents }
 {
     indexes.as_slice().len() == 1
-}
-
-/// Indexes over all documents, in the order in which they are wanted. Refused with `Duplicate` where one is unique and two
-/// documents share a key under its path, and with `NoMemory` where memory is wanting.
-fn indexes_over(
-    alloc: Global,
-    wanted: Vec<NewIndex>,
-    documents: &Collection,
-) -> Result<Vec<Index>, InsertFault>
-    ensures forms { IfOk result (λ made. map form_of made.items ≡ map form_of_new wanted.items) }
-    ensures indexes { IfOk result (λ made. AllByRecursion (λ x. IsIndexOf x documents.now) made.items) }
-    ensures sound { OnOk result (are_broken (map form_of_new wanted.items) documents.now ≡ false) }
-    ensures duplicate { IsErrOf result InsertFault.Duplicate → are_broken (map form_of_new wanted.items) documents.now ≡ true }
-{
-    let mut made = Vec::with_capacity(alloc, wanted.len())?;
-    'wanted: for index in wanted {
-        made.push(index_over(alloc, index, documents)?)?;
-    }
-    Ok(made)
-}
-
-/// An index over all documents. Refused as they are.
-fn index_over(alloc: Global, wanted: NewIndex, documents: &Collection) -> Result<Index, InsertFault>
-    ensures form { IfOk result (λ index. form_of index ≡ form_of_new wanted) }
-    ensures index { IfOk result (λ index. IsIndexOf index documents.now) }
-    ensures sound { OnOk result (is_broken (form_of_new wanted) documents.now ≡ false) }
-    ensures duplicate { IsErrOf result InsertFault.Duplicate → is_broken (form_of_new wanted) documents.now ≡ true }
-{
-    let NewIndex { name, path, unique } = wanted;
-    let pairs = pairs_of(alloc, &path, unique, documents)?;
-    Ok(Index::of(name, path, unique, pairs))
-}
-
-/// The pairs of the keys of all documents under a path, each with its document's `_id`. Refused with `Duplicate` where they
-/// are those of a unique index and two documents share a key, and with `NoMemory` where memory is wanting.
-fn pairs_of(
-    alloc: Global,
-    path: &Path,
-    unique: bool,
-    documents: &Collection,
-) -> Result<MultiIndex, InsertFault>
-    ensures pairs { IfOk result (λ pairs. (k id : KeyTree) → has_pair k id pairs ≡ is_key_under k path.now (found id documents.now)) }
-    ensures sound { OnOk result ((unique && not (are_apart path.now documents.now)) ≡ false) }
-    ensures duplicate { IsErrOf result InsertFault.Duplicate → (unique && not (are_apart path.now documents.now)) ≡ true }
-{
-    let mut pairs = MultiIndex::new(alloc);
-    for document in documents.iter() {
-        add_keys(alloc, &mut pairs, path, unique, document)?;
-    }
-    Ok(pairs)
-}
-
-/// Adds the pairs of the keys of a document that has none yet. Refused with `Duplicate` where the pairs are those of a unique
-/// index and one of the keys stands under another `_id`, and with `NoMemory` where memory is wanting; then the pairs are
-/// those that there were.
-fn add_keys(
-    alloc: Global,
-    pairs: &mut MultiIndex,
-    path: &Path,
-    unique: bool,
-    document: &Document,
-) -> Result<(), InsertFault>
-    requires identified { HasId document.now }
-    requires first { (k : KeyTree) → has_pair k (id_key document.now) pairs.old ≡ false }
-    ensures ok { OnOk result ((k i : KeyTree) → has_pair k i pairs.new ≡ (has_pair k i pairs.old || (is_eq (key_order i (id_key document.now)) && is_leaf_key k path.now document.now))) }
-    ensures free { OnOk result ((unique && is_under_another (λ k. is_leaf_key k path.now document.now) (id_key document.now) pairs.old) ≡ false) }
-    ensures duplicate { IsErrOf result InsertFault.Duplicate → (unique && is_under_another (λ k. is_leaf_key k path.now document.now) (id_key document.now) pairs.old) ≡ true }
-{
-    let id = key_of_id(document)?;
-    let keys = keys_of(alloc, path, document)?;
-    if unique && pairs.clash(&keys, &id) {
-        return Err(InsertFault::Duplicate);
-    }
-    pairs.add_first(&keys, &id)?;
-    Ok(())
 }
 
 /// The name of the index of a plan.

@@ -6,7 +6,7 @@ ghost use Rattle.std.specs.Ordering.{is_eq};
 ghost use Rattle.std.specs.Str.{bytes_eq};
 ghost use Rattle.dv_bson.specs.Tree.{Field, Tree, int64, null};
 ghost use Rattle.dv_coll.specs.Collection.{IsAscending, found, id_key, inserted, removed, replaced};
-ghost use Rattle.dv_match.specs.Examples.{doc, int, list, one};
+ghost use Rattle.dv_bson.specs.Short.{doc, int, list, one};
 ghost use Rattle.dv_match.specs.Filter.{Condition, Members};
 ghost use Rattle.dv_match.specs.Match.{matches};
 ghost use Rattle.dv_order.specs.Key.{KeyTree, key_order, value};

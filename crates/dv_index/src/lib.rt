@@ -11,11 +11,13 @@ mod indexes;
 mod interval;
 mod keys;
 pub mod laws;
+mod making;
 mod multi_index;
 mod pairs;
 mod plan;
 mod search;
 mod unique;
+mod within;
 
 pub use ahead::{Ahead, is_ahead};
 pub use coverage::covered;

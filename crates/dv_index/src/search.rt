@@ -8,7 +8,6 @@ ghost use Rattle.std.specs.List.Sorted.{IsStrictlySortedBy};
 ghost use Rattle.std.specs.Ordering.{is_eq};
 ghost use Rattle.dv_coll.specs.Collection.{id_key};
 ghost use Rattle.dv_bson.specs.View.{tree};
-ghost use Rattle.dv_match.specs.Filter.{among, equal, in_range};
 ghost use Rattle.dv_order.specs.Key.{KeyTree, key_order, value as key_of_tree};
 ghost use Rattle.dv_order.specs.Order.{canon};
 ghost use Rattle.dv_path.specs.LeafKeys.{is_key_of, is_some_key};
@@ -23,11 +22,11 @@ ghost use Rattle.dv_index.specs.View.{bounds_seen, plan_seen};
 use crate::bounds::ends_within;
 use crate::indexes::{Index, Indexes};
 use crate::interval::Interval;
-use crate::pairs::Pairs;
 use crate::plan::{Bounds, Plan};
+use crate::within::ids_within;
 use dv_bson::{Document, List, NoMemory, Value};
 use dv_coll::Collection;
-use dv_match::{Filter, Range};
+use dv_match::Filter;
 use dv_order::{Key, key_of, laws};
 use std::alloc::Global;
 
@@ -270,7 +269,7 @@ fn with_ids<'c>(
 }
 
 /// The keys of the values. Fails where memory is wanting.
-fn keys_of_each(alloc: Global, values: &[Value]) -> Result<Vec<Key>, NoMemory>
+pub(crate) fn keys_of_each(alloc: Global, values: &[Value]) -> Result<Vec<Key>, NoMemory>
     ensures { IfOk result (λ keys. keys.items ≡ map (λ v. key_of_tree (canon (tree v))) values.now) }
 {
     let mut keys = Vec::with_capacity(alloc, values.len())?;
@@ -280,7 +279,7 @@ fn keys_of_each(alloc: Global, values: &[Value]) -> Result<Vec<Key>, NoMemory>
     Ok(keys)
 }
 
-fn lent(alloc: Global, keys: &[Key]) -> Result<Vec<&Key>, NoMemory>
+pub(crate) fn lent(alloc: Global, keys: &[Key]) -> Result<Vec<&Key>, NoMemory>
     ensures { IfOk result (λ lent. map (λ k. k.now) lent.items ≡ keys.now) }
 {
     keys.iter().collect(alloc)
@@ -360,84 +359,11 @@ fn add_document<'c>(
 
 /// The keys in their order, and of equal ones one. Those of one index key stand in order already, so there are few runs to
 /// merge. Fails where memory is wanting.
-fn in_order(mut keys: Vec<&Key>) -> Result<Vec<&Key>, NoMemory>
+pub(crate) fn in_order(mut keys: Vec<&Key>) -> Result<Vec<&Key>, NoMemory>
     ensures ascending { IfOk result (λ ordered. IsStrictlySortedBy key_order (map (λ k. k.now) ordered.items)) }
     ensures same { IfOk result (λ ordered. (k : KeyTree) → has_key k (map (λ l. l.now) ordered.items) ≡ has_key k (map (λ l. l.now) keys.entry.items)) }
 {
     keys.sort()?;
     keys.dedup();
     Ok(keys)
-}
-
-/// The `_id`s' keys of the pairs whose keys are in the bounds, in no order.
-fn ids_within<'i>(
-    alloc: Global,
-    index: &'i Pairs,
-    bounds: Bounds<'_>,
-) -> Result<Vec<&'i Key>, NoMemory>
-    ensures { IfOk result (λ ids. (k i : KeyTree) → covers (bounds_seen bounds.entry) k ≡ true → has_pair k i index.now ≡ true → has_key i (map (λ l. l.now) ids.items) ≡ true) }
-{
-    let mut ids = Vec::new(alloc);
-    match bounds {
-        Bounds::Equal(value) => add_equal(index, value, &mut ids)?,
-        Bounds::Among(choices) => add_among(alloc, index, choices.values(), &mut ids)?,
-        Bounds::Within(range, value) => add_in_range(alloc, index, range, value, &mut ids)?,
-    }
-    Ok(ids)
-}
-
-/// Adds the `_id`s' keys of the pairs whose key is of the value's class and stands so to it.
-fn add_in_range<'i>(
-    alloc: Global,
-    index: &'i Pairs,
-    range: Range,
-    value: &Value,
-    ids: &mut Vec<&'i Key>,
-) -> Result<(), NoMemory>
-    ensures { OnOk result ((k i : KeyTree) → covers (in_range range (tree value.now)) k ≡ true → has_pair k i index.now ≡ true → has_key i (map (λ l. l.now) ids.new.items) ≡ true) }
-{
-    let ends = ends_within(alloc, range, value)?;
-    index.add_ids_between(ends.0, ends.1, ids)
-}
-
-/// Adds the `_id`s' keys of the pairs whose key is one of the values'; a value that stands there several times is looked up
-/// once.
-fn add_among<'i>(
-    alloc: Global,
-    index: &'i Pairs,
-    values: &List,
-    ids: &mut Vec<&'i Key>,
-) -> Result<(), NoMemory>
-    ensures { OnOk result ((k i : KeyTree) → covers (among values.now) k ≡ true → has_pair k i index.now ≡ true → has_key i (map (λ l. l.now) ids.new.items) ≡ true) }
-{
-    let keys = keys_of_each(alloc, values.as_slice())?;
-    let all = lent(alloc, &keys)?;
-    let ordered = in_order(all)?;
-    add_each(index, &ordered, ids)
-}
-
-/// Adds the `_id`s' keys of the pairs that have one of the keys.
-fn add_each<'i>(index: &'i Pairs, keys: &[&Key], ids: &mut Vec<&'i Key>) -> Result<(), NoMemory>
-    ensures { OnOk result ((k i : KeyTree) → has_key k (map (λ l. l.now) keys.now) ≡ true → has_pair k i index.now ≡ true → has_key i (map (λ l. l.now) ids.new.items) ≡ true) }
-{
-    'keys: for key in keys {
-        add_at(index, key, ids)?;
-    }
-    Ok(())
-}
-
-/// Adds the `_id`s' keys of the pairs whose key is the value's.
-fn add_equal<'i>(index: &'i Pairs, value: &Value, ids: &mut Vec<&'i Key>) -> Result<(), NoMemory>
-    ensures { OnOk result ((k i : KeyTree) → covers (equal (tree value.now)) k ≡ true → has_pair k i index.now ≡ true → has_key i (map (λ l. l.now) ids.new.items) ≡ true) }
-{
-    let key = key_of(value)?;
-    add_at(index, &key, ids)
-}
-
-/// Adds the `_id`s' keys of the pairs that have the key.
-fn add_at<'i>(index: &'i Pairs, key: &Key, ids: &mut Vec<&'i Key>) -> Result<(), NoMemory>
-    ensures found { OnOk result ((k i : KeyTree) → is_eq (key_order k key.now) ≡ true → has_pair k i index.now ≡ true → has_key i (map (λ l. l.now) ids.new.items) ≡ true) }
-    ensures kept { OnOk result ((i : KeyTree) → has_key i (map (λ l. l.now) ids.old.items) ≡ true → has_key i (map (λ l. l.now) ids.new.items) ≡ true) }
-{
-    index.add_ids_at(key, ids)
 }

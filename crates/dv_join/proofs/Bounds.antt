@@ -11,8 +11,8 @@ use Rattle.dv_gather.specs.Joining.{is_joined}
 use Rattle.dv_gather.specs.Lookups.{joined_row, looked_up}
 use Rattle.dv_change.specs.declared.change.Change.{Change}
 use Rattle.dv_change.specs.declared.change.Change.TheVariants.{Gone, Put}
-use Rattle.dv_change.specs.Changes.{IsExactChange, IsPositioned, Positioned, alone, at, forget, place_of, row_in, with_change}
-use Rattle.dv_change.specs.Difference.{diff, gones, puts, stands}
+use Rattle.dv_change.specs.Changes.{IsExactChange, IsPositioned, Positioned, alone, at, forget, position_changed, row_in, with_change}
+use Rattle.dv_change.specs.Difference.{diff, gones, puts, stands_as}
 use Rattle.dv_change.specs.DiffLaws.{at-filter, exact-place, positioned-alone, positioned-filter}
 use Rattle.dv_change.specs.Positions.{IsExact, PosTree, pos_order}
 use Rattle.dv_change.specs.RowLaws.{at-like, positioned-none, same_rows}
@@ -40,7 +40,7 @@ gones-length : (old new : Positioned) → length (gones old new) ≤ length old
 gones-length old new = omega (arith, length-map (filter (λ e. is_none (at e.0 new)) old) (λ (e : PosTree × List Field). Gone e.0), filter-length (λ e. is_none (at e.0 new)) old)
 
 puts-length : (old new : Positioned) → length (puts old new) ≤ length new
-puts-length old new = omega (arith, length-map (filter (λ e. not (stands (at e.0 old) e.1)) new) (λ (e : PosTree × List Field). Put e.0 e.1), filter-length (λ e. not (stands (at e.0 old) e.1)) new)
+puts-length old new = omega (arith, length-map (filter (λ e. not (stands_as (at e.0 old) e.1)) new) (λ (e : PosTree × List Field). Put e.0 e.1), filter-length (λ e. not (stands_as (at e.0 old) e.1)) new)
 
 diff-length : (old new : Positioned) → length (diff old new) ≤ length old + length new
 diff-length old new = omega (arith, length-append (gones old new) (puts old new), gones-length old new, puts-length old new)
@@ -77,11 +77,11 @@ module _ (l : Lookup) (rows foreign : Positioned) (change : Change) where
       by false = refl
 
   pub left-bound : IsPositioned rows → IsExactChange change → length (diff (looked_up_at l rows foreign) (looked_up_at l (with_change rows change) foreign)) ≤ 1
-  left-bound are exact = rw (left-owed l rows foreign change are exact) (at-one (place_of change) (at (place_of change) rows) (row_in change) (exact-place change exact))
+  left-bound are exact = rw (left-owed l rows foreign change are exact) (at-one (position_changed change) (at (position_changed change) rows) (row_in change) (exact-place change exact))
 
-  pub foreign-bound : IsPositioned rows → IsPositioned foreign → IsExactChange change → length (diff (looked_up_at l rows foreign) (looked_up_at l rows (with_change foreign change))) ≤ rows_touched l (at (place_of change) foreign) (row_in change) rows
+  pub foreign-bound : IsPositioned rows → IsPositioned foreign → IsExactChange change → length (diff (looked_up_at l rows foreign) (looked_up_at l rows (with_change foreign change))) ≤ rows_touched l (at (position_changed change) foreign) (row_in change) rows
   foreign-bound are foreign-are exact =
-      let old = at (place_of change) foreign in
+      let old = at (position_changed change) foreign in
       let new = row_in change in
       let some = filter (λ (e : PosTree × List Field). is_touched l old new e.1) rows in
       let after = with_change foreign change in

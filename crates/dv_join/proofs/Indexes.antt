@@ -15,11 +15,11 @@ use Rattle.dv_bson.specs.Tree.{Field}
 use Rattle.dv_order.specs.Key.{KeyTree, key_order}
 use Rattle.dv_order.specs.KeyLaws.{key_order_total}
 use Rattle.dv_change.specs.declared.change.Change.{Change}
-use Rattle.dv_change.specs.Changes.{IsExactChange, IsPositioned, Positioned, at, place_of, row_in, with_change}
+use Rattle.dv_change.specs.Changes.{IsExactChange, IsPositioned, Positioned, at, position_changed, row_in, with_change}
 use Rattle.dv_change.specs.Positions.{PosTree}
 use Rattle.dv_join.specs.declared.index.Index.{Index}
-use Rattle.dv_join.specs.Indexed.{IsIndexOf, has_any, moved, under}
-use Rattle.dv_join.specs.Listed.{with_all}
+use Rattle.dv_join.specs.Indexed.{IsJoinIndexOf, has_any, moved_in_index, under}
+use Rattle.dv_join.specs.Listed.{with_each_row}
 use Rattle.dv_join.specs.Turning.{if_any}
 use Rattle.dv_join.proofs.Rows.{passing-changed, with_all-passing}
 
@@ -78,21 +78,21 @@ set-some f false old own taken new like e put = put ∙ e
 -- ---- a change
 
 pub index-changed : (has : KeyTree → List Field → Bool) (rows : Positioned) (change : Change) (before after : Index) (pos : PosTree) (old new : Option (List Field)) (had now : KeyTree → Bool)
-    → IsPositioned rows → IsExactChange change → pos ≡ place_of change → old ≡ at (place_of change) rows → new ≡ row_in change
+    → IsPositioned rows → IsExactChange change → pos ≡ position_changed change → old ≡ at (position_changed change) rows → new ≡ row_in change
     → ((k : KeyTree) → had k ≡ if_any (has k) old) → ((k : KeyTree) → now k ≡ if_any (has k) new)
-    → ((k : KeyTree) → under k after ≡ moved pos (had k) new (now k) (under k before))
-    → IsIndexOf has rows before → IsIndexOf has (with_change rows change) after
+    → ((k : KeyTree) → under k after ≡ moved_in_index pos (had k) new (now k) (under k before))
+    → IsJoinIndexOf has rows before → IsJoinIndexOf has (with_change rows change) after
 index-changed has rows change before after pos old new had now are exact place went came had-is now-is exchanged is = λ k.
-    let had-it : had k ≡ if_any (has k) (at (place_of change) rows) = had-is k ∙ ap (if_any (has k)) went in
+    let had-it : had k ≡ if_any (has k) (at (position_changed change) rows) = had-is k ∙ ap (if_any (has k)) went in
     let has-it : now k ≡ if_any (has k) (row_in change) = now-is k ∙ ap (if_any (has k)) came in
-    exchanged k ∙ (λ i. moved (place i) (had-it i) (came i) (has-it i) (is k i)) ∙ sym (passing-changed (has k) rows change are exact)
+    exchanged k ∙ (λ i. moved_in_index (place i) (had-it i) (came i) (has-it i) (is k i)) ∙ sym (passing-changed (has k) rows change are exact)
 
 -- ---- the rows under some keys
 
 -- rows with all those under each of the keys
 abbrev pub all_under : (KeyTree → Positioned) → List KeyTree → Positioned → Positioned
 all_under f [] es = es
-all_under f (k ∷ ks) es = all_under f ks (with_all es (f k))
+all_under f (k ∷ ks) es = all_under f ks (with_each_row es (f k))
 
 or-false : (a : Bool) → a ≡ a || false
 or-false true = refl
@@ -106,7 +106,7 @@ pub all_under-passing : (has : KeyTree → List Field → Bool) (rows : Position
     → all_under f ks (filter (λ e. test e.1) rows) ≡ filter (λ e. test e.1 || has_any has ks e.1) rows
 all_under-passing has rows f are is [] test = filter_agree (λ e. test e.1) (λ e. test e.1 || false) (λ e. or-false (test e.1)) rows
 all_under-passing has rows f are is (k ∷ ks) test =
-    ap (λ es. all_under f ks (with_all (filter (λ e. test e.1) rows) es)) (is k)
+    ap (λ es. all_under f ks (with_each_row (filter (λ e. test e.1) rows) es)) (is k)
     ∙ ap (all_under f ks) (with_all-passing test (has k) rows are)
     ∙ all_under-passing has rows f are is ks (λ d. test d || has k d)
     ∙ filter_agree (λ e. (test e.1 || has k e.1) || has_any has ks e.1) (λ e. test e.1 || (has k e.1 || has_any has ks e.1)) (λ e. or-assoc (test e.1) (has k e.1) (has_any has ks e.1)) rows

@@ -15,7 +15,7 @@ use Rattle.dv_change.specs.declared.change.Change.{Change}
 use Rattle.dv_change.specs.declared.input.Input.{Input}
 use Rattle.dv_change.specs.declared.input.Input.TheVariants.{Named}
 use Rattle.dv_change.specs.Inputs.{HasInput, others_after}
-use Rattle.dv_change.specs.Changes.{IsExactChange, IsPositioned, Positioned, alone, at, forget, place_of, row_in, with_change}
+use Rattle.dv_change.specs.Changes.{IsExactChange, IsPositioned, Positioned, alone, at, forget, position_changed, row_in, with_change}
 use Rattle.dv_change.specs.Difference.{diff}
 use Rattle.dv_change.specs.DiffLaws.{IsPartAt, at-alone, at-changed, diff-parts, exact-place, positioned-alone, positioned-changed, positioned-filter}
 use Rattle.dv_change.specs.Positions.{PosTree, pos_order}
@@ -46,26 +46,26 @@ module _ (l : Lookup) (rows foreign : Positioned) (change : Change) (are : IsPos
   abbrev joined : List Field → List Field
   joined = joined_row l (forget foreign)
 
-  left-part : (q : PosTree) (b : Bool) → is_eq (pos_order q (place_of change)) ≡ b → IsPartAt (made rows) (made (with_change rows change)) (made (alone (place_of change) (at (place_of change) rows))) (made (alone (place_of change) (row_in change))) q
+  left-part : (q : PosTree) (b : Bool) → is_eq (pos_order q (position_changed change)) ≡ b → IsPartAt (made rows) (made (with_change rows change)) (made (alone (position_changed change) (at (position_changed change) rows))) (made (alone (position_changed change) (row_in change))) q
   left-part q b e =
-      let p = place_of change in
+      let p = position_changed change in
       let old : at q (made (alone p (at p rows))) ≡ option_map joined (cond b (at p rows) None) = at-looked_up l foreign q (alone p (at p rows)) ∙ ap (option_map joined) (at-alone q p (at p rows) ∙ ap (λ b. cond b (at p rows) None) e) in
       let new : at q (made (alone p (row_in change))) ≡ option_map joined (cond b (row_in change) None) = at-looked_up l foreign q (alone p (row_in change)) ∙ ap (option_map joined) (at-alone q p (row_in change) ∙ ap (λ b. cond b (row_in change) None) e) in
       let after : at q (made (with_change rows change)) ≡ option_map joined (cond b (row_in change) (at q rows)) = at-looked_up l foreign q (with_change rows change) ∙ ap (option_map joined) (at-changed q rows change are ∙ ap (λ b. cond b (row_in change) (at q rows)) e) in
       by b e old new after
     where
-      by : (b : Bool) → is_eq (pos_order q (place_of change)) ≡ b
-          → at q (made (alone (place_of change) (at (place_of change) rows))) ≡ option_map joined (cond b (at (place_of change) rows) None)
-          → at q (made (alone (place_of change) (row_in change))) ≡ option_map joined (cond b (row_in change) None)
+      by : (b : Bool) → is_eq (pos_order q (position_changed change)) ≡ b
+          → at q (made (alone (position_changed change) (at (position_changed change) rows))) ≡ option_map joined (cond b (at (position_changed change) rows) None)
+          → at q (made (alone (position_changed change) (row_in change))) ≡ option_map joined (cond b (row_in change) None)
           → at q (made (with_change rows change)) ≡ option_map joined (cond b (row_in change) (at q rows))
-          → IsPartAt (made rows) (made (with_change rows change)) (made (alone (place_of change) (at (place_of change) rows))) (made (alone (place_of change) (row_in change))) q
+          → IsPartAt (made rows) (made (with_change rows change)) (made (alone (position_changed change) (at (position_changed change) rows))) (made (alone (position_changed change) (row_in change))) q
       by true here old new after =
-          inl (old ∙ ap (option_map joined) (sym (at-like q (place_of change) ((Equal-is (pos_order q (place_of change))).0 here) rows)) ∙ sym (at-looked_up l foreign q rows), new ∙ sym after)
+          inl (old ∙ ap (option_map joined) (sym (at-like q (position_changed change) ((Equal-is (pos_order q (position_changed change))).0 here) rows)) ∙ sym (at-looked_up l foreign q rows), new ∙ sym after)
       by false other old new after = inr (old, new, at-looked_up l foreign q rows ∙ sym after)
 
-  pub left-owed : diff (made rows) (made (with_change rows change)) ≡ diff (made (alone (place_of change) (at (place_of change) rows))) (made (alone (place_of change) (row_in change)))
+  pub left-owed : diff (made rows) (made (with_change rows change)) ≡ diff (made (alone (position_changed change) (at (position_changed change) rows))) (made (alone (position_changed change) (row_in change)))
   left-owed =
-      let p = place_of change in
+      let p = position_changed change in
       let place = exact-place change exact in
       diff-parts (made rows) (made (with_change rows change)) (made (alone p (at p rows))) (made (alone p (row_in change)))
       (looked_up_ordered l foreign rows are) (looked_up_ordered l foreign (with_change rows change) (positioned-changed rows change are exact)) (looked_up_ordered l foreign (alone p (at p rows)) (positioned-alone p (at p rows) place)) (looked_up_ordered l foreign (alone p (row_in change)) (positioned-alone p (row_in change) place))
@@ -88,7 +88,7 @@ touched-by l old new old_keys new_keys old-own new-own = λ d other.
     let both = neither (has_any (has_local l) old_keys d) (has_any (has_local l) new_keys d) other in
     (not-joined l d old old_keys old-own both.0, not-joined l d new new_keys new-own both.1)
 
-module _ (l : Lookup) (rows foreign : Positioned) (change : Change) (test : List Field → Bool) (are : IsPositioned rows) (foreign-are : IsPositioned foreign) (exact : IsExactChange change) (touched : AreTouched l test (at (place_of change) foreign) (row_in change)) where
+module _ (l : Lookup) (rows foreign : Positioned) (change : Change) (test : List Field → Bool) (are : IsPositioned rows) (foreign-are : IsPositioned foreign) (exact : IsExactChange change) (touched : AreTouched l test (at (position_changed change) foreign) (row_in change)) where
   abbrev before : Positioned → Positioned
   before some = looked_up_at l some foreign
 

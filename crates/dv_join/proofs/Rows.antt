@@ -8,13 +8,13 @@ use Rattle.std.specs.Map.{keys_of}
 use Rattle.std.specs.Ordering.{is_eq}
 use Rattle.dv_bson.specs.Tree.{Field}
 use Rattle.dv_change.specs.declared.change.Change.{Change}
-use Rattle.dv_change.specs.Changes.{IsExactChange, IsPositioned, Positioned, at, forget, place_of, row_in, with_change}
+use Rattle.dv_change.specs.Changes.{IsExactChange, IsPositioned, Positioned, at, forget, position_changed, row_in, with_change}
 use Rattle.dv_change.specs.DiffLaws.{at-changed, at-filter, exact-place, or_else, positioned-changed, positioned-filter}
 use Rattle.dv_change.specs.Ordered.{gone, put}
 use Rattle.dv_change.specs.Positions.{IsExact, PosTree, pos_order}
 use Rattle.dv_change.specs.RowLaws.{at-gone, at-like, at-put, at_back, past, positioned-gone, positioned-none, positioned-put, positioned-tail, same_rows}
-use Rattle.dv_join.specs.Indexed.{moved, row_set}
-use Rattle.dv_join.specs.Listed.{with_all}
+use Rattle.dv_join.specs.Indexed.{moved_in_index, row_set}
+use Rattle.dv_join.specs.Listed.{with_each_row}
 use Rattle.dv_join.specs.Turning.{if_any}
 
 -- ---- filters
@@ -62,21 +62,21 @@ none-of [] e = refl
 none-of (x ∷ es) e = absurd cc
 
 -- the first one put, and then the others
-pub begun : (es others rest first : Positioned) (e : PosTree × List Field) → slice_get others 0 ≡ Some e → rest ≡ drop 1 others → first ≡ put e.0 e.1 es → with_all first rest ≡ with_all es others
-begun es others rest first e is behind put-first = (λ i. with_all (put-first i) (behind i)) ∙ ap (with_all es) (sym (first-of others e is))
+pub begun : (es others rest first : Positioned) (e : PosTree × List Field) → slice_get others 0 ≡ Some e → rest ≡ drop 1 others → first ≡ put e.0 e.1 es → with_each_row first rest ≡ with_each_row es others
+begun es others rest first e is behind put-first = (λ i. with_each_row (put-first i) (behind i)) ∙ ap (with_each_row es) (sym (first-of others e is))
 
 put-twice : {A : Type 0} (b : Bool) (v : A) (s r : Option A) → (b ≡ true → s ≡ None) → or_else s (cond b (Some v) r) ≡ or_else (cond b (Some v) s) r
 put-twice true v s r none = ap (λ t. or_else t (Some v)) (none refl)
 put-twice false v s r none = refl
 
-pub at-with_all : (q : PosTree) (es others : Positioned) → IsPositioned others → at q (with_all es others) ≡ or_else (at q others) (at q es)
+pub at-with_all : (q : PosTree) (es others : Positioned) → IsPositioned others → at q (with_each_row es others) ≡ or_else (at q others) (at q es)
 at-with_all q es [] are = refl
 at-with_all q es (e ∷ others) are =
     at-with_all q (put e.0 e.1 es) others (positioned-tail e others are)
     ∙ ap (or_else (at q others)) (at-put q e.0 e.1 es)
     ∙ put-twice (is_eq (pos_order q e.0)) e.1 (at q others) (at q es) (past q e others are)
 
-pub positioned-with_all : (es others : Positioned) → IsPositioned es → AllByRecursion IsExact (keys_of others) → IsPositioned (with_all es others)
+pub positioned-with_all : (es others : Positioned) → IsPositioned es → AllByRecursion IsExact (keys_of others) → IsPositioned (with_each_row es others)
 positioned-with_all es [] are exact = are
 positioned-with_all es (e ∷ others) are exact = positioned-with_all (put e.0 e.1 es) others (positioned-put e.0 e.1 es are exact.0) exact.1
 
@@ -85,17 +85,17 @@ or-nothing None = refl
 or-nothing (Some v) = refl
 
 -- rows put one after the other among none are these rows
-pub with_all-none : (es : Positioned) → IsPositioned es → with_all [] es ≡ es
-with_all-none es are = same_rows (with_all [] es) es (positioned-with_all [] es positioned-none are.exact) are (λ q exact. at-with_all q [] es are ∙ or-nothing (at q es))
+pub with_all-none : (es : Positioned) → IsPositioned es → with_each_row [] es ≡ es
+with_all-none es are = same_rows (with_each_row [] es) es (positioned-with_all [] es positioned-none are.exact) are (λ q exact. at-with_all q [] es are ∙ or-nothing (at q es))
 
 -- rows that pass one test put among those that pass another
-pub with_all-passing : (f g : List Field → Bool) (rows : Positioned) → IsPositioned rows → with_all (filter (λ e. f e.1) rows) (filter (λ e. g e.1) rows) ≡ filter (λ e. f e.1 || g e.1) rows
+pub with_all-passing : (f g : List Field → Bool) (rows : Positioned) → IsPositioned rows → with_each_row (filter (λ e. f e.1) rows) (filter (λ e. g e.1) rows) ≡ filter (λ e. f e.1 || g e.1) rows
 with_all-passing f g rows are =
     let some = filter (λ (e : PosTree × List Field). f e.1) rows in
     let others = filter (λ (e : PosTree × List Field). g e.1) rows in
     let some-are : IsPositioned some = positioned-filter (λ e. f e.1) rows are in
     let others-are : IsPositioned others = positioned-filter (λ e. g e.1) rows are in
-    same_rows (with_all some others) (filter (λ e. f e.1 || g e.1) rows) (positioned-with_all some others some-are others-are.exact) (positioned-filter (λ e. f e.1 || g e.1) rows are) (λ q exact.
+    same_rows (with_each_row some others) (filter (λ e. f e.1 || g e.1) rows) (positioned-with_all some others some-are others-are.exact) (positioned-filter (λ e. f e.1 || g e.1) rows are) (λ q exact.
     at-with_all q some others others-are
     ∙ (λ i. or_else (at-passing g q rows are i) (at-passing f q rows are i))
     ∙ both (at q rows)
@@ -121,7 +121,7 @@ positioned-set : (p : PosTree) (row : Option (List Field)) (es : Positioned) →
 positioned-set p None es exact are = positioned-gone p es are
 positioned-set p (Some d) es exact are = positioned-put p d es are exact
 
-positioned-moved : (p : PosTree) (had : Bool) (row : Option (List Field)) (has : Bool) (es : Positioned) → IsExact p → IsPositioned es → IsPositioned (moved p had row has es)
+positioned-moved : (p : PosTree) (had : Bool) (row : Option (List Field)) (has : Bool) (es : Positioned) → IsExact p → IsPositioned es → IsPositioned (moved_in_index p had row has es)
 positioned-moved p had row true es exact are = positioned-set p row (cond had (gone p es) es) exact (positioned-went p had es are)
 positioned-moved p had row false es exact are = positioned-went p had es are
 
@@ -134,7 +134,7 @@ at-set q p None es are = at-gone q p es are.ascending ∙ ap (λ b. cond b None 
 at-set q p (Some d) es are = at-put q p d es
 
 at-moved : (q p : PosTree) (had : Bool) (row : Option (List Field)) (has : Bool) (es : Positioned) → IsPositioned es
-    → at q (moved p had row has es) ≡ cond has (cond (is_eq (pos_order q p)) row (cond had (cond (is_eq (pos_order q p)) None (at q es)) (at q es))) (cond had (cond (is_eq (pos_order q p)) None (at q es)) (at q es))
+    → at q (moved_in_index p had row has es) ≡ cond has (cond (is_eq (pos_order q p)) row (cond had (cond (is_eq (pos_order q p)) None (at q es)) (at q es))) (cond had (cond (is_eq (pos_order q p)) None (at q es)) (at q es))
 at-moved q p had row true es are = at-set q p row (cond had (gone p es) es) (positioned-went p had es are) ∙ ap (cond (is_eq (pos_order q p)) row) (at-went q p had es are)
 at-moved q p had row false es are = at-went q p had es are
 
@@ -165,22 +165,22 @@ module _ (test : List Field → Bool) where
 
   -- the rows that pass, after a change
   pub passing-changed : (rows : Positioned) (change : Change) → IsPositioned rows → IsExactChange change
-      → filter (λ e. test e.1) (with_change rows change) ≡ moved (place_of change) (if_any test (at (place_of change) rows)) (row_in change) (if_any test (row_in change)) (filter (λ e. test e.1) rows)
+      → filter (λ e. test e.1) (with_change rows change) ≡ moved_in_index (position_changed change) (if_any test (at (position_changed change) rows)) (row_in change) (if_any test (row_in change)) (filter (λ e. test e.1) rows)
   passing-changed rows change are exact =
-      let p = place_of change in
+      let p = position_changed change in
       let old = at p rows in
       let row = row_in change in
       let some = filter (λ (e : PosTree × List Field). test e.1) rows in
       let some-are : IsPositioned some = positioned-filter (λ e. test e.1) rows are in
       let after = positioned-changed rows change are exact in
-      same_rows (filter (λ e. test e.1) (with_change rows change)) (moved p (if_any test old) row (if_any test row) some) (positioned-filter (λ e. test e.1) (with_change rows change) after) (positioned-moved p (if_any test old) row (if_any test row) some (exact-place change exact) some-are) (λ q x.
+      same_rows (filter (λ e. test e.1) (with_change rows change)) (moved_in_index p (if_any test old) row (if_any test row) some) (positioned-filter (λ e. test e.1) (with_change rows change) after) (positioned-moved p (if_any test old) row (if_any test row) some (exact-place change exact) some-are) (λ q x.
       at-passing test q (with_change rows change) after
       ∙ ap (option_filter test) (at-changed q rows change are)
       ∙ exchanged (is_eq (pos_order q p)) row old (at q rows) (λ beside. at-like q p ((Equal-is (pos_order q p)).0 beside) rows)
       ∙ sym (at-moved q p (if_any test old) row (if_any test row) some some-are ∙ ap (λ a. cond (if_any test row) (cond (is_eq (pos_order q p)) row (cond (if_any test old) (cond (is_eq (pos_order q p)) None a) a)) (cond (if_any test old) (cond (is_eq (pos_order q p)) None a) a)) (at-passing test q rows are)))
 
   -- where neither what went nor what came passes, the same rows pass
-  pub passing-same : (rows : Positioned) (change : Change) → IsPositioned rows → IsExactChange change → if_any test (at (place_of change) rows) ≡ false → if_any test (row_in change) ≡ false
+  pub passing-same : (rows : Positioned) (change : Change) → IsPositioned rows → IsExactChange change → if_any test (at (position_changed change) rows) ≡ false → if_any test (row_in change) ≡ false
       → filter (λ e. test e.1) (with_change rows change) ≡ filter (λ e. test e.1) rows
   passing-same rows change are exact went came =
-      passing-changed rows change are exact ∙ (λ i. moved (place_of change) (went i) (row_in change) (came i) (filter (λ e. test e.1) rows))
+      passing-changed rows change are exact ∙ (λ i. moved_in_index (position_changed change) (went i) (row_in change) (came i) (filter (λ e. test e.1) rows))

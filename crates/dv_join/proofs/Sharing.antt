@@ -11,7 +11,7 @@ use Rattle.dv_order.specs.KeyLaws.{key_order_total}
 use Rattle.dv_order.specs.SameOrder.{order_of_canon}
 use Rattle.dv_path.specs.LeafKeys.{is_key_of, is_some_key, leaf_values}
 use Rattle.dv_gather.specs.declared.lookup.Lookup.{Lookup}
-use Rattle.dv_gather.specs.Joining.{as_value, is_among, is_joined, joined_by}
+use Rattle.dv_gather.specs.Joining.{as_value, is_equal_to_one, is_joined, joined_by}
 use Rattle.dv_gather.specs.Lookups.{joined_row, set_field}
 use Rattle.dv_change.specs.Changes.{Positioned, forget}
 use Rattle.dv_join.specs.Indexed.{has_any}
@@ -57,9 +57,9 @@ record Shared (vs ws : List Tree) : Type 0 where
   here : is_some_key key vs ≡ true
   there : is_some_key key ws ≡ true
 
-shared : (vs ws : List Tree) → list_any (is_among ws) vs ≡ true → Shared vs ws
+shared : (vs ws : List Tree) → list_any (is_equal_to_one ws) vs ≡ true → Shared vs ws
 shared vs ws e =
-    let v : Passing (is_among ws) vs = passing (is_among ws) vs e in
+    let v : Passing (is_equal_to_one ws) vs = passing (is_equal_to_one ws) vs e in
     let k = value (canon v.one) in
     record {
       key = k;

@@ -15,8 +15,8 @@ abbrev pub under : KeyTree → Index → Positioned
 under k index = unwrap_or (get key_order index.under k) []
 
 -- under each key are those of the rows that have it
-abbrev pub IsIndexOf : (KeyTree → List Field → Bool) → Positioned → Index → Type 0
-IsIndexOf has rows index = (k : KeyTree) → under k index ≡ filter (λ e. has k e.1) rows
+abbrev pub IsJoinIndexOf : (KeyTree → List Field → Bool) → Positioned → Index → Type 0
+IsJoinIndexOf has rows index = (k : KeyTree) → under k index ≡ filter (λ e. has k e.1) rows
 
 -- whether a row has any of these keys
 abbrev pub has_any : (KeyTree → List Field → Bool) → List KeyTree → List Field → Bool
@@ -28,5 +28,5 @@ row_set pos None rows = gone pos rows
 row_set pos (Some row) rows = put pos row rows
 
 -- the rows under a key, where one went from its position if that had the key, and another one came if that has it
-abbrev pub moved : PosTree → Bool → Option (List Field) → Bool → Positioned → Positioned
-moved pos had row has rows = cond has (row_set pos row (cond had (gone pos rows) rows)) (cond had (gone pos rows) rows)
+abbrev pub moved_in_index : PosTree → Bool → Option (List Field) → Bool → Positioned → Positioned
+moved_in_index pos had row has rows = cond has (row_set pos row (cond had (gone pos rows) rows)) (cond had (gone pos rows) rows)

@@ -4,5 +4,5 @@ use Rattle.dv_change.specs.Changes.{Positioned}
 use Rattle.dv_change.specs.Ordered.{put}
 
 -- rows with others, of which each comes in the place of one that stands at its position
-abbrev pub with_all : Positioned → Positioned → Positioned
-with_all rows others = fold (λ es e. put e.0 e.1 es) rows others
+abbrev pub with_each_row : Positioned → Positioned → Positioned
+with_each_row rows others = fold (λ es e. put e.0 e.1 es) rows others

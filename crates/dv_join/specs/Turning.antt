@@ -7,7 +7,7 @@ use Rattle.dv_gather.specs.declared.lookup.Lookup.{Lookup}
 use Rattle.dv_gather.specs.Joining.{joined_by}
 use Rattle.dv_change.specs.Changes.{IsPositioned, Positioned}
 use Rattle.dv_join.specs.declared.lookup.LookupTurn.{LookupTurn}
-use Rattle.dv_join.specs.Indexed.{IsIndexOf}
+use Rattle.dv_join.specs.Indexed.{IsJoinIndexOf}
 use Rattle.dv_join.specs.Placed.{looked_up_at}
 
 -- whether k is the key of a value by which a row is looked up
@@ -31,17 +31,17 @@ lookup_left t = t.left.entries
 abbrev pub lookup_others : LookupTurn → List Positioned
 lookup_others t = t.foreign.entries ∷ []
 
-abbrev pub first_of : List Positioned → Positioned
-first_of [] = []
-first_of (rows ∷ others) = rows
+abbrev pub first_input : List Positioned → Positioned
+first_input [] = []
+first_input (rows ∷ others) = rows
 
 -- each row with the documents of the first list that it is joined with
 abbrev pub lookup_makes : LookupTurn → List Positioned → Positioned → Positioned
-lookup_makes t named rows = looked_up_at t.lookup rows (first_of named)
+lookup_makes t named rows = looked_up_at t.lookup rows (first_input named)
 
 -- the rows of both sides stand at exact positions, in their order, and are indexed by their keys
 pub record IsSoundJoin (t : LookupTurn) : Type 0 where
   pub left : IsPositioned t.left.entries
   pub foreign : IsPositioned t.foreign.entries
-  pub left_by : IsIndexOf (has_local t.lookup) t.left.entries t.left_by
-  pub foreign_by : IsIndexOf (has_foreign t.lookup) t.foreign.entries t.foreign_by
+  pub left_by : IsJoinIndexOf (has_local t.lookup) t.left.entries t.left_by
+  pub foreign_by : IsJoinIndexOf (has_foreign t.lookup) t.foreign.entries t.foreign_by

@@ -5,7 +5,7 @@ ghost use Rattle.std.specs.BTreeSet.{contains};
 ghost use Rattle.std.specs.Ordering.{is_eq};
 ghost use Rattle.dv_bson.specs.Tree.{Field};
 ghost use Rattle.dv_change.specs.Changes.{IsPositioned, Positioned};
-ghost use Rattle.dv_join.specs.Indexed.{IsIndexOf, has_any, moved, row_set, under};
+ghost use Rattle.dv_join.specs.Indexed.{IsJoinIndexOf, has_any, moved_in_index, row_set, under};
 ghost use Rattle.dv_order.specs.Key.{KeyTree, key_order};
 
 use crate::joining::with_all;
@@ -42,7 +42,7 @@ impl Index {
         row: &Option<Document>,
         new_keys: BTreeSet<Key>,
     ) -> Result<(), NoMemory>
-        ensures { OnOk result ((k : KeyTree) → under k self.new ≡ moved pos.now (contains key_order old_keys k) row.now (contains key_order new_keys k) (under k self.old)) }
+        ensures { OnOk result ((k : KeyTree) → under k self.new ≡ moved_in_index pos.now (contains key_order old_keys k) row.now (contains key_order new_keys k) (under k self.old)) }
     {
         self.set(old_keys, pos, &None)?;
         self.set(new_keys, pos, row)
@@ -92,7 +92,7 @@ impl Index {
         mut found: Ordered<Document>,
         keys: &BTreeSet<Key>,
     ) -> Result<Ordered<Document>, NoMemory>
-        ensures { IfOk result (λ all. (has : KeyTree → List Field → Bool) (rows : Positioned) (test : List Field → Bool) → IsPositioned rows → IsIndexOf has rows self.now → found ≡ filter (λ e. test e.1) rows → all ≡ filter (λ e. test e.1 || has_any has keys.now.keys e.1) rows) }
+        ensures { IfOk result (λ all. (has : KeyTree → List Field → Bool) (rows : Positioned) (test : List Field → Bool) → IsPositioned rows → IsJoinIndexOf has rows self.now → found ≡ filter (λ e. test e.1) rows → all ≡ filter (λ e. test e.1 || has_any has keys.now.keys e.1) rows) }
     {
         'keys: for key in keys.iter() {
             if let Some(rows) = self.under.get(key) {

@@ -5,7 +5,7 @@ ghost use Rattle.dv_change.specs.Changes.{IsPositioned, Positioned, alone, forge
 ghost use Rattle.dv_change.specs.Ordered.{put};
 ghost use Rattle.dv_gather.specs.KeySets.{referred};
 ghost use Rattle.dv_gather.specs.Lookups as defined;
-ghost use Rattle.dv_join.specs.Indexed.{IsIndexOf};
+ghost use Rattle.dv_join.specs.Indexed.{IsJoinIndexOf};
 ghost use Rattle.dv_join.specs.Listed as listed;
 ghost use Rattle.dv_join.specs.Placed.{looked_up_at};
 ghost use Rattle.dv_join.specs.Turning.{has_foreign};
@@ -23,7 +23,7 @@ pub(crate) fn joined_rows(
     foreign: &Index,
     rows: &Ordered<Document>,
 ) -> Result<Ordered<Document>, NoMemory>
-    ensures { IfOk result (λ joined. (documents : Positioned) → IsPositioned documents → IsIndexOf (has_foreign lookup.now) documents foreign.now → IsPositioned rows.now → joined ≡ looked_up_at lookup.now rows.now documents) }
+    ensures { IfOk result (λ joined. (documents : Positioned) → IsPositioned documents → IsJoinIndexOf (has_foreign lookup.now) documents foreign.now → IsPositioned rows.now → joined ≡ looked_up_at lookup.now rows.now documents) }
 {
     let mut joined = Ordered::new(alloc);
     let Some((pos, row)) = rows.first() else {
@@ -45,7 +45,7 @@ fn with_joined(
     pos: &Pos,
     row: &Document,
 ) -> Result<Ordered<Document>, NoMemory>
-    ensures { IfOk result (λ more. (documents : Positioned) → IsPositioned documents → IsIndexOf (has_foreign lookup.now) documents foreign.now → more ≡ put pos.now (defined.joined_row lookup.now (forget documents) row.now) joined) }
+    ensures { IfOk result (λ more. (documents : Positioned) → IsPositioned documents → IsJoinIndexOf (has_foreign lookup.now) documents foreign.now → more ≡ put pos.now (defined.joined_row lookup.now (forget documents) row.now) joined) }
 {
     let made = joined_row(alloc, lookup, foreign, row)?;
     joined.with(pos.try_clone()?, made)
@@ -58,7 +58,7 @@ fn joined_row(
     foreign: &Index,
     row: &Document,
 ) -> Result<Document, NoMemory>
-    ensures { IfOk result (λ joined. (documents : Positioned) → IsPositioned documents → IsIndexOf (has_foreign lookup.now) documents foreign.now → joined ≡ defined.joined_row lookup.now (forget documents) row.now) }
+    ensures { IfOk result (λ joined. (documents : Positioned) → IsPositioned documents → IsJoinIndexOf (has_foreign lookup.now) documents foreign.now → joined ≡ defined.joined_row lookup.now (forget documents) row.now) }
 {
     let keys = lookup.local_keys(alloc, row)?;
     let found = foreign.with_rows_under(Ordered::new(alloc), &keys)?;
@@ -90,7 +90,7 @@ pub(crate) fn with_all(
     rows: Ordered<Document>,
     others: &Ordered<Document>,
 ) -> Result<Ordered<Document>, NoMemory>
-    ensures { IfOk result (λ all. all ≡ listed.with_all rows others.now) }
+    ensures { IfOk result (λ all. all ≡ listed.with_each_row rows others.now) }
 {
     let Some((pos, row)) = others.first() else {
         return Ok(rows);

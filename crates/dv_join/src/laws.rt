@@ -3,7 +3,7 @@
 
 ghost use Rattle.std.specs.Prelude.{◌≡◌, ◌≤◌, length};
 ghost use Rattle.dv_change.specs.declared.change.Change.{Change};
-ghost use Rattle.dv_change.specs.Changes.{IsExactChange, IsPositioned, Positioned, at, forget, place_of, row_in, with_change};
+ghost use Rattle.dv_change.specs.Changes.{IsExactChange, IsPositioned, Positioned, at, forget, position_changed, row_in, with_change};
 ghost use Rattle.dv_change.specs.Difference.{diff};
 ghost use Rattle.dv_gather.specs.declared.lookup.Lookup.{Lookup};
 ghost use Rattle.dv_gather.specs.Lookups.{looked_up};
@@ -25,5 +25,5 @@ pub fn a_change_of_a_row_hands_on_one_change()
 /// A change of a document changes at most as many as there are rows that share a value with the one that stood there or with the
 /// one that stands there now.
 pub fn a_change_of_a_document_hands_on_the_rows_that_share_a_value()
-    ensures { (lookup : Lookup) (rows foreign : Positioned) (change : Change) → IsPositioned rows → IsPositioned foreign → IsExactChange change → length (diff (looked_up_at lookup rows foreign) (looked_up_at lookup rows (with_change foreign change))) ≤ rows_touched lookup (at (place_of change) foreign) (row_in change) rows }
+    ensures { (lookup : Lookup) (rows foreign : Positioned) (change : Change) → IsPositioned rows → IsPositioned foreign → IsExactChange change → length (diff (looked_up_at lookup rows foreign) (looked_up_at lookup rows (with_change foreign change))) ≤ rows_touched lookup (at (position_changed change) foreign) (row_in change) rows }
 {}

@@ -4,9 +4,9 @@ ghost use Rattle.std.specs.Prelude.{◌≡◌, ◌∷◌, [], refl, IfOk, OnOk};
 ghost use Rattle.std.specs.BTreeSet.{contains};
 ghost use Rattle.dv_change.specs.Changes.{IsPositioned, Positioned, alone, with_change};
 ghost use Rattle.dv_change.specs.Difference.{diff};
-ghost use Rattle.dv_join.specs.Indexed.{IsIndexOf};
+ghost use Rattle.dv_join.specs.Indexed.{IsJoinIndexOf};
 ghost use Rattle.dv_join.specs.Placed.{looked_up_at, looked_up_even, looked_up_ordered};
-ghost use Rattle.dv_join.specs.Turning.{IsSoundJoin, first_of, has_foreign, has_local, if_any, lookup_left, lookup_makes, lookup_others};
+ghost use Rattle.dv_join.specs.Turning.{IsSoundJoin, first_input, has_foreign, has_local, if_any, lookup_left, lookup_makes, lookup_others};
 ghost use Rattle.dv_order.specs.Key.{KeyTree, key_order};
 
 use crate::index::Index;
@@ -99,14 +99,14 @@ impl LookupTurn {
 
     /// Each of the rows with the documents that it is joined with.
     fn joined(&self, rows: &Ordered<Document>) -> Result<Ordered<Document>, NoMemory>
-        ensures { IfOk result (λ joined. (documents : Positioned) → IsPositioned documents → IsIndexOf (has_foreign self.now.lookup) documents self.now.foreign_by → IsPositioned rows.now → joined ≡ looked_up_at self.now.lookup rows.now documents) }
+        ensures { IfOk result (λ joined. (documents : Positioned) → IsPositioned documents → IsJoinIndexOf (has_foreign self.now.lookup) documents self.now.foreign_by → IsPositioned rows.now → joined ≡ looked_up_at self.now.lookup rows.now documents) }
     {
         joined_rows(self.alloc, &self.lookup, &self.foreign_by, rows)
     }
 
     /// The row at the position with the documents that it is joined with, where there is one.
     fn joined_alone(&self, pos: &Pos, row: &Option<Document>) -> Result<Ordered<Document>, NoMemory>
-        ensures { IfOk result (λ joined. (documents : Positioned) → IsPositioned documents → IsIndexOf (has_foreign self.now.lookup) documents self.now.foreign_by → joined ≡ looked_up_at self.now.lookup (alone pos.now row.now) documents) }
+        ensures { IfOk result (λ joined. (documents : Positioned) → IsPositioned documents → IsJoinIndexOf (has_foreign self.now.lookup) documents self.now.foreign_by → joined ≡ looked_up_at self.now.lookup (alone pos.now row.now) documents) }
     {
         pos.is_exact();
         let rows = alone_at(self.alloc, pos, row)?;
@@ -145,9 +145,9 @@ impl Turn for LookupTurn {
 
     ghost positioned = { λ t sound. (sound.left, (sound.foreign, tt)) };
 
-    ghost ordered = { λ t named rows are. looked_up_ordered t.lookup (first_of named) rows are };
+    ghost ordered = { λ t named rows are. looked_up_ordered t.lookup (first_input named) rows are };
 
-    ghost even = { λ t named rows are one. looked_up_even t.lookup (first_of named) rows one };
+    ghost even = { λ t named rows are one. looked_up_even t.lookup (first_input named) rows one };
 
     ghost empty = { λ t named. refl };
 

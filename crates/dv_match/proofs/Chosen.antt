@@ -13,14 +13,14 @@ use Rattle.dv_bson.specs.View.{tree}
 use Rattle.dv_bson.specs.declared.value.Value.{Value}
 use Rattle.dv_order.specs.Order.{order}
 use Rattle.dv_order.specs.TotalOrder.{order_total}
-use Rattle.dv_match.specs.Choices.{stands_before, AreInOrder}
+use Rattle.dv_match.specs.Choices.{value_stands_before, AreChoicesInOrder}
 use Rattle.dv_match.proofs.Items.{any-map, or-true}
 
-pub ranked : IsStrictWeakOrder stands_before
+pub ranked : IsStrictWeakOrder value_stands_before
 ranked = ranks_by order_total tree
 
 -- the copy of a list, sorted
-pub in-order : (vs : List Tree) (copied values : List Value) → map tree copied ≡ vs → IsPermutation copied values → IsSortedBy stands_before values → AreInOrder vs values
+pub in-order : (vs : List Tree) (copied values : List Value) → map tree copied ≡ vs → IsPermutation copied values → IsSortedBy value_stands_before values → AreChoicesInOrder vs values
 in-order vs copied values seen p s = record {
   ascending = s;
   same = λ test. any-map test tree values ∙ sym (list_any-IsPermutation (λ v. test (tree v)) copied values p) ∙ sym (any-map test tree copied) ∙ ap (list_any test) seen;
@@ -39,7 +39,7 @@ one-of-them test (x ∷ xs) (suc k) l h = ap (λ b. test x || b) (one-of-them te
 turned : (v w : Tree) (o : Ordering) → order w v ≡ o → is_eq (order v w) ≡ is_eq (ordering_reverse o)
 turned v w o e = ap is_eq (order_total.antisymm v w ∙ ap ordering_reverse e)
 
-pub looked-up : (vs : List Tree) (values : List Value) (v : Tree) (r : Result ℕ ℕ) → AreInOrder vs values → IsSearchInRange r (length values) → IsBinarySearchResult (λ member. order (tree member) v) values r → is_ok r ≡ list_any (λ w. is_eq (order v w)) vs
+pub looked-up : (vs : List Tree) (values : List Value) (v : Tree) (r : Result ℕ ℕ) → AreChoicesInOrder vs values → IsSearchInRange r (length values) → IsBinarySearchResult (λ member. order (tree member) v) values r → is_ok r ≡ list_any (λ w. is_eq (order v w)) vs
 looked-up vs values v (Ok i) known within found =
     sym (sym (known.same (λ w. is_eq (order v w))) ∙ any-map (λ w. is_eq (order v w)) tree values ∙ one-of-them (λ w. is_eq (order v (tree w))) values i within (λ d. turned v (tree (get_or values i d)) Equal (found d)))
 looked-up vs values v (Err i) known within found =

@@ -8,10 +8,10 @@ use Rattle.dv_bson.specs.View.{tree}
 use Rattle.dv_bson.specs.declared.value.Value.{Value}
 use Rattle.dv_order.specs.Order.{order}
 
-abbrev pub stands_before : Value → Value → Bool
-stands_before v w = is_lt (order (tree v) (tree w))
+abbrev pub value_stands_before : Value → Value → Bool
+value_stands_before v w = is_lt (order (tree v) (tree w))
 
 -- the values ascend, and pass each test that those of the list pass
-pub record AreInOrder (vs : List Tree) (values : List Value) : Type 0 where
-  pub ascending : IsSortedBy stands_before values
+pub record AreChoicesInOrder (vs : List Tree) (values : List Value) : Type 0 where
+  pub ascending : IsSortedBy value_stands_before values
   pub same : (test : Tree → Bool) → list_any test (map tree values) ≡ list_any test vs

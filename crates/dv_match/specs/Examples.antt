@@ -5,19 +5,7 @@ use Rattle.dv_match.specs.declared.fault.FilterFault.{FilterFault}
 use Rattle.dv_match.specs.Match.{matches}
 use Rattle.dv_match.specs.Parsing.{filter_in}
 use Rattle.dv_bson.specs.Results.{◌>>=◌}
-
-abbrev pub int : ℕ → Tree
-int n = int32 (pos n)
-
--- a document of one field
-abbrev pub one : List ℕ → Tree → List Field
-one name v = (name, v) ∷ []
-
-abbrev pub doc : List Field → Tree
-doc fields = document (fields_of fields)
-
-abbrev pub list : List Tree → Tree
-list vs = array (elements_of vs)
+use Rattle.dv_bson.specs.Short.{int, doc, list, one}
 
 -- whether the document matches the filter, or the fault of what is no filter
 abbrev pub answer : List Field → List Field → Result Bool FilterFault

@@ -23,7 +23,7 @@ impl Model for Choices {
     ghost use Rattle.std.specs.Coded.{coded_list};
     ghost use Rattle.dv_bson.specs.Tree.{Tree};
     ghost use Rattle.dv_bson.specs.TreeCode.{coded_tree};
-    ghost use Rattle.dv_match.specs.Choices.{AreInOrder};
+    ghost use Rattle.dv_match.specs.Choices.{AreChoicesInOrder};
 
     ghost Value = { prelude.List Tree };
 
@@ -31,7 +31,7 @@ impl Model for Choices {
 
     ghost view = { λ c. c.values };
 
-    ghost invariant = { λ c. AreInOrder c.values c.ascending.items };
+    ghost invariant = { λ c. AreChoicesInOrder c.values c.ascending.items };
 }
 
 impl Choices {

@@ -24,11 +24,11 @@ pub enum FilterFault {
 }
 
 impl FilterFault {
-    ghost use Rattle.dv_match.specs.Fault.{fault_number};
+    ghost use Rattle.dv_match.specs.Fault.{filter_fault_number};
 
     /// The fault's number, from 1 in the order in which the faults are declared.
     pub fn number(&self) -> u8
-        ensures { result ≡ fault_number self.now }
+        ensures { result ≡ filter_fault_number self.now }
     {
         match self {
             FilterFault::UnknownOperator => 1,
@@ -42,9 +42,9 @@ impl FilterFault {
 
 impl fmt::Display for FilterFault {
     ghost use Rattle.std.specs.Prelude.{Some};
-    ghost use Rattle.dv_match.specs.Fault.{fault_text};
+    ghost use Rattle.dv_match.specs.Fault.{filter_fault_text};
 
-    ghost output = { λ f. Some (fault_text f) };
+    ghost output = { λ f. Some (filter_fault_text f) };
 
     fn fmt<W: fmt::Write>(&self, f: &mut fmt::Formatter<W>) -> fmt::Result {
         match *self {

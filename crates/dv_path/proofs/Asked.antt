@@ -10,7 +10,7 @@ use Rattle.dv_bson.specs.Names.{value_under}
 use Rattle.dv_bson.specs.declared.value.Value.{Value}
 use Rattle.dv_bson.specs.Tree.{Tree, document, array, Field, fields_of, elements_of}
 use Rattle.dv_bson.specs.View.{tree}
-use Rattle.dv_path.specs.Candidates.{Candidate, entered, picked, step, candidates, whole, with_elements}
+use Rattle.dv_path.specs.Candidates.{Candidate, entered, picked, step_from, candidates, whole, with_elements}
 use Rattle.dv_path.specs.Path.{index_of}
 use Rattle.dv_path.specs.Expression.{expression, expr}
 use Rattle.dv_path.specs.View.{seen}
@@ -18,7 +18,7 @@ use Rattle.dv_path.specs.declared.candidate.Candidate as memory
 use Rattle.dv_path.specs.declared.candidate.Candidate.TheVariants.{Found}
 use denote.Ref.{Bor}
 use Rattle.std.proofs.Math.Seq.{drop-cons}
-use Rattle.dv_path.specs.Fold.{Takes, Folded, Passes}
+use Rattle.dv_path.specs.Fold.{Takes, Folded, PassesOne}
 use Rattle.dv_path.proofs.Folds.{any-right}
 use Rattle.dv_path.proofs.Walks.{list_of_fields_of, list_of_elements_of}
 
@@ -34,7 +34,7 @@ module _ {T X E : Type 0} {seen : X → Candidate} (call : T → X → Result T 
       rw (failed, none_passed fails h.0 u cs h.2) refl
 
   -- a fold that stops where the test passes tells whether it does somewhere
-  pub stopped-where : (fails : (t : T) (x : X) (u : T) → call t x (Ok u) → test (seen x) ≡ false) (passes : (t : T) (x : X) (e : E) → call t x (Err e) → test (seen x) ≡ true) (cs : List Candidate) (t : T) (r : Result T E) → Folded seen call (Passes cs) t r → is_err r ≡ list_any test cs
+  pub stopped-where : (fails : (t : T) (x : X) (u : T) → call t x (Ok u) → test (seen x) ≡ false) (passes : (t : T) (x : X) (e : E) → call t x (Err e) → test (seen x) ≡ true) (cs : List Candidate) (t : T) (r : Result T E) → Folded seen call (PassesOne cs) t r → is_err r ≡ list_any test cs
   stopped-where fails passes cs t (Ok u) h =
       let all = h.outcome in
       sym (not_true (list_any test cs) (λ some. let missed = none_passed fails t u all.taken all.calls in let taken = all.every test (record { passes = some }) in cc))
@@ -86,11 +86,11 @@ module _ (c : memory.Candidate) (value : Bor Value) (at : c ≡ Found value) whe
   pub elements-at : (l : List Tree) → value.now ≡ Value.Array l → with_elements (seen c) ≡ Some (array (elements_of l)) ∷ map Some l
   elements-at l e = ap with_elements (seen-at (array (elements_of l)) (ap tree e)) ∙ ap (λ vs. Some (array (elements_of l)) ∷ map Some vs) (list_of_elements_of l)
 
-  pub step-document : (name : List ℕ) (d : List Field) → value.now ≡ Value.Doc d → step name (seen c) ≡ value_under name d ∷ []
-  step-document name d e = ap (step name) (seen-at (document (fields_of d)) (ap tree e)) ∙ ap (λ fs. value_under name fs ∷ []) (list_of_fields_of d)
+  pub step-document : (name : List ℕ) (d : List Field) → value.now ≡ Value.Doc d → step_from name (seen c) ≡ value_under name d ∷ []
+  step-document name d e = ap (step_from name) (seen-at (document (fields_of d)) (ap tree e)) ∙ ap (λ fs. value_under name fs ∷ []) (list_of_fields_of d)
 
-  pub step-array : (name : List ℕ) (l : List Tree) → value.now ≡ Value.Array l → step name (seen c) ≡ picked (index_of name) l ++ flat_map (entered name) l
-  step-array name l e = ap (step name) (seen-at (array (elements_of l)) (ap tree e)) ∙ ap (λ vs. picked (index_of name) vs ++ flat_map (entered name) vs) (list_of_elements_of l)
+  pub step-array : (name : List ℕ) (l : List Tree) → value.now ≡ Value.Array l → step_from name (seen c) ≡ picked (index_of name) l ++ flat_map (entered name) l
+  step-array name l e = ap (step_from name) (seen-at (array (elements_of l)) (ap tree e)) ∙ ap (λ vs. picked (index_of name) vs ++ flat_map (entered name) vs) (list_of_elements_of l)
 
 flat_flat : {X Y Z : Type 0} (f : Y → List Z) (g : X → List Y) (xs : List X) → flat_map (λ x. flat_map f (g x)) xs ≡ flat_map f (flat_map g xs)
 flat_flat f g [] = refl
@@ -110,10 +110,10 @@ unfolding whole
 whole-first [] fs name some is = absurd (omega arith)
 whole-first (n ∷ names) fs name some is = ap (λ m. flat_map (candidates names) (value_under m fs ∷ [])) is ∙ ap (λ gs. flat_map (candidates names) (value_under n gs ∷ [])) (sym (list_of_fields_of fs))
 
-pub candidates-more : (names : List (List ℕ)) (i : ℕ) (name : List ℕ) (cs : List Candidate) → i < length names → name ≡ get_or names i name → flat_map (candidates (drop (i + 1) names)) (flat_map (step name) cs) ≡ flat_map (candidates (drop i names)) cs
+pub candidates-more : (names : List (List ℕ)) (i : ℕ) (name : List ℕ) (cs : List Candidate) → i < length names → name ≡ get_or names i name → flat_map (candidates (drop (i + 1) names)) (flat_map (step_from name) cs) ≡ flat_map (candidates (drop i names)) cs
 candidates-more names i name cs within is =
     let here : drop i names ≡ name ∷ drop (i + 1) names = rw add-one (drop-cons names i name within ∙ ap (λ n. n ∷ drop (suc i) names) (sym is)) in
-    sym (flat_flat (candidates (drop (i + 1) names)) (step name) cs) ∙ ap (λ ns. flat_map (candidates ns) cs) (sym here)
+    sym (flat_flat (candidates (drop (i + 1) names)) (step_from name) cs) ∙ ap (λ ns. flat_map (candidates ns) cs) (sym here)
 
 pub candidates-end : (names : List (List ℕ)) (i : ℕ) (cs : List Candidate) → length names ≤ i → flat_map (candidates (drop i names)) cs ≡ cs
 candidates-end names i cs past = ap (λ ns. flat_map (candidates ns) cs) (drop_of_length-le names past) ∙ flat_one cs

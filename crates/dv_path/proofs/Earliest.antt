@@ -14,7 +14,7 @@ use Rattle.dv_order.specs.KeyLaws.{key_order_total}
 use Rattle.dv_path.specs.declared.direction.Direction.{Direction}
 use Rattle.dv_path.specs.declared.direction.Direction.TheVariants.{Ascending, Descending}
 use Rattle.dv_path.specs.Candidates.{Candidate}
-use Rattle.dv_path.specs.Fold.{Takes, FoldsOver, Passes}
+use Rattle.dv_path.specs.Fold.{Takes, FoldsOver, PassesOne}
 use Rattle.dv_path.specs.SortKey.{array_keys, keys_of, stands_first, earliest, earlier_with}
 use Rattle.dv_path.specs.GatheredKeys.{any-flat_map}
 
@@ -164,7 +164,7 @@ module _ {X E : Type 0} (seen : X → Candidate) (call : Option KeyTree → X �
       folded h.0 u cs h.2 ∙ ap (λ s. fold (earlier_with direction) s (flat_map keys_of cs)) one ∙ sym (fold_append (earlier_with direction) t (keys_of c) (flat_map keys_of cs))
 
   -- what a fold over the candidates leaves is the earliest of their keys
-  pub folded-key : Laws → (cs : List Candidate) (u : Option KeyTree) → FoldsOver seen call (Passes cs) (Passes cs) None u → or_null u ≡ earliest direction (flat_map keys_of cs)
+  pub folded-key : Laws → (cs : List Candidate) (u : Option KeyTree) → FoldsOver seen call (PassesOne cs) (PassesOne cs) None u → or_null u ≡ earliest direction (flat_map keys_of cs)
   folded-key laws cs u h =
       let to = λ (q : KeyTree → Bool) (e : list_any q (flat_map keys_of h.taken) ≡ true). any-flat_map q keys_of cs ∙ (h.only (λ c. list_any q (keys_of c)) (sym (any-flat_map q keys_of h.taken) ∙ e)).passes in
       let from = λ (q : KeyTree → Bool) (e : list_any q (flat_map keys_of cs) ≡ true). any-flat_map q keys_of h.taken ∙ h.every (λ c. list_any q (keys_of c)) (record { passes = sym (any-flat_map q keys_of cs) ∙ e }) in

@@ -6,7 +6,7 @@ use Rattle.std.proofs.lemmas.Grind.{flat_map-append}
 use Rattle.dv_bson.specs.Tree.{Tree, document, array, Fields, list_of_fields, Elements, list_of_elements}
 use Rattle.dv_bson.specs.Names.{value_under}
 use Rattle.dv_path.specs.Path.{index_of}
-use Rattle.dv_path.specs.Candidates.{Candidate, entered, found, picked, step, candidates}
+use Rattle.dv_path.specs.Candidates.{Candidate, entered, candidate_found, picked, step_from, candidates}
 use Rattle.dv_path.specs.Places.{passes_at, IsDocument}
 use Rattle.dv_path.proofs.Folds.{any-cases, any-left, any-right, either}
 
@@ -75,7 +75,7 @@ module _ (p : Candidate → Bool) where
       ap (list_any p) (flat_map-append (candidates names) (entered name w) (flat_map (entered name) vs)) ∙ any-right p _ _ (entered-from names name vs k v e d h)
 
   -- an element that is picked
-  found-to : (names : List (List ℕ)) (c : Candidate) → list_any p (flat_map (candidates names) (found c)) ≡ true → (v : Tree) × (c ≡ Some v) × (hits names (Some v) ≡ true)
+  found-to : (names : List (List ℕ)) (c : Candidate) → list_any p (flat_map (candidates names) (candidate_found c)) ≡ true → (v : Tree) × (c ≡ Some v) × (hits names (Some v) ≡ true)
   found-to names None h = absurd cc
   found-to names (Some v) h = (v, refl, sym (any-nil (candidates names (Some v))) ∙ h)
 
@@ -118,6 +118,6 @@ module _ (p : Candidate → Bool) where
       ap (λ ns. hits ns (Some (array es))) at ∙ array-from (drop (suc place) names) (name_at names place) (list_of_elements es) k v e (either inl (λ w. inr (w.0, ap (λ ns. hits ns (Some v)) (sym at) ∙ w.1)) way)
 
   -- anything else gives Missing
-  pub hits-plain : (names : List (List ℕ)) (place : ℕ) (v : Tree) → place < length names → (name : List ℕ) → step (name_at names place) (Some v) ≡ None ∷ [] → hits (drop place names) (Some v) ≡ p None
+  pub hits-plain : (names : List (List ℕ)) (place : ℕ) (v : Tree) → place < length names → (name : List ℕ) → step_from (name_at names place) (Some v) ≡ None ∷ [] → hits (drop place names) (Some v) ≡ p None
   hits-plain names place v h name plain =
       ap (λ ns. hits ns (Some v)) (drop-cons names place [] h) ∙ ap (λ cs. list_any p (flat_map (candidates (drop (suc place) names)) cs)) plain ∙ any-nil (candidates (drop (suc place) names) None) ∙ missing-hits (drop (suc place) names)

@@ -14,8 +14,8 @@ use Rattle.dv_bson.specs.Names.{value_under}
 use Rattle.dv_bson.specs.View.{tree}
 use Rattle.dv_path.specs.declared.places.Places.{Places}
 use Rattle.dv_path.specs.Path.{index_of}
-use Rattle.dv_path.specs.Candidates.{Candidate, step, whole}
-use Rattle.dv_path.specs.Fold.{Passes}
+use Rattle.dv_path.specs.Candidates.{Candidate, step_from, whole}
+use Rattle.dv_path.specs.Fold.{PassesOne}
 use Rattle.dv_path.specs.Places.{has, passes_at, picks, follows, IsWithin, IsBefore, IsDocument, Reaches, ReachesElement}
 use Rattle.dv_path.proofs.Bits.{none}
 use Rattle.dv_path.proofs.Reach.{name_at, passes_at-within, passes_at-before, hits, missing-hits, hits-document, hits-array-to, hits-array-from, hits-plain}
@@ -108,16 +108,16 @@ module _ {names : List (List ℕ)} {s part : Places} (is : IsPart names s part (
   end-reaches h c p passed = record { place = length names; inside = h; passes = ap (λ ns. hits p ns c) (drop-length names) ∙ or_left (p c) false passed }
 
 -- a value that is neither a document nor an array
-pub plain-step : (v : Value) (name : List ℕ) → ((d : _) → v ≡ Value.Doc d → ⊥) → ((l : _) → v ≡ Value.Array l → ⊥) → step name (Some (tree v)) ≡ None ∷ []
+pub plain-step : (v : Value) (name : List ℕ) → ((d : _) → v ≡ Value.Doc d → ⊥) → ((l : _) → v ≡ Value.Array l → ⊥) → step_from name (Some (tree v)) ≡ None ∷ []
 plain-step (Value.Doc d) name a b = absurd (a d refl)
 plain-step (Value.Array l) name a b = absurd (b l refl)
 plain-step v name a b = refl
 
 module _ (names : List (List ℕ)) (s : Places) (before : IsBefore names s) where
-  pub missing-reaches : (v : Tree) (p : Candidate → Bool) (place : ℕ) → has s place ≡ true → ((name : List ℕ) → step name (Some v) ≡ None ∷ []) → p None ≡ true → Reaches names s (Some v) p
+  pub missing-reaches : (v : Tree) (p : Candidate → Bool) (place : ℕ) → has s place ≡ true → ((name : List ℕ) → step_from name (Some v) ≡ None ∷ []) → p None ≡ true → Reaches names s (Some v) p
   missing-reaches v p place h plain passed = record { place = place; inside = h; passes = hits-plain p names place v (before.before place h) (name_at names place) (plain (name_at names place)) ∙ passed }
 
-  pub reaches-missing : (v : Tree) (p : Candidate → Bool) → ((name : List ℕ) → step name (Some v) ≡ None ∷ []) → Reaches names s (Some v) p → p None ≡ true
+  pub reaches-missing : (v : Tree) (p : Candidate → Bool) → ((name : List ℕ) → step_from name (Some v) ≡ None ∷ []) → Reaches names s (Some v) p → p None ≡ true
   reaches-missing v p plain r = sym (hits-plain p names r.place v (before.before r.place r.inside) (name_at names r.place) (plain (name_at names r.place))) ∙ r.passes
 
 drop_behind : (names : List (List ℕ)) (place : ℕ) → drop place (drop 1 names) ≡ drop (suc place) names
@@ -150,11 +150,11 @@ pub first-before : (names : List (List ℕ)) → (names ≡ [] → ⊥) → IsBe
 first-before [] some = absurd (some refl)
 first-before (name ∷ names) some = record { before = λ place h. let same = first-place place h in omega arith }
 
-pub reaches-whole : (names : List (List ℕ)) (fs : List Field) (p : Candidate → Bool) → Reaches names (record { mask = 1 }) (Some (document (fields_of fs))) p → Passes (whole fs names) p
+pub reaches-whole : (names : List (List ℕ)) (fs : List Field) (p : Candidate → Bool) → Reaches names (record { mask = 1 }) (Some (document (fields_of fs))) p → PassesOne (whole fs names) p
 unfolding whole
 reaches-whole names fs p r = record { passes = ap (λ place. hits p (drop place names) (Some (document (fields_of fs)))) (sym (first-place r.place r.inside)) ∙ r.passes }
 
-pub whole-reaches : (names : List (List ℕ)) (fs : List Field) (p : Candidate → Bool) → Passes (whole fs names) p → Reaches names (record { mask = 1 }) (Some (document (fields_of fs))) p
+pub whole-reaches : (names : List (List ℕ)) (fs : List Field) (p : Candidate → Bool) → PassesOne (whole fs names) p → Reaches names (record { mask = 1 }) (Some (document (fields_of fs))) p
 unfolding whole
 whole-reaches names fs p h = record { place = 0; inside = first-inside; passes = h.passes }
 

@@ -20,26 +20,26 @@ entered name (document fs) = value_under name (list_of_fields fs) ∷ []
 entered name v = []
 
 -- the value, where there is one
-abbrev pub found : Candidate → List Candidate
-found None = []
-found (Some v) = Some v ∷ []
+abbrev pub candidate_found : Candidate → List Candidate
+candidate_found None = []
+candidate_found (Some v) = Some v ∷ []
 
 -- the element that a whole number picks, where the array has one there
 abbrev pub picked : Option ℕ → List Tree → List Candidate
 picked None vs = []
-picked (Some place) vs = found (slice_get vs place)
+picked (Some place) vs = candidate_found (slice_get vs place)
 
 -- one component on from a candidate: a document is entered, or gives Missing; an array gives the element that is
 -- picked, and then what each of its documents gives; anything else gives Missing, and Missing stays Missing
-abbrev pub step : List ℕ → Candidate → List Candidate
-step name (Some (document fs)) = entered name (document fs)
-step name (Some (array vs)) = picked (index_of name) (list_of_elements vs) ++ flat_map (entered name) (list_of_elements vs)
-step name c = None ∷ []
+abbrev pub step_from : List ℕ → Candidate → List Candidate
+step_from name (Some (document fs)) = entered name (document fs)
+step_from name (Some (array vs)) = picked (index_of name) (list_of_elements vs) ++ flat_map (entered name) (list_of_elements vs)
+step_from name c = None ∷ []
 
 -- the candidates of a path, from a candidate on
 abbrev pub candidates : List (List ℕ) → Candidate → List Candidate
 candidates [] c = c ∷ []
-candidates (name ∷ names) c = flat_map (candidates names) (step name c)
+candidates (name ∷ names) c = flat_map (candidates names) (step_from name c)
 
 -- the candidates of a path in a document
 unfoldable pub whole : List Field → List (List ℕ) → List Candidate

@@ -6,15 +6,15 @@ use Rattle.dv_bson.specs.Names.{value_under}
 use Rattle.dv_path.specs.Candidates.{Candidate}
 
 -- a document is entered by a component, and what it has there gives the rest; anything else gives Missing
-abbrev pub through : (Tree → Candidate) → List ℕ → Tree → Candidate
-through rest name (document fs) = option_and_then rest (value_under name (list_of_fields fs))
-through rest name v = None
+abbrev pub component_entered : (Tree → Candidate) → List ℕ → Tree → Candidate
+component_entered rest name (document fs) = option_and_then rest (value_under name (list_of_fields fs))
+component_entered rest name v = None
 
 -- the value of a path from a value on: an array gives the array of what its documents give, without Missing
 abbrev pub expression : List (List ℕ) → Tree → Candidate
 expression [] v = Some v
-expression (name ∷ names) (array vs) = Some (array (elements_of (filter_map (through (expression names) name) (list_of_elements vs))))
-expression (name ∷ names) v = through (expression names) name v
+expression (name ∷ names) (array vs) = Some (array (elements_of (filter_map (component_entered (expression names) name) (list_of_elements vs))))
+expression (name ∷ names) v = component_entered (expression names) name v
 
 -- the value of a path in a document
 unfoldable pub expr : List Field → List (List ℕ) → Candidate

@@ -41,5 +41,5 @@ pub record Folded {T X E : Type 0} (seen : X → Candidate) (call : T → X → 
   pub outcome : MatchResult result (FoldsOver seen call Wanted Wanted t) (StopsAmong seen call Wanted t)
 
 -- a test that one of the candidates passes
-pub record Passes (cs : List Candidate) (p : Candidate → Bool) : Type 0 where
+pub record PassesOne (cs : List Candidate) (p : Candidate → Bool) : Type 0 where
   pub passes : list_any p cs ≡ true

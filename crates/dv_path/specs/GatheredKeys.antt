@@ -7,7 +7,7 @@ use Rattle.std.specs.List.{list_any, flat_map, FoldsTo}
 use Rattle.std.specs.Ordering.{is_eq}
 use Rattle.dv_order.specs.Key.{KeyTree, key_order}
 use Rattle.dv_path.specs.Candidates.{Candidate}
-use Rattle.dv_path.specs.Fold.{Takes, FoldsOver, Passes}
+use Rattle.dv_path.specs.Fold.{Takes, FoldsOver, PassesOne}
 
 -- a test of some item behind each of a list
 pub any-flat_map : {X Y : Type 0} (test : Y → Bool) (f : X → List Y) (xs : List X) → list_any test (flat_map f xs) ≡ list_any (λ x. list_any test (f x)) xs
@@ -30,7 +30,7 @@ module _ {X E Y : Type 0} (seen : X → Candidate) (call : BTreeSet KeyTree → 
       ∙ or_assoc (contains key_order t k) (list_any (test k) (given c)) rest
 
   -- from no key on: where some item passes that a candidate gives
-  pub gathered-keys : (cs : List Candidate) (t u : BTreeSet KeyTree) → t.keys ≡ [] → FoldsOver seen call (Passes cs) (Passes cs) t u → (k : KeyTree) → contains key_order u k ≡ list_any (test k) (flat_map given cs)
+  pub gathered-keys : (cs : List Candidate) (t u : BTreeSet KeyTree) → t.keys ≡ [] → FoldsOver seen call (PassesOne cs) (PassesOne cs) t u → (k : KeyTree) → contains key_order u k ≡ list_any (test k) (flat_map given cs)
   gathered-keys cs t u empty h k =
       let some = λ (c : Candidate). list_any (test k) (given c) in
       folded t u h.taken h.calls k

@@ -15,7 +15,6 @@ pub mod Slots
 pub mod Placing
 pub mod Removing
 pub mod Ways
-pub mod Examples
 pub mod Apart
 pub mod Groups
 pub mod GroupView

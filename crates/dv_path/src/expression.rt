@@ -5,7 +5,7 @@ ghost use Rattle.std.specs.List.{filter_map};
 ghost use Rattle.std.specs.Option.{option_map};
 ghost use Rattle.dv_bson.specs.Names.{value_under};
 ghost use Rattle.dv_bson.specs.View.{tree};
-ghost use Rattle.dv_path.specs.Expression.{through, expr};
+ghost use Rattle.dv_path.specs.Expression.{component_entered, expr};
 ghost use Rattle.dv_path.specs.Expression as expressions;
 
 use crate::component::Component;
@@ -68,7 +68,7 @@ fn of_elements(
     component: &Component,
     rest: &[Component],
 ) -> Result<List, NoMemory>
-    ensures { IfOk result (λ found. found ≡ filter_map (through (expressions.expression rest.now) component.now) list.now) }
+    ensures { IfOk result (λ found. found ≡ filter_map (component_entered (expressions.expression rest.now) component.now) list.now) }
 {
     let mut found = Vec::new(alloc);
     'elements: for element in list.as_slice() {
@@ -86,7 +86,7 @@ fn of_element(
     component: &Component,
     rest: &[Component],
 ) -> Result<Option<Value>, NoMemory>
-    ensures { IfOk result (λ found. option_map tree found ≡ through (expressions.expression rest.now) component.now (tree element.now)) }
+    ensures { IfOk result (λ found. option_map tree found ≡ component_entered (expressions.expression rest.now) component.now (tree element.now)) }
 {
     match element {
         Value::Doc(document) => enter(alloc, document, component, rest),

@@ -22,11 +22,11 @@ pub enum PathFault {
 }
 
 impl PathFault {
-    ghost use Rattle.dv_path.specs.Fault.{fault_number};
+    ghost use Rattle.dv_path.specs.Fault.{path_fault_number};
 
     /// The fault's number, from 1 in the order in which the faults are declared.
     pub fn number(&self) -> u8
-        ensures { result ≡ fault_number self.now }
+        ensures { result ≡ path_fault_number self.now }
     {
         match self {
             PathFault::EmptyComponent => 1,
@@ -39,9 +39,9 @@ impl PathFault {
 
 impl fmt::Display for PathFault {
     ghost use Rattle.std.specs.Prelude.{Some};
-    ghost use Rattle.dv_path.specs.Fault.{fault_text};
+    ghost use Rattle.dv_path.specs.Fault.{path_fault_text};
 
-    ghost output = { λ f. Some (fault_text f) };
+    ghost output = { λ f. Some (path_fault_text f) };
 
     fn fmt<W: fmt::Write>(&self, f: &mut fmt::Formatter<W>) -> fmt::Result {
         match *self {

@@ -6,7 +6,7 @@ ghost use Rattle.dv_bson.specs.Tree.{Tree, document, Field, fields_of, null};
 ghost use Rattle.dv_path.specs.Apart.{AreApart};
 ghost use Rattle.dv_path.specs.Candidates.{whole, leaves};
 ghost use Rattle.dv_path.specs.declared.fault.PathFault.TheVariants.{NotViable, IndexTooLarge};
-ghost use Rattle.dv_path.specs.Examples.{int, one, doc, list};
+ghost use Rattle.dv_bson.specs.Short.{int, one, doc, list};
 ghost use Rattle.dv_order.specs.Key.{key_at};
 ghost use Rattle.dv_path.specs.declared.direction.Direction.TheVariants.{Ascending, Descending};
 ghost use Rattle.dv_path.specs.Expression.{expr};

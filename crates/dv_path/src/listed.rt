@@ -5,7 +5,7 @@ ghost use Rattle.std.specs.List.{flat_map};
 ghost use Rattle.dv_bson.specs.Names.{value_under};
 ghost use Rattle.dv_bson.specs.View.{tree};
 ghost use Rattle.dv_path.specs.Path.{index_of};
-ghost use Rattle.dv_path.specs.Candidates.{step, picked, entered, with_elements};
+ghost use Rattle.dv_path.specs.Candidates.{step_from, picked, entered, with_elements};
 ghost use Rattle.dv_path.specs.Candidates as candidates;
 ghost use Rattle.dv_path.specs.View.{seen};
 
@@ -96,7 +96,7 @@ fn step_all<'a>(
     component: &Component,
     found: &[Candidate<'a>],
 ) -> Result<Vec<Candidate<'a>>, NoMemory>
-    ensures { IfOk result (λ next. map seen next.items ≡ flat_map (step component.now) (map seen found.now)) }
+    ensures { IfOk result (λ next. map seen next.items ≡ flat_map (step_from component.now) (map seen found.now)) }
 {
     let mut next = Vec::new(alloc);
     for candidate in found {
@@ -110,7 +110,7 @@ fn step_one<'a>(
     candidate: Candidate<'a>,
     next: &mut Vec<Candidate<'a>>,
 ) -> Result<(), NoMemory>
-    ensures { OnOk result (map seen next.new.items ≡ map seen next.old.items ++ step component.now (seen candidate.entry)) }
+    ensures { OnOk result (map seen next.new.items ≡ map seen next.old.items ++ step_from component.now (seen candidate.entry)) }
 {
     let Candidate::Found(value) = candidate else {
         next.push(Candidate::Missing)?;

@@ -3,7 +3,7 @@
 ghost use Rattle.std.specs.Prelude.{◌≡◌, ◌∷◌, [], ℕ, List, Some, IfSome, IsSome};
 ghost use Rattle.dv_bson.specs.Names.{value_under};
 ghost use Rattle.dv_bson.specs.Tree.{document as tree_of, fields_of};
-ghost use Rattle.dv_path.specs.Candidates.{step, whole};
+ghost use Rattle.dv_path.specs.Candidates.{step_from, whole};
 ghost use Rattle.dv_path.specs.View.{seen};
 ghost use Rattle.dv_path.specs.Ways.{HasNoArray};
 
@@ -29,7 +29,7 @@ pub fn sole_candidate<'a>(document: &'a Document, path: &Path) -> Option<Candida
 
 /// What stands one component on; `None` for an array.
 fn next<'a>(candidate: Candidate<'a>, component: &Component) -> Option<Candidate<'a>>
-    ensures sole { IfSome result (λ next. step component.now (seen candidate.entry) ≡ seen next ∷ []) }
+    ensures sole { IfSome result (λ next. step_from component.now (seen candidate.entry) ≡ seen next ∷ []) }
     ensures some { (names : List (List ℕ)) → HasNoArray (component.now ∷ names) (seen candidate.entry) → IsSome result }
     ensures on { IfSome result (λ next. (names : List (List ℕ)) → HasNoArray (component.now ∷ names) (seen candidate.entry) → HasNoArray names (seen next)) }
 {

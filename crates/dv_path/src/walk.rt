@@ -5,7 +5,7 @@ ghost use Rattle.dv_bson.specs.Tree.{fields_of, elements_of};
 ghost use Rattle.dv_bson.specs.Tree as trees;
 ghost use Rattle.dv_bson.specs.View.{tree};
 ghost use Rattle.dv_path.specs.Candidates.{whole};
-ghost use Rattle.dv_path.specs.Fold.{Folded, Passes};
+ghost use Rattle.dv_path.specs.Fold.{Folded, PassesOne};
 ghost use Rattle.dv_path.specs.Places.{Reaches, ReachesElement, IsBefore, IsWithin};
 ghost use Rattle.dv_path.specs.View.{seen};
 
@@ -21,7 +21,7 @@ pub fn fold_whole<T, E, F>(document: &Document, path: &Path, seed: T, f: F) -> R
 where
     F: Fn(T, Candidate<'_>) -> Result<T, E>,
     requires { F.IsAlwaysCallable f }
-    ensures { Folded seen (λ t x r. F.post f t x r) (Passes (whole document.now path.now)) seed result }
+    ensures { Folded seen (λ t x r. F.post f t x r) (PassesOne (whole document.now path.now)) seed result }
 {
     match sole_candidate(document, path) {
         // Most ways meet no array, and sets of places cost more than a look-up.
@@ -35,7 +35,7 @@ pub(crate) fn fold_ways<T, E, F>(document: &Document, path: &Path, seed: T, f: F
 where
     F: Fn(T, Candidate<'_>) -> Result<T, E>,
     requires { F.IsAlwaysCallable f }
-    ensures { Folded seen (λ t x r. F.post f t x r) (Passes (whole document.now path.now)) seed result }
+    ensures { Folded seen (λ t x r. F.post f t x r) (PassesOne (whole document.now path.now)) seed result }
 {
     fold_document(path.components(), Places::FIRST, document, seed, &f)
 }

@@ -10,10 +10,10 @@ use Rattle.dv_match.specs.Match.{matches, matches_member, matches_all}
 use Rattle.dv_pipe.specs.declared.stage.Stage.{Stage}
 use Rattle.dv_pipe.specs.declared.stage.Stage.TheVariants.{Match, Unwind, Limit}
 use Rattle.dv_row.specs.declared.unwind.Unwind as form
-use Rattle.dv_pipe.specs.Laws.{both, IsNoArray, HasNoArray, is_value, has_value}
+use Rattle.dv_pipe.specs.Laws.{both, IsNoArrayCandidate, HasNoArrayOnWay, is_value_but_null, has_value}
 use Rattle.dv_pipe.specs.Sources.{Row}
-use Rattle.dv_pipe.specs.Stages.{Lists, stage, foreign_of, looked_into, rows_at, through, evaluated, is_named, is_read}
-use Rattle.dv_row.specs.Unwinding.{reached, rows_of, unwound}
+use Rattle.dv_pipe.specs.Stages.{Lists, stage, foreign_of, looked_into, rows_at, through, evaluated, is_source_named, is_read}
+use Rattle.dv_row.specs.Unwinding.{reached, unwound_rows, unwound}
 
 pub through_parts : (first second : List Stage) (source : List ℕ) (lists : Lists) (rows : List Row) → through (first ++ second) source lists rows ≡ through second source lists (through first source lists rows)
 unfolding through
@@ -27,7 +27,7 @@ module _ (source : List ℕ) (lists others : Lists) where
   abbrev IsSame : (List ℕ → Bool) → Type 0
   IsSame reads = (name : List ℕ) → reads name ≡ true → lists name ≡ others name
 
-  rows-same : (looked : Option (List ℕ)) → IsSame (λ name. is_named name looked) → rows_at looked lists ≡ rows_at looked others
+  rows-same : (looked : Option (List ℕ)) → IsSame (λ name. is_source_named name looked) → rows_at looked lists ≡ rows_at looked others
   rows-same None same = refl
   rows-same (Some name) same = same name (bytes-same name)
 
@@ -39,17 +39,17 @@ module _ (source : List ℕ) (lists others : Lists) where
   or-right true b e = refl
   or-right false b e = e
 
-  through-same : (stages : List Stage) (rows : List Row) → IsSame (λ name. list_any (λ s. is_named name (looked_into s source)) stages) → through stages source lists rows ≡ through stages source others rows
+  through-same : (stages : List Stage) (rows : List Row) → IsSame (λ name. list_any (λ s. is_source_named name (looked_into s source)) stages) → through stages source lists rows ≡ through stages source others rows
   unfolding through
   through-same [] rows same = refl
   through-same (s ∷ ss) rows same =
-      let rest = λ (name : List ℕ). list_any (λ s. is_named name (looked_into s source)) ss in
-      ap (λ foreign. through ss source lists (stage s rows foreign)) (rows-same (looked_into s source) (λ name h. same name (or-left (is_named name (looked_into s source)) (rest name) h)))
-      ∙ through-same ss (stage s rows (foreign_of s source others)) (λ name h. same name (or-right (is_named name (looked_into s source)) (rest name) h))
+      let rest = λ (name : List ℕ). list_any (λ s. is_source_named name (looked_into s source)) ss in
+      ap (λ foreign. through ss source lists (stage s rows foreign)) (rows-same (looked_into s source) (λ name h. same name (or-left (is_source_named name (looked_into s source)) (rest name) h)))
+      ∙ through-same ss (stage s rows (foreign_of s source others)) (λ name h. same name (or-right (is_source_named name (looked_into s source)) (rest name) h))
 
   pub unread : (stages : List Stage) → IsSame (is_read stages source) → evaluated stages source lists ≡ evaluated stages source others
   unread stages same =
-      let later = λ (name : List ℕ). list_any (λ s. is_named name (looked_into s source)) stages in
+      let later = λ (name : List ℕ). list_any (λ s. is_source_named name (looked_into s source)) stages in
       ap (through stages source lists) (same source (or-left (bytes_eq source source) (later source) (bytes-same source)))
       ∙ through-same stages (others source) (λ name h. same name (or-right (bytes_eq source name) (later name) h))
 
@@ -89,7 +89,7 @@ unfolding stage
 limit_limit m n rows foreign = take-take m n rows
 
 -- the rows of one row, where there is no array
-plain : (u : form.Unwind) (d : Row) (c : Candidate) → u.preserve ≡ false → IsNoArray c → rows_of u d c ≡ (if is_value c then d ∷ [] else [])
+plain : (u : form.Unwind) (d : Row) (c : Candidate) → u.preserve ≡ false → IsNoArrayCandidate c → unwound_rows u d c ≡ (if is_value_but_null c then d ∷ [] else [])
 plain u d None e h = rw e refl
 plain u d (Some null) e h = rw e refl
 plain u d (Some (array vs)) e h = absurd h
@@ -109,7 +109,7 @@ kept : {X : Type 0} (b : Bool) (x : X) (xs : List X) → (if b then x ∷ [] els
 kept true x xs = refl
 kept false x xs = refl
 
-pub unwind_plain : (u : form.Unwind) (rows foreign : List Row) → u.preserve ≡ false → AllByRecursion (HasNoArray u.path) rows → stage (Unwind u) rows foreign ≡ filter (has_value u.path) rows
+pub unwind_plain : (u : form.Unwind) (rows foreign : List Row) → u.preserve ≡ false → AllByRecursion (HasNoArrayOnWay u.path) rows → stage (Unwind u) rows foreign ≡ filter (has_value u.path) rows
 unfolding stage unwound
 unwind_plain u [] foreign e all = refl
 unwind_plain u (d ∷ rows) foreign e all =

@@ -9,7 +9,7 @@ use Rattle.std.specs.List.{flat_map}
 use Rattle.std.proofs.lemmas.Grind.{flat_map-append}
 use Rattle.dv_pipe.specs.declared.step.Step.{Step}
 use Rattle.dv_pipe.specs.Parts.{rows_of_step, passed, ended}
-use Rattle.dv_pipe.specs.Sources.{Row, referred}
+use Rattle.dv_pipe.specs.Sources.{Row, rows_referred}
 use Rattle.dv_pipe.specs.Stages.{Lists, through}
 
 module _ {X Y Z : Type 0} where
@@ -44,12 +44,12 @@ through-more ss all s ds is =
     ∙ sym (one-by-one (rows_of_step s) (passed ss) ds)
 
 -- rows behind which none is wanted
-pub front_full : (ss : List Step) (most : Option ℕ) (documents : List (Bor Row)) (i : ℕ) (rows : List Row) → rows ≡ flat_map (passed ss) (referred (take i documents)) → ((more : List Row) → front most (rows ++ more) ≡ front most rows)
-    → front most rows ≡ front most (flat_map (passed ss) (referred documents))
+pub front_full : (ss : List Step) (most : Option ℕ) (documents : List (Bor Row)) (i : ℕ) (rows : List Row) → rows ≡ flat_map (passed ss) (rows_referred (take i documents)) → ((more : List Row) → front most (rows ++ more) ≡ front most rows)
+    → front most rows ≡ front most (flat_map (passed ss) (rows_referred documents))
 front_full ss most documents i rows is full =
-    let behind = flat_map (passed ss) (referred (drop i documents)) in
+    let behind = flat_map (passed ss) (rows_referred (drop i documents)) in
     sym (full behind)
-    ∙ ap (front most) (ap (λ l. l ++ behind) is ∙ sym (flat_map-append (passed ss) (referred (take i documents)) (referred (drop i documents))) ∙ ap (flat_map (passed ss)) (sym (map-append (λ r. r.now) (take i documents) (drop i documents)) ∙ ap referred (take-append-drop i documents)))
+    ∙ ap (front most) (ap (λ l. l ++ behind) is ∙ sym (flat_map-append (passed ss) (rows_referred (take i documents)) (rows_referred (drop i documents))) ∙ ap (flat_map (passed ss)) (sym (map-append (λ r. r.now) (take i documents) (drop i documents)) ∙ ap rows_referred (take-append-drop i documents)))
 
 -- ---- stages made steps one by one
 

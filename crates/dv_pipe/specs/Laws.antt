@@ -10,18 +10,18 @@ use Rattle.dv_row.specs.Unwinding.{reached}
 abbrev pub both : Members → Members → Members
 both f g = more_members (all_of (more_filters f (more_filters g no_filters))) no_members
 
-abbrev pub IsNoArray : Candidate → Type 0
-IsNoArray (Some (array vs)) = ⊥
-IsNoArray c = ⊤
+abbrev pub IsNoArrayCandidate : Candidate → Type 0
+IsNoArrayCandidate (Some (array vs)) = ⊥
+IsNoArrayCandidate c = ⊤
 
-abbrev pub HasNoArray : List (List ℕ) → Row → Type 0
-HasNoArray path d = IsNoArray (reached path d)
+abbrev pub HasNoArrayOnWay : List (List ℕ) → Row → Type 0
+HasNoArrayOnWay path d = IsNoArrayCandidate (reached path d)
 
 -- a value other than null
-abbrev pub is_value : Candidate → Bool
-is_value None = false
-is_value (Some null) = false
-is_value (Some v) = true
+abbrev pub is_value_but_null : Candidate → Bool
+is_value_but_null None = false
+is_value_but_null (Some null) = false
+is_value_but_null (Some v) = true
 
 abbrev pub has_value : List (List ℕ) → Row → Bool
-has_value path d = is_value (reached path d)
+has_value path d = is_value_but_null (reached path d)

@@ -14,8 +14,8 @@ rows_under namespace [] = []
 rows_under namespace (s ∷ ss) = if bytes_eq namespace s.0 then s.1 else rows_under namespace ss
 
 -- the documents behind references
-abbrev pub referred : List (Bor Row) → List Row
-referred = map (λ r. r.now)
+abbrev pub rows_referred : List (Bor Row) → List Row
+rows_referred = map (λ r. r.now)
 
 -- what stands under each namespace
 abbrev pub lists_of : List Source → List ℕ → List Row

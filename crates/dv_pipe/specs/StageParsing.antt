@@ -11,7 +11,7 @@ use Rattle.dv_row.specs.declared.fault.PipelineFault.{PipelineFault}
 use Rattle.dv_row.specs.declared.fault.PipelineFault.TheVariants.{UnknownStage, BadSpec, TooMany}
 use Rattle.dv_pipe.specs.declared.stage.Stage.{Stage}
 use Rattle.dv_pipe.specs.declared.stage.Stage.TheVariants as stages
-use Rattle.dv_row.specs.Fault.{of_filter}
+use Rattle.dv_row.specs.Fault.{pipeline_fault_of_filter}
 use Rattle.dv_row.specs.Parsing.{unwind_in}
 use Rattle.dv_bson.specs.Results.{◌>>=◌, each}
 use Rattle.dv_row.specs.ProjectParsing.{project_in}
@@ -31,7 +31,7 @@ count_in v = Err BadSpec
 -- a filter's form, or that there is none
 abbrev pub of_parsed : Result Members FilterFault → Result Members PipelineFault
 of_parsed (Ok form) = Ok form
-of_parsed (Err e) = Err (of_filter e)
+of_parsed (Err e) = Err (pipeline_fault_of_filter e)
 
 abbrev pub filter_form : Tree → Result Members PipelineFault
 filter_form (document fs) = of_parsed (filter_in fs)

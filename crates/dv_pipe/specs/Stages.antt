@@ -62,10 +62,10 @@ through (s ∷ ss) source lists rows = through ss source lists (stage s rows (fo
 abbrev pub evaluated : List Stage → List ℕ → Lists → List Row
 evaluated stages source lists = through stages source lists (lists source)
 
-abbrev pub is_named : List ℕ → Option (List ℕ) → Bool
-is_named namespace None = false
-is_named namespace (Some name) = bytes_eq namespace name
+abbrev pub is_source_named : List ℕ → Option (List ℕ) → Bool
+is_source_named namespace None = false
+is_source_named namespace (Some name) = bytes_eq namespace name
 
 -- whether a pipeline over a source reads a namespace: it is the source, or a stage looks into it
 abbrev pub is_read : List Stage → List ℕ → List ℕ → Bool
-is_read stages source namespace = bytes_eq source namespace || list_any (λ s. is_named namespace (looked_into s source)) stages
+is_read stages source namespace = bytes_eq source namespace || list_any (λ s. is_source_named namespace (looked_into s source)) stages

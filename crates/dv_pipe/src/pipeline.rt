@@ -6,7 +6,7 @@ ghost use Rattle.dv_bson.specs.View.{tree};
 ghost use Rattle.dv_row.specs.Parsing.{Gives};
 ghost use Rattle.dv_bson.specs.Results.{each};
 ghost use Rattle.dv_pipe.specs.StageParsing.{stage_of, pipeline_of};
-ghost use Rattle.dv_pipe.specs.Stages.{is_named, is_read, looked_into};
+ghost use Rattle.dv_pipe.specs.Stages.{is_source_named, is_read, looked_into};
 
 use crate::namespace::is_beside;
 use crate::stage::Stage;
@@ -70,7 +70,7 @@ impl Pipeline {
 
     /// Whether a stage of the pipeline over `source` looks into the namespace.
     fn looks_into(&self, source: &str, namespace: &str) -> bool
-        ensures { result ≡ list_any (λ s. is_named namespace.now (looked_into s source.now)) self.now }
+        ensures { result ≡ list_any (λ s. is_source_named namespace.now (looked_into s source.now)) self.now }
     {
         'stages: for stage in &self.stages {
             if let Some(collection) = stage.foreign() {

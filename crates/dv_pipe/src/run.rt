@@ -4,7 +4,7 @@ ghost use Rattle.std.specs.Prelude.{◌≡◌, ◌∷◌, ◌++◌, ◌⊎◌, �
 ghost use Rattle.std.specs.List.{flat_map};
 ghost use Rattle.dv_sort.specs.Sorting.{stable, front};
 ghost use Rattle.dv_pipe.specs.Parts.{passed, wanted as wanted_by, ended, rows_of_part, rows_of_run};
-ghost use Rattle.dv_pipe.specs.Sources.{Row, lists_of, referred};
+ghost use Rattle.dv_pipe.specs.Sources.{Row, lists_of, rows_referred};
 ghost use Rattle.dv_pipe.specs.Stages as defined;
 
 use crate::sources::Sources;
@@ -78,7 +78,7 @@ impl<'a> Run<'a> {
         alloc: Global,
         documents: &[&Document],
     ) -> Result<Vec<Document>, NoMemory>
-        ensures { IfOk result (λ rows. rows.items ≡ rows_of_run self.now (referred documents.now)) }
+        ensures { IfOk result (λ rows. rows.items ≡ rows_of_run self.now (rows_referred documents.now)) }
     {
         if let End::Front(most) = &self.end {
             return each(alloc, &self.steps, *most, documents);
@@ -107,7 +107,7 @@ impl<'a> Run<'a> {
 impl End<'_> {
     /// What becomes of the documents.
     fn rows(&self, alloc: Global, documents: &[&Document]) -> Result<Vec<Document>, NoMemory>
-        ensures { IfOk result (λ rows. rows.items ≡ ended self.now (referred documents.now)) }
+        ensures { IfOk result (λ rows. rows.items ≡ ended self.now (rows_referred documents.now)) }
     {
         match self {
             End::Front(most) => each(alloc, &[], *most, documents),
@@ -170,7 +170,7 @@ fn each(
     most: Option<usize>,
     documents: &[&Document],
 ) -> Result<Vec<Document>, NoMemory>
-    ensures { IfOk result (λ rows. rows.items ≡ front most (flat_map (passed steps.now) (referred documents.now))) }
+    ensures { IfOk result (λ rows. rows.items ≡ front most (flat_map (passed steps.now) (rows_referred documents.now))) }
 {
     let mut rows = Vec::new(alloc);
     'documents: for document in documents {
@@ -205,7 +205,7 @@ fn cut(rows: Vec<Document>, most: Option<usize>) -> Vec<Document>
 
 /// References to the rows.
 fn references<'r>(alloc: Global, rows: &'r [Document]) -> Result<Vec<&'r Document>, NoMemory>
-    ensures { IfOk result (λ lent. referred lent.items ≡ rows.now) }
+    ensures { IfOk result (λ lent. rows_referred lent.items ≡ rows.now) }
 {
     let mut lent = Vec::with_capacity(alloc, rows.len())?;
     'rows: for row in rows {
@@ -221,7 +221,7 @@ fn sorted(
     most: Option<usize>,
     documents: &[&Document],
 ) -> Result<Vec<Document>, NoMemory>
-    ensures { IfOk result (λ rows. rows.items ≡ front most (stable spec.now (referred documents.now))) }
+    ensures { IfOk result (λ rows. rows.items ≡ front most (stable spec.now (rows_referred documents.now))) }
 {
     laws::one_row_more();
     let mut sorter = Sorter::new(alloc, spec, most);

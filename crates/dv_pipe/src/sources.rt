@@ -1,7 +1,7 @@
 //! The lists that pipelines read.
 
 ghost use Rattle.std.specs.Prelude.{◌≡◌, ◌++◌, ◌∷◌, [], OnOk, OnErr};
-ghost use Rattle.dv_pipe.specs.Sources.{rows_under, referred};
+ghost use Rattle.dv_pipe.specs.Sources.{rows_under, rows_referred};
 ghost use Rattle.dv_pipe.specs.Stages as stages;
 
 use crate::namespace::is_beside;
@@ -33,7 +33,7 @@ impl<'a> Model for Sources<'a> {
 
     ghost coded = { coded_list (coded× (coded_list coded_ℕ) (coded_list (coded_list (coded× (coded_list coded_ℕ) coded_tree)))) };
 
-    ghost view = { λ s. map (λ (source : _). (source.namespace, defined.referred source.documents.items)) s.sources.items };
+    ghost view = { λ s. map (λ (source : _). (source.namespace, defined.rows_referred source.documents.items)) s.sources.items };
 
     ghost use Rattle.std.specs.Prelude.{◌≡◌, []};
 
@@ -53,7 +53,7 @@ impl<'a> Sources<'a> {
 
     /// Adds a namespace with its documents behind the others. Fails where memory is wanting; then nothing is changed.
     pub fn add(&mut self, namespace: &str, documents: Vec<&'a Document>) -> Result<(), NoMemory>
-        ensures ok { OnOk result (self.new ≡ self.old ++ (namespace.now, referred documents.entry.items) ∷ []) }
+        ensures ok { OnOk result (self.new ≡ self.old ++ (namespace.now, rows_referred documents.entry.items) ∷ []) }
         ensures err { OnErr result (self.new ≡ self.old) }
     {
         let alloc = *self.sources.allocator();
@@ -68,7 +68,7 @@ impl<'a> Sources<'a> {
     /// The documents of the namespace: those that were added first under this name, and none where it isn't there. Takes
     /// no memory.
     pub fn get(&self, namespace: &str) -> &[&'a Document]
-        ensures { referred result.now ≡ rows_under namespace.now self.now }
+        ensures { rows_referred result.now ≡ rows_under namespace.now self.now }
     {
         'sources: for source in &self.sources {
             if source.namespace.as_str() == namespace {
@@ -81,7 +81,7 @@ impl<'a> Sources<'a> {
     /// The documents of the collection in the database of `source`: those that were added first under its namespace, and
     /// none where it isn't there. Takes no memory.
     pub(crate) fn beside(&self, source: &str, collection: &str) -> &[&'a Document]
-        ensures { referred result.now ≡ rows_under (stages.beside source.now collection.now) self.now }
+        ensures { rows_referred result.now ≡ rows_under (stages.beside source.now collection.now) self.now }
     {
         'sources: for other in &self.sources {
             if is_beside(source, collection, other.namespace.as_str()) {

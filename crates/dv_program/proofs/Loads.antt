@@ -5,7 +5,7 @@ use Rattle.dv_bson.specs.Tree.{Field}
 use Rattle.dv_core.specs.Load.{IsCodeOf, IsLoaded, loaded}
 use Rattle.dv_core.specs.State.{State}
 use Rattle.dv_program.specs.File.{Begins, file_read_failed}
-use Rattle.dv_program.specs.Load.{IsWhy, Loads, LoadsEach, LoadsFile, load_read_failed, read_fault}
+use Rattle.dv_program.specs.Load.{IsWhy, LoadsDocuments, LoadsEach, LoadsFile, load_read_failed, read_fault}
 use Rattle.dv_program.specs.Streams.{failures_told}
 use Rattle.dv_program.specs.declared.file.FileFault.{FileFault}
 use Rattle.dv_program.specs.declared.file.FileFault.TheVariants as file
@@ -16,7 +16,7 @@ use Rattle.dv_program.proofs.Files.{HasBytes, Holds-more, fewer_behind}
 -- the next document is the one of this number, and these bytes are left
 pub record LoadsSoFar (file namespace : List ℕ) (old : State) (number : ℕ) (rest : List ℕ) (now : State) : Type 0 where
   pub documents : List (List Field)
-  pub loads : Loads file namespace old documents rest now
+  pub loads : LoadsDocuments file namespace old documents rest now
   pub number_is : number ≡ length documents + 1
   pub within : length documents + length rest ≤ length file
 
@@ -36,7 +36,7 @@ LoadsEach-more namespace [] d old mid new before this = (new, subst (λ (state :
 LoadsEach-more namespace (e ∷ documents) d old mid new before this = (before.0, before.1, LoadsEach-more namespace documents d before.0 mid new before.2 this)
 
 Loads-more : (file namespace : List ℕ) (old mid new : State) (documents : List (List Field)) (rest : List ℕ) (d : List Field) (behind : List ℕ)
-    → Loads file namespace old documents rest mid → Begins rest d behind → IsLoaded namespace d mid new → Loads file namespace old (documents ++ d ∷ []) behind new
+    → LoadsDocuments file namespace old documents rest mid → Begins rest d behind → IsLoaded namespace d mid new → LoadsDocuments file namespace old (documents ++ d ∷ []) behind new
 Loads-more file namespace old mid new documents rest d behind loads begins this = record {
   front = loads.front ++ begins.front;
   whole = loads.whole ∙ ap (λ xs. loads.front ++ xs) begins.whole ∙ sym (append_assoc loads.front begins.front behind);

@@ -6,7 +6,7 @@ use Rattle.std.proofs.lemmas.List.{take_all}
 use Rattle.std.specs.List.{AllPass}
 use Rattle.hex.specs.Hex.{decode_of, is_hex_digit}
 use Rattle.hex.proofs.HexLemmas.{decode_of-digits, decode_of-ok, decode_of-same}
-use Rattle.dv_program.specs.Line.{Pair, written, digits, IsHexOf}
+use Rattle.dv_program.specs.Line.{HexPair, written, hex_digits, IsHexOf}
 use Rattle.dv_program.specs.Reading.{IsPairs, BeginsWithPair, BeginsWithSpaces, is_space}
 
 abbrev digit_holds : ℕ → Type 0
@@ -18,7 +18,7 @@ no_space b = not (is_space b)
 digit_is_no_space : (c : ℕ) → is_hex_digit c ≡ true → c ≢ 32
 digit_is_no_space c h e = let wrong = ap is_hex_digit (sym e) ∙ h in cc
 
-length-digits : (ps : List Pair) → length (digits ps) ≡ 2 * length ps
+length-digits : (ps : List HexPair) → length (hex_digits ps) ≡ 2 * length ps
 length-digits [] = refl
 length-digits (p ∷ ps) = let rest = length-digits ps in omega (arith, rest)
 
@@ -30,13 +30,13 @@ pairs_from_hex bytes text h = record {
   low = h.low;
   others = h.others;
   whole = h.whole;
-  all = (decode_of-ok (h.high ∷ h.low ∷ digits h.others) bytes h.value).1;
+  all = (decode_of-ok (h.high ∷ h.low ∷ hex_digits h.others) bytes h.value).1;
 }
 
 pub hex_from_pairs : (text : List ℕ) → IsPairs text → (bytes : List ℕ) × IsHexOf bytes text
 hex_from_pairs text h =
     let long = length-digits h.others in
-    let found = decode_of-digits (h.high ∷ h.low ∷ digits h.others) (omega (arith, long)) h.all in
+    let found = decode_of-digits (h.high ∷ h.low ∷ hex_digits h.others) (omega (arith, long)) h.all in
     (found.0, record { high = h.high; low = h.low; others = h.others; whole = h.whole; value = found.1 })
 
 -- ---- the digits without the spaces
@@ -48,21 +48,21 @@ filter-spaces (suc n) rest = filter-spaces n rest
 filter-digit : (c : ℕ) (rest : List ℕ) → is_hex_digit c ≡ true → filter no_space (c ∷ rest) ≡ c ∷ filter no_space rest
 filter-digit c rest h = rw (ne_eqb c 32 (digit_is_no_space c h)) refl
 
-filter-written : (ps : List Pair) → AllPass is_hex_digit (digits ps) → filter no_space (written ps) ≡ digits ps
+filter-written : (ps : List HexPair) → AllPass is_hex_digit (hex_digits ps) → filter no_space (written ps) ≡ hex_digits ps
 filter-written [] h = refl
 filter-written (p ∷ ps) h =
-    let rest = All-tail digit_holds p.high (p.low ∷ digits ps) h in
-    let first = All-head digit_holds p.high (p.low ∷ digits ps) h in
-    let second = All-head digit_holds p.low (digits ps) rest in
+    let rest = All-tail digit_holds p.high (p.low ∷ hex_digits ps) h in
+    let first = All-head digit_holds p.high (p.low ∷ hex_digits ps) h in
+    let second = All-head digit_holds p.low (hex_digits ps) rest in
     filter-spaces p.spaces (p.high ∷ p.low ∷ written ps)
     ∙ filter-digit p.high (p.low ∷ written ps) first
     ∙ ap (λ xs. p.high ∷ xs) (filter-digit p.low (written ps) second
-    ∙ ap (λ xs. p.low ∷ xs) (filter-written ps (All-tail digit_holds p.low (digits ps) rest)))
+    ∙ ap (λ xs. p.low ∷ xs) (filter-written ps (All-tail digit_holds p.low (hex_digits ps) rest)))
 
 -- the text without its spaces is the digits of its pairs
-pub filter-pairs : (text : List ℕ) (h : IsPairs text) → filter no_space text ≡ h.high ∷ h.low ∷ digits h.others
+pub filter-pairs : (text : List ℕ) (h : IsPairs text) → filter no_space text ≡ h.high ∷ h.low ∷ hex_digits h.others
 filter-pairs text h =
-    let p : Pair = record { spaces = 0; high = h.high; low = h.low } in
+    let p : HexPair = record { spaces = 0; high = h.high; low = h.low } in
     ap (filter no_space) h.whole ∙ filter-written (p ∷ h.others) h.all
 
 -- ---- one pair after the other
@@ -76,13 +76,13 @@ strip (suc m) (suc n) xs ys hx hy e = strip m n xs ys hx hy (cc)
 
 pub no_pair : (text : List ℕ) → ((behind : List ℕ) → BeginsWithPair text behind → ⊥) → IsPairs text → ⊥
 no_pair text none h =
-    let second = All-tail digit_holds h.high (h.low ∷ digits h.others) h.all in
+    let second = All-tail digit_holds h.high (h.low ∷ hex_digits h.others) h.all in
     none (written h.others) (record {
       high = h.high;
       low = h.low;
       whole = h.whole;
-      first = All-head digit_holds h.high (h.low ∷ digits h.others) h.all;
-      second = All-head digit_holds h.low (digits h.others) second;
+      first = All-head digit_holds h.high (h.low ∷ hex_digits h.others) h.all;
+      second = All-head digit_holds h.low (hex_digits h.others) second;
     })
 
 empty_at_zero : (xs : List ℕ) → length xs ≡ 0 → xs ≡ []
@@ -100,17 +100,17 @@ last_pair text behind h e = record {
 
 pub more_pairs : (text behind next : List ℕ) → BeginsWithPair text behind → BeginsWithSpaces behind next → IsPairs next → IsPairs text
 more_pairs text behind next h gap rest =
-    let p : Pair = record { spaces = gap.spaces; high = rest.high; low = rest.low } in
+    let p : HexPair = record { spaces = gap.spaces; high = rest.high; low = rest.low } in
     record {
       high = h.high;
       low = h.low;
       others = p ∷ rest.others;
       whole = h.whole ∙ ap (λ xs. h.high ∷ h.low ∷ xs) (gap.whole ∙ ap (λ xs. replicate gap.spaces 32 ++ xs) rest.whole);
-      all = All-cons digit_holds h.high (h.low ∷ digits (p ∷ rest.others)) h.first (All-cons digit_holds h.low (digits (p ∷ rest.others)) h.second rest.all);
+      all = All-cons digit_holds h.high (h.low ∷ hex_digits (p ∷ rest.others)) h.first (All-cons digit_holds h.low (hex_digits (p ∷ rest.others)) h.second rest.all);
     }
 
 -- pairs go on behind the first and the spaces, if anything does
-behind_first : (behind next : List ℕ) (others : List Pair) → behind ≡ written others → AllPass is_hex_digit (digits others)
+behind_first : (behind next : List ℕ) (others : List HexPair) → behind ≡ written others → AllPass is_hex_digit (hex_digits others)
     → length behind ≢ 0 → BeginsWithSpaces behind next → IsPairs next
 behind_first behind next [] e all more gap = absurd (more (ap length e))
 behind_first behind next (p ∷ ps) e all more gap = record {
@@ -118,7 +118,7 @@ behind_first behind next (p ∷ ps) e all more gap = record {
   low = p.low;
   others = ps;
   whole = strip gap.spaces p.spaces next (p.high ∷ p.low ∷ written ps) gap.all
-      (digit_is_no_space p.high (All-head digit_holds p.high (p.low ∷ digits ps) all)) (sym gap.whole ∙ e);
+      (digit_is_no_space p.high (All-head digit_holds p.high (p.low ∷ hex_digits ps) all)) (sym gap.whole ∙ e);
   all = all;
 }
 
@@ -126,8 +126,8 @@ pub fewer_pairs : (text behind next : List ℕ) → BeginsWithPair text behind �
 fewer_pairs text behind next h more gap pairs =
     let same : h.high ∷ h.low ∷ behind ≡ pairs.high ∷ pairs.low ∷ written pairs.others = sym h.whole ∙ pairs.whole in
     let tail : behind ≡ written pairs.others = cc in
-    let second = All-tail digit_holds pairs.high (pairs.low ∷ digits pairs.others) pairs.all in
-    behind_first behind next pairs.others tail (All-tail digit_holds pairs.low (digits pairs.others) second) more gap
+    let second = All-tail digit_holds pairs.high (pairs.low ∷ hex_digits pairs.others) pairs.all in
+    behind_first behind next pairs.others tail (All-tail digit_holds pairs.low (hex_digits pairs.others) second) more gap
 
 -- ---- the same bytes
 
@@ -154,7 +154,7 @@ pub end_is_no_hex : (bytes : List ℕ) → IsHexOf bytes (codes "end") → ⊥
 end_is_no_hex bytes h =
     let pairs = pairs_from_hex bytes (codes "end") h in
     let second : 110 ≡ pairs.low = cc (pairs.whole) in
-    let digit = All-head digit_holds pairs.low (digits pairs.others) (All-tail digit_holds pairs.high (pairs.low ∷ digits pairs.others) pairs.all) in
+    let digit = All-head digit_holds pairs.low (hex_digits pairs.others) (All-tail digit_holds pairs.high (pairs.low ∷ hex_digits pairs.others) pairs.all) in
     let wrong = ap is_hex_digit second ∙ digit in cc
 
 -- ---- spaces

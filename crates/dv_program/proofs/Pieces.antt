@@ -6,8 +6,8 @@ use Rattle.std.proofs.lemmas.List.Splits.{slice_split-cons_no, slice_split-cons_
 use Rattle.std.specs.Io.KnownBytes.{Appends}
 use Rattle.std.specs.List.{onto_first, slice_split}
 use Rattle.dv_wire.specs.Schedule.{World}
-use Rattle.dv_program.specs.Pieces.{StopsIn, Takes}
-use Rattle.dv_program.specs.Script.{DoesLine, DoesLines, HasNoLf, IsBad, Standing, is_lf}
+use Rattle.dv_program.specs.Pieces.{StopsIn, TakesPiece}
+use Rattle.dv_program.specs.Script.{DoesLine, DoesLines, HasNoLf, IsBad, OpenSessions, is_lf}
 use Rattle.dv_program.specs.Stops.{EndsAt}
 use Rattle.dv_program.specs.declared.script.ScriptFault.{ScriptFault}
 use Rattle.dv_program.specs.declared.script.ScriptFault.TheVariants.{BadLine, NoMemory}
@@ -43,20 +43,20 @@ ended_line line end behind clean none =
 
 -- ---- lines that are done
 
-pub DoesLines-append : (xs ys : List (List ℕ)) (a m n : Standing) (s t : List ℕ) → DoesLines a xs s m → DoesLines m ys t n → DoesLines a (xs ++ ys) (s ++ t) n
+pub DoesLines-append : (xs ys : List (List ℕ)) (a m n : OpenSessions) (s t : List ℕ) → DoesLines a xs s m → DoesLines m ys t n → DoesLines a (xs ++ ys) (s ++ t) n
 DoesLines-append [] ys a m n s t h k = subst (λ said. DoesLines a ys (said ++ t) n) (sym h.0) (subst (λ from. DoesLines from ys t n) h.1 k)
 DoesLines-append (x ∷ xs) ys a m n s t h k =
     (h.0, h.1, h.2 ++ t, h.3, DoesLines-append xs ys h.0 m n h.2 t h.4 k, ap (λ said. said ++ t) h.5 ∙ append_assoc h.1 h.2 t)
 
-pub one_line : (a m : Standing) (line text : List ℕ) → DoesLine a line text m → DoesLines a (line ∷ []) text m
+pub one_line : (a m : OpenSessions) (line text : List ℕ) → DoesLine a line text m → DoesLines a (line ∷ []) text m
 one_line a m line text does = (m, text, [], does, (refl, refl), sym (append-nil text))
 
 -- ---- pieces that are taken
 
-abbrev pub Takes-nothing : (a : Standing) (line : List ℕ) → Takes a line [] [] a line
+abbrev pub Takes-nothing : (a : OpenSessions) (line : List ℕ) → TakesPiece a line [] [] a line
 Takes-nothing a line = record { lines = []; split = λ after. refl; few = omega arith; done = (refl, refl) }
 
-abbrev pub Takes-append : (xs ys : List ℕ) (a m n : Standing) (line mid kept s t : List ℕ) → Takes a line xs s m mid → Takes m mid ys t n kept → Takes a line (xs ++ ys) (s ++ t) n kept
+abbrev pub Takes-append : (xs ys : List ℕ) (a m n : OpenSessions) (line mid kept s t : List ℕ) → TakesPiece a line xs s m mid → TakesPiece m mid ys t n kept → TakesPiece a line (xs ++ ys) (s ++ t) n kept
 Takes-append xs ys a m n line mid kept s t h k = record {
   lines = h.lines ++ k.lines;
   split = λ after.
@@ -67,7 +67,7 @@ Takes-append xs ys a m n line mid kept s t h k = record {
 }
 
 -- a line that ends is done
-abbrev pub Takes-line : (xs : List ℕ) (a m : Standing) (line text : List ℕ) → HasNoLf line → HasNoLf xs → DoesLine a (line ++ xs) text m → Takes a line (xs ++ 10 ∷ []) text m []
+abbrev pub Takes-line : (xs : List ℕ) (a m : OpenSessions) (line text : List ℕ) → HasNoLf line → HasNoLf xs → DoesLine a (line ++ xs) text m → TakesPiece a line (xs ++ 10 ∷ []) text m []
 Takes-line xs a m line text clean none does = record {
   lines = (line ++ xs) ∷ [];
   split = λ after. ap (λ bytes. slice_split is_lf (line ++ bytes)) (append_assoc xs (10 ∷ []) after) ∙ ended_line line xs after clean none;
@@ -77,25 +77,25 @@ Takes-line xs a m line text clean none does = record {
 
 -- ---- a piece of which a front was taken
 
-pub record TakenSoFar (old : Standing) (number : ℕ) (line piece : List ℕ) (before : Option (List ℕ)) (rest : List ℕ) (after : Option (List ℕ)) (now : Standing) (number_now : ℕ) (line_now : List ℕ) : Type 0 where
+pub record TakenSoFar (old : OpenSessions) (number : ℕ) (line piece : List ℕ) (before : Option (List ℕ)) (rest : List ℕ) (after : Option (List ℕ)) (now : OpenSessions) (number_now : ℕ) (line_now : List ℕ) : Type 0 where
   pub front : List ℕ
   pub said : List ℕ
   pub whole : piece ≡ front ++ rest
   pub appended : Appends before after said
-  pub taken : Takes old line front said now line_now
+  pub taken : TakesPiece old line front said now line_now
   pub number_is : number_now ≡ number + length taken.lines
   pub clean : HasNoLf line_now
 
-pub nothing_taken : (old : Standing) (number : ℕ) (line piece : List ℕ) (before : Option (List ℕ)) → HasNoLf line → TakenSoFar old number line piece before piece before old number line
+pub nothing_taken : (old : OpenSessions) (number : ℕ) (line piece : List ℕ) (before : Option (List ℕ)) → HasNoLf line → TakenSoFar old number line piece before piece before old number line
 nothing_taken old number line piece before clean =
     let none : length (Takes-nothing old line).lines ≡ 0 = refl in
     record { front = []; said = []; whole = refl; appended = Appends-nil before; taken = Takes-nothing old line; number_is = omega (arith, none); clean = clean }
 
-module _ (old now : Standing) (number number_now : ℕ) (line piece rest line_now : List ℕ) (before mid : Option (List ℕ))
+module _ (old now : OpenSessions) (number number_now : ℕ) (line piece rest line_now : List ℕ) (before mid : Option (List ℕ))
     (so_far : TakenSoFar old number line piece before rest mid now number_now line_now) where
   -- no line ends in the rest, which is kept
-  pub rest_taken : (new : Standing) (number_new : ℕ) (kept : List ℕ) → new ≡ now → number_new ≡ number_now → kept ≡ line_now ++ rest
-      → (takes : Takes old line piece so_far.said new kept) × (number_new ≡ number + length takes.lines)
+  pub rest_taken : (new : OpenSessions) (number_new : ℕ) (kept : List ℕ) → new ≡ now → number_new ≡ number_now → kept ≡ line_now ++ rest
+      → (takes : TakesPiece old line piece so_far.said new kept) × (number_new ≡ number + length takes.lines)
   rest_taken new number_new kept same same_number whole_line = (
     record {
       lines = so_far.taken.lines;
@@ -164,14 +164,14 @@ module _ (old now : Standing) (number number_now : ℕ) (line piece rest line_no
         omega (arith, room, so_far.number_is, so_far.taken.few, ap length so_far.whole, length-append so_far.front rest, ap length cut, length-append end (10 ∷ behind))
 
     -- it is kept first
-    module _ (kept : Standing) (number_kept : ℕ) (line_kept : List ℕ) (same : kept ≡ now) (same_number : number_kept ≡ number_now) (whole_line : line_kept ≡ line_now ++ end) where
+    module _ (kept : OpenSessions) (number_kept : ℕ) (line_kept : List ℕ) (same : kept ≡ now) (same_number : number_kept ≡ number_now) (whole_line : line_kept ≡ line_now ++ end) where
       -- and is done
-      pub line_taken : (new : Standing) (text : List ℕ) (after : Option (List ℕ)) (number_new : ℕ) (line_new : List ℕ) → Appends mid after text → DoesLine kept line_kept text new
+      pub line_taken : (new : OpenSessions) (text : List ℕ) (after : Option (List ℕ)) (number_new : ℕ) (line_new : List ℕ) → Appends mid after text → DoesLine kept line_kept text new
           → number_new ≡ suc number_kept → line_new ≡ [] → TakenSoFar old number line piece before behind after new number_new line_new
       line_taken new text after number_new line_new appended does more none_new =
           let this = subst (λ from. DoesLine from (line_now ++ end) text new) same (subst (λ l. DoesLine kept l text new) whole_line does) in
           let one = Takes-line end now new line_now text so_far.clean none this in
-          let both : Takes old line (so_far.front ++ (end ++ 10 ∷ [])) (so_far.said ++ text) new [] = Takes-append so_far.front (end ++ 10 ∷ []) old now new line line_now [] so_far.said text so_far.taken one in
+          let both : TakesPiece old line (so_far.front ++ (end ++ 10 ∷ [])) (so_far.said ++ text) new [] = Takes-append so_far.front (end ++ 10 ∷ []) old now new line line_now [] so_far.said text so_far.taken one in
           let lines : length both.lines ≡ length (so_far.taken.lines ++ (line_now ++ end) ∷ []) = refl in
           subst (λ l. TakenSoFar old number line piece before behind after new number_new l) (sym none_new) (record {
             front = so_far.front ++ (end ++ 10 ∷ []);
@@ -196,7 +196,7 @@ too_long : (line part more : List ℕ) → 131200 < length line + length part �
 too_long line part more long meant is = omega (arith, is.limit, long, length-append (line ++ part) more, length-append line part)
 
 -- it is too long, or there is no memory for it, whatever else stands in it
-pub not_kept : (fault : ScriptFault) (now : Standing) (number : ℕ) (line part : List ℕ) → (fault ≡ BadLine number) ⊎ (fault ≡ NoMemory)
+pub not_kept : (fault : ScriptFault) (now : OpenSessions) (number : ℕ) (line part : List ℕ) → (fault ≡ BadLine number) ⊎ (fault ≡ NoMemory)
     → (fault ≡ BadLine number → 131200 < length line + length part) → (more : List ℕ) → EndsAt fault now number ((line ++ part) ++ more) [] now.hub
 not_kept fault now number line part (inl e) long more =
     subst (λ f. EndsAt f now number ((line ++ part) ++ more) [] now.hub) (sym e) (refl, too_long line part more (long e), refl, refl)

@@ -9,9 +9,9 @@ use Rattle.std.specs.List.{slice_split}
 use Rattle.dv_wire.specs.Schedule.{World}
 use Rattle.dv_wire.specs.Service.{AsksFew, most_reads}
 use Rattle.dv_wire.specs.Stream.{MoreBy, once_more}
-use Rattle.dv_program.specs.Pieces.{StopsIn, Takes}
-use Rattle.dv_program.specs.Script.{DoesLine, DoesLines, HasNoLf, Runs, Standing, begun, is_lf, standing_of}
-use Rattle.dv_program.specs.Stops.{Asks, DoesWhole, EndsAt, FailsWriting, OfScript, Stops, StopsBy, script_read_failed, script_write_failed}
+use Rattle.dv_program.specs.Pieces.{StopsIn, TakesPiece}
+use Rattle.dv_program.specs.Script.{DoesLine, DoesLines, HasNoLf, Runs, OpenSessions, no_sessions, is_lf, standing_of}
+use Rattle.dv_program.specs.Stops.{AsksForScript, DoesWhole, EndsAt, FailsWriting, OfScript, StopsScript, StopsBy, script_read_failed, script_write_failed}
 use Rattle.dv_program.specs.Streams.{failures_behind, failures_told}
 use Rattle.dv_program.specs.declared.script.ScriptFault.{ScriptFault}
 use Rattle.dv_program.specs.declared.sessions.Sessions as table
@@ -34,7 +34,7 @@ at_end_known : (from to : Option (List ℕ)) (read : List ℕ) → Consumes from
 at_end_known from to read consumed end = Consumes-whole from to read (λ known. read ≡ known) consumed end refl
 
 -- a script that ends at a line
-stops_by : (fault : ScriptFault) (old : Standing) (from to before after : Option (List ℕ)) (new : World) → OfScript (λ script text. Stops fault old script text new) from before after
+stops_by : (fault : ScriptFault) (old : OpenSessions) (from to before after : Option (List ℕ)) (new : World) → OfScript (λ script text. StopsScript fault old script text new) from before after
     → StopsBy fault old from to before after new
 stops_by (BadLine n) old from to before after new h = h
 stops_by Read old from to before after new h = absurd h.4.why
@@ -45,17 +45,17 @@ stops_by Sessions old from to before after new h = h
 
 -- ---- a script of which a front was read
 
-pub record ReadSoFar (old : Standing) (reads : ℕ) (from to before after : Option (List ℕ)) (now : Standing) (number : ℕ) (line : List ℕ) : Type 0 where
+pub record ReadSoFar (old : OpenSessions) (reads : ℕ) (from to before after : Option (List ℕ)) (now : OpenSessions) (number : ℕ) (line : List ℕ) : Type 0 where
   pub read : List ℕ
   pub said : List ℕ
   pub consumed : Consumes from to read
   pub appended : Appends before after said
-  pub taken : Takes old [] read said now line
+  pub taken : TakesPiece old [] read said now line
   pub number_is : number ≡ suc (length taken.lines)
   pub clean : HasNoLf line
   pub most : length read ≤ reads * 65536
 
-pub nothing_read : (old : Standing) (from before : Option (List ℕ)) (number : ℕ) (line : List ℕ) → number ≡ 1 → line ≡ [] → ReadSoFar old 0 from from before before old number line
+pub nothing_read : (old : OpenSessions) (from before : Option (List ℕ)) (number : ℕ) (line : List ℕ) → number ≡ 1 → line ≡ [] → ReadSoFar old 0 from from before before old number line
 nothing_read old from before number line first none = subst (λ l. ReadSoFar old 0 from from before before old number l) (sym none) (record {
   read = [];
   said = [];
@@ -68,7 +68,7 @@ nothing_read old from before number line first none = subst (λ l. ReadSoFar old
 })
 
 -- no memory for the first read
-pub never_read : (old : Standing) (from before : Option (List ℕ)) → StopsBy NoMemory old from from before before old.hub
+pub never_read : (old : OpenSessions) (from before : Option (List ℕ)) → StopsBy NoMemory old from from before before old.hub
 never_read old from before =
     let next = has_first (unread from) in (
       unread from,
@@ -89,7 +89,7 @@ never_read old from before =
       },
     )
 
-module _ (old now : Standing) (reads number : ℕ) (from mid before middle : Option (List ℕ)) (line : List ℕ) (so_far : ReadSoFar old reads from mid before middle now number line) where
+module _ (old now : OpenSessions) (reads number : ℕ) (from mid before middle : Option (List ℕ)) (line : List ℕ) (so_far : ReadSoFar old reads from mid before middle now number line) where
   pub numbers_left : (count : ℕ) → reads < 2 ^ 32 → count ≤ 65536 → number + count < 2 ^ 64
   numbers_left count few small = omega (arith, few, small, so_far.number_is, so_far.taken.few, so_far.most)
 
@@ -117,11 +117,11 @@ module _ (old now : Standing) (reads number : ℕ) (from mid before middle : Opt
     at_failure kept handed = (so_far.read, so_far.said, Consumes-kept from mid to so_far.read so_far.consumed kept, Appends-kept before middle after so_far.said so_far.appended handed, does_whole)
 
     -- another piece is taken
-    pub read_more : (piece said : List ℕ) (new : Standing) (number_new : ℕ) (line_new : List ℕ) (flushed : Option (List ℕ)) → Keeps middle flushed → Consumes mid to piece → length piece ≤ 65536
-        → Appends flushed after said → (takes : Takes now line piece said new line_new) → number_new ≡ number + length takes.lines → HasNoLf line_new
+    pub read_more : (piece said : List ℕ) (new : OpenSessions) (number_new : ℕ) (line_new : List ℕ) (flushed : Option (List ℕ)) → Keeps middle flushed → Consumes mid to piece → length piece ≤ 65536
+        → Appends flushed after said → (takes : TakesPiece now line piece said new line_new) → number_new ≡ number + length takes.lines → HasNoLf line_new
         → ReadSoFar old (reads + 1) from to before after new number_new line_new
     read_more piece said new number_new line_new flushed handed consumed small appended takes number_is clean =
-        let both : Takes old [] (so_far.read ++ piece) (so_far.said ++ said) new line_new = Takes-append so_far.read piece old now new [] line line_new so_far.said said so_far.taken takes in
+        let both : TakesPiece old [] (so_far.read ++ piece) (so_far.said ++ said) new line_new = Takes-append so_far.read piece old now new [] line line_new so_far.said said so_far.taken takes in
         let lines : length both.lines ≡ length (so_far.taken.lines ++ takes.lines) = refl in
         record {
           read = so_far.read ++ piece;
@@ -167,7 +167,7 @@ module _ (old now : Standing) (reads number : ℕ) (from mid before middle : Opt
       whole : slice_split is_lf so_far.read ≡ so_far.taken.lines ++ line ∷ []
       whole = does_whole.split
 
-      pub at_end : (said : List ℕ) (new : Standing) → Appends flushed after said → DoesLine now line said new → OfScript (λ script text. Runs old script text new) from before after
+      pub at_end : (said : List ℕ) (new : OpenSessions) → Appends flushed after said → DoesLine now line said new → OfScript (λ script text. Runs old script text new) from before after
       at_end said new appended does = (
         so_far.read,
         so_far.said ++ said,
@@ -222,7 +222,7 @@ module _ (old now : Standing) (reads number : ℕ) (from mid before middle : Opt
 
 -- ---- a line's fault is none of the reads'
 
-few_by : (A : Type 0) (fault : ScriptFault) (mid : Standing) (number : ℕ) (line part : List ℕ) (end : World) (old new : ℕ) → EndsAt fault mid number line part end → AsksFew old new → Asks {A = A} (Err fault) old new
+few_by : (A : Type 0) (fault : ScriptFault) (mid : OpenSessions) (number : ℕ) (line part : List ℕ) (end : World) (old new : ℕ) → EndsAt fault mid number line part end → AsksFew old new → AsksForScript {A = A} (Err fault) old new
 few_by A (BadLine n) mid number line part end old new why few = few
 few_by A Read mid number line part end old new why few = few
 few_by A TooManyReads mid number line part end old new why few = absurd why
@@ -230,9 +230,9 @@ few_by A Write mid number line part end old new why few = few
 few_by A NoMemory mid number line part end old new why few = few
 few_by A Sessions mid number line part end old new why few = few
 
-pub few_asked : (A : Type 0) (result : Result A ScriptFault) (fault : ScriptFault) (mid : Standing) (number : ℕ) (line part : List ℕ) (end : World) (old new : ℕ) → result ≡ Err fault
-    → EndsAt fault mid number line part end → AsksFew old new → Asks result old new
-few_asked A result fault mid number line part end old new is why few = subst (λ r. Asks r old new) (sym is) (few_by A fault mid number line part end old new why few)
+pub few_asked : (A : Type 0) (result : Result A ScriptFault) (fault : ScriptFault) (mid : OpenSessions) (number : ℕ) (line part : List ℕ) (end : World) (old new : ℕ) → result ≡ Err fault
+    → EndsAt fault mid number line part end → AsksFew old new → AsksForScript result old new
+few_asked A result fault mid number line part end old new is why few = subst (λ r. AsksForScript r old new) (sym is) (few_by A fault mid number line part end old new why few)
 
 -- ---- how often a reader was asked
 
@@ -257,20 +257,20 @@ asked_most reads old new most least more = omega (arith, most, least, more)
 
 -- ---- behind the last flush
 
-pub ran_known : (from before after : Option (List ℕ)) (old new : Standing) → OfScript (λ script text. Runs old script text new) from before after
-    → IfSome from (λ text. (said : List ℕ) × (end : Standing) × Appends before after said × Runs old text said end × (end.hub ≡ new.hub))
+pub ran_known : (from before after : Option (List ℕ)) (old new : OpenSessions) → OfScript (λ script text. Runs old script text new) from before after
+    → IfSome from (λ text. (said : List ℕ) × (end : OpenSessions) × Appends before after said × Runs old text said end × (end.hub ≡ new.hub))
 ran_known None before after old new ran = tt
 ran_known (Some known) before after old new ran = (ran.1, new, ran.3, subst (λ script. Runs old script ran.1 new) ran.2 ran.4, refl)
 
-pub ran_kept : (from before middle after : Option (List ℕ)) (old new : Standing) → OfScript (λ script text. Runs old script text new) from before middle → Keeps middle after
+pub ran_kept : (from before middle after : Option (List ℕ)) (old new : OpenSessions) → OfScript (λ script text. Runs old script text new) from before middle → Keeps middle after
     → OfScript (λ script text. Runs old script text new) from before after
 ran_kept from before middle after old new ran kept = (ran.0, ran.1, ran.2, Appends-kept before middle after ran.1 ran.3 kept, ran.4)
 
 -- what was written behind the last line isn't handed on
-pub ran_unflushed : (from to before after : Option (List ℕ)) (old new : Standing) → OfScript (λ script text. Runs old script text new) from before after → StopsBy Write old from to before after new.hub
+pub ran_unflushed : (from to before after : Option (List ℕ)) (old new : OpenSessions) → OfScript (λ script text. Runs old script text new) from before after → StopsBy Write old from to before after new.hub
 ran_unflushed from to before after old new ran = (ran.0, ran.1, ran.2, ran.3, inr (new, ran.4, refl))
 
-pub stops_kept : (fault : ScriptFault) (old : Standing) (from to before middle after : Option (List ℕ)) (new : World) → StopsBy fault old from to before middle new → Keeps middle after → StopsBy fault old from to before after new
+pub stops_kept : (fault : ScriptFault) (old : OpenSessions) (from to before middle after : Option (List ℕ)) (new : World) → StopsBy fault old from to before middle new → Keeps middle after → StopsBy fault old from to before after new
 stops_kept (BadLine n) old from to before middle after new h kept = (h.0, h.1, h.2, Appends-kept before middle after h.1 h.3 kept, h.4)
 stops_kept Read old from to before middle after new h kept = (h.0, h.1, h.2, Appends-kept before middle after h.1 h.3 kept, h.4)
 stops_kept TooManyReads old from to before middle after new h kept = (h.0, h.1, h.2, Appends-kept before middle after h.1 h.3 kept, h.4)
@@ -282,7 +282,7 @@ stops_kept Sessions old from to before middle after new h kept = (h.0, h.1, h.2,
 pub record Flushes (A : Type 0) (result : Result A ScriptFault) : Type 0 where
   pub reader : (n : ℕ) → failures_told script_read_failed result n ≡ n
   pub writer : (n : ℕ) → FailsWriting result n (failures_behind result n)
-  pub reads : (old new : ℕ) → AsksFew old new → Asks result old new
+  pub reads : (old new : ℕ) → AsksFew old new → AsksForScript result old new
 
 flushes_err : (A : Type 0) → Flushes A (Err Write)
 flushes_err A = record { reader = λ n. refl; writer = λ n. refl; reads = λ old new few. few }
@@ -318,15 +318,15 @@ on_ok A E (Err e) P p = tt
 -- ---- from the script's begin, to behind the last flush
 
 module _ (sessions : table.Sessions) (hub : World) (none : sessions.places ≡ replicate 1000 None) (from before middle after : Option (List ℕ)) (kept : Keeps middle after) where
-  pub stops_begun : (fault : ScriptFault) (to : Option (List ℕ)) (new : World) → StopsBy fault (standing_of sessions hub) from to before middle new → StopsBy fault (begun hub) from to before after new
+  pub stops_begun : (fault : ScriptFault) (to : Option (List ℕ)) (new : World) → StopsBy fault (standing_of sessions hub) from to before middle new → StopsBy fault (no_sessions hub) from to before after new
   stops_begun fault to new h =
-      stops_kept fault (begun hub) from to before middle after new (subst (λ places. let old : Standing = record { sessions = places; hub = hub } in StopsBy fault old from to before middle new) none h) kept
+      stops_kept fault (no_sessions hub) from to before middle after new (subst (λ places. let old : OpenSessions = record { sessions = places; hub = hub } in StopsBy fault old from to before middle new) none h) kept
 
-  pub ran_begun : (new : Standing) → OfScript (λ script text. Runs (standing_of sessions hub) script text new) from before middle → OfScript (λ script text. Runs (begun hub) script text new) from before after
+  pub ran_begun : (new : OpenSessions) → OfScript (λ script text. Runs (standing_of sessions hub) script text new) from before middle → OfScript (λ script text. Runs (no_sessions hub) script text new) from before after
   ran_begun new h =
-      ran_kept from before middle after (begun hub) new (subst (λ places. let old : Standing = record { sessions = places; hub = hub } in OfScript (λ script text. Runs old script text new) from before middle) none h) kept
+      ran_kept from before middle after (no_sessions hub) new (subst (λ places. let old : OpenSessions = record { sessions = places; hub = hub } in OfScript (λ script text. Runs old script text new) from before middle) none h) kept
 
-pub flush_stops : (A : Type 0) (result : Result A ScriptFault) (old : Standing) (from to before after : Option (List ℕ)) (new : World) → IfErr result (λ fault. fault ≡ Write) → StopsBy Write old from to before after new
+pub flush_stops : (A : Type 0) (result : Result A ScriptFault) (old : OpenSessions) (from to before after : Option (List ℕ)) (new : World) → IfErr result (λ fault. fault ≡ Write) → StopsBy Write old from to before after new
     → IfErr result (λ fault. StopsBy fault old from to before after new)
 flush_stops A (Ok done) old from to before after new told stops = tt
 flush_stops A (Err e) old from to before after new told stops = subst (λ fault. StopsBy fault old from to before after new) (sym told) stops

@@ -7,7 +7,7 @@ use Rattle.dv_wire.specs.Service.{ComesTo}
 use Rattle.dv_wire.specs.Stream.{MoreBy}
 use Rattle.dv_wire.specs.declared.fault.RunFault.{RunFault}
 use Rattle.dv_wire.specs.declared.service.Done.{Done}
-use Rattle.dv_program.specs.Serve.{Accepts, Close, Closes, Come, Connection, Ended, HasSession, IsFresh, Served, ServesEach, connection_line}
+use Rattle.dv_program.specs.Serve.{Accepts, Close, ClosesConnection, Come, Connection, Ended, HasSession, HasTakenNothing, Served, ServesEach, connection_line}
 
 -- so many connections are served, and the writer has taken what is written of them, and handed it on
 pub record ServedSoFar (connections count : ℕ) (coming_old coming_now : Option (List (List ℕ))) (closed_old closed_now : Option (List Ended)) (old now : World) (taken_old taken_now : Option (List ℕ)) (flushes_old flushes_now : ℕ) : Type 0 where
@@ -33,8 +33,8 @@ Come-more : (old mid new : Option (List (List ℕ))) (connections : List Connect
 Come-more old mid new [] next come accepts = (new, subst (λ c. Accepts c next.input new) come accepts, refl)
 Come-more old mid new (first ∷ others) next come accepts = (come.0, come.1, Come-more come.0 mid new others next come.2 accepts)
 
-Close-more : (old mid new : Option (List Ended)) (connections : List Connection) (next : Connection) → Close old connections mid → Closes mid next.left next.taken new → Close old (connections ++ next ∷ []) new
-Close-more old mid new [] next close closes = (new, subst (λ c. Closes c next.left next.taken new) close closes, refl)
+Close-more : (old mid new : Option (List Ended)) (connections : List Connection) (next : Connection) → Close old connections mid → ClosesConnection mid next.left next.taken new → Close old (connections ++ next ∷ []) new
+Close-more old mid new [] next close closes = (new, subst (λ c. ClosesConnection c next.left next.taken new) close closes, refl)
 Close-more old mid new (first ∷ others) next close closes = (close.0, close.1, Close-more close.0 mid new others next close.2 closes)
 
 line_nil : (first number : ℕ) (told : Result Done RunFault) (text : List ℕ) → text ≡ [] → number ≡ first → text ++ connection_line number told ≡ connection_line first told ++ []
@@ -57,7 +57,7 @@ ServesEach-more first number (next ∷ others) known old mid new text told at ea
 module _ (connections count : ℕ) (coming_old coming_mid : Option (List (List ℕ))) (closed_old closed_mid : Option (List Ended)) (old mid : World) (taken_old taken_mid : Option (List ℕ)) (flushes_old flushes_mid : ℕ)
     (so_far : ServedSoFar connections count coming_old coming_mid closed_old closed_mid old mid taken_old taken_mid flushes_old flushes_mid) where
   module _ (coming_new : Option (List (List ℕ))) (closed_new : Option (List Ended)) (new : World) (told : Result Done RunFault) (next : Connection)
-      (accepts : Accepts coming_mid next.input coming_new) (closes : Closes closed_mid next.left next.taken closed_new) (this : HasSession next mid told new) where
+      (accepts : Accepts coming_mid next.input coming_new) (closes : ClosesConnection closed_mid next.left next.taken closed_new) (this : HasSession next mid told new) where
     one_served : Served (count + 1) coming_old coming_new closed_old closed_new old (so_far.text ++ connection_line (count + 1) told) new
     one_served = record {
       connections = so_far.served.connections ++ next ∷ [];
@@ -103,6 +103,6 @@ module _ (connections count : ℕ) (coming_old coming_mid : Option (List (List �
 
 -- ---- a session
 
-pub session_had : (connection : Connection) (old new : World) (told : Result Done RunFault) → IsFresh connection.before → ComesTo told old new connection.input connection.left connection.before connection.taken
+pub session_had : (connection : Connection) (old new : World) (told : Result Done RunFault) → HasTakenNothing connection.before → ComesTo told old new connection.input connection.left connection.before connection.taken
     → HasSession connection old told new
 session_had connection old new told fresh comes = record { fresh = fresh; comes = comes }

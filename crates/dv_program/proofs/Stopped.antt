@@ -6,7 +6,7 @@ use Rattle.dv_wire.specs.declared.fault.HubFault.{HubFault}
 use Rattle.dv_wire.specs.declared.fault.HubFault.TheVariants as hub
 use Rattle.dv_program.specs.Line.{IsLine}
 use Rattle.dv_program.specs.Output.{AreReplies, first_length}
-use Rattle.dv_program.specs.Script.{Does, Standing, open_fault}
+use Rattle.dv_program.specs.Script.{DoesOneLine, OpenSessions, open_fault}
 use Rattle.dv_program.specs.Stops.{EndsAt, OpensNone, StopsLine, number_in, script_read_failed, script_write_failed}
 use Rattle.dv_program.specs.Streams.{failures_told}
 use Rattle.dv_program.specs.declared.said.Line.{Line}
@@ -16,11 +16,11 @@ use Rattle.dv_program.proofs.Replies.{fewer_behind, one_more_reply}
 
 -- ---- sessions that aren't opened
 
-pub opens_none : (fault : HubFault) (old : Standing) (number : ℕ) (new : World) → slice_get old.sessions number ≡ Some None → Opens old.hub (Err fault) new → OpensNone (open_fault fault) old number new
+pub opens_none : (fault : HubFault) (old : OpenSessions) (number : ℕ) (new : World) → slice_get old.sessions number ≡ Some None → Opens old.hub (Err fault) new → OpensNone (open_fault fault) old number new
 opens_none hub.TooManySessions old number new there opens = (there, opens)
 opens_none hub.NoMemory old number new there opens = opens
 
-pub stops_unopened : (fault : ScriptFault) (old : Standing) (meant : Line) (number : ℕ) (new : World) → number_in meant ≡ Some number → OpensNone fault old number new → StopsLine fault old meant new
+pub stops_unopened : (fault : ScriptFault) (old : OpenSessions) (meant : Line) (number : ℕ) (new : World) → number_in meant ≡ Some number → OpensNone fault old number new → StopsLine fault old meant new
 stops_unopened (BadLine n) old meant number new named none = none
 stops_unopened Read old meant number new named none = none
 stops_unopened TooManyReads old meant number new named none = none
@@ -30,7 +30,7 @@ stops_unopened Sessions old meant number new named none = (number, named, none)
 
 -- ---- lines that are done, and whose answers aren't made
 
-pub stops_untold : (old : Standing) (meant : Line) (answer : List ℕ) (end : Standing) → Does old meant answer end → StopsLine NoMemory old meant end.hub
+pub stops_untold : (old : OpenSessions) (meant : Line) (answer : List ℕ) (end : OpenSessions) → DoesOneLine old meant answer end → StopsLine NoMemory old meant end.hub
 stops_untold old meant answer end does = inr (answer, end, does, refl)
 
 -- whatever was answered are replies
@@ -47,7 +47,7 @@ are_replies bytes = replies_in (suc (length bytes)) bytes (omega arith)
 
 -- ---- as a line of the script
 
-pub ends_at : (fault : ScriptFault) (old : Standing) (meant : Line) (number : ℕ) (line : List ℕ) (new : World) → IsLine meant line → StopsLine fault old meant new → EndsAt fault old number line [] new
+pub ends_at : (fault : ScriptFault) (old : OpenSessions) (meant : Line) (number : ℕ) (line : List ℕ) (new : World) → IsLine meant line → StopsLine fault old meant new → EndsAt fault old number line [] new
 ends_at (BadLine n) old meant number line new is stops = absurd stops
 ends_at Read old meant number line new is stops = stops
 ends_at TooManyReads old meant number line new is stops = stops
@@ -56,7 +56,7 @@ ends_at NoMemory old meant number line new is (inl none) = (refl, inl (refl, non
 ends_at NoMemory old meant number line new is (inr done) = (refl, inr (done.0, done.1, (meant, is, done.2), done.3))
 ends_at Sessions old meant number line new is stops = (refl, (meant, is, stops))
 
-pub streams_still : {A : Type 0} (result : Result A ScriptFault) (old : Standing) (meant : Line) (new : World) → IfErr result (λ fault. StopsLine fault old meant new)
+pub streams_still : {A : Type 0} (result : Result A ScriptFault) (old : OpenSessions) (meant : Line) (new : World) → IfErr result (λ fault. StopsLine fault old meant new)
     → (n : ℕ) → (failures_told script_read_failed result n ≡ n) × (failures_told script_write_failed result n ≡ n)
 streams_still (Ok done) old meant new stops n = (refl, refl)
 streams_still (Err (BadLine m)) old meant new stops n = absurd stops

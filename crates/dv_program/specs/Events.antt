@@ -5,7 +5,7 @@ use Rattle.dv_wire.specs.declared.events.Event.TheVariants as events
 use Rattle.dv_wire.specs.declared.events.Said.{Said}
 use Rattle.dv_wire.specs.declared.events.Said.TheVariants as said
 use Rattle.dv_program.specs.Output.{AreReplies, end_line, fed_text}
-use Rattle.dv_program.specs.Script.{DoesLines, Standing}
+use Rattle.dv_program.specs.Script.{DoesLines, OpenSessions}
 use Rattle.dv_program.specs.declared.said.Line.{Line}
 use Rattle.dv_program.specs.declared.said.Line.TheVariants.{Skip, Bytes, End}
 use Rattle.dv_program.specs.declared.sessions.Session.{Session}
@@ -25,28 +25,28 @@ abbrev pub piece_of : Session → List ℕ → List Event
 piece_of session bytes = if session.is_closed then [] else events.Piece session.id bytes ∷ []
 
 -- the events of a line
-abbrev pub events_of : Standing → Line → List Event
+abbrev pub events_of : OpenSessions → Line → List Event
 events_of old Skip = []
 events_of old (Bytes number bytes) = opening (slice_get old.sessions number) ++ piece_of (session_of old.hub.next (slice_get old.sessions number)) bytes
 events_of old (End number) = opening (slice_get old.sessions number) ++ events.End (session_of old.hub.next (slice_get old.sessions number)).id ∷ []
 
 -- those of all lines, joined in the lines' order
-abbrev pub schedule_of : (old new : Standing) (lines : List (List ℕ)) (text : List ℕ) → DoesLines old lines text new → List Event
+abbrev pub schedule_of : (old new : OpenSessions) (lines : List (List ℕ)) (text : List ℕ) → DoesLines old lines text new → List Event
 schedule_of old new [] text done = []
 schedule_of old new (line ∷ lines) text (mid, first, others, does, behind, both) = events_of old does.0 ++ schedule_of mid new lines others behind
 
 -- what is written of an event under a number: nothing of an opening
-abbrev pub Writes : ℕ → Said → List ℕ → Type 0
-Writes number (said.Opened result) text = text ≡ []
-Writes number (said.Fed told bytes) text = (replies : List (List ℕ)) × AreReplies replies bytes × (text ≡ fed_text number replies told)
-Writes number (said.Ended unfinished) text = text ≡ end_line number unfinished
+abbrev pub WritesEvent : ℕ → Said → List ℕ → Type 0
+WritesEvent number (said.Opened result) text = text ≡ []
+WritesEvent number (said.Fed told bytes) text = (replies : List (List ℕ)) × AreReplies replies bytes × (text ≡ fed_text number replies told)
+WritesEvent number (said.Ended unfinished) text = text ≡ end_line number unfinished
 
 abbrev pub WritesAll : ℕ → List Said → List ℕ → Type 0
 WritesAll number [] text = text ≡ []
-WritesAll number (first ∷ others) text = (one : List ℕ) × (two : List ℕ) × (text ≡ one ++ two) × Writes number first one × WritesAll number others two
+WritesAll number (first ∷ others) text = (one : List ℕ) × (two : List ℕ) × (text ≡ one ++ two) × WritesEvent number first one × WritesAll number others two
 
 -- what a line writes of its events
-abbrev pub Tells : Line → List Said → List ℕ → Type 0
-Tells Skip all text = text ≡ []
-Tells (Bytes number bytes) all text = WritesAll number all text
-Tells (End number) all text = WritesAll number all text
+abbrev pub TellsEvents : Line → List Said → List ℕ → Type 0
+TellsEvents Skip all text = text ≡ []
+TellsEvents (Bytes number bytes) all text = WritesAll number all text
+TellsEvents (End number) all text = WritesAll number all text

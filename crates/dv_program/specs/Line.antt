@@ -5,27 +5,27 @@ use Rattle.dv_program.specs.declared.said.Line.{Line}
 use Rattle.dv_program.specs.declared.said.Line.TheVariants.{Skip, Bytes, End}
 
 -- two hexadecimal digits, and how many spaces stand in front of them
-pub record Pair : Type 0 where
+pub record HexPair : Type 0 where
   pub spaces : ℕ
   pub high : ℕ
   pub low : ℕ
 
 -- pairs as they are written, and their digits alone
-abbrev pub written : List Pair → List ℕ
+abbrev pub written : List HexPair → List ℕ
 written [] = []
 written (p ∷ ps) = replicate p.spaces 32 ++ (p.high ∷ p.low ∷ written ps)
 
-abbrev pub digits : List Pair → List ℕ
-digits [] = []
-digits (p ∷ ps) = p.high ∷ p.low ∷ digits ps
+abbrev pub hex_digits : List HexPair → List ℕ
+hex_digits [] = []
+hex_digits (p ∷ ps) = p.high ∷ p.low ∷ hex_digits ps
 
 -- one or more pairs, the first of them without spaces in front, whose digits decode to the bytes
 pub record IsHexOf (bytes text : List ℕ) : Type 0 where
   pub high : ℕ
   pub low : ℕ
-  pub others : List Pair
+  pub others : List HexPair
   pub whole : text ≡ high ∷ low ∷ written others
-  pub value : decode_of (high ∷ low ∷ digits others) ≡ Ok bytes
+  pub value : decode_of (high ∷ low ∷ hex_digits others) ≡ Ok bytes
 
 abbrev pub IsSkipped : List ℕ → Type 0
 IsSkipped text = (text ≡ []) ⊎ ((comment : List ℕ) × (text ≡ 35 ∷ comment))

@@ -26,7 +26,7 @@ LoadsEach namespace [] old new = new ≡ old
 LoadsEach namespace (d ∷ documents) old new = (mid : State) × IsLoaded namespace d old mid × LoadsEach namespace documents mid new
 
 -- documents from the front of a file are loaded under the namespace, and this is left; these bytes stand behind them
-pub record Loads (file namespace : List ℕ) (old : State) (documents : List (List Field)) (rest : List ℕ) (new : State) : Type 0 where
+pub record LoadsDocuments (file namespace : List ℕ) (old : State) (documents : List (List Field)) (rest : List ℕ) (new : State) : Type 0 where
   pub front : List ℕ
   pub whole : file ≡ front ++ rest
   pub held : Holds documents front
@@ -39,7 +39,7 @@ pub record IsNext (file : List ℕ) (documents : List (List Field)) (rest : List
   pub more : 0 < length rest
 
 -- the bytes begin with a document that is refused with this code
-pub record IsRefused (namespace : List ℕ) (state : State) (number : ℤ) (rest : List ℕ) : Type 0 where
+pub record IsRefusedDocument (namespace : List ℕ) (state : State) (number : ℤ) (rest : List ℕ) : Type 0 where
   pub document : List Field
   pub behind : List ℕ
   pub begins : Begins rest document behind
@@ -51,7 +51,7 @@ abbrev pub IsWhy : LoadFault → List ℕ → State → List ℕ → ℕ → ℕ
 IsWhy Read namespace state rest number at = ⊥
 IsWhy TooLarge namespace state rest number at = ⊥
 IsWhy (Document n a fault) namespace state rest number at = (n ≡ number) × (a ≡ at) × (first_fault rest ≡ Some fault)
-IsWhy (Refused n a code) namespace state rest number at = (n ≡ number) × (a ≡ at) × IsRefused namespace state code rest
+IsWhy (Refused n a code) namespace state rest number at = (n ≡ number) × (a ≡ at) × IsRefusedDocument namespace state code rest
 IsWhy NoMemory namespace state rest number at = ⊤
 
 -- loading stops at the next document
@@ -60,14 +60,14 @@ pub record StopsLoading (file namespace : List ℕ) (old : State) (fault : LoadF
   pub rest : List ℕ
   pub number : ℕ
   pub at : ℕ
-  pub loads : Loads file namespace old documents rest new
+  pub loads : LoadsDocuments file namespace old documents rest new
   pub next : IsNext file documents rest number at
   pub why : IsWhy fault namespace new rest number at
 
 -- All documents of a file are loaded, or those in front of the first that isn't. What isn't read to its end, or is too large,
 -- changes nothing.
 abbrev pub LoadsFile : {A : Type 0} → List ℕ → List ℕ → State → Result A LoadFault → State → Type 0
-LoadsFile file namespace old (Ok done) new = (documents : List (List Field)) × Loads file namespace old documents [] new
+LoadsFile file namespace old (Ok done) new = (documents : List (List Field)) × LoadsDocuments file namespace old documents [] new
 LoadsFile file namespace old (Err Read) new = new ≡ old
 LoadsFile file namespace old (Err TooLarge) new = (1073741824 < length file) × (new ≡ old)
 LoadsFile file namespace old (Err (Document number at fault)) new = StopsLoading file namespace old (Document number at fault) new

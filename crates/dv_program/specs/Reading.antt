@@ -2,7 +2,7 @@
 use Rattle.std.specs.Prelude.{◌≡◌, ◌≢◌, ◌==◌, ℕ, ◌<◌, Bool, true, List, ◌∷◌, ◌++◌, length, replicate, slice_index, Result, Ok, Err}
 use Rattle.std.specs.List.{AllPass}
 use Rattle.hex.specs.Hex.{is_hex_digit}
-use Rattle.dv_program.specs.Line.{IsHexOf, Pair, written, digits}
+use Rattle.dv_program.specs.Line.{IsHexOf, HexPair, written, hex_digits}
 use Rattle.dv_program.specs.declared.said.LineFault.{LineFault}
 use Rattle.dv_program.specs.declared.said.LineFault.TheVariants.{BadLine, NoMemory}
 
@@ -19,9 +19,9 @@ pub record IsPlain (text : List ℕ) : Type 0 where
 pub record IsPairs (text : List ℕ) : Type 0 where
   pub high : ℕ
   pub low : ℕ
-  pub others : List Pair
+  pub others : List HexPair
   pub whole : text ≡ high ∷ low ∷ written others
-  pub all : AllPass is_hex_digit (high ∷ low ∷ digits others)
+  pub all : AllPass is_hex_digit (high ∷ low ∷ hex_digits others)
 
 -- the text begins with a pair of digits, and this stands behind it
 pub record BeginsWithPair (text behind : List ℕ) : Type 0 where

@@ -44,13 +44,13 @@ Accepts (Some []) known new = ⊥
 Accepts (Some (bytes ∷ others)) known new = (known ≡ Some bytes) × (new ≡ Some others)
 
 -- an output has taken nothing yet
-abbrev pub IsFresh : Option (List ℕ) → Type 0
-IsFresh taken = IfSome taken (λ bytes. bytes ≡ [])
+abbrev pub HasTakenNothing : Option (List ℕ) → Type 0
+HasTakenNothing taken = IfSome taken (λ bytes. bytes ≡ [])
 
 -- a connection is closed behind those that were: this was left of its input, and this was taken by its output
-abbrev pub Closes : Option (List Ended) → Option (List ℕ) → Option (List ℕ) → Option (List Ended) → Type 0
-Closes None left taken new = ⊤
-Closes (Some before) left taken new = new ≡ Some (before ++ record { left = left; taken = taken } ∷ [])
+abbrev pub ClosesConnection : Option (List Ended) → Option (List ℕ) → Option (List ℕ) → Option (List Ended) → Type 0
+ClosesConnection None left taken new = ⊤
+ClosesConnection (Some before) left taken new = new ≡ Some (before ++ record { left = left; taken = taken } ∷ [])
 
 -- connections come, one after the other
 abbrev pub Come : Option (List (List ℕ)) → List Connection → Option (List (List ℕ)) → Type 0
@@ -60,11 +60,11 @@ Come old (next ∷ others) new = (mid : Option (List (List ℕ))) × Accepts old
 -- and are closed, one after the other
 abbrev pub Close : Option (List Ended) → List Connection → Option (List Ended) → Type 0
 Close old [] new = new ≡ old
-Close old (next ∷ others) new = (mid : Option (List Ended)) × Closes old next.left next.taken mid × Close mid others new
+Close old (next ∷ others) new = (mid : Option (List Ended)) × ClosesConnection old next.left next.taken mid × Close mid others new
 
 -- A connection has its session: this is told of it, and what its output took are the answers to what was read of its input.
 pub record HasSession (connection : Connection) (old : World) (told : Result Done RunFault) (new : World) : Type 0 where
-  pub fresh : IsFresh connection.before
+  pub fresh : HasTakenNothing connection.before
   pub comes : ComesTo told old new connection.input connection.left connection.before connection.taken
 
 -- connections have their sessions one after the other, and a line is written of each, the first of them with this number

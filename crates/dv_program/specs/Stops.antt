@@ -7,7 +7,7 @@ use Rattle.dv_wire.specs.Service.{AsksFew, most_reads}
 use Rattle.dv_wire.specs.Stream.{MoreBy, once_more}
 use Rattle.dv_wire.specs.declared.fault.HubFault.TheVariants.{TooManySessions}
 use Rattle.dv_program.specs.Line.{IsLine}
-use Rattle.dv_program.specs.Script.{Does, DoesLine, DoesLines, IsBad, Runs, Standing, is_lf}
+use Rattle.dv_program.specs.Script.{DoesOneLine, DoesLine, DoesLines, IsBad, Runs, OpenSessions, is_lf}
 use Rattle.dv_program.specs.declared.said.Line.{Line}
 use Rattle.dv_program.specs.declared.said.Line.TheVariants.{Skip, Bytes, End}
 use Rattle.dv_program.specs.declared.script.ScriptFault.{ScriptFault}
@@ -22,7 +22,7 @@ number_in (Bytes number bytes) = Some number
 number_in (End number) = Some number
 
 -- no session stands under a number, and none is opened: the hub has no room, or there is no memory; the hub is as it was
-abbrev pub OpensNone : ScriptFault → Standing → ℕ → World → Type 0
+abbrev pub OpensNone : ScriptFault → OpenSessions → ℕ → World → Type 0
 OpensNone (BadLine n) old number new = ⊥
 OpensNone Read old number new = ⊥
 OpensNone TooManyReads old number new = ⊥
@@ -31,22 +31,22 @@ OpensNone NoMemory old number new = new ≡ old.hub
 OpensNone Sessions old number new = (slice_get old.sessions number ≡ Some None) × Opens old.hub (Err TooManySessions) new
 
 -- what a line says isn't done, since no session is opened; or there is no memory for its answer, or to do it
-abbrev pub StopsLine : ScriptFault → Standing → Line → World → Type 0
+abbrev pub StopsLine : ScriptFault → OpenSessions → Line → World → Type 0
 StopsLine (BadLine n) old meant new = ⊥
 StopsLine Read old meant new = ⊥
 StopsLine TooManyReads old meant new = ⊥
 StopsLine Write old meant new = ⊥
-StopsLine NoMemory old meant new = (new ≡ old.hub) ⊎ ((answer : List ℕ) × (end : Standing) × Does old meant answer end × (end.hub ≡ new))
+StopsLine NoMemory old meant new = (new ≡ old.hub) ⊎ ((answer : List ℕ) × (end : OpenSessions) × DoesOneLine old meant answer end × (end.hub ≡ new))
 StopsLine Sessions old meant new = (number : ℕ) × (number_in meant ≡ Some number) × OpensNone Sessions old number new
 
 -- a line is done, and of its answer this part is written; or nothing is done of it
-abbrev pub IsCutShort : Standing → List ℕ → List ℕ → World → Type 0
+abbrev pub IsCutShort : OpenSessions → List ℕ → List ℕ → World → Type 0
 IsCutShort old line part new =
-    ((part ≡ []) × (new ≡ old.hub)) ⊎ ((unwritten : List ℕ) × (end : Standing) × DoesLine old line (part ++ unwritten) end × (end.hub ≡ new))
+    ((part ≡ []) × (new ≡ old.hub)) ⊎ ((unwritten : List ℕ) × (end : OpenSessions) × DoesLine old line (part ++ unwritten) end × (end.hub ≡ new))
 
 -- Why the line of this number ends a script, which part of its answer is written, and which hub is left. A line that is bad or
 -- opens no session changes nothing. Where memory is wanting nothing of its answer is written.
-abbrev pub EndsAt : ScriptFault → Standing → ℕ → List ℕ → List ℕ → World → Type 0
+abbrev pub EndsAt : ScriptFault → OpenSessions → ℕ → List ℕ → List ℕ → World → Type 0
 EndsAt (BadLine n) old number line part new = (n ≡ number) × IsBad line × (part ≡ []) × (new ≡ old.hub)
 EndsAt Read old number line part new = ⊥
 EndsAt TooManyReads old number line part new = ⊥
@@ -57,24 +57,24 @@ EndsAt Sessions old number line part new = (part ≡ []) × ((meant : Line) × I
 -- ---- a whole script
 
 -- the lines in front of one are done and answered, and that one, whose number counts from 1, ends the script
-pub record Stops (fault : ScriptFault) (old : Standing) (script text : List ℕ) (new : World) : Type 0 where
+pub record StopsScript (fault : ScriptFault) (old : OpenSessions) (script text : List ℕ) (new : World) : Type 0 where
   pub lines : List (List ℕ)
   pub line : List ℕ
   pub others : List (List ℕ)
   pub split : slice_split is_lf script ≡ lines ++ line ∷ others
   pub said : List ℕ
-  pub mid : Standing
+  pub mid : OpenSessions
   pub done : DoesLines old lines said mid
   pub part : List ℕ
   pub written : text ≡ said ++ part
   pub why : EndsAt fault mid (suc (length lines)) line part new
 
 -- each line whose LF was read is done and answered, and nothing of what stands behind the last LF
-pub record DoesWhole (old : Standing) (read text : List ℕ) (new : World) : Type 0 where
+pub record DoesWhole (old : OpenSessions) (read text : List ℕ) (new : World) : Type 0 where
   pub lines : List (List ℕ)
   pub kept : List ℕ
   pub split : slice_split is_lf read ≡ lines ++ kept ∷ []
-  pub end : Standing
+  pub end : OpenSessions
   pub done : DoesLines old lines text end
   pub left : end.hub ≡ new
 
@@ -87,14 +87,14 @@ abbrev pub OfRead : (List ℕ → List ℕ → Type 0) → Option (List ℕ) →
 OfRead Holds from to before after = (read : List ℕ) × (text : List ℕ) × Consumes from to read × Appends before after text × Holds read text
 
 -- What is done and written behind a script's fault. The writer may fail behind the last line too, when all is written.
-abbrev pub StopsBy : ScriptFault → Standing → Option (List ℕ) → Option (List ℕ) → Option (List ℕ) → Option (List ℕ) → World → Type 0
-StopsBy (BadLine n) old from to before after new = OfScript (λ script text. Stops (BadLine n) old script text new) from before after
+abbrev pub StopsBy : ScriptFault → OpenSessions → Option (List ℕ) → Option (List ℕ) → Option (List ℕ) → Option (List ℕ) → World → Type 0
+StopsBy (BadLine n) old from to before after new = OfScript (λ script text. StopsScript (BadLine n) old script text new) from before after
 StopsBy Read old from to before after new = OfRead (λ read text. DoesWhole old read text new) from to before after
 StopsBy TooManyReads old from to before after new = OfRead (λ read text. DoesWhole old read text new) from to before after
 StopsBy Write old from to before after new =
-    OfScript (λ script text. Stops Write old script text new ⊎ ((end : Standing) × Runs old script text end × (end.hub ≡ new))) from before after
-StopsBy NoMemory old from to before after new = OfScript (λ script text. Stops NoMemory old script text new) from before after
-StopsBy Sessions old from to before after new = OfScript (λ script text. Stops Sessions old script text new) from before after
+    OfScript (λ script text. StopsScript Write old script text new ⊎ ((end : OpenSessions) × Runs old script text end × (end.hub ≡ new))) from before after
+StopsBy NoMemory old from to before after new = OfScript (λ script text. StopsScript NoMemory old script text new) from before after
+StopsBy Sessions old from to before after new = OfScript (λ script text. StopsScript Sessions old script text new) from before after
 
 -- ---- readers and writers
 
@@ -117,11 +117,11 @@ FailsWriting (Err NoMemory) old new = (new ≡ old) ⊎ (new ≡ once_more old)
 FailsWriting (Err Sessions) old new = (new ≡ old) ⊎ (new ≡ once_more old)
 
 -- how often a reader is asked for a script: just as often as may be where too many reads are told, and else no more often
-abbrev pub Asks : {A : Type 0} → Result A ScriptFault → ℕ → ℕ → Type 0
-Asks (Ok done) old new = AsksFew old new
-Asks (Err (BadLine n)) old new = AsksFew old new
-Asks (Err Read) old new = AsksFew old new
-Asks (Err TooManyReads) old new = MoreBy most_reads old new
-Asks (Err Write) old new = AsksFew old new
-Asks (Err NoMemory) old new = AsksFew old new
-Asks (Err Sessions) old new = AsksFew old new
+abbrev pub AsksForScript : {A : Type 0} → Result A ScriptFault → ℕ → ℕ → Type 0
+AsksForScript (Ok done) old new = AsksFew old new
+AsksForScript (Err (BadLine n)) old new = AsksFew old new
+AsksForScript (Err Read) old new = AsksFew old new
+AsksForScript (Err TooManyReads) old new = MoreBy most_reads old new
+AsksForScript (Err Write) old new = AsksFew old new
+AsksForScript (Err NoMemory) old new = AsksFew old new
+AsksForScript (Err Sessions) old new = AsksFew old new

@@ -2,10 +2,10 @@
 
 ghost use Rattle.std.specs.Prelude.{◌≡◌, ◌<◌, ◌+◌, ◌^◌, ◌↔◌, ◌⊎◌, ◌++◌, ◌∷◌, ℕ, List, [], length, replicate, string_bytes, suc, IfErr, IfOk, IfSome, IsTrue, MatchOption, OnOk};
 ghost use Rattle.std.specs.Io.KnownBytes.{Appends, Keeps};
-ghost use Rattle.dv_program.specs.Script.{Does, DoesLine, Finds, HasNoLf, Runs, Standing, begun, standing_of};
-ghost use Rattle.dv_program.specs.Stops.{Asks, EndsAt, FailsWriting, OfScript, OpensNone, StopsBy, StopsLine, script_read_failed, script_write_failed};
+ghost use Rattle.dv_program.specs.Script.{DoesOneLine, DoesLine, Finds, HasNoLf, Runs, OpenSessions, no_sessions, standing_of};
+ghost use Rattle.dv_program.specs.Stops.{AsksForScript, EndsAt, FailsWriting, OfScript, OpensNone, StopsBy, StopsLine, script_read_failed, script_write_failed};
 ghost use Rattle.dv_program.specs.Streams.{failures_behind, failures_told};
-ghost use Rattle.dv_program.specs.Pieces.{StopsIn, Takes};
+ghost use Rattle.dv_program.specs.Pieces.{StopsIn, TakesPiece};
 
 use crate::line::{LONGEST_LINE, line};
 use crate::output::{end_text, fed_text};
@@ -81,13 +81,13 @@ pub fn script<R: ByteIn, W: TextOut>(
     reader: &mut R,
     writer: &mut W,
 ) -> Result<(), ScriptFault>
-    ensures done { OnOk result (IfSome (R.remaining reader.old) (λ text. (said : List ℕ) × (end : Standing)
+    ensures done { OnOk result (IfSome (R.remaining reader.old) (λ text. (said : List ℕ) × (end : OpenSessions)
         × Appends (W.contents writer.old) (W.contents writer.new) said × Runs (begun hub.old) text said end × (end.hub ≡ hub.new))) }
-    ensures stopped { IfErr result (λ fault. StopsBy fault (begun hub.old) (R.remaining reader.old) (R.remaining reader.new)
+    ensures stopped { IfErr result (λ fault. StopsBy fault (no_sessions hub.old) (R.remaining reader.old) (R.remaining reader.new)
         (W.contents writer.old) (W.contents writer.new) hub.new) }
     ensures reader { R.failures reader.new ≡ failures_told script_read_failed result (R.failures reader.old) }
     ensures writer { FailsWriting result (W.failures writer.old) (W.failures writer.new) }
-    ensures reads { Asks result (R.reads reader.old) (R.reads reader.new) }
+    ensures reads { AsksForScript result (R.reads reader.old) (R.reads reader.new) }
 {
     let mut progress = Progress::new(alloc);
     match progress.read(hub, reader, writer) {
@@ -148,7 +148,7 @@ impl Progress {
             (W.contents writer.old) (W.contents writer.new) hub.new) }
         ensures reader { R.failures reader.new ≡ failures_told script_read_failed result (R.failures reader.old) }
         ensures writer { W.failures writer.new ≡ failures_told script_write_failed result (W.failures writer.old) }
-        ensures reads { Asks result (R.reads reader.old) (R.reads reader.new) }
+        ensures reads { AsksForScript result (R.reads reader.old) (R.reads reader.new) }
     {
         let mut piece = piece(self.alloc)?;
         'reads: for _ in 0..MOST_READS {

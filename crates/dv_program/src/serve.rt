@@ -3,7 +3,7 @@
 ghost use Rattle.std.specs.Prelude.{◌≡◌, ◌<◌, ◌+◌, ℕ, List, Err, IfErr, IfOk, OnErr, OnOk};
 ghost use Rattle.std.specs.Io.KnownBytes.{Appends};
 ghost use Rattle.dv_wire.specs.Stream.{MoreBy};
-ghost use Rattle.dv_program.specs.Serve.{Accepts, Closes, Connection, HasSession, Served, accept_failed, connection_line, serve_write_failed};
+ghost use Rattle.dv_program.specs.Serve.{Accepts, ClosesConnection, Connection, HasSession, Served, accept_failed, connection_line, serve_write_failed};
 ghost use Rattle.dv_program.specs.Streams.{failures_behind, failures_told};
 
 use crate::streams::{CountedReader, CountedWriter, TextOut, counted};
@@ -24,7 +24,7 @@ pub enum ServeFault {
 /// What connections come from.
 pub trait Listener {
     ghost use Rattle.std.specs.Prelude.{◌≡◌, ℕ, List, Option, IfOk, OnErr};
-    ghost use Rattle.dv_program.specs.Serve.{Accepts, Closes, Ended, IsFresh};
+    ghost use Rattle.dv_program.specs.Serve.{Accepts, ClosesConnection, Ended, HasTakenNothing};
     ghost use Rattle.dv_program.specs.Streams.{failures_behind};
 
     /// Where a connection's bytes come from.
@@ -46,7 +46,7 @@ pub trait Listener {
     /// Waits for the next connection.
     fn accept(&mut self) -> Result<(Self::Input, Self::Output), Failed>
         ensures next { IfOk result (λ connection. Accepts (coming self.old) (Self.Input.remaining connection.0) (coming self.new)) }
-        ensures fresh { IfOk result (λ connection. IsFresh (Self.Output.contents connection.1)) }
+        ensures fresh { IfOk result (λ connection. HasTakenNothing (Self.Output.contents connection.1)) }
         ensures kept { OnErr result (coming self.new ≡ coming self.old) }
         ensures closed { closed self.new ≡ closed self.old }
         ensures failures { failures self.new ≡ failures_behind result (failures self.old) };
@@ -54,7 +54,7 @@ pub trait Listener {
     /// Closes a connection.
     fn close(&mut self, input: Self::Input, output: Self::Output)
         ensures coming { coming self.new ≡ coming self.old }
-        ensures closed { Closes (closed self.old) (Self.Input.remaining input) (Self.Output.contents output) (closed self.new) }
+        ensures closed { ClosesConnection (closed self.old) (Self.Input.remaining input) (Self.Output.contents output) (closed self.new) }
         ensures failures { failures self.new ≡ failures self.old };
 }
 

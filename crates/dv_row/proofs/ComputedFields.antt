@@ -8,14 +8,14 @@ use Rattle.dv_bson.specs.Tree.{Tree, Field}
 use Rattle.dv_bson.specs.Names.{has_name, bare, AreNamed}
 use Rattle.dv_path.specs.Candidates.{Candidate}
 use Rattle.dv_row.specs.declared.project.Project.TheVariants.{Include}
-use Rattle.dv_row.specs.Expressions.{Expression, nothing, computed_of, with_field, value_of, with_computed}
-use Rattle.dv_row.specs.Projecting.{behind, left, row_left, projected}
+use Rattle.dv_row.specs.Expressions.{Expression, nothing, computed_of, with_field_behind, value_of, with_computed}
+use Rattle.dv_row.specs.Projecting.{paths_behind, left_of_value, row_left, projected}
 use Rattle.dv_row.specs.Row.{Row}
-use Rattle.dv_row.specs.Shown.{begins, computed_fields}
+use Rattle.dv_row.specs.Shown.{begins_with_name, computed_fields}
 use Rattle.dv_row.proofs.Left.{bytes-eq_symmetric}
 use Rattle.dv_row.proofs.ShownFields.{Paths, in_front, left-none, left-cons, not-led}
 
-unled : (n : List ℕ) (paths : Paths) → list_any (begins n) paths ≡ false → (d : Row) → has_name n (row_left true paths d) ≡ false
+unled : (n : List ℕ) (paths : Paths) → list_any (begins_with_name n) paths ≡ false → (d : Row) → has_name n (row_left true paths d) ≡ false
 unled n paths h [] = ap (has_name n) (left-none true paths)
 unled n paths h (f ∷ d) = ap (has_name n) (left-cons true paths f d) ∙ go (bytes_eq n f.0) refl (unled n paths h d)
   where
@@ -23,9 +23,9 @@ unled n paths h (f ∷ d) = ap (has_name n) (left-cons true paths f d) ∙ go (b
     among None e rest = rest
     among (Some v) e rest = ap (λ b. b || has_name n (row_left true paths d)) e ∙ rest
 
-    go : (b : Bool) → bytes_eq n f.0 ≡ b → has_name n (row_left true paths d) ≡ false → has_name n (in_front f.0 (left true (behind f.0 paths) f.1) (row_left true paths d)) ≡ false
-    go true e rest = ap (λ c. has_name n (in_front f.0 c (row_left true paths d))) (not-led true paths f (ap (λ m. list_any (begins m) paths) (sym ((bytes_eq-Decides n f.0).0 e)) ∙ h)) ∙ rest
-    go false e rest = among (left true (behind f.0 paths) f.1) e rest
+    go : (b : Bool) → bytes_eq n f.0 ≡ b → has_name n (row_left true paths d) ≡ false → has_name n (in_front f.0 (left_of_value true (paths_behind f.0 paths) f.1) (row_left true paths d)) ≡ false
+    go true e rest = ap (λ c. has_name n (in_front f.0 c (row_left true paths d))) (not-led true paths f (ap (λ m. list_any (begins_with_name m) paths) (sym ((bytes_eq-Decides n f.0).0 e)) ∙ h)) ∙ rest
+    go false e rest = among (left_of_value true (paths_behind f.0 paths) f.1) e rest
 
 abbrev Asks : Type 0
 Asks = List (List ℕ × Expression)
@@ -60,18 +60,18 @@ computed-last (e ∷ es) d fs named new = go (value_of e.1 d) (computed-last es 
     more c = cons_option (option_map (λ v. (e.0, v)) c) (computed_fields es d)
 
     go : (c : Candidate) → ((fs : List Field) → AreNamed (map (λ e. bare e.0) es) → AreNew es fs → with_computed (computed_of es) d fs ≡ fs ++ computed_fields es d)
-        → with_computed (computed_of es) d (with_field e.0 c fs) ≡ fs ++ more c
+        → with_computed (computed_of es) d (with_field_behind e.0 c fs) ≡ fs ++ more c
     go None rest = rest fs named.2 new.1
     go (Some v) rest =
         ap (λ b. with_computed (computed_of es) d (if b then fs else fs ++ (e.0, v) ∷ [])) (ap (λ b. b || has_name e.0 fs) named.0 ∙ new.0)
         ∙ rest (fs ++ (e.0, v) ∷ []) named.2 (still-new e.0 v es fs named.1 new.1)
         ∙ append_assoc fs ((e.0, v) ∷ []) (computed_fields es d)
 
-all-unled : (paths : Paths) (d : Row) (es : Asks) → AllByRecursion (λ e. list_any (begins e.0) paths ≡ false) es → AreNew es (row_left true paths d)
+all-unled : (paths : Paths) (d : Row) (es : Asks) → AllByRecursion (λ e. list_any (begins_with_name e.0) paths ≡ false) es → AreNew es (row_left true paths d)
 all-unled paths d [] all = tt
 all-unled paths d (e ∷ es) all = (unled e.0 paths all.0 d, all-unled paths d es all.1)
 
-pub computed_stand_last : (paths : Paths) (es : Asks) (row : Row) → AreNamed (map (λ e. bare e.0) es) → AllByRecursion (λ e. list_any (begins e.0) paths ≡ false) es
+pub computed_stand_last : (paths : Paths) (es : Asks) (row : Row) → AreNamed (map (λ e. bare e.0) es) → AllByRecursion (λ e. list_any (begins_with_name e.0) paths ≡ false) es
     → projected (Include paths (computed_of es)) row ≡ projected (Include paths nothing) row ++ computed_fields es row
 unfolding projected with_computed
 computed_stand_last paths es row named apart = computed-last es row (row_left true paths row) named (all-unled paths row es apart)

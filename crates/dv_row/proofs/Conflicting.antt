@@ -12,7 +12,7 @@ use Rattle.std.proofs.lemmas.List.Sorted.{sum_by-IsPermutation, length_permutati
 use Rattle.std.proofs.lemmas.List.Sums.{sum_by-cons}
 use Rattle.std.proofs.lemmas.Map.Lookups.{exact_bytes}
 use Rattle.std.proofs.lemmas.Slice.Eq.{bytes_eq-Decides}
-use Rattle.dv_row.specs.Conflicts.{has_conflict}
+use Rattle.dv_row.specs.Conflicts.{paths_conflict}
 use Rattle.dv_row.specs.ProjectParsing.{one_begins}
 use Rattle.dv_row.specs.Ways.{name_order, way_order}
 use Rattle.dv_row.proofs.Left.{bytes-eq_symmetric}
@@ -73,11 +73,11 @@ or-zero : (m n : ℕ) → (not (m == 0) || not (n == 0)) ≡ not ((m + n) == 0)
 or-zero zero n = let none : n ≡ 0 + n = omega arith in ap (λ n. not (n == 0)) none
 or-zero (suc m) n = grind (arith, nat_tests)
 
-conflict-counted : (ps : List Way) → has_conflict ps ≡ not (pairs ps == 0)
+conflict-counted : (ps : List Way) → paths_conflict ps ≡ not (pairs ps == 0)
 conflict-counted [] = refl
 conflict-counted (p ∷ ps) = ap₂ (λ a b. a || b) (any-hit p ps) (conflict-counted ps) ∙ or-zero (sum_by (hit p) ps) (pairs ps)
 
-pub conflict-permuted : (ps qs : List Way) → IsPermutation ps qs → has_conflict ps ≡ has_conflict qs
+pub conflict-permuted : (ps qs : List Way) → IsPermutation ps qs → paths_conflict ps ≡ paths_conflict qs
 conflict-permuted ps qs moved =
     let inner : square qs qs ≡ square qs ps = sum-same (λ p. sum_by (hit p) qs) (λ p. sum_by (hit p) ps) (λ p. sum_by-IsPermutation (hit p) ps qs moved) qs in
     let outer : square qs ps ≡ square ps ps = sum_by-IsPermutation (λ p. sum_by (hit p) ps) ps qs moved in
@@ -123,7 +123,7 @@ none-begun p q (r ∷ rs) e h far = ap₂ (λ a b. a || b) (go (one_begins p r) 
     go false f = f
     go true f = let no : true ≡ false = sym (begins-between p q r h (far 0 r (omega arith)) f) ∙ e in absurd cc
 
-pub none-near : (ps : List Way) → ((i j : ℕ) (d : Way) → i ≤ j → j < length ps → is_lt (way_order (get_or ps j d) (get_or ps i d)) ≡ false) → ((k : ℕ) (d : Way) → k + 1 < length ps → one_begins (get_or ps k d) (get_or ps (k + 1) d) ≡ false) → has_conflict ps ≡ false
+pub none-near : (ps : List Way) → ((i j : ℕ) (d : Way) → i ≤ j → j < length ps → is_lt (way_order (get_or ps j d) (get_or ps i d)) ≡ false) → ((k : ℕ) (d : Way) → k + 1 < length ps → one_begins (get_or ps k d) (get_or ps (k + 1) d) ≡ false) → paths_conflict ps ≡ false
 none-near [] far near = refl
 none-near (p ∷ []) far near = refl
 none-near (p ∷ q ∷ ps) far near =
@@ -131,14 +131,14 @@ none-near (p ∷ q ∷ ps) far near =
     ap₂ (λ a b. a || b) (ap₂ (λ a b. a || b) apart (none-begun p q ps apart (far 0 1 p (omega arith) (omega arith)) (λ k d l. far 1 (suc (suc k)) d (omega arith) (omega (arith, l)))))
     (none-near (q ∷ ps) (λ i j d upto l. far (suc i) (suc j) d (omega (arith, upto)) (omega (arith, l))) (λ k d l. let next : suc (k + 1) ≡ suc k + 1 = omega arith in ap (λ n. one_begins (get_or (q ∷ ps) k d) (get_or (p ∷ q ∷ ps) n d)) next ∙ near (suc k) d (omega (arith, l))))
 
-pub near-conflicts : (ps : List Way) (k : ℕ) (q r : Way) → slice_get ps k ≡ Some q → slice_get ps (k + 1) ≡ Some r → one_begins q r ≡ true → has_conflict ps ≡ true
+pub near-conflicts : (ps : List Way) (k : ℕ) (q r : Way) → slice_get ps k ≡ Some q → slice_get ps (k + 1) ≡ Some r → one_begins q r ≡ true → paths_conflict ps ≡ true
 near-conflicts [] k q r here next e = absurd cc
 near-conflicts (p ∷ []) zero q r here next e = absurd cc
 near-conflicts (p ∷ []) (suc k) q r here next e = absurd cc
 near-conflicts (p ∷ s ∷ ps) zero q r here next e =
     let first : p ≡ q = cc in
     let second : s ≡ r = cc in
-    ap (λ b. (b || list_any (one_begins p) ps) || has_conflict (s ∷ ps)) (ap₂ one_begins first second ∙ e)
+    ap (λ b. (b || list_any (one_begins p) ps) || paths_conflict (s ∷ ps)) (ap₂ one_begins first second ∙ e)
 near-conflicts (p ∷ s ∷ ps) (suc k) q r here next e =
     let place : suc (k + 1) ≡ suc k + 1 = omega arith in
     ap (λ b. list_any (one_begins p) (s ∷ ps) || b) (near-conflicts (s ∷ ps) k q r here (ap (slice_get (p ∷ s ∷ ps)) place ∙ next) e) ∙ or-true (list_any (one_begins p) (s ∷ ps))
@@ -162,11 +162,11 @@ any-pushed test (p ∷ ps) q = ap (λ b. test p || b) (any-pushed test ps q) ∙
     regroup false b c = refl
 
 -- it comes behind the others
-pub conflict-pushed : (ps : List Way) (q : Way) → has_conflict (ps ++ q ∷ []) ≡ (has_conflict ps || list_any (one_begins q) ps)
+pub conflict-pushed : (ps : List Way) (q : Way) → paths_conflict (ps ++ q ∷ []) ≡ (paths_conflict ps || list_any (one_begins q) ps)
 conflict-pushed [] q = refl
 conflict-pushed (p ∷ ps) q =
     ap₂ (λ a b. a || b) (any-pushed (one_begins p) ps q ∙ ap (λ b. list_any (one_begins p) ps || b) (begins-back p q)) (conflict-pushed ps q)
-    ∙ among (list_any (one_begins p) ps) (one_begins q p) (has_conflict ps) (list_any (one_begins q) ps)
+    ∙ among (list_any (one_begins p) ps) (one_begins q p) (paths_conflict ps) (list_any (one_begins q) ps)
   where
     among : (a x h b : Bool) → ((a || x) || (h || b)) ≡ ((a || h) || (x || b))
     among true x h b = refl

@@ -6,8 +6,8 @@ use Rattle.std.proofs.lemmas.Bool.Decides.{same_from_decides}
 use Rattle.dv_bson.specs.Tree.{Tree, Field, Fields, fields_of, list_of_fields, no_fields, field, Elements, no_elements, element, elements_of, list_of_elements}
 use Rattle.dv_bson.specs.Names.{has_name, has_zero, AreNamed}
 use Rattle.dv_path.specs.Candidates.{Candidate}
-use Rattle.dv_row.specs.Expressions.{with_field}
-use Rattle.dv_row.specs.Projecting.{behind, with_left, with_element, left, left_inside, fields_left, elements_left, row_left}
+use Rattle.dv_row.specs.Expressions.{with_field_behind}
+use Rattle.dv_row.specs.Projecting.{paths_behind, with_left, with_element_left, left_of_value, left_inside, fields_left, elements_left, row_left}
 use Rattle.dv_row.proofs.Items.{take-here}
 
 -- a field alone, where there is a value
@@ -28,17 +28,17 @@ module _ (keeps : Bool) (paths : List (List (List ℕ))) where
   unfolding fields_left
   row-left_append [] e = refl
   row-left_append (f ∷ d) e =
-      row-left_first f.0 (left keeps (behind f.0 paths) f.1) (d ++ e) ∙ ap (λ l. alone f.0 (left keeps (behind f.0 paths) f.1) ++ l) (row-left_append d e) ∙ sym (append_assoc (alone f.0 (left keeps (behind f.0 paths) f.1)) (row_left keeps paths d) (row_left keeps paths e)) ∙ ap (λ l. l ++ row_left keeps paths e) (sym (row-left_first f.0 (left keeps (behind f.0 paths) f.1) d))
+      row-left_first f.0 (left_of_value keeps (paths_behind f.0 paths) f.1) (d ++ e) ∙ ap (λ l. alone f.0 (left_of_value keeps (paths_behind f.0 paths) f.1) ++ l) (row-left_append d e) ∙ sym (append_assoc (alone f.0 (left_of_value keeps (paths_behind f.0 paths) f.1)) (row_left keeps paths d) (row_left keeps paths e)) ∙ ap (λ l. l ++ row_left keeps paths e) (sym (row-left_first f.0 (left_of_value keeps (paths_behind f.0 paths) f.1) d))
 
-  row-left_one : (name : List ℕ) (v : Tree) → row_left keeps paths ((name, v) ∷ []) ≡ alone name (left keeps (behind name paths) v)
+  row-left_one : (name : List ℕ) (v : Tree) → row_left keeps paths ((name, v) ∷ []) ≡ alone name (left_of_value keeps (paths_behind name paths) v)
   unfolding fields_left
-  row-left_one name v = row-left_first name (left keeps (behind name paths) v) [] ∙ append-nil (alone name (left keeps (behind name paths) v))
+  row-left_one name v = row-left_first name (left_of_value keeps (paths_behind name paths) v) [] ∙ append-nil (alone name (left_of_value keeps (paths_behind name paths) v))
 
   -- no name comes in
   names-left : (name : List ℕ) (d : List Field) → has_name name d ≡ false → has_name name (row_left keeps paths d) ≡ false
   unfolding fields_left
   names-left name [] h = refl
-  names-left name (f ∷ d) h = ap (has_name name) (row-left_first f.0 (left keeps (behind f.0 paths) f.1) d) ∙ among f.0 (left keeps (behind f.0 paths) f.1) (row_left keeps paths d) (either (bytes_eq name f.0) (has_name name d) h).0 (names-left name d (either (bytes_eq name f.0) (has_name name d) h).1)
+  names-left name (f ∷ d) h = ap (has_name name) (row-left_first f.0 (left_of_value keeps (paths_behind f.0 paths) f.1) d) ∙ among f.0 (left_of_value keeps (paths_behind f.0 paths) f.1) (row_left keeps paths d) (either (bytes_eq name f.0) (has_name name d) h).0 (names-left name d (either (bytes_eq name f.0) (has_name name d) h).1)
     where
       either : (a b : Bool) → a || b ≡ false → (a ≡ false) × (b ≡ false)
       either true b e = absurd cc
@@ -76,22 +76,22 @@ new-name (f ∷ d) (suc i) name v named e =
     let rest = new-name d i name v named.2 e in
     (rest.0, ap (λ b. b || has_name name (take i d)) (bytes-eq_symmetric name f.0 ∙ not-at f.0 name v d i named.1 e) ∙ rest.1)
 
-with-field_new : (name : List ℕ) (c : Candidate) (fs : List Field) → has_zero name ≡ false → has_name name fs ≡ false → with_field name c fs ≡ fs ++ alone name c
+with-field_new : (name : List ℕ) (c : Candidate) (fs : List Field) → has_zero name ≡ false → has_name name fs ≡ false → with_field_behind name c fs ≡ fs ++ alone name c
 with-field_new name None fs e h = sym (append-nil fs)
 with-field_new name (Some v) fs e h = rw (e, h) refl
 
 -- one field more, as it is
-pub copied-more : (d : List Field) (i : ℕ) (name : List ℕ) (v : Tree) → AreNamed d → Some (name, v) ≡ slice_get d i → with_field name (Some v) (take i d) ≡ take (i + 1) d
+pub copied-more : (d : List Field) (i : ℕ) (name : List ℕ) (v : Tree) → AreNamed d → Some (name, v) ≡ slice_get d i → with_field_behind name (Some v) (take i d) ≡ take (i + 1) d
 copied-more d i name v named e =
     let new = new-name d i name v named e in
     with-field_new name (Some v) (take i d) new.0 new.1 ∙ sym (take-here d i (name, v) (sym e)) ∙ ap (λ n. take n d) (sym (add-one i))
 
 -- one field more
 pub row-left_more : (keeps : Bool) (paths : List (List (List ℕ))) (d : List Field) (i : ℕ) (name : List ℕ) (v : Tree) → AreNamed d → Some (name, v) ≡ slice_get d i
-    → with_field name (left keeps (behind name paths) v) (row_left keeps paths (take i d)) ≡ row_left keeps paths (take (i + 1) d)
+    → with_field_behind name (left_of_value keeps (paths_behind name paths) v) (row_left keeps paths (take i d)) ≡ row_left keeps paths (take (i + 1) d)
 row-left_more keeps paths d i name v named e =
     let new = new-name d i name v named e in
-    with-field_new name (left keeps (behind name paths) v) (row_left keeps paths (take i d)) new.0 (names-left keeps paths name (take i d) new.1) ∙ ap (λ l. row_left keeps paths (take i d) ++ l) (sym (row-left_one keeps paths name v)) ∙ sym (row-left_append keeps paths (take i d) ((name, v) ∷ [])) ∙ ap (row_left keeps paths) (sym (take-here d i (name, v) (sym e)) ∙ ap (λ n. take n d) (sym (add-one i)))
+    with-field_new name (left_of_value keeps (paths_behind name paths) v) (row_left keeps paths (take i d)) new.0 (names-left keeps paths name (take i d) new.1) ∙ ap (λ l. row_left keeps paths (take i d) ++ l) (sym (row-left_one keeps paths name v)) ∙ sym (row-left_append keeps paths (take i d) ((name, v) ∷ [])) ∙ ap (row_left keeps paths) (sym (take-here d i (name, v) (sym e)) ∙ ap (λ n. take n d) (sym (add-one i)))
 
 -- ---- elements
 
@@ -100,7 +100,7 @@ single None = []
 single (Some v) = v ∷ []
 
 module _ (keeps : Bool) (paths : List (List (List ℕ))) where
-  first-left : (c : Candidate) (vs : List Tree) → list_of_elements (with_element c (elements_left keeps paths (elements_of vs))) ≡ single c ++ list_of_elements (elements_left keeps paths (elements_of vs))
+  first-left : (c : Candidate) (vs : List Tree) → list_of_elements (with_element_left c (elements_left keeps paths (elements_of vs))) ≡ single c ++ list_of_elements (elements_left keeps paths (elements_of vs))
   first-left None vs = refl
   first-left (Some v) vs = refl
 

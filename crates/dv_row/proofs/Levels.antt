@@ -8,27 +8,27 @@ use Rattle.dv_bson.specs.Names.{has_name}
 use Rattle.dv_bson.specs.Tree.{Tree, document, Field, fields_of}
 use Rattle.dv_row.specs.declared.project.Project.TheVariants.{Include, Exclude}
 use Rattle.dv_row.specs.Expressions.{nothing, with_computed}
-use Rattle.dv_row.specs.Projecting.{behind, if_it, left, left_inside, fields_left, row_left, projected}
+use Rattle.dv_row.specs.Projecting.{paths_behind, if_it, left_of_value, left_inside, fields_left, row_left, projected}
 use Rattle.dv_row.specs.Row.{Row}
-use Rattle.dv_row.specs.Shown.{Level, AreApart, bare_level, begins, is_alone, is_met, way_through, within}
+use Rattle.dv_row.specs.Shown.{Level, AreNamesApart, bare_level, begins_with_name, is_alone, is_met, way_through, within}
 use Rattle.dv_row.proofs.Left.{bytes-eq_symmetric, fields-of_list, row-left_append}
 use Rattle.dv_row.proofs.ShownFields.{Paths, in_front, left-cons, left-none, left-of, not-led}
 
 -- ---- one field
 
 -- a document that paths lead into
-left-document : (keeps : Bool) (paths : Paths) (name : List ℕ) (d : Row) → list_any (is_alone name) paths ≡ false → list_any (begins name) paths ≡ true
-    → left keeps (behind name paths) (document (fields_of d)) ≡ Some (document (fields_of (row_left keeps (behind name paths) d)))
+left-document : (keeps : Bool) (paths : Paths) (name : List ℕ) (d : Row) → list_any (is_alone name) paths ≡ false → list_any (begins_with_name name) paths ≡ true
+    → left_of_value keeps (paths_behind name paths) (document (fields_of d)) ≡ Some (document (fields_of (row_left keeps (paths_behind name paths) d)))
 unfolding left_inside
 left-document keeps paths name d none led =
     let v : Tree = document (fields_of d) in
     left-of keeps paths (name, v)
-    ∙ ap (λ b. if b then if_it keeps v else if list_any (begins name) paths then left_inside keeps (behind name paths) v else if_it (not keeps) v) none
-    ∙ ap (λ b. if b then left_inside keeps (behind name paths) v else if_it (not keeps) v) led
-    ∙ ap (λ fs. Some (document fs)) (sym (fields-of_list (fields_left keeps (behind name paths) (fields_of d))))
+    ∙ ap (λ b. if b then if_it keeps v else if list_any (begins_with_name name) paths then left_inside keeps (paths_behind name paths) v else if_it (not keeps) v) none
+    ∙ ap (λ b. if b then left_inside keeps (paths_behind name paths) v else if_it (not keeps) v) led
+    ∙ ap (λ fs. Some (document fs)) (sym (fields-of_list (fields_left keeps (paths_behind name paths) (fields_of d))))
 
-inside : (keeps : Bool) (paths : Paths) (name : List ℕ) (d fs : Row) → list_any (is_alone name) paths ≡ false → list_any (begins name) paths ≡ true
-    → row_left keeps paths ((name, document (fields_of d)) ∷ fs) ≡ (name, document (fields_of (row_left keeps (behind name paths) d))) ∷ row_left keeps paths fs
+inside : (keeps : Bool) (paths : Paths) (name : List ℕ) (d fs : Row) → list_any (is_alone name) paths ≡ false → list_any (begins_with_name name) paths ≡ true
+    → row_left keeps paths ((name, document (fields_of d)) ∷ fs) ≡ (name, document (fields_of (row_left keeps (paths_behind name paths) d))) ∷ row_left keeps paths fs
 inside keeps paths name d fs none led =
     left-cons keeps paths (name, document (fields_of d)) fs ∙ ap (λ c. in_front name c (row_left keeps paths fs)) (left-document keeps paths name d none led)
 
@@ -41,15 +41,15 @@ module _ (paths : Paths) where
   unfolding projected
   excluded_apart front back = row-left_append false paths front back
 
-  pub included_inside : (name : List ℕ) (d : Row) → list_any (is_alone name) paths ≡ false → list_any (begins name) paths ≡ true
-      → projected (Include paths nothing) ((name, document (fields_of d)) ∷ []) ≡ (name, document (fields_of (projected (Include (behind name paths) nothing) d))) ∷ []
+  pub included_inside : (name : List ℕ) (d : Row) → list_any (is_alone name) paths ≡ false → list_any (begins_with_name name) paths ≡ true
+      → projected (Include paths nothing) ((name, document (fields_of d)) ∷ []) ≡ (name, document (fields_of (projected (Include (paths_behind name paths) nothing) d))) ∷ []
   unfolding projected with_computed
-  included_inside name d none led = inside true paths name d [] none led ∙ ap (λ fs. (name, document (fields_of (row_left true (behind name paths) d))) ∷ fs) (left-none true paths)
+  included_inside name d none led = inside true paths name d [] none led ∙ ap (λ fs. (name, document (fields_of (row_left true (paths_behind name paths) d))) ∷ fs) (left-none true paths)
 
-  pub excluded_inside : (name : List ℕ) (d : Row) → list_any (is_alone name) paths ≡ false → list_any (begins name) paths ≡ true
-      → projected (Exclude paths) ((name, document (fields_of d)) ∷ []) ≡ (name, document (fields_of (projected (Exclude (behind name paths)) d))) ∷ []
+  pub excluded_inside : (name : List ℕ) (d : Row) → list_any (is_alone name) paths ≡ false → list_any (begins_with_name name) paths ≡ true
+      → projected (Exclude paths) ((name, document (fields_of d)) ∷ []) ≡ (name, document (fields_of (projected (Exclude (paths_behind name paths)) d))) ∷ []
   unfolding projected
-  excluded_inside name d none led = inside false paths name d [] none led ∙ ap (λ fs. (name, document (fields_of (row_left false (behind name paths) d))) ∷ fs) (left-none false paths)
+  excluded_inside name d none led = inside false paths name d [] none led ∙ ap (λ fs. (name, document (fields_of (row_left false (paths_behind name paths) d))) ∷ fs) (left-none false paths)
 
   pub excluded_stays : (front back : Row) (f : Field) → is_met paths f ≡ false → projected (Exclude paths) (front ++ f ∷ back) ≡ projected (Exclude paths) front ++ f ∷ projected (Exclude paths) back
   unfolding projected
@@ -94,7 +94,7 @@ one-level keeps l way d on in_front behind_it =
     (inside keeps paths l.name d l.back (ap (λ b. b || false) on) (ap (λ b. b || false) same)
     ∙ ap₂ (λ (ps : Paths) (fs : Row). (l.name, document (fields_of (row_left keeps ps d))) ∷ fs) (ap (λ b. if b then way ∷ [] else []) same) (others-left keeps l.name way l.back behind_it))
 
-all-levels : (keeps : Bool) (ls : List Level) (n : List ℕ) (rest : List (List ℕ)) (d : Row) → AreApart ls
+all-levels : (keeps : Bool) (ls : List Level) (n : List ℕ) (rest : List (List ℕ)) (d : Row) → AreNamesApart ls
     → row_left keeps ((way_through ls ++ n ∷ rest) ∷ []) (within ls d) ≡ within (map (level_left keeps) ls) (row_left keeps ((n ∷ rest) ∷ []) d)
 all-levels keeps [] n rest d apart = refl
 all-levels keeps (l ∷ ls) n rest d apart =
@@ -105,12 +105,12 @@ levels-stay : (ls : List Level) → map (level_left false) ls ≡ ls
 levels-stay [] = refl
 levels-stay (l ∷ ls) = ap (λ ks. l ∷ ks) (levels-stay ls)
 
-pub included_deep : (ls : List Level) (n : List ℕ) (rest : List (List ℕ)) (d : Row) → AreApart ls
+pub included_deep : (ls : List Level) (n : List ℕ) (rest : List (List ℕ)) (d : Row) → AreNamesApart ls
     → projected (Include ((way_through ls ++ n ∷ rest) ∷ []) nothing) (within ls d) ≡ within (map bare_level ls) (projected (Include ((n ∷ rest) ∷ []) nothing) d)
 unfolding projected with_computed
 included_deep ls n rest d apart = all-levels true ls n rest d apart
 
-pub excluded_deep : (ls : List Level) (n : List ℕ) (rest : List (List ℕ)) (d : Row) → AreApart ls
+pub excluded_deep : (ls : List Level) (n : List ℕ) (rest : List (List ℕ)) (d : Row) → AreNamesApart ls
     → projected (Exclude ((way_through ls ++ n ∷ rest) ∷ [])) (within ls d) ≡ within ls (projected (Exclude ((n ∷ rest) ∷ [])) d)
 unfolding projected
 excluded_deep ls n rest d apart = all-levels false ls n rest d apart ∙ ap (λ ks. within ks (row_left false ((n ∷ rest) ∷ []) d)) (levels-stay ls)

@@ -9,12 +9,12 @@ use Rattle.dv_path.specs.declared.fault.PathFault.TheVariants as paths
 use Rattle.dv_row.specs.declared.fault.PipelineFault.{PipelineFault}
 use Rattle.dv_row.specs.declared.fault.PipelineFault.TheVariants.{NoMemory}
 use Rattle.dv_row.specs.declared.project.Project.TheVariants.{Include, Exclude}
-use Rattle.dv_row.specs.Fault.{of_path}
+use Rattle.dv_row.specs.Fault.{pipeline_fault_of_path}
 use Rattle.dv_row.proofs.Unwound.{list-of-fields_of}
 use Rattle.dv_row.specs.Expressions.{Expression, Computed, computed, computed_of}
 use Rattle.dv_bson.specs.Results.{◌>>=◌, each}
 use Rattle.dv_row.specs.ExpressionParsing.{literal_in, under_name, expression_in, computed_in}
-use Rattle.dv_row.specs.ProjectParsing.{one_begins, Asked, nothing_asked, members_in, conflicts, includes, with_id, project_form, project_in}
+use Rattle.dv_row.specs.ProjectParsing.{one_begins, AskedMembers, nothing_asked, members_in, conflicts_with_asked, includes, with_id_path, project_form, project_in}
 
 and-true : (a : Bool) → a && true ≡ a
 and-true true = refl
@@ -60,17 +60,17 @@ pub id-path : path_of (codes "_id") ≡ Some (codes "_id" ∷ [])
 unfolding path_of
 id-path = refl
 
-pub id-fault : (e : PathFault) → (e ≡ paths.NoMemory) ⊎ ((e ≡ paths.EmptyComponent) × (path_of (codes "_id") ≡ None)) → of_path e ≡ NoMemory
-id-fault e (inl m) = ap of_path m
+pub id-fault : (e : PathFault) → (e ≡ paths.NoMemory) ⊎ ((e ≡ paths.EmptyComponent) × (path_of (codes "_id") ≡ None)) → pipeline_fault_of_path e ≡ NoMemory
+id-fault e (inl m) = ap pipeline_fault_of_path m
 id-fault e (inr missing) = let same : Some (codes "_id" ∷ []) ≡ None = sym id-path ∙ missing.1 in cc
 
 pub id-is : (p : List (List ℕ)) → path_of (codes "_id") ≡ Some p → p ≡ codes "_id" ∷ []
 id-is p e = let same : Some (codes "_id" ∷ []) ≡ Some p = sym id-path ∙ e in cc
 
-pub form-is : (asked : Asked) (has : Bool) (included : List (List (List ℕ))) (es : Computed) → includes asked ≡ true → conflicts (codes "_id" ∷ []) asked ≡ has
+pub form-is : (asked : AskedMembers) (has : Bool) (included : List (List (List ℕ))) (es : Computed) → includes asked ≡ true → conflicts_with_asked (codes "_id" ∷ []) asked ≡ has
     → included ≡ (if has then asked.included else asked.included ++ (codes "_id" ∷ []) ∷ []) → es ≡ computed_of asked.computed → project_form asked ≡ Include included es
 form-is asked has included es shows con is computes =
-    ap (λ b. if b then Include (with_id asked) (computed_of asked.computed) else Exclude asked.excluded) shows ∙ ap₂ Include (ap (λ b. if b then asked.included else asked.included ++ (codes "_id" ∷ []) ∷ []) con ∙ sym is) (sym computes)
+    ap (λ b. if b then Include (with_id_path asked) (computed_of asked.computed) else Exclude asked.excluded) shows ∙ ap₂ Include (ap (λ b. if b then asked.included else asked.included ++ (codes "_id" ∷ []) ∷ []) con ∙ sym is) (sym computes)
 
 pub project-some : (d : List Field) → (d ≡ [] → ⊥) → project_in (document (fields_of d)) ≡ (members_in nothing_asked d >>= λ asked. Ok (project_form asked))
 unfolding project_in

@@ -15,8 +15,8 @@ use Rattle.std.proofs.lemmas.List.MinMax.{ranks_by}
 use Rattle.std.proofs.lemmas.List.Sorted.{sorted_far, list_any-IsPermutation}
 use Rattle.std.proofs.lemmas.Map.Lookups.{exact_bytes}
 use Rattle.std.proofs.lemmas.Slice.Eq.{bytes_eq-Decides}
-use Rattle.dv_row.specs.Projecting.{behind, ends}
-use Rattle.dv_row.specs.Ways.{name_order, way_order, beside, Ascend, IsInOrder}
+use Rattle.dv_row.specs.Projecting.{paths_behind, ends}
+use Rattle.dv_row.specs.Ways.{name_order, way_order, way_beside, Ascend, IsInOrder}
 
 abbrev Way : Type 0
 Way = List (List ℕ)
@@ -82,12 +82,12 @@ module _ (n m name : List ℕ) (upto : is_lt (name_order m n) ≡ false) where
           let no : true ≡ false = sym (ap is_lt turned) ∙ upto in
           absurd cc
 
-beside-strictly : (x y : Way) (name : List ℕ) → is_lt (way_order y x) ≡ false → is_lt (beside name y) ≡ true → is_lt (beside name x) ≡ true
+beside-strictly : (x y : Way) (name : List ℕ) → is_lt (way_order y x) ≡ false → is_lt (way_beside name y) ≡ true → is_lt (way_beside name x) ≡ true
 beside-strictly [] y name h e = refl
 beside-strictly (n ∷ ns) [] name h e = absurd cc
 beside-strictly (n ∷ ns) (m ∷ ms) name h e = strictly n m name (first-not-less (name_order m n) (way_order ms ns) h) e
 
-beside-loosely : (x y : Way) (name : List ℕ) → is_lt (way_order y x) ≡ false → is_le (beside name y) ≡ true → is_le (beside name x) ≡ true
+beside-loosely : (x y : Way) (name : List ℕ) → is_lt (way_order y x) ≡ false → is_le (way_beside name y) ≡ true → is_le (way_beside name x) ≡ true
 beside-loosely [] y name h e = refl
 beside-loosely (n ∷ ns) [] name h e = absurd cc
 beside-loosely (n ∷ ns) (m ∷ ms) name h e = loosely n m name (first-not-less (name_order m n) (way_order ms ns) h) e
@@ -96,7 +96,7 @@ pub same-name : (n name : List ℕ) → is_eq (name_order n name) ≡ true → n
 same-name n name e = exact_bytes n name (equal (name_order n name) e)
 
 -- without the name through which both lead they stand as before
-tails : (name : List ℕ) (x y : Way) → is_eq (beside name x) ≡ true → is_eq (beside name y) ≡ true → is_lt (way_order y x) ≡ false → is_lt (way_order (drop 1 y) (drop 1 x)) ≡ false
+tails : (name : List ℕ) (x y : Way) → is_eq (way_beside name x) ≡ true → is_eq (way_beside name y) ≡ true → is_lt (way_order y x) ≡ false → is_lt (way_order (drop 1 y) (drop 1 x)) ≡ false
 tails name [] y e f h = absurd cc
 tails name (n ∷ ns) [] e f h = absurd cc
 tails name (n ∷ ns) (m ∷ ms) e f h =
@@ -134,7 +134,7 @@ shorter (suc n) (p ∷ ps) (suc k) l = let rest : k < n = shorter n ps k (omega 
 
 module _ (depth : ℕ) (name : List ℕ) where
   abbrev pub stands : Way → Ordering
-  stands p = beside name (drop depth p)
+  stands p = way_beside name (drop depth p)
 
   module _ (ps : List Way) (order : Ascend depth ps) where
     pub parted-strictly : IsPartitionedBy (λ p. is_lt (stands p)) ps
@@ -150,20 +150,20 @@ module _ (depth : ℕ) (name : List ℕ) where
 
   -- ---- what stands behind a name
 
-  passed : (w : Way) (ws : List Way) → is_eq (beside name w) ≡ false → behind name (w ∷ ws) ≡ behind name ws
+  passed : (w : Way) (ws : List Way) → is_eq (way_beside name w) ≡ false → paths_behind name (w ∷ ws) ≡ paths_behind name ws
   passed [] ws e = refl
   passed (n ∷ ns) ws e = go (bytes_eq name n) refl
     where
-      go : (b : Bool) → bytes_eq name n ≡ b → behind name ((n ∷ ns) ∷ ws) ≡ behind name ws
-      go false f = ap (λ b. if b then ns ∷ behind name ws else behind name ws) f
+      go : (b : Bool) → bytes_eq name n ≡ b → paths_behind name ((n ∷ ns) ∷ ws) ≡ paths_behind name ws
+      go false f = ap (λ b. if b then ns ∷ paths_behind name ws else paths_behind name ws) f
       go true f =
           let tied : name_order n name ≡ Equal = ap (name_order n) ((bytes_eq-Decides name n).0 f) ∙ tied_itself nat_list_cmp_total n in
           let no : true ≡ false = sym (ap is_eq tied) ∙ e in
           absurd cc
 
-  taken : (w : Way) (ws : List Way) → is_eq (beside name w) ≡ true → behind name (w ∷ ws) ≡ drop 1 w ∷ behind name ws
+  taken : (w : Way) (ws : List Way) → is_eq (way_beside name w) ≡ true → paths_behind name (w ∷ ws) ≡ drop 1 w ∷ paths_behind name ws
   taken [] ws e = absurd cc
-  taken (n ∷ ns) ws e = ap (λ b. if b then ns ∷ behind name ws else behind name ws) ((bytes_eq-Decides name n).1 (sym (same-name n name e)))
+  taken (n ∷ ns) ws e = ap (λ b. if b then ns ∷ paths_behind name ws else paths_behind name ws) ((bytes_eq-Decides name n).1 (sym (same-name n name e)))
 
   before : (o : Ordering) → is_lt o ≡ true → is_eq o ≡ false
   before o e = ap is_eq (less o e)
@@ -178,13 +178,13 @@ module _ (depth : ℕ) (name : List ℕ) where
   among Equal h e = refl
   among Greater h e = absurd cc
 
-  skipped : (i : ℕ) (ps : List Way) → ((k : ℕ) (d : Way) → k < i → is_lt (stands (get_or ps k d)) ≡ true) → behind name (map (drop depth) ps) ≡ behind name (map (drop depth) (drop i ps))
+  skipped : (i : ℕ) (ps : List Way) → ((k : ℕ) (d : Way) → k < i → is_lt (stands (get_or ps k d)) ≡ true) → paths_behind name (map (drop depth) ps) ≡ paths_behind name (map (drop depth) (drop i ps))
   skipped zero ps h = refl
   skipped (suc i) [] h = refl
   skipped (suc i) (p ∷ ps) h = passed (drop depth p) (map (drop depth) ps) (before (stands p) (h 0 p (omega arith))) ∙ skipped i ps (λ k d l. h (suc k) d (omega (arith, l)))
 
   kept : (i : ℕ) (ps : List Way) → ((k : ℕ) (d : Way) → k < length ps → is_lt (stands (get_or ps k d)) ≡ false) → ((k : ℕ) (d : Way) → k < i → is_le (stands (get_or ps k d)) ≡ true)
-      → ((k : ℕ) (d : Way) → i ≤ k → k < length ps → is_le (stands (get_or ps k d)) ≡ false) → behind name (map (drop depth) ps) ≡ map (drop (depth + 1)) (take i ps)
+      → ((k : ℕ) (d : Way) → i ≤ k → k < length ps → is_le (stands (get_or ps k d)) ≡ false) → paths_behind name (map (drop depth) ps) ≡ map (drop (depth + 1)) (take i ps)
   kept zero [] from upto beyond = refl
   kept (suc i) [] from upto beyond = refl
   kept zero (p ∷ ps) from upto beyond =
@@ -199,8 +199,8 @@ module _ (depth : ℕ) (name : List ℕ) where
     not-before : (k : ℕ) (d : Way) → k < length qs → is_lt (stands (get_or qs k d)) ≡ false
     not-before k d l = ap (λ l. is_lt (stands (get_or l k d))) left ∙ ap (λ p. is_lt (stands p)) (get_or-drop from ps k d) ∙ first.1 (from + k) d (omega arith) (omega (arith, l, ap length left, length-drop from ps))
 
-    pub behind-found : behind name (map (drop depth) ps) ≡ map (drop (depth + 1)) (take count qs)
-    behind-found = skipped from ps (λ k d l. first.0 k d (omega arith) l) ∙ ap (λ l. behind name (map (drop depth) l)) (sym left) ∙ kept count qs not-before (λ k d l. second.0 k d (omega arith) l) second.1
+    pub behind-found : paths_behind name (map (drop depth) ps) ≡ map (drop (depth + 1)) (take count qs)
+    behind-found = skipped from ps (λ k d l. first.0 k d (omega arith) l) ∙ ap (λ l. paths_behind name (map (drop depth) l)) (sym left) ∙ kept count qs not-before (λ k d l. second.0 k d (omega arith) l) second.1
 
     at-name : (k : ℕ) (d : Way) → k < length (take count qs) → is_eq (stands (get_or (take count qs) k d)) ≡ true
     at-name k d l =
@@ -220,7 +220,7 @@ module _ (depth : ℕ) (name : List ℕ) where
             ap₂ (λ a b. is_lt (way_order a b)) (sym (drop-more depth y)) (sym (drop-more depth x)) ∙ tails name (drop depth x) (drop depth y) (at-name i d (omega (arith, upto, l))) (at-name j d l) apart
 
     -- without one there is none
-    pub found-none : None ≡ slice_get (take count qs) 0 → [] ≡ behind name (map (drop depth) ps)
+    pub found-none : None ≡ slice_get (take count qs) 0 → [] ≡ paths_behind name (map (drop depth) ps)
     found-none e = sym (behind-found ∙ ap (map (drop (depth + 1))) (empty (take count qs) e))
       where
         empty : (rs : List Way) → None ≡ slice_get rs 0 → rs ≡ []
@@ -241,7 +241,7 @@ module _ (depth : ℕ) (name : List ℕ) where
         go [] e h = absurd cc
         go (r ∷ rs) e h =
             let same : path ≡ r = cc in
-            let no : false ≡ true = sym (ap (λ w. is_eq (beside name w)) (ap (drop depth) (sym same) ∙ ended depth path short)) ∙ h r (omega arith) in
+            let no : false ≡ true = sym (ap (λ w. is_eq (way_beside name w)) (ap (drop depth) (sym same) ∙ ended depth path short)) ∙ h r (omega arith) in
             cc
 
 -- ---- ways that end

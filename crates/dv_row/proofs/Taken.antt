@@ -5,12 +5,12 @@ use Rattle.dv_bson.specs.Tree.{Tree, Field}
 use Rattle.dv_path.specs.Path.{is_component, path_of}
 use Rattle.dv_row.specs.declared.fault.PipelineFault.{PipelineFault}
 use Rattle.dv_row.specs.declared.fault.PipelineFault.TheVariants.{BadSpec, Conflict, NoMemory}
-use Rattle.dv_row.specs.Conflicts.{has_conflict, IsTaken}
+use Rattle.dv_row.specs.Conflicts.{paths_conflict, IsMemberTaken}
 use Rattle.dv_row.specs.Expressions.{Expression}
 use Rattle.dv_path.specs.Names.{has_dot}
 use Rattle.dv_row.specs.ExpressionParsing.{expression_in}
 use Rattle.dv_bson.specs.Results.{◌>>=◌}
-use Rattle.dv_row.specs.ProjectParsing.{Asked, is_id, is_below_id, one_begins, conflicts, unless_conflict, with_included, with_excluded, with_computation, excludes, includes, with_path, with_expression, with_switch, with_member, members_in, nothing_asked}
+use Rattle.dv_row.specs.ProjectParsing.{AskedMembers, is_id_path, is_below_id, one_begins, conflicts_with_asked, unless_conflict, with_included, with_excluded, with_computation, excludes, includes, with_path, with_expression, with_switch, with_member, members_in, nothing_asked}
 use Rattle.dv_row.proofs.Conflicting.{any-pushed, conflict-pushed}
 use Rattle.dv_row.proofs.Items.{drop-found, drop-past}
 
@@ -41,15 +41,15 @@ third-more true b c x = refl
 third-more false true c x = refl
 third-more false false c x = refl
 
-module _ (p : Way) (asked : Asked) where
-  pub included-taken : (is_below_id p || excludes asked) ≡ false → (after : Asked) → after ≡ with_included p asked → IsTaken (with_path true p asked) asked p after
+module _ (p : Way) (asked : AskedMembers) where
+  pub included-taken : (is_below_id p || excludes asked) ≡ false → (after : AskedMembers) → after ≡ with_included p asked → IsMemberTaken (with_path true p asked) asked p after
   included-taken h after is = rw is (record {
     stands = ap (λ b. if b then Err BadSpec else unless_conflict p asked (with_included p asked)) h;
     asks = λ q. ap (λ b. b || list_any (one_begins q) asked.excluded || list_any (λ c. one_begins q (c.0 ∷ [])) asked.computed) (any-pushed (one_begins q) asked.included p)
         ∙ first-more (list_any (one_begins q) asked.included) (list_any (one_begins q) asked.excluded) (list_any (λ c. one_begins q (c.0 ∷ [])) asked.computed) (one_begins q p);
   })
 
-  pub excluded-taken : (is_below_id p || not (is_id p) && includes asked) ≡ false → (after : Asked) → after ≡ with_excluded p asked → IsTaken (with_path false p asked) asked p after
+  pub excluded-taken : (is_below_id p || not (is_id_path p) && includes asked) ≡ false → (after : AskedMembers) → after ≡ with_excluded p asked → IsMemberTaken (with_path false p asked) asked p after
   excluded-taken h after is = rw is (record {
     stands = ap (λ b. if b then Err BadSpec else unless_conflict p asked (with_excluded p asked)) h;
     asks = λ q. ap (λ b. list_any (one_begins q) asked.included || b || list_any (λ c. one_begins q (c.0 ∷ [])) asked.computed) (any-pushed (one_begins q) asked.excluded p)
@@ -77,45 +77,45 @@ parts-of name p e = split (list_all is_component (slice_split (λ b. b == 46) na
 pub undotted : (name : List ℕ) (p : Way) → has_dot name ≡ false → path_of name ≡ Some p → p ≡ name ∷ []
 undotted name p h e = sym (parts-of name p e) ∙ whole name h
 
-pub computed-taken : (name : List ℕ) (p : Way) (v : Tree) (asked : Asked) (e : Expression) → path_of name ≡ Some p → has_dot name ≡ false → expression_in false v ≡ Ok e → excludes asked ≡ false → (after : Asked) → after ≡ with_computation name e asked → IsTaken (with_switch None name p v asked) asked p after
+pub computed-taken : (name : List ℕ) (p : Way) (v : Tree) (asked : AskedMembers) (e : Expression) → path_of name ≡ Some p → has_dot name ≡ false → expression_in false v ≡ Ok e → excludes asked ≡ false → (after : AskedMembers) → after ≡ with_computation name e asked → IsMemberTaken (with_switch None name p v asked) asked p after
 computed-taken name p v asked e leads plain parsed h after is = rw is (record {
   stands = ap (λ b. if b then Err BadSpec else (expression_in false v >>= with_expression name p asked)) plain ∙ ap (λ r. r >>= with_expression name p asked) parsed ∙ ap (λ b. if b then Err BadSpec else unless_conflict p asked (with_computation name e asked)) h;
   asks = λ q. ap (λ b. list_any (one_begins q) asked.included || list_any (one_begins q) asked.excluded || b) (any-pushed (λ (c : List ℕ × Expression). one_begins q (c.0 ∷ [])) asked.computed (name, e))
       ∙ third-more (list_any (one_begins q) asked.included) (list_any (one_begins q) asked.excluded) (list_any (λ c. one_begins q (c.0 ∷ [])) asked.computed) (one_begins q (name ∷ []))
-      ∙ ap (λ w. conflicts q asked || one_begins q w) (sym (undotted name p plain leads));
+      ∙ ap (λ w. conflicts_with_asked q asked || one_begins q w) (sym (undotted name p plain leads));
 })
 
 -- ---- all members
 
 -- what the members before a place ask, with their paths in written order, decides with the others
-pub record IsSoFar (d : List Field) (place : ℕ) (asked : Asked) (paths : List Way) : Type 0 where
-  pub gives : members_in nothing_asked d ≡ (if has_conflict paths then Err Conflict else members_in asked (drop place d))
-  pub asks : (p : Way) → conflicts p asked ≡ list_any (one_begins p) paths
+pub record IsSoFar (d : List Field) (place : ℕ) (asked : AskedMembers) (paths : List Way) : Type 0 where
+  pub gives : members_in nothing_asked d ≡ (if paths_conflict paths then Err Conflict else members_in asked (drop place d))
+  pub asks : (p : Way) → conflicts_with_asked p asked ≡ list_any (one_begins p) paths
 
-pub so-far-none : (d : List Field) (asked : Asked) (paths : List Way) → asked ≡ nothing_asked → paths ≡ [] → IsSoFar d 0 asked paths
+pub so-far-none : (d : List Field) (asked : AskedMembers) (paths : List Way) → asked ≡ nothing_asked → paths ≡ [] → IsSoFar d 0 asked paths
 so-far-none d asked paths is none = rw (is, none) (record { gives = refl; asks = λ p. refl })
 
-module _ (d : List Field) (place : ℕ) (asked : Asked) (paths : List Way) (so-far : IsSoFar d place asked paths) where
-  pub so-far-all : length d ≤ place → members_in nothing_asked d ≡ (if has_conflict paths then Err Conflict else Ok asked)
-  so-far-all past = so-far.gives ∙ ap (λ fs. if has_conflict paths then Err Conflict else members_in asked fs) (drop-past d place past)
+module _ (d : List Field) (place : ℕ) (asked : AskedMembers) (paths : List Way) (so-far : IsSoFar d place asked paths) where
+  pub so-far-all : length d ≤ place → members_in nothing_asked d ≡ (if paths_conflict paths then Err Conflict else Ok asked)
+  so-far-all past = so-far.gives ∙ ap (λ fs. if paths_conflict paths then Err Conflict else members_in asked fs) (drop-past d place past)
 
   module _ (f : Field) (here : Some f ≡ slice_get d place) where
-    turn : members_in nothing_asked d ≡ (if has_conflict paths then Err Conflict else (with_member f asked >>= λ more. members_in more (drop (place + 1) d)))
-    turn = so-far.gives ∙ ap (λ fs. if has_conflict paths then Err Conflict else members_in asked fs) (drop-found d place f here)
+    turn : members_in nothing_asked d ≡ (if paths_conflict paths then Err Conflict else (with_member f asked >>= λ more. members_in more (drop (place + 1) d)))
+    turn = so-far.gives ∙ ap (λ fs. if paths_conflict paths then Err Conflict else members_in asked fs) (drop-found d place f here)
 
     -- a conflict before a fault comes first
-    pub so-far-refused : (e fault : PipelineFault) → fault ≡ (if has_conflict paths then Conflict else e) → (e ≡ NoMemory) ⊎ (with_member f asked ≡ Err e) → (fault ≡ NoMemory) ⊎ (members_in nothing_asked d ≡ Err fault)
-    so-far-refused e fault is told = go (has_conflict paths) turn is told
+    pub so-far-refused : (e fault : PipelineFault) → fault ≡ (if paths_conflict paths then Conflict else e) → (e ≡ NoMemory) ⊎ (with_member f asked ≡ Err e) → (fault ≡ NoMemory) ⊎ (members_in nothing_asked d ≡ Err fault)
+    so-far-refused e fault is told = go (paths_conflict paths) turn is told
       where
         go : (b : Bool) → members_in nothing_asked d ≡ (if b then Err Conflict else (with_member f asked >>= λ more. members_in more (drop (place + 1) d))) → fault ≡ (if b then Conflict else e) → (e ≡ NoMemory) ⊎ (with_member f asked ≡ Err e) → (fault ≡ NoMemory) ⊎ (members_in nothing_asked d ≡ Err fault)
         go true gives is told = inr (gives ∙ ap Err (sym is))
         go false gives is (inl wanting) = inl (is ∙ wanting)
         go false gives is (inr refused) = inr (gives ∙ ap (λ r. r >>= λ more. members_in more (drop (place + 1) d)) refused ∙ ap Err (sym is))
 
-    pub so-far-more : (p : Way) (after : Asked) (more : List Way) → IsTaken (with_member f asked) asked p after → more ≡ paths ++ p ∷ [] → IsSoFar d (place + 1) after more
+    pub so-far-more : (p : Way) (after : AskedMembers) (more : List Way) → IsMemberTaken (with_member f asked) asked p after → more ≡ paths ++ p ∷ [] → IsSoFar d (place + 1) after more
     so-far-more p after more taken pushed = rw pushed (record {
-      gives = turn ∙ ap (λ r. if has_conflict paths then Err Conflict else (r >>= λ more. members_in more (drop (place + 1) d))) (taken.stands ∙ ap (λ b. if b then Err Conflict else Ok after) (so-far.asks p))
-          ∙ joined (has_conflict paths) (list_any (one_begins p) paths) ∙ ap (λ b. if b then Err Conflict else members_in after (drop (place + 1) d)) (sym (conflict-pushed paths p));
+      gives = turn ∙ ap (λ r. if paths_conflict paths then Err Conflict else (r >>= λ more. members_in more (drop (place + 1) d))) (taken.stands ∙ ap (λ b. if b then Err Conflict else Ok after) (so-far.asks p))
+          ∙ joined (paths_conflict paths) (list_any (one_begins p) paths) ∙ ap (λ b. if b then Err Conflict else members_in after (drop (place + 1) d)) (sym (conflict-pushed paths p));
       asks = λ q. taken.asks q ∙ ap (λ b. b || one_begins q p) (so-far.asks q) ∙ sym (any-pushed (one_begins q) paths p);
     })
       where

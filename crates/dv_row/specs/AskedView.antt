@@ -2,7 +2,7 @@
 use Rattle.std.specs.Prelude.{map}
 use Rattle.dv_row.specs.declared.asked.Asked as memory
 use Rattle.dv_row.specs.ExpressionView.{named}
-use Rattle.dv_row.specs.ProjectParsing.{Asked}
+use Rattle.dv_row.specs.ProjectParsing.{AskedMembers}
 
-abbrev pub asked : memory.Asked → Asked
+abbrev pub asked : memory.Asked → AskedMembers
 asked a = record { included = a.included.items; excluded = a.excluded.items; computed = map named a.computed.items }

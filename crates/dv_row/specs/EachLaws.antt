@@ -30,21 +30,21 @@ none-there [] i e = omega arith
 none-there (x ∷ xs) zero e = absurd cc
 none-there (x ∷ xs) (suc i) e = omega (arith, none-there xs i e)
 
-abbrev pub after : {Y : Type 0} → List Y → Result (List Y) PipelineFault → Result (List Y) PipelineFault
-after ys (Ok rest) = Ok (ys ++ rest)
-after ys (Err e) = Err e
+abbrev pub after_each : {Y : Type 0} → List Y → Result (List Y) PipelineFault → Result (List Y) PipelineFault
+after_each ys (Ok rest) = Ok (ys ++ rest)
+after_each ys (Err e) = Err e
 
-after-one : {Y : Type 0} (ys : List Y) (y : Y) (r : Result (List Y) PipelineFault) → after ys (r >>= λ zs. Ok (y ∷ zs)) ≡ after (ys ++ y ∷ []) r
+after-one : {Y : Type 0} (ys : List Y) (y : Y) (r : Result (List Y) PipelineFault) → after_each ys (r >>= λ zs. Ok (y ∷ zs)) ≡ after_each (ys ++ y ∷ []) r
 after-one ys y (Ok zs) = ap Ok (sym (append_assoc ys (y ∷ []) zs))
 after-one ys y (Err e) = refl
 
-pub none-yet : {Y : Type 0} (r : Result (List Y) PipelineFault) → r ≡ after [] r
+pub none-yet : {Y : Type 0} (r : Result (List Y) PipelineFault) → r ≡ after_each [] r
 none-yet (Ok ys) = refl
 none-yet (Err e) = refl
 
 -- those before a place are parsed: they give ys
 pub record IsParsedTo {X Y : Type 0} (f : X → Result Y PipelineFault) (xs : List X) (i : ℕ) (ys : List Y) : Type 0 where
-  pub so_far : each f xs ≡ after ys (each f (drop i xs))
+  pub so_far : each f xs ≡ after_each ys (each f (drop i xs))
 
 pub parsed-none : {X Y : Type 0} (f : X → Result Y PipelineFault) (xs : List X) → IsParsedTo f xs 0 []
 parsed-none f xs = record { so_far = none-yet (each f xs) }
@@ -52,10 +52,10 @@ parsed-none f xs = record { so_far = none-yet (each f xs) }
 module _ {X Y : Type 0} (f : X → Result Y PipelineFault) (xs : List X) (i : ℕ) (ys : List Y) (parsed : IsParsedTo f xs i ys) where
   pub parsed-next : (x : X) (y : Y) → drop i xs ≡ x ∷ drop (i + 1) xs → f x ≡ Ok y → IsParsedTo f xs (i + 1) (ys ++ y ∷ [])
   parsed-next x y here e =
-      record { so_far = parsed.so_far ∙ ap (λ l. after ys (each f l)) here ∙ ap (λ r. after ys (r >>= λ y. each f (drop (i + 1) xs) >>= λ zs. Ok (y ∷ zs))) e ∙ after-one ys y (each f (drop (i + 1) xs)) }
+      record { so_far = parsed.so_far ∙ ap (λ l. after_each ys (each f l)) here ∙ ap (λ r. after_each ys (r >>= λ y. each f (drop (i + 1) xs) >>= λ zs. Ok (y ∷ zs))) e ∙ after-one ys y (each f (drop (i + 1) xs)) }
 
   pub parsed-refused : (x : X) (e : PipelineFault) → drop i xs ≡ x ∷ drop (i + 1) xs → f x ≡ Err e → each f xs ≡ Err e
-  parsed-refused x e here told = parsed.so_far ∙ ap (λ l. after ys (each f l)) here ∙ ap (λ r. after ys (r >>= λ y. each f (drop (i + 1) xs) >>= λ zs. Ok (y ∷ zs))) told
+  parsed-refused x e here told = parsed.so_far ∙ ap (λ l. after_each ys (each f l)) here ∙ ap (λ r. after_each ys (r >>= λ y. each f (drop (i + 1) xs) >>= λ zs. Ok (y ∷ zs))) told
 
   pub parsed-more : (x : X) (y : Y) → i < length xs → x ≡ get_or xs i x → f x ≡ Ok y → IsParsedTo f xs (i + 1) (ys ++ y ∷ [])
   parsed-more x y within is e = parsed-next x y (drop-read xs i x within is) e
@@ -64,7 +64,7 @@ module _ {X Y : Type 0} (f : X → Result Y PipelineFault) (xs : List X) (i : �
   parsed-fault x e within is told = parsed-refused x e (drop-read xs i x within is) told
 
   pub parsed-all : length xs ≤ i → each f xs ≡ Ok ys
-  parsed-all past = parsed.so_far ∙ ap (λ l. after ys (each f l)) (drop-past xs i past) ∙ ap Ok (append-nil ys)
+  parsed-all past = parsed.so_far ∙ ap (λ l. after_each ys (each f l)) (drop-past xs i past) ∙ ap Ok (append-nil ys)
 
 -- each over what is seen of a list
 pub each-map : {W X Y : Type 0} (f : X → Result Y PipelineFault) (view : W → X) (ws : List W) → each f (map view ws) ≡ each (λ w. f (view w)) ws

@@ -6,10 +6,10 @@ use Rattle.dv_row.specs.declared.expr.Expr.TheVariants.{Path, Constant, Document
 use Rattle.dv_row.specs.declared.expr.ComputedField.{ComputedField}
 use Rattle.dv_row.specs.Expressions.{Expression, at_path, constant, made}
 
-abbrev pub expression : Expr → Expression
-expression (Path path) = at_path path
-expression (Constant v) = constant (tree v)
-expression (Document es) = made es
+abbrev pub expression_seen : Expr → Expression
+expression_seen (Path path) = at_path path
+expression_seen (Constant v) = constant (tree v)
+expression_seen (Document es) = made es
 
 abbrev pub named : ComputedField → List ℕ × Expression
-named f = (f.name, expression f.expr)
+named f = (f.name, expression_seen f.expr)

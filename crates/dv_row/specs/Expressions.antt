@@ -35,9 +35,9 @@ abbrev mutual
 
 -- fields and one behind them, where there is a value. A name that stands there, or that no field may have, is left out: what
 -- was parsed has none
-abbrev pub with_field : List ℕ → Candidate → List Field → List Field
-with_field name None fs = fs
-with_field name (Some v) fs = if has_zero name || has_name name fs then fs else fs ++ (name, v) ∷ []
+abbrev pub with_field_behind : List ℕ → Candidate → List Field → List Field
+with_field_behind name None fs = fs
+with_field_behind name (Some v) fs = if has_zero name || has_name name fs then fs else fs ++ (name, v) ∷ []
 
 unfoldable mutual
   -- the value of an expression over a document, or Missing
@@ -49,4 +49,4 @@ unfoldable mutual
   -- fields, and behind them those that are computed over a document
   pub with_computed : Computed → List Field → List Field → List Field
   with_computed nothing d fs = fs
-  with_computed (computed name e es) d fs = with_computed es d (with_field name (value_of e d) fs)
+  with_computed (computed name e es) d fs = with_computed es d (with_field_behind name (value_of e d) fs)

@@ -7,27 +7,27 @@ use Rattle.dv_match.specs.declared.fault.FilterFault.TheVariants as filters
 use Rattle.dv_row.specs.declared.fault.PipelineFault.{PipelineFault}
 use Rattle.dv_row.specs.declared.fault.PipelineFault.TheVariants.{UnknownStage, BadSpec, Filter, Conflict, TooMany, NoMemory}
 
-abbrev pub fault_text : PipelineFault → List ℕ
-fault_text UnknownStage = codes "UnknownStage"
-fault_text BadSpec = codes "BadSpec"
-fault_text Filter = codes "Filter"
-fault_text Conflict = codes "Conflict"
-fault_text TooMany = codes "TooMany"
-fault_text NoMemory = codes "NoMemory"
+abbrev pub pipeline_fault_text : PipelineFault → List ℕ
+pipeline_fault_text UnknownStage = codes "UnknownStage"
+pipeline_fault_text BadSpec = codes "BadSpec"
+pipeline_fault_text Filter = codes "Filter"
+pipeline_fault_text Conflict = codes "Conflict"
+pipeline_fault_text TooMany = codes "TooMany"
+pipeline_fault_text NoMemory = codes "NoMemory"
 
-abbrev pub fault_number : PipelineFault → ℕ
-fault_number UnknownStage = 1
-fault_number BadSpec = 2
-fault_number Filter = 3
-fault_number Conflict = 4
-fault_number TooMany = 5
-fault_number NoMemory = 6
+abbrev pub pipeline_fault_number : PipelineFault → ℕ
+pipeline_fault_number UnknownStage = 1
+pipeline_fault_number BadSpec = 2
+pipeline_fault_number Filter = 3
+pipeline_fault_number Conflict = 4
+pipeline_fault_number TooMany = 5
+pipeline_fault_number NoMemory = 6
 
 -- want of memory stays what it is
-abbrev pub of_filter : FilterFault → PipelineFault
-of_filter filters.NoMemory = NoMemory
-of_filter e = Filter
+abbrev pub pipeline_fault_of_filter : FilterFault → PipelineFault
+pipeline_fault_of_filter filters.NoMemory = NoMemory
+pipeline_fault_of_filter e = Filter
 
-abbrev pub of_path : PathFault → PipelineFault
-of_path paths.NoMemory = NoMemory
-of_path e = BadSpec
+abbrev pub pipeline_fault_of_path : PathFault → PipelineFault
+pipeline_fault_of_path paths.NoMemory = NoMemory
+pipeline_fault_of_path e = BadSpec

@@ -11,10 +11,10 @@ use Rattle.dv_row.specs.Expressions.{with_computed}
 use Rattle.dv_row.specs.Row.{Row}
 
 -- what is left of the paths that lead through a field of a name
-abbrev pub behind : List ℕ → List (List (List ℕ)) → List (List (List ℕ))
-behind name [] = []
-behind name ([] ∷ paths) = behind name paths
-behind name ((n ∷ ns) ∷ paths) = if bytes_eq name n then ns ∷ behind name paths else behind name paths
+abbrev pub paths_behind : List ℕ → List (List (List ℕ)) → List (List (List ℕ))
+paths_behind name [] = []
+paths_behind name ([] ∷ paths) = paths_behind name paths
+paths_behind name ((n ∷ ns) ∷ paths) = if bytes_eq name n then ns ∷ paths_behind name paths else paths_behind name paths
 
 -- whether a path ends
 abbrev pub ends : List (List ℕ) → Bool
@@ -31,9 +31,9 @@ abbrev pub with_left : List ℕ → Candidate → Fields → Fields
 with_left name None fs = fs
 with_left name (Some v) fs = field name v fs
 
-abbrev pub with_element : Candidate → Elements → Elements
-with_element None vs = vs
-with_element (Some v) vs = element v vs
+abbrev pub with_element_left : Candidate → Elements → Elements
+with_element_left None vs = vs
+with_element_left (Some v) vs = element v vs
 
 -- what is left of a value at which paths stand: what they lead to, or all but that; `inside` is what is left in it
 abbrev pub left_at : Bool → List (List (List ℕ)) → Tree → Candidate → Candidate
@@ -49,14 +49,14 @@ unfoldable mutual
 
   pub fields_left : Bool → List (List (List ℕ)) → Fields → Fields
   fields_left keeps paths no_fields = no_fields
-  fields_left keeps paths (field name v fs) = with_left name (left_at keeps (behind name paths) v (left_inside keeps (behind name paths) v)) (fields_left keeps paths fs)
+  fields_left keeps paths (field name v fs) = with_left name (left_at keeps (paths_behind name paths) v (left_inside keeps (paths_behind name paths) v)) (fields_left keeps paths fs)
 
   pub elements_left : Bool → List (List (List ℕ)) → Elements → Elements
   elements_left keeps paths no_elements = no_elements
-  elements_left keeps paths (element v vs) = with_element (left_inside keeps paths v) (elements_left keeps paths vs)
+  elements_left keeps paths (element v vs) = with_element_left (left_inside keeps paths v) (elements_left keeps paths vs)
 
-abbrev pub left : Bool → List (List (List ℕ)) → Tree → Candidate
-left keeps paths v = left_at keeps paths v (left_inside keeps paths v)
+abbrev pub left_of_value : Bool → List (List (List ℕ)) → Tree → Candidate
+left_of_value keeps paths v = left_at keeps paths v (left_inside keeps paths v)
 
 -- what is left of a row
 abbrev pub row_left : Bool → List (List (List ℕ)) → Row → Row

@@ -15,9 +15,9 @@ is_alone name (n ∷ []) = bytes_eq name n
 is_alone name (n ∷ m ∷ ns) = false
 
 -- whether a path begins with a name
-abbrev pub begins : List ℕ → List (List ℕ) → Bool
-begins name [] = false
-begins name (n ∷ ns) = bytes_eq name n
+abbrev pub begins_with_name : List ℕ → List (List ℕ) → Bool
+begins_with_name name [] = false
+begins_with_name name (n ∷ ns) = bytes_eq name n
 
 -- whether one of the paths is the field's name
 abbrev pub is_named : List (List (List ℕ)) → Field → Bool
@@ -25,7 +25,7 @@ is_named paths f = list_any (is_alone f.0) paths
 
 -- whether one of the paths is the field's name, or leads through it
 abbrev pub is_met : List (List (List ℕ)) → Field → Bool
-is_met paths f = list_any (begins f.0) paths
+is_met paths f = list_any (begins_with_name f.0) paths
 
 -- whether a value holds others
 abbrev pub has_parts : Tree → Bool
@@ -62,5 +62,5 @@ abbrev pub bare_level : Level → Level
 bare_level l = record { front = []; name = l.name; back = [] }
 
 -- at each level no other field has the document's name
-abbrev pub AreApart : List Level → Type 0
-AreApart ls = AllByRecursion (λ l. (has_name l.name l.front ≡ false) × (has_name l.name l.back ≡ false)) ls
+abbrev pub AreNamesApart : List Level → Type 0
+AreNamesApart ls = AllByRecursion (λ l. (has_name l.name l.front ≡ false) × (has_name l.name l.back ≡ false)) ls

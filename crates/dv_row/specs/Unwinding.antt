@@ -29,10 +29,10 @@ changed_under name change (Some (document inner)) fs = with_value_under name (do
 changed_under name change v fs = fs
 
 -- fields with a value in place of the one that a path leads to through documents, or without that one
-abbrev pub set_at : List (List ℕ) → Candidate → List Field → List Field
-set_at [] v fs = fs
-set_at (name ∷ []) v fs = set_under name v fs
-set_at (name ∷ next ∷ names) v fs = changed_under name (set_at (next ∷ names) v) (value_under name fs) fs
+abbrev pub set_through : List (List ℕ) → Candidate → List Field → List Field
+set_through [] v fs = fs
+set_through (name ∷ []) v fs = set_under name v fs
+set_through (name ∷ next ∷ names) v fs = changed_under name (set_through (next ∷ names) v) (value_under name fs) fs
 
 -- a row that stays where rows without elements are preserved
 abbrev pub preserved : Bool → Row → List Row
@@ -40,16 +40,16 @@ preserved preserve d = if preserve then d ∷ [] else []
 
 -- the rows of an array's elements: one for each, in its place, and of none the row without the array
 abbrev pub rows_of_elements : Unwind → Row → Elements → List Row
-rows_of_elements u d no_elements = preserved u.preserve (set_at u.path None d)
-rows_of_elements u d vs = map (λ v. set_at u.path (Some v) d) (list_of_elements vs)
+rows_of_elements u d no_elements = preserved u.preserve (set_through u.path None d)
+rows_of_elements u d vs = map (λ v. set_through u.path (Some v) d) (list_of_elements vs)
 
 -- the rows of what the path leads to: null and Missing count as no element, and another value is one
-abbrev pub rows_of : Unwind → Row → Candidate → List Row
-rows_of u d None = preserved u.preserve d
-rows_of u d (Some null) = preserved u.preserve d
-rows_of u d (Some (array vs)) = rows_of_elements u d vs
-rows_of u d (Some v) = d ∷ []
+abbrev pub unwound_rows : Unwind → Row → Candidate → List Row
+unwound_rows u d None = preserved u.preserve d
+unwound_rows u d (Some null) = preserved u.preserve d
+unwound_rows u d (Some (array vs)) = rows_of_elements u d vs
+unwound_rows u d (Some v) = d ∷ []
 
 -- the rows of a row
 unfoldable pub unwound : Unwind → Row → List Row
-unwound u d = rows_of u d (reached u.path d)
+unwound u d = unwound_rows u d (reached u.path d)

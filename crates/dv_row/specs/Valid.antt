@@ -16,7 +16,7 @@ use Rattle.dv_row.specs.declared.fault.PipelineFault.{PipelineFault}
 use Rattle.dv_row.specs.declared.fault.PipelineFault.TheVariants.{BadSpec}
 use Rattle.dv_row.specs.declared.project.Project.{Project}
 use Rattle.dv_row.specs.declared.project.Project.TheVariants.{Include, Exclude}
-use Rattle.dv_row.specs.Expressions.{Expression, at_path, constant, made, Computed, nothing, computed, with_field, value_of, with_computed}
+use Rattle.dv_row.specs.Expressions.{Expression, at_path, constant, made, Computed, nothing, computed, with_field_behind, value_of, with_computed}
 use Rattle.dv_path.specs.Names.{has_dot}
 use Rattle.dv_row.specs.ExpressionParsing.{switch_in, literal_in, text_expression, literal_or_made, under_name, constant_or_fault, constant_in, expression_in, computed_in}
 use Rattle.dv_row.specs.Parsing.{path_in}
@@ -133,7 +133,7 @@ more-valid name v [] text whole value valid absent = (text, whole, refl, value, 
 more-valid name v (f ∷ fs) text whole value valid absent =
     (valid.0, valid.1, has_name-more f.0 name v fs valid.2 (bytes-back f.0 name ∙ first-false (bytes_eq name f.0) _ absent), valid.3, more-valid name v fs text whole value valid.4 (second-false (bytes_eq name f.0) _ absent))
 
-pub with_field-valid : (name : List ℕ) (c : Candidate) (fs : List Field) → IsUtf8 name → IfSome c IsValue → IsValid fs → IsValid (with_field name c fs)
+pub with_field-valid : (name : List ℕ) (c : Candidate) (fs : List Field) → IsUtf8 name → IfSome c IsValue → IsValid fs → IsValid (with_field_behind name c fs)
 with_field-valid name None fs text value valid = valid
 with_field-valid name (Some v) fs text value valid = go (has_zero name || has_name name fs) refl
   where
@@ -171,7 +171,7 @@ and-then : (rest : Tree → Candidate) → ((w : Tree) → IsValue w → IfSome 
 and-then rest sound None value = tt
 and-then rest sound (Some w) value = sound w value
 
-through-valid : (rest : Tree → Candidate) → ((w : Tree) → IsValue w → IfSome (rest w) IsValue) → (name : List ℕ) (w : Tree) → IsValue w → IfSome (paths.through rest name w) IsValue
+through-valid : (rest : Tree → Candidate) → ((w : Tree) → IsValue w → IfSome (rest w) IsValue) → (name : List ℕ) (w : Tree) → IsValue w → IfSome (paths.component_entered rest name w) IsValue
 through-valid rest sound name (document fs) value = and-then rest sound (value_under name (list_of_fields fs)) (value_under-valid name (list_of_fields fs) (listed-fields fs value))
 through-valid rest sound name w value = tt
 
@@ -185,7 +185,7 @@ filtered f sound (w ∷ ws) values = go (f w) refl (sound w values.0) (filtered 
 
 path-valid : (path : List (List ℕ)) (v : Tree) → IsValue v → IfSome (paths.expression path v) IsValue
 path-valid [] v value = value
-path-valid (name ∷ names) (array vs) value = valid-elements (filter_map (paths.through (paths.expression names) name) (list_of_elements vs)) (filtered (paths.through (paths.expression names) name) (through-valid (paths.expression names) (path-valid names) name) (list_of_elements vs) (listed-elements vs value))
+path-valid (name ∷ names) (array vs) value = valid-elements (filter_map (paths.component_entered (paths.expression names) name) (list_of_elements vs)) (filtered (paths.component_entered (paths.expression names) name) (through-valid (paths.expression names) (path-valid names) name) (list_of_elements vs) (listed-elements vs value))
 path-valid (name ∷ names) (document fs) value = through-valid (paths.expression names) (path-valid names) name (document fs) value
 path-valid (name ∷ names) v value = tt
 
@@ -199,7 +199,7 @@ mutual
 
   pub with_computed-valid : (es : Computed) (d fs : Row) → AreSound es → IsValid d → IsValid fs → IsValid (with_computed es d fs)
   with_computed-valid nothing d fs sound valid fields = fields
-  with_computed-valid (computed name e es) d fs sound valid fields = with_computed-valid es d (with_field name (value_of e d) fs) sound.2 valid (with_field-valid name (value_of e d) fs sound.0 (value_of-valid e d sound.1 valid) fields)
+  with_computed-valid (computed name e es) d fs sound valid fields = with_computed-valid es d (with_field_behind name (value_of e d) fs) sound.2 valid (with_field-valid name (value_of e d) fs sound.0 (value_of-valid e d sound.1 valid) fields)
 
 -- ---- expressions from values
 

@@ -15,9 +15,9 @@ abbrev pub way_order : List (List ℕ) → List (List ℕ) → Ordering
 way_order = slice_cmp name_order
 
 -- how a way stands to those through a name; one that ends stands before each
-abbrev pub beside : List ℕ → List (List ℕ) → Ordering
-beside name [] = Less
-beside name (n ∷ ns) = name_order n name
+abbrev pub way_beside : List ℕ → List (List ℕ) → Ordering
+way_beside name [] = Less
+way_beside name (n ∷ ns) = name_order n name
 
 -- what paths lead to below their first components ascends
 pub record Ascend (depth : ℕ) (paths : List (List (List ℕ))) : Type 0 where

@@ -5,8 +5,8 @@ ghost use Rattle.std.specs.List.{list_any};
 ghost use Rattle.dv_bson.specs.View.{tree};
 ghost use Rattle.dv_path.specs.Path.{path_of};
 ghost use Rattle.dv_row.specs.AskedView.{asked as seen};
-ghost use Rattle.dv_row.specs.Conflicts.{Takes, has_conflict as list_conflicts};
-ghost use Rattle.dv_row.specs.ExpressionView.{expression, named};
+ghost use Rattle.dv_row.specs.Conflicts.{TakesMember, paths_conflict as list_conflicts};
+ghost use Rattle.dv_row.specs.ExpressionView.{expression_seen, named};
 ghost use Rattle.dv_row.specs.Parsing.{Gives};
 ghost use Rattle.dv_row.specs.ProjectParsing as defined;
 ghost use Rattle.dv_row.specs.declared.fault.PipelineFault.TheVariants.{Conflict};
@@ -94,7 +94,7 @@ impl Asked {
 
     /// Takes a member, and gives its path: whether that conflicts with one before is still to be asked.
     fn take(&mut self, alloc: Global, name: &str, value: &Value) -> Result<Path, PipelineFault>
-        ensures { Takes result (defined.with_member (name.now, tree value.now) (seen self.old)) (seen self.old) (seen self.new) }
+        ensures { TakesMember result (defined.with_member (name.now, tree value.now) (seen self.old)) (seen self.old) (seen self.new) }
     {
         let path = Path::parse(alloc, name)?;
         match switch_of(value) {
@@ -105,7 +105,7 @@ impl Asked {
     }
 
     fn include(&mut self, path: Path) -> Result<Path, PipelineFault>
-        ensures { Takes result (defined.with_path true path (seen self.old)) (seen self.old) (seen self.new) }
+        ensures { TakesMember result (defined.with_path true path (seen self.old)) (seen self.old) (seen self.new) }
     {
         if is_below_id(path.components()) || self.excludes() {
             return Err(PipelineFault::BadSpec);
@@ -115,7 +115,7 @@ impl Asked {
     }
 
     fn exclude(&mut self, path: Path) -> Result<Path, PipelineFault>
-        ensures { Takes result (defined.with_path false path (seen self.old)) (seen self.old) (seen self.new) }
+        ensures { TakesMember result (defined.with_path false path (seen self.old)) (seen self.old) (seen self.new) }
     {
         if is_below_id(path.components()) || !is_id(path.components()) && self.includes() {
             return Err(PipelineFault::BadSpec);
@@ -132,7 +132,7 @@ impl Asked {
         value: &Value,
     ) -> Result<Path, PipelineFault>
         requires { path_of name.now ≡ Some path }
-        ensures { Takes result (defined.with_switch None name.now path (tree value.now) (seen self.old)) (seen self.old) (seen self.new) }
+        ensures { TakesMember result (defined.with_switch None name.now path (tree value.now) (seen self.old)) (seen self.old) (seen self.new) }
     {
         if has_dot(name) {
             return Err(PipelineFault::BadSpec);
@@ -147,7 +147,7 @@ impl Asked {
 
     /// Adds a computed field. Where memory is wanting nothing is changed.
     fn add_computed(&mut self, alloc: Global, name: &str, expr: Expr) -> Result<(), NoMemory>
-        ensures ok { OnOk result (seen self.new ≡ defined.with_computation name.now (expression expr) (seen self.old)) }
+        ensures ok { OnOk result (seen self.new ≡ defined.with_computation name.now (expression_seen expr) (seen self.old)) }
         ensures err { OnErr result (seen self.new ≡ seen self.old) }
     {
         let name = Str::of(String::from_str(alloc, name)?);
@@ -176,7 +176,7 @@ impl Asked {
 
     /// Whether the path conflicts with what was asked.
     fn conflicts(&self, path: &[Component]) -> bool
-        ensures { result ≡ defined.conflicts path.now (seen self.now) }
+        ensures { result ≡ defined.conflicts_with_asked path.now (seen self.now) }
     {
         any_path(path, &self.included)
             || any_path(path, &self.excluded)
@@ -243,7 +243,7 @@ fn begins_with(path: &[Component], name: &str) -> bool
 
 /// Whether the path is `_id`.
 fn is_id(path: &[Component]) -> bool
-    ensures { result ≡ defined.is_id path.now }
+    ensures { result ≡ defined.is_id_path path.now }
 {
     match path {
         [only] => only.as_str() == "_id",

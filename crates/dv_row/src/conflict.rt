@@ -11,7 +11,7 @@ use dv_path::{Component, Path};
 /// Whether one of the paths begins another one, or equals it. Costs comparisons of n log n for n paths: in order, a path
 /// that begins others begins the next one.
 pub(crate) fn has_conflict(paths: Vec<Path>) -> bool
-    ensures { result ≡ defined.has_conflict paths.items }
+    ensures { result ≡ defined.paths_conflict paths.items }
 {
     let mut ascending = paths;
     sort(&mut ascending);
@@ -21,7 +21,7 @@ pub(crate) fn has_conflict(paths: Vec<Path>) -> bool
 /// Whether one of the paths, which are in order, begins the next one, or equals it.
 fn neighbours_conflict(paths: &[Path]) -> bool
     requires { Ascend 0 paths.now }
-    ensures { result ≡ defined.has_conflict paths.now }
+    ensures { result ≡ defined.paths_conflict paths.now }
 {
     'paths: for later in 1..paths.len() {
         if one_begins(paths[later - 1].components(), paths[later].components()) {

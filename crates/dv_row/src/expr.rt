@@ -5,7 +5,7 @@ ghost use Rattle.std.specs.Option.{option_map};
 ghost use Rattle.dv_bson.specs.Tree.{fields_of};
 ghost use Rattle.dv_bson.specs.View.{tree};
 ghost use Rattle.dv_row.specs.Expressions as defined;
-ghost use Rattle.dv_row.specs.ExpressionView.{expression, named};
+ghost use Rattle.dv_row.specs.ExpressionView.{expression_seen, named};
 ghost use Rattle.dv_row.specs.RowValueView.{row_value};
 
 use crate::row_value::{RowValue, made, path_value};
@@ -70,7 +70,7 @@ impl Expr {
     #[cycle(values)]
     #[tactic(auto, unfolding(crate::specs::Expressions::value_of))]
     pub fn value(&self, alloc: Global, row: &Document) -> Result<Option<Value>, NoMemory>
-        ensures { IfOk result (λ value. option_map tree value ≡ defined.value_of (expression self.now) row.now) }
+        ensures { IfOk result (λ value. option_map tree value ≡ defined.value_of (expression_seen self.now) row.now) }
     {
         match self {
             Expr::Path(path) => expr_value(alloc, row, path),
@@ -91,7 +91,7 @@ impl Expr {
         alloc: Global,
         row: &'a Document,
     ) -> Result<Option<RowValue<'a>>, NoMemory>
-        ensures { IfOk result (λ value. option_map row_value value ≡ defined.value_of (expression self.now) row.now) }
+        ensures { IfOk result (λ value. option_map row_value value ≡ defined.value_of (expression_seen self.now) row.now) }
     {
         match self {
             Expr::Path(path) => path_value(alloc, row, path),
@@ -204,7 +204,7 @@ pub fn copy_beside(
 /// Puts a field behind those of the document, where there is a value. A name that stands there already, or that no field
 /// may have, is left out. Fails where memory is wanting; then nothing is changed.
 pub fn push_field(document: &mut Document, name: &str, value: Option<Value>) -> Result<(), NoMemory>
-    ensures ok { OnOk result (document.new ≡ defined.with_field name.now (option_map tree value) document.old) }
+    ensures ok { OnOk result (document.new ≡ defined.with_field_behind name.now (option_map tree value) document.old) }
     ensures err { OnErr result (document.new ≡ document.old) }
 {
     let Some(value) = value else {

@@ -4,7 +4,7 @@ ghost use Rattle.std.specs.Prelude.{◌≡◌, true};
 ghost use Rattle.std.specs.Option.{option_map};
 ghost use Rattle.dv_bson.specs.Tree.{string, fields_of};
 ghost use Rattle.dv_bson.specs.View.{tree};
-ghost use Rattle.dv_row.specs.ExpressionView.{expression, named};
+ghost use Rattle.dv_row.specs.ExpressionView.{expression_seen, named};
 ghost use Rattle.dv_row.specs.Parsing.{Gives};
 ghost use Rattle.dv_row.specs.ExpressionParsing as defined;
 
@@ -21,7 +21,7 @@ impl Expr {
     /// whose names hold no dot and begin with no dollar sign, or what stands for itself, as any other value but an array
     /// does. Refused with `BadSpec` where it is none, and with `NoMemory`.
     pub fn parse(alloc: Global, value: &Value) -> Result<Expr, PipelineFault>
-        ensures { Gives expression result (defined.expression_in true (tree value.now)) }
+        ensures { Gives expression_seen result (defined.expression_in true (tree value.now)) }
     {
         Expr::parse_where(alloc, true, value)
     }
@@ -34,7 +34,7 @@ impl Expr {
         plain: bool,
         value: &Value,
     ) -> Result<Expr, PipelineFault>
-        ensures { Gives expression result (defined.expression_in plain (tree value.now)) }
+        ensures { Gives expression_seen result (defined.expression_in plain (tree value.now)) }
     {
         match value {
             Value::Text(text) => text_expression(alloc, text.as_str(), value),
@@ -52,7 +52,7 @@ fn document_expression(
     plain: bool,
     document: &Document,
 ) -> Result<Expr, PipelineFault>
-    ensures { Gives expression result (defined.literal_or_made (defined.literal_in (fields_of document.now)) (defined.computed_in plain (fields_of document.now))) }
+    ensures { Gives expression_seen result (defined.literal_or_made (defined.literal_in (fields_of document.now)) (defined.computed_in plain (fields_of document.now))) }
 {
     match literal_of(document) {
         Some(value) => Ok(Expr::Constant(value.try_clone()?)),
@@ -98,7 +98,7 @@ fn field_of(
 /// The expression that a text is, which stands in the value.
 fn text_expression(alloc: Global, text: &str, value: &Value) -> Result<Expr, PipelineFault>
     requires { tree value.now ≡ string text.now }
-    ensures { Gives expression result (defined.text_expression text.now) }
+    ensures { Gives expression_seen result (defined.text_expression text.now) }
 {
     if begins_with_dollar(text) {
         return Ok(Expr::Path(field_path(alloc, text)?));
@@ -108,7 +108,7 @@ fn text_expression(alloc: Global, text: &str, value: &Value) -> Result<Expr, Pip
 
 /// A value that stands for itself, as a number and a boolean does where it is `plain`.
 fn constant(plain: bool, value: &Value) -> Result<Expr, PipelineFault>
-    ensures { Gives expression result (defined.constant_in plain (tree value.now)) }
+    ensures { Gives expression_seen result (defined.constant_in plain (tree value.now)) }
 {
     if !plain && switch_of(value).is_some() {
         return Err(PipelineFault::BadSpec);

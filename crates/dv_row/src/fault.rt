@@ -27,11 +27,11 @@ pub enum PipelineFault {
 }
 
 impl PipelineFault {
-    ghost use Rattle.dv_row.specs.Fault.{fault_number};
+    ghost use Rattle.dv_row.specs.Fault.{pipeline_fault_number};
 
     /// The fault's number, from 1 in the order in which the faults are declared.
     pub fn number(&self) -> u8
-        ensures { result ≡ fault_number self.now }
+        ensures { result ≡ pipeline_fault_number self.now }
     {
         match self {
             PipelineFault::UnknownStage => 1,
@@ -46,9 +46,9 @@ impl PipelineFault {
 
 impl fmt::Display for PipelineFault {
     ghost use Rattle.std.specs.Prelude.{Some};
-    ghost use Rattle.dv_row.specs.Fault.{fault_text};
+    ghost use Rattle.dv_row.specs.Fault.{pipeline_fault_text};
 
-    ghost output = { λ f. Some (fault_text f) };
+    ghost output = { λ f. Some (pipeline_fault_text f) };
 
     fn fmt<W: fmt::Write>(&self, f: &mut fmt::Formatter<W>) -> fmt::Result {
         match *self {
@@ -81,9 +81,9 @@ impl<T: Drop> From<AllocFailed<T>> for PipelineFault {
 }
 
 impl From<FilterFault> for PipelineFault {
-    ghost use Rattle.dv_row.specs.Fault.{of_filter};
+    ghost use Rattle.dv_row.specs.Fault.{pipeline_fault_of_filter};
 
-    ghost from_gives = { λ fault e. e ≡ of_filter fault };
+    ghost from_gives = { λ fault e. e ≡ pipeline_fault_of_filter fault };
 
     fn from(fault: FilterFault) -> PipelineFault {
         match fault {
@@ -94,9 +94,9 @@ impl From<FilterFault> for PipelineFault {
 }
 
 impl From<PathFault> for PipelineFault {
-    ghost use Rattle.dv_row.specs.Fault.{of_path};
+    ghost use Rattle.dv_row.specs.Fault.{pipeline_fault_of_path};
 
-    ghost from_gives = { λ fault e. e ≡ of_path fault };
+    ghost from_gives = { λ fault e. e ≡ pipeline_fault_of_path fault };
 
     fn from(fault: PathFault) -> PipelineFault {
         match fault {

@@ -10,17 +10,18 @@ ghost use Rattle.dv_bson.specs.Tree.{Tree, array, document, null, Elements, no_e
 ghost use Rattle.dv_path.specs.Placing.{put};
 ghost use Rattle.dv_path.specs.Removing.{remove};
 ghost use Rattle.dv_row.specs.declared.fault.PipelineFault.TheVariants.{BadSpec};
-ghost use Rattle.dv_row.specs.Examples.{int, long, text, doc, list, shown};
+ghost use Rattle.dv_row.specs.Examples.{shown};
+ghost use Rattle.dv_bson.specs.Short.{int, long, text, doc, list};
 ghost use Rattle.dv_row.specs.declared.project.Project as projects;
 ghost use Rattle.dv_row.specs.declared.project.Project.TheVariants.{Exclude, Include};
 ghost use Rattle.dv_row.specs.declared.unwind.Unwind as unwinds;
 ghost use Rattle.dv_row.specs.ExpressionParsing.{expression_in};
 ghost use Rattle.dv_row.specs.Expressions.{Expression, computed_of, nothing, value_of};
 ghost use Rattle.dv_row.specs.Parsing.{unwind_in, unwinding};
-ghost use Rattle.dv_row.specs.Projecting.{behind, projected};
+ghost use Rattle.dv_row.specs.Projecting.{paths_behind, projected};
 ghost use Rattle.dv_row.specs.ProjectParsing.{project_in};
 ghost use Rattle.dv_row.specs.Row.{Row};
-ghost use Rattle.dv_row.specs.Shown.{AreApart, Level, bare_level, begins, computed_fields, has_parts, is_alone, is_met, is_named, names, way_through, within};
+ghost use Rattle.dv_row.specs.Shown.{AreNamesApart, Level, bare_level, begins_with_name, computed_fields, has_parts, is_alone, is_met, is_named, names, way_through, within};
 ghost use Rattle.dv_row.specs.Unwinding.{reached, unwound};
 ghost use Rattle.dv_row.specs.Valid.{AreValid, IsValid};
 
@@ -77,9 +78,9 @@ pub fn other_fields_stay_where_they_stand()
 pub fn documents_are_shown_as_rows()
     ensures included_apart { (paths : List (List (List ℕ))) (front back : Row) → projected (Include paths nothing) (front ++ back) ≡ projected (Include paths nothing) front ++ projected (Include paths nothing) back }
     ensures excluded_apart { (paths : List (List (List ℕ))) (front back : Row) → projected (Exclude paths) (front ++ back) ≡ projected (Exclude paths) front ++ projected (Exclude paths) back }
-    ensures included_inside { (paths : List (List (List ℕ))) (name : List ℕ) (d : Row) → list_any (is_alone name) paths ≡ false → list_any (begins name) paths ≡ true
+    ensures included_inside { (paths : List (List (List ℕ))) (name : List ℕ) (d : Row) → list_any (is_alone name) paths ≡ false → list_any (begins_with_name name) paths ≡ true
         → projected (Include paths nothing) ((name, document (fields_of d)) ∷ []) ≡ (name, document (fields_of (projected (Include (behind name paths) nothing) d))) ∷ [] }
-    ensures excluded_inside { (paths : List (List (List ℕ))) (name : List ℕ) (d : Row) → list_any (is_alone name) paths ≡ false → list_any (begins name) paths ≡ true
+    ensures excluded_inside { (paths : List (List (List ℕ))) (name : List ℕ) (d : Row) → list_any (is_alone name) paths ≡ false → list_any (begins_with_name name) paths ≡ true
         → projected (Exclude paths) ((name, document (fields_of d)) ∷ []) ≡ (name, document (fields_of (projected (Exclude (behind name paths)) d))) ∷ [] }
 {}
 
@@ -88,9 +89,9 @@ pub fn documents_are_shown_as_rows()
 /// other field of a level has the name that the path has there.
 #[tactic(auto, using(crate::proofs::Levels::included_deep, crate::proofs::Levels::excluded_deep))]
 pub fn paths_lead_through_levels()
-    ensures included { (levels : List Level) (name : List ℕ) (rest : List (List ℕ)) (d : Row) → AreApart levels
+    ensures included { (levels : List Level) (name : List ℕ) (rest : List (List ℕ)) (d : Row) → AreNamesApart levels
         → projected (Include ((way_through levels ++ name ∷ rest) ∷ []) nothing) (within levels d) ≡ within (map bare_level levels) (projected (Include ((name ∷ rest) ∷ []) nothing) d) }
-    ensures excluded { (levels : List Level) (name : List ℕ) (rest : List (List ℕ)) (d : Row) → AreApart levels
+    ensures excluded { (levels : List Level) (name : List ℕ) (rest : List (List ℕ)) (d : Row) → AreNamesApart levels
         → projected (Exclude ((way_through levels ++ name ∷ rest) ∷ [])) (within levels d) ≡ within levels (projected (Exclude ((name ∷ rest) ∷ [])) d) }
 {}
 
@@ -115,7 +116,7 @@ pub fn examples_of_ids()
 /// one without a value is left out. The names are apart, and no path begins with one of them.
 #[tactic(auto, using(crate::proofs::ComputedFields::computed_stand_last))]
 pub fn computed_fields_stand_last()
-    ensures { (paths : List (List (List ℕ))) (es : List (List ℕ × Expression)) (row : Row) → AreNamed (map (λ e. bare e.0) es) → AllByRecursion (λ e. list_any (begins e.0) paths ≡ false) es → projected (Include paths (computed_of es)) row ≡ projected (Include paths nothing) row ++ computed_fields es row }
+    ensures { (paths : List (List (List ℕ))) (es : List (List ℕ × Expression)) (row : Row) → AreNamed (map (λ e. bare e.0) es) → AllByRecursion (λ e. list_any (begins_with_name e.0) paths ≡ false) es → projected (Include paths (computed_of es)) row ≡ projected (Include paths nothing) row ++ computed_fields es row }
 {}
 
 /// An array of which nothing is left stays; int64s are switches; `_id` stays in front, and what is computed stands last.

@@ -106,7 +106,7 @@ fn value_left(
     ways: &Ways<'_>,
     value: &Value,
 ) -> Result<Option<Value>, NoMemory>
-    ensures { IfOk result (λ kept. option_map tree kept ≡ defined.left keeps ways.now (tree value.now)) }
+    ensures { IfOk result (λ kept. option_map tree kept ≡ defined.left_of_value keeps ways.now (tree value.now)) }
 {
     if ways.is_empty() {
         return if_it(!keeps, value);

@@ -175,7 +175,7 @@ fn set_at(
     path: &[Component],
     value: Option<Value>,
 ) -> Result<Document, NoMemory>
-    ensures { IfOk result (λ set. set ≡ defined.set_at path.now (option_map tree value) document.now) }
+    ensures { IfOk result (λ set. set ≡ defined.set_through path.now (option_map tree value) document.now) }
 {
     let Some((component, rest)) = path.split_first() else {
         return document.try_clone();

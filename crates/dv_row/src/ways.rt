@@ -5,7 +5,7 @@ ghost use Rattle.std.specs.List.{list_any};
 ghost use Rattle.std.specs.List.Sorted.{IsPermutation};
 ghost use Rattle.std.specs.Ordering.{is_lt, is_le};
 ghost use Rattle.dv_row.specs.Projecting as defined;
-ghost use Rattle.dv_row.specs.Ways.{Ascend, beside as seen_beside, name_order, way_order};
+ghost use Rattle.dv_row.specs.Ways.{Ascend, way_beside as seen_beside, name_order, way_order};
 
 use dv_path::{Component, Path};
 use std::cmp::Ordering;
@@ -58,7 +58,7 @@ impl<'a> Ways<'a> {
 
     /// What is left of the ways that lead through a field of the name. Costs comparisons logarithmic in the number of ways.
     pub(crate) fn behind(&self, name: &str) -> Ways<'a>
-        ensures { result ≡ defined.behind name.now self.now }
+        ensures { result ≡ defined.paths_behind name.now self.now }
     {
         let depth = self.depth;
         let from = self.paths.partition_point(

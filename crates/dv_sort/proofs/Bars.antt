@@ -12,7 +12,7 @@ use Rattle.dv_path.specs.SortSpec.{Part}
 use Rattle.dv_sort.specs.declared.row.Row.{Row}
 use Rattle.dv_sort.specs.Bar.{AreBefore, IsBar, is_behind}
 use Rattle.dv_sort.specs.Front.{with_row, front_of}
-use Rattle.dv_sort.specs.Keys.{row_keys, keys_order, IsKeyed, AreKeyed, documents}
+use Rattle.dv_sort.specs.Keys.{row_keys, keys_order, HasKeysOf, AreKeyed, documents}
 use Rattle.dv_sort.specs.Sorting.{stands_before, placed, ordered, stable}
 use Rattle.dv_sort.proofs.Insertion.{inserts, front-placed, ordered-push, Up, up-ordered}
 use Rattle.dv_sort.proofs.Kept.{front-kept}
@@ -154,7 +154,7 @@ cut-before parts n xs ys row e keyed here =
     let Q : List Field → Type 0 = λ y. is_lt (keys_order parts row.keys.items (row_keys parts y)) ≡ false in
     let there = subst (λ l. slice_get l n ≡ Some row.document) e (seen-at ys n row here) in
     let all = behind-front lt (before-ranks parts) n (stable parts (documents xs)) row.document (up-ordered lt (before-ranks parts) (documents xs)) there in
-    let own : IsKeyed parts row = all-at (IsKeyed parts) n ys row (recursion_from_All (IsKeyed parts) ys keyed) here in
+    let own : HasKeysOf parts row = all-at (HasKeysOf parts) n ys row (recursion_from_All (HasKeysOf parts) ys keyed) here in
     let by_keys = all-mapped P Q (λ y h. ap (λ ks. is_lt (keys_order parts ks (row_keys parts y))) own.keys ∙ sym (before-is parts row.document y) ∙ h) _ all in
     let count = length-take n ys (omega (arith, within-at n ys row here)) in
     (omega (arith, count, length-documents (take n ys)), subst (AllByRecursion Q) (sym (front-kept parts n xs ys e)) by_keys)

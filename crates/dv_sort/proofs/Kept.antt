@@ -9,11 +9,11 @@ use Rattle.dv_path.specs.SortSpec.{Part}
 use Rattle.dv_sort.specs.declared.row.Row.{Row}
 use Rattle.dv_sort.specs.Sorting.{stands_before, stable, front}
 use Rattle.dv_sort.specs.Front.{no_rows, with_row, front_of}
-use Rattle.dv_sort.specs.Keys.{keys_order, keys_before, IsKeyed, AreKeyed, documents}
+use Rattle.dv_sort.specs.Keys.{keys_order, keys_before, HasKeysOf, AreKeyed, documents}
 use Rattle.dv_sort.proofs.Insertion.{only-order, map-ordered, ordered-push, ordered-up, up-ordered, up-take, front-placed}
 use Rattle.dv_sort.proofs.Standing.{before-is, before-ranks, ranks-by-keys}
 
-keyed-before : (parts : List Part) (x y : Row) → IsKeyed parts x → IsKeyed parts y → keys_before parts x y ≡ stands_before parts x.document y.document
+keyed-before : (parts : List Part) (x y : Row) → HasKeysOf parts x → HasKeysOf parts y → keys_before parts x y ≡ stands_before parts x.document y.document
 keyed-before parts x y p q = ap₂ (λ ks ls. is_lt (keys_order parts ks ls)) p.keys q.keys ∙ sym (before-is parts x.document y.document)
 
 -- rows that were sorted by their keys
@@ -21,7 +21,7 @@ pub sorted-documents : (parts : List Part) (xs ys : List Row) → AreKeyed parts
 unfolding stable
 sorted-documents parts xs ys keyed s t =
     ap documents (only-order (keys_before parts) (ranks-by-keys parts (λ (row : Row). row.keys.items)) xs ys s t)
-    ∙ map-ordered (keys_before parts) (stands_before parts) (λ row. row.document) (IsKeyed parts) (keyed-before parts) xs (recursion_from_All (IsKeyed parts) xs keyed)
+    ∙ map-ordered (keys_before parts) (stands_before parts) (λ row. row.document) (HasKeysOf parts) (keyed-before parts) xs (recursion_from_All (HasKeysOf parts) xs keyed)
 
 pub front-sorted : (parts : List Part) (most : ℕ) (xs ys : List Row) → documents ys ≡ stable parts (documents xs) → documents (take most ys) ≡ front (Some most) (stable parts (documents xs))
 front-sorted parts most xs ys e = sym (take-map (λ (row : Row). row.document) most ys) ∙ ap (take most) e

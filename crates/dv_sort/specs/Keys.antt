@@ -28,11 +28,11 @@ abbrev pub keys_before : List Part → Row → Row → Bool
 keys_before parts x y = is_lt (keys_order parts x.keys.items y.keys.items)
 
 -- the keys are those of the document
-pub record IsKeyed (parts : List Part) (row : Row) : Type 0 where
+pub record HasKeysOf (parts : List Part) (row : Row) : Type 0 where
   pub keys : row.keys.items ≡ row_keys parts row.document
 
 abbrev pub AreKeyed : List Part → List Row → Type 0
-AreKeyed parts rows = All (IsKeyed parts) rows
+AreKeyed parts rows = All (HasKeysOf parts) rows
 
 abbrev pub documents : List Row → List (List Field)
 documents rows = map (λ row. row.document) rows

@@ -19,7 +19,8 @@ use Rattle.dv_path.specs.Path.{is_component, path_of}
 use Rattle.dv_path.specs.Placing.{put}
 use Rattle.dv_path.specs.Slots.{Slot, taken, free, blocked, slot}
 use Rattle.dv_path.specs.declared.fault.PathFault.{PathFault}
-use Rattle.dv_update.specs.Apply.{Path, told, set_at, integer, is_narrow, number_tree, fits_32, fits_64, sum_as, increased, appended, is_pulled, left, pull_from, edit_at, edited, chosen, leading_id, checked, changed, applied, document_limit, level_limit}
+use Rattle.dv_update.specs.Apply.{Path, told, set_at, integer, is_narrow, number_tree, sum_as, increased, appended, is_pulled, left, pull_from, edit_at, edited, chosen, leading_id, checked, changed, applied, document_limit, level_limit}
+use Rattle.dv_bson.specs.Widths.{fits_32, fits_64}
 use Rattle.dv_path.specs.Names.{has_bad_name}
 use Rattle.dv_update.specs.Parsing.{operator_named, number_to_add, members, each_alone, values_to_push, condition, values_to_pull, operation_by, plain, edit_by, edits_by, edits_under, edits_in, has_conflict, placed, sorted, in_order, replacement_of, update_of}
 use Rattle.dv_bson.specs.Results.{◌>>=◌}

@@ -19,6 +19,7 @@ use Rattle.dv_update.specs.declared.fault.UpdateFault.{UpdateFault}
 use Rattle.dv_update.specs.declared.fault.UpdateFault.TheVariants.{NotViable, NotNumber, Overflow, NotArray, IdChanged, TooLarge, TooDeep}
 use Rattle.dv_update.specs.OtherFaults.{of_path}
 use Rattle.dv_bson.specs.Results.{◌>>=◌}
+use Rattle.dv_bson.specs.Widths.{fits_32, fits_64}
 use Rattle.dv_order.specs.Same.{both_same}
 use Rattle.dv_update.specs.Update.{Operation, assign, take_away, increase, append, pull, Pulled, equal_to, passing, Edit, Update, replacement, operators}
 
@@ -47,15 +48,6 @@ integer (Int64 n) = n
 abbrev pub number_tree : Number → Tree
 number_tree (Int32 n) = int32 n
 number_tree (Int64 n) = int64 n
-
--- within 32 bits, and within 64
-abbrev pub fits_32 : ℤ → Bool
-fits_32 (pos n) = nat_lt n (2 ^ 31)
-fits_32 (negsuc n) = nat_lt n (2 ^ 31)
-
-abbrev pub fits_64 : ℤ → Bool
-fits_64 (pos n) = nat_lt n (2 ^ 63)
-fits_64 (negsuc n) = nat_lt n (2 ^ 63)
 
 -- of 32 bits where both numbers are and the sum fits, else of 64
 abbrev pub sum_as : Bool → ℤ → Result Tree UpdateFault

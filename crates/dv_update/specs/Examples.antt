@@ -5,22 +5,11 @@ use Rattle.dv_update.specs.declared.fault.UpdateFault.{UpdateFault}
 use Rattle.dv_update.specs.Apply.{applied}
 use Rattle.dv_update.specs.Parsing.{update_of}
 use Rattle.dv_bson.specs.Results.{◌>>=◌}
-
-abbrev pub int : ℕ → Tree
-int n = int32 (pos n)
-
-abbrev pub long : ℕ → Tree
-long n = int64 (pos n)
-
-abbrev pub doc : List Field → Tree
-doc fields = document (fields_of fields)
-
-abbrev pub list : List Tree → Tree
-list vs = array (elements_of vs)
+use Rattle.dv_bson.specs.Short.{int, long, doc, list}
 
 -- an update with one operator of one path
-abbrev pub one : List ℕ → List ℕ → Tree → List Field
-one operator path v = (operator, doc ((path, v) ∷ [])) ∷ []
+abbrev pub one_edit : List ℕ → List ℕ → Tree → List Field
+one_edit operator path v = (operator, doc ((path, v) ∷ [])) ∷ []
 
 -- {_id: 1, a: [1, 2, 2L, 3]}
 abbrev pub with_a : List Tree → List Field

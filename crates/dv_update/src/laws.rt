@@ -7,7 +7,8 @@ ghost use Rattle.dv_bson.specs.Spelling.{AreFields, Fits, levels, spelling};
 ghost use Rattle.dv_bson.specs.Tree.{Tree, Field, document, fields_of, null};
 ghost use Rattle.dv_path.specs.Slots.{slot, taken};
 ghost use Rattle.dv_update.specs.Apply.{Path, applied, changed, edited, leading_id, set_at};
-ghost use Rattle.dv_update.specs.Examples.{doc, int, list, long, one, outcome, start, with_a};
+ghost use Rattle.dv_update.specs.Examples.{one_edit, outcome, start, with_a};
+ghost use Rattle.dv_bson.specs.Short.{doc, int, list, long};
 ghost use Rattle.dv_update.specs.Parsing.{conflicts, has_conflict, in_order, update_of};
 ghost use Rattle.dv_update.specs.PathOrder.{path_order};
 ghost use Rattle.dv_path.specs.Apart.{remove_each};
@@ -88,42 +89,42 @@ pub fn sameness_is_equality()
 /// Updates of a document with an array.
 #[tactic(auto, unfolding(crate::specs::Parsing::operator_named, dv_path::specs::Path::path_of, dv_path::specs::Path::index_of, dv_path::specs::Placing::put, dv_path::specs::Removing::remove, dv_path::specs::Slots::slot, dv_bson::specs::Spelling::payload, dv_bson::specs::Spelling::framed, dv_bson::specs::Spelling::counted, dv_bson::specs::Spelling::element_spelling))]
 pub fn array_examples()
-    ensures pull { outcome (one (codes "$pull") (codes "a") (int 2)) start ≡ Ok (with_a (int 1 ∷ int 3 ∷ [])) }
-    ensures push_each { outcome (one (codes "$push") (codes "a") (doc ((codes "$each", list (int 4 ∷ int 5 ∷ [])) ∷ []))) start ≡ Ok (with_a (int 1 ∷ int 2 ∷ long 2 ∷ int 3 ∷ int 4 ∷ int 5 ∷ [])) }
-    ensures unset { outcome (one (codes "$unset") (codes "a.1") (int 0)) start ≡ Ok (with_a (int 1 ∷ null ∷ long 2 ∷ int 3 ∷ [])) }
+    ensures pull { outcome (one_edit (codes "$pull") (codes "a") (int 2)) start ≡ Ok (with_a (int 1 ∷ int 3 ∷ [])) }
+    ensures push_each { outcome (one_edit (codes "$push") (codes "a") (doc ((codes "$each", list (int 4 ∷ int 5 ∷ [])) ∷ []))) start ≡ Ok (with_a (int 1 ∷ int 2 ∷ long 2 ∷ int 3 ∷ int 4 ∷ int 5 ∷ [])) }
+    ensures unset { outcome (one_edit (codes "$unset") (codes "a.1") (int 0)) start ≡ Ok (with_a (int 1 ∷ null ∷ long 2 ∷ int 3 ∷ [])) }
     ensures replaced { outcome ((codes "b", int 1) ∷ []) start ≡ Ok ((codes "_id", int 1) ∷ (codes "b", int 1) ∷ []) }
-    ensures same_id { outcome (one (codes "$set") (codes "_id") (int 1)) start ≡ Ok start }
+    ensures same_id { outcome (one_edit (codes "$set") (codes "_id") (int 1)) start ≡ Ok start }
     ensures conflict { outcome ((codes "$set", doc ((codes "a", int 1) ∷ (codes "a.b", int 2) ∷ [])) ∷ []) start ≡ Err Conflict }
-    ensures not_viable { outcome (one (codes "$set") (codes "a.x") (int 1)) start ≡ Err NotViable }
-    ensures another_id { outcome (one (codes "$set") (codes "_id") (long 1)) start ≡ Err IdChanged }
+    ensures not_viable { outcome (one_edit (codes "$set") (codes "a.x") (int 1)) start ≡ Err NotViable }
+    ensures another_id { outcome (one_edit (codes "$set") (codes "_id") (long 1)) start ≡ Err IdChanged }
     ensures replaced_with_another_id { outcome ((codes "_id", long 1) ∷ (codes "b", int 1) ∷ []) start ≡ Err IdChanged }
-    ensures no_array { outcome (one (codes "$push") (codes "_id") (int 1)) start ≡ Err NotArray }
-    ensures null_is_no_array { outcome (one (codes "$push") (codes "v") (int 1)) ((codes "_id", int 1) ∷ (codes "v", null) ∷ []) ≡ Err NotArray }
+    ensures no_array { outcome (one_edit (codes "$push") (codes "_id") (int 1)) start ≡ Err NotArray }
+    ensures null_is_no_array { outcome (one_edit (codes "$push") (codes "v") (int 1)) ((codes "_id", int 1) ∷ (codes "v", null) ∷ []) ≡ Err NotArray }
     ensures names_that_begin_alike { outcome ((codes "$set", doc ((codes "v", int 1) ∷ (codes "vw", int 2) ∷ [])) ∷ []) ((codes "_id", int 1) ∷ []) ≡ Ok ((codes "_id", int 1) ∷ (codes "v", int 1) ∷ (codes "vw", int 2) ∷ []) }
-    ensures a_dollar_inside { outcome (one (codes "$set") (codes "v$") (int 1)) ((codes "_id", int 1) ∷ []) ≡ Ok ((codes "_id", int 1) ∷ (codes "v$", int 1) ∷ []) }
+    ensures a_dollar_inside { outcome (one_edit (codes "$set") (codes "v$") (int 1)) ((codes "_id", int 1) ∷ []) ≡ Ok ((codes "_id", int 1) ∷ (codes "v$", int 1) ∷ []) }
     ensures a_dollar_below { outcome ((codes "b", doc ((codes "$c", int 1) ∷ [])) ∷ []) ((codes "_id", int 1) ∷ []) ≡ Ok ((codes "_id", int 1) ∷ (codes "b", doc ((codes "$c", int 1) ∷ [])) ∷ []) }
 {}
 
 /// An element of an array is taken out where it passes a condition.
 #[tactic(auto, unfolding(crate::specs::Parsing::operator_named, dv_match::specs::Parsing::test_in, dv_match::specs::Parsing::operators_in, dv_match::specs::Parsing::operator_named, dv_match::specs::Match::passes, dv_match::specs::Match::meets_all, dv_match::specs::Match::meets, dv_path::specs::Path::path_of, dv_path::specs::Path::index_of, dv_path::specs::Placing::put, dv_path::specs::Slots::slot, dv_bson::specs::Spelling::payload, dv_bson::specs::Spelling::framed, dv_bson::specs::Spelling::counted, dv_bson::specs::Spelling::element_spelling))]
 pub fn condition_example()
-    ensures { outcome (one (codes "$pull") (codes "a") (doc ((codes "$gte", int 2) ∷ []))) start ≡ Ok (with_a (int 1 ∷ [])) }
+    ensures { outcome (one_edit (codes "$pull") (codes "a") (doc ((codes "$gte", int 2) ∷ []))) start ≡ Ok (with_a (int 1 ∷ [])) }
 {}
 
 /// Sums at the ends of the widths, and what is no number.
 #[tactic(auto, unfolding(crate::specs::Parsing::operator_named, dv_path::specs::Path::path_of, dv_path::specs::Path::index_of, dv_path::specs::Placing::put, dv_path::specs::Slots::slot, dv_bson::specs::Spelling::payload, dv_bson::specs::Spelling::framed, dv_bson::specs::Spelling::counted, dv_bson::specs::Spelling::element_spelling))]
 pub fn sum_examples()
-    ensures widened { outcome (one (codes "$inc") (codes "v") (int 1)) ((codes "_id", int 1) ∷ (codes "v", int 2147483647) ∷ []) ≡ Ok ((codes "_id", int 1) ∷ (codes "v", long 2147483648) ∷ []) }
-    ensures narrow { outcome (one (codes "$inc") (codes "v") (int 1)) ((codes "_id", int 1) ∷ (codes "v", int 2147483646) ∷ []) ≡ Ok ((codes "_id", int 1) ∷ (codes "v", int 2147483647) ∷ []) }
-    ensures too_great { outcome (one (codes "$inc") (codes "v") (int 1)) ((codes "_id", int 1) ∷ (codes "v", long 9223372036854775807) ∷ []) ≡ Err Overflow }
-    ensures no_number { outcome (one (codes "$inc") (codes "v") (int 1)) ((codes "_id", int 3) ∷ (codes "v", list []) ∷ []) ≡ Err NotNumber }
+    ensures widened { outcome (one_edit (codes "$inc") (codes "v") (int 1)) ((codes "_id", int 1) ∷ (codes "v", int 2147483647) ∷ []) ≡ Ok ((codes "_id", int 1) ∷ (codes "v", long 2147483648) ∷ []) }
+    ensures narrow { outcome (one_edit (codes "$inc") (codes "v") (int 1)) ((codes "_id", int 1) ∷ (codes "v", int 2147483646) ∷ []) ≡ Ok ((codes "_id", int 1) ∷ (codes "v", int 2147483647) ∷ []) }
+    ensures too_great { outcome (one_edit (codes "$inc") (codes "v") (int 1)) ((codes "_id", int 1) ∷ (codes "v", long 9223372036854775807) ∷ []) ≡ Err Overflow }
+    ensures no_number { outcome (one_edit (codes "$inc") (codes "v") (int 1)) ((codes "_id", int 3) ∷ (codes "v", list []) ∷ []) ≡ Err NotNumber }
 {}
 
 /// Paths are taken in their order, and nulls pad an array.
 #[tactic(auto, unfolding(crate::specs::Parsing::operator_named, dv_path::specs::Path::path_of, dv_path::specs::Path::index_of, dv_path::specs::Placing::put, dv_path::specs::Slots::slot, dv_bson::specs::Spelling::payload, dv_bson::specs::Spelling::framed, dv_bson::specs::Spelling::counted, dv_bson::specs::Spelling::element_spelling))]
 pub fn order_examples()
     ensures in_order { outcome ((codes "$set", doc ((codes "x.10", int 1) ∷ (codes "x.2", int 2) ∷ (codes "b", int 3) ∷ [])) ∷ []) ((codes "_id", int 1) ∷ []) ≡ Ok ((codes "_id", int 1) ∷ (codes "b", int 3) ∷ (codes "x", doc ((codes "2", int 2) ∷ (codes "10", int 1) ∷ [])) ∷ []) }
-    ensures padded { outcome (one (codes "$set") (codes "x.3") (int 1)) ((codes "_id", int 1) ∷ (codes "x", list (int 0 ∷ [])) ∷ []) ≡ Ok ((codes "_id", int 1) ∷ (codes "x", list (int 0 ∷ null ∷ null ∷ int 1 ∷ [])) ∷ []) }
+    ensures padded { outcome (one_edit (codes "$set") (codes "x.3") (int 1)) ((codes "_id", int 1) ∷ (codes "x", list (int 0 ∷ [])) ∷ []) ≡ Ok ((codes "_id", int 1) ∷ (codes "x", list (int 0 ∷ null ∷ null ∷ int 1 ∷ [])) ∷ []) }
 {}
 
 /// What is no update.
@@ -132,13 +133,13 @@ pub fn fault_examples()
     ensures no_operator { outcome ((codes "$add", doc []) ∷ []) start ≡ Err UnknownOperator }
     ensures a_field_among_operators { outcome ((codes "$set", doc []) ∷ (codes "b", int 1) ∷ []) start ≡ Err UnknownOperator }
     ensures no_document { outcome ((codes "$set", int 1) ∷ []) start ≡ Err BadOperand }
-    ensures empty_component { outcome (one (codes "$set") (codes "a..b") (int 1)) start ≡ Err BadName }
-    ensures dollar { outcome (one (codes "$set") (codes "a.$") (int 1)) start ≡ Err BadName }
-    ensures each_beside_another { outcome (one (codes "$push") (codes "a") (doc ((codes "$each", list []) ∷ (codes "$slice", int 1) ∷ []))) start ≡ Err UnknownOperator }
-    ensures each_of_no_array { outcome (one (codes "$push") (codes "a") (doc ((codes "$each", int 1) ∷ []))) start ≡ Err BadOperand }
-    ensures no_condition { outcome (one (codes "$pull") (codes "a") (doc ((codes "$near", int 1) ∷ []))) start ≡ Err BadOperand }
-    ensures each_behind_another { outcome (one (codes "$push") (codes "a") (doc ((codes "$slice", int 1) ∷ (codes "$each", list []) ∷ []))) start ≡ Err UnknownOperator }
+    ensures empty_component { outcome (one_edit (codes "$set") (codes "a..b") (int 1)) start ≡ Err BadName }
+    ensures dollar { outcome (one_edit (codes "$set") (codes "a.$") (int 1)) start ≡ Err BadName }
+    ensures each_beside_another { outcome (one_edit (codes "$push") (codes "a") (doc ((codes "$each", list []) ∷ (codes "$slice", int 1) ∷ []))) start ≡ Err UnknownOperator }
+    ensures each_of_no_array { outcome (one_edit (codes "$push") (codes "a") (doc ((codes "$each", int 1) ∷ []))) start ≡ Err BadOperand }
+    ensures no_condition { outcome (one_edit (codes "$pull") (codes "a") (doc ((codes "$near", int 1) ∷ []))) start ≡ Err BadOperand }
+    ensures each_behind_another { outcome (one_edit (codes "$push") (codes "a") (doc ((codes "$slice", int 1) ∷ (codes "$each", list []) ∷ []))) start ≡ Err UnknownOperator }
     ensures an_operand_before_a_conflict { outcome ((codes "$set", doc ((codes "a", int 1) ∷ (codes "a.b", int 2) ∷ [])) ∷ (codes "$inc", doc ((codes "c", null) ∷ [])) ∷ []) start ≡ Err NotNumber }
-    ensures a_path_before_its_operand { outcome (one (codes "$inc") (codes "a..b") null) start ≡ Err BadName }
+    ensures a_path_before_its_operand { outcome (one_edit (codes "$inc") (codes "a..b") null) start ≡ Err BadName }
     ensures a_dot_in_a_replacement { outcome ((codes "b", doc ((codes "c.d", int 1) ∷ [])) ∷ []) start ≡ Err BadName }
 {}

@@ -12,10 +12,10 @@ use Rattle.std.proofs.lemmas.Iterator.Adapters.{position_from-zero}
 use Rattle.std.proofs.lemmas.Slice.Eq.{bytes_eq-Decides}
 use Rattle.dv_views.specs.Body.{Body}
 use Rattle.dv_change.specs.declared.change.Change.{Change}
-use Rattle.dv_views.specs.Flow.{Told, told_at, with_told}
-use Rattle.dv_views.specs.Older.{Entries, is_called, place_of, told_before, told_else, told_found, told_named, told_over, views, views_before}
-use Rattle.dv_views.specs.Seen.{named}
-use Rattle.dv_views.specs.Views.{AreNamedApart, View, view_named}
+use Rattle.dv_views.specs.Flow.{Told, told_at, flow_with_told}
+use Rattle.dv_views.specs.Older.{Entries, is_called, place_of_name, told_before, told_else, told_found, told_named, told_over, views, views_before}
+use Rattle.dv_views.specs.Seen.{view_seen}
+use Rattle.dv_views.specs.Views.{AreNamedApart, View, view_under}
 use Rattle.dv_views.proofs.Right.{either-way}
 
 -- ---- places of names
@@ -34,9 +34,9 @@ within-more n (Some i) = by (nat_lt i n) refl
     by false is = let h : n ≤ i = ltb-false i n is in ap (λ c. cond c (Some (suc i)) None) (sym (le-ltb (suc i) (suc n) (omega arith)))
 
 module _ {Y : Type 0} (name : List ℕ) where
-  from : (i : ℕ) (es : Entries Y) → position_from (is_called name) i (keys_of es) ≡ option_map (λ n. i + n) (place_of name es)
+  from : (i : ℕ) (es : Entries Y) → position_from (is_called name) i (keys_of es) ≡ option_map (λ n. i + n) (place_of_name name es)
   from i [] = refl
-  from i (e ∷ es) = by (is_called name e.0) (place_of name es) (from (i + 1) es)
+  from i (e ∷ es) = by (is_called name e.0) (place_of_name name es) (from (i + 1) es)
     where
       more : (n : ℕ) → (i + 1) + n ≡ i + suc n
       more n = omega arith
@@ -50,15 +50,15 @@ module _ {Y : Type 0} (name : List ℕ) where
       by false None rest = rest
       by false (Some n) rest = rest ∙ ap Some (more n)
 
-  pub position_is : (es : Entries Y) → position (is_called name) (keys_of es) ≡ place_of name es
-  position_is es = position_from-zero (is_called name) (keys_of es) ∙ from 0 es ∙ whole (place_of name es)
+  pub position_is : (es : Entries Y) → position (is_called name) (keys_of es) ≡ place_of_name name es
+  position_is es = position_from-zero (is_called name) (keys_of es) ∙ from 0 es ∙ whole (place_of_name name es)
     where
       whole : (p : Option ℕ) → option_map (λ n. 0 + n) p ≡ p
       whole None = refl
       whole (Some n) = ap Some (let e : 0 + n ≡ n = omega arith in e)
 
-  place-take : (n : ℕ) (es : Entries Y) → place_of name (take n es) ≡ within n (place_of name es)
-  place-take zero es = none (place_of name es)
+  place-take : (n : ℕ) (es : Entries Y) → place_of_name name (take n es) ≡ within n (place_of_name name es)
+  place-take zero es = none (place_of_name name es)
     where
       none : (p : Option ℕ) → None ≡ within 0 p
       none None = refl
@@ -66,50 +66,50 @@ module _ {Y : Type 0} (name : List ℕ) where
   place-take (suc n) [] = refl
   place-take (suc n) (e ∷ es) = by (is_called name e.0) (place-take n es)
     where
-      by : (b : Bool) → place_of name (take n es) ≡ within n (place_of name es) → cond b (Some 0) (option_map suc (place_of name (take n es))) ≡ within (suc n) (cond b (Some 0) (option_map suc (place_of name es)))
+      by : (b : Bool) → place_of_name name (take n es) ≡ within n (place_of_name name es) → cond b (Some 0) (option_map suc (place_of_name name (take n es))) ≡ within (suc n) (cond b (Some 0) (option_map suc (place_of_name name es)))
       by true rest = ap (λ c. cond c (Some 0) None) (sym (lt-ltb 0 (suc n) (omega arith)))
-      by false rest = ap (option_map suc) rest ∙ within-more n (place_of name es)
+      by false rest = ap (option_map suc) rest ∙ within-more n (place_of_name name es)
 
-  pub none_before : (n : ℕ) (es : Entries Y) → position (is_called name) (keys_of es) ≡ None → None ≡ place_of name (take n es)
+  pub none_before : (n : ℕ) (es : Entries Y) → position (is_called name) (keys_of es) ≡ None → None ≡ place_of_name name (take n es)
   none_before n es none = sym (place-take n es ∙ ap (within n) (sym (position_is es) ∙ none))
 
-  pub one_before : (n i : ℕ) (es : Entries Y) → position (is_called name) (keys_of es) ≡ Some i → i < n → Some i ≡ place_of name (take n es)
+  pub one_before : (n i : ℕ) (es : Entries Y) → position (is_called name) (keys_of es) ≡ Some i → i < n → Some i ≡ place_of_name name (take n es)
   one_before n i es is h = sym (place-take n es ∙ ap (within n) (sym (position_is es) ∙ is) ∙ ap (λ c. cond c (Some i) None) (lt-ltb i n h))
 
-  pub one_behind : (n i : ℕ) (es : Entries Y) → position (is_called name) (keys_of es) ≡ Some i → n ≤ i → None ≡ place_of name (take n es)
+  pub one_behind : (n i : ℕ) (es : Entries Y) → position (is_called name) (keys_of es) ≡ Some i → n ≤ i → None ≡ place_of_name name (take n es)
   one_behind n i es is h = sym (place-take n es ∙ ap (within n) (sym (position_is es) ∙ is) ∙ ap (λ c. cond c (Some i) None) (le-ltb i n h))
 
   -- ---- views of names
 
-  pub no_view_before : (es : Entries Y) → place_of name es ≡ None → view_named name (views es) ≡ None
+  pub no_view_before : (es : Entries Y) → place_of_name name es ≡ None → view_under name (views es) ≡ None
   no_view_before [] none = refl
-  no_view_before (e ∷ es) none = by (is_called name e.0) (place_of name es) none (no_view_before es)
+  no_view_before (e ∷ es) none = by (is_called name e.0) (place_of_name name es) none (no_view_before es)
     where
-      by : (b : Bool) (p : Option ℕ) → cond b (Some 0) (option_map suc p) ≡ None → (p ≡ None → view_named name (views es) ≡ None) → cond b (Some (named (string_bytes e.0) e.1)) (view_named name (views es)) ≡ None
+      by : (b : Bool) (p : Option ℕ) → cond b (Some 0) (option_map suc p) ≡ None → (p ≡ None → view_under name (views es) ≡ None) → cond b (Some (view_seen (string_bytes e.0) e.1)) (view_under name (views es)) ≡ None
       by true p none rest = absurd cc
       by false None none rest = rest refl
       by false (Some i) none rest = absurd cc
 
-  pub view_before : (n i : ℕ) (es : Entries Y) (b : Body) → place_of name (take n es) ≡ Some i → slice_get (values_of es) i ≡ Some b → view_named name (views (take n es)) ≡ Some (named name b)
+  pub view_before : (n i : ℕ) (es : Entries Y) (b : Body) → place_of_name name (take n es) ≡ Some i → slice_get (values_of es) i ≡ Some b → view_under name (views (take n es)) ≡ Some (view_seen name b)
   view_before zero i es b is there = absurd cc
   view_before (suc n) i [] b is there = absurd cc
-  view_before (suc n) i (e ∷ es) b is there = by (is_called name e.0) refl i (place_of name (take n es)) is there (λ j. view_before n j es b)
+  view_before (suc n) i (e ∷ es) b is there = by (is_called name e.0) refl i (place_of_name name (take n es)) is there (λ j. view_before n j es b)
     where
       by : (t : Bool) → is_called name e.0 ≡ t → (i : ℕ) (p : Option ℕ) → cond t (Some 0) (option_map suc p) ≡ Some i → slice_get (e.1 ∷ values_of es) i ≡ Some b
-          → ((j : ℕ) → p ≡ Some j → slice_get (values_of es) j ≡ Some b → view_named name (views (take n es)) ≡ Some (named name b))
-          → cond t (Some (named (string_bytes e.0) e.1)) (view_named name (views (take n es))) ≡ Some (named name b)
+          → ((j : ℕ) → p ≡ Some j → slice_get (values_of es) j ≡ Some b → view_under name (views (take n es)) ≡ Some (view_seen name b))
+          → cond t (Some (view_seen (string_bytes e.0) e.1)) (view_under name (views (take n es))) ≡ Some (view_seen name b)
       by true same zero p is there rest =
           let here : e.1 ≡ b = cc in
-          λ k. Some (named (sym ((bytes_eq-Decides name (string_bytes e.0)).0 same) k) (here k))
+          λ k. Some (view_seen (sym ((bytes_eq-Decides name (string_bytes e.0)).0 same) k) (here k))
       by true same (suc i) p is there rest = absurd cc
       by false same i None is there rest = absurd cc
       by false same zero (Some j) is there rest = absurd cc
       by false same (suc i) (Some j) is there rest = let at : j ≡ i = cc in rest i (ap Some at) there
 
-  pub place_within : (n i : ℕ) (es : Entries Y) → place_of name (take n es) ≡ Some i → i < length es
+  pub place_within : (n i : ℕ) (es : Entries Y) → place_of_name name (take n es) ≡ Some i → i < length es
   place_within zero i es is = absurd cc
   place_within (suc n) i [] is = absurd cc
-  place_within (suc n) i (e ∷ es) is = by (is_called name e.0) i (place_of name (take n es)) is (λ j. place_within n j es)
+  place_within (suc n) i (e ∷ es) is = by (is_called name e.0) i (place_of_name name (take n es)) is (λ j. place_within n j es)
     where
       by : (t : Bool) (i : ℕ) (p : Option ℕ) → cond t (Some 0) (option_map suc p) ≡ Some i → ((j : ℕ) → p ≡ Some j → j < length es) → i < suc (length es)
       by true zero p is rest = omega arith
@@ -120,19 +120,19 @@ module _ {Y : Type 0} (name : List ℕ) where
 
   -- ---- what views of names tell
 
-  pub none_told_before : (es : Entries Y) → place_of name es ≡ None → told_named name es ≡ None
+  pub none_told_before : (es : Entries Y) → place_of_name name es ≡ None → told_named name es ≡ None
   none_told_before [] none = refl
-  none_told_before (e ∷ es) none = by (is_called name e.0) (place_of name es) none (none_told_before es)
+  none_told_before (e ∷ es) none = by (is_called name e.0) (place_of_name name es) none (none_told_before es)
     where
       by : (b : Bool) (p : Option ℕ) → cond b (Some 0) (option_map suc p) ≡ None → (p ≡ None → told_named name es ≡ None) → cond b (Some e.1.told) (told_named name es) ≡ None
       by true p none rest = absurd cc
       by false None none rest = rest refl
       by false (Some i) none rest = absurd cc
 
-  pub told_before_at : (n i : ℕ) (es : Entries Y) (b : Body) → place_of name (take n es) ≡ Some i → slice_get (values_of es) i ≡ Some b → told_named name (take n es) ≡ Some b.told
+  pub told_before_at : (n i : ℕ) (es : Entries Y) (b : Body) → place_of_name name (take n es) ≡ Some i → slice_get (values_of es) i ≡ Some b → told_named name (take n es) ≡ Some b.told
   told_before_at zero i es b is there = absurd cc
   told_before_at (suc n) i [] b is there = absurd cc
-  told_before_at (suc n) i (e ∷ es) b is there = by (is_called name e.0) i (place_of name (take n es)) is there (λ j. told_before_at n j es b)
+  told_before_at (suc n) i (e ∷ es) b is there = by (is_called name e.0) i (place_of_name name (take n es)) is there (λ j. told_before_at n j es b)
     where
       by : (t : Bool) (i : ℕ) (p : Option ℕ) → cond t (Some 0) (option_map suc p) ≡ Some i → slice_get (e.1 ∷ values_of es) i ≡ Some b
           → ((j : ℕ) → p ≡ Some j → slice_get (values_of es) j ≡ Some b → told_named name (take n es) ≡ Some b.told) → cond t (Some e.1.told) (told_named name (take n es)) ≡ Some b.told
@@ -162,12 +162,12 @@ module _ {Y : Type 0} (name : List ℕ) where
   over-is : (come : Told) (es : Entries Y) → AreNamedApart (views es) → told_over come es name ≡ told_else (told_named name es) (come name)
   unfolding IsDistinct
   over-is come [] apart = refl
-  over-is come (e ∷ es) apart = by (is_called name e.0) refl (over-is (with_told (string_bytes e.0) e.1.told come) es apart.1)
+  over-is come (e ∷ es) apart = by (is_called name e.0) refl (over-is (flow_with_told (string_bytes e.0) e.1.told come) es apart.1)
     where
-      by : (b : Bool) → is_called name e.0 ≡ b → told_over (with_told (string_bytes e.0) e.1.told come) es name ≡ told_else (told_named name es) (with_told (string_bytes e.0) e.1.told come name)
-          → told_over (with_told (string_bytes e.0) e.1.told come) es name ≡ told_else (if b then Some e.1.told else told_named name es) (come name)
+      by : (b : Bool) → is_called name e.0 ≡ b → told_over (flow_with_told (string_bytes e.0) e.1.told come) es name ≡ told_else (told_named name es) (flow_with_told (string_bytes e.0) e.1.told come name)
+          → told_over (flow_with_told (string_bytes e.0) e.1.told come) es name ≡ told_else (if b then Some e.1.told else told_named name es) (come name)
       by true is rest =
-          rest ∙ ap (λ t. told_else t (with_told (string_bytes e.0) e.1.told come name)) (none-later (string_bytes e.0) es is apart.0) ∙ ap (λ (b : Bool). if b then e.1.told else come name) is
+          rest ∙ ap (λ t. told_else t (flow_with_told (string_bytes e.0) e.1.told come name)) (none-later (string_bytes e.0) es is apart.0) ∙ ap (λ (b : Bool). if b then e.1.told else come name) is
       by false is rest = rest ∙ ap (λ (b : Bool). told_else (told_named name es) (if b then e.1.told else come name)) is
 
 pub found_is_before : {Y : Type 0} (namespace : List ℕ) (changes : List Change) (n : ℕ) (es : Entries Y) → AreNamedApart (views_before n es) → told_found namespace changes n es ≡ told_before namespace changes n es

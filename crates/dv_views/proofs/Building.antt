@@ -21,15 +21,15 @@ use Rattle.dv_pipe.specs.Sources.{Row, Source, lists_of, rows_under}
 use Rattle.dv_pipe.specs.Stages.{Lists, evaluated}
 use Rattle.dv_pipe.specs.declared.stage.Stage.{Stage}
 use Rattle.dv_views.specs.declared.turner.Turner.{Turner}
-use Rattle.dv_views.specs.Filled.{lists_in_turn, rows_in}
+use Rattle.dv_views.specs.Filled.{lists_in_turn, rows_filled}
 use Rattle.dv_views.specs.Flow.{outs_made}
-use Rattle.dv_views.specs.Forms.{is_among, names_read}
-use Rattle.dv_views.specs.Ground.{IsBuilt, IsLive, IsLiveView, IsPlaced, outs_below, outs_of_mark, outs_of_view}
+use Rattle.dv_views.specs.Forms.{is_name_among, names_read}
+use Rattle.dv_views.specs.Ground.{IsBuilt, IsLive, IsLiveView, IsPlacedUnder, outs_below, outs_of_mark, outs_of_view}
 use Rattle.dv_views.specs.Keeping.{IsSoundLive, kept_seen, left_of, lists_of_all, named_of}
 use Rattle.dv_views.specs.Placed.{lookups_of, own_position, positioned}
-use Rattle.dv_views.specs.Turned.{rows_made}
+use Rattle.dv_views.specs.Turned.{turned_rows}
 use Rattle.dv_views.specs.Turning.{empty_lists}
-use Rattle.dv_views.specs.Views.{AreInOrder, Mark, Taken, View, Views, live, taken_from, view_named}
+use Rattle.dv_views.specs.Views.{AreInOrder, ViewMark, Taken, View, Views, live, taken_from, view_under}
 use Rattle.dv_views.proofs.Filling.{all_filled, source_filled}
 use Rattle.dv_views.proofs.Made.{one_part}
 use Rattle.dv_views.proofs.Rolling.{lookups_count, rows_are_made}
@@ -63,8 +63,8 @@ places_are_positioned ds ascending = record { ascending = ascending-places ds as
 pub live_outs : (stages : List Stage) (rows : Live Turner) → IsSoundLive stages rows → IsPositioned (outs_made stages (kept_seen rows).taken)
 live_outs stages rows sound = ordered_outs stages (named_of rows.chain) (left_of rows.chain rows.rows.entries) sound.positioned
 
-pub live_placed : (stages : List Stage) (mark : Mark) (rows : Live Turner) → mark ≡ live (kept_seen rows) → IsSoundLive stages rows → IsLive mark × IsPositioned (outs_of_mark stages mark)
-live_placed stages mark rows is sound = subst (λ (m : Mark). IsLive m × IsPositioned (outs_of_mark stages m)) (sym is) (tt, live_outs stages rows sound)
+pub live_placed : (stages : List Stage) (mark : ViewMark) (rows : Live Turner) → mark ≡ live (kept_seen rows) → IsSoundLive stages rows → IsLive mark × IsPositioned (outs_of_mark stages mark)
+live_placed stages mark rows is sound = subst (λ (m : ViewMark). IsLive m × IsPositioned (outs_of_mark stages m)) (sym is) (tt, live_outs stages rows sound)
 
 -- what holds whatever comes
 pub whatever : {T E : Type 0} {P : Type 0} (r : Result T E) → P → IfOk r (λ _. P)
@@ -72,41 +72,41 @@ whatever (Ok x) holds = holds
 whatever (Err e) holds = tt
 
 module _ (older : Views) (lists : Lists) where
-  pub view_placed : (name : List ℕ) (v : View) → view_named name older ≡ Some v → IsLive v.mark → IsPositioned (outs_of_mark v.stages v.mark) → IsPlaced older lists name
+  pub view_placed : (name : List ℕ) (v : View) → view_under name older ≡ Some v → IsLive v.mark → IsPositioned (outs_of_mark v.stages v.mark) → IsPlacedUnder older lists name
   view_placed name v is lives are = subst (λ (o : Option View). IsLiveView o × IsPositioned (outs_of_view o (lists name))) (sym is) (lives, are)
 
-  pub list_placed : (name : List ℕ) → view_named name older ≡ None → AreInOrder (lists name) → IsPlaced older lists name
+  pub list_placed : (name : List ℕ) → view_under name older ≡ None → AreInOrder (lists name) → IsPlacedUnder older lists name
   list_placed name is ordered = subst (λ (o : Option View). IsLiveView o × IsPositioned (outs_of_view o (lists name))) (sym is) (tt, places_are_positioned (lists name) ordered.0)
 
-  all-positioned : (names : List (List ℕ)) → AllByRecursion (IsPlaced older lists) names → AllByRecursion (λ name. IsPositioned (outs_below older lists name)) names
+  all-positioned : (names : List (List ℕ)) → AllByRecursion (IsPlacedUnder older lists) names → AllByRecursion (λ name. IsPositioned (outs_below older lists name)) names
   all-positioned [] all = tt
   all-positioned (name ∷ names) all = (all.0.1, all-positioned names all.1)
 
-  all-live : (names : List (List ℕ)) → AllByRecursion (IsPlaced older lists) names → AllByRecursion (λ name. IsLiveView (view_named name older)) names
+  all-live : (names : List (List ℕ)) → AllByRecursion (IsPlacedUnder older lists) names → AllByRecursion (λ name. IsLiveView (view_under name older)) names
   all-live [] all = tt
   all-live (name ∷ names) all = (all.0.0, all-live names all.1)
 
-  pub more_placed : (names : List (List ℕ)) (name : List ℕ) → AllByRecursion (IsPlaced older lists) names → IsPlaced older lists name → AllByRecursion (IsPlaced older lists) (names ++ name ∷ [])
+  pub more_placed : (names : List (List ℕ)) (name : List ℕ) → AllByRecursion (IsPlacedUnder older lists) names → IsPlacedUnder older lists name → AllByRecursion (IsPlacedUnder older lists) (names ++ name ∷ [])
   more_placed [] name all one = (one, tt)
   more_placed (n ∷ names) name all one = (all.0, more_placed names name all.1 one)
 
-  module _ (stages : List Stage) (source : List ℕ) (placed : AllByRecursion (IsPlaced older lists) (lookups_of stages source)) (own : IsPlaced older lists source) where
+  module _ (stages : List Stage) (source : List ℕ) (placed : AllByRecursion (IsPlacedUnder older lists) (lookups_of stages source)) (own : IsPlacedUnder older lists source) where
     all-taken : (fresh some : Taken) → fresh ≡ record { left = []; named = empty_lists (lists_of_all stages) } → some ≡ lists_in_turn 0 (lookups_of stages source) (outs_below older lists) fresh
-        → rows_in Left some (outs_below older lists source) ≡ taken_from stages source (outs_below older lists)
+        → rows_filled Left some (outs_below older lists source) ≡ taken_from stages source (outs_below older lists)
     all-taken fresh some none is =
-        ap (λ (t : Taken). rows_in Left t (outs_below older lists source))
+        ap (λ (t : Taken). rows_filled Left t (outs_below older lists source))
         (is ∙ ap (lists_in_turn 0 (lookups_of stages source) (outs_below older lists)) (none ∙ ap (λ n. record { left = []; named = empty_lists n }) (sym (lookups_count stages source)))
         ∙ all_filled (lookups_of stages source) (outs_below older lists) (all-positioned (lookups_of stages source) placed))
         ∙ source_filled (outs_below older lists source) (map (outs_below older lists) (lookups_of stages source)) own.1
 
     pub built : (fresh some : Taken) (whole after : Live Turner) → fresh ≡ record { left = []; named = empty_lists (lists_of_all stages) } → some ≡ lists_in_turn 0 (lookups_of stages source) (outs_below older lists) fresh
-        → (kept_seen whole).taken ≡ rows_in Left some (outs_below older lists source) → IsSoundLive stages whole → after.chain ≡ whole.chain → after.rows.entries ≡ whole.rows.entries → after.ticks ≡ 0
+        → (kept_seen whole).taken ≡ rows_filled Left some (outs_below older lists source) → IsSoundLive stages whole → after.chain ≡ whole.chain → after.rows.entries ≡ whole.rows.entries → after.ticks ≡ 0
         → IsBuilt stages source older lists (live (kept_seen after))
     built fresh some whole after none is all sound chain entries ticks =
         let left : (kept_seen after).taken ≡ (kept_seen whole).taken = λ i. record { left = left_of (chain i) (entries i); named = named_of (chain i) } in
         let taken = left ∙ all ∙ all-taken fresh some none is in (
           taken,
-          ap forget entries ∙ rows_are_made stages whole sound ∙ ap (rows_made stages) (sym left),
+          ap forget entries ∙ rows_are_made stages whole sound ∙ ap (turned_rows stages) (sym left),
           subst (λ (t : Taken). IsPositioned t.left) (sym taken) own.1,
           ticks,
           (own.0, all-live (lookups_of stages source) placed),
@@ -115,11 +115,11 @@ module _ (older : Views) (lists : Lists) where
 -- ---- rows that are made anew
 
 module _ (f : Lists) where
-  pub under_names : (names : List (List ℕ)) (name : List ℕ) → is_among name names ≡ true → rows_under name (map (λ n. (n, f n)) names) ≡ f name
+  pub under_names : (names : List (List ℕ)) (name : List ℕ) → is_name_among name names ≡ true → rows_under name (map (λ n. (n, f n)) names) ≡ f name
   under_names [] name among = absurd cc
   under_names (n ∷ names) name among = by (bytes_eq name n) refl among (under_names names name)
     where
-      by : (b : Bool) → bytes_eq name n ≡ b → b || is_among name names ≡ true → (is_among name names ≡ true → rows_under name (map (λ m. (m, f m)) names) ≡ f name) → (if b then f n else rows_under name (map (λ m. (m, f m)) names)) ≡ f name
+      by : (b : Bool) → bytes_eq name n ≡ b → b || is_name_among name names ≡ true → (is_name_among name names ≡ true → rows_under name (map (λ m. (m, f m)) names) ≡ f name) → (if b then f n else rows_under name (map (λ m. (m, f m)) names)) ≡ f name
       by true is among rest = ap f (sym ((bytes_eq-Decides name n).0 is))
       by false is among rest = rest among
 

@@ -10,18 +10,18 @@ use Rattle.std.specs.declared.string.String.{String}
 use Rattle.dv_pipe.specs.Stages.{is_read}
 use Rattle.dv_views.specs.Body.{Body}
 use Rattle.dv_views.specs.Older.{Entries, is_called, views}
-use Rattle.dv_views.specs.Seen.{named, seen}
-use Rattle.dv_views.specs.Views.{AreNamedApart, View, has_name, has_view, is_stale, reads_name, view_named, without}
+use Rattle.dv_views.specs.Seen.{view_seen, entry_view}
+use Rattle.dv_views.specs.Views.{AreNamedApart, View, is_view_named, has_view, is_stale, reads_name, view_under, views_without}
 
 there-met : (b : Bool) (w : Body) (s : Option Body) (r : Bool) → r ≡ is_some s → b || r ≡ is_some (cond b (Some w) s)
 there-met true w s r rest = refl
 there-met false w s r rest = rest
 
-found-met : (name n : List ℕ) (w : Body) (b : Bool) (s : Option Body) (r : Option View) → (b ≡ true → name ≡ n) → option_map (named name) s ≡ r → option_map (named name) (cond b (Some w) s) ≡ cond b (Some (named n w)) r
-found-met name n w true s r same rest = ap (λ m. Some (named m w)) (same refl)
+found-met : (name n : List ℕ) (w : Body) (b : Bool) (s : Option Body) (r : Option View) → (b ≡ true → name ≡ n) → option_map (view_seen name) s ≡ r → option_map (view_seen name) (cond b (Some w) s) ≡ cond b (Some (view_seen n w)) r
+found-met name n w true s r same rest = ap (λ m. Some (view_seen m w)) (same refl)
 found-met name n w false s r same rest = rest
 
-pub copied : (name : List ℕ) (r : Option (Bor Body)) → option_map (λ w. named name w.now) r ≡ option_map (named name) (option_copied r)
+pub copied : (name : List ℕ) (r : Option (Bor Body)) → option_map (λ w. view_seen name w.now) r ≡ option_map (view_seen name) (option_copied r)
 copied name None = refl
 copied name (Some w) = refl
 
@@ -32,10 +32,10 @@ no-some (Some w) e = absurd cc
 module _ {Y : Type 0} where
   -- ---- looking up
 
-  pub found_seen : (name : List ℕ) (es : Entries Y) → option_map (named name) (lookup (is_called name) es) ≡ view_named name (views es)
+  pub found_seen : (name : List ℕ) (es : Entries Y) → option_map (view_seen name) (lookup (is_called name) es) ≡ view_under name (views es)
   found_seen name [] = refl
   found_seen name (e ∷ es) =
-      found-met name (string_bytes e.0) e.1 (is_called name e.0) (lookup (is_called name) es) (view_named name (views es)) (bytes_eq-Decides name (string_bytes e.0)).0 (found_seen name es)
+      found-met name (string_bytes e.0) e.1 (is_called name e.0) (lookup (is_called name) es) (view_under name (views es)) (bytes_eq-Decides name (string_bytes e.0)).0 (found_seen name es)
 
   pub there : (name : List ℕ) (es : Entries Y) → has_view name (views es) ≡ is_some (lookup (is_called name) es)
   there name [] = refl
@@ -66,7 +66,7 @@ module _ {Y : Type 0} where
 
   -- none of the views has the name
   abbrev pub AreOthers : List ℕ → Entries Y → Type 0
-  AreOthers name es = AllByRecursion (λ v. has_name name v ≡ false) (views es)
+  AreOthers name es = AllByRecursion (λ v. is_view_named name v ≡ false) (views es)
 
   pub others : (name n : List ℕ) (es : Entries Y) → bytes_eq name n ≡ true → AllByRecursion (λ m. bytes_eq n m ≡ false) (map (λ v. v.name) (views es)) → AreOthers name es
   others name n [] same h = tt
@@ -74,16 +74,16 @@ module _ {Y : Type 0} where
 
   -- ---- taking out
 
-  none-out : (name : List ℕ) (es : Entries Y) → AreOthers name es → without name (views es) ≡ views es
+  none-out : (name : List ℕ) (es : Entries Y) → AreOthers name es → views_without name (views es) ≡ views es
   none-out name [] h = refl
-  none-out name (e ∷ es) h = ap (λ b. cond (not b) (seen e ∷ without name (views es)) (without name (views es))) h.0 ∙ ap (λ vs. seen e ∷ vs) (none-out name es h.1)
+  none-out name (e ∷ es) h = ap (λ b. cond (not b) (entry_view e ∷ views_without name (views es)) (views_without name (views es))) h.0 ∙ ap (λ vs. entry_view e ∷ vs) (none-out name es h.1)
 
-  out-met : (name : List ℕ) (b : Bool) (e : String Y × Body) (es rest : Entries Y) → (b ≡ true → without name (views es) ≡ views es) → without name (views es) ≡ views rest
-      → cond (not b) (seen e ∷ without name (views es)) (without name (views es)) ≡ views (cond b es (e ∷ rest))
+  out-met : (name : List ℕ) (b : Bool) (e : String Y × Body) (es rest : Entries Y) → (b ≡ true → views_without name (views es) ≡ views es) → views_without name (views es) ≡ views rest
+      → cond (not b) (entry_view e ∷ views_without name (views es)) (views_without name (views es)) ≡ views (cond b es (e ∷ rest))
   out-met name true e es rest only same = only refl
-  out-met name false e es rest only same = ap (λ vs. seen e ∷ vs) same
+  out-met name false e es rest only same = ap (λ vs. entry_view e ∷ vs) same
 
-  pub taken_out : (name : List ℕ) (es : Entries Y) → AreNamedApart (views es) → without name (views es) ≡ views (remove_entry (is_called name) es)
+  pub taken_out : (name : List ℕ) (es : Entries Y) → AreNamedApart (views es) → views_without name (views es) ≡ views (remove_entry (is_called name) es)
   unfolding IsDistinct
   taken_out name [] apart = refl
   taken_out name (e ∷ es) apart =
@@ -91,6 +91,6 @@ module _ {Y : Type 0} where
 
   -- ---- adding
 
-  pub seen_last : (es : Entries Y) (e : String Y × Body) → views (es ++ e ∷ []) ≡ views es ++ seen e ∷ []
+  pub seen_last : (es : Entries Y) (e : String Y × Body) → views (es ++ e ∷ []) ≡ views es ++ entry_view e ∷ []
   seen_last [] e = refl
-  seen_last (f ∷ es) e = ap (λ vs. seen f ∷ vs) (seen_last es e)
+  seen_last (f ∷ es) e = ap (λ vs. entry_view f ∷ vs) (seen_last es e)

@@ -11,17 +11,17 @@ use Rattle.dv_change.specs.declared.change.Change.{Change}
 use Rattle.dv_change.specs.declared.change.Change.TheVariants.{Put}
 use Rattle.dv_change.specs.declared.input.Input.TheVariants.{Left, Named}
 use Rattle.dv_change.specs.Changes.{IsPositioned, Positioned, with_change}
-use Rattle.dv_change.specs.Inputs.{changed_at}
+use Rattle.dv_change.specs.Inputs.{input_changed_at}
 use Rattle.dv_change.specs.PositionLaws.{pos_order_total}
 use Rattle.dv_change.specs.Positions.{PosTree, pos_order}
-use Rattle.dv_views.specs.Filled.{lists_in_turn, rows_in}
-use Rattle.dv_views.specs.Placed.{Places}
+use Rattle.dv_views.specs.Filled.{lists_in_turn, rows_filled}
+use Rattle.dv_views.specs.Placed.{ListPlaces}
 use Rattle.dv_views.specs.Turning.{empty_lists}
 
 -- ---- one list among others
 
-pub changed_mid : (i : ℕ) (c : Change) (front back : List Positioned) (rows : Positioned) → i ≡ length front → changed_at i c (front ++ rows ∷ back) ≡ front ++ with_change rows c ∷ back
-changed_mid i c [] back rows e = ap (λ n. changed_at n c (rows ∷ back)) e
+pub changed_mid : (i : ℕ) (c : Change) (front back : List Positioned) (rows : Positioned) → i ≡ length front → input_changed_at i c (front ++ rows ∷ back) ≡ front ++ with_change rows c ∷ back
+changed_mid i c [] back rows e = ap (λ n. input_changed_at n c (rows ∷ back)) e
 changed_mid zero c (x ∷ front) back rows e = absurd cc
 changed_mid (suc i) c (x ∷ front) back rows e = ap (λ ys. x ∷ ys) (changed_mid i c front back rows cc)
 
@@ -64,22 +64,22 @@ filled front (e ∷ back) ascending =
 
 -- ---- the source
 
-left-filled : (es rows : Positioned) (named : List Positioned) → rows_in Left (record { left = rows; named = named }) es ≡ record { left = fold put_in rows es; named = named }
+left-filled : (es rows : Positioned) (named : List Positioned) → rows_filled Left (record { left = rows; named = named }) es ≡ record { left = fold put_in rows es; named = named }
 left-filled [] rows named = refl
 left-filled (e ∷ es) rows named = left-filled es (put_in rows e) named
 
-pub source_filled : (es : Positioned) (named : List Positioned) → IsPositioned es → rows_in Left (record { left = []; named = named }) es ≡ record { left = es; named = named }
+pub source_filled : (es : Positioned) (named : List Positioned) → IsPositioned es → rows_filled Left (record { left = []; named = named }) es ≡ record { left = es; named = named }
 source_filled es named are = left-filled es [] named ∙ ap (λ (rows : Positioned). record { left = rows; named = named }) (filled [] es are.ascending)
 
 -- ---- the other lists
 
 list-filled : (i : ℕ) (es left rows : Positioned) (front back : List Positioned) → i ≡ length front
-    → rows_in (Named i) (record { left = left; named = front ++ rows ∷ back }) es ≡ record { left = left; named = front ++ fold put_in rows es ∷ back }
+    → rows_filled (Named i) (record { left = left; named = front ++ rows ∷ back }) es ≡ record { left = left; named = front ++ fold put_in rows es ∷ back }
 list-filled i [] left rows front back e = refl
 list-filled i (d ∷ es) left rows front back e =
-    ap (λ (ns : List Positioned). rows_in (Named i) (record { left = left; named = ns }) es) (changed_mid i (Put d.0 d.1) front back rows e) ∙ list-filled i es left (put_in rows d) front back e
+    ap (λ (ns : List Positioned). rows_filled (Named i) (record { left = left; named = ns }) es) (changed_mid i (Put d.0 d.1) front back rows e) ∙ list-filled i es left (put_in rows d) front back e
 
-lists-filled : (i : ℕ) (names : List (List ℕ)) (places : Places) (left : Positioned) (front : List Positioned) → i ≡ length front → AllByRecursion (λ name. IsPositioned (places name)) names
+lists-filled : (i : ℕ) (names : List (List ℕ)) (places : ListPlaces) (left : Positioned) (front : List Positioned) → i ≡ length front → AllByRecursion (λ name. IsPositioned (places name)) names
     → lists_in_turn i names places (record { left = left; named = front ++ empty_lists (length names) }) ≡ record { left = left; named = front ++ map places names }
 lists-filled i [] places left front e all = refl
 lists-filled i (name ∷ names) places left front e all =
@@ -90,6 +90,6 @@ lists-filled i (name ∷ names) places left front e all =
     ∙ lists-filled (suc i) names places left (front ++ places name ∷ []) (longer i front (places name) e) all.1
     ∙ ap (λ (ns : List Positioned). record { left = left; named = ns }) (append_assoc front (places name ∷ []) (map places names))
 
-pub all_filled : (names : List (List ℕ)) (places : Places) → AllByRecursion (λ name. IsPositioned (places name)) names
+pub all_filled : (names : List (List ℕ)) (places : ListPlaces) → AllByRecursion (λ name. IsPositioned (places name)) names
     → lists_in_turn 0 names places (record { left = []; named = empty_lists (length names) }) ≡ record { left = []; named = map places names }
 all_filled names places all = lists-filled 0 names places [] [] refl all

@@ -17,10 +17,10 @@ use Rattle.dv_pipe.specs.declared.stage.Stage.{Stage}
 use Rattle.dv_views.specs.declared.fault.ViewFault.{ViewFault}
 use Rattle.dv_views.specs.declared.fault.ViewFault.TheVariants.{Exists, LimitReached, ReadByView}
 use Rattle.dv_views.specs.Body.{Body}
-use Rattle.dv_views.specs.Forms.{AreFounded, IsClosed, ViewForm, fault_of_new, height_over, heights, is_among, is_read_by, most_height, most_views, names_read, needed, with_height}
+use Rattle.dv_views.specs.Forms.{AreFounded, IsClosed, ViewForm, fault_of_new, height_over, heights, is_name_among, is_read_by, most_height, most_views, names_read, needed, with_height}
 use Rattle.dv_views.specs.Older.{Entries, views}
-use Rattle.dv_views.specs.Seen.{HaveHeights, seen}
-use Rattle.dv_views.specs.Views.{Views, form_of, has_view, reads_name}
+use Rattle.dv_views.specs.Seen.{HaveHeights, entry_view}
+use Rattle.dv_views.specs.Views.{Views, view_form, has_view, reads_name}
 use Rattle.dv_views.proofs.Needed.{closed}
 use Rattle.dv_views.proofs.Right.{either-way, itself, neither, or-left, or-right, read_among}
 
@@ -31,24 +31,24 @@ module _ (high : List ℕ → ℕ) where
   highest-first first [] = omega arith
   highest-first first (name ∷ names) = let rest = highest-first (max first (high name)) names in omega (arith, rest)
 
-  highest-among : (first : ℕ) (names : List (List ℕ)) (name : List ℕ) → is_among name names ≡ true → high name ≤ fold (λ so_far name. max so_far (high name)) first names
+  highest-among : (first : ℕ) (names : List (List ℕ)) (name : List ℕ) → is_name_among name names ≡ true → high name ≤ fold (λ so_far name. max so_far (high name)) first names
   highest-among first [] name among = absurd cc
   highest-among first (n ∷ names) name among = by (bytes_eq name n) refl among (highest-among (max first (high n)) names name)
     where
       highest : ℕ
       highest = fold (λ so_far name. max so_far (high name)) (max first (high n)) names
 
-      by : (b : Bool) → bytes_eq name n ≡ b → b || is_among name names ≡ true → (is_among name names ≡ true → high name ≤ highest) → high name ≤ highest
+      by : (b : Bool) → bytes_eq name n ≡ b → b || is_name_among name names ≡ true → (is_name_among name names ≡ true → high name ≤ highest) → high name ≤ highest
       by true is among rest =
           let more : max first (high n) ≤ highest = highest-first (max first (high n)) names in
           subst (λ (m : List ℕ). high m ≤ highest) (sym ((bytes_eq-Decides name n).0 is)) (omega (arith, more))
       by false is among rest = rest among
 
-  highest-low : (n first : ℕ) (names : List (List ℕ)) → ((name : List ℕ) → is_among name names ≡ true → high name ≤ n) → first ≤ n → fold (λ so_far name. max so_far (high name)) first names ≤ n
+  highest-low : (n first : ℕ) (names : List (List ℕ)) → ((name : List ℕ) → is_name_among name names ≡ true → high name ≤ n) → first ≤ n → fold (λ so_far name. max so_far (high name)) first names ≤ n
   highest-low n first [] low h = h
   highest-low n first (m ∷ names) low h =
-      let here : high m ≤ n = low m (or-left (bytes_eq m m) (is_among m names) (itself m)) in
-      highest-low n (max first (high m)) names (λ name among. low name (or-right (bytes_eq name m) (is_among name names) among)) (omega (arith, here, h))
+      let here : high m ≤ n = low m (or-left (bytes_eq m m) (is_name_among m names) (itself m)) in
+      highest-low n (max first (high m)) names (λ name among. low name (or-right (bytes_eq name m) (is_name_among name names) among)) (omega (arith, here, h))
 
 -- ---- the highest of views that are read
 
@@ -102,11 +102,11 @@ module _ {Y : Type 0} (stages : List Stage) (source : List ℕ) where
 -- ---- the heights of views
 
 -- what is no view's name is as high as before
-height-elsewhere : (name : List ℕ) (below : List ℕ → ℕ) (vs : Views) → has_view name vs ≡ false → fold (λ below v. with_height v below) below (map form_of vs) name ≡ below name
+height-elsewhere : (name : List ℕ) (below : List ℕ → ℕ) (vs : Views) → has_view name vs ≡ false → fold (λ below v. with_height v below) below (map view_form vs) name ≡ below name
 height-elsewhere name below [] away = refl
 height-elsewhere name below (v ∷ vs) away =
     let both = neither (bytes_eq name v.name) (has_view name vs) away in
-    height-elsewhere name (with_height (form_of v) below) vs both.1 ∙ ap (λ (b : Bool). if b then height_over below v.stages v.source else below name) both.0
+    height-elsewhere name (with_height (view_form v) below) vs both.1 ∙ ap (λ (b : Bool). if b then height_over below v.stages v.source else below name) both.0
 
 -- each is at most their number
 height-low : (n : ℕ) (below : List ℕ → ℕ) (vs : List ViewForm) → ((name : List ℕ) → below name ≤ n) → (name : List ℕ) → fold (λ below v. with_height v below) below vs name ≤ n + length vs
@@ -125,7 +125,7 @@ height-low n below (v ∷ vs) low name =
 -- ---- the heights that entries keep
 
 abbrev pub forms_of : {Y : Type 0} → Entries Y → List ViewForm
-forms_of es = map form_of (views es)
+forms_of es = map view_form (views es)
 
 module _ {Y : Type 0} where
   pub heights_written : (high : List ℕ → ℕ) (n : ℕ) (es : Entries Y) (old new : Body) → slice_get (values_of es) n ≡ Some old → new.height ≡ old.height → HaveHeights high es → HaveHeights high (set_value_at es n new)
@@ -149,17 +149,17 @@ module _ {Y : Type 0} where
   pub heights_added : (es : Entries Y) (e : String Y × Body) → has_view (string_bytes e.0) (views es) ≡ false → e.1.height ≡ height_over (heights (forms_of es)) e.1.stages e.1.source → HaveHeights (heights (forms_of es)) es
       → HaveHeights (heights (forms_of (es ++ e ∷ []))) (es ++ e ∷ [])
   heights_added es e new own kept =
-      let v = form_of (seen e) in
-      subst (λ (high : List ℕ → ℕ). HaveHeights high (es ++ e ∷ [])) (sym (ap heights (ap (map form_of) (map-append seen es (e ∷ [])) ∙ map-append form_of (views es) (seen e ∷ [])) ∙ fold-append (λ below v. with_height v below) (λ name. 0) (forms_of es) (v ∷ [])))
+      let v = view_form (entry_view e) in
+      subst (λ (high : List ℕ → ℕ). HaveHeights high (es ++ e ∷ [])) (sym (ap heights (ap (map view_form) (map-append entry_view es (e ∷ [])) ∙ map-append view_form (views es) (entry_view e ∷ [])) ∙ fold-append (λ below v. with_height v below) (λ name. 0) (forms_of es) (v ∷ [])))
       (heights-last (with_height v (heights (forms_of es))) es e (heights-under (heights (forms_of es)) v es new kept)
       (own ∙ ap (λ (b : Bool). if b then height_over (heights (forms_of es)) v.stages v.source else heights (forms_of es) v.name) (sym (itself v.name))))
 
   -- a pipeline stands one higher than the highest view that it reads, and no higher than their number and one
   pub highest_found : (es : Entries Y) (before : Views) (stages : List Stage) (source : List ℕ) → views es ≡ before → HaveHeights (heights (forms_of es)) es
-      → suc (highest_read stages source 0 es) ≡ height_over (heights (map form_of before)) stages source
+      → suc (highest_read stages source 0 es) ≡ height_over (heights (map view_form before)) stages source
   highest_found es before stages source over kept =
       ap suc (highest_is stages source (heights (forms_of es)) es kept (λ name away. height-elsewhere name (λ name. 0) (views es) away))
-      ∙ ap (λ (vs : Views). height_over (heights (map form_of vs)) stages source) over
+      ∙ ap (λ (vs : Views). height_over (heights (map view_form vs)) stages source) over
 
   pub highest_few : (es : Entries Y) (stages : List Stage) (source : List ℕ) → HaveHeights (heights (forms_of es)) es → highest_read stages source 0 es ≤ length es
   highest_few es stages source kept =
@@ -168,30 +168,30 @@ module _ {Y : Type 0} where
       low : (name : List ℕ) → heights (forms_of es) name ≤ length es
       low name =
           let most : heights (forms_of es) name ≤ 0 + length (forms_of es) = height-low 0 (λ name. 0) (forms_of es) (λ name. omega arith) name in
-          let many = length-map (views es) form_of ∙ length-map es seen in
+          let many = length-map (views es) view_form ∙ length-map es entry_view in
           omega (arith, most, many)
 
   -- ---- what is needed, from the youngest view on
 
   pub needed_next : (n m : ℕ) (es : Entries Y) (e : String Y × Body) (names : List (List ℕ)) → m ≡ suc n → slice_get es n ≡ Some e
-      → needed (drop n (forms_of es)) names ≡ (if is_among (string_bytes e.0) (needed (drop m (forms_of es)) names) then needed (drop m (forms_of es)) names ++ names_read e.1.stages e.1.source else needed (drop m (forms_of es)) names)
-  needed_next n m es e names is there = ap (λ (vs : List ViewForm). needed vs names) (dropped n es there ∙ ap (λ (k : ℕ). form_of (seen e) ∷ drop k (forms_of es)) (sym is))
+      → needed (drop n (forms_of es)) names ≡ (if is_name_among (string_bytes e.0) (needed (drop m (forms_of es)) names) then needed (drop m (forms_of es)) names ++ names_read e.1.stages e.1.source else needed (drop m (forms_of es)) names)
+  needed_next n m es e names is there = ap (λ (vs : List ViewForm). needed vs names) (dropped n es there ∙ ap (λ (k : ℕ). view_form (entry_view e) ∷ drop k (forms_of es)) (sym is))
     where
-      dropped : (n : ℕ) (es : Entries Y) → slice_get es n ≡ Some e → drop n (forms_of es) ≡ form_of (seen e) ∷ drop (suc n) (forms_of es)
+      dropped : (n : ℕ) (es : Entries Y) → slice_get es n ≡ Some e → drop n (forms_of es) ≡ view_form (entry_view e) ∷ drop (suc n) (forms_of es)
       dropped n [] there = absurd cc
-      dropped zero (f ∷ es) there = let is : f ≡ e = cc in ap (λ (g : String Y × Body). form_of (seen g) ∷ forms_of es) is
+      dropped zero (f ∷ es) there = let is : f ≡ e = cc in ap (λ (g : String Y × Body). view_form (entry_view g) ∷ forms_of es) is
       dropped (suc n) (f ∷ es) there = dropped n es there
 
   pub needed_step : (place : ℕ) (es : Entries Y) (before : Views) (e : String Y × Body) (names so_far : List (List ℕ)) (b : Bool) → 0 < place → views es ≡ before → slice_get es (place - 1) ≡ Some e
-      → so_far ≡ needed (drop place (map form_of before)) names → is_among (string_bytes e.0) so_far ≡ b
-      → (if b then so_far ++ names_read e.1.stages e.1.source else so_far) ≡ needed (drop (place - 1) (map form_of before)) names
+      → so_far ≡ needed (drop place (map view_form before)) names → is_name_among (string_bytes e.0) so_far ≡ b
+      → (if b then so_far ++ names_read e.1.stages e.1.source else so_far) ≡ needed (drop (place - 1) (map view_form before)) names
   needed_step place es before e names so_far b more over there is among =
       let next : place ≡ suc (place - 1) = omega arith in
-      let seen : so_far ≡ needed (drop place (forms_of es)) names = is ∙ ap (λ (vs : Views). needed (drop place (map form_of vs)) names) (sym over) in
+      let seen : so_far ≡ needed (drop place (forms_of es)) names = is ∙ ap (λ (vs : Views). needed (drop place (map view_form vs)) names) (sym over) in
       ap (λ (t : Bool). if t then so_far ++ names_read e.1.stages e.1.source else so_far) (sym among)
-      ∙ ap (λ (xs : List (List ℕ)). if is_among (string_bytes e.0) xs then xs ++ names_read e.1.stages e.1.source else xs) seen
+      ∙ ap (λ (xs : List (List ℕ)). if is_name_among (string_bytes e.0) xs then xs ++ names_read e.1.stages e.1.source else xs) seen
       ∙ sym (needed_next (place - 1) place es e names next there)
-      ∙ ap (λ (vs : Views). needed (drop (place - 1) (map form_of vs)) names) over
+      ∙ ap (λ (vs : Views). needed (drop (place - 1) (map view_form vs)) names) over
 
 pub needed_closed : (place : ℕ) (vs : List ViewForm) (names all : List (List ℕ)) → place ≤ 0 → all ≡ needed (drop place vs) names → AreFounded vs → IsClosed all vs
 needed_closed place vs names all stop is founded =
@@ -200,12 +200,12 @@ needed_closed place vs names all stop is founded =
 
 -- ---- a name among others, from one to the next
 
-pub among_next : (name other : List ℕ) (names : List (List ℕ)) (i : ℕ) → i < length names → other ≡ get_or names i other → is_among name (drop i names) ≡ (bytes_eq other name || is_among name (drop (i + 1) names))
-among_next name other names i h is = at names i h is ∙ (let more : suc i ≡ i + 1 = omega arith in ap (λ (n : ℕ). bytes_eq other name || is_among name (drop n names)) more)
+pub among_next : (name other : List ℕ) (names : List (List ℕ)) (i : ℕ) → i < length names → other ≡ get_or names i other → is_name_among name (drop i names) ≡ (bytes_eq other name || is_name_among name (drop (i + 1) names))
+among_next name other names i h is = at names i h is ∙ (let more : suc i ≡ i + 1 = omega arith in ap (λ (n : ℕ). bytes_eq other name || is_name_among name (drop n names)) more)
   where
-    at : (names : List (List ℕ)) (i : ℕ) → i < length names → other ≡ get_or names i other → is_among name (drop i names) ≡ (bytes_eq other name || is_among name (drop (suc i) names))
+    at : (names : List (List ℕ)) (i : ℕ) → i < length names → other ≡ get_or names i other → is_name_among name (drop i names) ≡ (bytes_eq other name || is_name_among name (drop (suc i) names))
     at [] i h is = absurd (omega arith)
-    at (n ∷ ns) zero h is = λ k. (ap (bytes_eq name) (sym is) ∙ either-way name other) k || is_among name ns
+    at (n ∷ ns) zero h is = λ k. (ap (bytes_eq name) (sym is) ∙ either-way name other) k || is_name_among name ns
     at (n ∷ ns) (suc i) h is = at ns i (omega arith) is
 
 -- ---- why there can be no new view
@@ -214,41 +214,41 @@ among_next name other names i h is = at names i h is ∙ (let more : suc i ≡ i
 abbrev told : Bool → Bool → Bool → Bool → Option ViewFault
 told called read few near = if called then Some Exists else if read then Some ReadByView else if few && near then None else Some LimitReached
 
-called-forms : (name : List ℕ) (vs : Views) → list_any (λ v. bytes_eq name v.name) (map form_of vs) ≡ has_view name vs
+called-forms : (name : List ℕ) (vs : Views) → list_any (λ v. bytes_eq name v.name) (map view_form vs) ≡ has_view name vs
 called-forms name [] = refl
 called-forms name (v ∷ vs) = ap (λ (b : Bool). bytes_eq name v.name || b) (called-forms name vs)
 
-read-forms : (name : List ℕ) (vs : Views) → is_read_by (map form_of vs) name ≡ reads_name vs name
+read-forms : (name : List ℕ) (vs : Views) → is_read_by (map view_form vs) name ≡ reads_name vs name
 read-forms name [] = refl
 read-forms name (v ∷ vs) = ap (λ (b : Bool). is_read v.stages v.source name || b) (read-forms name vs)
 
 module _ (vs : Views) (name source : List ℕ) (stages : List Stage) where
-  is-told : (called read few near : Bool) → has_view name vs ≡ called → (reads_name vs name || is_read stages source name) ≡ read → nat_lt (length vs) most_views ≡ few → nat_lt (height_over (heights (map form_of vs)) stages source) (suc most_height) ≡ near
-      → told called read few near ≡ fault_of_new (map form_of vs) name source stages
+  is-told : (called read few near : Bool) → has_view name vs ≡ called → (reads_name vs name || is_read stages source name) ≡ read → nat_lt (length vs) most_views ≡ few → nat_lt (height_over (heights (map view_form vs)) stages source) (suc most_height) ≡ near
+      → told called read few near ≡ fault_of_new (map view_form vs) name source stages
   is-told called read few near c r f n =
-      let called-is : list_any (λ v. bytes_eq name v.name) (map form_of vs) ≡ called = called-forms name vs ∙ c in
-      let read-is : (is_read_by (map form_of vs) name || is_read stages source name) ≡ read = ap (λ (b : Bool). b || is_read stages source name) (read-forms name vs) ∙ r in
-      let few-is : nat_lt (length (map form_of vs)) most_views ≡ few = ap (λ (k : ℕ). nat_lt k most_views) (length-map vs form_of) ∙ f in
+      let called-is : list_any (λ v. bytes_eq name v.name) (map view_form vs) ≡ called = called-forms name vs ∙ c in
+      let read-is : (is_read_by (map view_form vs) name || is_read stages source name) ≡ read = ap (λ (b : Bool). b || is_read stages source name) (read-forms name vs) ∙ r in
+      let few-is : nat_lt (length (map view_form vs)) most_views ≡ few = ap (λ (k : ℕ). nat_lt k most_views) (length-map vs view_form) ∙ f in
       sym (λ i. told (called-is i) (read-is i) (few-is i) (n i))
 
-  pub called_before : has_view name vs ≡ true → Some Exists ≡ fault_of_new (map form_of vs) name source stages
+  pub called_before : has_view name vs ≡ true → Some Exists ≡ fault_of_new (map view_form vs) name source stages
   called_before c = is-told true _ _ _ c refl refl refl
 
   module _ (new : has_view name vs ≡ false) where
-    pub read_before : (reads_name vs name || is_read stages source name) ≡ true → Some ReadByView ≡ fault_of_new (map form_of vs) name source stages
+    pub read_before : (reads_name vs name || is_read stages source name) ≡ true → Some ReadByView ≡ fault_of_new (map view_form vs) name source stages
     read_before r = is-told false true _ _ new r refl refl
 
     module _ (others : reads_name vs name ≡ false) (own : is_read stages source name ≡ false) where
       unread : (reads_name vs name || is_read stages source name) ≡ false
       unread = ap (λ (b : Bool). b || is_read stages source name) others ∙ own
 
-      pub no_fault : (height : ℕ) → length vs < most_views → height ≡ height_over (heights (map form_of vs)) stages source → height ≤ most_height → None ≡ fault_of_new (map form_of vs) name source stages
+      pub no_fault : (height : ℕ) → length vs < most_views → height ≡ height_over (heights (map view_form vs)) stages source → height ≤ most_height → None ≡ fault_of_new (map view_form vs) name source stages
       no_fault height few is near =
           is-told false false true true new unread (lt-ltb (length vs) most_views few) (ap (λ (k : ℕ). nat_lt k (suc most_height)) (sym is) ∙ lt-ltb height (suc most_height) (omega arith))
 
-      pub too_high : (height : ℕ) → length vs < most_views → height ≡ height_over (heights (map form_of vs)) stages source → most_height < height → Some LimitReached ≡ fault_of_new (map form_of vs) name source stages
+      pub too_high : (height : ℕ) → length vs < most_views → height ≡ height_over (heights (map view_form vs)) stages source → most_height < height → Some LimitReached ≡ fault_of_new (map view_form vs) name source stages
       too_high height few is far =
           is-told false false true false new unread (lt-ltb (length vs) most_views few) (ap (λ (k : ℕ). nat_lt k (suc most_height)) (sym is) ∙ le-ltb height (suc most_height) (omega arith))
 
-      pub too_many : most_views ≤ length vs → Some LimitReached ≡ fault_of_new (map form_of vs) name source stages
+      pub too_many : most_views ≤ length vs → Some LimitReached ≡ fault_of_new (map view_form vs) name source stages
       too_many many = is-told false false false _ new unread (le-ltb (length vs) most_views many) refl

@@ -7,23 +7,23 @@ use Rattle.std.proofs.lemmas.Slice.Eq.{bytes_eq-Decides}
 use Rattle.dv_change.specs.Changes.{IsPositioned}
 use Rattle.dv_pipe.specs.Stages.{Lists, evaluated}
 use Rattle.dv_pipe.specs.declared.stage.Stage.{Stage}
-use Rattle.dv_views.specs.Forms.{ViewForm, is_among, names_read, places_over, rows_over, with_places, with_rows}
+use Rattle.dv_views.specs.Forms.{ViewForm, is_name_among, names_read, places_over, rows_over, with_places, with_rows}
 use Rattle.dv_views.specs.Ground.{IsBuilt, IsLive, IsLiveView, outs_below, outs_of_mark, outs_of_view, rows_below, rows_of_mark, rows_of_view}
 use Rattle.dv_views.specs.Made.{AreAlike, IsNoStale}
-use Rattle.dv_views.specs.Placed.{Places, places_of, positioned}
+use Rattle.dv_views.specs.Placed.{ListPlaces, list_places, positioned}
 use Rattle.dv_views.specs.Seen.{IsWellKept}
-use Rattle.dv_views.specs.Turned.{rows_made}
-use Rattle.dv_views.specs.Views.{AreKept, AreNamedApart, AreOverLive, AreRight, AreRightOver, IsFresh, IsRight, Mark, Taken, View, Views, anew, distance, distances_of, form_of, is_stale, live, no_distance, reads, stale, taken_from, view_named, with_distance}
+use Rattle.dv_views.specs.Turned.{turned_rows}
+use Rattle.dv_views.specs.Views.{AreKept, AreNamedApart, AreOverLive, AreRight, AreRightOver, IsJustMade, IsRight, ViewMark, Taken, View, Views, anew, distance, distances_of, view_form, is_stale, live, no_distance, reads, stale, taken_from, view_under, with_distance}
 use Rattle.dv_views.proofs.Agree.{FromScratch, TakesInOrder, agree}
 use Rattle.dv_views.proofs.Right.{UnreadDoesNotMatter, itself, or-left, read_among, same_taken}
 use Rattle.dv_views.proofs.Shown.{IsShownAt, distance_at, distance_named, no_view, shown_at}
 
 -- what holds of each of some names holds of one that is among them
-pub each_among : (P : List ℕ → Type 0) (names : List (List ℕ)) (name : List ℕ) → AllByRecursion P names → is_among name names ≡ true → P name
+pub each_among : (P : List ℕ → Type 0) (names : List (List ℕ)) (name : List ℕ) → AllByRecursion P names → is_name_among name names ≡ true → P name
 each_among P [] name all among = absurd cc
 each_among P (n ∷ names) name all among = by (bytes_eq name n) refl among (each_among P names name all.1)
   where
-    by : (b : Bool) → bytes_eq name n ≡ b → b || is_among name names ≡ true → (is_among name names ≡ true → P name) → P name
+    by : (b : Bool) → bytes_eq name n ≡ b → b || is_name_among name names ≡ true → (is_name_among name names ≡ true → P name) → P name
     by true is among rest = subst P (sym ((bytes_eq-Decides name n).0 is)) all.0
     by false is among rest = rest among
 
@@ -32,7 +32,7 @@ pub in_order : (vs : Views) → AllByRecursion (λ v. IsWellKept v.stages v.mark
 in_order [] kept = tt
 in_order (v ∷ vs) kept = (by v.mark kept.0, in_order vs kept.1)
   where
-    by : (m : Mark) → IsWellKept v.stages m → TakesInOrder m
+    by : (m : ViewMark) → IsWellKept v.stages m → TakesInOrder m
     by (live k) well = well.1
     by (anew rows) well = tt
     by stale well = tt
@@ -40,36 +40,36 @@ in_order (v ∷ vs) kept = (by v.mark kept.0, in_order vs kept.1)
 -- ---- what stands under a name that is read
 
 module _ (scratch : FromScratch) (unread : UnreadDoesNotMatter) (lists others : Lists) (older : Views) (apart : AreNamedApart older) (right : AreRight lists older) where
-  abbrev places : Places
-  places = places_over (map form_of older) (places_of lists)
+  abbrev places : ListPlaces
+  places = places_over (map view_form older) (list_places lists)
 
   abbrev rows : Lists
-  rows = rows_over (map form_of older) lists
+  rows = rows_over (map view_form older) lists
 
-  live-outs : (name : List ℕ) (o : Option View) → view_named name older ≡ o → others name ≡ lists name → IsLiveView o → outs_of_view o (others name) ≡ places name
-  live-outs name None is alike lives = ap positioned alike ∙ sym (no_view name (places_of lists) lists older is).0
-  live-outs name (Some v) is alike lives = by v.mark (shown_at name (places_of lists) lists older v apart right is) lives
+  live-outs : (name : List ℕ) (o : Option View) → view_under name older ≡ o → others name ≡ lists name → IsLiveView o → outs_of_view o (others name) ≡ places name
+  live-outs name None is alike lives = ap positioned alike ∙ sym (no_view name (list_places lists) lists older is).0
+  live-outs name (Some v) is alike lives = by v.mark (shown_at name (list_places lists) lists older v apart right is) lives
     where
-      by : (m : Mark) → IsShownAt m v.stages (places name) (rows name) → IsLive m → outs_of_mark v.stages m ≡ places name
+      by : (m : ViewMark) → IsShownAt m v.stages (places name) (rows name) → IsLive m → outs_of_mark v.stages m ≡ places name
       by (live k) shown lives = sym shown.0
       by (anew r) shown lives = absurd lives
       by stale shown lives = absurd lives
 
-  own-rows : (name : List ℕ) (o : Option View) → view_named name older ≡ o → others name ≡ lists name → IsNoStale o → rows_of_view o (others name) ≡ rows name
-  own-rows name None is alike fresh = alike ∙ sym (no_view name (places_of lists) lists older is).1
-  own-rows name (Some v) is alike fresh = by v.mark (shown_at name (places_of lists) lists older v apart right is) fresh
+  own-rows : (name : List ℕ) (o : Option View) → view_under name older ≡ o → others name ≡ lists name → IsNoStale o → rows_of_view o (others name) ≡ rows name
+  own-rows name None is alike fresh = alike ∙ sym (no_view name (list_places lists) lists older is).1
+  own-rows name (Some v) is alike fresh = by v.mark (shown_at name (list_places lists) lists older v apart right is) fresh
     where
-      by : (m : Mark) → IsShownAt m v.stages (places name) (rows name) → is_stale m ≡ false → rows_of_mark m ≡ rows name
+      by : (m : ViewMark) → IsShownAt m v.stages (places name) (rows name) → is_stale m ≡ false → rows_of_mark m ≡ rows name
       by (live k) shown fresh = shown.1
       by (anew r) shown fresh = shown
       by stale shown fresh = absurd cc
 
   module _ (stages : List Stage) (source : List ℕ) (alike : AreAlike (names_read stages source) others lists) (over : AreOverLive no_distance older) (kept : AllByRecursion (λ v. IsWellKept v.stages v.mark) older)
-      (fresh : AllByRecursion (λ n. IsNoStale (view_named n older)) (names_read stages source)) where
-    near : AllByRecursion (λ n. IsLiveView (view_named n older)) (names_read stages source) → (name : List ℕ) → is_among name (names_read stages source) ≡ true → distances_of older name ≡ 0
-    near lives name among = distance_at name older apart ∙ by (view_named name older) (each_among (λ n. IsLiveView (view_named n older)) (names_read stages source) name lives among)
+      (fresh : AllByRecursion (λ n. IsNoStale (view_under n older)) (names_read stages source)) where
+    near : AllByRecursion (λ n. IsLiveView (view_under n older)) (names_read stages source) → (name : List ℕ) → is_name_among name (names_read stages source) ≡ true → distances_of older name ≡ 0
+    near lives name among = distance_at name older apart ∙ by (view_under name older) (each_among (λ n. IsLiveView (view_under n older)) (names_read stages source) name lives among)
       where
-        at : (m : Mark) → IsLive m → distance m ≡ 0
+        at : (m : ViewMark) → IsLive m → distance m ≡ 0
         at (live k) lives = refl
         at (anew r) lives = absurd lives
         at stale lives = absurd lives
@@ -78,30 +78,30 @@ module _ (scratch : FromScratch) (unread : UnreadDoesNotMatter) (lists others : 
         by None lives = refl
         by (Some v) lives = at v.mark lives
 
-    pub right_built : (mark : Mark) → IsBuilt stages source older others mark → AreKept mark (taken_from stages source places) (evaluated stages source rows)
+    pub right_built : (mark : ViewMark) → IsBuilt stages source older others mark → AreKept mark (taken_from stages source places) (evaluated stages source rows)
     right_built (live k) built =
         let taken : k.taken ≡ taken_from stages source places =
         built.0 ∙ same_taken source (outs_below older others) places stages (λ name read.
         let among = sym (read_among stages source name) ∙ read in
-        live-outs name (view_named name older) refl (alike name among) (each_among (λ n. IsLiveView (view_named n older)) (names_read stages source) name built.4 among)) in
+        live-outs name (view_under name older) refl (alike name among) (each_among (λ n. IsLiveView (view_under n older)) (names_read stages source) name built.4 among)) in
         let own = agree scratch lists older over right (in_order older kept) source (near built.4 source (or-left (bytes_eq source source) _ (itself source))) in (
           taken,
-          built.1 ∙ ap (rows_made stages) taken
+          built.1 ∙ ap (turned_rows stages) taken
               ∙ scratch stages source places rows (subst (λ (t : Taken). IsPositioned t.left) taken built.2) own.0 (λ name among. (agree scratch lists older over right (in_order older kept) name (near built.4 name among)).1),
         )
     right_built (anew r) built =
         built ∙ unread stages source (rows_below older others) rows (λ name read.
         let among = sym (read_among stages source name) ∙ read in
-        own-rows name (view_named name older) refl (alike name among) (each_among (λ n. IsNoStale (view_named n older)) (names_read stages source) name fresh among))
+        own-rows name (view_under name older) refl (alike name among) (each_among (λ n. IsNoStale (view_under n older)) (names_read stages source) name fresh among))
     right_built stale built = absurd built
 
 -- ---- how far from being live
 
-module _ (older : Views) (apart : AreNamedApart older) (lists : Lists) (stages : List Stage) (source : List ℕ) (fresh : AllByRecursion (λ n. IsNoStale (view_named n older)) (names_read stages source)) where
-  pub over_built : (mark : Mark) → IsBuilt stages source older lists mark → (name : List ℕ) → is_among name (names_read stages source) ≡ true → distances_of older name ≤ distance mark
-  over_built mark built name among = subst (λ (n : ℕ). n ≤ distance mark) (sym (distance_at name older apart)) (by mark built (view_named name older) refl)
+module _ (older : Views) (apart : AreNamedApart older) (lists : Lists) (stages : List Stage) (source : List ℕ) (fresh : AllByRecursion (λ n. IsNoStale (view_under n older)) (names_read stages source)) where
+  pub over_built : (mark : ViewMark) → IsBuilt stages source older lists mark → (name : List ℕ) → is_name_among name (names_read stages source) ≡ true → distances_of older name ≤ distance mark
+  over_built mark built name among = subst (λ (n : ℕ). n ≤ distance mark) (sym (distance_at name older apart)) (by mark built (view_under name older) refl)
     where
-      at-live : (m : Mark) → IsLive m → distance m ≤ 0
+      at-live : (m : ViewMark) → IsLive m → distance m ≤ 0
       at-live (live k) lives = omega arith
       at-live (anew r) lives = absurd lives
       at-live stale lives = absurd lives
@@ -110,7 +110,7 @@ module _ (older : Views) (apart : AreNamedApart older) (lists : Lists) (stages :
       of-live None lives = omega arith
       of-live (Some v) lives = at-live v.mark lives
 
-      at-fresh : (m : Mark) → is_stale m ≡ false → distance m ≤ 1
+      at-fresh : (m : ViewMark) → is_stale m ≡ false → distance m ≤ 1
       at-fresh (live k) fresh = omega arith
       at-fresh (anew r) fresh = omega arith
       at-fresh stale fresh = absurd cc
@@ -119,17 +119,17 @@ module _ (older : Views) (apart : AreNamedApart older) (lists : Lists) (stages :
       of-fresh None fresh = omega arith
       of-fresh (Some v) fresh = at-fresh v.mark fresh
 
-      by : (m : Mark) → IsBuilt stages source older lists m → (o : Option View) → view_named name older ≡ o → distance_named o ≤ distance m
-      by (live k) built o is = of-live o (subst (λ (p : Option View). IsLiveView p) is (each_among (λ n. IsLiveView (view_named n older)) (names_read stages source) name built.4 among))
-      by (anew r) built o is = of-fresh o (subst (λ (p : Option View). IsNoStale p) is (each_among (λ n. IsNoStale (view_named n older)) (names_read stages source) name fresh among))
+      by : (m : ViewMark) → IsBuilt stages source older lists m → (o : Option View) → view_under name older ≡ o → distance_named o ≤ distance m
+      by (live k) built o is = of-live o (subst (λ (p : Option View). IsLiveView p) is (each_among (λ n. IsLiveView (view_under n older)) (names_read stages source) name built.4 among))
+      by (anew r) built o is = of-fresh o (subst (λ (p : Option View). IsNoStale p) is (each_among (λ n. IsNoStale (view_under n older)) (names_read stages source) name fresh among))
       by stale built o is = absurd built
 
-pub fresh_built : (stages : List Stage) (source : List ℕ) (older : Views) (lists : Lists) (mark : Mark) → IsBuilt stages source older lists mark → IsFresh mark
+pub fresh_built : (stages : List Stage) (source : List ℕ) (older : Views) (lists : Lists) (mark : ViewMark) → IsBuilt stages source older lists mark → IsJustMade mark
 fresh_built stages source older lists (live k) built = record { live = refl; ticks = built.3 }
 fresh_built stages source older lists (anew r) built = record { live = refl; ticks = refl }
 fresh_built stages source older lists stale built = absurd built
 
-pub well_built : (stages : List Stage) (source : List ℕ) (older : Views) (lists : Lists) (mark : Mark) → IsBuilt stages source older lists mark → IsWellKept stages mark
+pub well_built : (stages : List Stage) (source : List ℕ) (older : Views) (lists : Lists) (mark : ViewMark) → IsBuilt stages source older lists mark → IsWellKept stages mark
 well_built stages source older lists (live k) built = (built.1, built.2)
 well_built stages source older lists (anew r) built = tt
 well_built stages source older lists stale built = absurd built
@@ -160,12 +160,12 @@ over_lower near far (v ∷ vs) below over = (
     by true name below = omega arith
     by false name below = below
 
-at-most : (m : Mark) → distance m ≤ 2
+at-most : (m : ViewMark) → distance m ≤ 2
 at-most (live k) = omega arith
 at-most (anew r) = omega arith
 at-most stale = omega arith
 
-farthest : (m : Mark) → is_stale m ≡ true → distance m ≡ 2
+farthest : (m : ViewMark) → is_stale m ≡ true → distance m ≡ 2
 farthest (live k) is = absurd cc
 farthest (anew r) is = absurd cc
 farthest stale is = refl
@@ -174,14 +174,14 @@ module _ (w : View) where
   -- the view at a place is a stale one of its form
   abbrev pub Replaces : ℕ → Views → Type 0
   Replaces n [] = ⊥
-  Replaces zero (v ∷ vs) = (form_of w ≡ form_of v) × (is_stale v.mark ≡ true)
+  Replaces zero (v ∷ vs) = (view_form w ≡ view_form v) × (is_stale v.mark ≡ true)
   Replaces (suc n) (v ∷ vs) = Replaces n vs
 
-  pub right_set : (n : ℕ) (below : Places) (lists : Lists) (vs : Views) → Replaces n vs → AreRightOver below lists vs → IsRight (places_over (map form_of (take n vs)) below) (rows_over (map form_of (take n vs)) lists) w
+  pub right_set : (n : ℕ) (below : ListPlaces) (lists : Lists) (vs : Views) → Replaces n vs → AreRightOver below lists vs → IsRight (places_over (map view_form (take n vs)) below) (rows_over (map view_form (take n vs)) lists) w
       → AreRightOver below lists (set_view n w vs)
   right_set n below lists [] in_place right own = absurd in_place
   right_set zero below lists (v ∷ vs) in_place right own = (own, subst (λ (f : ViewForm). AreRightOver (with_places f below) (with_rows f lists) vs) (sym in_place.0) right.1)
-  right_set (suc n) below lists (v ∷ vs) in_place right own = (right.0, right_set n (with_places (form_of v) below) (with_rows (form_of v) lists) vs in_place right.1 own)
+  right_set (suc n) below lists (v ∷ vs) in_place right own = (right.0, right_set n (with_places (view_form v) below) (with_rows (view_form v) lists) vs in_place right.1 own)
 
   pub over_set : (n : ℕ) (distances : List ℕ → ℕ) (vs : Views) → Replaces n vs → AreOverLive distances vs → ((name : List ℕ) → reads w name ≡ true → fold (λ below v. with_distance v below) distances (take n vs) name ≤ distance w.mark)
       → AreOverLive distances (set_view n w vs)

@@ -16,7 +16,7 @@ use Rattle.dv_change.specs.declared.position.Part.TheVariants.{Up}
 use Rattle.dv_change.specs.Changes.{Positioned}
 use Rattle.dv_change.specs.Positions.{pos_order}
 use Rattle.dv_pipe.specs.Sources.{Row}
-use Rattle.dv_views.specs.Changed.{changed}
+use Rattle.dv_views.specs.Changed.{documents_changed}
 use Rattle.dv_views.specs.Placed.{own_position, positioned}
 
 -- no document of the list has the key
@@ -82,7 +82,7 @@ module _ (d e : Row) (ds : List Row) where
   put-met Equal rest below beside same = ap (λ es. d ∷ es) (forgotten ds) ∙ ap (λ es. d ∷ es) (sym (apart-replaced d ds (beside refl)))
   put-met Greater rest below beside same = ap (λ es. e ∷ es) same ∙ behind-kept (is_some (found (id_key d) ds))
 
-pub put_made : (d : Row) (ds : List Row) → IsAscending ds → changed (Put (own_position d) d ∷ []) ds ≡ wanted d ds
+pub put_made : (d : Row) (ds : List Row) → IsAscending ds → documents_changed (Put (own_position d) d ∷ []) ds ≡ wanted d ds
 unfolding IsStrictlySortedBy
 put_made d [] ascending = refl
 put_made d (e ∷ ds) ascending =
@@ -102,7 +102,7 @@ equal-of Less e = cc
 equal-of Equal e = refl
 equal-of Greater e = cc
 
-pub gone_made : (k : KeyTree) (ds : List Row) → IsAscending ds → changed (Gone (Up k ∷ []) ∷ []) ds ≡ removed k ds
+pub gone_made : (k : KeyTree) (ds : List Row) → IsAscending ds → documents_changed (Gone (Up k ∷ []) ∷ []) ds ≡ removed k ds
 unfolding IsStrictlySortedBy
 gone_made k [] ascending = refl
 gone_made k (d ∷ ds) ascending =

@@ -9,15 +9,15 @@ use Rattle.dv_change.specs.declared.change.Change.{Change}
 use Rattle.dv_change.specs.declared.live.Live.{Live}
 use Rattle.dv_views.specs.declared.turner.Turner.{Turner}
 use Rattle.dv_views.specs.Body.{Body}
-use Rattle.dv_views.specs.Flow.{Told, arrivals, is_reached, outs_made, told_at, with_told}
+use Rattle.dv_views.specs.Flow.{Told, arrivals, is_reached, outs_made, told_at, flow_with_told}
 use Rattle.dv_views.specs.Forms.{names_read}
 use Rattle.dv_views.specs.Ground.{IsLive, IsLiveView}
 use Rattle.dv_views.specs.Keeping.{Turns, kept_seen}
 use Rattle.dv_views.specs.Older.{Entries, told_before, told_else, told_found, told_named, told_over, views, views_before}
 use Rattle.dv_views.specs.Passing.{IsTakenAt}
-use Rattle.dv_views.specs.Seen.{IsWellKept, named, seen, telling}
+use Rattle.dv_views.specs.Seen.{IsWellKept, view_seen, entry_view, telling}
 use Rattle.dv_views.specs.Turned.{AreTakenBy, HaveTaken, IsTakenBy}
-use Rattle.dv_views.specs.Views.{AreNamedApart, Mark, View, Views, anew, distance, distances_of, live, no_distance, stale, view_named, with_distance}
+use Rattle.dv_views.specs.Views.{AreNamedApart, ViewMark, View, Views, anew, distance, distances_of, live, no_distance, stale, view_under, with_distance}
 use Rattle.dv_pipe.specs.declared.stage.Stage.{Stage}
 use Rattle.dv_views.proofs.Before.{found_is_before}
 use Rattle.dv_views.proofs.Joining.{each_among}
@@ -27,7 +27,7 @@ use Rattle.dv_views.proofs.WellKept.{AreWellKept}
 
 -- ---- what is no view, or a live one
 
-near : (m : Mark) → IsLive m → distance m ≡ 0
+near : (m : ViewMark) → IsLive m → distance m ≡ 0
 near (live k) is = refl
 near (anew rows) is = absurd is
 near stale is = absurd is
@@ -72,19 +72,19 @@ module _ {Y : Type 0} where
   HaveFirst zero come distances before es = views es ≡ before
   HaveFirst (suc n) come distances [] es = es ≡ []
   HaveFirst (suc n) come distances (v ∷ before) [] = ⊥
-  HaveFirst (suc n) come distances (v ∷ before) (e ∷ es) = IsTakenBy come distances v (telling e) × HaveFirst n (with_told v.name e.1.told come) (with_distance (seen e) distances) before es
+  HaveFirst (suc n) come distances (v ∷ before) (e ∷ es) = IsTakenBy come distances v (telling e) × HaveFirst n (flow_with_told v.name e.1.told come) (with_distance (entry_view e) distances) before es
 
   module _ (old new : Body) where
     next : (n : ℕ) (come : Told) (distances : List ℕ → ℕ) (before : Views) (es : Entries Y) → HaveFirst n come distances before es → slice_get (values_of es) n ≡ Some old
-        → ((name : List ℕ) → IsTakenBy (told_over come (take n es)) (fold (λ below v. with_distance v below) distances (views (take n es))) (named name old) (record { view = named name new; told = new.told }))
+        → ((name : List ℕ) → IsTakenBy (told_over come (take n es)) (fold (λ below v. with_distance v below) distances (views (take n es))) (view_seen name old) (record { view = view_seen name new; told = new.told }))
         → HaveFirst (suc n) come distances before (set_value_at es n new)
     next zero come distances before [] first there taken = absurd cc
     next zero come distances [] (e ∷ es) first there taken = absurd cc
     next zero come distances (v ∷ before) (e ∷ es) first there taken =
         let was : e.1 ≡ old = cc in
-        let same : seen e ≡ v = cc in
+        let same : entry_view e ≡ v = cc in
         let rest : views es ≡ before = cc in
-        (subst (λ (u : View). IsTakenBy come distances u (record { view = named (string_bytes e.0) new; told = new.told })) (ap (named (string_bytes e.0)) (sym was) ∙ same) (taken (string_bytes e.0)), rest)
+        (subst (λ (u : View). IsTakenBy come distances u (record { view = view_seen (string_bytes e.0) new; told = new.told })) (ap (view_seen (string_bytes e.0)) (sym was) ∙ same) (taken (string_bytes e.0)), rest)
     next (suc n) come distances [] es first there taken = absurd (none es first there)
       where
         none : (es : Entries Y) → es ≡ [] → slice_get (values_of es) (suc n) ≡ Some old → ⊥
@@ -94,9 +94,9 @@ module _ {Y : Type 0} where
     next (suc n) come distances (v ∷ before) (e ∷ es) first there taken =
         let called : string_bytes e.0 ≡ v.name = ap (λ f. f.name) first.0.form in (
           first.0,
-          next n (with_told v.name e.1.told come) (with_distance (seen e) distances) before es first.1 there
+          next n (flow_with_told v.name e.1.told come) (with_distance (entry_view e) distances) before es first.1 there
               (subst
-              (λ (name : List ℕ). (m : List ℕ) → IsTakenBy (told_over (with_told name e.1.told come) (take n es)) (fold (λ below v. with_distance v below) (with_distance (seen e) distances) (views (take n es))) (named m old) (record { view = named m new; told = new.told }))
+              (λ (name : List ℕ). (m : List ℕ) → IsTakenBy (told_over (flow_with_told name e.1.told come) (take n es)) (fold (λ below v. with_distance v below) (with_distance (entry_view e) distances) (views (take n es))) (view_seen m old) (record { view = view_seen m new; told = new.told }))
               called taken),
         )
 
@@ -114,11 +114,11 @@ module _ {Y : Type 0} where
       none [] is = refl
       none (e ∷ es) is = absurd cc
   all-taken come distances (v ∷ before) [] first = absurd first
-  all-taken come distances (v ∷ before) (e ∷ es) first = (first.0, all-taken (with_told v.name e.1.told come) (with_distance (seen e) distances) before es first.1)
+  all-taken come distances (v ∷ before) (e ∷ es) first = (first.0, all-taken (flow_with_told v.name e.1.told come) (with_distance (entry_view e) distances) before es first.1)
 
   told-views : (es : Entries Y) → map (λ t. t.view) (map telling es) ≡ views es
   told-views [] = refl
-  told-views (e ∷ es) = ap (λ (vs : Views). seen e ∷ vs) (told-views es)
+  told-views (e ∷ es) = ap (λ (vs : Views). entry_view e ∷ vs) (told-views es)
 
   pub all_taken : (come : Told) (n end : ℕ) (before : Views) (es : Entries Y) → length before ≡ end → n ≤ end → end ≤ n → HaveFirst n come no_distance before es → HaveTaken come before (views es)
   all_taken come n end before es all within stop first =
@@ -148,10 +148,10 @@ module _ {Y : Type 0} where
   there_written (suc n) (e ∷ es) a old there = there_written n es a old there
 
   -- what is told is no part of a view
-  pub views_silent : (n : ℕ) (es : Entries Y) (old new : Body) → slice_get (values_of es) n ≡ Some old → ((name : List ℕ) → named name new ≡ named name old) → views (set_value_at es n new) ≡ views es
+  pub views_silent : (n : ℕ) (es : Entries Y) (old new : Body) → slice_get (values_of es) n ≡ Some old → ((name : List ℕ) → view_seen name new ≡ view_seen name old) → views (set_value_at es n new) ≡ views es
   views_silent n [] old new there same = refl
-  views_silent zero (e ∷ es) old new there same = let was : e.1 ≡ old = cc in ap (λ (v : View). v ∷ views es) (same (string_bytes e.0) ∙ ap (named (string_bytes e.0)) (sym was))
-  views_silent (suc n) (e ∷ es) old new there same = ap (λ (vs : Views). seen e ∷ vs) (views_silent n es old new there same)
+  views_silent zero (e ∷ es) old new there same = let was : e.1 ≡ old = cc in ap (λ (v : View). v ∷ views es) (same (string_bytes e.0) ∙ ap (view_seen (string_bytes e.0)) (sym was))
+  views_silent (suc n) (e ∷ es) old new there same = ap (λ (vs : Views). entry_view e ∷ vs) (views_silent n es old new there same)
 
   pub kept_there : (n : ℕ) (es : Entries Y) (old : Body) → AreWellKept es → slice_get (values_of es) n ≡ Some old → IsWellKept old.stages old.mark
   kept_there n [] old kept there = absurd cc
@@ -189,7 +189,7 @@ module _ {Y : Type 0} where
       new = new;
       there = there;
       left = written;
-      taken = λ name. subst (λ (b : Body). IsTakenBy come (distances_of (views_before n es)) (named name old) (record { view = named name b; told = b.told })) (sym is) (record {
+      taken = λ name. subst (λ (b : Body). IsTakenBy come (distances_of (views_before n es)) (view_seen name old) (record { view = view_seen name b; told = b.told })) (sym is) (record {
         form = refl;
         tells = sym away;
         unread = λ _. refl;
@@ -206,7 +206,7 @@ module _ {Y : Type 0} where
       new = new;
       there = there;
       left = written;
-      taken = λ name. subst (λ (b : Body). IsTakenBy come (distances_of (views_before n es)) (named name old) (record { view = named name b; told = b.told })) (sym is) (record {
+      taken = λ name. subst (λ (b : Body). IsTakenBy come (distances_of (views_before n es)) (view_seen name old) (record { view = view_seen name b; told = b.told })) (sym is) (record {
         form = refl;
         tells = sym reached;
         unread = λ away. absurd (cc (sym away ∙ reached));
@@ -218,14 +218,14 @@ module _ {Y : Type 0} where
     }
 
     module _ (before after : Live Turner) (told : List Change) (apart : AreNamedApart (views es)) (turns : Turns old.stages (arrivals old.stages old.source come) before [] after told)
-        (lives : AllByRecursion (λ name. IsLiveView (view_named name (views_before n es))) (names_read old.stages old.source)) where
+        (lives : AllByRecursion (λ name. IsLiveView (view_under name (views_before n es))) (names_read old.stages old.source)) where
       pub turned_on : is_reached old.stages old.source come ≡ true → old.mark ≡ live (kept_seen before) → new ≡ record old { mark = live (kept_seen after); told = Some told } → IsTakenAt namespace changes n es left
       turned_on reached was is = record {
         old = old;
         new = new;
         there = there;
         left = written;
-        taken = λ name. subst (λ (b : Body). IsTakenBy come (distances_of (views_before n es)) (named name old) (record { view = named name b; told = b.told })) (sym is) (record {
+        taken = λ name. subst (λ (b : Body). IsTakenBy come (distances_of (views_before n es)) (view_seen name old) (record { view = view_seen name b; told = b.told })) (sym is) (record {
           form = refl;
           tells = sym reached;
           unread = λ away. absurd (cc (sym away ∙ reached));
@@ -239,7 +239,7 @@ module _ {Y : Type 0} where
             },
           );
           live = λ _ _ other among.
-              distance_at other (views_before n es) (apart-take n es apart) ∙ nearest (view_named other (views_before n es)) (each_among (λ m. IsLiveView (view_named m (views_before n es))) (names_read old.stages old.source) other lives among);
+              distance_at other (views_before n es) (apart-take n es apart) ∙ nearest (view_under other (views_before n es)) (each_among (λ m. IsLiveView (view_under m (views_before n es))) (names_read old.stages old.source) other lives among);
         });
         well = λ _. subst (λ (b : Body). IsWellKept b.stages b.mark) (sym is) (rows_are_made old.stages after turns.sound, turns.sound.positioned);
         height = ap (λ (b : Body). b.height) is;
@@ -265,7 +265,7 @@ module _ {Y : Type 0} where
 
       pub turned_at : (a b : Body) (before after : Live Turner) (told : List Change) (stages : List Stage) (source : List ℕ) → true ≡ is_reached old.stages old.source (told_found namespace changes n es) → a ≡ record old { mark = stale; told = Some [] }
           → stages ≡ a.stages → source ≡ a.source → old.mark ≡ live (kept_seen before) → Turns stages (arrivals stages source (told_found namespace changes n (set_value_at es n a))) before [] after told
-          → AllByRecursion (λ name. IsLiveView (view_named name (views_before n (set_value_at es n a)))) (names_read stages source) → b ≡ record a { mark = live (kept_seen after); told = Some told }
+          → AllByRecursion (λ name. IsLiveView (view_under name (views_before n (set_value_at es n a)))) (names_read stages source) → b ≡ record a { mark = live (kept_seen after); told = Some told }
           → IsTakenAt namespace changes n es (set_value_at (set_value_at es n a) n b)
       turned_at a b before after told stages source reached was same_stages same_source kept turns lives is =
           let stages_is : stages ≡ old.stages = same_stages ∙ ap (λ (x : Body). x.stages) was in
@@ -276,9 +276,9 @@ module _ {Y : Type 0} where
           (subst (λ (s : List ℕ). Turns stages (arrivals stages s come) before [] after told) source_is
           (subst (λ (c : Told). Turns stages (arrivals stages source c) before [] after told) (found-written a) turns)) in
           let live_ones =
-          subst (λ (s : List Stage). AllByRecursion (λ name. IsLiveView (view_named name (views_before n es))) (names_read s old.source)) stages_is
-          (subst (λ (s : List ℕ). AllByRecursion (λ name. IsLiveView (view_named name (views_before n es))) (names_read stages s)) source_is
-          (subst (λ (fs : Entries Y). AllByRecursion (λ name. IsLiveView (view_named name (views fs))) (names_read stages source)) (take_written n es a) lives)) in
+          subst (λ (s : List Stage). AllByRecursion (λ name. IsLiveView (view_under name (views_before n es))) (names_read s old.source)) stages_is
+          (subst (λ (s : List ℕ). AllByRecursion (λ name. IsLiveView (view_under name (views_before n es))) (names_read stages s)) source_is
+          (subst (λ (fs : Entries Y). AllByRecursion (λ name. IsLiveView (view_under name (views fs))) (names_read stages source)) (take_written n es a) lives)) in
           turned_on namespace changes n es (set_value_at (set_value_at es n a) n b) old b there (written_twice n es a b) before after told apart turned live_ones (sym (reached ∙ ap (is_reached old.stages old.source) found-is)) kept
           (is ∙ ap (λ (x : Body). record x { mark = live (kept_seen after); told = Some told }) was)
 

@@ -8,10 +8,10 @@ use Rattle.std.specs.Str.{bytes_eq}
 use Rattle.std.specs.String.{string_bytes}
 use Rattle.std.proofs.lemmas.Slice.Eq.{bytes_eq-Decides}
 use Rattle.dv_pipe.specs.Stages.{is_read}
-use Rattle.dv_views.specs.Forms.{AreFounded, ViewForm, height_over, heights, is_among, names_read, with_height}
+use Rattle.dv_views.specs.Forms.{AreFounded, ViewForm, height_over, heights, is_name_among, names_read, with_height}
 use Rattle.dv_views.specs.Older.{Entries, is_called, views}
 use Rattle.dv_views.specs.Seen.{HaveHeights}
-use Rattle.dv_views.specs.Views.{AreNamedApart, AreOverLive, View, Views, distance, form_of, reads, reads_name, with_distance, without}
+use Rattle.dv_views.specs.Views.{AreNamedApart, AreOverLive, View, Views, distance, view_form, reads, reads_name, with_distance, views_without}
 use Rattle.dv_views.proofs.Entries.{AreOthers, others}
 use Rattle.dv_views.proofs.Heights.{forms_of}
 use Rattle.dv_views.proofs.Right.{either-way, neither, read_among}
@@ -39,65 +39,65 @@ read-near gone v distances others away same near name h = by (bytes_eq name gone
     by true is = let one : name ≡ gone = (bytes_eq-Decides name gone).0 is in absurd (cc (ap (reads v) one))
     by false off = subst (λ (n : ℕ). n ≤ distance v.mark) (same name off) (near name h)
 
-live-without : (gone : List ℕ) (vs : Views) (distances others : List ℕ → ℕ) → AreSameBut gone distances others → reads_name vs gone ≡ false → AreOverLive distances vs → AreOverLive others (without gone vs)
+live-without : (gone : List ℕ) (vs : Views) (distances others : List ℕ → ℕ) → AreSameBut gone distances others → reads_name vs gone ≡ false → AreOverLive distances vs → AreOverLive others (views_without gone vs)
 live-without gone [] distances others same away live = tt
 live-without gone (v ∷ vs) distances others same away live =
     let both = neither (reads v gone) (reads_name vs gone) away in
     by (bytes_eq gone v.name) refl both.0 (λ distances others same live. live-without gone vs distances others same both.1 live)
   where
-    by : (b : Bool) → bytes_eq gone v.name ≡ b → reads v gone ≡ false → ((distances others : List ℕ → ℕ) → AreSameBut gone distances others → AreOverLive distances vs → AreOverLive others (without gone vs))
-        → AreOverLive others (cond (not b) (v ∷ without gone vs) (without gone vs))
+    by : (b : Bool) → bytes_eq gone v.name ≡ b → reads v gone ≡ false → ((distances others : List ℕ → ℕ) → AreSameBut gone distances others → AreOverLive distances vs → AreOverLive others (views_without gone vs))
+        → AreOverLive others (cond (not b) (v ∷ views_without gone vs) (views_without gone vs))
     by true is here rest = rest (with_distance v distances) others (with-gone gone v.name (distance v.mark) distances others is same) live.1
     by false is here rest = (read-near gone v distances others here same live.0, rest (with_distance v distances) (with_distance v others) (with-same gone v.name (distance v.mark) (distance v.mark) distances others refl same) live.1)
 
-pub live_without : (gone : List ℕ) (vs : Views) (distances : List ℕ → ℕ) → reads_name vs gone ≡ false → AreOverLive distances vs → AreOverLive distances (without gone vs)
+pub live_without : (gone : List ℕ) (vs : Views) (distances : List ℕ → ℕ) → reads_name vs gone ≡ false → AreOverLive distances vs → AreOverLive distances (views_without gone vs)
 live_without gone vs distances away live = live-without gone vs distances distances (λ name off. refl) away live
 
 -- ---- the others read older ones alone
 
-all-without : (P : ViewForm → Type 0) (gone : List ℕ) (vs : Views) → AllByRecursion P (map form_of vs) → AllByRecursion P (map form_of (without gone vs))
+all-without : (P : ViewForm → Type 0) (gone : List ℕ) (vs : Views) → AllByRecursion P (map view_form vs) → AllByRecursion P (map view_form (views_without gone vs))
 all-without P gone [] all = tt
 all-without P gone (v ∷ vs) all = by (bytes_eq gone v.name) (all-without P gone vs all.1)
   where
-    by : (b : Bool) → AllByRecursion P (map form_of (without gone vs)) → AllByRecursion P (map form_of (cond (not b) (v ∷ without gone vs) (without gone vs)))
+    by : (b : Bool) → AllByRecursion P (map view_form (views_without gone vs)) → AllByRecursion P (map view_form (cond (not b) (v ∷ views_without gone vs) (views_without gone vs)))
     by true rest = rest
     by false rest = (all.0, rest)
 
-pub founded_without : (gone : List ℕ) (vs : Views) → AreFounded (map form_of vs) → AreFounded (map form_of (without gone vs))
+pub founded_without : (gone : List ℕ) (vs : Views) → AreFounded (map view_form vs) → AreFounded (map view_form (views_without gone vs))
 founded_without gone [] founded = tt
 founded_without gone (v ∷ vs) founded = by (bytes_eq gone v.name) (founded_without gone vs founded.1)
   where
-    by : (b : Bool) → AreFounded (map form_of (without gone vs)) → AreFounded (map form_of (cond (not b) (v ∷ without gone vs) (without gone vs)))
+    by : (b : Bool) → AreFounded (map view_form (views_without gone vs)) → AreFounded (map view_form (cond (not b) (v ∷ views_without gone vs) (views_without gone vs)))
     by true rest = rest
     by false rest = ((founded.0.0, all-without (λ other. is_read v.stages v.source other.name ≡ false) gone vs founded.0.1), rest)
 
 -- ---- the others stand as high as before
 
 module _ (gone : List ℕ) where
-  same-highest : (before after : List ℕ → ℕ) (first : ℕ) (names : List (List ℕ)) → AreSameBut gone before after → is_among gone names ≡ false → fold (λ so_far name. max so_far (before name)) first names ≡ fold (λ so_far name. max so_far (after name)) first names
+  same-highest : (before after : List ℕ → ℕ) (first : ℕ) (names : List (List ℕ)) → AreSameBut gone before after → is_name_among gone names ≡ false → fold (λ so_far name. max so_far (before name)) first names ≡ fold (λ so_far name. max so_far (after name)) first names
   same-highest before after first [] same away = refl
   same-highest before after first (n ∷ names) same away =
-      let both = neither (bytes_eq gone n) (is_among gone names) away in
+      let both = neither (bytes_eq gone n) (is_name_among gone names) away in
       ap (λ (h : ℕ). fold (λ so_far name. max so_far (before name)) (max first h) names) (same n (either-way n gone ∙ both.0)) ∙ same-highest before after (max first (after n)) names same both.1
 
   same-height : (v : View) (before after : List ℕ → ℕ) → AreSameBut gone before after → reads v gone ≡ false → height_over before v.stages v.source ≡ height_over after v.stages v.source
   same-height v before after same away = ap suc (same-highest before after 0 (names_read v.stages v.source) same (sym (read_among v.stages v.source gone) ∙ away))
 
   heights-without : (vs : Views) (before after : List ℕ → ℕ) → AreSameBut gone before after → reads_name vs gone ≡ false
-      → AreSameBut gone (fold (λ below v. with_height v below) before (map form_of vs)) (fold (λ below v. with_height v below) after (map form_of (without gone vs)))
+      → AreSameBut gone (fold (λ below v. with_height v below) before (map view_form vs)) (fold (λ below v. with_height v below) after (map view_form (views_without gone vs)))
   heights-without [] before after same away = same
   heights-without (v ∷ vs) before after same away =
       let both = neither (reads v gone) (reads_name vs gone) away in
-      by (bytes_eq gone v.name) refl (same-height v before after same both.0) (λ after same. heights-without vs (with_height (form_of v) before) after same both.1)
+      by (bytes_eq gone v.name) refl (same-height v before after same both.0) (λ after same. heights-without vs (with_height (view_form v) before) after same both.1)
     where
       behind : List ℕ → ℕ
-      behind = fold (λ below v. with_height v below) (with_height (form_of v) before) (map form_of vs)
+      behind = fold (λ below v. with_height v below) (with_height (view_form v) before) (map view_form vs)
 
       by : (b : Bool) → bytes_eq gone v.name ≡ b → height_over before v.stages v.source ≡ height_over after v.stages v.source
-          → ((others : List ℕ → ℕ) → AreSameBut gone (with_height (form_of v) before) others → AreSameBut gone behind (fold (λ below v. with_height v below) others (map form_of (without gone vs))))
-          → AreSameBut gone behind (fold (λ below v. with_height v below) after (map form_of (cond (not b) (v ∷ without gone vs) (without gone vs))))
+          → ((others : List ℕ → ℕ) → AreSameBut gone (with_height (view_form v) before) others → AreSameBut gone behind (fold (λ below v. with_height v below) others (map view_form (views_without gone vs))))
+          → AreSameBut gone behind (fold (λ below v. with_height v below) after (map view_form (cond (not b) (v ∷ views_without gone vs) (views_without gone vs))))
       by true is here rest = rest after (with-gone gone v.name (height_over before v.stages v.source) before after is same)
-      by false is here rest = rest (with_height (form_of v) after) (with-same gone v.name (height_over before v.stages v.source) (height_over after v.stages v.source) before after here same)
+      by false is here rest = rest (with_height (view_form v) after) (with-same gone v.name (height_over before v.stages v.source) (height_over after v.stages v.source) before after here same)
 
   module _ {Y : Type 0} (before after : List ℕ → ℕ) (same : AreSameBut gone before after) where
     kept-others : (es : Entries Y) → AreOthers gone es → HaveHeights before es → HaveHeights after es
@@ -114,5 +114,5 @@ module _ (gone : List ℕ) where
         by false off rest = (kept.0 ∙ same (string_bytes e.0) (either-way (string_bytes e.0) gone ∙ off), rest)
 
 pub heights_removed : {Y : Type 0} (gone : List ℕ) (es : Entries Y) → AreNamedApart (views es) → reads_name (views es) gone ≡ false → HaveHeights (heights (forms_of es)) es
-    → HaveHeights (heights (map form_of (without gone (views es)))) (remove_entry (is_called gone) es)
-heights_removed gone es apart away kept = kept-out gone (heights (forms_of es)) (heights (map form_of (without gone (views es)))) (heights-without gone (views es) (λ name. 0) (λ name. 0) (λ name off. refl) away) es apart kept
+    → HaveHeights (heights (map view_form (views_without gone (views es)))) (remove_entry (is_called gone) es)
+heights_removed gone es apart away kept = kept-out gone (heights (forms_of es)) (heights (map view_form (views_without gone (views es)))) (heights-without gone (views es) (λ name. 0) (λ name. 0) (λ name off. refl) away) es apart kept

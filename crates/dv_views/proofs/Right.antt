@@ -5,13 +5,13 @@ use Rattle.std.specs.List.{list_any}
 use Rattle.std.specs.Str.{bytes_eq}
 use Rattle.std.proofs.lemmas.Bool.Decides.{same_from_decides}
 use Rattle.std.proofs.lemmas.Slice.Eq.{bytes_eq-Decides}
-use Rattle.dv_change.specs.Work.{through}
+use Rattle.dv_change.specs.Work.{through_forms}
 use Rattle.dv_pipe.specs.Sources.{Row}
-use Rattle.dv_pipe.specs.Stages.{Lists, evaluated, is_named, is_read, looked_into}
+use Rattle.dv_pipe.specs.Stages.{Lists, evaluated, is_source_named, is_read, looked_into}
 use Rattle.dv_pipe.specs.declared.stage.Stage.{Stage}
-use Rattle.dv_views.specs.Forms.{ViewForm, is_among, names_read, outs_of, places_over, rows_over, with_places, with_rows}
-use Rattle.dv_views.specs.Placed.{Places, forms, lookups_of, places_of, positioned, with_name}
-use Rattle.dv_views.specs.Views.{AreKept, AreRight, AreRightOver, IsRight, Mark, Taken, live, anew, stale, View, Views, form_of, reads, reads_name, taken_from, without}
+use Rattle.dv_views.specs.Forms.{ViewForm, is_name_among, names_read, outs_of, places_over, rows_over, with_places, with_rows}
+use Rattle.dv_views.specs.Placed.{ListPlaces, forms, lookups_of, list_places, positioned, names_with}
+use Rattle.dv_views.specs.Views.{AreKept, AreRight, AreRightOver, IsRight, ViewMark, Taken, live, anew, stale, View, Views, view_form, reads, reads_name, taken_from, views_without}
 
 -- what dv_pipe's law says of pipelines
 abbrev pub UnreadDoesNotMatter : Type 0
@@ -37,59 +37,59 @@ itself name = (bytes_eq-Decides name name).1 refl
 pub either-way : (a b : List ℕ) → bytes_eq a b ≡ bytes_eq b a
 either-way a b = same_from_decides _ _ (bytes_eq-Decides a b) ((λ e. sym ((bytes_eq-Decides b a).0 e)), λ e. (bytes_eq-Decides b a).1 (sym e))
 
-lookups-among : (ss : List Stage) (source name : List ℕ) → list_any (λ s. is_named name (looked_into s source)) ss ≡ is_among name (lookups_of ss source)
+lookups-among : (ss : List Stage) (source name : List ℕ) → list_any (λ s. is_source_named name (looked_into s source)) ss ≡ is_name_among name (lookups_of ss source)
 lookups-among [] source name = refl
 lookups-among (s ∷ ss) source name = by (looked_into s source) (lookups-among ss source name)
   where
-    by : (o : Option (List ℕ)) → list_any (λ t. is_named name (looked_into t source)) ss ≡ is_among name (lookups_of ss source) → is_named name o || list_any (λ t. is_named name (looked_into t source)) ss ≡ is_among name (with_name o (lookups_of ss source))
+    by : (o : Option (List ℕ)) → list_any (λ t. is_source_named name (looked_into t source)) ss ≡ is_name_among name (lookups_of ss source) → is_source_named name o || list_any (λ t. is_source_named name (looked_into t source)) ss ≡ is_name_among name (names_with o (lookups_of ss source))
     by None rest = rest
     by (Some other) rest = ap (λ (b : Bool). bytes_eq name other || b) rest
 
 -- what is read is among the names that are read
-pub read_among : (stages : List Stage) (source name : List ℕ) → is_read stages source name ≡ is_among name (names_read stages source)
+pub read_among : (stages : List Stage) (source name : List ℕ) → is_read stages source name ≡ is_name_among name (names_read stages source)
 read_among stages source name = λ i. either-way source name i || lookups-among stages source name i
 
 -- ---- what is read at places
 
-module _ (source : List ℕ) (places others : Places) where
-  same-lookups : (ss : List Stage) → ((name : List ℕ) → list_any (λ s. is_named name (looked_into s source)) ss ≡ true → places name ≡ others name) → map places (lookups_of ss source) ≡ map others (lookups_of ss source)
+module _ (source : List ℕ) (places others : ListPlaces) where
+  same-lookups : (ss : List Stage) → ((name : List ℕ) → list_any (λ s. is_source_named name (looked_into s source)) ss ≡ true → places name ≡ others name) → map places (lookups_of ss source) ≡ map others (lookups_of ss source)
   same-lookups [] same = refl
   same-lookups (s ∷ ss) same =
       by (looked_into s source)
-      (λ name h. same name (or-left (is_named name (looked_into s source)) (list_any (λ t. is_named name (looked_into t source)) ss) h))
-      (same-lookups ss (λ name h. same name (or-right (is_named name (looked_into s source)) (list_any (λ t. is_named name (looked_into t source)) ss) h)))
+      (λ name h. same name (or-left (is_source_named name (looked_into s source)) (list_any (λ t. is_source_named name (looked_into t source)) ss) h))
+      (same-lookups ss (λ name h. same name (or-right (is_source_named name (looked_into s source)) (list_any (λ t. is_source_named name (looked_into t source)) ss) h)))
     where
-      by : (o : Option (List ℕ)) → ((name : List ℕ) → is_named name o ≡ true → places name ≡ others name) → map places (lookups_of ss source) ≡ map others (lookups_of ss source)
-          → map places (with_name o (lookups_of ss source)) ≡ map others (with_name o (lookups_of ss source))
+      by : (o : Option (List ℕ)) → ((name : List ℕ) → is_source_named name o ≡ true → places name ≡ others name) → map places (lookups_of ss source) ≡ map others (lookups_of ss source)
+          → map places (names_with o (lookups_of ss source)) ≡ map others (names_with o (lookups_of ss source))
       by None here rest = rest
       by (Some name) here rest = λ i. here name (itself name) i ∷ rest i
 
   pub same_taken : (stages : List Stage) → ((name : List ℕ) → is_read stages source name ≡ true → places name ≡ others name) → taken_from stages source places ≡ taken_from stages source others
   same_taken stages same =
-      let left = same source (or-left (bytes_eq source source) (list_any (λ s. is_named source (looked_into s source)) stages) (itself source)) in
-      let named = same-lookups stages (λ name h. same name (or-right (bytes_eq source name) (list_any (λ s. is_named name (looked_into s source)) stages) h)) in
+      let left = same source (or-left (bytes_eq source source) (list_any (λ s. is_source_named source (looked_into s source)) stages) (itself source)) in
+      let named = same-lookups stages (λ name h. same name (or-right (bytes_eq source name) (list_any (λ s. is_source_named name (looked_into s source)) stages) h)) in
       λ i. record { left = left i; named = named i }
 
   pub same_outs : (stages : List Stage) → ((name : List ℕ) → is_read stages source name ≡ true → places name ≡ others name) → outs_of stages source places ≡ outs_of stages source others
-  same_outs stages same = ap (λ (t : Taken). through (forms stages t.named) t.left) (same_taken stages same)
+  same_outs stages same = ap (λ (t : Taken). through_forms (forms stages t.named) t.left) (same_taken stages same)
 
 -- ---- one view over places and lists that are the same where it reads
 
 -- a view's rightness depends on its form and its mark alone
-pub same_form : (places : Places) (lists : Lists) (v w : View) → form_of v ≡ form_of w → v.mark ≡ w.mark → IsRight places lists v → IsRight places lists w
+pub same_form : (places : ListPlaces) (lists : Lists) (v w : View) → view_form v ≡ view_form w → v.mark ≡ w.mark → IsRight places lists v → IsRight places lists w
 same_form places lists v w form mark right =
-    subst (λ (p : ViewForm × Mark). AreKept p.1 (taken_from p.0.stages p.0.source places) (evaluated p.0.stages p.0.source lists)) (λ i. (form i, mark i)) right
+    subst (λ (p : ViewForm × ViewMark). AreKept p.1 (taken_from p.0.stages p.0.source places) (evaluated p.0.stages p.0.source lists)) (λ i. (form i, mark i)) right
 
-pub kept_same : (m : Mark) (t u : Taken) (rows others : List Row) → t ≡ u → rows ≡ others → AreKept m t rows → AreKept m u others
+pub kept_same : (m : ViewMark) (t u : Taken) (rows others : List Row) → t ≡ u → rows ≡ others → AreKept m t rows → AreKept m u others
 kept_same (live kept) t u rows others taken same h = (h.0 ∙ taken, h.1 ∙ same)
 kept_same (anew shown) t u rows others taken same h = h ∙ same
 kept_same stale t u rows others taken same h = tt
 
 -- the same stands under a name in both
-abbrev pub IsSame : Places → Places → Lists → Lists → List ℕ → Type 0
+abbrev pub IsSame : ListPlaces → ListPlaces → Lists → Lists → List ℕ → Type 0
 IsSame places others lists rows name = (places name ≡ others name) × (lists name ≡ rows name)
 
-module _ (unread : UnreadDoesNotMatter) (places others : Places) (lists rows : Lists) where
+module _ (unread : UnreadDoesNotMatter) (places others : ListPlaces) (lists rows : Lists) where
   right-same : (v : View) → ((name : List ℕ) → reads v name ≡ true → IsSame places others lists rows name) → IsRight places lists v → IsRight others rows v
   right-same v same right =
       kept_same v.mark (taken_from v.stages v.source places) (taken_from v.stages v.source others) (evaluated v.stages v.source lists) (evaluated v.stages v.source rows)
@@ -97,7 +97,7 @@ module _ (unread : UnreadDoesNotMatter) (places others : Places) (lists rows : L
 
   -- behind the view the same stands under its name, and elsewhere where it did
   with-same : (v : View) → ((name : List ℕ) → reads v name ≡ true → IsSame places others lists rows name) → (name : List ℕ) → (bytes_eq name v.name ≡ false → IsSame places others lists rows name)
-      → IsSame (with_places (form_of v) places) (with_places (form_of v) others) (with_rows (form_of v) lists) (with_rows (form_of v) rows) name
+      → IsSame (with_places (view_form v) places) (with_places (view_form v) others) (with_rows (view_form v) lists) (with_rows (view_form v) rows) name
   with-same v same name here = by (bytes_eq name v.name) here
     where
       by : (b : Bool) → (b ≡ false → IsSame places others lists rows name)
@@ -109,22 +109,22 @@ module _ (unread : UnreadDoesNotMatter) (places others : Places) (lists rows : L
 -- ---- all views
 
 module _ (unread : UnreadDoesNotMatter) where
-  pub right_same : (vs : Views) (places others : Places) (lists rows : Lists) → ((name : List ℕ) → reads_name vs name ≡ true → IsSame places others lists rows name) → AreRightOver places lists vs → AreRightOver others rows vs
+  pub right_same : (vs : Views) (places others : ListPlaces) (lists rows : Lists) → ((name : List ℕ) → reads_name vs name ≡ true → IsSame places others lists rows name) → AreRightOver places lists vs → AreRightOver others rows vs
   right_same [] places others lists rows same right = tt
   right_same (v ∷ vs) places others lists rows same right =
       let here : (name : List ℕ) → reads v name ≡ true → IsSame places others lists rows name = λ name h. same name (or-left (reads v name) (reads_name vs name) h) in (
         right-same unread places others lists rows v here right.0,
-        right_same vs (with_places (form_of v) places) (with_places (form_of v) others) (with_rows (form_of v) lists) (with_rows (form_of v) rows)
+        right_same vs (with_places (view_form v) places) (with_places (view_form v) others) (with_rows (view_form v) lists) (with_rows (view_form v) rows)
             (λ name h. with-same unread places others lists rows v here name (λ _. same name (or-right (reads v name) (reads_name vs name) h))) right.1,
       )
 
   pub right_over_others : (views : Views) (lists others : Lists) → ((name : List ℕ) → reads_name views name ≡ true → lists name ≡ others name) → AreRight lists views → AreRight others views
-  right_over_others views lists others same = right_same views (places_of lists) (places_of others) lists others (λ name h. (ap positioned (same name h), same name h))
+  right_over_others views lists others same = right_same views (list_places lists) (list_places others) lists others (λ name h. (ap positioned (same name h), same name h))
 
   -- ---- one is taken out
 
-  right-without : (gone : List ℕ) (vs : Views) (places others : Places) (lists rows : Lists) → ((name : List ℕ) → bytes_eq name gone ≡ false → IsSame places others lists rows name) → reads_name vs gone ≡ false
-      → AreRightOver places lists vs → AreRightOver others rows (without gone vs)
+  right-without : (gone : List ℕ) (vs : Views) (places others : ListPlaces) (lists rows : Lists) → ((name : List ℕ) → bytes_eq name gone ≡ false → IsSame places others lists rows name) → reads_name vs gone ≡ false
+      → AreRightOver places lists vs → AreRightOver others rows (views_without gone vs)
   right-without gone [] places others lists rows same away right = tt
   right-without gone (v ∷ vs) places others lists rows same away right =
       let both = neither (reads v gone) (reads_name vs gone) away in
@@ -136,25 +136,25 @@ module _ (unread : UnreadDoesNotMatter) where
       read-elsewhere name here h true is = let same : name ≡ gone = (bytes_eq-Decides name gone).0 is in absurd (cc (ap (reads v) same))
       read-elsewhere name here h false is = same name is
 
-      past : bytes_eq gone v.name ≡ true → (name : List ℕ) → bytes_eq name gone ≡ false → IsSame (with_places (form_of v) places) others (with_rows (form_of v) lists) rows name
+      past : bytes_eq gone v.name ≡ true → (name : List ℕ) → bytes_eq name gone ≡ false → IsSame (with_places (view_form v) places) others (with_rows (view_form v) lists) rows name
       past is name off =
           let other : bytes_eq name v.name ≡ false = ap (bytes_eq name) (sym ((bytes_eq-Decides gone v.name).0 is)) ∙ off in
           (ap (λ (b : Bool). if b then outs_of v.stages v.source places else places name) other ∙ (same name off).0, ap (λ (b : Bool). if b then evaluated v.stages v.source lists else lists name) other ∙ (same name off).1)
 
       by : (b : Bool) → bytes_eq gone v.name ≡ b → ((name : List ℕ) → reads v name ≡ true → IsSame places others lists rows name)
-          → ((places others : Places) (lists rows : Lists) → ((name : List ℕ) → bytes_eq name gone ≡ false → IsSame places others lists rows name) → AreRightOver places lists vs → AreRightOver others rows (without gone vs))
-          → AreRightOver others rows (cond (not b) (v ∷ without gone vs) (without gone vs))
-      by true is here rest = rest (with_places (form_of v) places) others (with_rows (form_of v) lists) rows (past is) right.1
+          → ((places others : ListPlaces) (lists rows : Lists) → ((name : List ℕ) → bytes_eq name gone ≡ false → IsSame places others lists rows name) → AreRightOver places lists vs → AreRightOver others rows (views_without gone vs))
+          → AreRightOver others rows (cond (not b) (v ∷ views_without gone vs) (views_without gone vs))
+      by true is here rest = rest (with_places (view_form v) places) others (with_rows (view_form v) lists) rows (past is) right.1
       by false is here rest = (
         right-same unread places others lists rows v here right.0,
-        rest (with_places (form_of v) places) (with_places (form_of v) others) (with_rows (form_of v) lists) (with_rows (form_of v) rows) (λ name off. with-same unread places others lists rows v here name (λ _. same name off)) right.1,
+        rest (with_places (view_form v) places) (with_places (view_form v) others) (with_rows (view_form v) lists) (with_rows (view_form v) rows) (λ name off. with-same unread places others lists rows v here name (λ _. same name off)) right.1,
       )
 
-  pub right_without : (name : List ℕ) (lists : Lists) (views : Views) → reads_name views name ≡ false → AreRight lists views → AreRight lists (without name views)
-  right_without name lists views away right = right-without name views (places_of lists) (places_of lists) lists lists (λ other off. (refl, refl)) away right
+  pub right_without : (name : List ℕ) (lists : Lists) (views : Views) → reads_name views name ≡ false → AreRight lists views → AreRight lists (views_without name views)
+  right_without name lists views away right = right-without name views (list_places lists) (list_places lists) lists lists (λ other off. (refl, refl)) away right
 
 -- ---- one comes
 
-pub right_append : (places : Places) (lists : Lists) (vs : Views) (w : View) → AreRightOver places lists vs → IsRight (places_over (map form_of vs) places) (rows_over (map form_of vs) lists) w → AreRightOver places lists (vs ++ w ∷ [])
+pub right_append : (places : ListPlaces) (lists : Lists) (vs : Views) (w : View) → AreRightOver places lists vs → IsRight (places_over (map view_form vs) places) (rows_over (map view_form vs) lists) w → AreRightOver places lists (vs ++ w ∷ [])
 right_append places lists [] w right here = (here, tt)
-right_append places lists (v ∷ vs) w right here = (right.0, right_append (with_places (form_of v) places) (with_rows (form_of v) lists) vs w right.1 here)
+right_append places lists (v ∷ vs) w right here = (right.0, right_append (with_places (view_form v) places) (with_rows (view_form v) lists) vs w right.1 here)

@@ -11,20 +11,20 @@ use Rattle.dv_change.specs.declared.input.Input.TheVariants.{Left, Named}
 use Rattle.dv_change.specs.declared.live.Live.{Live}
 use Rattle.dv_change.specs.Changes.{IsExactChange, IsPositioned, Positioned, forget, with_changes}
 use Rattle.dv_change.specs.DiffLaws.{with_changes-both}
-use Rattle.dv_change.specs.Inputs.{HasInput, changed_at, left_after, others_after}
+use Rattle.dv_change.specs.Inputs.{HasInput, input_changed_at, left_after, others_after}
 use Rattle.dv_change.specs.Linked.{HasTaken, IsLinked, first_left, forms_of}
 use Rattle.dv_change.specs.Raised.{raised}
-use Rattle.dv_change.specs.Work.{Form, HasAny, forms_after, forms_named, named_in, pass_in, through, work_in}
+use Rattle.dv_change.specs.Work.{Form, HasAny, forms_after, forms_named, named_in, pass_in, through_forms, work_in}
 use Rattle.dv_pipe.specs.declared.stage.Stage.{Stage}
 use Rattle.dv_pipe.specs.Sources.{Row}
 use Rattle.dv_pipe.specs.Stages.{beside, from_of}
 use Rattle.dv_views.specs.declared.turner.Turner.{Turner}
 use Rattle.dv_views.specs.Flow.{Arrival, arriving, arriving_at_lists, handed_by, outs_made, taken_after, work_of}
 use Rattle.dv_views.specs.Keeping.{IsSoundLive, Turns, kept_seen, left_of, lists_of_all, named_of}
-use Rattle.dv_views.specs.Turned.{kept_after, kept_behind, rows_made}
+use Rattle.dv_views.specs.Turned.{kept_after, kept_behind, turned_rows}
 use Rattle.dv_views.specs.Views.{Kept}
-use Rattle.dv_views.specs.Placed.{forms, listed, lists_in, lookups_of, stage_at, with_name}
-use Rattle.dv_views.specs.Turning.{AreFresh, IsFresh, IsSoundTurner, empty_lists, turner_left, turner_makes, turner_others}
+use Rattle.dv_views.specs.Placed.{forms, listed_under, lists_in, lookups_of, stage_at, names_with}
+use Rattle.dv_views.specs.Turning.{AreFresh, IsFreshTurner, IsSoundTurner, empty_lists, turner_left, turner_makes, turner_others}
 
 abbrev forms_in : List Turner → List Form
 forms_in ts = forms_of turner_left turner_others turner_makes IsSoundTurner ts
@@ -44,14 +44,14 @@ less-none : (i : ℕ) → i - 0 ≡ i
 less-none i = omega arith
 
 -- a change of one of the lists
-forms-changed : (i : ℕ) (c : Change) (ss : List Stage) (named : List Positioned) → forms_named i c (forms ss named) ≡ forms ss (changed_at i c named)
+forms-changed : (i : ℕ) (c : Change) (ss : List Stage) (named : List Positioned) → forms_named i c (forms ss named) ≡ forms ss (input_changed_at i c named)
 forms-changed i c [] named = refl
 forms-changed i c (s ∷ ss) named = by (from_of s) i named (λ j others. forms-changed j c ss others)
   where
-    by : (o : Option (List ℕ)) (i : ℕ) (named : List Positioned) → ((j : ℕ) (others : List Positioned) → forms_named j c (forms ss others) ≡ forms ss (changed_at j c others))
-        → (if nat_lt i (length (take (listed o) named)) then record { makes = stage_at s; named = changed_at i c (take (listed o) named) } ∷ forms ss (drop (listed o) named)
-        else record { makes = stage_at s; named = take (listed o) named } ∷ forms_named (i - length (take (listed o) named)) c (forms ss (drop (listed o) named)))
-        ≡ record { makes = stage_at s; named = take (listed o) (changed_at i c named) } ∷ forms ss (drop (listed o) (changed_at i c named))
+    by : (o : Option (List ℕ)) (i : ℕ) (named : List Positioned) → ((j : ℕ) (others : List Positioned) → forms_named j c (forms ss others) ≡ forms ss (input_changed_at j c others))
+        → (if nat_lt i (length (take (listed_under o) named)) then record { makes = stage_at s; named = input_changed_at i c (take (listed_under o) named) } ∷ forms ss (drop (listed_under o) named)
+        else record { makes = stage_at s; named = take (listed_under o) named } ∷ forms_named (i - length (take (listed_under o) named)) c (forms ss (drop (listed_under o) named)))
+        ≡ record { makes = stage_at s; named = take (listed_under o) (input_changed_at i c named) } ∷ forms ss (drop (listed_under o) (input_changed_at i c named))
     by None i named rest = rw (none-below i, less-none i) (ap (λ (fs : List Form). record { makes = stage_at s; named = [] } ∷ fs) (rest i named))
     by (Some collection) i [] rest = rw (none-below i, less-none i) (ap (λ (fs : List Form). record { makes = stage_at s; named = [] } ∷ fs) (rest i []))
     by (Some collection) zero (n ∷ ns) rest = refl
@@ -69,8 +69,8 @@ named-count : (ss : List Stage) (named : List Positioned) → length named ≡ l
 named-count [] named e = sym e
 named-count (s ∷ ss) named e = by (from_of s) named e (named-count ss)
   where
-    by : (o : Option (List ℕ)) (named : List Positioned) → length named ≡ listed o + lists_of_all ss → ((others : List Positioned) → length others ≡ lists_of_all ss → named_in (forms ss others) ≡ length others)
-        → length (take (listed o) named) + named_in (forms ss (drop (listed o) named)) ≡ length named
+    by : (o : Option (List ℕ)) (named : List Positioned) → length named ≡ listed_under o + lists_of_all ss → ((others : List Positioned) → length others ≡ lists_of_all ss → named_in (forms ss others) ≡ length others)
+        → length (take (listed_under o) named) + named_in (forms ss (drop (listed_under o) named)) ≡ length named
     by None named e rest = let same : length named ≡ lists_of_all ss = omega (arith, e) in let all = rest named same in omega (arith, all)
     by (Some collection) [] e rest = let no : 0 ≡ 1 + lists_of_all ss = e in absurd (omega arith)
     by (Some collection) (n ∷ ns) e rest =
@@ -84,7 +84,7 @@ pub has_any : (input : Input) (ss : List Stage) (named : List Positioned) → le
 has_any Left ss named e h = tt
 has_any (Named i) ss named e h = let all = named-count ss named e in omega (arith, all)
 
-same-length : (i : ℕ) (c : Change) (named : List Positioned) → length (changed_at i c named) ≡ length named
+same-length : (i : ℕ) (c : Change) (named : List Positioned) → length (input_changed_at i c named) ≡ length named
 same-length i c [] = refl
 same-length zero c (n ∷ ns) = refl
 same-length (suc i) c (n ∷ ns) = ap suc (same-length i c ns)
@@ -98,7 +98,7 @@ pub lookups_count : (ss : List Stage) (source : List ℕ) → length (lookups_of
 lookups_count [] source = refl
 lookups_count (s ∷ ss) source = by (from_of s) (lookups_count ss source)
   where
-    by : (o : Option (List ℕ)) → length (lookups_of ss source) ≡ lists_of_all ss → length (with_name (option_map (beside source) o) (lookups_of ss source)) ≡ listed o + lists_of_all ss
+    by : (o : Option (List ℕ)) → length (lookups_of ss source) ≡ lists_of_all ss → length (names_with (option_map (beside source) o) (lookups_of ss source)) ≡ listed_under o + lists_of_all ss
     by None rest = omega (arith, rest)
     by (Some collection) rest = let goal : suc (length (lookups_of ss source)) ≡ 1 + lists_of_all ss = omega (arith, rest) in goal
 
@@ -111,25 +111,25 @@ turners-lists : (ts : List Turner) → lists_of (forms_in ts) ≡ named_of ts
 turners-lists [] = refl
 turners-lists (t ∷ ts) = ap (λ (ns : List Positioned). turner_others t ++ ns) (turners-lists ts)
 
-changed-left : (i : ℕ) (c : Change) (xs ys : List Positioned) → i < length xs → changed_at i c xs ++ ys ≡ changed_at i c (xs ++ ys)
+changed-left : (i : ℕ) (c : Change) (xs ys : List Positioned) → i < length xs → input_changed_at i c xs ++ ys ≡ input_changed_at i c (xs ++ ys)
 changed-left i c [] ys h = let no : i < 0 = h in absurd (omega arith)
 changed-left zero c (x ∷ xs) ys h = refl
 changed-left (suc i) c (x ∷ xs) ys h = let more : suc i < suc (length xs) = h in ap (λ (zs : List Positioned). x ∷ zs) (changed-left i c xs ys (omega arith))
 
-changed-right : (i : ℕ) (c : Change) (xs ys : List Positioned) → length xs ≤ i → xs ++ changed_at (i - length xs) c ys ≡ changed_at i c (xs ++ ys)
-changed-right i c [] ys h = ap (λ n. changed_at n c ys) (less-none i)
+changed-right : (i : ℕ) (c : Change) (xs ys : List Positioned) → length xs ≤ i → xs ++ input_changed_at (i - length xs) c ys ≡ input_changed_at i c (xs ++ ys)
+changed-right i c [] ys h = ap (λ n. input_changed_at n c ys) (less-none i)
 changed-right zero c (x ∷ xs) ys h = let no : suc (length xs) ≤ 0 = h in absurd (omega arith)
 changed-right (suc i) c (x ∷ xs) ys h =
     let more : suc (length xs) ≤ suc i = h in
     let back : suc i - suc (length xs) ≡ i - length xs = omega arith in
-    ap (λ n. x ∷ (xs ++ changed_at n c ys)) back ∙ ap (λ (zs : List Positioned). x ∷ zs) (changed-right i c xs ys (omega arith))
+    ap (λ n. x ∷ (xs ++ input_changed_at n c ys)) back ∙ ap (λ (zs : List Positioned). x ∷ zs) (changed-right i c xs ys (omega arith))
 
-lists-changed : (i : ℕ) (c : Change) (fs : List Form) → lists_of (forms_named i c fs) ≡ changed_at i c (lists_of fs)
+lists-changed : (i : ℕ) (c : Change) (fs : List Form) → lists_of (forms_named i c fs) ≡ input_changed_at i c (lists_of fs)
 lists-changed i c [] = refl
 lists-changed i c (f ∷ fs) = by (nat_lt i (length f.named)) refl (lists-changed (i - length f.named) c fs)
   where
-    by : (b : Bool) → nat_lt i (length f.named) ≡ b → lists_of (forms_named (i - length f.named) c fs) ≡ changed_at (i - length f.named) c (lists_of fs)
-        → lists_of (if b then record { makes = f.makes; named = changed_at i c f.named } ∷ fs else f ∷ forms_named (i - length f.named) c fs) ≡ changed_at i c (f.named ++ lists_of fs)
+    by : (b : Bool) → nat_lt i (length f.named) ≡ b → lists_of (forms_named (i - length f.named) c fs) ≡ input_changed_at (i - length f.named) c (lists_of fs)
+        → lists_of (if b then record { makes = f.makes; named = input_changed_at i c f.named } ∷ fs else f ∷ forms_named (i - length f.named) c fs) ≡ input_changed_at i c (f.named ++ lists_of fs)
     by true is rest = changed-left i c f.named (lists_of fs) (ltb-true i (length f.named) is)
     by false is rest = ap (λ (ns : List Positioned). f.named ++ ns) rest ∙ changed-right i c f.named (lists_of fs) (ltb-false i (length f.named) is)
 
@@ -160,9 +160,9 @@ left_in live = left_of live.chain live.rows.entries
 
 -- rows that are kept are those that the stages make of what was taken in
 pub entries_are : (stages : List Stage) (live : Live Turner) → IsSoundLive stages live → live.rows.entries ≡ outs_made stages (kept_seen live).taken
-entries_are stages live sound = sound.taken.1 ∙ ap (λ (fs : List Form). through fs (left_in live)) sound.forms
+entries_are stages live sound = sound.taken.1 ∙ ap (λ (fs : List Form). through_forms fs (left_in live)) sound.forms
 
-pub rows_are_made : (stages : List Stage) (live : Live Turner) → IsSoundLive stages live → (kept_seen live).rows ≡ rows_made stages (kept_seen live).taken
+pub rows_are_made : (stages : List Stage) (live : Live Turner) → IsSoundLive stages live → (kept_seen live).rows ≡ turned_rows stages (kept_seen live).taken
 rows_are_made stages live sound = ap forget (entries_are stages live sound)
 
 -- each input stays
@@ -206,8 +206,8 @@ module _ (stay : StayPositioned) (stages : List Stage) (before after : Live Turn
   taken-after : (kept_seen after).taken ≡ taken_after input c (kept_seen before).taken
   taken-after = λ i. record { left = left i; named = named i }
 
-  rows-after : (kept_seen after).rows ≡ rows_made stages (taken_after input c (kept_seen before).taken)
-  rows-after = ap forget (taken.1 ∙ ap (λ (fs : List Form). through fs (left_after input c (left_in before))) forms-now)
+  rows-after : (kept_seen after).rows ≡ turned_rows stages (taken_after input c (kept_seen before).taken)
+  rows-after = ap forget (taken.1 ∙ ap (λ (fs : List Form). through_forms fs (left_after input c (left_in before))) forms-now)
 
   ticks-after : after.ticks ≡ raised before.ticks (work_of stages input c (kept_seen before).taken)
   ticks-after = ticks_now (left_in before) sound.taken ∙ ap (λ (fs : List Form). raised before.ticks (work_in input c fs (left_in before))) sound.forms
@@ -313,7 +313,7 @@ module _ (stages : List Stage) (before mid after : Live Turner) (first now next 
 
 -- ---- turners that have taken in nothing
 
-fresh-lists : (o : Option (List ℕ)) (xs rest : List Positioned) → xs ≡ empty_lists (listed o) → (take (listed o) (xs ++ rest) ≡ xs) × (drop (listed o) (xs ++ rest) ≡ rest)
+fresh-lists : (o : Option (List ℕ)) (xs rest : List Positioned) → xs ≡ empty_lists (listed_under o) → (take (listed_under o) (xs ++ rest) ≡ xs) × (drop (listed_under o) (xs ++ rest) ≡ rest)
 fresh-lists None [] rest e = (refl, refl)
 fresh-lists None (x ∷ xs) rest e = absurd cc
 fresh-lists (Some collection) [] rest e = absurd cc
@@ -348,7 +348,7 @@ empty-count : (n : ℕ) → length (empty_lists n) ≡ n
 empty-count zero = refl
 empty-count (suc n) = ap suc (empty-count n)
 
-pub fresh_more : (ss : List Stage) (ts : List Turner) (s : Stage) (t : Turner) → AreFresh ss ts → IsFresh s t → AreFresh (ss ++ s ∷ []) (ts ++ t ∷ [])
+pub fresh_more : (ss : List Stage) (ts : List Turner) (s : Stage) (t : Turner) → AreFresh ss ts → IsFreshTurner s t → AreFresh (ss ++ s ∷ []) (ts ++ t ∷ [])
 fresh_more [] [] s t all one = (one, tt)
 fresh_more [] (u ∷ ts) s t all one = absurd all
 fresh_more (r ∷ ss) [] s t all one = absurd all

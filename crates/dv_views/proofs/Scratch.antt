@@ -21,7 +21,7 @@ use Rattle.dv_gather.specs.Lookups.{looked_up}
 use Rattle.dv_group.specs.Grouped.{group_even, group_ordered}
 use Rattle.dv_group.specs.Placed.{grouped_at}
 use Rattle.dv_join.specs.Placed.{looked_up_at, looked_up_even, looked_up_ordered}
-use Rattle.dv_join.specs.Turning.{first_of}
+use Rattle.dv_join.specs.Turning.{first_input}
 use Rattle.dv_match.specs.Filter.{Members}
 use Rattle.dv_match.specs.Match.{matches}
 use Rattle.dv_path.specs.SortSpec as sorts
@@ -35,8 +35,8 @@ use Rattle.dv_row.specs.declared.unwind.Unwind as unwinds
 use Rattle.dv_row.specs.Projecting.{projected}
 use Rattle.dv_row.specs.Unwinding.{unwound}
 use Rattle.dv_sort.specs.Sorting.{stable}
-use Rattle.dv_views.specs.Forms.{is_among, names_read, outs_of}
-use Rattle.dv_views.specs.Placed.{Places, forms, listed, lists_in, lookups_of, positioned, stage_at, with_name}
+use Rattle.dv_views.specs.Forms.{is_name_among, names_read, outs_of}
+use Rattle.dv_views.specs.Placed.{ListPlaces, forms, listed_under, lists_in, lookups_of, positioned, stage_at, names_with}
 
 -- what the crates of the stages say
 pub record StageLaws : Type 0 where
@@ -58,7 +58,7 @@ ordered_stage (Unwind u) named rows are = unwind_ordered u rows are
 ordered_stage (Sort parts) named rows are = sort_ordered parts rows are
 ordered_stage (Limit count) named rows are = limit_ordered count rows are
 ordered_stage (Group g) named rows are = group_ordered g rows are
-ordered_stage (Lookup l) named rows are = looked_up_ordered l (first_of named) rows are
+ordered_stage (Lookup l) named rows are = looked_up_ordered l (first_input named) rows are
 
 even_stage : (s : Stage) (named : List Positioned) (rows : Positioned) → IsPositioned rows → HaveOneLength rows → HaveOneLength (stage_at s named rows)
 unfolding stage_at
@@ -68,15 +68,15 @@ even_stage (Unwind u) named rows are one = unwind_even u rows are one
 even_stage (Sort parts) named rows are one = sort_even parts rows are one
 even_stage (Limit count) named rows are one = limit_even count rows one
 even_stage (Group g) named rows are one = group_even g rows are one
-even_stage (Lookup l) named rows are one = looked_up_even l (first_of named) rows one
+even_stage (Lookup l) named rows are one = looked_up_even l (first_input named) rows one
 
 -- ---- all stages, by what they keep of positions
 
-pub ordered_outs : (stages : List Stage) (named : List Positioned) (rows : Positioned) → IsPositioned rows → IsPositioned (work.through (forms stages named) rows)
+pub ordered_outs : (stages : List Stage) (named : List Positioned) (rows : Positioned) → IsPositioned rows → IsPositioned (work.through_forms (forms stages named) rows)
 ordered_outs [] named rows are = are
 ordered_outs (s ∷ ss) named rows are = ordered_outs ss (drop (lists_in s) named) (stage_at s (take (lists_in s) named) rows) (ordered_stage s (take (lists_in s) named) rows are)
 
-pub even_outs : (stages : List Stage) (named : List Positioned) (rows : Positioned) → IsPositioned rows → HaveOneLength rows → HaveOneLength (work.through (forms stages named) rows)
+pub even_outs : (stages : List Stage) (named : List Positioned) (rows : Positioned) → IsPositioned rows → HaveOneLength rows → HaveOneLength (work.through_forms (forms stages named) rows)
 even_outs [] named rows are one = one
 even_outs (s ∷ ss) named rows are one =
     let own = take (lists_in s) named in
@@ -91,31 +91,31 @@ one_length ds = (1, own_length ds)
 
 -- ---- the lists that stages look into
 
-among-first : (name : List ℕ) (names : List (List ℕ)) → is_among name (name ∷ names) ≡ true
-among-first name names = ap (λ b. b || is_among name names) ((bytes_eq-Decides name name).1 refl)
+among-first : (name : List ℕ) (names : List (List ℕ)) → is_name_among name (name ∷ names) ≡ true
+among-first name names = ap (λ b. b || is_name_among name names) ((bytes_eq-Decides name name).1 refl)
 
-among-next : (name other : List ℕ) (names : List (List ℕ)) → is_among name names ≡ true → is_among name (other ∷ names) ≡ true
+among-next : (name other : List ℕ) (names : List (List ℕ)) → is_name_among name names ≡ true → is_name_among name (other ∷ names) ≡ true
 among-next name other names is = by (bytes_eq name other)
   where
-    by : (b : Bool) → b || is_among name names ≡ true
+    by : (b : Bool) → b || is_name_among name names ≡ true
     by true = refl
     by false = is
 
-among-more : (name : List ℕ) (o : Option (List ℕ)) (names : List (List ℕ)) → is_among name names ≡ true → is_among name (with_name o names) ≡ true
+among-more : (name : List ℕ) (o : Option (List ℕ)) (names : List (List ℕ)) → is_name_among name names ≡ true → is_name_among name (names_with o names) ≡ true
 among-more name None names is = is
 among-more name (Some other) names is = among-next name other names is
 
-other_lists : (places : Places) (source : List ℕ) (o : Option (List ℕ)) (names : List (List ℕ)) → drop (listed o) (map places (with_name (option_map (beside source) o) names)) ≡ map places names
+other_lists : (places : ListPlaces) (source : List ℕ) (o : Option (List ℕ)) (names : List (List ℕ)) → drop (listed_under o) (map places (names_with (option_map (beside source) o) names)) ≡ map places names
 other_lists places source None names = refl
 other_lists places source (Some collection) names = refl
 
-own_list : (places : Places) (lists : Lists) (source : List ℕ) (o : Option (List ℕ)) (names : List (List ℕ)) → ((name : List ℕ) → is_among name (with_name (option_map (beside source) o) names) ≡ true → forget (places name) ≡ lists name)
-    → forget (first_of (take (listed o) (map places (with_name (option_map (beside source) o) names)))) ≡ rows_at (option_map (beside source) o) lists
+own_list : (places : ListPlaces) (lists : Lists) (source : List ℕ) (o : Option (List ℕ)) (names : List (List ℕ)) → ((name : List ℕ) → is_name_among name (names_with (option_map (beside source) o) names) ≡ true → forget (places name) ≡ lists name)
+    → forget (first_input (take (listed_under o) (map places (names_with (option_map (beside source) o) names)))) ≡ rows_at (option_map (beside source) o) lists
 own_list places lists source None names same = refl
 own_list places lists source (Some collection) names same = same (beside source collection) (among-first (beside source collection) names)
 
 module _ (laws : StageLaws) where
-  forget_stage : (s : Stage) (named : List Positioned) (rows : Positioned) → IsPositioned rows → HaveOneLength rows → forget (stage_at s named rows) ≡ stage s (forget rows) (forget (first_of named))
+  forget_stage : (s : Stage) (named : List Positioned) (rows : Positioned) → IsPositioned rows → HaveOneLength rows → forget (stage_at s named rows) ≡ stage s (forget rows) (forget (first_input named))
   unfolding stage_at stage
   forget_stage (Match form) named rows are one = laws.matched form rows
   forget_stage (Project p) named rows are one = laws.shown p rows
@@ -123,22 +123,22 @@ module _ (laws : StageLaws) where
   forget_stage (Sort parts) named rows are one = laws.sorted parts rows are
   forget_stage (Limit count) named rows are one = laws.first count rows
   forget_stage (Group g) named rows are one = laws.groups g rows
-  forget_stage (Lookup l) named rows are one = laws.joined l rows (first_of named)
+  forget_stage (Lookup l) named rows are one = laws.joined l rows (first_input named)
 
   -- ---- all stages
 
-  forget_through : (ss : List Stage) (source : List ℕ) (places : Places) (lists : Lists) (rows : Positioned) → IsPositioned rows → HaveOneLength rows
-      → ((name : List ℕ) → is_among name (lookups_of ss source) ≡ true → forget (places name) ≡ lists name) → forget (work.through (forms ss (map places (lookups_of ss source))) rows) ≡ pipes.through ss source lists (forget rows)
+  forget_through : (ss : List Stage) (source : List ℕ) (places : ListPlaces) (lists : Lists) (rows : Positioned) → IsPositioned rows → HaveOneLength rows
+      → ((name : List ℕ) → is_name_among name (lookups_of ss source) ≡ true → forget (places name) ≡ lists name) → forget (work.through_forms (forms ss (map places (lookups_of ss source))) rows) ≡ pipes.through ss source lists (forget rows)
   unfolding pipes.through
   forget_through [] source places lists rows are one same = refl
   forget_through (s ∷ ss) source places lists rows are one same =
-      let named = map places (with_name (looked_into s source) (lookups_of ss source)) in
+      let named = map places (names_with (looked_into s source) (lookups_of ss source)) in
       let own = take (lists_in s) named in
-      ap (λ (others : List Positioned). forget (work.through (forms ss others) (stage_at s own rows))) (other_lists places source (from_of s) (lookups_of ss source))
+      ap (λ (others : List Positioned). forget (work.through_forms (forms ss others) (stage_at s own rows))) (other_lists places source (from_of s) (lookups_of ss source))
       ∙ forget_through ss source places lists (stage_at s own rows) (ordered_stage s own rows are) (even_stage s own rows are one) (λ name is. same name (among-more name (looked_into s source) (lookups_of ss source) is))
       ∙ ap (pipes.through ss source lists) (forget_stage s own rows are one ∙ ap (stage s (forget rows)) (own_list places lists source (from_of s) (lookups_of ss source) same))
 
-  pub from_scratch : (stages : List Stage) (source : List ℕ) (places : Places) (lists : Lists) → IsPositioned (places source) → HaveOneLength (places source) → ((name : List ℕ) → is_among name (names_read stages source) ≡ true → forget (places name) ≡ lists name)
+  pub from_scratch : (stages : List Stage) (source : List ℕ) (places : ListPlaces) (lists : Lists) → IsPositioned (places source) → HaveOneLength (places source) → ((name : List ℕ) → is_name_among name (names_read stages source) ≡ true → forget (places name) ≡ lists name)
       → forget (outs_of stages source places) ≡ evaluated stages source lists
   from_scratch stages source places lists are one same =
       forget_through stages source places lists (places source) are one (λ name is. same name (among-next name source (lookups_of stages source) is)) ∙ ap (pipes.through stages source lists) (same source (among-first source (lookups_of stages source)))

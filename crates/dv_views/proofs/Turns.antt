@@ -15,7 +15,7 @@ use Rattle.dv_change.specs.declared.position.Part.TheVariants.{Up}
 use Rattle.dv_change.specs.Changes.{Positioned, with_change, with_changes}
 use Rattle.dv_change.specs.Positions.{PosTree, pos_order}
 use Rattle.dv_pipe.specs.Sources.{Row}
-use Rattle.dv_views.specs.Changed.{AreMade, AreMadeInTurn, IsMade, changed}
+use Rattle.dv_views.specs.Changed.{AreMade, AreMadeInTurn, IsMade, documents_changed}
 use Rattle.dv_views.specs.Placed.{own_position, positioned}
 use Rattle.dv_views.proofs.Made.{forgotten, one_part}
 
@@ -87,24 +87,24 @@ pub one-own : EqualKeysAreOne → (c : Change) (ds : List Row) → AllByRecursio
 one-own one (Put p d) ds all made = subst (λ q. AreOwn (insert_entry pos_order (positioned ds) q d)) (sym made.1) (put-own one d made.0 ds all)
 one-own one (Gone p) ds all made = gone-own p ds
 
-pub one-identified : EqualKeysAreOne → (c : Change) (ds : List Row) → AllByRecursion HasId ds → IsMade c ds → AllByRecursion HasId (changed (c ∷ []) ds)
+pub one-identified : EqualKeysAreOne → (c : Change) (ds : List Row) → AllByRecursion HasId ds → IsMade c ds → AllByRecursion HasId (documents_changed (c ∷ []) ds)
 one-identified one (Put p d) ds all made = subst (λ q. AllByRecursion HasId (values_of (insert_entry pos_order (positioned ds) q d))) (sym made.1) (put-identified one d made.0 ds all)
 one-identified one (Gone p) ds all made = gone-identified p ds all
 
-pub first-change : EqualKeysAreOne → (c : Change) (cs : List Change) (ds : List Row) → AllByRecursion HasId ds → IsMade c ds → changed (c ∷ cs) ds ≡ changed cs (changed (c ∷ []) ds)
+pub first-change : EqualKeysAreOne → (c : Change) (cs : List Change) (ds : List Row) → AllByRecursion HasId ds → IsMade c ds → documents_changed (c ∷ cs) ds ≡ documents_changed cs (documents_changed (c ∷ []) ds)
 first-change one c cs ds all made = ap (λ rows. values_of (with_changes rows cs)) (one-own one c ds all made)
 
-pub changed_parts : EqualKeysAreOne → (first second : List Change) (ds : List Row) → AllByRecursion HasId ds → AreMadeInTurn first ds → changed (first ++ second) ds ≡ changed second (changed first ds)
-changed_parts one [] second ds all made = ap (changed second) (sym (forgotten ds))
+pub changed_parts : EqualKeysAreOne → (first second : List Change) (ds : List Row) → AllByRecursion HasId ds → AreMadeInTurn first ds → documents_changed (first ++ second) ds ≡ documents_changed second (documents_changed first ds)
+changed_parts one [] second ds all made = ap (documents_changed second) (sym (forgotten ds))
 changed_parts one (c ∷ cs) second ds all made =
     first-change one c (cs ++ second) ds all made.0
-    ∙ changed_parts one cs second (changed (c ∷ []) ds) (one-identified one c ds all made.0) made.1
-    ∙ ap (changed second) (sym (first-change one c cs ds all made.0))
+    ∙ changed_parts one cs second (documents_changed (c ∷ []) ds) (one-identified one c ds all made.0) made.1
+    ∙ ap (documents_changed second) (sym (first-change one c cs ds all made.0))
 
-made-parts : EqualKeysAreOne → (first second : List Change) (ds : List Row) → AllByRecursion HasId ds → AreMadeInTurn first ds → AreMadeInTurn second (changed first ds) → AreMadeInTurn (first ++ second) ds
+made-parts : EqualKeysAreOne → (first second : List Change) (ds : List Row) → AllByRecursion HasId ds → AreMadeInTurn first ds → AreMadeInTurn second (documents_changed first ds) → AreMadeInTurn (first ++ second) ds
 made-parts one [] second ds all made later = subst (AreMadeInTurn second) (forgotten ds) later
 made-parts one (c ∷ cs) second ds all made later =
-    (made.0, made-parts one cs second (changed (c ∷ []) ds) (one-identified one c ds all made.0) made.1 (subst (AreMadeInTurn second) (first-change one c cs ds all made.0) later))
+    (made.0, made-parts one cs second (documents_changed (c ∷ []) ds) (one-identified one c ds all made.0) made.1 (subst (AreMadeInTurn second) (first-change one c cs ds all made.0) later))
 
-pub made_parts : EqualKeysAreOne → (first second : List Change) (ds : List Row) → AreMade first ds → AreMadeInTurn second (changed first ds) → AreMade (first ++ second) ds
+pub made_parts : EqualKeysAreOne → (first second : List Change) (ds : List Row) → AreMade first ds → AreMadeInTurn second (documents_changed first ds) → AreMade (first ++ second) ds
 made_parts one first second ds made later = record { ascending = made.ascending; identified = made.identified; in_turn = made-parts one first second ds made.identified made.in_turn later }

@@ -8,9 +8,9 @@ use Rattle.dv_change.specs.declared.input.Input.TheVariants.{Left, Named}
 use Rattle.dv_pipe.specs.Stages.{Lists, is_read}
 use Rattle.dv_pipe.specs.declared.stage.Stage.{Stage}
 use Rattle.dv_views.specs.Changed.{with_changed}
-use Rattle.dv_views.specs.Flow.{Flow, Share, Told, all_together, arrivals, arriving, arriving_at_lists, flow_through, handed_by, is_reached, nothing, shares, shares_of, told_at, told_by, with_told, work_by}
-use Rattle.dv_views.specs.Forms.{ViewForm, is_among, is_read_by, names_read}
-use Rattle.dv_views.specs.Placed.{lookups_of, places_of}
+use Rattle.dv_views.specs.Flow.{Flow, Share, Told, all_together, arrivals, arriving, arriving_at_lists, flow_through, handed_by, is_reached, nothing, shares, shares_of, told_at, flow_told, flow_with_told, work_by}
+use Rattle.dv_views.specs.Forms.{ViewForm, is_name_among, is_read_by, names_read}
+use Rattle.dv_views.specs.Placed.{lookups_of, list_places}
 use Rattle.dv_views.specs.Views.{taken_from}
 use Rattle.dv_views.proofs.Right.{neither, read_among}
 
@@ -38,7 +38,7 @@ none-at-lists told i (name ∷ names) are = λ j. arriving (Named i) (are.0 j) +
 pub no_arrivals : (stages : List Stage) (source : List ℕ) (told : Told) → is_reached stages source told ≡ false → arrivals stages source told ≡ []
 no_arrivals stages source told away = let are = none_told told (names_read stages source) away in λ i. arriving Left (are.0 i) ++ none-at-lists told 0 (lookups_of stages source) are.1 i
 
-pub not_told_by : (stages : List Stage) (source : List ℕ) (flow : Flow) → is_reached stages source flow.told ≡ false → told_by stages source flow ≡ None
+pub not_told_by : (stages : List Stage) (source : List ℕ) (flow : Flow) → is_reached stages source flow.told ≡ false → flow_told stages source flow ≡ None
 not_told_by stages source flow away = ap (λ (b : Bool). if b then Some (handed_by stages (arrivals stages source flow.told) (taken_from stages source flow.places)) else None) away
 
 -- ---- what no view reads
@@ -50,14 +50,14 @@ IsToldAlone namespace told = (name : List ℕ) → bytes_eq namespace name ≡ f
 told-alone : (namespace : List ℕ) (changes : List Change) → IsToldAlone namespace (told_at namespace changes)
 told-alone namespace changes name off = ap (λ (b : Bool). if b then Some changes else None) off
 
-untold-names : (namespace : List ℕ) (told : Told) (names : List (List ℕ)) → IsToldAlone namespace told → is_among namespace names ≡ false → AreUntold told names
+untold-names : (namespace : List ℕ) (told : Told) (names : List (List ℕ)) → IsToldAlone namespace told → is_name_among namespace names ≡ false → AreUntold told names
 untold-names namespace told [] alone away = tt
-untold-names namespace told (name ∷ names) alone away = let both = neither (bytes_eq namespace name) (is_among namespace names) away in (alone name both.0, untold-names namespace told names alone both.1)
+untold-names namespace told (name ∷ names) alone away = let both = neither (bytes_eq namespace name) (is_name_among namespace names) away in (alone name both.0, untold-names namespace told names alone both.1)
 
 pub not_reached : (namespace : List ℕ) (stages : List Stage) (source : List ℕ) (told : Told) → IsToldAlone namespace told → is_read stages source namespace ≡ false → is_reached stages source told ≡ false
 not_reached namespace stages source told alone away = none-reached told (names_read stages source) (untold-names namespace told (names_read stages source) alone (sym (read_among stages source namespace) ∙ away))
 
-still-alone : (namespace name : List ℕ) (changes : Option (List Change)) (told : Told) → changes ≡ None → IsToldAlone namespace told → IsToldAlone namespace (with_told name changes told)
+still-alone : (namespace name : List ℕ) (changes : Option (List Change)) (told : Told) → changes ≡ None → IsToldAlone namespace told → IsToldAlone namespace (flow_with_told name changes told)
 still-alone namespace name changes told none alone other off = by (bytes_eq other name)
   where
     by : (b : Bool) → (if b then changes else told other) ≡ None
@@ -70,7 +70,7 @@ no-shares-of namespace flow (v ∷ views) alone away =
     let both = neither (is_read v.stages v.source namespace) (is_read_by views namespace) away in
     let off = not_reached namespace v.stages v.source flow.told alone both.0 in
     let none = no_arrivals v.stages v.source flow.told off in
-    let rest = no-shares-of namespace (flow_through flow v) views (still-alone namespace v.name (told_by v.stages v.source flow) flow.told (not_told_by v.stages v.source flow off) alone) both.1 in
+    let rest = no-shares-of namespace (flow_through flow v) views (still-alone namespace v.name (flow_told v.stages v.source flow) flow.told (not_told_by v.stages v.source flow off) alone) both.1 in
     λ i. record { reached = off i; work = work_by v.stages (none i) (taken_from v.stages v.source flow.places) } ∷ rest i
 
 nothing-together : (views : List ViewForm) → all_together (map (λ v. nothing) views) (map (λ v. nothing) views) ≡ map (λ v. nothing) views
@@ -81,7 +81,7 @@ pub no_shares : (namespace : List ℕ) (changes : List Change) (lists : Lists) (
 unfolding shares
 no_shares namespace [] lists views away = refl
 no_shares namespace (c ∷ cs) lists views away =
-    let first = no-shares-of namespace (record { places = places_of lists; told = told_at namespace (c ∷ []) }) views (told-alone namespace (c ∷ [])) away in
+    let first = no-shares-of namespace (record { places = list_places lists; told = told_at namespace (c ∷ []) }) views (told-alone namespace (c ∷ [])) away in
     let rest = no_shares namespace cs (with_changed namespace (c ∷ []) lists) views away in
     (λ i. all_together (first i) (rest i)) ∙ nothing-together views
 
@@ -104,7 +104,7 @@ pub shares_length : (namespace : List ℕ) (changes : List Change) (lists : List
 unfolding shares
 shares_length namespace [] lists views = nothing-length views
 shares_length namespace (c ∷ cs) lists views =
-    let flow : Flow = record { places = places_of lists; told = told_at namespace (c ∷ []) } in
+    let flow : Flow = record { places = list_places lists; told = told_at namespace (c ∷ []) } in
     let first = shares_of_length flow views in
     together-length (shares_of flow views) (shares namespace cs (with_changed namespace (c ∷ []) lists) views) (first ∙ sym (shares_length namespace cs (with_changed namespace (c ∷ []) lists) views)) ∙ first
 
@@ -148,9 +148,9 @@ nothing_behind (v ∷ views) (a ∷ all) same =
     neutral false = refl
 
 -- the shares of one change are what it tells
-pub one_change : (namespace : List ℕ) (c : Change) (lists : Lists) (views : List ViewForm) → shares namespace (c ∷ []) lists views ≡ shares_of (record { places = places_of lists; told = told_at namespace (c ∷ []) }) views
+pub one_change : (namespace : List ℕ) (c : Change) (lists : Lists) (views : List ViewForm) → shares namespace (c ∷ []) lists views ≡ shares_of (record { places = list_places lists; told = told_at namespace (c ∷ []) }) views
 unfolding shares
-one_change namespace c lists views = let flow : Flow = record { places = places_of lists; told = told_at namespace (c ∷ []) } in nothing_behind views (shares_of flow views) (shares_of_length flow views)
+one_change namespace c lists views = let flow : Flow = record { places = list_places lists; told = told_at namespace (c ∷ []) } in nothing_behind views (shares_of flow views) (shares_of_length flow views)
 
 -- the lists behind changes that are taken one by one
 abbrev pub lists_behind : List ℕ → List Change → Lists → Lists
@@ -161,5 +161,5 @@ unfolding shares
 shares_more namespace [] c lists views = sym (nothing_before views (shares namespace (c ∷ []) lists views) (shares_length namespace (c ∷ []) lists views))
 shares_more namespace (x ∷ xs) c lists views =
     let next : Lists = with_changed namespace (x ∷ []) lists in
-    let first = shares_of (record { places = places_of lists; told = told_at namespace (x ∷ []) }) views in
+    let first = shares_of (record { places = list_places lists; told = told_at namespace (x ∷ []) }) views in
     ap (all_together first) (shares_more namespace xs c next views) ∙ together_follows first (shares namespace xs next views) (shares namespace (c ∷ []) (lists_behind namespace xs next) views)

@@ -2,12 +2,12 @@
 use Rattle.std.specs.Prelude.{ℕ, List, Option}
 use Rattle.dv_change.specs.declared.change.Change.{Change}
 use Rattle.dv_pipe.specs.declared.stage.Stage.{Stage}
-use Rattle.dv_views.specs.Views.{Mark}
+use Rattle.dv_views.specs.Views.{ViewMark}
 
 -- a view but for its name, with its height and what it tells of the change that is handed on
 pub record Body : Type 0 where
   pub source : List ℕ
   pub stages : List Stage
   pub height : ℕ
-  pub mark : Mark
+  pub mark : ViewMark
   pub told : Option (List Change)

@@ -12,12 +12,12 @@ use Rattle.dv_pipe.specs.Stages.{Lists}
 use Rattle.dv_views.specs.Placed.{own_position, positioned}
 
 -- a collection's documents after changes
-abbrev pub changed : List Change → List Row → List Row
-changed changes documents = forget (with_changes (positioned documents) changes)
+abbrev pub documents_changed : List Change → List Row → List Row
+documents_changed changes documents = forget (with_changes (positioned documents) changes)
 
 -- the lists, with these changes of one of them
 abbrev pub with_changed : List ℕ → List Change → Lists → Lists
-with_changed namespace changes lists name = if bytes_eq namespace name then changed changes (lists name) else lists name
+with_changed namespace changes lists name = if bytes_eq namespace name then documents_changed changes (lists name) else lists name
 
 -- a change that a collection makes: a document is put at its own position, or one that is there goes
 abbrev pub IsMade : Change → List Row → Type 0
@@ -27,7 +27,7 @@ IsMade (Gone pos) documents = ⊥
 
 abbrev pub AreMadeInTurn : List Change → List Row → Type 0
 AreMadeInTurn [] documents = ⊤
-AreMadeInTurn (c ∷ cs) documents = IsMade c documents × AreMadeInTurn cs (changed (c ∷ []) documents)
+AreMadeInTurn (c ∷ cs) documents = IsMade c documents × AreMadeInTurn cs (documents_changed (c ∷ []) documents)
 
 -- changes that a collection makes one after the other
 pub record AreMade (changes : List Change) (documents : List Row) : Type 0 where

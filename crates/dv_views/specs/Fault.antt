@@ -3,14 +3,14 @@ use Rattle.std.specs.Prelude.{ℕ, List, codes}
 use Rattle.dv_views.specs.declared.fault.ViewFault.{ViewFault}
 use Rattle.dv_views.specs.declared.fault.ViewFault.TheVariants.{Exists, ReadByView, LimitReached, NoMemory}
 
-abbrev pub fault_text : ViewFault → List ℕ
-fault_text Exists = codes "Exists"
-fault_text ReadByView = codes "ReadByView"
-fault_text LimitReached = codes "LimitReached"
-fault_text NoMemory = codes "NoMemory"
+abbrev pub view_fault_text : ViewFault → List ℕ
+view_fault_text Exists = codes "Exists"
+view_fault_text ReadByView = codes "ReadByView"
+view_fault_text LimitReached = codes "LimitReached"
+view_fault_text NoMemory = codes "NoMemory"
 
-abbrev pub fault_number : ViewFault → ℕ
-fault_number Exists = 1
-fault_number ReadByView = 2
-fault_number LimitReached = 4
-fault_number NoMemory = 5
+abbrev pub view_fault_number : ViewFault → ℕ
+view_fault_number Exists = 1
+view_fault_number ReadByView = 2
+view_fault_number LimitReached = 4
+view_fault_number NoMemory = 5

@@ -5,14 +5,14 @@ use Rattle.dv_change.specs.declared.input.Input.{Input}
 use Rattle.dv_change.specs.declared.input.Input.TheVariants.{Named}
 use Rattle.dv_change.specs.Changes.{Positioned}
 use Rattle.dv_views.specs.Flow.{taken_after}
-use Rattle.dv_views.specs.Placed.{Places}
+use Rattle.dv_views.specs.Placed.{ListPlaces}
 use Rattle.dv_views.specs.Views.{Taken}
 
 -- the rows, put into an input one after the other, each at its position
-abbrev pub rows_in : Input → Taken → Positioned → Taken
-rows_in input t rows = fold (λ t e. taken_after input (Put e.0 e.1) t) t rows
+abbrev pub rows_filled : Input → Taken → Positioned → Taken
+rows_filled input t rows = fold (λ t e. taken_after input (Put e.0 e.1) t) t rows
 
 -- what stands under each name, where the lists are counted from a number
-abbrev pub lists_in_turn : ℕ → List (List ℕ) → Places → Taken → Taken
+abbrev pub lists_in_turn : ℕ → List (List ℕ) → ListPlaces → Taken → Taken
 lists_in_turn i [] places t = t
-lists_in_turn i (name ∷ names) places t = lists_in_turn (suc i) names places (rows_in (Named i) t (places name))
+lists_in_turn i (name ∷ names) places t = lists_in_turn (suc i) names places (rows_filled (Named i) t (places name))

@@ -7,12 +7,12 @@ use Rattle.dv_change.specs.declared.input.Input.{Input}
 use Rattle.dv_change.specs.declared.input.Input.TheVariants.{Left, Named}
 use Rattle.dv_change.specs.Changes.{Positioned}
 use Rattle.dv_change.specs.Inputs.{left_after, others_after}
-use Rattle.dv_change.specs.Work.{pass_in, through, work_in}
+use Rattle.dv_change.specs.Work.{pass_in, through_forms, work_in}
 use Rattle.dv_pipe.specs.declared.stage.Stage.{Stage}
 use Rattle.dv_pipe.specs.Stages.{Lists}
 use Rattle.dv_views.specs.Changed.{with_changed}
 use Rattle.dv_views.specs.Forms.{ViewForm, names_read, with_places}
-use Rattle.dv_views.specs.Placed.{Places, forms, lookups_of, places_of}
+use Rattle.dv_views.specs.Placed.{ListPlaces, forms, lookups_of, list_places}
 use Rattle.dv_views.specs.Views.{Taken, taken_from}
 
 -- ---- what comes to a view
@@ -54,7 +54,7 @@ taken_after input change t = record { left = left_after input change t.left; nam
 
 -- what the stages make of what was taken in, at positions
 abbrev pub outs_made : List Stage → Taken → Positioned
-outs_made stages t = through (forms stages t.named) t.left
+outs_made stages t = through_forms (forms stages t.named) t.left
 
 -- the work that a change of an input takes: for each stage 1 for each change that comes to it, and 1 for each that it hands on
 abbrev pub work_of : List Stage → Input → Change → Taken → ℕ
@@ -73,19 +73,19 @@ work_by stages (a ∷ all) t = work_of stages a.input a.change t + work_by stage
 
 -- what stood under each name before the change, and what it tells there
 pub record Flow : Type 0 where
-  pub places : Places
+  pub places : ListPlaces
   pub told : Told
 
 -- what stages over a source tell
-abbrev pub told_by : List Stage → List ℕ → Flow → Option (List Change)
-told_by stages source flow = if is_reached stages source flow.told then Some (handed_by stages (arrivals stages source flow.told) (taken_from stages source flow.places)) else None
+abbrev pub flow_told : List Stage → List ℕ → Flow → Option (List Change)
+flow_told stages source flow = if is_reached stages source flow.told then Some (handed_by stages (arrivals stages source flow.told) (taken_from stages source flow.places)) else None
 
-abbrev pub with_told : List ℕ → Option (List Change) → Told → Told
-with_told name changes told other = if bytes_eq other name then changes else told other
+abbrev pub flow_with_told : List ℕ → Option (List Change) → Told → Told
+flow_with_told name changes told other = if bytes_eq other name then changes else told other
 
 -- behind a view, which stands there and tells what it makes of the change
 abbrev pub flow_through : Flow → ViewForm → Flow
-flow_through flow v = record { places = with_places v flow.places; told = with_told v.name (told_by v.stages v.source flow) flow.told }
+flow_through flow v = record { places = with_places v flow.places; told = flow_with_told v.name (flow_told v.stages v.source flow) flow.told }
 
 -- ---- what changes are to each view
 
@@ -97,13 +97,13 @@ pub record Share : Type 0 where
 abbrev pub nothing : Share
 nothing = record { reached = false; work = 0 }
 
-abbrev pub together : Share → Share → Share
-together a b = record { reached = a.reached || b.reached; work = a.work + b.work }
+abbrev pub shares_together : Share → Share → Share
+shares_together a b = record { reached = a.reached || b.reached; work = a.work + b.work }
 
 abbrev pub all_together : List Share → List Share → List Share
 all_together [] others = []
 all_together (a ∷ some) [] = []
-all_together (a ∷ some) (b ∷ others) = together a b ∷ all_together some others
+all_together (a ∷ some) (b ∷ others) = shares_together a b ∷ all_together some others
 
 -- one change, which views hand on in creation order
 abbrev pub shares_of : Flow → List ViewForm → List Share
@@ -116,4 +116,4 @@ shares_of flow (v ∷ views) =
 unfoldable pub shares : List ℕ → List Change → Lists → List ViewForm → List Share
 shares namespace [] lists views = map (λ v. nothing) views
 shares namespace (change ∷ changes) lists views =
-    all_together (shares_of (record { places = places_of lists; told = told_at namespace (change ∷ []) }) views) (shares namespace changes (with_changed namespace (change ∷ []) lists) views)
+    all_together (shares_of (record { places = list_places lists; told = told_at namespace (change ∷ []) }) views) (shares namespace changes (with_changed namespace (change ∷ []) lists) views)

@@ -3,10 +3,10 @@ use Rattle.std.specs.Prelude.{◌≡◌, ℕ, suc, true, false, ⊤, ◌||◌, �
 use Rattle.std.specs.List.{AllByRecursion, list_any}
 use Rattle.std.specs.Str.{bytes_eq}
 use Rattle.dv_change.specs.Changes.{Positioned}
-use Rattle.dv_change.specs.Work.{through}
+use Rattle.dv_change.specs.Work.{through_forms}
 use Rattle.dv_pipe.specs.declared.stage.Stage.{Stage}
 use Rattle.dv_pipe.specs.Stages.{Lists, evaluated, is_read}
-use Rattle.dv_views.specs.Placed.{Places, forms, lookups_of}
+use Rattle.dv_views.specs.Placed.{ListPlaces, forms, lookups_of}
 use Rattle.dv_views.specs.declared.fault.ViewFault.{ViewFault}
 use Rattle.dv_views.specs.declared.fault.ViewFault.TheVariants.{Exists, ReadByView, LimitReached}
 
@@ -27,13 +27,13 @@ abbrev pub rows_over : List ViewForm → Lists → Lists
 rows_over views lists = fold (λ below v. with_rows v below) lists views
 
 -- the same at positions
-abbrev pub outs_of : List Stage → List ℕ → Places → Positioned
-outs_of stages source places = through (forms stages (map places (lookups_of stages source))) (places source)
+abbrev pub outs_of : List Stage → List ℕ → ListPlaces → Positioned
+outs_of stages source places = through_forms (forms stages (map places (lookups_of stages source))) (places source)
 
-abbrev pub with_places : ViewForm → Places → Places
+abbrev pub with_places : ViewForm → ListPlaces → ListPlaces
 with_places v places name = if bytes_eq name v.name then outs_of v.stages v.source places else places name
 
-abbrev pub places_over : List ViewForm → Places → Places
+abbrev pub places_over : List ViewForm → ListPlaces → ListPlaces
 places_over views places = fold (λ below v. with_places v below) places views
 
 -- ---- what views read
@@ -42,17 +42,17 @@ places_over views places = fold (λ below v. with_places v below) places views
 abbrev pub names_read : List Stage → List ℕ → List (List ℕ)
 names_read stages source = source ∷ lookups_of stages source
 
-abbrev pub is_among : List ℕ → List (List ℕ) → Bool
-is_among name names = list_any (λ other. bytes_eq name other) names
+abbrev pub is_name_among : List ℕ → List (List ℕ) → Bool
+is_name_among name names = list_any (λ other. bytes_eq name other) names
 
 -- the names that are needed for some: these, and those that a view which is needed reads; the youngest view is asked first
 abbrev pub needed : List ViewForm → List (List ℕ) → List (List ℕ)
 needed [] names = names
-needed (v ∷ views) names = if is_among v.name (needed views names) then needed views names ++ names_read v.stages v.source else needed views names
+needed (v ∷ views) names = if is_name_among v.name (needed views names) then needed views names ++ names_read v.stages v.source else needed views names
 
 -- with each view, names have what it reads
 abbrev pub IsClosed : List (List ℕ) → List ViewForm → Type 0
-IsClosed names views = AllByRecursion (λ v. is_among v.name names ≡ true → AllByRecursion (λ name. is_among name names ≡ true) (names_read v.stages v.source)) views
+IsClosed names views = AllByRecursion (λ v. is_name_among v.name names ≡ true → AllByRecursion (λ name. is_name_among name names ≡ true) (names_read v.stages v.source)) views
 
 -- each view reads older ones alone: neither itself nor a younger one
 abbrev pub AreFounded : List ViewForm → Type 0

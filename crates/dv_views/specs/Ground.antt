@@ -7,11 +7,11 @@ use Rattle.dv_pipe.specs.Sources.{Row}
 use Rattle.dv_pipe.specs.Stages.{Lists, evaluated}
 use Rattle.dv_views.specs.Flow.{outs_made}
 use Rattle.dv_views.specs.Forms.{names_read}
-use Rattle.dv_views.specs.Placed.{Places, positioned}
-use Rattle.dv_views.specs.Turned.{rows_made}
-use Rattle.dv_views.specs.Views.{Mark, View, Views, anew, live, stale, taken_from, view_named}
+use Rattle.dv_views.specs.Placed.{ListPlaces, positioned}
+use Rattle.dv_views.specs.Turned.{turned_rows}
+use Rattle.dv_views.specs.Views.{ViewMark, View, Views, anew, live, stale, taken_from, view_under}
 
-abbrev pub rows_of_mark : Mark → List Row
+abbrev pub rows_of_mark : ViewMark → List Row
 rows_of_mark (live kept) = kept.rows
 rows_of_mark (anew rows) = rows
 rows_of_mark stale = []
@@ -21,9 +21,9 @@ rows_of_view None documents = documents
 rows_of_view (Some v) documents = rows_of_mark v.mark
 
 abbrev pub rows_below : Views → Lists → Lists
-rows_below older lists name = rows_of_view (view_named name older) (lists name)
+rows_below older lists name = rows_of_view (view_under name older) (lists name)
 
-abbrev pub outs_of_mark : List Stage → Mark → Positioned
+abbrev pub outs_of_mark : List Stage → ViewMark → Positioned
 outs_of_mark stages (live kept) = outs_made stages kept.taken
 outs_of_mark stages (anew rows) = []
 outs_of_mark stages stale = []
@@ -32,10 +32,10 @@ abbrev pub outs_of_view : Option View → List Row → Positioned
 outs_of_view None documents = positioned documents
 outs_of_view (Some v) documents = outs_of_mark v.stages v.mark
 
-abbrev pub outs_below : Views → Lists → Places
-outs_below older lists name = outs_of_view (view_named name older) (lists name)
+abbrev pub outs_below : Views → Lists → ListPlaces
+outs_below older lists name = outs_of_view (view_under name older) (lists name)
 
-abbrev pub IsLive : Mark → Type 0
+abbrev pub IsLive : ViewMark → Type 0
 IsLive (live kept) = ⊤
 IsLive (anew rows) = ⊥
 IsLive stale = ⊥
@@ -46,13 +46,13 @@ IsLiveView None = ⊤
 IsLiveView (Some v) = IsLive v.mark
 
 -- what stands under a name is that of no view, or of a live one, at exact positions
-abbrev pub IsPlaced : Views → Lists → List ℕ → Type 0
-IsPlaced older lists name = IsLiveView (view_named name older) × IsPositioned (outs_below older lists name)
+abbrev pub IsPlacedUnder : Views → Lists → List ℕ → Type 0
+IsPlacedUnder older lists name = IsLiveView (view_under name older) × IsPositioned (outs_below older lists name)
 
 -- what is kept over older views and lists: a live mark has taken in what stands there at positions, and all views that it reads are live
-abbrev pub IsBuilt : List Stage → List ℕ → Views → Lists → Mark → Type 0
+abbrev pub IsBuilt : List Stage → List ℕ → Views → Lists → ViewMark → Type 0
 IsBuilt stages source older lists (live kept) =
-    (kept.taken ≡ taken_from stages source (outs_below older lists)) × (kept.rows ≡ rows_made stages kept.taken) × IsPositioned kept.taken.left × (kept.ticks ≡ 0)
-    × AllByRecursion (λ name. IsLiveView (view_named name older)) (names_read stages source)
+    (kept.taken ≡ taken_from stages source (outs_below older lists)) × (kept.rows ≡ turned_rows stages kept.taken) × IsPositioned kept.taken.left × (kept.ticks ≡ 0)
+    × AllByRecursion (λ name. IsLiveView (view_under name older)) (names_read stages source)
 IsBuilt stages source older lists (anew rows) = rows ≡ evaluated stages source (rows_below older lists)
 IsBuilt stages source older lists stale = ⊥

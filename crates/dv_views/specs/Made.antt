@@ -2,24 +2,24 @@
 use Rattle.std.specs.Prelude.{◌≡◌, ℕ, zero, suc, true, false, List, [], ◌∷◌, ◌++◌, map, Option, Some, None, ⊤}
 use Rattle.dv_pipe.specs.declared.stage.Stage.{Stage}
 use Rattle.dv_pipe.specs.Stages.{Lists}
-use Rattle.dv_views.specs.Forms.{is_among, names_read, needed}
-use Rattle.dv_views.specs.Views.{AreRefreshed, IsFresh, IsPartlyRefreshed, View, Views, form_of, is_stale}
+use Rattle.dv_views.specs.Forms.{is_name_among, names_read, needed}
+use Rattle.dv_views.specs.Views.{AreRefreshed, IsJustMade, IsPartlyRefreshed, View, Views, view_form, is_stale}
 
 -- lists that hold the same under some names
 abbrev pub AreAlike : List (List ℕ) → Lists → Lists → Type 0
-AreAlike names lists others = (name : List ℕ) → is_among name names ≡ true → lists name ≡ others name
+AreAlike names lists others = (name : List ℕ) → is_name_among name names ≡ true → lists name ≡ others name
 
 -- a view more, which was just made
 pub record IsAdded (name source : List ℕ) (stages : List Stage) (before after : Views) : Type 0 where
   pub view : View
-  pub form : form_of view ≡ record { name = name; source = source; stages = stages }
-  pub fresh : IsFresh view.mark
+  pub form : view_form view ≡ record { name = name; source = source; stages = stages }
+  pub fresh : IsJustMade view.mark
   pub last : after ≡ before ++ view ∷ []
 
 -- behind the stale ones that it needs were made anew
 pub record IsCreated (name source : List ℕ) (stages : List Stage) (before after : Views) : Type 0 where
   pub refreshed : Views
-  pub read : AreRefreshed (needed (map form_of before) (names_read stages source)) before refreshed
+  pub read : AreRefreshed (needed (map view_form before) (names_read stages source)) before refreshed
   pub added : IsAdded name source stages refreshed after
 
 -- no view, or one that isn't stale
@@ -31,5 +31,5 @@ IsNoStale (Some v) = is_stale v.mark ≡ false
 abbrev pub IsRefreshedAt : ℕ → List (List ℕ) → Views → Views → Type 0
 IsRefreshedAt place names [] after = after ≡ []
 IsRefreshedAt place names (v ∷ before) [] = ⊥
-IsRefreshedAt zero names (v ∷ before) (w ∷ after) = IsPartlyRefreshed names v w × (is_among v.name names ≡ true → is_stale w.mark ≡ false) × (after ≡ before)
+IsRefreshedAt zero names (v ∷ before) (w ∷ after) = IsPartlyRefreshed names v w × (is_name_among v.name names ≡ true → is_stale w.mark ≡ false) × (after ≡ before)
 IsRefreshedAt (suc place) names (v ∷ before) (w ∷ after) = (w ≡ v) × IsRefreshedAt place names before after

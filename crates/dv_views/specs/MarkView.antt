@@ -4,9 +4,9 @@ use Rattle.dv_pipe.specs.declared.stage.Stage.{Stage}
 use Rattle.dv_views.specs.declared.view.Mark as marks
 use Rattle.dv_views.specs.declared.view.Mark.TheVariants.{Live, Made, Stale}
 use Rattle.dv_views.specs.Keeping.{IsSoundLive, kept_seen}
-use Rattle.dv_views.specs.Views.{Mark, anew, live, stale}
+use Rattle.dv_views.specs.Views.{ViewMark, anew, live, stale}
 
-abbrev pub mark_seen : marks.Mark → Mark
+abbrev pub mark_seen : marks.Mark → ViewMark
 mark_seen (Live rows) = live (kept_seen rows)
 mark_seen (Made rows) = anew rows.items
 mark_seen Stale = stale

@@ -6,8 +6,8 @@ use Rattle.std.specs.String.{string_bytes}
 use Rattle.std.specs.Str.{bytes_eq}
 use Rattle.dv_change.specs.declared.change.Change.{Change}
 use Rattle.dv_views.specs.Body.{Body}
-use Rattle.dv_views.specs.Flow.{Told, told_at, with_told}
-use Rattle.dv_views.specs.Seen.{seen}
+use Rattle.dv_views.specs.Flow.{Told, told_at, flow_with_told}
+use Rattle.dv_views.specs.Seen.{entry_view}
 use Rattle.dv_views.specs.Views.{Views}
 
 abbrev pub Entries : Type 0 → Type 0
@@ -18,12 +18,12 @@ abbrev pub is_called : {Y : Type 0} → List ℕ → String Y → Bool
 is_called name k = bytes_eq name (string_bytes k)
 
 abbrev pub views : {Y : Type 0} → Entries Y → Views
-views es = map seen es
+views es = map entry_view es
 
 -- the place of the first entry of a name
-abbrev pub place_of : {Y : Type 0} → List ℕ → Entries Y → Option ℕ
-place_of name [] = None
-place_of name (e ∷ es) = if is_called name e.0 then Some 0 else option_map suc (place_of name es)
+abbrev pub place_of_name : {Y : Type 0} → List ℕ → Entries Y → Option ℕ
+place_of_name name [] = None
+place_of_name name (e ∷ es) = if is_called name e.0 then Some 0 else option_map suc (place_of_name name es)
 
 -- the views before a place
 abbrev pub views_before : {Y : Type 0} → ℕ → Entries Y → Views
@@ -32,7 +32,7 @@ views_before place es = views (take place es)
 -- what views tell of a change, beside what is told already
 abbrev pub told_over : {Y : Type 0} → Told → Entries Y → Told
 told_over told [] = told
-told_over told (e ∷ es) = told_over (with_told (string_bytes e.0) e.1.told told) es
+told_over told (e ∷ es) = told_over (flow_with_told (string_bytes e.0) e.1.told told) es
 
 -- what is told under each name to the view at a place
 abbrev pub told_before : {Y : Type 0} → List ℕ → List Change → ℕ → Entries Y → Told

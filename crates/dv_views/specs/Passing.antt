@@ -5,7 +5,7 @@ use Rattle.indexmap.specs.IndexMap.{set_value_at}
 use Rattle.dv_change.specs.declared.change.Change.{Change}
 use Rattle.dv_views.specs.Body.{Body}
 use Rattle.dv_views.specs.Older.{Entries, told_before, views_before}
-use Rattle.dv_views.specs.Seen.{IsWellKept, named}
+use Rattle.dv_views.specs.Seen.{IsWellKept, view_seen}
 use Rattle.dv_views.specs.Turned.{IsTakenBy}
 use Rattle.dv_views.specs.Views.{distances_of}
 
@@ -14,6 +14,6 @@ pub record IsTakenAt {Y : Type 0} (namespace : List ℕ) (changes : List Change)
   pub new : Body
   pub there : slice_get (values_of before) place ≡ Some old
   pub left : after ≡ set_value_at before place new
-  pub taken : (name : List ℕ) → IsTakenBy (told_before namespace changes place before) (distances_of (views_before place before)) (named name old) (record { view = named name new; told = new.told })
+  pub taken : (name : List ℕ) → IsTakenBy (told_before namespace changes place before) (distances_of (views_before place before)) (view_seen name old) (record { view = view_seen name new; told = new.told })
   pub well : IsWellKept old.stages old.mark → IsWellKept new.stages new.mark
   pub height : new.height ≡ old.height

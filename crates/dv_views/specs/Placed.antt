@@ -8,7 +8,7 @@ use Rattle.dv_coll.specs.Collection.{id_key}
 use Rattle.dv_flow.specs.Placed.{front_at, matched_at, shown_at, sorted_at, unwound_at}
 use Rattle.dv_group.specs.Placed.{grouped_at}
 use Rattle.dv_join.specs.Placed.{looked_up_at}
-use Rattle.dv_join.specs.Turning.{first_of}
+use Rattle.dv_join.specs.Turning.{first_input}
 use Rattle.dv_pipe.specs.declared.stage.Stage.{Stage}
 use Rattle.dv_pipe.specs.declared.stage.Stage.TheVariants.{Match, Project, Unwind, Sort, Limit, Group, Lookup}
 use Rattle.dv_pipe.specs.Sources.{Row}
@@ -22,29 +22,29 @@ stage_at (Unwind u) named rows = unwound_at u rows
 stage_at (Sort parts) named rows = sorted_at parts rows
 stage_at (Limit count) named rows = front_at count rows
 stage_at (Group g) named rows = grouped_at g rows
-stage_at (Lookup l) named rows = looked_up_at l rows (first_of named)
+stage_at (Lookup l) named rows = looked_up_at l rows (first_input named)
 
-abbrev pub listed : Option (List ℕ) → ℕ
-listed None = 0
-listed (Some collection) = 1
+abbrev pub listed_under : Option (List ℕ) → ℕ
+listed_under None = 0
+listed_under (Some collection) = 1
 
 -- how many lists a stage looks into
 abbrev pub lists_in : Stage → ℕ
-lists_in s = listed (from_of s)
+lists_in s = listed_under (from_of s)
 
 -- stages, each with the lists that it looks into, which are given for all of them in their order
 abbrev pub forms : List Stage → List Positioned → List Form
 forms [] named = []
 forms (s ∷ ss) named = record { makes = stage_at s; named = take (lists_in s) named } ∷ forms ss (drop (lists_in s) named)
 
-abbrev pub with_name : Option (List ℕ) → List (List ℕ) → List (List ℕ)
-with_name None names = names
-with_name (Some name) names = name ∷ names
+abbrev pub names_with : Option (List ℕ) → List (List ℕ) → List (List ℕ)
+names_with None names = names
+names_with (Some name) names = name ∷ names
 
 -- the namespaces that stages over a source look into, in their order
 abbrev pub lookups_of : List Stage → List ℕ → List (List ℕ)
 lookups_of [] source = []
-lookups_of (s ∷ ss) source = with_name (looked_into s source) (lookups_of ss source)
+lookups_of (s ∷ ss) source = names_with (looked_into s source) (lookups_of ss source)
 
 -- where a document stands in its collection: under the key of its `_id`
 abbrev pub own_position : Row → PosTree
@@ -54,8 +54,8 @@ abbrev pub positioned : List Row → Positioned
 positioned documents = map (λ d. (own_position d, d)) documents
 
 -- what stands at positions under each namespace
-abbrev pub Places : Type 0
-Places = List ℕ → Positioned
+abbrev pub ListPlaces : Type 0
+ListPlaces = List ℕ → Positioned
 
-abbrev pub places_of : Lists → Places
-places_of lists name = positioned (lists name)
+abbrev pub list_places : Lists → ListPlaces
+list_places lists name = positioned (lists name)

@@ -8,7 +8,7 @@ use Rattle.dv_group.specs.Grouped.{group_empty, group_even, group_ordered}
 use Rattle.dv_group.specs.Placed.{grouped_at}
 use Rattle.dv_group.specs.Turned.{IsSoundGroups, rows_left}
 use Rattle.dv_join.specs.Placed.{looked_up_even, looked_up_ordered}
-use Rattle.dv_join.specs.Turning.{IsSoundJoin, first_of, lookup_left, lookup_makes, lookup_others}
+use Rattle.dv_join.specs.Turning.{IsSoundJoin, first_input, lookup_left, lookup_makes, lookup_others}
 use Rattle.dv_pipe.specs.declared.stage.Stage.{Stage}
 use Rattle.dv_views.specs.Placed.{lists_in, stage_at}
 use Rattle.dv_views.specs.declared.turner.Turner.{Turner}
@@ -46,12 +46,12 @@ turner_positioned (Lookup t) sound = (sound.left, (sound.foreign, tt))
 pub turner_ordered : (t : Turner) (named : List Positioned) (rows : Positioned) → IsPositioned rows → IsPositioned (turner_makes t named rows)
 turner_ordered (Simple t) named rows are = simple_ordered t named rows are
 turner_ordered (Group t) named rows are = group_ordered t.group rows are
-turner_ordered (Lookup t) named rows are = looked_up_ordered t.lookup (first_of named) rows are
+turner_ordered (Lookup t) named rows are = looked_up_ordered t.lookup (first_input named) rows are
 
 pub turner_even : (t : Turner) (named : List Positioned) (rows : Positioned) → IsPositioned rows → HaveOneLength rows → HaveOneLength (turner_makes t named rows)
 turner_even (Simple t) named rows are one = simple_even t named rows are one
 turner_even (Group t) named rows are one = group_even t.group rows are one
-turner_even (Lookup t) named rows are one = looked_up_even t.lookup (first_of named) rows one
+turner_even (Lookup t) named rows are one = looked_up_even t.lookup (first_input named) rows one
 
 pub turner_empty : (t : Turner) (named : List Positioned) → turner_makes t named [] ≡ []
 turner_empty (Simple t) named = simple_empty t named
@@ -68,7 +68,7 @@ empty_lists (suc n) = [] ∷ empty_lists n
 abbrev pub no_lists : Stage → List Positioned
 no_lists s = empty_lists (lists_in s)
 
-pub record IsFresh (s : Stage) (t : Turner) : Type 0 where
+pub record IsFreshTurner (s : Stage) (t : Turner) : Type 0 where
   pub makes : turner_makes t ≡ stage_at s
   pub left : turner_left t ≡ []
   pub others : turner_others t ≡ no_lists s
@@ -76,4 +76,4 @@ pub record IsFresh (s : Stage) (t : Turner) : Type 0 where
 
 -- each of the turners is its stage, and has taken in nothing
 abbrev pub AreFresh : List Stage → List Turner → Type 0
-AreFresh stages turners = AllZip IsFresh stages turners
+AreFresh stages turners = AllZip IsFreshTurner stages turners

@@ -9,8 +9,8 @@ use Rattle.dv_coll.specs.Collection.{HasId, IsAscending}
 use Rattle.dv_pipe.specs.declared.stage.Stage.{Stage}
 use Rattle.dv_pipe.specs.Sources.{Row}
 use Rattle.dv_pipe.specs.Stages.{Lists, evaluated, is_read}
-use Rattle.dv_views.specs.Forms.{ViewForm, is_among, with_places, with_rows}
-use Rattle.dv_views.specs.Placed.{Places, lookups_of, places_of}
+use Rattle.dv_views.specs.Forms.{ViewForm, is_name_among, with_places, with_rows}
+use Rattle.dv_views.specs.Placed.{ListPlaces, lookups_of, list_places}
 use Rattle.dv_views.specs.declared.fault.ViewFault.{ViewFault}
 use Rattle.dv_views.specs.declared.state.ViewState.{ViewState}
 use Rattle.dv_views.specs.declared.state.ViewState.TheVariants as states
@@ -29,95 +29,95 @@ pub record Kept : Type 0 where
 
 -- a view is live: its rows are kept by changes; or it has its rows, made anew, until what it reads changes, and has counted nothing; or it
 -- is stale and has nothing, where memory was wanting, or a `$push` held too many rows
-pub data Mark : Type 0 where
-  live : Kept → Mark
-  anew : List Row → Mark
-  stale : Mark
+pub data ViewMark : Type 0 where
+  live : Kept → ViewMark
+  anew : List Row → ViewMark
+  stale : ViewMark
 
 pub record View : Type 0 where
   pub name : List ℕ
   pub source : List ℕ
   pub stages : List Stage
-  pub mark : Mark
+  pub mark : ViewMark
 
 abbrev pub Views : Type 0
 Views = List View
 
 -- a view but for what it keeps
-abbrev pub form_of : View → ViewForm
-form_of v = record { name = v.name; source = v.source; stages = v.stages }
+abbrev pub view_form : View → ViewForm
+view_form v = record { name = v.name; source = v.source; stages = v.stages }
 
 -- what stages over a source read at places
-abbrev pub taken_from : List Stage → List ℕ → Places → Taken
+abbrev pub taken_from : List Stage → List ℕ → ListPlaces → Taken
 taken_from stages source places = record { left = places source; named = map places (lookups_of stages source) }
 
 -- what is kept, if anything is, are these rows, made of what was taken in
-abbrev pub AreKept : Mark → Taken → List Row → Type 0
+abbrev pub AreKept : ViewMark → Taken → List Row → Type 0
 AreKept (live kept) taken rows = (kept.taken ≡ taken) × (kept.rows ≡ rows)
 AreKept (anew shown) taken rows = shown ≡ rows
 AreKept stale taken rows = ⊤
 
 -- a view that isn't stale has the rows of its pipeline from scratch, and a live one has taken in what it reads as it stands
-abbrev pub IsRight : Places → Lists → View → Type 0
+abbrev pub IsRight : ListPlaces → Lists → View → Type 0
 IsRight places lists v = AreKept v.mark (taken_from v.stages v.source places) (evaluated v.stages v.source lists)
 
 -- each over what the older ones make of the lists
-abbrev pub AreRightOver : Places → Lists → Views → Type 0
+abbrev pub AreRightOver : ListPlaces → Lists → Views → Type 0
 AreRightOver places lists [] = ⊤
-AreRightOver places lists (v ∷ views) = IsRight places lists v × AreRightOver (with_places (form_of v) places) (with_rows (form_of v) lists) views
+AreRightOver places lists (v ∷ views) = IsRight places lists v × AreRightOver (with_places (view_form v) places) (with_rows (view_form v) lists) views
 
 abbrev pub AreRight : Lists → Views → Type 0
-AreRight lists views = AreRightOver (places_of lists) lists views
+AreRight lists views = AreRightOver (list_places lists) lists views
 
 -- ---- views by their names
 
-abbrev pub has_name : List ℕ → View → Bool
-has_name name v = bytes_eq name v.name
+abbrev pub is_view_named : List ℕ → View → Bool
+is_view_named name v = bytes_eq name v.name
 
 abbrev pub AreNamedApart : Views → Type 0
 AreNamedApart views = IsDistinct bytes_eq (map (λ v. v.name) views)
 
-abbrev pub view_named : List ℕ → Views → Option View
-view_named name views = find (has_name name) views
+abbrev pub view_under : List ℕ → Views → Option View
+view_under name views = find (is_view_named name) views
 
 abbrev pub has_view : List ℕ → Views → Bool
-has_view name views = list_any (has_name name) views
+has_view name views = list_any (is_view_named name) views
 
-abbrev pub without : List ℕ → Views → Views
-without name views = filter (λ v. not (has_name name v)) views
+abbrev pub views_without : List ℕ → Views → Views
+views_without name views = filter (λ v. not (is_view_named name v)) views
 
 -- the rows that a mark shows
-abbrev pub kept_rows : Mark → Option (List Row)
+abbrev pub kept_rows : ViewMark → Option (List Row)
 kept_rows (live kept) = Some kept.rows
 kept_rows (anew rows) = Some rows
 kept_rows stale = None
 
 -- the rows that the view of this name keeps
 abbrev pub rows_shown : List ℕ → Views → Option (List Row)
-rows_shown name views = option_and_then (λ v. kept_rows v.mark) (view_named name views)
+rows_shown name views = option_and_then (λ v. kept_rows v.mark) (view_under name views)
 
 -- how many rows a mark shows; none where it is stale
-abbrev pub rows_in : Mark → ℕ
-rows_in (live kept) = length kept.rows
-rows_in (anew rows) = length rows
-rows_in stale = 0
+abbrev pub mark_rows : ViewMark → ℕ
+mark_rows (live kept) = length kept.rows
+mark_rows (anew rows) = length rows
+mark_rows stale = 0
 
 -- whether a mark has its rows
-abbrev pub state_of : Mark → ViewState
-state_of (live kept) = states.Live
-state_of (anew rows) = states.Live
-state_of stale = states.Stale
+abbrev pub state_of_mark : ViewMark → ViewState
+state_of_mark (live kept) = states.Live
+state_of_mark (anew rows) = states.Live
+state_of_mark stale = states.Stale
 
-abbrev pub is_stale : Mark → Bool
+abbrev pub is_stale : ViewMark → Bool
 is_stale (live kept) = false
 is_stale (anew rows) = false
 is_stale stale = true
 
 -- the count of the work that the changes of a view took since it was made; 0 where it is stale
-abbrev pub ticks_in : Mark → ℕ
-ticks_in (live kept) = kept.ticks
-ticks_in (anew rows) = 0
-ticks_in stale = 0
+abbrev pub mark_ticks : ViewMark → ℕ
+mark_ticks (live kept) = kept.ticks
+mark_ticks (anew rows) = 0
+mark_ticks stale = 0
 
 -- ---- what views read
 
@@ -129,7 +129,7 @@ abbrev pub reads_name : Views → List ℕ → Bool
 reads_name views namespace = list_any (λ v. reads v namespace) views
 
 -- how far a view is from being live: one whose rows were made anew is 1, and a stale one 2
-abbrev pub distance : Mark → ℕ
+abbrev pub distance : ViewMark → ℕ
 distance (live kept) = 0
 distance (anew rows) = 1
 distance stale = 2
@@ -162,23 +162,23 @@ abbrev pub AreInOrder : List Row → Type 0
 AreInOrder documents = IsAscending documents × AllByRecursion HasId documents
 
 -- a mark of a view that was just made: it has its rows, and has counted nothing
-pub record IsFresh (mark : Mark) : Type 0 where
+pub record IsJustMade (mark : ViewMark) : Type 0 where
   pub live : is_stale mark ≡ false
-  pub ticks : ticks_in mark ≡ 0
+  pub ticks : mark_ticks mark ≡ 0
 
 -- a view that was stale has its rows now
 pub record IsMadeAnew (before after : View) : Type 0 where
   pub stale : is_stale before.mark ≡ true
-  pub form : form_of after ≡ form_of before
-  pub fresh : IsFresh after.mark
+  pub form : view_form after ≡ view_form before
+  pub fresh : IsJustMade after.mark
 
 -- of views, stale ones of some names are made anew, and the others are as they were
 abbrev pub IsPartlyRefreshed : List (List ℕ) → View → View → Type 0
-IsPartlyRefreshed names before after = (after ≡ before) ⊎ ((is_among before.name names ≡ true) × IsMadeAnew before after)
+IsPartlyRefreshed names before after = (after ≡ before) ⊎ ((is_name_among before.name names ≡ true) × IsMadeAnew before after)
 
 abbrev pub ArePartlyRefreshed : List (List ℕ) → Views → Views → Type 0
 ArePartlyRefreshed names before after = AllZip (IsPartlyRefreshed names) before after
 
 -- all stale ones of these names are
 abbrev pub AreRefreshed : List (List ℕ) → Views → Views → Type 0
-AreRefreshed names before after = ArePartlyRefreshed names before after × AllByRecursion (λ v. is_among v.name names ≡ true → is_stale v.mark ≡ false) after
+AreRefreshed names before after = ArePartlyRefreshed names before after × AllByRecursion (λ v. is_name_among v.name names ≡ true → is_stale v.mark ≡ false) after

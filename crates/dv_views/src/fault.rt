@@ -21,11 +21,11 @@ pub enum ViewFault {
 }
 
 impl ViewFault {
-    ghost use Rattle.dv_views.specs.Fault.{fault_number};
+    ghost use Rattle.dv_views.specs.Fault.{view_fault_number};
 
     /// The fault's number.
     pub fn number(&self) -> u8
-        ensures { result ≡ fault_number self.now }
+        ensures { result ≡ view_fault_number self.now }
     {
         match self {
             ViewFault::Exists => 1,
@@ -38,9 +38,9 @@ impl ViewFault {
 
 impl fmt::Display for ViewFault {
     ghost use Rattle.std.specs.Prelude.{Some};
-    ghost use Rattle.dv_views.specs.Fault.{fault_text};
+    ghost use Rattle.dv_views.specs.Fault.{view_fault_text};
 
-    ghost output = { λ f. Some (fault_text f) };
+    ghost output = { λ f. Some (view_fault_text f) };
 
     fn fmt<W: fmt::Write>(&self, f: &mut fmt::Formatter<W>) -> fmt::Result {
         match *self {

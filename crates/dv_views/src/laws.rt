@@ -12,38 +12,38 @@ ghost use Rattle.dv_order.specs.Key.{KeyTree};
 ghost use Rattle.dv_pipe.specs.Sources.{Row};
 ghost use Rattle.dv_pipe.specs.Stages.{Lists, evaluated};
 ghost use Rattle.dv_pipe.specs.declared.stage.Stage.{Stage};
-ghost use Rattle.dv_views.specs.Changed.{AreMade, AreMadeInTurn, changed};
-ghost use Rattle.dv_views.specs.Examples.{over, seven};
+ghost use Rattle.dv_views.specs.Changed.{AreMade, AreMadeInTurn, documents_changed};
+ghost use Rattle.dv_views.specs.Examples.{over_lists, seven_views};
 ghost use Rattle.dv_views.specs.Flow.{nothing, shares};
-ghost use Rattle.dv_views.specs.Forms.{ViewForm, fault_of_new, height_over, heights, is_among, is_read_by, names_read, needed, outs_of, rows_over};
-ghost use Rattle.dv_views.specs.Placed.{Places, own_position};
-ghost use Rattle.dv_views.specs.Views.{AreNamedApart, AreRight, Views, form_of, reads_name, rows_shown, without};
+ghost use Rattle.dv_views.specs.Forms.{ViewForm, fault_of_new, height_over, heights, is_name_among, is_read_by, names_read, needed, outs_of, rows_over};
+ghost use Rattle.dv_views.specs.Placed.{ListPlaces, own_position};
+ghost use Rattle.dv_views.specs.Views.{AreNamedApart, AreRight, Views, view_form, reads_name, rows_shown, views_without};
 ghost use Rattle.dv_views.specs.declared.fault.ViewFault.TheVariants.{Exists, LimitReached, ReadByView};
 
 /// A document that is put at its own position stands in place of the one that has an equal `_id`, where there is one,
 /// and else it comes in its place.
 #[tactic(auto, using(crate::proofs::Made::put_made))]
 pub fn a_put_is_the_collections()
-    ensures { (d : Row) (ds : List Row) → IsAscending ds → changed (Put (own_position d) d ∷ []) ds ≡ (if is_some (found (id_key d) ds) then replaced d ds else inserted d ds) }
+    ensures { (d : Row) (ds : List Row) → IsAscending ds → documents_changed (Put (own_position d) d ∷ []) ds ≡ (if is_some (found (id_key d) ds) then replaced d ds else inserted d ds) }
 {}
 
 /// The document that stood at the position of a key that is gone is taken out.
 #[tactic(auto, using(crate::proofs::Made::gone_made))]
 pub fn a_gone_is_the_collections()
-    ensures { (k : KeyTree) (ds : List Row) → IsAscending ds → changed (Gone (Up k ∷ []) ∷ []) ds ≡ removed k ds }
+    ensures { (k : KeyTree) (ds : List Row) → IsAscending ds → documents_changed (Gone (Up k ∷ []) ∷ []) ds ≡ removed k ds }
 {}
 
 /// Nothing changes where there is no change.
 #[tactic(auto, using(crate::proofs::Made::forgotten))]
 pub fn no_change_changes_nothing()
-    ensures { (ds : List Row) → changed [] ds ≡ ds }
+    ensures { (ds : List Row) → documents_changed [] ds ≡ ds }
 {}
 
 /// Changes that a collection makes, and then others, are made one after the other.
 #[tactic(auto, using(crate::proofs::Turns::changed_parts))]
 pub fn changes_follow_on()
-    ensures documents { (first second : List Change) (ds : List Row) → AllByRecursion HasId ds → AreMadeInTurn first ds → changed (first ++ second) ds ≡ changed second (changed first ds) }
-    ensures made { (first second : List Change) (ds : List Row) → AreMade first ds → AreMadeInTurn second (changed first ds) → AreMade (first ++ second) ds }
+    ensures documents { (first second : List Change) (ds : List Row) → AllByRecursion HasId ds → AreMadeInTurn first ds → documents_changed (first ++ second) ds ≡ documents_changed second (documents_changed first ds) }
+    ensures made { (first second : List Change) (ds : List Row) → AreMade first ds → AreMadeInTurn second (documents_changed first ds) → AreMade (first ++ second) ds }
 {
     dv_order::laws::equal_keys_are_one();
 }
@@ -52,7 +52,7 @@ pub fn changes_follow_on()
 /// the same rows with positions and without them: so what a live view keeps by changes is what it would have if it were made
 /// anew.
 pub fn kept_rows_are_those_from_scratch()
-    ensures { (stages : List Stage) (source : List ℕ) (places : Places) (lists : Lists) → IsPositioned (places source) → HaveOneLength (places source) → ((name : List ℕ) → is_among name (names_read stages source) ≡ true → forget (places name) ≡ lists name) → forget (outs_of stages source places) ≡ evaluated stages source lists }
+    ensures { (stages : List Stage) (source : List ℕ) (places : ListPlaces) (lists : Lists) → IsPositioned (places source) → HaveOneLength (places source) → ((name : List ℕ) → is_name_among name (names_read stages source) ≡ true → forget (places name) ≡ lists name) → forget (outs_of stages source places) ≡ evaluated stages source lists }
 {
     dv_flow::laws::matched_rows_are_the_filter();
     dv_flow::laws::shown_rows_are_each_row_as_it_is_shown();
@@ -86,7 +86,7 @@ pub fn each_view_has_its_share()
 /// Views stay right where one is taken out that none reads.
 #[tactic(auto, using(crate::proofs::Right::right_without))]
 pub fn a_removed_view_leaves_views_right()
-    ensures { (name : List ℕ) (lists : Lists) (views : Views) → reads_name views name ≡ false → AreRight lists views → AreRight lists (without name views) }
+    ensures { (name : List ℕ) (lists : Lists) (views : Views) → reads_name views name ≡ false → AreRight lists views → AreRight lists (views_without name views) }
 {
     dv_pipe::laws::what_is_not_read_does_not_matter();
 }
@@ -94,27 +94,27 @@ pub fn a_removed_view_leaves_views_right()
 /// What a right view shows are the rows that stand under its name; and under another name stands what the list holds.
 #[tactic(auto, using(crate::proofs::Shown::right_shown, crate::proofs::Shown::no_rows))]
 pub fn what_is_shown_is_right()
-    ensures rows { (name : List ℕ) (lists : Lists) (views : Views) (rows : List Row) → AreNamedApart views → AreRight lists views → rows_shown name views ≡ Some rows → rows ≡ rows_over (map form_of views) lists name }
+    ensures rows { (name : List ℕ) (lists : Lists) (views : Views) (rows : List Row) → AreNamedApart views → AreRight lists views → rows_shown name views ≡ Some rows → rows ≡ rows_over (map view_form views) lists name }
     ensures none { (name : List ℕ) (lists : Lists) (views : List ViewForm) → list_any (λ v. bytes_eq name v.name) views ≡ false → rows_over views lists name ≡ lists name }
 {}
 
 /// What is asked for is needed, and where nothing is, nothing else is.
 #[tactic(auto, using(crate::proofs::Needed::asked, crate::proofs::Needed::none_needed))]
 pub fn what_is_asked_for_is_needed()
-    ensures asked { (views : List ViewForm) (names : List (List ℕ)) (name : List ℕ) → is_among name names ≡ true → is_among name (needed views names) ≡ true }
+    ensures asked { (views : List ViewForm) (names : List (List ℕ)) (name : List ℕ) → is_name_among name names ≡ true → is_name_among name (needed views names) ≡ true }
     ensures none { (views : List ViewForm) → needed views [] ≡ [] }
 {}
 
 /// Beside the view `v` of `c` there is no second one, and none in place of what it reads, told in this order; nor is there one
 /// over itself; one over `v` there is, and eight of which each stands over the one before, and no ninth.
 pub fn refusals_by_example()
-    ensures exists { fault_of_new (over (codes "v") (codes "c") ∷ []) (codes "v") (codes "v") [] ≡ Some Exists }
-    ensures read_by_view { fault_of_new (over (codes "v") (codes "c") ∷ []) (codes "c") (codes "d") [] ≡ Some ReadByView }
+    ensures exists { fault_of_new (over_lists (codes "v") (codes "c") ∷ []) (codes "v") (codes "v") [] ≡ Some Exists }
+    ensures read_by_view { fault_of_new (over_lists (codes "v") (codes "c") ∷ []) (codes "c") (codes "d") [] ≡ Some ReadByView }
     ensures itself { fault_of_new [] (codes "w") (codes "w") [] ≡ Some ReadByView }
-    ensures beside { fault_of_new (over (codes "v") (codes "c") ∷ []) (codes "w") (codes "c") [] ≡ None }
-    ensures on_view { fault_of_new (over (codes "v") (codes "c") ∷ []) (codes "w") (codes "v") [] ≡ None }
-    ensures eighth { fault_of_new seven (codes "8") (codes "7") [] ≡ None }
-    ensures ninth { fault_of_new (seven ++ over (codes "8") (codes "7") ∷ []) (codes "9") (codes "8") [] ≡ Some LimitReached }
+    ensures beside { fault_of_new (over_lists (codes "v") (codes "c") ∷ []) (codes "w") (codes "c") [] ≡ None }
+    ensures on_view { fault_of_new (over_lists (codes "v") (codes "c") ∷ []) (codes "w") (codes "v") [] ≡ None }
+    ensures eighth { fault_of_new seven_views (codes "8") (codes "7") [] ≡ None }
+    ensures ninth { fault_of_new (seven_views ++ over_lists (codes "8") (codes "7") ∷ []) (codes "9") (codes "8") [] ≡ Some LimitReached }
 {}
 
 /// The thousandth view isn't one too many, and the next is.

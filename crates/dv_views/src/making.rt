@@ -5,12 +5,12 @@ ghost use Rattle.std.specs.List.{AllByRecursion};
 ghost use Rattle.dv_change.specs.Changes.{IsPositioned};
 ghost use Rattle.dv_change.specs.Inputs.{HasInput};
 ghost use Rattle.dv_coll.specs.Collection.{HasId};
-ghost use Rattle.dv_pipe.specs.Sources.{lists_of, referred};
+ghost use Rattle.dv_pipe.specs.Sources.{lists_of, rows_referred};
 ghost use Rattle.dv_pipe.specs.Stages.{evaluated};
-ghost use Rattle.dv_views.specs.Filled.{lists_in_turn, rows_in};
+ghost use Rattle.dv_views.specs.Filled.{lists_in_turn, rows_filled};
 ghost use Rattle.dv_views.specs.Flow.{taken_after};
 ghost use Rattle.dv_views.specs.Forms.{names_read};
-ghost use Rattle.dv_views.specs.Ground.{IsBuilt, IsLive, IsPlaced, outs_below, outs_of_mark, rows_below, rows_of_mark};
+ghost use Rattle.dv_views.specs.Ground.{IsBuilt, IsLive, IsPlacedUnder, outs_below, outs_of_mark, rows_below, rows_of_mark};
 ghost use Rattle.dv_views.specs.Keeping.{IsSoundLive, kept_seen, lists_of_all};
 ghost use Rattle.dv_views.specs.MarkView.{IsSoundMark, mark_seen};
 ghost use Rattle.dv_views.specs.Older.{views_before};
@@ -96,7 +96,7 @@ fn filled_lists(
     requires ordered { AllByRecursion (λ name. AreInOrder (lists_of ground.now.sources.now name)) lookups.now }
     ensures sound { IfOk result (λ live. IsSoundLive pipeline.now live) }
     ensures taken { IfOk result (λ after. (kept_seen after).taken ≡ lists_in_turn 0 lookups.now (outs_below (views_before ground.now.place ground.now.views.now.entries) (lists_of ground.now.sources.now)) (kept_seen live).taken) }
-    ensures placed { IfOk result (λ _. AllByRecursion (IsPlaced (views_before ground.now.place ground.now.views.now.entries) (lists_of ground.now.sources.now)) lookups.now) }
+    ensures placed { IfOk result (λ _. AllByRecursion (IsPlacedUnder (views_before ground.now.place ground.now.views.now.entries) (lists_of ground.now.sources.now)) lookups.now) }
 {
     let mut live = live;
     'lists: for (place, name) in lookups.iter().enumerate() {
@@ -125,8 +125,8 @@ fn filled(
     requires input { HasInput input (kept_seen live).taken.named }
     requires ordered { AreInOrder (lists_of ground.now.sources.now name.now) }
     ensures sound { IfOk result (λ live. IsSoundLive pipeline.now live) }
-    ensures taken { IfOk result (λ after. (kept_seen after).taken ≡ rows_in input (kept_seen live).taken (outs_below (views_before ground.now.place ground.now.views.now.entries) (lists_of ground.now.sources.now) name.now)) }
-    ensures placed { IfOk result (λ _. IsPlaced (views_before ground.now.place ground.now.views.now.entries) (lists_of ground.now.sources.now) name.now) }
+    ensures taken { IfOk result (λ after. (kept_seen after).taken ≡ rows_filled input (kept_seen live).taken (outs_below (views_before ground.now.place ground.now.views.now.entries) (lists_of ground.now.sources.now) name.now)) }
+    ensures placed { IfOk result (λ _. IsPlacedUnder (views_before ground.now.place ground.now.views.now.entries) (lists_of ground.now.sources.now) name.now) }
 {
     match older(ground.views, ground.place, name) {
         Some(view) => filled_with_view(alloc, live, pipeline, input, view),
@@ -145,7 +145,7 @@ fn filled_with_view(
     requires sound { IsSoundLive pipeline.now live }
     requires input { HasInput input (kept_seen live).taken.named }
     ensures sound { IfOk result (λ live. IsSoundLive pipeline.now live) }
-    ensures taken { IfOk result (λ after. (kept_seen after).taken ≡ rows_in input (kept_seen live).taken (outs_of_mark view.now.stages view.now.mark)) }
+    ensures taken { IfOk result (λ after. (kept_seen after).taken ≡ rows_filled input (kept_seen live).taken (outs_of_mark view.now.stages view.now.mark)) }
     ensures placed { IfOk result (λ _. IsLive view.now.mark × IsPositioned (outs_of_mark view.now.stages view.now.mark)) }
 {
     match view.live() {
@@ -165,7 +165,7 @@ fn filled_with_rows(
     requires sound { IsSoundLive pipeline.now live }
     requires input { HasInput input (kept_seen live).taken.named }
     ensures sound { IfOk result (λ live. IsSoundLive pipeline.now live) }
-    ensures taken { IfOk result (λ after. (kept_seen after).taken ≡ rows_in input (kept_seen live).taken rows.now.rows.entries) }
+    ensures taken { IfOk result (λ after. (kept_seen after).taken ≡ rows_filled input (kept_seen live).taken rows.now.rows.entries) }
 {
     let mut live = live;
     'rows: for (pos, row) in rows.entries() {
@@ -188,9 +188,9 @@ fn filled_with_documents(
 ) -> Result<Live<Turner>, NoMemory>
     requires sound { IsSoundLive pipeline.now live }
     requires input { HasInput input (kept_seen live).taken.named }
-    requires identified { AllByRecursion HasId (referred documents.now) }
+    requires identified { AllByRecursion HasId (rows_referred documents.now) }
     ensures sound { IfOk result (λ live. IsSoundLive pipeline.now live) }
-    ensures taken { IfOk result (λ after. (kept_seen after).taken ≡ rows_in input (kept_seen live).taken (positioned (referred documents.now))) }
+    ensures taken { IfOk result (λ after. (kept_seen after).taken ≡ rows_filled input (kept_seen live).taken (positioned (rows_referred documents.now))) }
 {
     let mut live = live;
     'documents: for document in documents {
@@ -261,7 +261,7 @@ fn rows_under<'a>(
     ground: &Ground<'a>,
     name: &str,
 ) -> Result<Vec<&'a Document>, NoMemory>
-    ensures { IfOk result (λ rows. referred rows.items ≡ rows_below (views_before ground.now.place ground.now.views.now.entries) (lists_of ground.now.sources.now) name.now) }
+    ensures { IfOk result (λ rows. rows_referred rows.items ≡ rows_below (views_before ground.now.place ground.now.views.now.entries) (lists_of ground.now.sources.now) name.now) }
 {
     match older(ground.views, ground.place, name) {
         Some(view) => rows_of_view(alloc, view),
@@ -271,7 +271,7 @@ fn rows_under<'a>(
 
 /// References to the rows of a view; none to those of a stale one.
 fn rows_of_view(alloc: Global, view: &View) -> Result<Vec<&Document>, NoMemory>
-    ensures { IfOk result (λ rows. referred rows.items ≡ rows_of_mark view.now.mark) }
+    ensures { IfOk result (λ rows. rows_referred rows.items ≡ rows_of_mark view.now.mark) }
 {
     let mut all = Vec::new(alloc);
     if let Some(rows) = view.rows() {
@@ -284,7 +284,7 @@ fn rows_of_view(alloc: Global, view: &View) -> Result<Vec<&Document>, NoMemory>
 
 /// The references, in a list of its own.
 fn all_of<'a>(alloc: Global, documents: &[&'a Document]) -> Result<Vec<&'a Document>, NoMemory>
-    ensures { IfOk result (λ all. referred all.items ≡ referred documents.now) }
+    ensures { IfOk result (λ all. rows_referred all.items ≡ rows_referred documents.now) }
 {
     let mut all = Vec::with_capacity(alloc, documents.len())?;
     'documents: for document in documents {

@@ -2,16 +2,16 @@
 
 ghost use Rattle.std.specs.Prelude.{◌≡◌, map, take};
 ghost use Rattle.std.specs.Option.{option_map};
-ghost use Rattle.dv_views.specs.Older.{place_of, told_named};
-ghost use Rattle.dv_views.specs.Seen.{named, seen};
-ghost use Rattle.dv_views.specs.Views.{view_named};
+ghost use Rattle.dv_views.specs.Older.{place_of_name, told_named};
+ghost use Rattle.dv_views.specs.Seen.{view_seen, entry_view};
+ghost use Rattle.dv_views.specs.Views.{view_under};
 
 use crate::view::View;
 use indexmap::IndexMap;
 
 /// The place of the view of this name, where it stands before a place.
 fn place_before(views: &IndexMap<String, View>, place: usize, name: &str) -> Option<usize>
-    ensures { result ≡ place_of name.now (take place views.now.entries) }
+    ensures { result ≡ place_of_name name.now (take place views.now.entries) }
 {
     let found = views.get_index_of(name)?;
     if found < place { Some(found) } else { None }
@@ -23,7 +23,7 @@ pub(crate) fn older<'a>(
     place: usize,
     name: &str,
 ) -> Option<&'a View>
-    ensures view { option_map (λ view. named name.now view.now) result ≡ view_named name.now (map seen (take place views.now.entries)) }
+    ensures view { option_map (λ view. view_seen name.now view.now) result ≡ view_under name.now (map entry_view (take place views.now.entries)) }
     ensures told { option_map (λ view. view.now.told) result ≡ told_named name.now (take place views.now.entries) }
 {
     let found = place_before(views, place, name)?;

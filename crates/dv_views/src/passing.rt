@@ -13,8 +13,8 @@ ghost use Rattle.dv_views.specs.Keeping.{IsSoundLive, Turns, kept_seen, lists_of
 ghost use Rattle.dv_views.specs.Older.{told_found, views_before};
 ghost use Rattle.dv_views.specs.Passing.{IsTakenAt};
 ghost use Rattle.dv_views.specs.Placed as defined;
-ghost use Rattle.dv_views.specs.Seen.{seen};
-ghost use Rattle.dv_views.specs.Views.{AreNamedApart, view_named};
+ghost use Rattle.dv_views.specs.Seen.{entry_view};
+ghost use Rattle.dv_views.specs.Views.{AreNamedApart, view_under};
 
 use crate::keeping::taken_in_told;
 use crate::older::older;
@@ -69,7 +69,7 @@ impl<'a> Passing<'a> {
 
     /// Whether each of these names that is a view's is that of a live one.
     fn are_live(&self, names: &[Str]) -> bool
-        ensures { IsTrue result → AllByRecursion (λ name. IsLiveView (view_named name (views_before self.now.place self.now.views.now.entries))) names.now }
+        ensures { IsTrue result → AllByRecursion (λ name. IsLiveView (view_under name (views_before self.now.place self.now.views.now.entries))) names.now }
     {
         'names: for name in names {
             if !self.is_live(name.as_str()) {
@@ -81,7 +81,7 @@ impl<'a> Passing<'a> {
 
     /// Whether the name, if it is a view's, is that of a live one.
     fn is_live(&self, name: &str) -> bool
-        ensures { IsTrue result → IsLiveView (view_named name.now (views_before self.now.place self.now.views.now.entries)) }
+        ensures { IsTrue result → IsLiveView (view_under name.now (views_before self.now.place self.now.views.now.entries)) }
     {
         match older(self.views, self.place, name) {
             Some(view) => view.live().is_some(),
@@ -102,7 +102,7 @@ impl<'a> Passing<'a> {
         requires sound { IsSoundLive pipeline.now live }
         requires lookups { lookups.now ≡ defined.lookups_of pipeline.now source.now }
         ensures turns { IfOk result (λ r. Turns pipeline.now (arrivals pipeline.now source.now (told_found self.now.namespace.now self.now.changes.now self.now.place self.now.views.now.entries)) live [] r.0 r.1.items) }
-        ensures live { IfOk result (λ _. AllByRecursion (λ name. IsLiveView (view_named name (views_before self.now.place self.now.views.now.entries))) (names_read pipeline.now source.now)) }
+        ensures live { IfOk result (λ _. AllByRecursion (λ name. IsLiveView (view_under name (views_before self.now.place self.now.views.now.entries))) (names_read pipeline.now source.now)) }
     {
         if !self.is_live(source) || !self.are_live(lookups) {
             return Err(AllocError);
@@ -145,7 +145,7 @@ pub(crate) fn take_at(
     changes: &[Change],
 )
     requires place { place < length views.old.entries }
-    requires apart { AreNamedApart (map seen views.old.entries) }
+    requires apart { AreNamedApart (map entry_view views.old.entries) }
     ensures { IsTakenAt namespace.now changes.now place views.old.entries views.new.entries }
 {
     if !is_reached(views, place, namespace, changes) {

@@ -9,11 +9,11 @@ ghost use Rattle.dv_views.specs.Changed.{AreMade, with_changed};
 ghost use Rattle.dv_views.specs.Counted.{AreCounted};
 ghost use Rattle.dv_views.specs.Flow.{shares, told_at};
 ghost use Rattle.dv_views.specs.Forms as forms;
-ghost use Rattle.dv_views.specs.Forms.{is_among, names_read};
+ghost use Rattle.dv_views.specs.Forms.{is_name_among, names_read};
 ghost use Rattle.dv_views.specs.Made.{AreAlike, IsAdded, IsCreated, IsNoStale, IsRefreshedAt};
-ghost use Rattle.dv_views.specs.Seen.{IsSoundRegistry, named};
+ghost use Rattle.dv_views.specs.Seen.{IsSoundRegistry, view_seen};
 ghost use Rattle.dv_views.specs.Turned.{HaveTaken};
-ghost use Rattle.dv_views.specs.Views.{AreInOrder, AreNamedApart, ArePartlyRefreshed, AreRefreshed, AreRight, IsRefusedFor, form_of, has_view, is_stale, reads_name, rows_in, rows_shown, state_of, ticks_in, view_named, without};
+ghost use Rattle.dv_views.specs.Views.{AreInOrder, AreNamedApart, ArePartlyRefreshed, AreRefreshed, AreRight, IsRefusedFor, view_form, has_view, is_stale, reads_name, mark_rows, rows_shown, state_of_mark, mark_ticks, view_under, views_without};
 
 use crate::fault::ViewFault;
 use crate::laws;
@@ -53,9 +53,9 @@ impl Model for Registry {
 
     ghost coded = { coded_views };
 
-    ghost use Rattle.dv_views.specs.Seen.{AreSoundEntries, seen};
+    ghost use Rattle.dv_views.specs.Seen.{AreSoundEntries, entry_view};
 
-    ghost view = { λ r. map seen r.views.entries };
+    ghost view = { λ r. map entry_view r.views.entries };
 
     ghost invariant = { λ r. AreSoundEntries r.views.entries };
 }
@@ -96,7 +96,7 @@ impl Registry {
 
     /// Whether the view of this name has its rows. None where there is no such view. Takes no memory.
     pub fn state(&self, name: &str) -> Option<ViewState>
-        ensures { result ≡ option_map (λ v. state_of v.mark) (view_named name.now self.now) }
+        ensures { result ≡ option_map (λ v. state_of_mark v.mark) (view_under name.now self.now) }
     {
         let view = self.view(name)?;
         Some(view.state())
@@ -126,7 +126,7 @@ impl Registry {
 
     /// How many rows the view of this name keeps: none where it is stale. None where there is no such view. Takes no memory.
     pub fn row_count(&self, name: &str) -> Option<usize>
-        ensures { result ≡ option_map (λ v. rows_in v.mark) (view_named name.now self.now) }
+        ensures { result ≡ option_map (λ v. mark_rows v.mark) (view_under name.now self.now) }
     {
         let view = self.view(name)?;
         Some(view.row_count())
@@ -136,7 +136,7 @@ impl Registry {
     /// each change that came to it, and 1 for each that it handed on. It stays at 9,223,372,036,854,775,807, and is 0 where the
     /// view is stale, or its rows are made anew. None where there is no such view. Takes no memory.
     pub fn ticks(&self, name: &str) -> Option<u64>
-        ensures { result ≡ option_map (λ v. ticks_in v.mark) (view_named name.now self.now) }
+        ensures { result ≡ option_map (λ v. mark_ticks v.mark) (view_under name.now self.now) }
     {
         let view = self.view(name)?;
         Some(view.ticks())
@@ -144,7 +144,7 @@ impl Registry {
 
     /// The view of this name, where there is one.
     fn view(&self, name: &str) -> Option<&View>
-        ensures { option_map (λ view. named name.now view.now) result ≡ view_named name.now self.now }
+        ensures { option_map (λ view. view_seen name.now view.now) result ≡ view_under name.now self.now }
     {
         self.views.get(name)
     }
@@ -165,8 +165,8 @@ impl Registry {
     /// The names that are needed for these: these, and behind them what each view that is needed reads. Fails where memory is
     /// wanting.
     pub fn needed(&self, names: Vec<Str>) -> Result<Vec<Str>, NoMemory>
-        ensures needed { IfOk result (λ all. all.items ≡ forms.needed (map form_of self.now) names.items) }
-        ensures closed { IfOk result (λ all. forms.IsClosed all.items (map form_of self.now)) }
+        ensures needed { IfOk result (λ all. all.items ≡ forms.needed (map view_form self.now) names.items) }
+        ensures closed { IfOk result (λ all. forms.IsClosed all.items (map view_form self.now)) }
     {
         let mut needed = names;
         let mut place = self.views.len();
@@ -183,7 +183,7 @@ impl Registry {
 
     /// Why there can be no such view, if there is a reason other than memory: the first that holds. Takes no memory.
     fn fault_of_new(&self, name: &str, source: &str, pipeline: &Pipeline) -> Option<ViewFault>
-        ensures { result ≡ forms.fault_of_new (map form_of self.now) name.now source.now pipeline.now }
+        ensures { result ≡ forms.fault_of_new (map view_form self.now) name.now source.now pipeline.now }
     {
         if self.has(name) {
             return Some(ViewFault::Exists);
@@ -208,12 +208,12 @@ impl Registry {
         pipeline: Pipeline,
         sources: &Sources<'_>,
     ) -> Result<(), ViewFault>
-        requires { AllByRecursion (λ n. AreInOrder (lists_of sources.now n)) (forms.needed (map form_of self.old) (names_read pipeline source.now)) }
-        ensures fault { IsRefusedFor (forms.fault_of_new (map form_of self.old) name.now source.now pipeline) result }
-        ensures refused { forms.fault_of_new (map form_of self.old) name.now source.now pipeline ≢ None → self.new ≡ self.old }
+        requires { AllByRecursion (λ n. AreInOrder (lists_of sources.now n)) (forms.needed (map view_form self.old) (names_read pipeline source.now)) }
+        ensures fault { IsRefusedFor (forms.fault_of_new (map view_form self.old) name.now source.now pipeline) result }
+        ensures refused { forms.fault_of_new (map view_form self.old) name.now source.now pipeline ≢ None → self.new ≡ self.old }
         ensures ok { OnOk result (IsCreated name.now source.now pipeline self.old self.new) }
-        ensures err { OnErr result (ArePartlyRefreshed (forms.needed (map form_of self.old) (names_read pipeline source.now)) self.old self.new) }
-        ensures right { (lists : Lists) → AreAlike (forms.needed (map form_of self.old) (names_read pipeline source.now)) (lists_of sources.now) lists → AreRight lists self.old → AreRight lists self.new }
+        ensures err { OnErr result (ArePartlyRefreshed (forms.needed (map view_form self.old) (names_read pipeline source.now)) self.old self.new) }
+        ensures right { (lists : Lists) → AreAlike (forms.needed (map view_form self.old) (names_read pipeline source.now)) (lists_of sources.now) lists → AreRight lists self.old → AreRight lists self.new }
     {
         if let Some(fault) = self.fault_of_new(name, source, &pipeline) {
             return Err(fault);
@@ -234,9 +234,9 @@ impl Registry {
         sources: &Sources<'_>,
     ) -> Result<(), NoMemory>
         requires new { has_view name.now self.old ≡ false }
-        requires unread { (forms.is_read_by (map form_of self.old) name.now || is_read pipeline source.now name.now) ≡ false }
+        requires unread { (forms.is_read_by (map view_form self.old) name.now || is_read pipeline source.now name.now) ≡ false }
         requires read { AllByRecursion (λ n. AreInOrder (lists_of sources.now n)) (names_read pipeline source.now) }
-        requires live { AllByRecursion (λ n. IsNoStale (view_named n self.old)) (names_read pipeline source.now) }
+        requires live { AllByRecursion (λ n. IsNoStale (view_under n self.old)) (names_read pipeline source.now) }
         ensures ok { OnOk result (IsAdded name.now source.now pipeline self.old self.new) }
         ensures err { OnErr result (self.new ≡ self.old) }
         ensures right { (lists : Lists) → AreAlike (names_read pipeline source.now) (lists_of sources.now) lists → AreRight lists self.old → AreRight lists self.new }
@@ -263,7 +263,7 @@ impl Registry {
     pub fn remove(&mut self, name: &str) -> bool
         requires { reads_name self.old name.now ≡ false }
         ensures there { result ≡ has_view name.now self.old }
-        ensures views { self.new ≡ without name.now self.old }
+        ensures views { self.new ≡ views_without name.now self.old }
     {
         self.views.shift_remove(name).is_some()
     }
@@ -274,9 +274,9 @@ impl Registry {
     /// counts the work that this takes. One that finds no memory drops what it keeps and is stale, which takes none, and so
     /// is each that reads it; so is one with a `$push` over a group of more than 256 rows, whose rows are made anew.
     pub fn apply(&mut self, namespace: &str, changes: &[Change])
-        ensures forms { map form_of self.new ≡ map form_of self.old }
+        ensures forms { map view_form self.new ≡ map view_form self.old }
         ensures right { (lists : Lists) → AreMade changes.now (lists namespace.now) → AreRight lists self.old → AreRight (with_changed namespace.now changes.now lists) self.new }
-        ensures counted { (lists : Lists) → AreMade changes.now (lists namespace.now) → AreRight lists self.old → AreCounted (shares namespace.now changes.now lists (map form_of self.old)) self.old self.new }
+        ensures counted { (lists : Lists) → AreMade changes.now (lists namespace.now) → AreRight lists self.old → AreCounted (shares namespace.now changes.now lists (map view_form self.old)) self.old self.new }
     {
         laws::kept_rows_are_those_from_scratch();
         dv_pipe::laws::what_is_not_read_does_not_matter();
@@ -311,7 +311,7 @@ impl Registry {
     /// `needed` gives: with each view those that it reads. Fails where memory is wanting; then views that were made anew
     /// before stay so.
     pub fn refresh(&mut self, names: &[Str], sources: &Sources<'_>) -> Result<(), NoMemory>
-        requires closed { forms.IsClosed names.now (map form_of self.old) }
+        requires closed { forms.IsClosed names.now (map view_form self.old) }
         requires read { AllByRecursion (λ n. AreInOrder (lists_of sources.now n)) names.now }
         ensures ok { OnOk result (AreRefreshed names.now self.old self.new) }
         ensures err { OnErr result (ArePartlyRefreshed names.now self.old self.new) }
@@ -332,9 +332,9 @@ impl Registry {
         sources: &Sources<'_>,
     ) -> Result<(), NoMemory>
         requires place { place < length self.old }
-        requires closed { forms.IsClosed names.now (map form_of self.old) }
+        requires closed { forms.IsClosed names.now (map view_form self.old) }
         requires read { AllByRecursion (λ n. AreInOrder (lists_of sources.now n)) names.now }
-        requires fresh { AllByRecursion (λ v. is_among v.name names.now ≡ true → is_stale v.mark ≡ false) (take place self.old) }
+        requires fresh { AllByRecursion (λ v. is_name_among v.name names.now ≡ true → is_stale v.mark ≡ false) (take place self.old) }
         ensures ok { OnOk result (IsRefreshedAt place names.now self.old self.new) }
         ensures err { OnErr result (self.new ≡ self.old) }
         ensures right { (lists : Lists) → AreAlike names.now (lists_of sources.now) lists → AreRight lists self.old → AreRight lists self.new }
@@ -367,7 +367,7 @@ impl Registry {
     /// How high a view of the pipeline over `source` would stand: one more than the highest view that it reads. Takes no
     /// memory.
     fn height_over(&self, source: &str, pipeline: &Pipeline) -> usize
-        ensures { result ≡ forms.height_over (forms.heights (map form_of self.now)) pipeline.now source.now }
+        ensures { result ≡ forms.height_over (forms.heights (map view_form self.now)) pipeline.now source.now }
     {
         let mut highest = 0;
         'views: for (name, view) in &self.views {
@@ -381,7 +381,7 @@ impl Registry {
 
 /// Whether the name is one of these.
 fn is_listed(names: &[Str], name: &str) -> bool
-    ensures { result ≡ is_among name.now names.now }
+    ensures { result ≡ is_name_among name.now names.now }
 {
     'names: for other in names {
         if other.as_str() == name {

@@ -1,7 +1,7 @@
 //! Stages that are kept by changes.
 
 ghost use Rattle.std.specs.Prelude.{IfOk};
-ghost use Rattle.dv_views.specs.Turning.{AreFresh, IsFresh, IsSoundTurner, turner_empty, turner_even, turner_left, turner_makes, turner_ordered, turner_others, turner_positioned};
+ghost use Rattle.dv_views.specs.Turning.{AreFresh, IsFreshTurner, IsSoundTurner, turner_empty, turner_even, turner_left, turner_makes, turner_ordered, turner_others, turner_positioned};
 
 use dv_bson::NoMemory;
 use dv_change::{Change, Input, Ticks, Turn};
@@ -77,7 +77,7 @@ pub(crate) fn turners_of(alloc: Global, stages: &[Stage]) -> Result<Vec<Turner>,
 /// The stage, where it has taken in nothing. Fails where memory is wanting.
 #[tactic(auto, unfolding(crate::specs::Placed::stage_at))]
 fn turner_of(alloc: Global, stage: &Stage) -> Result<Turner, NoMemory>
-    ensures { IfOk result (λ turner. IsFresh stage.now turner) }
+    ensures { IfOk result (λ turner. IsFreshTurner stage.now turner) }
 {
     match stage {
         Stage::Match(filter) => Ok(Turner::Simple(SimpleTurn::Match(MatchTurn::new(

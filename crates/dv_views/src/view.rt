@@ -6,7 +6,7 @@ ghost use Rattle.dv_pipe.specs.Stages.{is_read};
 ghost use Rattle.dv_views.specs.Keeping.{IsSoundLive, kept_seen};
 ghost use Rattle.dv_views.specs.MarkView.{IsSoundMark, mark_seen};
 ghost use Rattle.dv_views.specs.Placed as defined;
-ghost use Rattle.dv_views.specs.Views.{is_stale, kept_rows, live, rows_in, stale, state_of, ticks_in};
+ghost use Rattle.dv_views.specs.Views.{is_stale, kept_rows, live, mark_rows, stale, state_of_mark, mark_ticks};
 
 use crate::rows::Rows;
 use crate::state::ViewState;
@@ -61,11 +61,11 @@ impl Model for View {
 
     ghost coded = { coded_body };
 
-    ghost use Rattle.dv_views.specs.Inside.{IsSoundView, body_seen};
+    ghost use Rattle.dv_views.specs.Inside.{AreListsRead, body_seen};
 
     ghost view = { body_seen };
 
-    ghost invariant = { IsSoundView };
+    ghost invariant = { AreListsRead };
 }
 
 impl View {
@@ -128,7 +128,7 @@ impl View {
 
     /// Whether the view has its rows.
     pub(crate) fn state(&self) -> ViewState
-        ensures { result ≡ state_of self.now.mark }
+        ensures { result ≡ state_of_mark self.now.mark }
     {
         match self.mark {
             Mark::Live(_) | Mark::Made(_) => ViewState::Live,
@@ -156,7 +156,7 @@ impl View {
 
     /// How many rows the view keeps.
     pub(crate) fn row_count(&self) -> usize
-        ensures { result ≡ rows_in self.now.mark }
+        ensures { result ≡ mark_rows self.now.mark }
     {
         match &self.mark {
             Mark::Live(live) => live.len(),
@@ -167,7 +167,7 @@ impl View {
 
     /// The count of the work that its changes took since it was made.
     pub(crate) fn ticks(&self) -> u64
-        ensures { result ≡ ticks_in self.now.mark }
+        ensures { result ≡ mark_ticks self.now.mark }
     {
         match &self.mark {
             Mark::Live(live) => live.ticks(),

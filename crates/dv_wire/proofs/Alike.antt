@@ -20,14 +20,14 @@ use Rattle.dv_wire.specs.Commands.{command_of}
 use Rattle.dv_wire.specs.Message.{Conversation, Message, Split, closed, reading, split}
 use Rattle.dv_wire.specs.Order.{Happening, Moment, OfCommands, Played, comes, heard, is_room, moments_heard, order, plain_event, plain_fed, plain_play, with_next}
 use Rattle.dv_wire.specs.Playing.{HappensBy, PlaysBy}
-use Rattle.dv_wire.specs.Schedule.{CarriesOutBy, HearsBy, Run, Steps, TakesBy, World, bytes_of, bytes_to, conversation_of, end, fed_of, number_limit, plain_messages, plain_run, reply_bytes, session_limit, silence, takes_all, takes_some, with_conversation, world_behind}
+use Rattle.dv_wire.specs.Schedule.{CarriesOutBy, HearsBy, Run, SessionSteps, TakesBy, World, bytes_of, bytes_to, conversation_of, end, fed_of, number_limit, plain_messages, plain_run, reply_bytes, session_limit, silence, takes_all, takes_some, with_conversation, world_behind}
 use Rattle.dv_wire.specs.Wants.{HoldsWant, IsReplyOfWant, SaysWant, sent}
 use Rattle.dv_wire.proofs.Orders.{plain_conversation}
 use Rattle.dv_wire.proofs.Runs.{follows_cases}
 use Rattle.dv_wire.proofs.Wanting.{holds_behind}
 
 -- what is kept by such steps, behind the commands that are meant
-pub record Keeps (Step : Steps) (Alike : State → State → Type 0) (Meant : Command → Type 0) : Type 0 where
+pub record Keeps (Step : SessionSteps) (Alike : State → State → Type 0) (Meant : Command → Type 0) : Type 0 where
   pub replied : (real plain new : State) (session : ℕ) (command : Command) (reply : List Field) → Alike real plain → Meant command → Step real session command (Reply reply) new
       → (reply ≡ (counted_step plain session command).reply) × Alike new (counted_step plain session command).state
   pub wanting : (old new : State) (session : ℕ) (command : Command) (reply : List Field) → Step old session command (Wanting reply) new → IsReplyOfWant reply
@@ -73,7 +73,7 @@ module _ (Meant : Command → Type 0) where
   AreMeant-take (suc count) [] all = tt
   AreMeant-take (suc count) (message ∷ messages) all = (all.0, AreMeant-take count messages all.1)
 
-module _ (Step : Steps) (Alike : State → State → Type 0) (Meant : Command → Type 0) (keeps : Keeps Step Alike Meant) where
+module _ (Step : SessionSteps) (Alike : State → State → Type 0) (Meant : Command → Type 0) (keeps : Keeps Step Alike Meant) where
   -- ---- one message after the other
 
   -- a message is replied to by its step, or its reply tells of want

@@ -5,7 +5,7 @@ use Rattle.std.proofs.lemmas.Bool.{cases_lt}
 use Rattle.std.proofs.lemmas.List.{length-take, length-take-le, length-drop, get_or-drop, get_or-take, get_or_past, take_at, drop_at, drop-append-le, take-append-le}
 use Rattle.std.proofs.lemmas.Nat.{le_bytes_4}
 use Rattle.dv_bson.specs.Spelling.{IsBytes}
-use Rattle.dv_wire.specs.Sections.{number_behind}
+use Rattle.dv_wire.specs.Sections.{number_after}
 
 pub IsBytes-take : (n : ℕ) (bytes : List ℕ) → IsBytes bytes → IsBytes (take n bytes)
 IsBytes-take n bytes h i =
@@ -32,15 +32,15 @@ IsBytes-append [] b h k = k
 IsBytes-append (x ∷ a) b h k = IsBytes-cons x (a ++ b) (h 0) (IsBytes-append a b (λ i. h (suc i)) k)
 
 -- four bytes are those of their number
-pub four : (n : ℕ) (s : List ℕ) → IsBytes s → n + 4 ≤ length s → take 4 (drop n s) ≡ to_le_bytes w32 (number_behind n s)
+pub four : (n : ℕ) (s : List ℕ) → IsBytes s → n + 4 ≤ length s → take 4 (drop n s) ≡ to_le_bytes w32 (number_after n s)
 four n s h le =
     sym (le_bytes_4 (take 4 (drop n s)) _ (length-take-le 4 (drop n s) (omega (arith, length-drop n s))) (IsBytes-take 4 (drop n s) (IsBytes-drop n s h)) refl)
 
-pub number_below : (n : ℕ) (s : List ℕ) → IsBytes s → number_behind n s < 2 ^ 32
+pub number_below : (n : ℕ) (s : List ℕ) → IsBytes s → number_after n s < 2 ^ 32
 number_below n s h =
     let h' : IsBytes (take 4 (drop n s)) = IsBytes-take 4 (drop n s) (IsBytes-drop n s h) in
     omega (arith, h' 0, h' 1, h' 2, h' 3)
 
-pub number_same : (n : ℕ) (a b : List ℕ) → n + 4 ≤ length a → number_behind n (a ++ b) ≡ number_behind n a
+pub number_same : (n : ℕ) (a b : List ℕ) → n + 4 ≤ length a → number_after n (a ++ b) ≡ number_after n a
 number_same n a b le =
     ap (from_le_bytes w32) (ap (take 4) (drop-append-le n a b (omega arith)) ∙ take-append-le 4 (drop n a) b (omega (arith, length-drop n a)))

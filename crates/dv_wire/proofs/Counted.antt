@@ -10,11 +10,11 @@ use Rattle.dv_command.specs.Asked.{Asked, ViewOn, create, drop}
 use Rattle.dv_fields.specs.declared.refusal.Refusal.{Refusal}
 use Rattle.dv_core.specs.Marks.{AreMarkedAll, AreMarkedByEach, AreMarkedByWrite, AreMarkedWhereDropped, due_changes, marks_behind_all, marks_of_drop, marks_where_made, marks_where_read, marks_written, read_by}
 use Rattle.dv_core.specs.State.{State}
-use Rattle.dv_core.specs.Statements.{Write, Written, nothing_written, with_next}
+use Rattle.dv_core.specs.Statements.{WriteCounts, Written, nothing_written, with_next}
 use Rattle.dv_core.specs.Writes.{write_by}
 use Rattle.dv_views.specs.Flow.{Share}
-use Rattle.dv_views.specs.Forms.{ViewForm, is_among, names_read, needed}
-use Rattle.dv_wire.specs.Standing.{AreLive}
+use Rattle.dv_views.specs.Forms.{ViewForm, is_name_among, names_read, needed}
+use Rattle.dv_wire.specs.Standing.{AreAllLive}
 
 -- ---- behind changes
 
@@ -26,8 +26,8 @@ mark_was : (share : Share) (before after : Mark) → IsMarkedBy share before aft
 mark_was share before after marked not_stale was = not_stale (mark_is share before after marked not_stale ∙ ap (mark_counted share) was)
 
 -- they were live before, too
-counted_by : (shares : List Share) (before after : Marks) → AreMarkedSo shares before after → AreLive after → AreLive before × (after ≡ all_counted shares before)
-counted_by [] before after is are_live = (subst AreLive is are_live, is)
+counted_by : (shares : List Share) (before after : Marks) → AreMarkedSo shares before after → AreAllLive after → AreAllLive before × (after ≡ all_counted shares before)
+counted_by [] before after is are_live = (subst AreAllLive is are_live, is)
 counted_by (share ∷ rest) [] after is are_live = (tt, is)
 counted_by (share ∷ rest) (mark ∷ before) [] marked are_live = absurd marked
 counted_by (share ∷ rest) (mark ∷ before) (now ∷ after) marked are_live =
@@ -39,9 +39,9 @@ counted_by (share ∷ rest) (mark ∷ before) (now ∷ after) marked are_live =
 -- ---- behind statements
 
 module _ (namespace : List ℕ) (ordered : Bool) (views : List ViewForm) where
-  each_counted : (so_far : Written) (statements : List Statement) (before after : Marks) → AreMarkedByEach namespace ordered views so_far statements before after → AreLive after
-      → AreLive before × (after ≡ marks_written namespace ordered views so_far statements before)
-  each_counted so_far [] before after is are_live = (subst AreLive is are_live, is)
+  each_counted : (so_far : Written) (statements : List Statement) (before after : Marks) → AreMarkedByEach namespace ordered views so_far statements before after → AreAllLive after
+      → AreAllLive before × (after ≡ marks_written namespace ordered views so_far statements before)
+  each_counted so_far [] before after is are_live = (subst AreAllLive is are_live, is)
   each_counted so_far (statement ∷ statements) before after (mid, first, others) are_live =
       let next = with_next namespace ordered so_far statement in
       let later = each_counted next statements mid after others are_live in
@@ -50,8 +50,8 @@ module _ (namespace : List ℕ) (ordered : Bool) (views : List ViewForm) where
 
 -- ---- behind a command
 
-module _ (old : State) (marks : Marks) (are_live : AreLive marks) where
-  write_counted : (view : Bool) (write : Write) → AreMarkedByWrite view write old marks
+module _ (old : State) (marks : Marks) (are_live : AreAllLive marks) where
+  write_counted : (view : Bool) (write : WriteCounts) → AreMarkedByWrite view write old marks
       → marks ≡ (if view then old.marks else marks_written write.namespace write.ordered old.catalog.views (nothing_written old.catalog.namespaces) write.statements old.marks)
   write_counted true write is = is
   write_counted false write each = (each_counted write.namespace write.ordered old.catalog.views (nothing_written old.catalog.namespaces) write.statements old.marks marks each are_live).1
@@ -78,13 +78,13 @@ live_mark : (share : Share) (mark : Mark) → (mark ≡ stale → ⊥) → mark_
 live_mark share (live ticks) not_stale e = absurd cc
 live_mark share stale not_stale e = not_stale refl
 
-live_counted : (shares : List Share) (marks : Marks) → AreLive marks → AreLive (all_counted shares marks)
+live_counted : (shares : List Share) (marks : Marks) → AreAllLive marks → AreAllLive (all_counted shares marks)
 live_counted [] marks are_live = are_live
 live_counted (share ∷ rest) [] are_live = tt
 live_counted (share ∷ rest) (mark ∷ marks) are_live = (live_mark share mark are_live.0, live_counted rest marks are_live.1)
 
-live_written : (namespace : List ℕ) (ordered : Bool) (views : List ViewForm) (so_far : Written) (statements : List Statement) (marks : Marks) → AreLive marks
-    → AreLive (marks_written namespace ordered views so_far statements marks)
+live_written : (namespace : List ℕ) (ordered : Bool) (views : List ViewForm) (so_far : Written) (statements : List Statement) (marks : Marks) → AreAllLive marks
+    → AreAllLive (marks_written namespace ordered views so_far statements marks)
 live_written namespace ordered views so_far [] marks are_live = are_live
 live_written namespace ordered views so_far (statement ∷ statements) marks are_live =
     live_written namespace ordered views (with_next namespace ordered so_far statement) statements
@@ -96,44 +96,44 @@ live_one true (live ticks) not_stale e = absurd cc
 live_one true stale not_stale e = not_stale refl
 live_one false mark not_stale e = not_stale e
 
-live_named : (names : List (List ℕ)) (views : List ViewForm) (marks : Marks) → AreLive marks → AreLive (marks_named names views marks)
+live_named : (names : List (List ℕ)) (views : List ViewForm) (marks : Marks) → AreAllLive marks → AreAllLive (marks_named names views marks)
 live_named names [] marks are_live = are_live
 live_named names (v ∷ views) [] are_live = tt
-live_named names (v ∷ views) (mark ∷ marks) are_live = (live_one (is_among v.name names) mark are_live.0, live_named names views marks are_live.1)
+live_named names (v ∷ views) (mark ∷ marks) are_live = (live_one (is_name_among v.name names) mark are_live.0, live_named names views marks are_live.1)
 
-live_read : (names : List (List ℕ)) (views : List ViewForm) (marks : Marks) → AreLive marks → AreLive (marks_read names views marks)
+live_read : (names : List (List ℕ)) (views : List ViewForm) (marks : Marks) → AreAllLive marks → AreAllLive (marks_read names views marks)
 live_read names views marks are_live = live_named (needed views names) views marks are_live
 
-live_where_read : (names : List (List ℕ)) (old : State) → AreLive old.marks → AreLive (marks_where_read names old)
+live_where_read : (names : List (List ℕ)) (old : State) → AreAllLive old.marks → AreAllLive (marks_where_read names old)
 live_where_read [] old are_live = are_live
 live_where_read (name ∷ names) old are_live = live_read (name ∷ names) old.catalog.views old.marks are_live
 
-live_last : (marks : Marks) → AreLive marks → AreLive (marks ++ live 0 ∷ [])
+live_last : (marks : Marks) → AreAllLive marks → AreAllLive (marks ++ live 0 ∷ [])
 live_last [] are_live = ((λ e. absurd cc), tt)
 live_last (mark ∷ marks) are_live = (are_live.0, live_last marks are_live.1)
 
-live_made : (view : Option ViewOn) (views : List ViewForm) (marks : Marks) → AreLive marks → AreLive (marks_made view views marks)
+live_made : (view : Option ViewOn) (views : List ViewForm) (marks : Marks) → AreAllLive marks → AreAllLive (marks_made view views marks)
 live_made None views marks are_live = are_live
 live_made (Some on) views marks are_live = live_last (marks_read (names_read on.stages on.source) views marks) (live_read (names_read on.stages on.source) views marks are_live)
 
-live_but : (here : Bool) (mark : Mark) (others : Marks) → (mark ≡ stale → ⊥) → AreLive others → AreLive (if here then others else mark ∷ others)
+live_but : (here : Bool) (mark : Mark) (others : Marks) → (mark ≡ stale → ⊥) → AreAllLive others → AreAllLive (if here then others else mark ∷ others)
 live_but true mark others not_stale are_live = are_live
 live_but false mark others not_stale are_live = (not_stale, are_live)
 
-live_without : (namespace : List ℕ) (views : List ViewForm) (marks : Marks) → AreLive marks → AreLive (marks_without namespace views marks)
+live_without : (namespace : List ℕ) (views : List ViewForm) (marks : Marks) → AreAllLive marks → AreAllLive (marks_without namespace views marks)
 live_without namespace [] marks are_live = are_live
 live_without namespace (v ∷ views) [] are_live = tt
 live_without namespace (v ∷ views) (mark ∷ marks) are_live = live_but (has_name namespace v) mark (marks_without namespace views marks) are_live.0 (live_without namespace views marks are_live.1)
 
-either_live : (here : Bool) (one two : Marks) → AreLive one → AreLive two → AreLive (if here then one else two)
+either_live : (here : Bool) (one two : Marks) → AreAllLive one → AreAllLive two → AreAllLive (if here then one else two)
 either_live true one two first second = first
 either_live false one two first second = second
 
-live_where_made : (result : Result stored.State Refusal) (new old : Marks) → AreLive new → AreLive old → AreLive (marks_where_made result new old)
+live_where_made : (result : Result stored.State Refusal) (new old : Marks) → AreAllLive new → AreAllLive old → AreAllLive (marks_where_made result new old)
 live_where_made (Ok state) new old first second = first
 live_where_made (Err refusal) new old first second = second
 
-pub live_behind : (old : State) (asked : Result Asked Refusal) → AreLive old.marks → AreLive (marks_behind_all old asked)
+pub live_behind : (old : State) (asked : Result Asked Refusal) → AreAllLive old.marks → AreAllLive (marks_behind_all old asked)
 live_behind old (Ok (asking.write asked)) are_live =
     let write = write_by asked in
     either_live (is_view write.namespace old.catalog.views) old.marks _ are_live

@@ -12,7 +12,7 @@ use Rattle.dv_wire.specs.declared.hub.Fed.TheVariants.{Unknown}
 use Rattle.dv_core.specs.State.{State}
 use Rattle.dv_core.specs.Step.{MemoryStep}
 use Rattle.dv_wire.specs.Message.{Message, Conversation, reading, closed, Split, split, continuation}
-use Rattle.dv_wire.specs.Schedule.{Run, in_front, silence, CarriesOut, Takes, takes_all, takes_some, Hears, fed_of, World, conversation_of, with_conversation, world_behind, plain_run, bytes_of, Feeds, FeedsAll, stream_of}
+use Rattle.dv_wire.specs.Schedule.{Run, in_front, silence, CarriesOutMessages, TakesSplit, takes_all, takes_some, Hears, fed_of, World, conversation_of, with_conversation, world_behind, plain_run, bytes_of, Feeds, FeedsAll, stream_of}
 use Rattle.dv_wire.specs.View.{GoesOn}
 use Rattle.dv_wire.proofs.Runs.{in_front-silence, carries_then, carries_to, carries_cases, carries_all, carries_shut, stops_so, Divides}
 use Rattle.dv_wire.proofs.Growth.{split_continues}
@@ -29,7 +29,7 @@ take_past n (x ∷ xs) ys = let e : suc (length xs) + n ≡ suc (length xs + n) 
 record TakesTwo (session : ℕ) (old : State) (s : Split) (more : List ℕ) (run : Run) : Type 0 where
   one : Run
   two : Run
-  before : Takes session old s one
+  before : TakesSplit session old s one
   behind : Hears session one.state one.conversation more two
   both : run ≡ in_front one.answers two
 
@@ -38,16 +38,16 @@ hears_nothing : (session : ℕ) (run : Run) (fault : CloseFault) (more : List �
 hears_nothing session run fault more shut = rw shut refl
 
 module _ (session : ℕ) (old : State) (more : List ℕ) (run : Run) where
-  shut_there : (s : Split) (fault : CloseFault) → run.conversation ≡ closed fault → Takes session old s run → TakesTwo session old s more run
+  shut_there : (s : Split) (fault : CloseFault) → run.conversation ≡ closed fault → TakesSplit session old s run → TakesTwo session old s more run
   shut_there s fault shut takes =
       record { one = run; two = silence run.state run.conversation; before = takes; behind = hears_nothing session run fault more shut; both = sym (in_front-silence run) }
 
-  goes_behind : (messages others : List Message) (conversation : Conversation) (kept : List ℕ) (d : Divides session old messages others conversation run) → Takes session d.mid (split (kept ++ more)) d.two
+  goes_behind : (messages others : List Message) (conversation : Conversation) (kept : List ℕ) (d : Divides session old messages others conversation run) → TakesSplit session d.mid (split (kept ++ more)) d.two
       → TakesTwo session old (record { messages = messages; conversation = reading kept }) more run
   goes_behind messages others conversation kept d behind =
       record { one = record { answers = d.answers; state = d.mid; conversation = reading kept }; two = d.two; before = takes_all (carries_to session old d.mid messages d.answers (reading kept) d.before); behind = behind; both = d.both }
 
-  two_of : (messages : List Message) (conversation : Conversation) → Takes session old (continuation (record { messages = messages; conversation = conversation }) more) run
+  two_of : (messages : List Message) (conversation : Conversation) → TakesSplit session old (continuation (record { messages = messages; conversation = conversation }) more) run
       → TakesTwo session old (record { messages = messages; conversation = conversation }) more run
   two_of messages (closed fault) (takes_all carried) = let shut = carries_shut session old messages fault run carried in shut_there _ shut.0 shut.1 (takes_all carried)
   two_of messages (closed fault) (takes_some count carried) = let shut = carries_shut session old (take count messages) NoMemory run carried in shut_there _ shut.0 shut.1 (takes_some count carried)
@@ -60,14 +60,14 @@ module _ (session : ℕ) (old : State) (more : List ℕ) (run : Run) where
       let others = (split (kept ++ more)).messages in
       elim (cases_lt count (length messages)) [
         | inl lt ↦
-            let some = subst (λ (ms : List Message). CarriesOut session old ms (closed NoMemory) run) (take-append-le count messages others (omega arith)) carried in
+            let some = subst (λ (ms : List Message). CarriesOutMessages session old ms (closed NoMemory) run) (take-append-le count messages others (omega arith)) carried in
             let shut = carries_shut session old (take count messages) NoMemory run some in
             shut_there _ shut.0 shut.1 (takes_some count some)
         | inr le ↦
             let n = count - length messages in
             let past : take count (messages ++ others) ≡ messages ++ take n others =
             (let e : count ≡ length messages + n = omega arith in ap (λ (k : ℕ). take k (messages ++ others)) e) ∙ take_past n messages others in
-            elim (carries_cases session old messages (take n others) (closed NoMemory) run (subst (λ (ms : List Message). CarriesOut session old ms (closed NoMemory) run) past carried)) [
+            elim (carries_cases session old messages (take n others) (closed NoMemory) run (subst (λ (ms : List Message). CarriesOutMessages session old ms (closed NoMemory) run) past carried)) [
               | inl stops ↦ shut_there _ NoMemory stops.shut (takes_all (stops_so session old messages run (reading kept) stops))
               | inr d ↦ goes_behind messages (take n others) (closed NoMemory) kept d (takes_some n d.behind)
             ]
@@ -82,40 +82,40 @@ messages_more s more (closed fault) e = ([], rw e (sym (append-nil s.messages)))
 
 module _ (session : ℕ) (old : State) (more : List ℕ) where
   -- a session that was closed answers nothing more
-  shut_in_front : (s : Split) (one two : Run) (fault : CloseFault) → one.conversation ≡ closed fault → Hears session one.state one.conversation more two → Takes session old s one
-      → Takes session old s (in_front one.answers two)
+  shut_in_front : (s : Split) (one two : Run) (fault : CloseFault) → one.conversation ≡ closed fault → Hears session one.state one.conversation more two → TakesSplit session old s one
+      → TakesSplit session old s (in_front one.answers two)
   shut_in_front s one two fault shut hears takes =
       let nothing : two ≡ silence one.state one.conversation = rw shut (rw shut at hears) in
-      subst (λ (r : Run). Takes session old s r) (sym (ap (in_front one.answers) nothing ∙ in_front-silence one)) takes
+      subst (λ (r : Run). TakesSplit session old s r) (sym (ap (in_front one.answers) nothing ∙ in_front-silence one)) takes
 
-  behind_reading : (messages : List Message) (kept : List ℕ) (answers : List (List ℕ)) (mid : State) (two : Run) → GoesOn session old messages answers mid → Takes session mid (split (kept ++ more)) two
-      → Takes session old (continuation (record { messages = messages; conversation = reading kept }) more) (in_front answers two)
+  behind_reading : (messages : List Message) (kept : List ℕ) (answers : List (List ℕ)) (mid : State) (two : Run) → GoesOn session old messages answers mid → TakesSplit session mid (split (kept ++ more)) two
+      → TakesSplit session old (continuation (record { messages = messages; conversation = reading kept }) more) (in_front answers two)
   behind_reading messages kept answers mid two before (takes_all behind) =
       takes_all (carries_then session old mid messages (split (kept ++ more)).messages answers (split (kept ++ more)).conversation two before behind)
   behind_reading messages kept answers mid two before (takes_some count behind) =
       takes_some (length messages + count)
-      (subst (λ (ms : List Message). CarriesOut session old ms (closed NoMemory) (in_front answers two)) (sym (take_past count messages (split (kept ++ more)).messages))
+      (subst (λ (ms : List Message). CarriesOutMessages session old ms (closed NoMemory) (in_front answers two)) (sym (take_past count messages (split (kept ++ more)).messages))
       (carries_then session old mid messages (take count (split (kept ++ more)).messages) answers (closed NoMemory) two before behind))
 
   behind_all : (messages : List Message) (conversation : Conversation) (answers : List (List ℕ)) (mid : State) (two : Run) → GoesOn session old messages answers mid → Hears session mid conversation more two
-      → Takes session old (continuation (record { messages = messages; conversation = conversation }) more) (in_front answers two)
+      → TakesSplit session old (continuation (record { messages = messages; conversation = conversation }) more) (in_front answers two)
   behind_all messages (reading kept) answers mid two before hears = behind_reading messages kept answers mid two before hears
   behind_all messages (closed fault) answers mid two before hears =
       let one : Run = record { answers = answers; state = mid; conversation = closed fault } in
       shut_in_front (record { messages = messages; conversation = closed fault }) one two fault refl hears (takes_all (carries_to session old mid messages answers (closed fault) before))
 
-  one_of : (s : Split) (one two : Run) → Takes session old s one → Hears session one.state one.conversation more two → Takes session old (continuation s more) (in_front one.answers two)
+  one_of : (s : Split) (one two : Run) → TakesSplit session old s one → Hears session one.state one.conversation more two → TakesSplit session old (continuation s more) (in_front one.answers two)
   one_of s one two (takes_all carried) hears =
       elim (carries_all session old s.messages s.conversation one carried) [
         | inl stops ↦
             let others = messages_more s more s.conversation refl in
-            let so : CarriesOut session old (continuation s more).messages (continuation s more).conversation one =
-            subst (λ (ms : List Message). CarriesOut session old ms (continuation s more).conversation one) (sym others.1) (stops.before others.0 (continuation s more).conversation) in
+            let so : CarriesOutMessages session old (continuation s more).messages (continuation s more).conversation one =
+            subst (λ (ms : List Message). CarriesOutMessages session old ms (continuation s more).conversation one) (sym others.1) (stops.before others.0 (continuation s more).conversation) in
             shut_in_front (continuation s more) one two NoMemory stops.shut hears (takes_all so)
         | inr d ↦
             let is : one ≡ record { answers = d.answers ++ []; state = d.mid; conversation = s.conversation } = d.both ∙ ap (in_front d.answers) d.behind in
             let answers : one.answers ≡ d.answers = ap (λ (r : Run). r.answers) is ∙ append-nil d.answers in
-            subst (λ (all : List (List ℕ)). Takes session old (continuation s more) (in_front all two)) (sym answers)
+            subst (λ (all : List (List ℕ)). TakesSplit session old (continuation s more) (in_front all two)) (sym answers)
             (behind_all s.messages s.conversation d.answers d.mid two d.before (subst (λ (r : Run). Hears session r.state r.conversation more two) is hears))
       ]
   one_of s one two (takes_some count carried) hears =
@@ -124,7 +124,7 @@ module _ (session : ℕ) (old : State) (more : List ℕ) where
       let n = min count (length s.messages) in
       let le : n ≤ length s.messages = omega arith in
       let same : take n (continuation s more).messages ≡ take count s.messages = ap (take n) others.1 ∙ take-append-le n s.messages others.0 le ∙ take_min count s.messages in
-      shut_in_front (continuation s more) one two shut.0 shut.1 hears (takes_some n (subst (λ (ms : List Message). CarriesOut session old ms (closed NoMemory) one) (sym same) carried))
+      shut_in_front (continuation s more) one two shut.0 shut.1 hears (takes_some n (subst (λ (ms : List Message). CarriesOutMessages session old ms (closed NoMemory) one) (sym same) carried))
 
 -- ---- one session
 
@@ -143,7 +143,7 @@ hears_two session old (closed fault) piece more run hears =
     record { one = silence old (closed fault); two = silence old (closed fault); first = refl; second = refl; both = hears }
 hears_two session old (reading kept) piece more run hears =
     let s = split (kept ++ piece) in
-    let two = two_of session old more run s.messages s.conversation (subst (λ (t : Split). Takes session old t run) (cut_at kept piece more) hears) in
+    let two = two_of session old more run s.messages s.conversation (subst (λ (t : Split). TakesSplit session old t run) (cut_at kept piece more) hears) in
     record { one = two.one; two = two.two; first = two.before; second = two.behind; both = two.both }
 
 hears_one : (session : ℕ) (old : State) (before : Conversation) (piece more : List ℕ) (run : Run) → HearsTwo session old before piece more run → Hears session old before (piece ++ more) run
@@ -152,7 +152,7 @@ hears_one session old (closed fault) piece more run two =
     two.both ∙ ap (λ (r : Run). in_front r.answers two.two) two.first ∙ nothing
 hears_one session old (reading kept) piece more run two =
     let taken = one_of session old more (split (kept ++ piece)) two.one two.two two.first two.second in
-    subst (λ (t : Split). Takes session old t run) (sym (cut_at kept piece more)) (subst (λ (r : Run). Takes session old (continuation (split (kept ++ piece)) more) r) (sym two.both) taken)
+    subst (λ (t : Split). TakesSplit session old t run) (sym (cut_at kept piece more)) (subst (λ (r : Run). TakesSplit session old (continuation (split (kept ++ piece)) more) r) (sym two.both) taken)
 
 pub hears_joined : (session : ℕ) (old : State) (before : Conversation) (piece more : List ℕ) (one two : Run) → Hears session old before piece one → Hears session one.state one.conversation more two
     → Hears session old before (piece ++ more) (in_front one.answers two)

@@ -9,7 +9,7 @@ use Rattle.std.proofs.lemmas.Nat.{from_le_bytes-to_le_bytes_4}
 use Rattle.dv_bson.specs.Names.{has_zero}
 use Rattle.dv_bson.specs.Reading.{cut_at_zero, onto_name}
 use Rattle.dv_bson.specs.Spelling.{IsBytes}
-use Rattle.dv_wire.specs.Sections.{Section, body, named, sized, row_spelling, section_spelling, is_framed, is_section, number_behind, frame_at, documents_in, under, named_by, section_of, followed, section_by, section_at}
+use Rattle.dv_wire.specs.Sections.{Section, body, named, sized, row_spelling, section_spelling, is_framed, is_section, number_after, section_frame, section_documents, section_under, section_named, section_of, followed, section_by, section_at}
 use Rattle.dv_wire.proofs.Bytes.{IsBytes-drop, IsBytes-behind, IsBytes-front, four, number_same}
 use Rattle.dv_wire.proofs.Rows.{Advances, IsSpelledBy, row_spelled, row_found}
 
@@ -23,48 +23,48 @@ some_pair : {A B : Type 0} (a c : A) (b d : B) → ◌≡◌ {A = Option (A × B
 some_pair {A = A} {B = B} a c b d e = let p : ◌≡◌ {A = A × B} (a, b) (c, d) = cc in (ap (λ (x : A × B). x.0) p, ap (λ (x : A × B). x.1) p)
 
 pub record IsFrame (bytes frame rest : List ℕ) : Type 0 where
-  pub least : 5 ≤ number_behind 0 bytes
-  pub most : number_behind 0 bytes ≤ length bytes
-  pub frame_is : take (number_behind 0 bytes) bytes ≡ frame
-  pub rest_is : drop (number_behind 0 bytes) bytes ≡ rest
+  pub least : 5 ≤ number_after 0 bytes
+  pub most : number_after 0 bytes ≤ length bytes
+  pub frame_is : take (number_after 0 bytes) bytes ≡ frame
+  pub rest_is : drop (number_after 0 bytes) bytes ≡ rest
 
-frame_shows : (bytes frame rest : List ℕ) → frame_at bytes ≡ Some (frame, rest) → IsFrame bytes frame rest
-unfolding frame_at
+frame_shows : (bytes frame rest : List ℕ) → section_frame bytes ≡ Some (frame, rest) → IsFrame bytes frame rest
+unfolding section_frame
 frame_shows bytes frame rest e =
-    let n = number_behind 0 bytes in
+    let n = number_after 0 bytes in
     let one = some_if (ltb 4 n && leb n (length bytes)) (take n bytes, drop n bytes) (frame, rest) e in
     let tests = and_parts (ltb 4 n) (leb n (length bytes)) one.0 in
     record { least = ltb-true 4 n tests.0; most = leb-true n (length bytes) tests.1; frame_is = ap (λ (p : List ℕ × List ℕ). p.0) one.1; rest_is = ap (λ (p : List ℕ × List ℕ). p.1) one.1 }
 
-pub frames_advance : Advances frame_at
-frames_advance = record { shorter = λ bytes frame rest e. let f = frame_shows bytes frame rest e in omega (arith, f.least, f.most, ap length f.rest_is, length-drop (number_behind 0 bytes) bytes) }
+pub frames_advance : Advances section_frame
+frames_advance = record { shorter = λ bytes frame rest e. let f = frame_shows bytes frame rest e in omega (arith, f.least, f.most, ap length f.rest_is, length-drop (number_after 0 bytes) bytes) }
 
 -- a frame is at the front, and has the length that it says
-pub frame_parts : (bytes frame rest : List ℕ) → frame_at bytes ≡ Some (frame, rest) → (bytes ≡ frame ++ rest) × (5 ≤ length frame) × (number_behind 0 frame ≡ length frame)
+pub frame_parts : (bytes frame rest : List ℕ) → section_frame bytes ≡ Some (frame, rest) → (bytes ≡ frame ++ rest) × (5 ≤ length frame) × (number_after 0 frame ≡ length frame)
 frame_parts bytes frame rest e =
     let f = frame_shows bytes frame rest e in
-    let n = number_behind 0 bytes in
+    let n = number_after 0 bytes in
     let parts : bytes ≡ frame ++ rest = sym (take-append-drop n bytes) ∙ ap (λ (x : List ℕ). x ++ drop n bytes) f.frame_is ∙ ap (λ (x : List ℕ). frame ++ x) f.rest_is in
     let len : length frame ≡ n = ap length (sym f.frame_is) ∙ length-take-le n bytes f.most in
-    (parts, omega (arith, f.least, len), sym (number_same 0 frame rest (omega (arith, f.least, len))) ∙ ap (number_behind 0) (sym parts) ∙ sym len)
+    (parts, omega (arith, f.least, len), sym (number_same 0 frame rest (omega (arith, f.least, len))) ∙ ap (number_after 0) (sym parts) ∙ sym len)
 
-is_framed_by : (frame : List ℕ) → 5 ≤ length frame → number_behind 0 frame ≡ length frame → is_framed frame ≡ true
-is_framed_by frame least same = rw (lt-ltb 4 (length frame) (omega arith), eq-eqb (number_behind 0 frame) (length frame) same) refl
+is_framed_by : (frame : List ℕ) → 5 ≤ length frame → number_after 0 frame ≡ length frame → is_framed frame ≡ true
+is_framed_by frame least same = rw (lt-ltb 4 (length frame) (omega arith), eq-eqb (number_after 0 frame) (length frame) same) refl
 
-pub framed_least : (frame : List ℕ) → is_framed frame ≡ true → (5 ≤ length frame) × (number_behind 0 frame ≡ length frame)
+pub framed_least : (frame : List ℕ) → is_framed frame ≡ true → (5 ≤ length frame) × (number_after 0 frame ≡ length frame)
 framed_least frame framed =
-    let tests = and_parts (ltb 4 (length frame)) (eqb (number_behind 0 frame) (length frame)) framed in
+    let tests = and_parts (ltb 4 (length frame)) (eqb (number_after 0 frame) (length frame)) framed in
     let least = ltb-true 4 (length frame) tests.0 in
-    (omega arith, eqb-true (number_behind 0 frame) (length frame) tests.1)
+    (omega arith, eqb-true (number_after 0 frame) (length frame) tests.1)
 
-pub frame_found : (frame rest : List ℕ) → is_framed frame ≡ true → frame_at (frame ++ rest) ≡ Some (frame, rest)
-unfolding frame_at
+pub frame_found : (frame rest : List ℕ) → is_framed frame ≡ true → section_frame (frame ++ rest) ≡ Some (frame, rest)
+unfolding section_frame
 frame_found frame rest framed =
     let (least, same) = framed_least frame framed in
-    let n : number_behind 0 (frame ++ rest) ≡ length frame = number_same 0 frame rest (omega arith) ∙ same in
+    let n : number_after 0 (frame ++ rest) ≡ length frame = number_same 0 frame rest (omega arith) ∙ same in
     rw (n, lt-ltb 4 (length frame) (omega arith), le-leb (length frame) (length (frame ++ rest)) (omega (arith, length-append frame rest)), take_at frame rest (length frame) refl, drop_at frame rest (length frame) refl) refl
 
-pub frames_spelled : IsSpelledBy frame_at (λ d. d) is_framed
+pub frames_spelled : IsSpelledBy section_frame (λ d. d) is_framed
 frames_spelled = record {
   spelled = λ bytes frame rest h e. let p = frame_parts bytes frame rest e in (p.0, is_framed_by frame p.1 p.2);
   found = λ frame rest framed fits. frame_found frame rest framed;
@@ -106,7 +106,7 @@ sized_framed : (bytes : List ℕ) → 1 ≤ length bytes → length bytes + 4 < 
 unfolding sized
 sized_framed bytes some fits = is_framed_by (to_le_bytes w32 (length bytes + 4) ++ bytes) (omega arith) (from_le_bytes-to_le_bytes_4 (length bytes + 4) fits ∙ omega arith)
 
-sized_is : (frame : List ℕ) → IsBytes frame → 5 ≤ length frame → number_behind 0 frame ≡ length frame → frame ≡ sized (drop 4 frame)
+sized_is : (frame : List ℕ) → IsBytes frame → 5 ≤ length frame → number_after 0 frame ≡ length frame → frame ≡ sized (drop 4 frame)
 unfolding sized
 sized_is frame h least same =
     let len : length (drop 4 frame) + 4 ≡ length frame = omega (arith, length-drop 4 frame) in
@@ -120,11 +120,11 @@ behind_size : (bytes : List ℕ) → drop 4 (sized bytes) ≡ bytes
 unfolding sized
 behind_size bytes = refl
 
-documents_spelled : (bytes : List ℕ) (documents : List (List ℕ)) → IsBytes bytes → documents_in bytes ≡ Some documents → (bytes ≡ row_spelling documents) × (list_all is_framed documents ≡ true)
-documents_spelled = row_spelled frame_at (λ d. d) is_framed frames_advance frames_spelled
+documents_spelled : (bytes : List ℕ) (documents : List (List ℕ)) → IsBytes bytes → section_documents bytes ≡ Some documents → (bytes ≡ row_spelling documents) × (list_all is_framed documents ≡ true)
+documents_spelled = row_spelled section_frame (λ d. d) is_framed frames_advance frames_spelled
 
 -- what stands under a name
-under_spelled : (name bytes : List ℕ) (found : Option (List (List ℕ))) (section : Section) → documents_in bytes ≡ found → IsBytes bytes → has_zero name ≡ false → under name found ≡ Some section
+under_spelled : (name bytes : List ℕ) (found : Option (List (List ℕ))) (section : Section) → section_documents bytes ≡ found → IsBytes bytes → has_zero name ≡ false → section_under name found ≡ Some section
     → (section_spelling section ≡ 1 ∷ sized (name ++ 0 ∷ bytes)) × (is_section section ≡ true)
 under_spelled name bytes None section is h no_zero e = absurd cc
 under_spelled name bytes (Some documents) section is h no_zero e =
@@ -134,18 +134,18 @@ under_spelled name bytes (Some documents) section is h no_zero e =
       ap is_section (sym one.1) ∙ rw (one.0, no_zero, all.1) refl,
     )
 
-named_spelled : (bytes : List ℕ) (cut : Option (List ℕ × List ℕ)) (section : Section) → cut_at_zero bytes ≡ cut → IsBytes bytes → named_by cut ≡ Some section
+named_spelled : (bytes : List ℕ) (cut : Option (List ℕ × List ℕ)) (section : Section) → cut_at_zero bytes ≡ cut → IsBytes bytes → section_named cut ≡ Some section
     → (section_spelling section ≡ 1 ∷ sized bytes) × (is_section section ≡ true)
 named_spelled bytes None section is h e = absurd cc
 named_spelled bytes (Some (name, rest)) section is h e =
     let parts = cut_joins bytes name rest is in
     let behind : IsBytes (0 ∷ rest) = IsBytes-behind name (0 ∷ rest) (subst IsBytes parts.0 h) in
-    let one = under_spelled name rest (documents_in rest) section refl (λ i. behind (suc i)) parts.1 e in
+    let one = under_spelled name rest (section_documents rest) section refl (λ i. behind (suc i)) parts.1 e in
     (one.0 ∙ ap (λ (b : List ℕ). 1 ∷ sized b) (sym parts.0), one.1)
 
-module _ (frame : List ℕ) (section : Section) (h : IsBytes frame) (least : 5 ≤ length frame) (same : number_behind 0 frame ≡ length frame) where
+module _ (frame : List ℕ) (section : Section) (h : IsBytes frame) (least : 5 ≤ length frame) (same : number_after 0 frame ≡ length frame) where
   framed_spelled : (kind : ℕ) (is_body is_named : Bool) → eqb kind 0 ≡ is_body → eqb kind 1 ≡ is_named
-      → cond is_body (Some (body frame)) (cond is_named (named_by (cut_at_zero (drop 4 frame))) None) ≡ Some section → (section_spelling section ≡ kind ∷ frame) × (is_section section ≡ true)
+      → cond is_body (Some (body frame)) (cond is_named (section_named (cut_at_zero (drop 4 frame))) None) ≡ Some section → (section_spelling section ≡ kind ∷ frame) × (is_section section ≡ true)
   framed_spelled kind true is_named zero_kind one_kind e =
       let one : body frame ≡ section = cc in
       (ap section_spelling (sym one) ∙ ap (λ (k : ℕ). k ∷ frame) (sym (eqb-true kind 0 zero_kind)), ap is_section (sym one) ∙ is_framed_by frame least same)
@@ -160,10 +160,10 @@ followed_is (Some s) following section rest e = let (same, behind) = some_pair s
 
 record IsBehind (kind : ℕ) (bytes : List ℕ) (section : Section) (rest : List ℕ) : Type 0 where
   frame : List ℕ
-  framed : frame_at bytes ≡ Some (frame, rest)
+  framed : section_frame bytes ≡ Some (frame, rest)
   section_is : section_of kind frame ≡ Some section
 
-behind_kind : (kind : ℕ) (bytes : List ℕ) (front : Option (List ℕ × List ℕ)) (section : Section) (rest : List ℕ) → frame_at bytes ≡ front → section_by kind front ≡ Some (section, rest) → IsBehind kind bytes section rest
+behind_kind : (kind : ℕ) (bytes : List ℕ) (front : Option (List ℕ × List ℕ)) (section : Section) (rest : List ℕ) → section_frame bytes ≡ front → section_by kind front ≡ Some (section, rest) → IsBehind kind bytes section rest
 behind_kind kind bytes None section rest is e = absurd cc
 behind_kind kind bytes (Some (frame, following)) section rest is e =
     let one = followed_is (section_of kind frame) following section rest e in
@@ -171,7 +171,7 @@ behind_kind kind bytes (Some (frame, following)) section rest is e =
 
 section_behind : (kind : ℕ) (bytes : List ℕ) (section : Section) (rest : List ℕ) → section_at (kind ∷ bytes) ≡ Some (section, rest) → IsBehind kind bytes section rest
 unfolding section_at
-section_behind kind bytes section rest e = behind_kind kind bytes (frame_at bytes) section rest refl e
+section_behind kind bytes section rest e = behind_kind kind bytes (section_frame bytes) section rest refl e
 
 no_section : (section : Section) (rest : List ℕ) → section_at [] ≡ Some (section, rest) → ⊥
 unfolding section_at
@@ -202,11 +202,11 @@ named_found name documents rest is fits =
     let long = sized-length content in
     let joined = length-append name (0 ∷ row_spelling documents) in
     let framed : is_framed (sized content) ≡ true = sized_framed content (omega arith) (omega arith) in
-    let all : documents_in (row_spelling documents) ≡ Some documents = row_found frame_at (λ d. d) is_framed frames_advance frames_spelled documents parts.1 (omega arith) in
+    let all : section_documents (row_spelling documents) ≡ Some documents = row_found section_frame (λ d. d) is_framed frames_advance frames_spelled documents parts.1 (omega arith) in
     ap (section_by 1) (frame_found (sized content) rest framed)
-    ∙ ap (λ (c : List ℕ). followed (named_by (cut_at_zero c)) rest) (behind_size content)
-    ∙ ap (λ (c : Option (List ℕ × List ℕ)). followed (named_by c) rest) (cut_found name (row_spelling documents) (not_true (has_zero name) named_so.1))
-    ∙ ap (λ (found : Option (List (List ℕ))). followed (under name found) rest) all
+    ∙ ap (λ (c : List ℕ). followed (section_named (cut_at_zero c)) rest) (behind_size content)
+    ∙ ap (λ (c : Option (List ℕ × List ℕ)). followed (section_named c) rest) (cut_found name (row_spelling documents) (not_true (has_zero name) named_so.1))
+    ∙ ap (λ (found : Option (List (List ℕ))). followed (section_under name found) rest) all
     ∙ rw (named_so.0) refl
 
 section_found : (section : Section) (rest : List ℕ) → is_section section ≡ true → length (section_spelling section) < 2 ^ 32 → section_at (section_spelling section ++ rest) ≡ Some (section, rest)

@@ -18,7 +18,7 @@ use Rattle.std.proofs.lemmas.Slice.Eq.{bytes_eq-Decides}
 use Rattle.std.proofs.lemmas.Map.Text.{is_eq-slice_cmp}
 use Rattle.std.proofs.lemmas.Str.{IsUtf8-from_is_utf8}
 use Rattle.dv_bson.specs.Reading.{cut_at_zero, onto_name}
-use Rattle.dv_wire.specs.Sections.{Section, body, named, body_count, are_apart, names_among}
+use Rattle.dv_wire.specs.Sections.{Section, body, named, body_count, are_distinct, names_among}
 use Rattle.dv_wire.proofs.Frames.{not_true}
 
 -- ---- the end of a name
@@ -118,23 +118,23 @@ module _ (name : List ℕ) (k : Bor (List ℕ)) where
 bytes_eq-symmetric : (a b : List ℕ) → bytes_eq a b ≡ bytes_eq b a
 bytes_eq-symmetric a b = same_from_decides _ _ (bytes_eq-Decides a b) ((λ e. sym ((bytes_eq-Decides b a).0 e)), λ e. (bytes_eq-Decides b a).1 (sym e))
 
-apart_last : (names : List (List ℕ)) (name : List ℕ) → are_apart names ≡ true → list_any (bytes_eq name) names ≡ false → are_apart (names ++ name ∷ []) ≡ true
+apart_last : (names : List (List ℕ)) (name : List ℕ) → are_distinct names ≡ true → list_any (bytes_eq name) names ≡ false → are_distinct (names ++ name ∷ []) ≡ true
 apart_last [] name apart none = refl
 apart_last (n ∷ names) name apart none =
-    let parts = and_parts (not (list_any (bytes_eq n) names)) (are_apart names) apart in
+    let parts = and_parts (not (list_any (bytes_eq n) names)) (are_distinct names) apart in
     let differ = or_parts (bytes_eq name n) (list_any (bytes_eq name) names) none in
     let none_before : list_any (bytes_eq n) (names ++ name ∷ []) ≡ false = list_any-append (bytes_eq n) names (name ∷ []) ∙ rw (not_true _ parts.0, bytes_eq-symmetric n name, differ.0) refl in
     rw (none_before, apart_last names name parts.1 differ.1) refl
 
 -- a name that comes again
-twice_by : (here : Bool) (n : List ℕ) (names : List (List ℕ)) (name : List ℕ) (others : List (List ℕ)) → bytes_eq name n ≡ here → (list_any (bytes_eq name) names ≡ true → are_apart (names ++ name ∷ others) ≡ false)
-    → (here || list_any (bytes_eq name) names) ≡ true → are_apart ((n ∷ names) ++ name ∷ others) ≡ false
+twice_by : (here : Bool) (n : List ℕ) (names : List (List ℕ)) (name : List ℕ) (others : List (List ℕ)) → bytes_eq name n ≡ here → (list_any (bytes_eq name) names ≡ true → are_distinct (names ++ name ∷ others) ≡ false)
+    → (here || list_any (bytes_eq name) names) ≡ true → are_distinct ((n ∷ names) ++ name ∷ others) ≡ false
 twice_by true n names name others e behind there =
     let again : list_any (bytes_eq n) (names ++ name ∷ others) ≡ true = list_any-append (bytes_eq n) names (name ∷ others) ∙ rw (bytes_eq-symmetric n name, e) (or_true (list_any (bytes_eq n) names)) in
     rw again refl
 twice_by false n names name others e behind there = rw (behind there) (and-false (not (list_any (bytes_eq n) (names ++ name ∷ others))))
 
-apart_twice : (names : List (List ℕ)) (name : List ℕ) (others : List (List ℕ)) → list_any (bytes_eq name) names ≡ true → are_apart (names ++ name ∷ others) ≡ false
+apart_twice : (names : List (List ℕ)) (name : List ℕ) (others : List (List ℕ)) → list_any (bytes_eq name) names ≡ true → are_distinct (names ++ name ∷ others) ≡ false
 apart_twice [] name others there = absurd cc
 apart_twice (n ∷ names) name others there = twice_by (bytes_eq name n) n names name others refl (apart_twice names name others) there
 
@@ -147,7 +147,7 @@ names_among-append (named name documents ∷ one) two = ap (λ (ns : List (List 
 
 -- the names so far are apart, and are those that are kept
 pub record AreKept (sections : List Section) (kept : List (Bor (List ℕ))) : Type 0 where
-  pub apart : are_apart (names_among sections) ≡ true
+  pub apart : are_distinct (names_among sections) ≡ true
   pub same : (name : List ℕ) → is_kept name kept ≡ list_any (bytes_eq name) (names_among sections)
 
 pub not_new : (b : Bool) → not b ≡ false → b ≡ true
@@ -160,7 +160,7 @@ none_kept = record { apart = refl; same = λ name. refl }
 pub body_passed : (sections more : List Section) (kept : List (Bor (List ℕ))) (document : List ℕ) → more ≡ sections ++ body document ∷ [] → AreKept sections kept → AreKept more kept
 body_passed sections more kept document is so_far =
     let names : names_among more ≡ names_among sections = ap names_among is ∙ names_among-append sections (body document ∷ []) ∙ append-nil (names_among sections) in
-    record { apart = ap are_apart names ∙ so_far.apart; same = λ name. so_far.same name ∙ ap (list_any (bytes_eq name)) (sym names) }
+    record { apart = ap are_distinct names ∙ so_far.apart; same = λ name. so_far.same name ∙ ap (list_any (bytes_eq name)) (sym names) }
 
 module _ (sections : List Section) (kept : List (Bor (List ℕ))) (k : Bor (List ℕ)) (documents : List (List ℕ)) (so_far : AreKept sections kept) where
   there : (found : Bool) → list_any (is_at (λ x. slice_cmp nat_cmp k.now x.now)) kept ≡ found → list_any (bytes_eq k.now) (names_among sections) ≡ found
@@ -171,15 +171,15 @@ module _ (sections : List Section) (kept : List (Bor (List ℕ))) (k : Bor (List
   name_passed more now is inserted new =
       let names : names_among more ≡ names_among sections ++ k.now ∷ [] = ap names_among is ∙ names_among-append sections (named k.now documents ∷ []) in
       record {
-        apart = ap are_apart names ∙ apart_last (names_among sections) k.now so_far.apart (there false new);
+        apart = ap are_distinct names ∙ apart_last (names_among sections) k.now so_far.apart (there false new);
         same = λ name. ap (is_kept name) inserted ∙ kept_inserted name k kept ∙ ap (λ (b : Bool). bytes_eq name k.now || b) (so_far.same name)
             ∙ last_first (bytes_eq name k.now) (list_any (bytes_eq name) (names_among sections))
             ∙ sym (list_any-append (bytes_eq name) (names_among sections) (k.now ∷ [])) ∙ ap (list_any (bytes_eq name)) (sym names);
       }
 
-  pub name_again : (all others : List Section) → all ≡ sections ++ named k.now documents ∷ others → list_any (is_at (λ x. slice_cmp nat_cmp k.now x.now)) kept ≡ true → are_apart (names_among all) ≡ false
+  pub name_again : (all others : List Section) → all ≡ sections ++ named k.now documents ∷ others → list_any (is_at (λ x. slice_cmp nat_cmp k.now x.now)) kept ≡ true → are_distinct (names_among all) ≡ false
   name_again all others is found =
-      ap (λ (ss : List Section). are_apart (names_among ss)) is ∙ ap are_apart (names_among-append sections (named k.now documents ∷ others))
+      ap (λ (ss : List Section). are_distinct (names_among ss)) is ∙ ap are_distinct (names_among-append sections (named k.now documents ∷ others))
       ∙ apart_twice (names_among sections) k.now (names_among others) (there true found)
 
 -- ---- how many are bodies

@@ -7,9 +7,9 @@ use Rattle.dv_wire.specs.declared.events.Event.{Event}
 use Rattle.dv_wire.specs.declared.events.Event.TheVariants as events
 use Rattle.dv_wire.specs.Message.{Message, Conversation, reading, closed, Split, split}
 use Rattle.dv_wire.specs.Commands.{command_of}
-use Rattle.dv_wire.specs.Schedule.{Steps, World, silence, conversation_of, number_limit, plain_messages, plain_run, reply_bytes, bytes_of, session_limit, takes_all, with_conversation, world_behind}
+use Rattle.dv_wire.specs.Schedule.{SessionSteps, World, silence, conversation_of, number_limit, plain_messages, plain_run, reply_bytes, bytes_of, session_limit, takes_all, with_conversation, world_behind}
 use Rattle.dv_wire.specs.Playing.{Happens, HappensBy, PlaysBy}
-use Rattle.dv_wire.specs.Order.{Moment, opens, comes, ends, is_room, heard, moments_heard, order, state_behind, replies_behind, plain_fed, plain_event, plain_play, answers}
+use Rattle.dv_wire.specs.Order.{Moment, opens, comes, ends, is_room, heard, moments_heard, order, state_left, replies_behind, plain_fed, plain_event, plain_play, answers}
 use Rattle.dv_wire.proofs.Replies.{Allows, plain_carries, plain_kept}
 
 -- ---- one message after the other
@@ -20,7 +20,7 @@ plain_conversation session state [] conversation = refl
 plain_conversation session state (message ∷ messages) conversation = plain_conversation session (counted_step state session (command_of message)).state messages conversation
 
 plain_state : (session : ℕ) (state : State) (messages : List Message) (conversation : Conversation)
-    → (plain_messages session state messages conversation).state ≡ state_behind state (map (comes session) messages)
+    → (plain_messages session state messages conversation).state ≡ state_left state (map (comes session) messages)
 unfolding plain_messages
 plain_state session state [] conversation = refl
 plain_state session state (message ∷ messages) conversation = plain_state session (counted_step state session (command_of message)).state messages conversation
@@ -44,27 +44,27 @@ plain_bytes listener session state (message ∷ messages) conversation =
 
 -- ---- some moments, and then others
 
-state_append : (state : State) (first later : List Moment) → state_behind state (first ++ later) ≡ state_behind (state_behind state first) later
+state_append : (state : State) (first later : List Moment) → state_left state (first ++ later) ≡ state_left (state_left state first) later
 state_append state [] later = refl
 state_append state (opens ∷ first) later = state_append state first later
 state_append state (comes session message ∷ first) later = state_append (counted_step state session (command_of message)).state first later
 state_append state (ends session ∷ first) later = state_append (end_session session state) first later
 
 replies_append : (listener : ℕ) (state : State) (first later : List Moment)
-    → replies_behind listener state (first ++ later) ≡ replies_behind listener state first ++ replies_behind listener (state_behind state first) later
+    → replies_behind listener state (first ++ later) ≡ replies_behind listener state first ++ replies_behind listener (state_left state first) later
 replies_append listener state [] later = refl
 replies_append listener state (opens ∷ first) later = replies_append listener state first later
 replies_append listener state (comes session message ∷ first) later =
     let answer = counted_step state session (command_of message) in
     let reply = cond (eqb session listener) (reply_bytes message answer.reply) [] in
     ap (λ (bytes : List ℕ). reply ++ bytes) (replies_append listener answer.state first later)
-    ∙ sym (append_assoc reply (replies_behind listener answer.state first) (replies_behind listener (state_behind answer.state first) later))
+    ∙ sym (append_assoc reply (replies_behind listener answer.state first) (replies_behind listener (state_left answer.state first) later))
 replies_append listener state (ends session ∷ first) later = replies_append listener (end_session session state) first later
 
 -- ---- one event after the other
 
 abbrev IsState : List Event → Type 0
-IsState later = (world : World) → (plain_play world later).world.state ≡ state_behind world.state (order world.next world.sessions later)
+IsState later = (world : World) → (plain_play world later).world.state ≡ state_left world.state (order world.next world.sessions later)
 
 abbrev IsAnswered : ℕ → List Event → Type 0
 IsAnswered listener later = (world : World) → answers listener later (plain_play world later).said ≡ replies_behind listener world.state (order world.next world.sessions later)
@@ -75,13 +75,13 @@ module _ (session : ℕ) (world : World) (later : List Event) where
   behind conversation = order world.next (with_conversation session conversation world.sessions) later
 
   fed_state : IsState later → (h : Option Split)
-      → (plain_play (plain_fed session world h).world later).world.state ≡ state_behind world.state (moments_heard session world.sessions h (λ ss. order world.next ss later))
+      → (plain_play (plain_fed session world h).world later).world.state ≡ state_left world.state (moments_heard session world.sessions h (λ ss. order world.next ss later))
   fed_state others None = others world
   fed_state others (Some s) =
       let run = plain_run session world.state s in
       others (world_behind session run world)
-      ∙ ap (λ (c : Conversation). state_behind run.state (behind c)) (plain_conversation session world.state s.messages s.conversation)
-      ∙ ap (λ (state : State). state_behind state (behind s.conversation)) (plain_state session world.state s.messages s.conversation)
+      ∙ ap (λ (c : Conversation). state_left run.state (behind c)) (plain_conversation session world.state s.messages s.conversation)
+      ∙ ap (λ (state : State). state_left state (behind s.conversation)) (plain_state session world.state s.messages s.conversation)
       ∙ sym (state_append world.state (map (comes session) s.messages) (behind s.conversation))
 
   fed_answers : (listener : ℕ) (piece : List ℕ) → IsAnswered listener later → (h : Option Split)
@@ -95,11 +95,11 @@ module _ (session : ℕ) (world : World) (later : List Event) where
       (others (world_behind session run world)
       ∙ ap (λ (c : Conversation). replies_behind listener run.state (behind c)) (plain_conversation session world.state s.messages s.conversation)
       ∙ ap (λ (state : State). replies_behind listener state (behind s.conversation)) (plain_state session world.state s.messages s.conversation))
-      ∙ ap (λ (bytes : List ℕ). bytes ++ replies_behind listener (state_behind world.state (map (comes session) s.messages)) (behind s.conversation))
+      ∙ ap (λ (bytes : List ℕ). bytes ++ replies_behind listener (state_left world.state (map (comes session) s.messages)) (behind s.conversation))
       (sym (plain_bytes listener session world.state s.messages s.conversation))
       ∙ sym (replies_append listener world.state (map (comes session) s.messages) (behind s.conversation))
 
-pub ordered_state : (world : World) (all : List Event) → (plain_play world all).world.state ≡ state_behind world.state (order world.next world.sessions all)
+pub ordered_state : (world : World) (all : List Event) → (plain_play world all).world.state ≡ state_left world.state (order world.next world.sessions all)
 unfolding plain_play order
 ordered_state world [] = refl
 ordered_state world (events.Open ∷ later) =
@@ -127,7 +127,7 @@ pub same_order : (world : World) (one two : List Event) → order world.next wor
     → ((plain_play world one).world.state ≡ (plain_play world two).world.state)
     × ((session : ℕ) → answers session one (plain_play world one).said ≡ answers session two (plain_play world two).said)
 same_order world one two same = (
-  ordered_state world one ∙ ap (state_behind world.state) same ∙ sym (ordered_state world two),
+  ordered_state world one ∙ ap (state_left world.state) same ∙ sym (ordered_state world two),
   λ session. ordered_answers session world one ∙ ap (replies_behind session world.state) same ∙ sym (ordered_answers session world two),
 )
 
@@ -150,7 +150,7 @@ plain_opens world =
       | inr full ↦ rw full (full_by (fewer world) (left world) full _ (λ e. inl (ltb-false (length world.sessions) session_limit e)) (λ e. inr (ltb-false world.next number_limit e)), refl)
     ]
 
-module _ (Step : Steps) (Kept : State → Type 0) (allows : Allows Step Kept) where
+module _ (Step : SessionSteps) (Kept : State → Type 0) (allows : Allows Step Kept) where
   plain_feeds : (world : World) (session : ℕ) (piece : List ℕ) (here : Option Conversation) → conversation_of session world.sessions ≡ here → Kept world.state
       → HappensBy Step world (events.Piece (record { number = session }) piece) (plain_fed session world (heard piece here)).said (plain_fed session world (heard piece here)).world
   unfolding plain_messages

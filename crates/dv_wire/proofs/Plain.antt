@@ -12,10 +12,10 @@ use Rattle.dv_core.specs.Step.{Answer, MemoryStep, counted_step, end_session, st
 use Rattle.dv_core.specs.declared.outcome.Outcome.TheVariants.{Reply}
 use Rattle.dv_wire.specs.declared.events.Event.{Event}
 use Rattle.dv_wire.specs.declared.events.Said.{Said}
-use Rattle.dv_wire.specs.Order.{Moment, OfCommands, answers, comes, ends, opens, order, plain_play, replies_behind, state_behind}
+use Rattle.dv_wire.specs.Order.{Moment, OfCommands, answers, comes, ends, opens, order, plain_play, replies_behind, state_left}
 use Rattle.dv_wire.specs.Playing.{Plays, PlaysBy}
 use Rattle.dv_wire.specs.Schedule.{World}
-use Rattle.dv_wire.specs.Standing.{AreLive, AsksNoStats, LiveStep, world_standing}
+use Rattle.dv_wire.specs.Standing.{AreAllLive, AsksNoStats, LiveStep, world_standing}
 use Rattle.dv_wire.specs.Wants.{SaysWant}
 use Rattle.dv_wire.proofs.Alike.{Keeps, at, plays_alike}
 use Rattle.dv_wire.proofs.Counted.{live_behind, marks_are}
@@ -54,20 +54,20 @@ plays_plain old new all told plays none =
     (alike.said, ap (λ (s : State). at s new) alike.world.state ∙ alike.world.others)
 
 pub plays_ordered : (old new : World) (all : List Event) (told : List Said) → PlaysBy LiveStep old all told new → AllByRecursion (λ s. SaysWant s → ⊥) told
-    → (new.state ≡ state_behind old.state (order old.next old.sessions all)) × ((session : ℕ) → answers session all told ≡ replies_behind session old.state (order old.next old.sessions all))
+    → (new.state ≡ state_left old.state (order old.next old.sessions all)) × ((session : ℕ) → answers session all told ≡ replies_behind session old.state (order old.next old.sessions all))
 plays_ordered old new all told plays none =
     let plain = plays_plain old new all told plays none in
     (ap (λ (w : World). w.state) plain.1 ∙ ordered_state old all, λ session. ap (answers session all) plain.0 ∙ ordered_answers session old all)
 
-allows_live : IsAllowed → Allows LiveStep (λ state. AreLive state.marks)
+allows_live : IsAllowed → Allows LiveStep (λ state. AreAllLive state.marks)
 allows_live allowed = record {
   steps = λ state session command are_live. (allowed state session command, live_behind state (asked_by command) are_live);
   kept = λ state session command are_live. live_behind state (asked_by command) are_live;
   ended = λ session state are_live. are_live;
 }
 
-pub plain_live : IsAllowed → (world : World) (all : List Event) → AreLive world.state.marks → PlaysBy LiveStep world all (plain_play world all).said (plain_play world all).world
-plain_live allowed = plain_plays LiveStep (λ state. AreLive state.marks) (allows_live allowed)
+pub plain_live : IsAllowed → (world : World) (all : List Event) → AreAllLive world.state.marks → PlaysBy LiveStep world all (plain_play world all).said (plain_play world all).world
+plain_live allowed = plain_plays LiveStep (λ state. AreAllLive state.marks) (allows_live allowed)
 
 -- ---- but for how views stand
 
@@ -96,7 +96,7 @@ plays_standing old new all told plays none asks =
 
 pub plays_standing_ordered : (old new : World) (all : List Event) (told : List Said) → Plays old all told new → AllByRecursion (λ s. SaysWant s → ⊥) told
     → OfCommands AsksNoStats (order old.next old.sessions all)
-    → (new.state ≡ standing new.state.marks (state_behind old.state (order old.next old.sessions all)))
+    → (new.state ≡ standing new.state.marks (state_left old.state (order old.next old.sessions all)))
     × ((session : ℕ) → answers session all told ≡ replies_behind session old.state (order old.next old.sessions all))
 plays_standing_ordered old new all told plays none asks =
     let plain = plays_standing old new all told plays none asks in

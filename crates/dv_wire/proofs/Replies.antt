@@ -17,7 +17,7 @@ use Rattle.dv_core.specs.State.{State, standing}
 use Rattle.dv_wire.specs.declared.fault.CloseFault.TheVariants.{NoMemory}
 use Rattle.dv_wire.specs.Message.{Message, message_spelling, Conversation, reading, closed}
 use Rattle.dv_core.specs.Step.{Answer, MemoryStep, TellsOfWant, answered, counted_step, end_session, step}
-use Rattle.dv_wire.specs.Schedule.{Run, in_front, silence, unanswered, bytes_to, CarriesOut, CarriesOutBy, Steps, plain_messages}
+use Rattle.dv_wire.specs.Schedule.{Run, in_front, silence, unanswered, bytes_to, CarriesOutMessages, CarriesOutBy, SessionSteps, plain_messages}
 use Rattle.dv_wire.specs.Commands.{command_of}
 use Rattle.dv_wire.specs.declared.session.Counts.{Counts}
 use Rattle.dv_wire.specs.View.{Answered, Counted, GoesOn, unmeasured}
@@ -86,12 +86,12 @@ module _ (session : ℕ) (old new : State) (message : Message) (outcome : Outcom
     outcome,
     new,
     steps,
-    follows_on (bytes_to message outcome) new (CarriesOut session new [] (reading [])) bytes (silence new (reading [])) (record { answers = bytes ∷ []; state = new; conversation = reading [] }) is refl refl,
+    follows_on (bytes_to message outcome) new (CarriesOutMessages session new [] (reading [])) bytes (silence new (reading [])) (record { answers = bytes ∷ []; state = new; conversation = reading [] }) is refl refl,
   )
 
   -- in place of its answer the session is closed
-  closes : CarriesOut session old (message ∷ []) (reading []) (unanswered new (closed NoMemory))
-  closes = (outcome, new, steps, follows_shut (bytes_to message outcome) new (CarriesOut session new [] (reading [])) (unanswered new (closed NoMemory)) refl)
+  closes : CarriesOutMessages session old (message ∷ []) (reading []) (unanswered new (closed NoMemory))
+  closes = (outcome, new, steps, follows_shut (bytes_to message outcome) new (CarriesOutMessages session new [] (reading [])) (unanswered new (closed NoMemory)) refl)
 
   module _ (before after : List ℕ) (c d : Counts) where
     pub is_answered : (bytes : List ℕ) → bytes_to message outcome ≡ Some bytes → after ≡ before ++ bytes → Counted c (bytes ∷ []) d
@@ -99,13 +99,13 @@ module _ (session : ℕ) (old new : State) (message : Message) (outcome : Outcom
     is_answered bytes is appended counted = (bytes ∷ [], appended ∙ ap (λ (b : List ℕ). before ++ b) (sym (append-nil bytes)), counted, carries_on bytes is)
 
     pub is_closed : after ≡ before → Counted c ([] ∷ []) d
-        → Answered before after c d (λ all. CarriesOut session old (message ∷ []) (reading []) (record { answers = all; state = new; conversation = closed NoMemory }))
+        → Answered before after c d (λ all. CarriesOutMessages session old (message ∷ []) (reading []) (record { answers = all; state = new; conversation = closed NoMemory }))
     is_closed same counted = ([] ∷ [], same ∙ sym (append-nil before), counted, closes)
 
 -- ---- the plain run
 
 -- steps that may be those where memory is never wanting, from states of which this holds
-pub record Allows (Step : Steps) (Kept : State → Type 0) : Type 0 where
+pub record Allows (Step : SessionSteps) (Kept : State → Type 0) : Type 0 where
   pub steps : (state : State) (session : ℕ) (command : Command) → Kept state → let answer = counted_step state session command in Step state session command (Reply answer.reply) answer.state
   pub kept : (state : State) (session : ℕ) (command : Command) → Kept state → Kept (counted_step state session command).state
   pub ended : (session : ℕ) (state : State) → Kept state → Kept (end_session session state)
@@ -116,7 +116,7 @@ IsAllowed = (state : State) (session : ℕ) (command : Command) → let answer =
 pub allows_any : IsAllowed → Allows MemoryStep (λ state. ⊤)
 allows_any allowed = record { steps = λ state session command kept. allowed state session command; kept = λ state session command kept. tt; ended = λ session state kept. tt }
 
-module _ (Step : Steps) (Kept : State → Type 0) (allows : Allows Step Kept) where
+module _ (Step : SessionSteps) (Kept : State → Type 0) (allows : Allows Step Kept) where
   -- it is one of those that are allowed
   pub plain_carries : (session : ℕ) (old : State) (messages : List Message) (conversation : Conversation) → Kept old
       → CarriesOutBy Step session old messages conversation (plain_messages session old messages conversation)
@@ -152,10 +152,10 @@ goes_on_done session old mid message (Wanting reply) conversation run bytes more
 goes_on_done session old mid message NoReply conversation run bytes more steps is e = absurd cc
 
 -- where the session goes on, its step was carried out
-pub silent_done : (session : ℕ) (old : State) (message : Message) (kept : List ℕ) (run : Run) → message.more_to_come ≡ true → CarriesOut session old (message ∷ []) (reading kept) run
+pub silent_done : (session : ℕ) (old : State) (message : Message) (kept : List ℕ) (run : Run) → message.more_to_come ≡ true → CarriesOutMessages session old (message ∷ []) (reading kept) run
     → run.conversation ≡ reading kept → run ≡ unanswered (standing run.state.marks (step old session (command_of message)).state) (reading kept)
 silent_done session old message kept run more (outcome, mid, steps, follows) on =
-    elim (follows_cases (bytes_to message outcome) mid (CarriesOut session mid [] (reading kept)) run follows) [
+    elim (follows_cases (bytes_to message outcome) mid (CarriesOutMessages session mid [] (reading kept)) run follows) [
       | inl shut ↦ let e = sym on ∙ ap (λ (r : Run). r.conversation) shut in absurd cc
       | inr a ↦ goes_on_done session old mid message outcome (reading kept) run a.bytes more steps a.is (a.both ∙ ap (in_front (a.bytes ∷ [])) a.behind)
     ]

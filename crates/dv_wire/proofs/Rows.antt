@@ -4,7 +4,7 @@ use Rattle.std.specs.List.{list_all, flat_map}
 use Rattle.std.proofs.lemmas.Bool.{and_parts}
 use Rattle.std.proofs.lemmas.List.{append-nil, length-append, map-append}
 use Rattle.dv_bson.specs.Spelling.{IsBytes}
-use Rattle.dv_wire.specs.Sections.{onto, row_from, row_within, row_in}
+use Rattle.dv_wire.specs.Sections.{onto, row_from, row_within, each_in}
 use Rattle.dv_wire.proofs.Bytes.{IsBytes-behind}
 
 -- what is found at a front takes up a byte at least
@@ -34,18 +34,18 @@ module _ {A : Type 0} (at_front : List ℕ → Option (A × List ℕ)) where
   within_nothing zero = refl
   within_nothing (suc steps) = refl
 
-  pub row_nothing : row_in at_front [] ≡ Some []
-  unfolding row_in
+  pub row_nothing : each_in at_front [] ≡ Some []
+  unfolding each_in
   row_nothing = within_nothing 0
 
   -- these were found, and then comes what the rest is
   pub record Comes (all : List ℕ) (found : List A) (rest : List ℕ) : Type 0 where
-    pub by : row_in at_front all ≡ before found (row_in at_front rest)
+    pub by : each_in at_front all ≡ before found (each_in at_front rest)
 
   pub begins : (bytes : List ℕ) → Comes bytes [] bytes
-  begins bytes = record { by = before-nil (row_in at_front bytes) }
+  begins bytes = record { by = before-nil (each_in at_front bytes) }
 
-  pub at_end : (all : List ℕ) (found : List A) (rest : List ℕ) → Comes all found rest → length rest ≡ 0 → row_in at_front all ≡ Some found
+  pub at_end : (all : List ℕ) (found : List A) (rest : List ℕ) → Comes all found rest → length rest ≡ 0 → each_in at_front all ≡ Some found
   at_end all found [] comes none = comes.by ∙ ap (before found) row_nothing ∙ ap Some (append-nil found)
   at_end all found (b ∷ rest) comes none = absurd (omega arith)
 
@@ -60,29 +60,29 @@ module _ {A : Type 0} (at_front : List ℕ → Option (A × List ℕ)) where
         same_from (at_front (b ∷ bytes)) (row_within at_front m) (row_within at_front n) (λ x rest e.
         let less = advances.shorter (b ∷ bytes) x rest e in same_steps m n rest (omega arith) (omega arith))
 
-    row_step : (b : ℕ) (bytes : List ℕ) → row_in at_front (b ∷ bytes) ≡ row_from (at_front (b ∷ bytes)) (row_in at_front)
-    unfolding row_in row_within
+    row_step : (b : ℕ) (bytes : List ℕ) → each_in at_front (b ∷ bytes) ≡ row_from (at_front (b ∷ bytes)) (each_in at_front)
+    unfolding each_in row_within
     row_step b bytes =
-        same_from (at_front (b ∷ bytes)) (row_within at_front (length bytes)) (row_in at_front) (λ x rest e.
+        same_from (at_front (b ∷ bytes)) (row_within at_front (length bytes)) (each_in at_front) (λ x rest e.
         let less = advances.shorter (b ∷ bytes) x rest e in same_steps (length bytes) (length rest) rest (omega arith) (omega arith))
 
-    pub row_first : (bytes : List ℕ) (x : A) (rest : List ℕ) → at_front bytes ≡ Some (x, rest) → row_in at_front bytes ≡ onto x (row_in at_front rest)
+    pub row_first : (bytes : List ℕ) (x : A) (rest : List ℕ) → at_front bytes ≡ Some (x, rest) → each_in at_front bytes ≡ onto x (each_in at_front rest)
     row_first [] x rest e = let less = advances.shorter [] x rest e in absurd (omega arith)
-    row_first (b ∷ bytes) x rest e = row_step b bytes ∙ ap (λ (f : Option (A × List ℕ)). row_from f (row_in at_front)) e
+    row_first (b ∷ bytes) x rest e = row_step b bytes ∙ ap (λ (f : Option (A × List ℕ)). row_from f (each_in at_front)) e
 
-    pub row_nowhere : (b : ℕ) (bytes : List ℕ) → at_front (b ∷ bytes) ≡ None → row_in at_front (b ∷ bytes) ≡ None
-    row_nowhere b bytes e = row_step b bytes ∙ ap (λ (f : Option (A × List ℕ)). row_from f (row_in at_front)) e
+    pub row_nowhere : (b : ℕ) (bytes : List ℕ) → at_front (b ∷ bytes) ≡ None → each_in at_front (b ∷ bytes) ≡ None
+    row_nowhere b bytes e = row_step b bytes ∙ ap (λ (f : Option (A × List ℕ)). row_from f (each_in at_front)) e
 
     pub goes_on : (all : List ℕ) (found : List A) (rest : List ℕ) (x : A) (following : List ℕ) → Comes all found rest → at_front rest ≡ Some (x, following) → Comes all (found ++ x ∷ []) following
     goes_on all found rest x following comes e =
-        record { by = comes.by ∙ ap (before found) (row_first rest x following e) ∙ before-onto found x (row_in at_front following) }
+        record { by = comes.by ∙ ap (before found) (row_first rest x following e) ∙ before-onto found x (each_in at_front following) }
 
     pub next_seen : {X : Type 0} (seen : X → A) (all : List ℕ) (xs ys : List X) (rest : List ℕ) (x : X) (following : List ℕ) → Comes all (map seen xs) rest → at_front rest ≡ Some (seen x, following)
         → ys ≡ xs ++ x ∷ [] → Comes all (map seen ys) following
     next_seen seen all xs ys rest x following comes e grown =
         subst (λ (found : List A). Comes all found following) (sym (ap (map seen) grown ∙ map-append seen xs (x ∷ []))) (goes_on all (map seen xs) rest (seen x) following comes e)
 
-    pub fails : (all : List ℕ) (found : List A) (rest : List ℕ) → Comes all found rest → at_front rest ≡ None → 0 < length rest → row_in at_front all ≡ None
+    pub fails : (all : List ℕ) (found : List A) (rest : List ℕ) → Comes all found rest → at_front rest ≡ None → 0 < length rest → each_in at_front all ≡ None
     fails all found [] comes e some = absurd (omega arith)
     fails all found (b ∷ rest) comes e some = comes.by ∙ ap (before found) (row_nowhere b rest e)
 
@@ -99,7 +99,7 @@ module _ {A : Type 0} (at_front : List ℕ → Option (A × List ℕ)) (spell : 
   abbrev AreSpelled : List ℕ → List A → Type 0
   AreSpelled bytes xs = (bytes ≡ flat_map spell xs) × (list_all test xs ≡ true)
 
-  spelled_within : (steps : ℕ) (bytes : List ℕ) (xs : List A) (front : Option (A × List ℕ)) → length bytes ≤ steps → IsBytes bytes → at_front bytes ≡ front → row_in at_front bytes ≡ Some xs → AreSpelled bytes xs
+  spelled_within : (steps : ℕ) (bytes : List ℕ) (xs : List A) (front : Option (A × List ℕ)) → length bytes ≤ steps → IsBytes bytes → at_front bytes ≡ front → each_in at_front bytes ≡ Some xs → AreSpelled bytes xs
   spelled_within steps [] xs front le h is_front e =
       let none : [] ≡ xs = (let found = sym (row_nothing at_front) ∙ e in cc) in
       subst (AreSpelled []) none (refl, refl)
@@ -109,14 +109,14 @@ module _ {A : Type 0} (at_front : List ℕ → Option (A × List ℕ)) (spell : 
   spelled_within (suc steps) (b ∷ bytes) xs (Some (x, rest)) le h is_front e =
       let one = is.spelled (b ∷ bytes) x rest h is_front in
       let less = advances.shorter (b ∷ bytes) x rest is_front in
-      let (ys, behind, same) = onto_some x (row_in at_front rest) xs (sym (row_first at_front advances (b ∷ bytes) x rest is_front) ∙ e) in
+      let (ys, behind, same) = onto_some x (each_in at_front rest) xs (sym (row_first at_front advances (b ∷ bytes) x rest is_front) ∙ e) in
       let others = spelled_within steps rest ys (at_front rest) (omega arith) (IsBytes-behind (spell x) rest (subst IsBytes one.0 h)) refl behind in
       subst (AreSpelled (b ∷ bytes)) same (one.0 ∙ ap (λ (r : List ℕ). spell x ++ r) others.0, rw (one.1, others.1) refl)
 
-  pub row_spelled : (bytes : List ℕ) (xs : List A) → IsBytes bytes → row_in at_front bytes ≡ Some xs → AreSpelled bytes xs
+  pub row_spelled : (bytes : List ℕ) (xs : List A) → IsBytes bytes → each_in at_front bytes ≡ Some xs → AreSpelled bytes xs
   row_spelled bytes xs h e = spelled_within (length bytes) bytes xs (at_front bytes) (omega arith) h refl e
 
-  pub row_found : (xs : List A) → list_all test xs ≡ true → length (flat_map spell xs) < 2 ^ 32 → row_in at_front (flat_map spell xs) ≡ Some xs
+  pub row_found : (xs : List A) → list_all test xs ≡ true → length (flat_map spell xs) < 2 ^ 32 → each_in at_front (flat_map spell xs) ≡ Some xs
   row_found [] all fits = row_nothing at_front
   row_found (x ∷ xs) all fits =
       let parts = and_parts (test x) (list_all test xs) all in

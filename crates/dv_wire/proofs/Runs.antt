@@ -5,7 +5,7 @@ use Rattle.dv_wire.specs.declared.fault.CloseFault.{CloseFault}
 use Rattle.dv_wire.specs.declared.fault.CloseFault.TheVariants.{NoMemory}
 use Rattle.dv_core.specs.State.{State}
 use Rattle.dv_wire.specs.Message.{Message, Conversation, reading, closed}
-use Rattle.dv_wire.specs.Schedule.{Run, in_front, silence, unanswered, bytes_to, Follows, CarriesOut}
+use Rattle.dv_wire.specs.Schedule.{Run, in_front, silence, unanswered, bytes_to, Follows, CarriesOutMessages}
 use Rattle.dv_wire.specs.View.{GoesOn}
 
 pub in_front_twice : (one two : List (List ℕ)) (run : Run) → in_front (one ++ two) run ≡ in_front one (in_front two run)
@@ -43,11 +43,11 @@ follows_cases (Some bytes) state Others run (inr shut) = inl shut
 -- it is closed, whatever other messages there are, and however it would stand behind them
 pub record Stops (session : ℕ) (old : State) (messages : List Message) (run : Run) : Type 0 where
   pub shut : run.conversation ≡ closed NoMemory
-  pub before : (others : List Message) (conversation : Conversation) → CarriesOut session old (messages ++ others) conversation run
+  pub before : (others : List Message) (conversation : Conversation) → CarriesOutMessages session old (messages ++ others) conversation run
 
-pub stops_so : (session : ℕ) (old : State) (messages : List Message) (run : Run) (conversation : Conversation) → Stops session old messages run → CarriesOut session old messages conversation run
+pub stops_so : (session : ℕ) (old : State) (messages : List Message) (run : Run) (conversation : Conversation) → Stops session old messages run → CarriesOutMessages session old messages conversation run
 stops_so session old messages run conversation stops =
-    subst (λ (ms : List Message). CarriesOut session old ms conversation run) (append-nil messages) (stops.before [] conversation)
+    subst (λ (ms : List Message). CarriesOutMessages session old ms conversation run) (append-nil messages) (stops.before [] conversation)
 
 -- or the first of its messages are carried out, and then the second
 pub record Divides (session : ℕ) (old : State) (first second : List Message) (conversation : Conversation) (run : Run) : Type 0 where
@@ -55,22 +55,22 @@ pub record Divides (session : ℕ) (old : State) (first second : List Message) (
   pub mid : State
   pub two : Run
   pub before : GoesOn session old first answers mid
-  pub behind : CarriesOut session mid second conversation two
+  pub behind : CarriesOutMessages session mid second conversation two
   pub both : run ≡ in_front answers two
 
-pub carries_cases : (session : ℕ) (old : State) (first second : List Message) (conversation : Conversation) (run : Run) → CarriesOut session old (first ++ second) conversation run
+pub carries_cases : (session : ℕ) (old : State) (first second : List Message) (conversation : Conversation) (run : Run) → CarriesOutMessages session old (first ++ second) conversation run
     → Stops session old first run ⊎ Divides session old first second conversation run
 carries_cases session old [] second conversation run h = inr (record { answers = []; mid = old; two = run; before = refl; behind = h; both = refl })
 carries_cases session old (message ∷ messages) second conversation run (outcome, mid, steps, follows) =
-    elim (follows_cases (bytes_to message outcome) mid (CarriesOut session mid (messages ++ second) conversation) run follows) [
+    elim (follows_cases (bytes_to message outcome) mid (CarriesOutMessages session mid (messages ++ second) conversation) run follows) [
       | inl shut ↦ inl (record {
         shut = ap (λ (r : Run). r.conversation) shut;
-        before = λ more after. (outcome, mid, steps, follows_shut (bytes_to message outcome) mid (CarriesOut session mid (messages ++ more) after) run shut);
+        before = λ more after. (outcome, mid, steps, follows_shut (bytes_to message outcome) mid (CarriesOutMessages session mid (messages ++ more) after) run shut);
       })
       | inr a ↦ elim (carries_cases session mid messages second conversation a.others a.behind) [
         | inl stops ↦ inl (record {
           shut = ap (λ (r : Run). r.conversation) a.both ∙ stops.shut;
-          before = λ more after. (outcome, mid, steps, follows_on (bytes_to message outcome) mid (CarriesOut session mid (messages ++ more) after) a.bytes a.others run a.is (stops.before more after) a.both);
+          before = λ more after. (outcome, mid, steps, follows_on (bytes_to message outcome) mid (CarriesOutMessages session mid (messages ++ more) after) a.bytes a.others run a.is (stops.before more after) a.both);
         })
         | inr d ↦ inr (record {
           answers = a.bytes ∷ d.answers;
@@ -80,7 +80,7 @@ carries_cases session old (message ∷ messages) second conversation run (outcom
             outcome,
             mid,
             steps,
-            follows_on (bytes_to message outcome) mid (CarriesOut session mid messages (reading [])) a.bytes (record { answers = d.answers; state = d.mid; conversation = reading [] })
+            follows_on (bytes_to message outcome) mid (CarriesOutMessages session mid messages (reading [])) a.bytes (record { answers = d.answers; state = d.mid; conversation = reading [] })
                 (record { answers = a.bytes ∷ d.answers; state = d.mid; conversation = reading [] }) a.is d.before refl,
           );
           behind = d.behind;
@@ -90,13 +90,13 @@ carries_cases session old (message ∷ messages) second conversation run (outcom
     ]
 
 -- all messages are one part, and none the other
-pub carries_all : (session : ℕ) (old : State) (messages : List Message) (conversation : Conversation) (run : Run) → CarriesOut session old messages conversation run
+pub carries_all : (session : ℕ) (old : State) (messages : List Message) (conversation : Conversation) (run : Run) → CarriesOutMessages session old messages conversation run
     → Stops session old messages run ⊎ Divides session old messages [] conversation run
 carries_all session old messages conversation run h =
-    carries_cases session old messages [] conversation run (subst (λ (ms : List Message). CarriesOut session old ms conversation run) (sym (append-nil messages)) h)
+    carries_cases session old messages [] conversation run (subst (λ (ms : List Message). CarriesOutMessages session old ms conversation run) (sym (append-nil messages)) h)
 
 -- behind which a session is closed in any case
-pub carries_shut : (session : ℕ) (old : State) (messages : List Message) (fault : CloseFault) (run : Run) → CarriesOut session old messages (closed fault) run
+pub carries_shut : (session : ℕ) (old : State) (messages : List Message) (fault : CloseFault) (run : Run) → CarriesOutMessages session old messages (closed fault) run
     → (shown : CloseFault) × (run.conversation ≡ closed shown)
 carries_shut session old messages fault run h =
     elim (carries_all session old messages (closed fault) run h) [
@@ -106,14 +106,14 @@ carries_shut session old messages fault run h =
 
 -- ---- one list, and then another
 
-carries_behind : (session : ℕ) (old mid : State) (first second : List Message) (conversation : Conversation) (one two : Run) → CarriesOut session old first (reading []) one
-    → one.conversation ≡ reading [] → one.state ≡ mid → CarriesOut session mid second conversation two → CarriesOut session old (first ++ second) conversation (in_front one.answers two)
+carries_behind : (session : ℕ) (old mid : State) (first second : List Message) (conversation : Conversation) (one two : Run) → CarriesOutMessages session old first (reading []) one
+    → one.conversation ≡ reading [] → one.state ≡ mid → CarriesOutMessages session mid second conversation two → CarriesOutMessages session old (first ++ second) conversation (in_front one.answers two)
 carries_behind session old mid [] second conversation one two before on is behind =
     let same : old ≡ mid = sym (ap (λ (r : Run). r.state) before) ∙ is in
     let nothing : in_front one.answers two ≡ two = ap (λ (r : Run). in_front r.answers two) before in
-    subst (λ (r : Run). CarriesOut session old second conversation r) (sym nothing) (subst (λ (s : State). CarriesOut session s second conversation two) (sym same) behind)
+    subst (λ (r : Run). CarriesOutMessages session old second conversation r) (sym nothing) (subst (λ (s : State). CarriesOutMessages session s second conversation two) (sym same) behind)
 carries_behind session old mid (message ∷ messages) second conversation one two (outcome, from, steps, follows) on is behind =
-    elim (follows_cases (bytes_to message outcome) from (CarriesOut session from messages (reading [])) one follows) [
+    elim (follows_cases (bytes_to message outcome) from (CarriesOutMessages session from messages (reading [])) one follows) [
       | inl shut ↦ let e = sym on ∙ ap (λ (r : Run). r.conversation) shut in absurd cc
       | inr a ↦
           let others = carries_behind session from mid messages second conversation a.others two a.behind
@@ -121,20 +121,20 @@ carries_behind session old mid (message ∷ messages) second conversation one tw
             outcome,
             from,
             steps,
-            follows_on (bytes_to message outcome) from (CarriesOut session from (messages ++ second) conversation) a.bytes (in_front a.others.answers two) (in_front one.answers two) a.is others
+            follows_on (bytes_to message outcome) from (CarriesOutMessages session from (messages ++ second) conversation) a.bytes (in_front a.others.answers two) (in_front one.answers two) a.is others
                 (ap (λ (r : Run). in_front r.answers two) a.both ∙ in_front_twice (a.bytes ∷ []) a.others.answers two),
           )
     ]
 
 pub carries_then : (session : ℕ) (old mid : State) (first second : List Message) (answers : List (List ℕ)) (conversation : Conversation) (two : Run)
-    → GoesOn session old first answers mid → CarriesOut session mid second conversation two → CarriesOut session old (first ++ second) conversation (in_front answers two)
+    → GoesOn session old first answers mid → CarriesOutMessages session mid second conversation two → CarriesOutMessages session old (first ++ second) conversation (in_front answers two)
 carries_then session old mid first second answers conversation two before behind =
     carries_behind session old mid first second conversation (record { answers = answers; state = mid; conversation = reading [] }) two before refl refl behind
 
 -- a session whose messages are carried out stands as given behind them
 pub carries_to : (session : ℕ) (old mid : State) (messages : List Message) (answers : List (List ℕ)) (conversation : Conversation) → GoesOn session old messages answers mid
-    → CarriesOut session old messages conversation (record { answers = answers; state = mid; conversation = conversation })
+    → CarriesOutMessages session old messages conversation (record { answers = answers; state = mid; conversation = conversation })
 carries_to session old mid messages answers conversation before =
-    subst (λ (ms : List Message). CarriesOut session old ms conversation (record { answers = answers; state = mid; conversation = conversation })) (append-nil messages)
-    (subst (λ (r : Run). CarriesOut session old (messages ++ []) conversation r) (in_front-silence (record { answers = answers; state = mid; conversation = conversation }))
+    subst (λ (ms : List Message). CarriesOutMessages session old ms conversation (record { answers = answers; state = mid; conversation = conversation })) (append-nil messages)
+    (subst (λ (r : Run). CarriesOutMessages session old (messages ++ []) conversation r) (in_front-silence (record { answers = answers; state = mid; conversation = conversation }))
     (carries_then session old mid messages [] answers conversation (silence mid conversation) before refl))

@@ -16,10 +16,10 @@ use Rattle.dv_core.specs.Sound.{IsSoundDocument, IsSound, IsSoundCommand}
 use Rattle.dv_wire.specs.declared.fault.CloseFault.TheVariants.{NoMemory}
 use Rattle.dv_wire.specs.declared.hub.Fed.{Fed}
 use Rattle.dv_wire.specs.declared.hub.SessionId.{SessionId}
-use Rattle.dv_wire.specs.Sections.{Section, body, named, sized, row_spelling, section_spelling, sections_spelling, number_behind}
+use Rattle.dv_wire.specs.Sections.{Section, body, named, sized, row_spelling, section_spelling, sections_spelling, number_after}
 use Rattle.dv_wire.specs.Commands.{fields_in, each_read, Brought, brought_body, brought_list, brought_by, body_among, lists_among, read_in, command_from, command_of}
-use Rattle.dv_wire.specs.Message.{Message, Front, unfinished, closing, whole, front, Conversation, reading, closed, Split, split}
-use Rattle.dv_wire.specs.Schedule.{Run, World, world_of, conversation_of, with_conversation, sessions_but, bytes_to, CarriesOut, Takes, takes_all, takes_some, Hears, Opens, Feeds, end}
+use Rattle.dv_wire.specs.Message.{Message, StreamFront, unfinished, closing, whole, stream_front, Conversation, reading, closed, Split, split}
+use Rattle.dv_wire.specs.Schedule.{Run, World, world_of, conversation_of, with_conversation, sessions_but, bytes_to, CarriesOutMessages, TakesSplit, takes_all, takes_some, Hears, Opens, Feeds, end}
 use Rattle.dv_wire.specs.Sound.{KeepsBytes, IsSoundWorld}
 use Rattle.dv_wire.proofs.Fronts.{front_shows}
 use Rattle.dv_wire.proofs.Bytes.{IsBytes-take, IsBytes-drop, IsBytes-front, IsBytes-behind, IsBytes-append}
@@ -66,10 +66,10 @@ sections_bytes [] h = tt
 sections_bytes (section ∷ sections) h =
     (section_bytes section (IsBytes-front (section_spelling section) (sections_spelling sections) h), sections_bytes sections (IsBytes-behind (section_spelling section) (sections_spelling sections) h))
 
-message_bytes : (bytes : List ℕ) (message : Message) (following : List ℕ) → IsBytes bytes → front bytes ≡ whole message following → AllByRecursion BringsBytes message.sections × IsBytes following
+message_bytes : (bytes : List ℕ) (message : Message) (following : List ℕ) → IsBytes bytes → stream_front bytes ≡ whole message following → AllByRecursion BringsBytes message.sections × IsBytes following
 message_bytes bytes message following h e =
     let f = front_shows bytes message following e in
-    let n = number_behind 0 bytes in
+    let n = number_after 0 bytes in
     let fits = IsBytes-drop 20 (take n bytes) (IsBytes-take n bytes h) in
     let spelled = sections_spelled (drop 20 (take n bytes)) message.sections fits f.sections_are in (
       sections_bytes message.sections (subst IsBytes spelled.0 fits),
@@ -83,18 +83,18 @@ record IsByteSplit (s : Split) : Type 0 where
   bring : BringBytes s.messages
   keeps : KeepsBytes s.conversation
 
-split_bytes_within : (steps : ℕ) (bytes : List ℕ) → length bytes < steps → (f : Front) → front bytes ≡ f → IsBytes bytes → IsByteSplit (split bytes)
+split_bytes_within : (steps : ℕ) (bytes : List ℕ) → length bytes < steps → (f : StreamFront) → stream_front bytes ≡ f → IsBytes bytes → IsByteSplit (split bytes)
 split_bytes_within zero bytes lt f e h = absurd (omega arith)
 split_bytes_within (suc steps) bytes lt unfinished e h = subst IsByteSplit (sym (split_unfinished bytes e)) (record { bring = tt; keeps = h })
 split_bytes_within (suc steps) bytes lt (closing fault) e h = subst IsByteSplit (sym (split_closing bytes fault e)) (record { bring = tt; keeps = tt })
 split_bytes_within (suc steps) bytes lt (whole message following) e h =
     let shorter = following_shorter bytes message following e in
     let parts = message_bytes bytes message following h e in
-    let others = split_bytes_within steps following (omega arith) (front following) refl parts.1 in
+    let others = split_bytes_within steps following (omega arith) (stream_front following) refl parts.1 in
     subst IsByteSplit (sym (split_whole bytes message following e)) (record { bring = (parts.0, others.bring); keeps = others.keeps })
 
 split_bytes : (bytes : List ℕ) → IsBytes bytes → IsByteSplit (split bytes)
-split_bytes bytes h = split_bytes_within (suc (length bytes)) bytes (omega arith) (front bytes) refl h
+split_bytes bytes h = split_bytes_within (suc (length bytes)) bytes (omega arith) (stream_front bytes) refl h
 
 BringBytes-take : (n : ℕ) (messages : List Message) → BringBytes messages → BringBytes (take n messages)
 BringBytes-take zero messages h = tt
@@ -166,18 +166,18 @@ module _ (reads : ReadsSound) (stays : StaysSound) where
   command_sound sections h = command_by (each_read brought_by sections) (λ brought are. each_sound BringsBytes IsSoundlyBrought brought_by brought_sound sections brought h are)
 
   carries_sound : (session : ℕ) (old : State) (messages : List Message) (conversation : Conversation) (run : Run) → IsSound old → BringBytes messages → KeepsBytes conversation
-      → CarriesOut session old messages conversation run → IsSoundRun run
+      → CarriesOutMessages session old messages conversation run → IsSoundRun run
   carries_sound session old [] conversation run sound bring keeps h = subst IsSoundRun (sym h) (record { state = sound; keeps = keeps })
   carries_sound session old (message ∷ messages) conversation run sound bring keeps (outcome, mid, steps, follows) =
       let behind = stays old mid session (command_of message) outcome (command_sound message.sections bring.0) sound steps in
-      elim (follows_cases (bytes_to message outcome) mid (CarriesOut session mid messages conversation) run follows) [
+      elim (follows_cases (bytes_to message outcome) mid (CarriesOutMessages session mid messages conversation) run follows) [
         | inl shut ↦ subst IsSoundRun (sym shut) (record { state = behind; keeps = tt })
         | inr a ↦
             let others = carries_sound session mid messages conversation a.others behind bring.1 keeps a.behind in
             subst IsSoundRun (sym a.both) (record { state = others.state; keeps = others.keeps })
       ]
 
-  takes_sound : (session : ℕ) (old : State) (s : Split) (run : Run) → IsSound old → IsByteSplit s → Takes session old s run → IsSoundRun run
+  takes_sound : (session : ℕ) (old : State) (s : Split) (run : Run) → IsSound old → IsByteSplit s → TakesSplit session old s run → IsSoundRun run
   takes_sound session old s run sound bytes (takes_all carried) = carries_sound session old s.messages s.conversation run sound bytes.bring bytes.keeps carried
   takes_sound session old s run sound bytes (takes_some count carried) =
       carries_sound session old (take count s.messages) (closed NoMemory) run sound (BringBytes-take count s.messages bytes.bring) tt carried

@@ -12,11 +12,11 @@ use Rattle.dv_command.specs.declared.command.Command.{Command}
 use Rattle.dv_bson.specs.Results.{◌>>=◌}
 use Rattle.dv_fields.specs.declared.refusal.Refusal.{Refusal}
 use Rattle.dv_fields.specs.declared.refusal.Refusal.TheVariants.{OnView}
-use Rattle.dv_core.specs.Find.{found, gathered}
+use Rattle.dv_core.specs.Find.{reply_to_find, reply_to_aggregate}
 use Rattle.dv_core.specs.Indexes.{find_explained, indexed, unindexed}
 use Rattle.dv_core.specs.More.{killed, next_batch}
 use Rattle.dv_core.specs.State.{State, standing}
-use Rattle.dv_core.specs.Statements.{Write, Written, carry_out}
+use Rattle.dv_core.specs.Statements.{WriteCounts, Written, carry_out}
 use Rattle.dv_core.specs.Step.{Answer, answer_to, answered, on_catalog, on_cursors, read_answer, replying, step, write_answer}
 use Rattle.dv_core.specs.Writes.{write_by}
 use Rattle.dv_wire.specs.Standing.{AsksNoStats, asks_stats}
@@ -30,7 +30,7 @@ module _ (marks : Marks) (state : State) where
   read_standing (Ok reply) = refl
   read_standing (Err refusal) = refl
 
-  write_standing : (view : Bool) (write : Write) (did : Written)
+  write_standing : (view : Bool) (write : WriteCounts) (did : Written)
       → answered (standing marks state) (if view then Err OnView else Ok (write_answer (standing marks state) write did)) ≡ answer_standing marks (answered state (if view then Err OnView else Ok (write_answer state write did)))
   write_standing true write did = refl
   write_standing false write did = refl
@@ -50,8 +50,8 @@ module _ (marks : Marks) (state : State) where
   asked_standing session (Ok ping) none = refl
   asked_standing session (Ok (asking.write asked)) none =
       let write = write_by asked in write_standing (is_view write.namespace state.catalog.views) write (carry_out write state.catalog.namespaces)
-  asked_standing session (Ok (find asked)) none = cursors_standing (found session asked state.catalog state.cursors)
-  asked_standing session (Ok (aggregate asked)) none = cursors_standing (gathered session asked state.catalog state.cursors)
+  asked_standing session (Ok (find asked)) none = cursors_standing (reply_to_find session asked state.catalog state.cursors)
+  asked_standing session (Ok (aggregate asked)) none = cursors_standing (reply_to_aggregate session asked state.catalog state.cursors)
   asked_standing session (Ok (get_more asked)) none = cursors_standing (next_batch session asked state.cursors)
   asked_standing session (Ok (kill_cursors asked)) none = cursors_standing (Ok (killed session asked state.cursors))
   asked_standing session (Ok (create asked)) none = catalog_standing (replying (reply_of []) (created asked.namespace asked.view state.catalog))

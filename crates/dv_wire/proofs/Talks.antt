@@ -12,8 +12,8 @@ use Rattle.dv_wire.specs.declared.fault.CloseFault.{CloseFault}
 use Rattle.dv_wire.specs.declared.hub.Fed.{Fed}
 use Rattle.dv_wire.specs.declared.session.Counts.{Counts}
 use Rattle.dv_core.specs.State.{State}
-use Rattle.dv_wire.specs.Message.{Message, Front, unfinished, closing, whole, front, Conversation, reading, closed, Split, split}
-use Rattle.dv_wire.specs.Schedule.{Run, World, in_front, silence, bytes_of, bytes_to, CarriesOut, Takes, takes_all, takes_some, Hears, Comes, conversation_of, fed_of, world_behind}
+use Rattle.dv_wire.specs.Message.{Message, StreamFront, unfinished, closing, whole, stream_front, Conversation, reading, closed, Split, split}
+use Rattle.dv_wire.specs.Schedule.{Run, World, in_front, silence, bytes_of, bytes_to, CarriesOutMessages, TakesSplit, takes_all, takes_some, Hears, Comes, conversation_of, fed_of, world_behind}
 use Rattle.dv_wire.specs.Service.{closing_of, reply_count}
 use Rattle.dv_wire.specs.declared.fault.RunFault.TheVariants.{Read, Write, TooManyReads}
 use Rattle.dv_wire.specs.View.{Counted, Talks, TalksTo, closing_fed}
@@ -25,24 +25,24 @@ use Rattle.dv_wire.proofs.Cuts.{hears_joined, world_twice}
 
 -- ---- no more messages than bytes
 
-carried_few : (session : ℕ) (old : State) (messages : List Message) (conversation : Conversation) (run : Run) → CarriesOut session old messages conversation run → length run.answers ≤ length messages
+carried_few : (session : ℕ) (old : State) (messages : List Message) (conversation : Conversation) (run : Run) → CarriesOutMessages session old messages conversation run → length run.answers ≤ length messages
 carried_few session old [] conversation run h = omega (arith, ap (λ (r : Run). length r.answers) h)
 carried_few session old (message ∷ messages) conversation run (outcome, mid, steps, follows) =
-    elim (follows_cases (bytes_to message outcome) mid (CarriesOut session mid messages conversation) run follows) [
+    elim (follows_cases (bytes_to message outcome) mid (CarriesOutMessages session mid messages conversation) run follows) [
       | inl shut ↦ omega (arith, ap (λ (r : Run). length r.answers) shut)
       | inr a ↦ omega (arith, ap (λ (r : Run). length r.answers) a.both, carried_few session mid messages conversation a.others a.behind)
     ]
 
-split_few : (steps : ℕ) (bytes : List ℕ) → length bytes < steps → (f : Front) → front bytes ≡ f → length (split bytes).messages ≤ length bytes
+split_few : (steps : ℕ) (bytes : List ℕ) → length bytes < steps → (f : StreamFront) → stream_front bytes ≡ f → length (split bytes).messages ≤ length bytes
 split_few zero bytes lt f e = absurd (omega arith)
 split_few (suc steps) bytes lt unfinished e = omega (arith, ap (λ (s : Split). length s.messages) (split_unfinished bytes e))
 split_few (suc steps) bytes lt (closing fault) e = omega (arith, ap (λ (s : Split). length s.messages) (split_closing bytes fault e))
 split_few (suc steps) bytes lt (whole message following) e =
     let shorter = following_shorter bytes message following e in
-    let others = split_few steps following (omega arith) (front following) refl in
+    let others = split_few steps following (omega arith) (stream_front following) refl in
     omega (arith, ap (λ (s : Split). length s.messages) (split_whole bytes message following e), shorter, others)
 
-takes_few : (session : ℕ) (old : State) (s : Split) (run : Run) → Takes session old s run → length run.answers ≤ length s.messages
+takes_few : (session : ℕ) (old : State) (s : Split) (run : Run) → TakesSplit session old s run → length run.answers ≤ length s.messages
 takes_few session old s run (takes_all carried) = carried_few session old s.messages s.conversation run carried
 takes_few session old s run (takes_some count carried) =
     omega (arith, carried_few session old (take count s.messages) (closed _) run carried, length-take count s.messages)
@@ -50,7 +50,7 @@ takes_few session old s run (takes_some count carried) =
 hears_few : (session : ℕ) (old : State) (bytes : List ℕ) (run : Run) → Hears session old (reading []) bytes run → length run.answers ≤ length bytes
 hears_few session old bytes run hears =
     let messages = takes_few session old (split bytes) run hears in
-    omega (arith, messages, split_few (suc (length bytes)) bytes (omega arith) (front bytes) refl)
+    omega (arith, messages, split_few (suc (length bytes)) bytes (omega arith) (stream_front bytes) refl)
 
 -- ---- what was read so far
 
@@ -72,12 +72,12 @@ pub record Talking (session : ℕ) (old : World) (from to before after : Option 
   pub goes_on : closing_of run.conversation ≡ None
   pub written : Appends before after (bytes_of run)
 
-no_front : front [] ≡ unfinished
-unfolding front
+no_front : stream_front [] ≡ unfinished
+unfolding stream_front
 no_front = refl
 
 nothing_heard : (session : ℕ) (state : State) → Hears session state (reading []) [] (silence state (reading []))
-nothing_heard session state = subst (λ (s : Split). Takes session state s (silence state (reading []))) (sym (split_unfinished [] no_front)) (takes_all refl)
+nothing_heard session state = subst (λ (s : Split). TakesSplit session state s (silence state (reading []))) (sym (split_unfinished [] no_front)) (takes_all refl)
 
 pub begins : (session : ℕ) (old : World) (from before : Option (List ℕ)) (counts : Counts) → conversation_of session old.sessions ≡ Some (reading []) → counts.messages ≡ 0 → counts.replies ≡ 0
     → Talking session old from from before before old counts 0

@@ -17,16 +17,16 @@ use Rattle.dv_fields.specs.declared.refusal.Refusal.TheVariants.{WantOfMemory}
 use Rattle.dv_core.specs.declared.outcome.Outcome.TheVariants.{NoReply}
 use Rattle.dv_core.specs.State.{State}
 use Rattle.dv_core.specs.Step.{Answer, answered, counted_step}
-use Rattle.dv_wire.specs.Sections.{body, named, sized, is_section, are_sections, row_within, row_in, frame_at, section_at, sections_in}
-use Rattle.dv_wire.specs.Message.{Message, Conversation, reading, front, split_within, split, message_spelling}
+use Rattle.dv_wire.specs.Sections.{body, named, sized, is_section, are_sections, row_within, each_in, section_frame, section_at, sections_in}
+use Rattle.dv_wire.specs.Message.{Message, Conversation, reading, stream_front, split_within, split, message_spelling}
 use Rattle.dv_wire.specs.Commands.{brought_body, body_among, lists_among, command_from, command_of}
 use Rattle.dv_wire.specs.Schedule.{reply_bytes, in_front, silence, plain_behind, plain_messages, plain_run}
 use Rattle.dv_wire.proofs.Replies.{unmarked}
 use Rattle.dv_wire.proofs.Together.{sections_found, sections_refused}
-use Rattle.dv_wire.specs.Examples.{Are, AreNone, empty_document, nothing_under, asks, ping_document, ping_fields, ok, ping, pong, HeaderExamples, SectionExamples, SessionExamples, WantExamples}
+use Rattle.dv_wire.specs.Examples.{Are, AreNone, empty_document, nothing_under, asks, ping_document, ping_fields, ok, ping_message, pong, HeaderExamples, SectionExamples, SessionExamples, WantOverBytes}
 
 pub headers : HeaderExamples
-unfolding split split_within front sections_in row_in row_within section_at frame_at
+unfolding split split_within stream_front sections_in each_in row_within section_at section_frame
 headers = record {
   shown_later = refl;
   too_short = refl;
@@ -81,7 +81,7 @@ one_name_refused =
     sections_refused (named (100 ∷ []) [] ∷ named (100 ∷ []) [] ∷ body empty_document ∷ []) all refl (lit< tt)
 
 pub sections : SectionExamples
-unfolding split split_within front sections_in row_in row_within section_at frame_at cut_at_zero
+unfolding split split_within stream_front sections_in each_in row_within section_at section_frame cut_at_zero
 sections = record {
   shown_later = refl;
   kind_2 = refl;
@@ -108,11 +108,11 @@ sections = record {
 
 -- ---- a ping, from its bytes
 
-read_name : name_at false [] (112 ∷ 105 ∷ 110 ∷ 103 ∷ 0 ∷ 1 ∷ 0 ∷ 0 ∷ 0 ∷ 2 ∷ 36 ∷ 100 ∷ 98 ∷ 0 ∷ 2 ∷ 0 ∷ 0 ∷ 0 ∷ 116 ∷ 0 ∷ []) ≡ Ok (codes "ping", 1 ∷ 0 ∷ 0 ∷ 0 ∷ 2 ∷ 36 ∷ 100 ∷ 98 ∷ 0 ∷ 2 ∷ 0 ∷ 0 ∷ 0 ∷ 116 ∷ 0 ∷ [])
+read_name : name_at false [] (112 ∷ 105 ∷ 110 ∷ 103 ∷ 0 ∷ 1 ∷ 0 ∷ 0 ∷ 0 ∷ 2 ∷ 36 ∷ 100 ∷ 98 ∷ 0 ∷ 2 ∷ 0 ∷ 0 ∷ 0 ∷ 116 ∷ 0 ∷ []) ≡ Ok (codes "ping_message", 1 ∷ 0 ∷ 0 ∷ 0 ∷ 2 ∷ 36 ∷ 100 ∷ 98 ∷ 0 ∷ 2 ∷ 0 ∷ 0 ∷ 0 ∷ 116 ∷ 0 ∷ [])
 unfolding name_at cut_at_zero
-read_name = rw (is_text (codes "ping") refl) refl
+read_name = rw (is_text (codes "ping_message") refl) refl
 
-read_second : name_at false ((codes "ping", int32 (pos 1)) ∷ []) (36 ∷ 100 ∷ 98 ∷ 0 ∷ 2 ∷ 0 ∷ 0 ∷ 0 ∷ 116 ∷ 0 ∷ []) ≡ Ok (codes "$db", 2 ∷ 0 ∷ 0 ∷ 0 ∷ 116 ∷ 0 ∷ [])
+read_second : name_at false ((codes "ping_message", int32 (pos 1)) ∷ []) (36 ∷ 100 ∷ 98 ∷ 0 ∷ 2 ∷ 0 ∷ 0 ∷ 0 ∷ 116 ∷ 0 ∷ []) ≡ Ok (codes "$db", 2 ∷ 0 ∷ 0 ∷ 0 ∷ 116 ∷ 0 ∷ [])
 unfolding name_at cut_at_zero
 read_second = rw (is_text (codes "$db") refl) refl
 
@@ -121,11 +121,11 @@ unfolding text_at count_at
 read_text = rw (is_text (codes "t") refl) refl
 
 module _ (inside : Inside) where
-  read_first : fields_at inside 21 false 4 [] (16 ∷ 112 ∷ 105 ∷ 110 ∷ 103 ∷ 0 ∷ 1 ∷ 0 ∷ 0 ∷ 0 ∷ 2 ∷ 36 ∷ 100 ∷ 98 ∷ 0 ∷ 2 ∷ 0 ∷ 0 ∷ 0 ∷ 116 ∷ 0 ∷ []) 0 ≡ fields_at inside 20 false 14 ((codes "ping", int32 (pos 1)) ∷ []) (2 ∷ 36 ∷ 100 ∷ 98 ∷ 0 ∷ 2 ∷ 0 ∷ 0 ∷ 0 ∷ 116 ∷ 0 ∷ []) 0
+  read_first : fields_at inside 21 false 4 [] (16 ∷ 112 ∷ 105 ∷ 110 ∷ 103 ∷ 0 ∷ 1 ∷ 0 ∷ 0 ∷ 0 ∷ 2 ∷ 36 ∷ 100 ∷ 98 ∷ 0 ∷ 2 ∷ 0 ∷ 0 ∷ 0 ∷ 116 ∷ 0 ∷ []) 0 ≡ fields_at inside 20 false 14 ((codes "ping_message", int32 (pos 1)) ∷ []) (2 ∷ 36 ∷ 100 ∷ 98 ∷ 0 ∷ 2 ∷ 0 ∷ 0 ∷ 0 ∷ 116 ∷ 0 ∷ []) 0
   unfolding fields_at kind_at kind_of_byte value_at
   read_first = rw read_name refl
 
-  read_last : fields_at inside 20 false 14 ((codes "ping", int32 (pos 1)) ∷ []) (2 ∷ 36 ∷ 100 ∷ 98 ∷ 0 ∷ 2 ∷ 0 ∷ 0 ∷ 0 ∷ 116 ∷ 0 ∷ []) 0 ≡ Ok ping_fields
+  read_last : fields_at inside 20 false 14 ((codes "ping_message", int32 (pos 1)) ∷ []) (2 ∷ 36 ∷ 100 ∷ 98 ∷ 0 ∷ 2 ∷ 0 ∷ 0 ∷ 0 ∷ 116 ∷ 0 ∷ []) 0 ≡ Ok ping_fields
   unfolding fields_at kind_at kind_of_byte value_at
   read_last = rw (read_second, read_text) refl
 
@@ -144,8 +144,8 @@ command_is more_to_come document = refl
 answer_ping : (state : State) (session : ℕ) (more_to_come : Bool) → counted_step state session (command_of (asks more_to_come ping_document)) ≡ record { reply = ok; state = state }
 answer_ping state session more_to_come = ap (counted_step state session) (command_is more_to_come ping_document ∙ ap command_by read_ping) ∙ refl
 
-split_pings : split (ping 0 ++ ping 2 ++ ping 0 ++ 47 ∷ []) ≡ record { messages = asks false ping_document ∷ asks true ping_document ∷ asks false ping_document ∷ []; conversation = reading (47 ∷ []) }
-unfolding split split_within front sections_in row_in row_within section_at frame_at
+split_pings : split (ping_message 0 ++ ping_message 2 ++ ping_message 0 ++ 47 ∷ []) ≡ record { messages = asks false ping_document ∷ asks true ping_document ∷ asks false ping_document ∷ []; conversation = reading (47 ∷ []) }
+unfolding split split_within stream_front sections_in each_in row_within section_at section_frame
 split_pings = refl
 
 plain_next : (session : ℕ) (state : State) (message : Message) (messages : List Message) (conversation : Conversation) (reply : List Field) → counted_step state session (command_of message) ≡ record { reply = reply; state = state }
@@ -161,7 +161,7 @@ plain_none : (session : ℕ) (state : State) (conversation : Conversation) → p
 unfolding plain_messages
 plain_none session state conversation = refl
 
-pub ping_run : (state : State) (session : ℕ) → plain_run session state (split (ping 0 ++ ping 2 ++ ping 0 ++ 47 ∷ [])) ≡ record { answers = pong ∷ [] ∷ pong ∷ []; state = state; conversation = reading (47 ∷ []) }
+pub ping_run : (state : State) (session : ℕ) → plain_run session state (split (ping_message 0 ++ ping_message 2 ++ ping_message 0 ++ 47 ∷ [])) ≡ record { answers = pong ∷ [] ∷ pong ∷ []; state = state; conversation = reading (47 ∷ []) }
 ping_run state session =
     ap (plain_run session state) split_pings
     ∙ plain_next session state (asks false ping_document) (asks true ping_document ∷ asks false ping_document ∷ []) (reading (47 ∷ [])) ok (answer_ping state session false)
@@ -186,7 +186,7 @@ sessions = record {
   pings = ping_run;
 }
 
-pub wants : WantExamples
+pub wants : WantOverBytes
 wants = record {
   plain = λ reply. refl;
   untold = λ reply. refl;

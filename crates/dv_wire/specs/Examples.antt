@@ -10,21 +10,21 @@ use Rattle.dv_core.specs.State.{State}
 use Rattle.dv_core.specs.Step.{end_session}
 use Rattle.dv_wire.specs.Sections.{Section, body, named, sections_in}
 use Rattle.dv_wire.specs.Message.{Message, Conversation, reading, closed, split}
-use Rattle.dv_wire.specs.Schedule.{World, Opens, reply_bytes, bytes_to, CarriesOut, plain_run, unanswered, unfinished_in, end}
+use Rattle.dv_wire.specs.Schedule.{World, Opens, reply_bytes, bytes_to, CarriesOutMessages, plain_run, unanswered, unfinished_in, end}
 
 -- ---- words for them
 
 -- the bytes bring these messages, and then their session stands so
-abbrev pub Brings : List ℕ → List Message → Conversation → Type 0
-Brings bytes messages conversation = split bytes ≡ record { messages = messages; conversation = conversation }
+abbrev pub BringsMessages : List ℕ → List Message → Conversation → Type 0
+BringsMessages bytes messages conversation = split bytes ≡ record { messages = messages; conversation = conversation }
 
 -- they are less than a message, and are kept
-abbrev pub IsKept : List ℕ → Type 0
-IsKept bytes = Brings bytes [] (reading bytes)
+abbrev pub IsKeptUnread : List ℕ → Type 0
+IsKeptUnread bytes = BringsMessages bytes [] (reading bytes)
 
 -- their session is closed
-abbrev pub Closes : List ℕ → CloseFault → Type 0
-Closes bytes fault = Brings bytes [] (closed fault)
+abbrev pub ClosesSession : List ℕ → CloseFault → Type 0
+ClosesSession bytes fault = BringsMessages bytes [] (closed fault)
 
 -- a header: messageLength, requestID 7, responseTo 0, and opCode in two bytes
 abbrev pub header : ℕ → List ℕ → List ℕ
@@ -64,33 +64,33 @@ nothing_under name = 1 ∷ 6 ∷ 0 ∷ 0 ∷ 0 ∷ name ∷ 0 ∷ []
 
 pub record HeaderExamples : Type 0 where
   -- the length is shown by the fourth byte
-  pub shown_later : IsKept (25 ∷ 0 ∷ 0 ∷ [])
-  pub too_short : Closes (25 ∷ 0 ∷ 0 ∷ 0 ∷ []) BadLength
-  pub shortest : IsKept (26 ∷ 0 ∷ 0 ∷ 0 ∷ [])
-  pub longest : IsKept (0x00 ∷ 0x6c ∷ 0xdc ∷ 0x02 ∷ [])
-  pub too_long : Closes (0x01 ∷ 0x6c ∷ 0xdc ∷ 0x02 ∷ []) BadLength
+  pub shown_later : IsKeptUnread (25 ∷ 0 ∷ 0 ∷ [])
+  pub too_short : ClosesSession (25 ∷ 0 ∷ 0 ∷ 0 ∷ []) BadLength
+  pub shortest : IsKeptUnread (26 ∷ 0 ∷ 0 ∷ 0 ∷ [])
+  pub longest : IsKeptUnread (0x00 ∷ 0x6c ∷ 0xdc ∷ 0x02 ∷ [])
+  pub too_long : ClosesSession (0x01 ∷ 0x6c ∷ 0xdc ∷ 0x02 ∷ []) BadLength
   -- the length first
-  pub length_first : Closes (header 25 (0xdc ∷ 0x07 ∷ [])) BadLength
+  pub length_first : ClosesSession (header 25 (0xdc ∷ 0x07 ∷ [])) BadLength
   -- the code by the sixteenth
-  pub code_later : IsKept (26 ∷ 0 ∷ 0 ∷ 0 ∷ 7 ∷ 0 ∷ 0 ∷ 0 ∷ 0 ∷ 0 ∷ 0 ∷ 0 ∷ 0xdc ∷ 0x07 ∷ 0 ∷ [])
-  pub code_below : Closes (header 26 (0xdc ∷ 0x07 ∷ [])) BadOpCode
-  pub code_right : IsKept (op_msg_header 26)
-  pub code_above : Closes (header 26 (0xde ∷ 0x07 ∷ [])) BadOpCode
+  pub code_later : IsKeptUnread (26 ∷ 0 ∷ 0 ∷ 0 ∷ 7 ∷ 0 ∷ 0 ∷ 0 ∷ 0 ∷ 0 ∷ 0 ∷ 0 ∷ 0xdc ∷ 0x07 ∷ 0 ∷ [])
+  pub code_below : ClosesSession (header 26 (0xdc ∷ 0x07 ∷ [])) BadOpCode
+  pub code_right : IsKeptUnread (op_msg_header 26)
+  pub code_above : ClosesSession (header 26 (0xde ∷ 0x07 ∷ [])) BadOpCode
   -- the flags by the twentieth
-  pub flags_later : IsKept (op_msg_header 26 ++ 1 ∷ 0 ∷ 0 ∷ [])
-  pub bit_0 : Closes (op_msg_header 26 ++ 1 ∷ 0 ∷ 0 ∷ 0 ∷ []) Checksum
-  pub bit_1 : Brings (flagged (2 ∷ 0 ∷ 0 ∷ 0 ∷ [])) (asks true empty_document ∷ []) (reading [])
-  pub bit_2 : Closes (op_msg_header 26 ++ 4 ∷ 0 ∷ 0 ∷ 0 ∷ []) BadFlag
-  pub bit_15 : Closes (op_msg_header 26 ++ 0 ∷ 0x80 ∷ 0 ∷ 0 ∷ []) BadFlag
-  pub bit_16 : Brings (flagged (0 ∷ 0 ∷ 1 ∷ 0 ∷ [])) (asks false empty_document ∷ []) (reading [])
-  pub bits_above : Brings (flagged (0 ∷ 0 ∷ 0xff ∷ 0xff ∷ [])) (asks false empty_document ∷ []) (reading [])
-  pub checksum_first : Closes (op_msg_header 26 ++ 5 ∷ 0 ∷ 0 ∷ 0 ∷ []) Checksum
+  pub flags_later : IsKeptUnread (op_msg_header 26 ++ 1 ∷ 0 ∷ 0 ∷ [])
+  pub bit_0 : ClosesSession (op_msg_header 26 ++ 1 ∷ 0 ∷ 0 ∷ 0 ∷ []) Checksum
+  pub bit_1 : BringsMessages (flagged (2 ∷ 0 ∷ 0 ∷ 0 ∷ [])) (asks true empty_document ∷ []) (reading [])
+  pub bit_2 : ClosesSession (op_msg_header 26 ++ 4 ∷ 0 ∷ 0 ∷ 0 ∷ []) BadFlag
+  pub bit_15 : ClosesSession (op_msg_header 26 ++ 0 ∷ 0x80 ∷ 0 ∷ 0 ∷ []) BadFlag
+  pub bit_16 : BringsMessages (flagged (0 ∷ 0 ∷ 1 ∷ 0 ∷ [])) (asks false empty_document ∷ []) (reading [])
+  pub bits_above : BringsMessages (flagged (0 ∷ 0 ∷ 0xff ∷ 0xff ∷ [])) (asks false empty_document ∷ []) (reading [])
+  pub checksum_first : ClosesSession (op_msg_header 26 ++ 5 ∷ 0 ∷ 0 ∷ 0 ∷ []) Checksum
 
 pub record SectionExamples : Type 0 where
   -- the sections are shown by the last byte
-  pub shown_later : IsKept (sectioned 26 (2 ∷ 5 ∷ 0 ∷ 0 ∷ 0 ∷ []))
-  pub kind_2 : Closes (sectioned 26 (2 ∷ 5 ∷ 0 ∷ 0 ∷ 0 ∷ 0 ∷ [])) BadSection
-  pub kind_0 : Brings (sectioned 26 (0 ∷ empty_document)) (asks false empty_document ∷ []) (reading [])
+  pub shown_later : IsKeptUnread (sectioned 26 (2 ∷ 5 ∷ 0 ∷ 0 ∷ 0 ∷ []))
+  pub kind_2 : ClosesSession (sectioned 26 (2 ∷ 5 ∷ 0 ∷ 0 ∷ 0 ∷ 0 ∷ [])) BadSection
+  pub kind_0 : BringsMessages (sectioned 26 (0 ∷ empty_document)) (asks false empty_document ∷ []) (reading [])
   -- documents under a name, in front of the body and behind it
   pub in_front : Are (nothing_under 100 ++ 0 ∷ empty_document) (named (100 ∷ []) [] ∷ body empty_document ∷ [])
   pub behind : Are (0 ∷ (empty_document ++ nothing_under 100)) (body empty_document ∷ named (100 ∷ []) [] ∷ [])
@@ -104,29 +104,29 @@ pub record SectionExamples : Type 0 where
   pub size_too_large : AreNone (0 ∷ (empty_document ++ 1 ∷ 7 ∷ 0 ∷ 0 ∷ 0 ∷ 100 ∷ 0 ∷ []))
   pub name_without_end : AreNone (0 ∷ (empty_document ++ 1 ∷ 6 ∷ 0 ∷ 0 ∷ 0 ∷ 100 ∷ 100 ∷ []))
   pub document_too_long : AreNone (0 ∷ (empty_document ++ 1 ∷ 11 ∷ 0 ∷ 0 ∷ 0 ∷ 100 ∷ 0 ∷ 6 ∷ 0 ∷ 0 ∷ 0 ∷ 0 ∷ []))
-  pub two_bodies : Closes (sectioned 32 (0 ∷ 5 ∷ 0 ∷ 0 ∷ 0 ∷ 0 ∷ 0 ∷ empty_document)) BadSection
+  pub two_bodies : ClosesSession (sectioned 32 (0 ∷ 5 ∷ 0 ∷ 0 ∷ 0 ∷ 0 ∷ 0 ∷ empty_document)) BadSection
   -- a document's length is that of the body, and 5 at least
-  pub too_short : Closes (sectioned 26 (0 ∷ 4 ∷ 0 ∷ 0 ∷ 0 ∷ 0 ∷ [])) BadSection
-  pub too_long : Closes (sectioned 26 (0 ∷ 6 ∷ 0 ∷ 0 ∷ 0 ∷ 0 ∷ [])) BadSection
+  pub too_short : ClosesSession (sectioned 26 (0 ∷ 4 ∷ 0 ∷ 0 ∷ 0 ∷ 0 ∷ [])) BadSection
+  pub too_long : ClosesSession (sectioned 26 (0 ∷ 6 ∷ 0 ∷ 0 ∷ 0 ∷ 0 ∷ [])) BadSection
   pub least_document : Are (0 ∷ empty_document) (body empty_document ∷ [])
   pub no_document : AreNone (0 ∷ 4 ∷ 0 ∷ 0 ∷ 0 ∷ [])
   -- what is in it is for the command to say
-  pub unreadable : Brings (sectioned 26 (0 ∷ 5 ∷ 0 ∷ 0 ∷ 0 ∷ 9 ∷ [])) (asks false (5 ∷ 0 ∷ 0 ∷ 0 ∷ 9 ∷ []) ∷ []) (reading [])
+  pub unreadable : BringsMessages (sectioned 26 (0 ∷ 5 ∷ 0 ∷ 0 ∷ 0 ∷ 9 ∷ [])) (asks false (5 ∷ 0 ∷ 0 ∷ 0 ∷ 9 ∷ []) ∷ []) (reading [])
   -- behind a message comes the next, or a fault that closes the session behind it
-  pub two : Brings (sectioned 26 (0 ∷ empty_document) ++ flagged (2 ∷ 0 ∷ 0 ∷ 0 ∷ []) ++ 26 ∷ []) (asks false empty_document ∷ asks true empty_document ∷ []) (reading (26 ∷ []))
-  pub fault_behind : Brings (sectioned 26 (0 ∷ empty_document) ++ 25 ∷ 0 ∷ 0 ∷ 0 ∷ []) (asks false empty_document ∷ []) (closed BadLength)
+  pub two : BringsMessages (sectioned 26 (0 ∷ empty_document) ++ flagged (2 ∷ 0 ∷ 0 ∷ 0 ∷ []) ++ 26 ∷ []) (asks false empty_document ∷ asks true empty_document ∷ []) (reading (26 ∷ []))
+  pub fault_behind : BringsMessages (sectioned 26 (0 ∷ empty_document) ++ 25 ∷ 0 ∷ 0 ∷ 0 ∷ []) (asks false empty_document ∷ []) (closed BadLength)
 
 -- ---- sessions
 
 -- {ping: 1, $db: "t"}, its bytes, and a message with it and these flags
 abbrev pub ping_fields : List Field
-ping_fields = (codes "ping", int32 (pos 1)) ∷ (codes "$db", string (codes "t")) ∷ []
+ping_fields = (codes "ping_message", int32 (pos 1)) ∷ (codes "$db", string (codes "t")) ∷ []
 
 abbrev pub ping_document : List ℕ
 ping_document = 26 ∷ 0 ∷ 0 ∷ 0 ∷ 16 ∷ 112 ∷ 105 ∷ 110 ∷ 103 ∷ 0 ∷ 1 ∷ 0 ∷ 0 ∷ 0 ∷ 2 ∷ 36 ∷ 100 ∷ 98 ∷ 0 ∷ 2 ∷ 0 ∷ 0 ∷ 0 ∷ 116 ∷ 0 ∷ 0 ∷ []
 
-abbrev pub ping : ℕ → List ℕ
-ping flags = op_msg_header 47 ++ flags ∷ 0 ∷ 0 ∷ 0 ∷ 0 ∷ ping_document
+abbrev pub ping_message : ℕ → List ℕ
+ping_message flags = op_msg_header 47 ++ flags ∷ 0 ∷ 0 ∷ 0 ∷ 0 ∷ ping_document
 
 -- the reply {ok: 1}, and the message with it
 abbrev pub ok : List Field
@@ -159,13 +159,13 @@ pub record SessionExamples : Type 0 where
   pub none_unfinished : unfinished_in (Some (closed BadLength)) ≡ 0
   -- a ping is answered, and not where moreToCome leaves its reply out; the last one is not whole
   pub pings : (state : State) (session : ℕ)
-      → plain_run session state (split (ping 0 ++ ping 2 ++ ping 0 ++ 47 ∷ [])) ≡ record { answers = pong ∷ [] ∷ pong ∷ []; state = state; conversation = reading (47 ∷ []) }
+      → plain_run session state (split (ping_message 0 ++ ping_message 2 ++ ping_message 0 ++ 47 ∷ [])) ≡ record { answers = pong ∷ [] ∷ pong ∷ []; state = state; conversation = reading (47 ∷ []) }
 
-pub record WantExamples : Type 0 where
+pub record WantOverBytes : Type 0 where
   -- moreToCome leaves a reply out, but not one that tells of want of memory: its session can't go on
   pub plain : (reply : List Field) → bytes_to (asks true empty_document) (Reply reply) ≡ Some []
   pub untold : (reply : List Field) → bytes_to (asks true empty_document) (Wanting reply) ≡ None
   pub told : (reply : List Field) → bytes_to (asks false empty_document) (Wanting reply) ≡ Some (reply_bytes (asks false empty_document) reply)
   pub no_reply : (more_to_come : Bool) → bytes_to (asks more_to_come empty_document) NoReply ≡ None
   -- a command that finds no memory, and waits for no reply
-  pub refused : (state : State) (session : ℕ) → CarriesOut session state (asks true empty_document ∷ []) (reading []) (unanswered state (closed NoMemory))
+  pub refused : (state : State) (session : ℕ) → CarriesOutMessages session state (asks true empty_document ∷ []) (reading []) (unanswered state (closed NoMemory))

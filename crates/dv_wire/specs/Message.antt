@@ -3,7 +3,7 @@ use Rattle.std.specs.Prelude.{◌≡◌, ℕ, zero, suc, ◌+◌, ◌/◌, ◌%�
 use Rattle.std.specs.Int.{w32, to_le_bytes}
 use Rattle.dv_wire.specs.declared.fault.CloseFault.{CloseFault}
 use Rattle.dv_wire.specs.declared.fault.CloseFault.TheVariants.{BadLength, BadOpCode, BadFlag, Checksum, BadSection}
-use Rattle.dv_wire.specs.Sections.{Section, number_behind, sections_spelling, are_sections, sections_in}
+use Rattle.dv_wire.specs.Sections.{Section, number_after, sections_spelling, are_sections, sections_in}
 
 -- the operation code of OP_MSG
 abbrev pub op_msg : ℕ
@@ -53,31 +53,31 @@ pub record IsMessage (message : Message) (bytes : List ℕ) : Type 0 where
   pub limits : length bytes ≤ longest_message
 
 -- what stands at the front of a stream: less than a message, a fault that the bytes show already, or a message and what follows
-pub data Front : Type 0 where
-  unfinished : Front
-  closing : CloseFault → Front
-  whole : Message → List ℕ → Front
+pub data StreamFront : Type 0 where
+  unfinished : StreamFront
+  closing : CloseFault → StreamFront
+  whole : Message → List ℕ → StreamFront
 
-abbrev pub message_of : ℕ → ℕ → List Section → Message
-message_of request_id flags sections = record { request_id = request_id; more_to_come = has_more_to_come flags; sections = sections }
+abbrev pub message_with : ℕ → ℕ → List Section → Message
+message_with request_id flags sections = record { request_id = request_id; more_to_come = has_more_to_come flags; sections = sections }
 
 -- what the sections of a message show, if they are such
-abbrev pub front_by : ℕ → ℕ → Option (List Section) → List ℕ → Front
+abbrev pub front_by : ℕ → ℕ → Option (List Section) → List ℕ → StreamFront
 front_by request_id flags None following = closing BadSection
-front_by request_id flags (Some sections) following = whole (message_of request_id flags sections) following
+front_by request_id flags (Some sections) following = whole (message_with request_id flags sections) following
 
 -- A message's length is shown by its fourth byte, its code by the sixteenth, its flags by the twentieth, its sections by its last.
-unfoldable pub front : List ℕ → Front
-front bytes =
+unfoldable pub stream_front : List ℕ → StreamFront
+stream_front bytes =
     if nat_lt (length bytes) 4 then unfinished
-    else if nat_lt (number_behind 0 bytes) shortest_message || nat_lt longest_message (number_behind 0 bytes) then closing BadLength
+    else if nat_lt (number_after 0 bytes) shortest_message || nat_lt longest_message (number_after 0 bytes) then closing BadLength
     else if nat_lt (length bytes) 16 then unfinished
-    else if not (number_behind 12 bytes == op_msg) then closing BadOpCode
+    else if not (number_after 12 bytes == op_msg) then closing BadOpCode
     else if nat_lt (length bytes) 20 then unfinished
-    else if has_checksum (number_behind 16 bytes) then closing Checksum
-    else if has_unknown_flag (number_behind 16 bytes) then closing BadFlag
-    else if nat_lt (length bytes) (number_behind 0 bytes) then unfinished
-    else front_by (number_behind 4 bytes) (number_behind 16 bytes) (sections_in (drop 20 (take (number_behind 0 bytes) bytes))) (drop (number_behind 0 bytes) bytes)
+    else if has_checksum (number_after 16 bytes) then closing Checksum
+    else if has_unknown_flag (number_after 16 bytes) then closing BadFlag
+    else if nat_lt (length bytes) (number_after 0 bytes) then unfinished
+    else front_by (number_after 4 bytes) (number_after 16 bytes) (sections_in (drop 20 (take (number_after 0 bytes) bytes))) (drop (number_after 0 bytes) bytes)
 
 -- ---- streams
 
@@ -94,7 +94,7 @@ pub record Split : Type 0 where
 abbrev pub split_behind : Message → Split → Split
 split_behind message others = record { messages = message ∷ others.messages; conversation = others.conversation }
 
-abbrev pub split_from : List ℕ → Front → (List ℕ → Split) → Split
+abbrev pub split_from : List ℕ → StreamFront → (List ℕ → Split) → Split
 split_from bytes unfinished others = record { messages = []; conversation = reading bytes }
 split_from bytes (closing fault) others = record { messages = []; conversation = closed fault }
 split_from bytes (whole message following) others = split_behind message (others following)
@@ -102,7 +102,7 @@ split_from bytes (whole message following) others = split_behind message (others
 -- the whole messages that begin the bytes, at most so many, and how they go on
 unfoldable pub split_within : ℕ → List ℕ → Split
 split_within zero bytes = record { messages = []; conversation = reading bytes }
-split_within (suc steps) bytes = split_from bytes (front bytes) (split_within steps)
+split_within (suc steps) bytes = split_from bytes (stream_front bytes) (split_within steps)
 
 -- A message takes up a byte at least, so as many steps as there are bytes, and one to look at the rest, are enough.
 unfoldable pub split : List ℕ → Split

@@ -62,11 +62,11 @@ OfCommands Meant moments = AllByRecursion (OfCommand Meant) moments
 -- ---- a machine that takes one moment after the other
 
 -- the state that it leaves
-abbrev pub state_behind : State → List Moment → State
-state_behind state [] = state
-state_behind state (opens ∷ later) = state_behind state later
-state_behind state (comes session message ∷ later) = state_behind (counted_step state session (command_of message)).state later
-state_behind state (ends session ∷ later) = state_behind (end_session session state) later
+abbrev pub state_left : State → List Moment → State
+state_left state [] = state
+state_left state (opens ∷ later) = state_left state later
+state_left state (comes session message ∷ later) = state_left (counted_step state session (command_of message)).state later
+state_left state (ends session ∷ later) = state_left (end_session session state) later
 
 -- the bytes of its replies to a session
 abbrev pub replies_behind : ℕ → State → List Moment → List ℕ

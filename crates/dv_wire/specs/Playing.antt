@@ -7,10 +7,10 @@ use Rattle.dv_wire.specs.declared.events.Said.TheVariants as said
 use Rattle.dv_wire.specs.declared.hub.Fed.{Fed}
 use Rattle.dv_wire.specs.declared.hub.SessionId.{SessionId}
 use Rattle.dv_core.specs.Step.{MemoryStep}
-use Rattle.dv_wire.specs.Schedule.{Steps, World, conversation_of, Opens, FeedsBy, unfinished_in, end}
+use Rattle.dv_wire.specs.Schedule.{SessionSteps, World, conversation_of, Opens, FeedsBy, unfinished_in, end}
 
 -- an event happens by such steps, and this is said of it
-abbrev pub HappensBy : Steps → World → Event → Said → World → Type 0
+abbrev pub HappensBy : SessionSteps → World → Event → Said → World → Type 0
 HappensBy Step old events.Open (said.Opened result) new = Opens old result new
 HappensBy Step old (events.Piece session piece) (said.Fed told bytes) new = FeedsBy Step old session.number piece bytes told new
 HappensBy Step old (events.End session) (said.Ended unfinished) new = (unfinished ≡ unfinished_in (conversation_of session.number old.sessions)) × (new ≡ end session.number old)
@@ -20,7 +20,7 @@ abbrev pub Happens : World → Event → Said → World → Type 0
 Happens = HappensBy MemoryStep
 
 -- events happen in order, and this is said of them
-abbrev pub PlaysBy : Steps → World → List Event → List Said → World → Type 0
+abbrev pub PlaysBy : SessionSteps → World → List Event → List Said → World → Type 0
 PlaysBy Step old [] all new = (all ≡ []) × (new ≡ old)
 PlaysBy Step old (event ∷ events) all new =
     (first : Said) × (others : List Said) × (mid : World) × (all ≡ first ∷ others) × HappensBy Step old event first mid × PlaysBy Step mid events others new

@@ -61,18 +61,18 @@ Follows None state Others run = run ≡ unanswered state (closed NoMemory)
 Follows (Some bytes) state Others run = ((others : Run) × Others others × (run ≡ in_front (bytes ∷ []) others)) ⊎ (run ≡ unanswered state (closed NoMemory))
 
 -- what a command of a session may come to, and the state after it
-abbrev pub Steps : Type 1
-Steps = State → ℕ → Command → Outcome → State → Type 0
+abbrev pub SessionSteps : Type 1
+SessionSteps = State → ℕ → Command → Outcome → State → Type 0
 
 -- the messages of a session are carried out in order by such steps, and it stands as given behind them; or it was closed among them
-abbrev pub CarriesOutBy : Steps → ℕ → State → List Message → Conversation → Run → Type 0
+abbrev pub CarriesOutBy : SessionSteps → ℕ → State → List Message → Conversation → Run → Type 0
 CarriesOutBy Step session old [] conversation run = run ≡ silence old conversation
 CarriesOutBy Step session old (message ∷ messages) conversation run =
     (outcome : Outcome) × (mid : State) × Step old session (command_of message) outcome mid
     × Follows (bytes_to message outcome) mid (CarriesOutBy Step session mid messages conversation) run
 
-abbrev pub CarriesOut : ℕ → State → List Message → Conversation → Run → Type 0
-CarriesOut = CarriesOutBy MemoryStep
+abbrev pub CarriesOutMessages : ℕ → State → List Message → Conversation → Run → Type 0
+CarriesOutMessages = CarriesOutBy MemoryStep
 
 -- the same where memory is never wanting: each message is carried out by its step, and each view counts its work
 abbrev pub plain_behind : Message → Answer → (State → Run) → Run
@@ -88,17 +88,17 @@ abbrev pub plain_run : ℕ → State → Split → Run
 plain_run session state stream = plain_messages session state stream.messages stream.conversation
 
 -- what a session may do with a stream
-pub data TakesBy (Step : Steps) (session : ℕ) (old : State) (stream : Split) (run : Run) : Type 0 where
+pub data TakesBy (Step : SessionSteps) (session : ℕ) (old : State) (stream : Split) (run : Run) : Type 0 where
   -- all its messages are carried out
   takes_all : CarriesOutBy Step session old stream.messages stream.conversation run → TakesBy Step session old stream run
   -- its bytes find no memory, behind any of the messages, and the session is closed
   takes_some : (count : ℕ) → CarriesOutBy Step session old (take count stream.messages) (closed NoMemory) run → TakesBy Step session old stream run
 
-abbrev pub Takes : ℕ → State → Split → Run → Type 0
-Takes = TakesBy MemoryStep
+abbrev pub TakesSplit : ℕ → State → Split → Run → Type 0
+TakesSplit = TakesBy MemoryStep
 
 -- a session takes the next piece of its bytes; a closed one takes none
-abbrev pub HearsBy : Steps → ℕ → State → Conversation → List ℕ → Run → Type 0
+abbrev pub HearsBy : SessionSteps → ℕ → State → Conversation → List ℕ → Run → Type 0
 HearsBy Step session old (reading kept) piece run = TakesBy Step session old (split (kept ++ piece)) run
 HearsBy Step session old (closed fault) piece run = run ≡ silence old (closed fault)
 
@@ -157,7 +157,7 @@ abbrev pub world_behind : ℕ → Run → World → World
 world_behind session run old = record { state = run.state; next = old.next; sessions = with_conversation session run.conversation old.sessions }
 
 -- a piece of a session's bytes comes: what is answered to its messages, and whether the session goes on; to one that isn't there nothing is
-abbrev pub ComesBy : Steps → World → ℕ → List ℕ → List (List ℕ) → Fed → World → Type 0
+abbrev pub ComesBy : SessionSteps → World → ℕ → List ℕ → List (List ℕ) → Fed → World → Type 0
 ComesBy Step old session piece answers told new =
     MatchOption (conversation_of session old.sessions)
     ((answers ≡ []) × (told ≡ fed.Unknown) × (new ≡ old))
@@ -167,14 +167,14 @@ abbrev pub Comes : World → ℕ → List ℕ → List (List ℕ) → Fed → Wo
 Comes = ComesBy MemoryStep
 
 -- the same by the bytes of all that is answered
-abbrev pub FeedsBy : Steps → World → ℕ → List ℕ → List ℕ → Fed → World → Type 0
+abbrev pub FeedsBy : SessionSteps → World → ℕ → List ℕ → List ℕ → Fed → World → Type 0
 FeedsBy Step old session piece bytes told new = (answers : List (List ℕ)) × (bytes ≡ concat answers) × ComesBy Step old session piece answers told new
 
 abbrev pub Feeds : World → ℕ → List ℕ → List ℕ → Fed → World → Type 0
 Feeds = FeedsBy MemoryStep
 
 -- pieces of a session's bytes come, one right after the other: what is answered to all, and whether the session then goes on
-abbrev pub FeedsAllBy : Steps → World → ℕ → List ℕ → List (List ℕ) → List ℕ → Fed → World → Type 0
+abbrev pub FeedsAllBy : SessionSteps → World → ℕ → List ℕ → List (List ℕ) → List ℕ → Fed → World → Type 0
 FeedsAllBy Step old session piece [] bytes answer new = FeedsBy Step old session piece bytes answer new
 FeedsAllBy Step old session piece (next ∷ pieces) bytes answer new =
     (first : List ℕ) × (others : List ℕ) × (mid : World) × (told : Fed) × (bytes ≡ first ++ others)

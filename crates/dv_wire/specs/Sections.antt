@@ -7,8 +7,8 @@ use Rattle.dv_bson.specs.Names.{has_zero}
 use Rattle.dv_bson.specs.Reading.{cut_at_zero}
 
 -- the number in the four bytes behind the first n
-abbrev pub number_behind : ℕ → List ℕ → ℕ
-number_behind n bytes = from_le_bytes w32 (take 4 (drop n bytes))
+abbrev pub number_after : ℕ → List ℕ → ℕ
+number_after n bytes = from_le_bytes w32 (take 4 (drop n bytes))
 
 -- ---- sections
 
@@ -35,7 +35,7 @@ sections_spelling sections = flat_map section_spelling sections
 
 -- a document is framed where its length, at least 5, is that of the bytes
 abbrev pub is_framed : List ℕ → Bool
-is_framed bytes = nat_lt 4 (length bytes) && number_behind 0 bytes == length bytes
+is_framed bytes = nat_lt 4 (length bytes) && number_after 0 bytes == length bytes
 
 -- a name is UTF-8, and holds no zero byte
 abbrev pub is_section : Section → Bool
@@ -53,13 +53,13 @@ names_among (body document ∷ sections) = names_among sections
 names_among (named name documents ∷ sections) = name ∷ names_among sections
 
 -- no two are equal
-abbrev pub are_apart : List (List ℕ) → Bool
-are_apart [] = true
-are_apart (name ∷ names) = not (list_any (bytes_eq name) names) && are_apart names
+abbrev pub are_distinct : List (List ℕ) → Bool
+are_distinct [] = true
+are_distinct (name ∷ names) = not (list_any (bytes_eq name) names) && are_distinct names
 
 -- exactly one is a body, and the names of the others are apart
 abbrev pub go_together : List Section → Bool
-go_together sections = body_count sections == 1 && are_apart (names_among sections)
+go_together sections = body_count sections == 1 && are_distinct (names_among sections)
 
 -- the sections of a message
 abbrev pub are_sections : List Section → Bool
@@ -82,35 +82,35 @@ row_within at_front (suc steps) (b ∷ bytes) = row_from (at_front (b ∷ bytes)
 
 -- What is found at the front of the bytes, and in the same way in those that follow it, to their end. Each takes up a byte at
 -- least, so as many steps as there are bytes are enough.
-unfoldable pub row_in : {A : Type 0} → (List ℕ → Option (A × List ℕ)) → List ℕ → Option (List A)
-row_in at_front bytes = row_within at_front (length bytes) bytes
+unfoldable pub each_in : {A : Type 0} → (List ℕ → Option (A × List ℕ)) → List ℕ → Option (List A)
+each_in at_front bytes = row_within at_front (length bytes) bytes
 
 -- ---- the sections that bytes are
 
 -- what a length at the front, at least 5, frames, itself included; and what follows it
-unfoldable pub frame_at : List ℕ → Option (List ℕ × List ℕ)
-frame_at bytes =
-    if nat_lt 4 (number_behind 0 bytes) && nat_le (number_behind 0 bytes) (length bytes)
-    then Some (take (number_behind 0 bytes) bytes, drop (number_behind 0 bytes) bytes)
+unfoldable pub section_frame : List ℕ → Option (List ℕ × List ℕ)
+section_frame bytes =
+    if nat_lt 4 (number_after 0 bytes) && nat_le (number_after 0 bytes) (length bytes)
+    then Some (take (number_after 0 bytes) bytes, drop (number_after 0 bytes) bytes)
     else None
 
 -- the documents that the bytes are
-abbrev pub documents_in : List ℕ → Option (List (List ℕ))
-documents_in bytes = row_in frame_at bytes
+abbrev pub section_documents : List ℕ → Option (List (List ℕ))
+section_documents bytes = each_in section_frame bytes
 
-abbrev pub under : List ℕ → Option (List (List ℕ)) → Option Section
-under name None = None
-under name (Some documents) = if is_utf8 name then Some (named name documents) else None
+abbrev pub section_under : List ℕ → Option (List (List ℕ)) → Option Section
+section_under name None = None
+section_under name (Some documents) = if is_utf8 name then Some (named name documents) else None
 
-abbrev pub named_by : Option (List ℕ × List ℕ) → Option Section
-named_by None = None
-named_by (Some cut) = under cut.0 (documents_in cut.1)
+abbrev pub section_named : Option (List ℕ × List ℕ) → Option Section
+section_named None = None
+section_named (Some cut) = section_under cut.0 (section_documents cut.1)
 
 -- the section of this kind that the framed bytes behind it make
 abbrev pub section_of : ℕ → List ℕ → Option Section
 section_of kind frame =
     if kind == 0 then Some (body frame)
-    else if kind == 1 then named_by (cut_at_zero (drop 4 frame))
+    else if kind == 1 then section_named (cut_at_zero (drop 4 frame))
     else None
 
 abbrev pub followed : Option Section → List ℕ → Option (Section × List ℕ)
@@ -124,12 +124,12 @@ section_by kind (Some frame) = followed (section_of kind frame.0) frame.1
 -- the section at the front of the bytes, and what follows it
 unfoldable pub section_at : List ℕ → Option (Section × List ℕ)
 section_at [] = None
-section_at (kind ∷ bytes) = section_by kind (frame_at bytes)
+section_at (kind ∷ bytes) = section_by kind (section_frame bytes)
 
-abbrev pub together : Option (List Section) → Option (List Section)
-together None = None
-together (Some sections) = if go_together sections then Some sections else None
+abbrev pub sections_together : Option (List Section) → Option (List Section)
+sections_together None = None
+sections_together (Some sections) = if go_together sections then Some sections else None
 
 -- the sections of a message that the bytes are
 unfoldable pub sections_in : List ℕ → Option (List Section)
-sections_in bytes = together (row_in section_at bytes)
+sections_in bytes = sections_together (each_in section_at bytes)

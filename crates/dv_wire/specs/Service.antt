@@ -83,9 +83,9 @@ abbrev pub AsksFew : ℕ → ℕ → Type 0
 AsksFew old new = (reads : ℕ) × (reads ≤ most_reads) × MoreBy reads old new
 
 -- how often a reader is asked in a run: just as often as may be where too many reads are told, and never where no session is had
-abbrev pub Asks : {A : Type 0} → Result A RunFault → ℕ → ℕ → Type 0
-Asks (Ok done) old new = AsksFew old new
-Asks (Err Read) old new = AsksFew old new
-Asks (Err Write) old new = AsksFew old new
-Asks (Err TooManyReads) old new = MoreBy most_reads old new
-Asks (Err (Hub fault)) old new = MoreBy 0 old new
+abbrev pub AsksInRun : {A : Type 0} → Result A RunFault → ℕ → ℕ → Type 0
+AsksInRun (Ok done) old new = AsksFew old new
+AsksInRun (Err Read) old new = AsksFew old new
+AsksInRun (Err Write) old new = AsksFew old new
+AsksInRun (Err TooManyReads) old new = MoreBy most_reads old new
+AsksInRun (Err (Hub fault)) old new = MoreBy 0 old new

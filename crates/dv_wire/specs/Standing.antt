@@ -11,12 +11,12 @@ use Rattle.dv_core.specs.declared.outcome.Outcome.{Outcome}
 use Rattle.dv_wire.specs.Schedule.{World}
 
 -- none of the views is stale
-abbrev pub AreLive : Marks → Type 0
-AreLive marks = AllByRecursion (λ mark. mark ≢ stale) marks
+abbrev pub AreAllLive : Marks → Type 0
+AreAllLive marks = AllByRecursion (λ mark. mark ≢ stale) marks
 
 -- a step that leaves all views live
 abbrev pub LiveStep : State → ℕ → Command → Outcome → State → Type 0
-LiveStep old session command outcome new = MemoryStep old session command outcome new × AreLive new.marks
+LiveStep old session command outcome new = MemoryStep old session command outcome new × AreAllLive new.marks
 
 -- whether it asks how a view stands
 abbrev pub asks_stats : Result Asked Refusal → Bool

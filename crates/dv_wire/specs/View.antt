@@ -17,9 +17,9 @@ use Rattle.dv_wire.specs.declared.front.Front.{Front as FrontSeen}
 use Rattle.dv_wire.specs.declared.front.Front.TheVariants.{Unfinished, Closing, Whole}
 use Rattle.dv_wire.specs.Sections.{body, section_spelling}
 use Rattle.dv_wire.specs.SectionsView.{section_seen}
-use Rattle.dv_wire.specs.Message.{Message, message_spelling, op_msg, Front, unfinished, closing, whole, Conversation, reading, closed}
+use Rattle.dv_wire.specs.Message.{Message, message_spelling, op_msg, StreamFront, unfinished, closing, whole, Conversation, reading, closed}
 use Rattle.dv_core.specs.State.{State}
-use Rattle.dv_wire.specs.Schedule.{CarriesOut, Hears, Run, World, bytes_of, world_behind}
+use Rattle.dv_wire.specs.Schedule.{CarriesOutMessages, Hears, Run, World, bytes_of, world_behind}
 use Rattle.dv_wire.specs.Service.{closing_of, most_reads, reply_count}
 use Rattle.dv_wire.specs.declared.fault.RunFault.{RunFault}
 use Rattle.dv_wire.specs.declared.fault.RunFault.TheVariants.{Read, Write, TooManyReads, Hub}
@@ -29,7 +29,7 @@ use Rattle.dv_wire.specs.declared.hub.Fed.TheVariants as fed
 abbrev pub message_seen : declared.Message → Message
 message_seen m = record { request_id = m.request_id; more_to_come = m.more_to_come; sections = map section_seen m.sections.items }
 
-abbrev pub front_seen : FrontSeen → Front
+abbrev pub front_seen : FrontSeen → StreamFront
 front_seen Unfinished = unfinished
 front_seen (Closing fault) = closing fault
 front_seen (Whole message rest) = whole (message_seen message) rest.now
@@ -53,7 +53,7 @@ left_or_closed (Err fault) stream = closed fault
 
 -- all these messages are carried out and answered, and the session goes on
 abbrev pub GoesOn : ℕ → State → List Message → List (List ℕ) → State → Type 0
-GoesOn session old messages answers new = CarriesOut session old messages (reading []) (record { answers = answers; state = new; conversation = reading [] })
+GoesOn session old messages answers new = CarriesOutMessages session old messages (reading []) (record { answers = answers; state = new; conversation = reading [] })
 
 -- the bytes that are sent to a message: this reply, or nothing; or there are none
 abbrev pub bytes_seen : {E : Type 0} → Message → Result (Option (List Field)) E → Option (List ℕ)
@@ -64,7 +64,7 @@ bytes_seen message (Err e) = None
 -- one message is carried out; or the session is closed in place of its answer
 abbrev pub Carries : {A E : Type 0} → ℕ → State → Message → List (List ℕ) → State → Result A E → Type 0
 Carries session old message answers new (Ok x) = GoesOn session old (message ∷ []) answers new
-Carries session old message answers new (Err e) = CarriesOut session old (message ∷ []) (reading []) (record { answers = answers; state = new; conversation = closed NoMemory })
+Carries session old message answers new (Err e) = CarriesOutMessages session old (message ∷ []) (reading []) (record { answers = answers; state = new; conversation = closed NoMemory })
 
 -- one message for each of the answers is counted, and the replies among them, as far as that fits
 abbrev pub Counted : Counts → List (List ℕ) → Counts → Type 0

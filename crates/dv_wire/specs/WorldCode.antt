@@ -5,7 +5,7 @@ use Rattle.std.specs.Coded.{Coded, code_by, coded×, coded⊎, coded_list, coded
 use Rattle.dv_wire.specs.declared.fault.CloseFault.{CloseFault}
 use Rattle.dv_wire.specs.contracts.fault.CloseFault as fault
 use Rattle.dv_core.specs.State.{State}
-use Rattle.dv_core.specs.StateCode.{coded_state}
+use Rattle.dv_core.specs.StateCode.{coded_store_state}
 use Rattle.dv_wire.specs.Message.{Conversation, reading, closed}
 use Rattle.dv_wire.specs.Schedule.{World}
 
@@ -26,5 +26,5 @@ coded_conversation = code_by (List ℕ ⊎ CloseFault) (coded⊎ (coded_list cod
 
 abbrev pub coded_world : Coded World
 coded_world =
-    code_by (State × (ℕ × List (ℕ × Conversation))) (coded× coded_state (coded× coded_ℕ (coded_list (coded× coded_ℕ coded_conversation))))
+    code_by (State × (ℕ × List (ℕ × Conversation))) (coded× coded_store_state (coded× coded_ℕ (coded_list (coded× coded_ℕ coded_conversation))))
     (λ w. (w.state, (w.next, w.sessions))) (λ p. record { state = p.0; next = p.1.0; sessions = p.1.1 }) (λ _. refl)

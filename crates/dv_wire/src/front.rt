@@ -44,7 +44,7 @@ pub(crate) enum Front<'a> {
 /// flags by the twentieth, its sections by its last. Where memory is wanting to look at the sections, that closes.
 #[tactic(auto, unfolding(crate::specs::Message::front))]
 pub(crate) fn front_of(alloc: Global, bytes: &[u8]) -> Front<'_>
-    ensures { (front_seen result ≡ wire.front bytes.now) ⊎ (result ≡ Front.Closing CloseFault.NoMemory) }
+    ensures { (front_seen result ≡ wire.stream_front bytes.now) ⊎ (result ≡ Front.Closing CloseFault.NoMemory) }
 {
     if bytes.len() < 4 {
         return Front::Unfinished;

@@ -18,12 +18,12 @@ ghost use Rattle.dv_wire.specs.declared.events.Event.TheVariants as events;
 ghost use Rattle.dv_wire.specs.declared.events.Said.{Said};
 ghost use Rattle.dv_wire.specs.declared.events.Said.TheVariants as said;
 ghost use Rattle.dv_wire.specs.Message as wire;
-ghost use Rattle.dv_wire.specs.Order.{OfCommands, answers, order, plain_play, replies_behind, state_behind};
+ghost use Rattle.dv_wire.specs.Order.{OfCommands, answers, order, plain_play, replies_behind, state_left};
 ghost use Rattle.dv_wire.specs.Playing.{ComesInTwo, Plays, PlaysBy};
 ghost use Rattle.dv_wire.specs.Commands.{command_of};
-ghost use Rattle.dv_wire.specs.Schedule.{Run, CarriesOut, bytes_of, unanswered, World, world_of, conversation_of, Opens, Feeds, FeedsAll, end, fed_of, plain_run, stream_of, unfinished_in, world_behind};
+ghost use Rattle.dv_wire.specs.Schedule.{Run, CarriesOutMessages, bytes_of, unanswered, World, world_of, conversation_of, Opens, Feeds, FeedsAll, end, fed_of, plain_run, stream_of, unfinished_in, world_behind};
 ghost use Rattle.dv_wire.specs.Service.{IsSession};
-ghost use Rattle.dv_wire.specs.Standing.{AreLive, AsksNoStats, LiveStep, world_standing};
+ghost use Rattle.dv_wire.specs.Standing.{AreAllLive, AsksNoStats, LiveStep, world_standing};
 ghost use Rattle.dv_wire.specs.Wants.{SaysWant};
 
 /// A stream of which more comes splits as before, and then as its rest with what comes; behind a fault nothing does.
@@ -75,7 +75,7 @@ pub fn a_whole_session_is_a_schedule()
 /// the same to each session and leave the same state, however their bytes are cut and interleaved. Such a run is one of
 /// those that are allowed.
 pub fn only_the_order_counts()
-    ensures state { (world : World) (all : List Event) → (plain_play world all).world.state ≡ state_behind world.state (order world.next world.sessions all) }
+    ensures state { (world : World) (all : List Event) → (plain_play world all).world.state ≡ state_left world.state (order world.next world.sessions all) }
     ensures answers { (session : ℕ) (world : World) (all : List Event) → answers session all (plain_play world all).said ≡ replies_behind session world.state (order world.next world.sessions all) }
     ensures equal { (world : World) (one two : List Event) → order world.next world.sessions one ≡ order world.next world.sessions two
         → ((plain_play world one).world.state ≡ (plain_play world two).world.state)
@@ -96,7 +96,7 @@ pub fn a_play_without_want_of_memory_is_the_plain_one()
     ensures order { (old new : World) (all : List Event) (told : List Said) → PlaysBy LiveStep old all told new → AllByRecursion (λ s. SaysWant s → ⊥) told
         → (new.state ≡ state_behind old.state (order old.next old.sessions all))
         × ((session : ℕ) → answers session all told ≡ replies_behind session old.state (order old.next old.sessions all)) }
-    ensures such { (world : World) (all : List Event) → AreLive world.state.marks → PlaysBy LiveStep world all (plain_play world all).said (plain_play world all).world }
+    ensures such { (world : World) (all : List Event) → AreAllLive world.state.marks → PlaysBy LiveStep world all (plain_play world all).said (plain_play world all).world }
 {
     dv_core::laws::the_counted_step_is_allowed();
 }
@@ -127,7 +127,7 @@ pub fn the_plain_run_is_allowed()
 /// What moreToCome leaves untold was done: where a session goes on behind such a message, the message was carried out by
 /// its step, and nothing is answered. How views stand behind it is left open here, as memory may have been wanting for one.
 pub fn what_is_untold_is_done()
-    ensures { (session : ℕ) (old : State) (message : wire.Message) (kept : List ℕ) (run : Run) → message.more_to_come ≡ true → CarriesOut session old (message ∷ []) (wire.reading kept) run
+    ensures { (session : ℕ) (old : State) (message : wire.Message) (kept : List ℕ) (run : Run) → message.more_to_come ≡ true → CarriesOutMessages session old (message ∷ []) (wire.reading kept) run
         → run.conversation ≡ wire.reading kept → run ≡ unanswered (standing run.state.marks (step old session (command_of message)).state) (wire.reading kept) }
 {}
 
@@ -198,5 +198,5 @@ pub fn sessions_by_example()
 
 /// What is sent where memory is wanting, by worked examples.
 pub fn want_of_memory_by_example()
-    ensures { examples.WantExamples }
+    ensures { examples.WantOverBytes }
 {}

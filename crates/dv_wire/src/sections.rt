@@ -39,7 +39,7 @@ pub(crate) fn sections_in(alloc: Global, bytes: &[u8]) -> Result<Vec<Section<'_>
 
 /// The sections, one behind the other, that the bytes are.
 fn row_of_sections(alloc: Global, bytes: &[u8]) -> Result<Vec<Section<'_>>, CloseFault>
-    ensures { FoundAs (λ sections. map section_seen sections.items) result (wire.row_in wire.section_at bytes.now) }
+    ensures { FoundAs (λ sections. map section_seen sections.items) result (wire.each_in wire.section_at bytes.now) }
 {
     let mut sections = Vec::new(alloc);
     let mut rest = bytes;
@@ -80,7 +80,7 @@ fn section_of(alloc: Global, kind: u8, frame: &[u8]) -> Result<Section<'_>, Clos
 
 /// The name that ends with the first zero, and the documents behind it.
 fn named_in(alloc: Global, bytes: &[u8]) -> Result<Section<'_>, CloseFault>
-    ensures { FoundAs section_seen result (wire.named_by (bson.cut_at_zero bytes.now)) }
+    ensures { FoundAs section_seen result (wire.section_named (bson.cut_at_zero bytes.now)) }
 {
     let Some((name, behind)) = cut_at_zero(bytes) else {
         return Err(CloseFault::BadSection);
@@ -94,7 +94,7 @@ fn named_in(alloc: Global, bytes: &[u8]) -> Result<Section<'_>, CloseFault>
 
 /// The documents, one behind the other, that the bytes are.
 fn documents_in(alloc: Global, bytes: &[u8]) -> Result<Vec<&[u8]>, CloseFault>
-    ensures { FoundAs (λ documents. map (λ d. d.now) documents.items) result (wire.documents_in bytes.now) }
+    ensures { FoundAs (λ documents. map (λ d. d.now) documents.items) result (wire.section_documents bytes.now) }
 {
     let mut documents = Vec::new(alloc);
     let mut rest = bytes;
@@ -111,7 +111,7 @@ fn documents_in(alloc: Global, bytes: &[u8]) -> Result<Vec<&[u8]>, CloseFault>
 /// What a length at the front, at least 5, frames, itself included; and what follows it.
 #[tactic(auto, unfolding(crate::specs::Sections::frame_at))]
 fn frame_at(bytes: &[u8]) -> Option<(&[u8], &[u8])>
-    ensures { option_map (λ parts. (parts.0.now, parts.1.now)) result ≡ wire.frame_at bytes.now }
+    ensures { option_map (λ parts. (parts.0.now, parts.1.now)) result ≡ wire.section_frame bytes.now }
 {
     if bytes.len() < 5 {
         return None;
@@ -154,7 +154,7 @@ fn body_count(sections: &[Section<'_>]) -> usize
 
 /// Whether no two have one name.
 fn are_apart(alloc: Global, sections: &[Section<'_>]) -> Result<bool, NoMemory>
-    ensures { IfOk result (λ apart. apart ≡ wire.are_apart (wire.names_among (map section_seen sections.now))) }
+    ensures { IfOk result (λ apart. apart ≡ wire.are_distinct (wire.names_among (map section_seen sections.now))) }
 {
     let mut names = BTreeSet::new(alloc);
     'sections: for section in sections {
@@ -173,7 +173,7 @@ fn are_apart(alloc: Global, sections: &[Section<'_>]) -> Result<bool, NoMemory>
 /// The little-endian number in the four bytes behind the first `place`.
 pub(crate) fn number_behind(place: usize, bytes: &[u8]) -> u32
     requires { place + 4 ≤ length bytes.now }
-    ensures { result ≡ wire.number_behind place bytes.now }
+    ensures { result ≡ wire.number_after place bytes.now }
 {
     let (_, behind) = bytes.split_at(place);
     let (number, _) = behind.split_at(4);

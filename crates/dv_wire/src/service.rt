@@ -3,7 +3,7 @@
 ghost use Rattle.std.specs.Prelude.{◌≡◌, [], length, IfOk, Some};
 ghost use Rattle.dv_wire.specs.Message.{reading};
 ghost use Rattle.dv_wire.specs.Schedule.{conversation_of};
-ghost use Rattle.dv_wire.specs.Service.{Asks, ComesTo, failures_read_in, failures_written_in};
+ghost use Rattle.dv_wire.specs.Service.{AsksInRun, ComesTo, failures_read_in, failures_written_in};
 ghost use Rattle.dv_wire.specs.View.{TalksTo, closing_fed};
 
 use crate::fault::{CloseFault, RunFault};
@@ -48,7 +48,7 @@ pub fn run<R: ByteIn, W: ByteOut>(
     ensures ran { ComesTo result hub.old hub.new (R.remaining reader.old) (R.remaining reader.new) (W.contents writer.old) (W.contents writer.new) }
     ensures reader { R.failures reader.new ≡ failures_read_in result (R.failures reader.old) }
     ensures writer { W.failures writer.new ≡ failures_written_in result (W.failures writer.old) }
-    ensures reads { Asks result (R.reads reader.old) (R.reads reader.new) }
+    ensures reads { AsksInRun result (R.reads reader.old) (R.reads reader.new) }
 {
     let mut piece = room(alloc, PIECE)?;
     let session = hub.open()?;
@@ -78,7 +78,7 @@ fn serve<R: ByteIn, W: ByteOut>(
     ensures talked { TalksTo result session.number hub.old hub.new (R.remaining reader.old) (R.remaining reader.new) (W.contents writer.old) (W.contents writer.new) }
     ensures reader { R.failures reader.new ≡ failures_read_in result (R.failures reader.old) }
     ensures writer { W.failures writer.new ≡ failures_written_in result (W.failures writer.old) }
-    ensures reads { Asks result (R.reads reader.old) (R.reads reader.new) }
+    ensures reads { AsksInRun result (R.reads reader.old) (R.reads reader.new) }
 {
     let mut replies = Vec::new(alloc);
     let mut counts = Counts::none();

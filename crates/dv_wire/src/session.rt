@@ -2,7 +2,7 @@
 
 ghost use Rattle.std.specs.Prelude.{◌≡◌, ◌≤◌, ◌++◌, IfOk, length, drop, vec_len};
 ghost use Rattle.dv_wire.specs.Commands.{command_of};
-ghost use Rattle.dv_wire.specs.Schedule.{Takes, bytes_to};
+ghost use Rattle.dv_wire.specs.Schedule.{TakesSplit, bytes_to};
 ghost use Rattle.dv_core.specs.Step.{MemoryStep};
 ghost use Rattle.dv_wire.specs.Message.{split};
 ghost use Rattle.dv_wire.specs.View.{kept_or_closed, left_or_closed, message_seen, bytes_seen, Answered, Carries};
@@ -129,7 +129,7 @@ fn take_in(
     out: &mut Vec<u8>,
     counts: &mut Counts,
 ) -> Result<(), CloseFault>
-    ensures { Answered out.old.items out.new.items counts.old counts.new (λ answers. Takes session store.old (split (kept.old.items ++ piece.now)) (record { answers = answers; state = store.new; conversation = kept_or_closed result kept.new.items })) }
+    ensures { Answered out.old.items out.new.items counts.old counts.new (λ answers. TakesSplit session store.old (split (kept.old.items ++ piece.now)) (record { answers = answers; state = store.new; conversation = kept_or_closed result kept.new.items })) }
 {
     kept.extend_from_slice(piece)?;
     let taken = carry_out_all(alloc, store, session, shapes, kept, out, counts)?;
@@ -161,7 +161,7 @@ fn carry_out_all(
     counts: &mut Counts,
 ) -> Result<usize, CloseFault>
     ensures taken { IfOk result (λ taken. taken ≤ length stream.now) }
-    ensures carried { Answered out.old.items out.new.items counts.old counts.new (λ answers. Takes session store.old (split stream.now) (record { answers = answers; state = store.new; conversation = left_or_closed result stream.now })) }
+    ensures carried { Answered out.old.items out.new.items counts.old counts.new (λ answers. TakesSplit session store.old (split stream.now) (record { answers = answers; state = store.new; conversation = left_or_closed result stream.now })) }
 {
     let mut rest = stream;
     'messages: loop {

@@ -2,6 +2,7 @@
 
 ghost use Rattle.std.specs.Prelude.{◌≡◌, ◌<◌, ◌↔◌, ◌⊎◌, if◌then◌else◌, Some, None, [], ◌∷◌, ◌++◌, true, false, length, IsTrue, OnOk, OnErr, IfOk, IfErr, IfSome, IsErrOf, slice_get};
 ghost use Rattle.std.specs.Option.{option_map};
+ghost use Rattle.dv_bson.specs.FieldChange.{with_value_pushed};
 ghost use Rattle.dv_bson.specs.Measure.{IsMeasure};
 ghost use Rattle.dv_bson.specs.Names.{AreNamed, value_under, with_value_under, without, has_name, has_zero};
 ghost use Rattle.dv_bson.specs.View.{tree};
@@ -132,9 +133,10 @@ impl Document {
         }
     }
 
-    /// Adds a field whose name is known to be new and without a zero byte. Fields that another document shares are
-    /// copied first.
-    fn add(&mut self, name: &str, value: Value) -> Result<(), NoMemory>
+    /// Adds a field at the end. The name must hold no zero byte, and no field may have it: `push` looks whether it is so.
+    /// Fields that a copy shares are copied first. Fails where memory is wanting; then nothing is changed, and the value is
+    /// dropped.
+    pub fn add(&mut self, name: &str, value: Value) -> Result<(), NoMemory>
         requires whole { has_zero name.now ≡ false }
         requires fresh { has_name name.now self.old ≡ false }
         ensures ok { OnOk result (self.new ≡ self.old ++ (name.now, tree value) ∷ []) }
@@ -146,6 +148,17 @@ impl Document {
                 self.fields = Some(first_field(self.alloc, name, value)?);
                 Ok(())
             }
+        }
+    }
+
+    /// Makes room for one more value where there is none, and for no further one: a document that is stored gets few more.
+    /// Fields that a copy shares are copied first. Fails where memory is wanting.
+    pub(crate) fn reserve_one(&mut self) -> Result<(), NoMemory>
+        ensures { self.new ≡ self.old }
+    {
+        match &mut self.fields {
+            Some(shared) => Rc::make_mut(shared)?.reserve_one(),
+            None => Ok(()),
         }
     }
 
@@ -179,6 +192,21 @@ impl Document {
         match &mut self.fields {
             Some(shared) => put_value(self.alloc, shared, name, value),
             None => Ok(Some(value)),
+        }
+    }
+
+    /// Puts the value behind the elements of the array under the name; where there is no array, nothing is changed, and the
+    /// value is dropped. Fields that a copy shares are copied first. Fails where memory is wanting.
+    pub(crate) fn push_element(&mut self, name: &str, value: Value) -> Result<(), NoMemory>
+        ensures ok { OnOk result (self.new ≡ with_value_pushed name.now (tree value) self.old) }
+        ensures err { OnErr result (self.new ≡ self.old) }
+    {
+        let Some(Value::Array(_)) = self.get(name) else {
+            return Ok(());
+        };
+        match &mut self.fields {
+            Some(shared) => Rc::make_mut(shared)?.push_element(name, value),
+            None => Ok(()),
         }
     }
 

@@ -2,6 +2,7 @@
 
 ghost use Rattle.std.specs.Prelude.{◌≡◌, ◌+◌, ◌<◌, ◌≤◌, [], ◌∷◌, ◌++◌, false, length, take, map, OnOk, OnErr, IfOk, IfSome, slice_get};
 ghost use Rattle.std.specs.Option.{option_map};
+ghost use Rattle.dv_bson.specs.FieldChange.{with_value_pushed};
 ghost use Rattle.dv_bson.specs.Names.{bare, AreNamed, place_under, value_under, with_value_under, without, has_name, has_zero};
 ghost use Rattle.dv_bson.specs.Put.{with_value_at};
 ghost use Rattle.dv_bson.specs.View.{tree};
@@ -131,6 +132,13 @@ impl Fields {
         Ok(())
     }
 
+    /// Makes room for one more value where there is none, and for no further one. Fails where memory is wanting.
+    pub(super) fn reserve_one(&mut self) -> Result<(), NoMemory>
+        ensures { self.new ≡ self.old }
+    {
+        self.values.reserve_exact(1)
+    }
+
     /// Puts the value in place of the one under the name, and gives that one, where there is one.
     pub(super) fn replace(&mut self, name: &str, value: Value) -> Option<Value>
         ensures before { option_map tree result ≡ value_under name.now self.old }
@@ -138,6 +146,17 @@ impl Fields {
     {
         let place = self.place_of(name)?;
         Some(replace(&mut self.values[place], value))
+    }
+
+    /// Puts the value behind the elements of the array under the name, where there is one. Fails where memory is wanting.
+    pub(super) fn push_element(&mut self, name: &str, value: Value) -> Result<(), NoMemory>
+        ensures ok { OnOk result (self.new ≡ with_value_pushed name.now (tree value) self.old) }
+        ensures err { OnErr result (self.new ≡ self.old) }
+    {
+        match self.place_of(name) {
+            Some(place) => self.values[place].push_element(value),
+            None => Ok(()),
+        }
     }
 
     /// A copy with this value in place of the one at `place`. It shares the names. Fails where memory is wanting.

@@ -2,6 +2,7 @@
 
 ghost use Rattle.std.specs.Prelude.{◌≡◌, ◌<◌, [], ◌∷◌, ◌++◌, false, length, OnOk, OnErr, IfOk, IfSome};
 ghost use Rattle.std.specs.Option.{option_map};
+ghost use Rattle.dv_bson.specs.FieldChange.{with_value_pushed};
 ghost use Rattle.dv_bson.specs.Measure.{IsMeasure};
 ghost use Rattle.dv_bson.specs.Names.{value_under, with_value_under, without, has_name, has_zero};
 ghost use Rattle.dv_bson.specs.Put.{with_value_at};
@@ -51,6 +52,13 @@ impl Measured {
         self.fields.add(name, value)
     }
 
+    /// As `reserve_one` of `Fields`. The spelling stays as it is.
+    pub(super) fn reserve_one(&mut self) -> Result<(), NoMemory>
+        ensures { self.new ≡ self.old }
+    {
+        self.fields.reserve_one()
+    }
+
     /// As `replace` of `Fields`.
     pub(super) fn replace(&mut self, name: &str, value: Value) -> Option<Value>
         ensures before { option_map tree result ≡ value_under name.now self.old }
@@ -58,6 +66,15 @@ impl Measured {
     {
         self.size = None;
         self.fields.replace(name, value)
+    }
+
+    /// As `push_element` of `Fields`.
+    pub(super) fn push_element(&mut self, name: &str, value: Value) -> Result<(), NoMemory>
+        ensures ok { OnOk result (self.new ≡ with_value_pushed name.now (tree value) self.old) }
+        ensures err { OnErr result (self.new ≡ self.old) }
+    {
+        self.size = None;
+        self.fields.push_element(name, value)
     }
 
     /// As `copy_with` of `Fields`.

@@ -3,7 +3,7 @@ use Rattle.dv_bson.specs.Tree.{Field}
 use Rattle.dv_index.specs.Ahead.{is_ahead}
 use Rattle.dv_path.specs.Parts.{part}
 use Rattle.dv_path.specs.SortSpec.{Part}
-use Rattle.dv_pipe.specs.Sources.{referred}
+use Rattle.dv_pipe.specs.Sources.{rows_referred}
 use Rattle.dv_sort.specs.Sorting.{stable}
 use Rattle.dv_catalog.proofs.Foremost.{first_alike}
 use Rattle.dv_catalog.proofs.ahead.first_of.Goals as goal
@@ -13,13 +13,13 @@ returns-then-branch c = λ rows same.
     let most = c.args.most in
     let by = part c.args.by.now in
     let bar = c.args.ahead.now.bar.now in
-    let some = referred c.args.ahead.now.documents.items in
+    let some = rows_referred c.args.ahead.now.documents.items in
     let first = c.in_ok-first.first.items in
     let last = c.in-Some.last.now in
     let i = length first - 1 in
     let sorted-by = λ (sort : List Part) (some-rows : List (List Field)). take most (stable sort some-rows) in
     let is : first ≡ sorted-by (by ∷ c.requires.0) some =
-    c.in_ok-first.ensures ∙ ap (λ (documents : List (Bor (List Field))). sorted-by c.args.sort.now (referred documents)) c.deref.ensures.value ∙ ap (λ sort. sorted-by sort some) c.requires.1 in
+    c.in_ok-first.ensures ∙ ap (λ (documents : List (Bor (List Field))). sorted-by c.args.sort.now (rows_referred documents)) c.deref.ensures.value ∙ ap (λ sort. sorted-by sort some) c.requires.1 in
     let there : slice_get first i ≡ Some last = sym (c.in-Some.ensures.value ∙ ap (λ (found : List (List Field)). slice_get found (length found - 1)) c.deref-2.ensures.value) in
     let enough : most ≤ i + 1 = omega (arith, c.len.ensures, c.if-len-most.true) in
     let ahead : is_ahead by bar last ≡ true = sym c.in_ok-is_ahead.ensures ∙ c.if-branch.true in

@@ -2,7 +2,7 @@ use Rattle.std.proofs.Common.{ℕ, List, map, sym, subst, ◌∙◌}
 use Rattle.std.specs.List.{AllByRecursion}
 use Rattle.dv_pipe.specs.Sources.{lists_of}
 use Rattle.dv_views.specs.Forms.{IsClosed, needed}
-use Rattle.dv_views.specs.Views.{form_of}
+use Rattle.dv_views.specs.Views.{view_form}
 use Rattle.dv_catalog.specs.CatalogParts.{AreLive}
 use Rattle.dv_catalog.specs.State.{AreOrdered}
 use Rattle.dv_catalog.proofs.Refreshed.{live_needed, live_refreshed, read_live, reads_nothing, reads_refreshed}
@@ -18,7 +18,7 @@ pub refresh-requires : goal.refresh-requires
 refresh-requires c =
     let those = sym c.deref-3.ensures.value in
     record {
-      closed = subst (λ (names : List (List ℕ)). IsClosed names (map form_of c.args.registry.now)) those c.in_ok-needed.ensures.closed;
+      closed = subst (λ (names : List (List ℕ)). IsClosed names (map view_form c.args.registry.now)) those c.in_ok-needed.ensures.closed;
       read = subst (AllByRecursion (λ name. AreOrdered (lists_of c.in_ok-sources.sources name))) those (rw c.deref-2.ensures.value at c.in_ok-sources.ensures.ordered);
     }
 
@@ -32,10 +32,10 @@ returns-clause-marks c =
 
 pub returns-then-not-is_one_stale-clause-live : goal.returns-then-not-is_one_stale-clause-live
 returns-then-not-is_one_stale-clause-live c =
-    let all : AreLive (needed (map form_of c.args.registry.now) c.args.names.items) c.args.registry.now = subst (λ (names : List (List ℕ)). AreLive names c.args.registry.now) (c.deref.ensures.value ∙ c.in_ok-needed.ensures.needed) (c.is_one_stale.ensures.live c.if-not-is_one_stale.true) in
+    let all : AreLive (needed (map view_form c.args.registry.now) c.args.names.items) c.args.registry.now = subst (λ (names : List (List ℕ)). AreLive names c.args.registry.now) (c.deref.ensures.value ∙ c.in_ok-needed.ensures.needed) (c.is_one_stale.ensures.live c.if-not-is_one_stale.true) in
     live_needed c.args.names.items c.args.collections.now c.args.registry.now c.what_is_asked_for_is_needed.ensures.asked all
 
 pub returns-then-not-is_one_stale-clause-marks : goal.returns-then-not-is_one_stale-clause-marks
 returns-then-not-is_one_stale-clause-marks c =
-    let all : AreLive (needed (map form_of c.args.registry.now) c.args.names.items) c.args.registry.now = subst (λ (names : List (List ℕ)). AreLive names c.args.registry.now) (c.deref.ensures.value ∙ c.in_ok-needed.ensures.needed) (c.is_one_stale.ensures.live c.if-not-is_one_stale.true) in
+    let all : AreLive (needed (map view_form c.args.registry.now) c.args.names.items) c.args.registry.now = subst (λ (names : List (List ℕ)). AreLive names c.args.registry.now) (c.deref.ensures.value ∙ c.in_ok-needed.ensures.needed) (c.is_one_stale.ensures.live c.if-not-is_one_stale.true) in
     read_live c.args.names.items c.args.collections.now c.args.registry.now all

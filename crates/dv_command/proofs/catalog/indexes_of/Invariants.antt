@@ -1,9 +1,9 @@
 -- the indexes so far stand in front of those of the other entries
 use Rattle.std.proofs.Common.{◌≡◌, ◌++◌, Ok, map}
-use Rattle.dv_command.specs.Entries.{index_of}
+use Rattle.dv_command.specs.Entries.{index_asked}
 use Rattle.dv_command.specs.View.{index_seen}
 use Rattle.dv_bson.specs.Results.{◌>>=◌, each}
 use Rattle.dv_command.proofs.catalog.indexes_of.Given as goal
 
 abbrev pub invariant-entries : goal.invariant-entries
-invariant-entries l = each index_of l.fn.entries ≡ (each index_of l.entry-iterator >>= λ behind. Ok (map index_seen l.indexes.items ++ behind))
+invariant-entries l = each index_asked l.fn.entries ≡ (each index_asked l.entry-iterator >>= λ behind. Ok (map index_seen l.indexes.items ++ behind))

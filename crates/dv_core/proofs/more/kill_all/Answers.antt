@@ -1,7 +1,7 @@
 use Rattle.std.proofs.Common.{◌≡◌, ◌∙◌, ap, sym, ℤ, Bool, List, length, Ok, IfOk}
 use Rattle.dv_command.specs.Replies.{kill_cursors_reply}
 use Rattle.dv_command.specs.View.{kill_cursors_seen}
-use Rattle.dv_core.specs.More.{gone_ids, killed, missing_ids, went_each, without_each}
+use Rattle.dv_core.specs.More.{gone_ids, killed, missing_ids, went_each, without_cursors}
 use Rattle.dv_core.proofs.Endings.{done_ends, killed_so, wanting_ends, went_each-length}
 use Rattle.dv_core.proofs.more.kill_all.Goals as goal
 
@@ -18,7 +18,7 @@ returns-in-Ok c =
     let new = c.kill_each.new.cursors in
     let flags = c.in-Ok.went.items in
     let went : flags ≡ went_each c.args.session asked.namespace asked.ids old = rw (← c.deref.ensures, ← c.deref-2.ensures.value) c.in-Ok.ensures.went in
-    let left : new ≡ without_each c.args.session asked.namespace asked.ids old = rw (← c.deref.ensures, ← c.deref-2.ensures.value) c.in-Ok.ensures.left in
+    let left : new ≡ without_cursors c.args.session asked.namespace asked.ids old = rw (← c.deref.ensures, ← c.deref-2.ensures.value) c.in-Ok.ensures.left in
     let replied : IfOk c.kill_reply.result (λ reply. reply ≡ kill_cursors_reply (gone_ids asked.ids flags) (missing_ids asked.ids flags)) = rw (← c.deref-in-Ok.ensures.value, ← c.deref-in-Ok-2.ensures.value) c.kill_reply.ensures in
     done_ends (Ok (killed c.args.session asked old)) old new (kill_cursors_reply (gone_ids asked.ids flags) (missing_ids asked.ids flags)) (ap Ok (killed_so c.args.session asked old new flags went left))
     c.kill_reply.result replied c.told.result c.told.ensures.ok c.told.ensures.err

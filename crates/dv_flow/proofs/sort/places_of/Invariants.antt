@@ -5,4 +5,4 @@ use Rattle.dv_flow.specs.Placed as defined
 use Rattle.dv_flow.proofs.sort.places_of.Given as goal
 
 abbrev pub invariant-loop-part : goal.invariant-loop-part
-invariant-loop-part l = l.places.items ≡ defined.places_of (map part (take l.part-index l.parts)) l.row
+invariant-loop-part l = l.places.items ≡ defined.sort_place (map part (take l.part-index l.parts)) l.row

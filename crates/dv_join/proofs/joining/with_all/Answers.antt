@@ -10,7 +10,7 @@ use Rattle.dv_join.proofs.joining.with_all.Goals as goal
 pub returns-in_default : goal.returns-in_default
 returns-in_default c =
     let none : slice_get c.args.others.now 0 ≡ None = search rules in
-    ap (listed.with_all c.args.rows) (sym (none-of c.args.others.now none))
+    ap (listed.with_each_row c.args.rows) (sym (none-of c.args.others.now none))
 
 pub others-init : goal.others-init
 others-init c =

@@ -4,4 +4,4 @@ use Rattle.dv_join.specs.Listed as listed
 use Rattle.dv_join.proofs.joining.with_all.Given as goal
 
 abbrev pub invariant-others : goal.invariant-others
-invariant-others l = listed.with_all l.all l.pos-iterator ≡ listed.with_all l.fn.rows l.fn.others
+invariant-others l = listed.with_each_row l.all l.pos-iterator ≡ listed.with_each_row l.fn.rows l.fn.others

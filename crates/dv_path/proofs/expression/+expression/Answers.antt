@@ -5,7 +5,7 @@ use Rattle.std.proofs.lemmas.List.{map-append}
 use Rattle.dv_bson.specs.Tree.{array, elements_of}
 use Rattle.dv_bson.specs.Names.{value_under}
 use Rattle.dv_bson.specs.View.{tree}
-use Rattle.dv_path.specs.Expression.{through, expression}
+use Rattle.dv_path.specs.Expression.{component_entered, expression}
 use Rattle.dv_path.proofs.Asked.{filter_more, filter-one}
 use Rattle.dv_path.proofs.Walks.{list_of_fields_of, list_of_elements_of}
 use Rattle.dv_path.proofs.expression.+expression.Goals as goal
@@ -15,12 +15,12 @@ pub of_element-returns-in-Doc : goal.of_element-returns-in-Doc
 of_element-returns-in-Doc t c =
     let rest = expression c.args.rest.now in
     let name = c.args.component.now in
-    let here : through rest name (tree c.args.element.now) ≡ option_and_then rest (value_under name c.in-Doc.document) = ap (λ w. through rest name (tree w)) c.in-Doc.is ∙ ap (λ fs. option_and_then rest (value_under name fs)) (list_of_fields_of c.in-Doc.document) in
+    let here : component_entered rest name (tree c.args.element.now) ≡ option_and_then rest (value_under name c.in-Doc.document) = ap (λ w. component_entered rest name (tree w)) c.in-Doc.is ∙ ap (λ fs. option_and_then rest (value_under name fs)) (list_of_fields_of c.in-Doc.document) in
     rw here c.enter.ensures
 
 pub of_elements-elements-preserved : goal.of_elements-elements-preserved
 of_elements-elements-preserved t c =
-    let f = through (expression c.args.rest.now) c.args.component.now in
+    let f = component_entered (expression c.args.rest.now) c.args.component.now in
     let more = filter_more f tree c.as_slice-element-items.result.now c.elements.element-index c.element-item.result c.elements-test.true c.element-item.is in
     let before = map tree c.elements.found.items in
     let gives : f (tree c.element-item.result) ≡ option_map tree c.in_ok-value.field-0 = sym c.in_ok-value.ensures in
@@ -42,5 +42,5 @@ pub within-returns-in_ok-of_elements-in-Array : goal.within-returns-in_ok-of_ele
 within-returns-in_ok-of_elements-in-Array t c =
     let rest = c.in-Some.rest.now in
     let name = c.in-Some.component.now in
-    let here : expression c.args.path.now (tree c.args.value.now) ≡ Some (array (elements_of (filter_map (through (expression rest) name) c.in-Array.list))) = ap (λ p. expression p (tree c.args.value.now)) c.in-Some.ensures.cases.0 ∙ ap (λ w. expression (name ∷ rest) (tree w)) c.in-Array.is ∙ ap (λ vs. Some (array (elements_of (filter_map (through (expression rest) name) vs)))) (list_of_elements_of c.in-Array.list) in
+    let here : expression c.args.path.now (tree c.args.value.now) ≡ Some (array (elements_of (filter_map (component_entered (expression rest) name) c.in-Array.list))) = ap (λ p. expression p (tree c.args.value.now)) c.in-Some.ensures.cases.0 ∙ ap (λ w. expression (name ∷ rest) (tree w)) c.in-Array.is ∙ ap (λ vs. Some (array (elements_of (filter_map (component_entered (expression rest) name) vs)))) (list_of_elements_of c.in-Array.list) in
     ap (λ vs. Some (array (elements_of vs))) c.in_ok-of_elements-in-Array.ensures ∙ sym here

@@ -1,7 +1,7 @@
 use Rattle.std.proofs.Common.{◌≡◌, ◌+◌, ◌*◌, length, map, take}
 use Rattle.std.specs.List.{filter_map}
 use Rattle.dv_bson.specs.View.{tree}
-use Rattle.dv_path.specs.Expression.{through, expression}
+use Rattle.dv_path.specs.Expression.{component_entered, expression}
 use Rattle.dv_path.proofs.expression.+expression.Given as goal
 
 abbrev pub decreases-within : goal.decreases-within
@@ -17,4 +17,4 @@ abbrev pub decreases-of_element : goal.decreases-of_element
 decreases-of_element l = 4 * length l.rest.now + 2
 
 abbrev pub invariant-of_elements-elements : goal.invariant-of_elements-elements
-invariant-of_elements-elements l = map tree l.found.items ≡ filter_map (through (expression l.rest) l.component) (map tree (take l.element-index l.element-items))
+invariant-of_elements-elements l = map tree l.found.items ≡ filter_map (component_entered (expression l.rest) l.component) (map tree (take l.element-index l.element-items))

@@ -1,7 +1,7 @@
 use Rattle.std.proofs.Common.{◌≡◌, ◌∙◌, ◌++◌, ◌∷◌, [], map, drop, ap, sym, ◌+◌}
 use Rattle.std.specs.List.{flat_map}
 use Rattle.dv_bson.specs.Names.{value_under}
-use Rattle.dv_path.specs.Candidates.{candidates, step, whole}
+use Rattle.dv_path.specs.Candidates.{candidates, step_from, whole}
 use Rattle.dv_path.specs.View.{seen}
 use Rattle.dv_path.proofs.Asked.{positive, whole-first, candidates-more, candidates-end}
 use Rattle.dv_path.proofs.listed.whole.Goals as goal
@@ -17,7 +17,7 @@ pub loop-component-preserved : goal.loop-component-preserved
 loop-component-preserved c =
     let names = c.behind-component-items.result.now in
     let i = c.loop-component.component-index in
-    ap (flat_map (candidates (drop (i + 1) names))) (c.in_ok-found.ensures ∙ ap (λ l. flat_map (step c.component-item.result) (map seen l)) c.as_slice.ensures.value) ∙ candidates-more names i c.component-item.result (map seen c.loop-component.found.items) c.loop-component-test.true c.component-item.is ∙ c.loop-component.invariant
+    ap (flat_map (candidates (drop (i + 1) names))) (c.in_ok-found.ensures ∙ ap (λ l. flat_map (step_from c.component-item.result) (map seen l)) c.as_slice.ensures.value) ∙ candidates-more names i c.component-item.result (map seen c.loop-component.found.items) c.loop-component-test.true c.component-item.is ∙ c.loop-component.invariant
 
 pub returns : goal.returns
 returns c = sym (candidates-end c.behind-component-items.result.now c.loop-component.component-index (map seen c.loop-component.found.items) c.loop-component-test.false) ∙ c.loop-component.invariant

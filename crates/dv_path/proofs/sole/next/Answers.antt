@@ -1,7 +1,7 @@
 use Rattle.std.proofs.Common.{◌∙◌, ◌∷◌, [], ap, sym, refl, subst}
 use Rattle.dv_bson.specs.Tree.{document, fields_of}
 use Rattle.dv_bson.specs.View.{tree}
-use Rattle.dv_path.specs.Candidates.{step}
+use Rattle.dv_path.specs.Candidates.{step_from}
 use Rattle.dv_path.specs.View.{seen}
 use Rattle.dv_path.specs.Ways.{HasNoArray}
 use Rattle.dv_path.proofs.Asked.{seen-at, step-document}
@@ -24,7 +24,7 @@ returns-in-Doc-clause-on c = λ names clear.
 
 pub returns-in_default-value : goal.returns-in_default-value
 returns-in_default-value c = record {
-  sole = ap (λ x. step c.args.component.now (seen x)) c.in-Found.is ∙ plain-step c.in-Found.value.now c.args.component.now c.in_default-value.not-Doc c.in_default-value.not-Array;
+  sole = ap (λ x. step_from c.args.component.now (seen x)) c.in-Found.is ∙ plain-step c.in-Found.value.now c.args.component.now c.in_default-value.not-Doc c.in_default-value.not-Array;
   some = λ names clear. refl;
   on = λ names clear. nothing-stands names;
 }

@@ -1,5 +1,5 @@
 use Rattle.std.proofs.Common.{rules, subst, sym}
-use Rattle.dv_program.specs.Serve.{Accepts, Closes, Connection, IsFresh}
+use Rattle.dv_program.specs.Serve.{Accepts, ClosesConnection, Connection, HasTakenNothing}
 use Rattle.dv_program.proofs.Served.{session_had}
 use Rattle.dv_program.proofs.serve.serve_next.Goals as goal
 
@@ -11,10 +11,10 @@ returns-clause-served g c =
     let before = g.L.Output.ByteOut.contents c.in_ok-input.output in
     let taken = g.L.Output.ByteOut.contents c.run-told.new.writer in
     let next : Accepts coming input (g.L.Listener.coming c.accept.new.self) = search rules in
-    let fresh : IsFresh before = search rules in
+    let fresh : HasTakenNothing before = search rules in
     let connection : Connection = record { input = input; left = left; before = before; taken = taken } in (
       connection,
       subst (λ new. Accepts coming input new) (sym c.close.ensures.coming) next,
-      subst (λ old. Closes old left taken (g.L.Listener.closed c.close.new.self)) c.accept.ensures.closed c.close.ensures.closed,
+      subst (λ old. ClosesConnection old left taken (g.L.Listener.closed c.close.new.self)) c.accept.ensures.closed c.close.ensures.closed,
       session_had connection c.args.hub.now c.run-told.new.hub c.run-told.result fresh c.run-told.ensures.ran,
     )

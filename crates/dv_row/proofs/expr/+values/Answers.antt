@@ -1,6 +1,6 @@
 use Rattle.std.proofs.Common.{◌≡◌, ◌∙◌, ap, ap₂, sym, map, drop, ◌+◌}
-use Rattle.dv_row.specs.Expressions.{computed_of, with_computed, with_field, value_of}
-use Rattle.dv_row.specs.ExpressionView.{expression, named}
+use Rattle.dv_row.specs.Expressions.{computed_of, with_computed, with_field_behind, value_of}
+use Rattle.dv_row.specs.ExpressionView.{expression_seen, named}
 use Rattle.dv_row.proofs.Items.{drop-read, drop-past}
 use Rattle.dv_row.proofs.expr.+values.Goals as goal
 
@@ -10,7 +10,7 @@ Computed::push_values-fields-preserved t c =
     let fields = c.deref-field-items.result.now in
     let row = c.args.row.now in
     let f = c.field-item.result in
-    let pushed : c.push_field.new.document ≡ with_field f.name (value_of (expression f.expr) row) c.fields.document = c.in_ok-push_field.ensures.ok ∙ ap₂ (λ n v. with_field n v c.fields.document) c.as_str.ensures c.in_ok-value.ensures in
+    let pushed : c.push_field.new.document ≡ with_field_behind f.name (value_of (expression_seen f.expr) row) c.fields.document = c.in_ok-push_field.ensures.ok ∙ ap₂ (λ n v. with_field_behind n v c.fields.document) c.as_str.ensures c.in_ok-value.ensures in
     let read = drop-read fields c.fields.field-index f c.fields-test.true c.field-item.is in
     ap (with_computed (computed_of (map named (drop (c.fields.field-index + 1) fields))) row) pushed ∙ ap (λ l. with_computed (computed_of (map named l)) row c.fields.document) (sym read) ∙ c.fields.invariant
 

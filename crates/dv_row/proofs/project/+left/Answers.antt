@@ -4,12 +4,12 @@ use Rattle.std.specs.Option.{option_map}
 use Rattle.dv_bson.specs.Tree.{document, array, fields_of, elements_of, list_of_elements}
 use Rattle.dv_bson.specs.View.{tree}
 use Rattle.dv_bson.specs.Weight.{field_weighs_less, value_weighs_less}
-use Rattle.dv_row.specs.Expressions.{with_field}
-use Rattle.dv_row.specs.Projecting.{behind, left, left_inside, fields_left, elements_left, row_left}
+use Rattle.dv_row.specs.Expressions.{with_field_behind}
+use Rattle.dv_row.specs.Projecting.{paths_behind, left_of_value, left_inside, fields_left, elements_left, row_left}
 use Rattle.dv_row.proofs.Items.{take-past, take-read, none-there}
 use Rattle.dv_row.proofs.Left.{row-left_more, fields-of_list, elements-of_list, single, elements-left_more}
-use Rattle.dv_row.proofs.project.+left.Goals as goal
-use Rattle.dv_row.proofs.project.+left.Goals.{document_left-else-fields-test, document_left-then-fields-test+in_default, list_left-in-Some+in_ok-push, list_left-in_default}
+use Rattle.dv_row.proofs.project.+left_of_value.Goals as goal
+use Rattle.dv_row.proofs.project.+left_of_value.Goals.{document_left-else-fields-test, document_left-then-fields-test+in_default, list_left-in-Some+in_ok-push, list_left-in_default}
 
 pub document_left-fields-init : goal.document_left-fields-init
 unfolding fields_left
@@ -24,7 +24,7 @@ document_left-fields-preserved t c =
     let ways = c.args.ways.now in
     let name = c.in-Some.name.now in
     let v = tree c.in-Some.value.now in
-    c.in_ok-push_field.ensures.ok ∙ ap (λ k. with_field name k c.fields.left) (c.in_ok-kept.ensures ∙ ap (λ ws. left keeps ws v) c.behind.ensures) ∙ ap (with_field name (left keeps (behind name ways) v)) c.fields.invariant ∙ row-left_more keeps ways c.args.document.now c.fields.place name v c.len-place-end.ensures.named c.in-Some.ensures
+    c.in_ok-push_field.ensures.ok ∙ ap (λ k. with_field_behind name k c.fields.left) (c.in_ok-kept.ensures ∙ ap (λ ws. left_of_value keeps ws v) c.behind.ensures) ∙ ap (with_field_behind name (left_of_value keeps (paths_behind name ways) v)) c.fields.invariant ∙ row-left_more keeps ways c.args.document.now c.fields.place name v c.len-place-end.ensures.named c.in-Some.ensures
 
 pub document_left-returns : goal.document_left-returns
 document_left-returns t c =

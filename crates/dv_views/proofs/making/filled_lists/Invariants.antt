@@ -3,7 +3,7 @@ use Rattle.std.proofs.Common.{◌≡◌, drop, take}
 use Rattle.std.specs.List.{AllByRecursion}
 use Rattle.dv_pipe.specs.Sources.{lists_of}
 use Rattle.dv_views.specs.Filled.{lists_in_turn}
-use Rattle.dv_views.specs.Ground.{IsPlaced, outs_below}
+use Rattle.dv_views.specs.Ground.{IsPlacedUnder, outs_below}
 use Rattle.dv_views.specs.Keeping.{IsSoundLive, kept_seen}
 use Rattle.dv_views.specs.Older.{views_before}
 use Rattle.dv_views.specs.Views.{AreInOrder}
@@ -17,5 +17,5 @@ invariant-lists l =
       sound : IsSoundLive l.pipeline l.live;
       ordered : AllByRecursion (λ name. AreInOrder (lists name)) (drop l.place l.lookups);
       taken : lists_in_turn l.place (drop l.place l.lookups) (outs_below older lists) (kept_seen l.live).taken ≡ lists_in_turn 0 l.lookups (outs_below older lists) (kept_seen l.fn.live).taken;
-      placed : AllByRecursion (IsPlaced older lists) (take l.place l.lookups);
+      placed : AllByRecursion (IsPlacedUnder older lists) (take l.place l.lookups);
     }

@@ -4,7 +4,7 @@ use Rattle.dv_change.specs.RowLaws.{positioned-none}
 use Rattle.dv_pipe.specs.Sources.{lists_of}
 use Rattle.dv_pipe.specs.declared.stage.Stage.{Stage}
 use Rattle.dv_views.specs.Filled.{lists_in_turn}
-use Rattle.dv_views.specs.Ground.{IsPlaced, outs_below}
+use Rattle.dv_views.specs.Ground.{IsPlacedUnder, outs_below}
 use Rattle.dv_views.specs.Keeping.{kept_seen}
 use Rattle.dv_views.specs.Older.{views_before}
 use Rattle.dv_views.specs.Turning.{AreFresh}
@@ -41,7 +41,7 @@ returns-clause-built c =
     let older = views_before c.args.ground.now.place c.args.ground.now.views.now.entries in
     let live = c.new-fresh.result in
     let fresh = subst (AreFresh stages) (sym c.new-fresh.ensures.turns) (subst (λ (ss : List Stage). AreFresh ss c.in_ok-turners.turners.items) c.stages.ensures c.in_ok-turners.ensures) in
-    let placed = subst (λ (names : List (List ℕ)). AllByRecursion (IsPlaced older lists) names) c.requires.lookups c.in_ok-some.ensures.placed in
+    let placed = subst (λ (names : List (List ℕ)). AllByRecursion (IsPlacedUnder older lists) names) c.requires.lookups c.in_ok-some.ensures.placed in
     built older lists stages source placed c.in_ok-whole.ensures.placed (kept_seen live).taken (kept_seen c.in_ok-some.some).taken c.in_ok-whole.whole c.counted_anew.result
     (λ i. record { left = left_fresh positioned-none stages live fresh c.new-fresh.ensures.taken i; named = fresh_named stages live.chain fresh i })
     (c.in_ok-some.ensures.taken ∙ ap (λ (names : List (List ℕ)). lists_in_turn 0 names (outs_below older lists) (kept_seen live).taken) c.requires.lookups)

@@ -1,5 +1,5 @@
 use Rattle.std.proofs.Common.{◌≡◌, ◌<◌, length, rules, sym}
-use Rattle.dv_wire.specs.Sections.{frame_at}
+use Rattle.dv_wire.specs.Sections.{section_frame}
 use Rattle.dv_wire.proofs.Rows.{at_end, next_seen, fails}
 use Rattle.dv_wire.proofs.Frames.{frames_advance}
 use Rattle.dv_wire.proofs.sections.documents_in.Goals as goal
@@ -7,17 +7,17 @@ use Rattle.dv_wire.proofs.sections.documents_in.Goals as goal
 pub returns-in_default : goal.returns-in_default
 returns-in_default c =
     let some : 0 < length c.documents.rest.now = search rules in
-    fails frame_at frames_advance c.args.bytes.now _ c.documents.rest.now c.documents.invariant (sym c.in_default.ensures) some
+    fails section_frame frames_advance c.args.bytes.now _ c.documents.rest.now c.documents.invariant (sym c.in_default.ensures) some
 
 pub documents-smaller : goal.documents-smaller
 documents-smaller c = frames_advance.shorter c.documents.rest.now c.in-Some.document.now c.in-Some.behind.now (sym c.in-Some.ensures)
 
 pub documents-preserved : goal.documents-preserved
 documents-preserved c =
-    next_seen frame_at frames_advance (λ d. d.now) c.args.bytes.now c.documents.documents.items c.push.new.self.items c.documents.rest.now c.in-Some.document c.in-Some.behind.now
+    next_seen section_frame frames_advance (λ d. d.now) c.args.bytes.now c.documents.documents.items c.push.new.self.items c.documents.rest.now c.in-Some.document c.in-Some.behind.now
     c.documents.invariant (sym c.in-Some.ensures) c.in_ok-push.ensures.items
 
 pub returns : goal.returns
 returns c =
     let none : length c.documents.rest.now ≡ 0 = search rules in
-    at_end frame_at c.args.bytes.now _ c.documents.rest.now c.documents.invariant none
+    at_end section_frame c.args.bytes.now _ c.documents.rest.now c.documents.invariant none

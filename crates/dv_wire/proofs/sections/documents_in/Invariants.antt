@@ -1,10 +1,10 @@
 use Rattle.std.proofs.Common.{length, map}
-use Rattle.dv_wire.specs.Sections.{frame_at}
+use Rattle.dv_wire.specs.Sections.{section_frame}
 use Rattle.dv_wire.proofs.Rows.{Comes}
 use Rattle.dv_wire.proofs.sections.documents_in.Given as goal
 
 abbrev pub invariant-documents : goal.invariant-documents
-invariant-documents l = Comes frame_at l.bytes (map (λ d. d.now) l.documents.items) l.rest
+invariant-documents l = Comes section_frame l.bytes (map (λ d. d.now) l.documents.items) l.rest
 
 abbrev pub decreases-documents : goal.decreases-documents
 decreases-documents l = length l.rest

@@ -29,7 +29,7 @@ fields-preserved c =
     let tells = λ (b : Bool) (is : c.is_none.result ≡ b). told names c.in_ok-gone.gone field.0 c.place_of.result c.is_none.result b c.in_ok-gone.ensures c.place_of.ensures c.is_none.ensures is in
     elim c.if-is_none.branch [
       | then-is_none+in_ok-try_clone+in_ok-add w ↦
-          (let is : c.fields.left ++ field ∷ [] ≡ c.if-is_none.left = rw (w.left-is, w.in_ok-add.ensures, w.in_ok-try_clone.ensures) refl in subst Copied is (one_copied c.fields.invariant field rest here (tells true w.if-is_none.true)))
+          (let is : c.fields.left ++ field ∷ [] ≡ c.if-is_none.left = rw (w.left-is, w.in_ok-add.ensures.ok, w.in_ok-try_clone.ensures) refl in subst Copied is (one_copied c.fields.invariant field rest here (tells true w.if-is_none.true)))
       | else-is_none w ↦ subst Copied (sym w.left-is) (one_passed c.fields.invariant field rest here (tells false w.if-is_none.false))
     ]
 

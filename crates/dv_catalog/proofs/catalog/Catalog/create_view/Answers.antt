@@ -4,7 +4,7 @@ use Rattle.dv_command.specs.View.{view_on_seen}
 use Rattle.dv_pipe.specs.Sources as pipes
 use Rattle.dv_views.specs.Forms.{names_read, needed}
 use Rattle.dv_views.specs.Made.{AreAlike}
-use Rattle.dv_views.specs.Views.{form_of}
+use Rattle.dv_views.specs.Views.{view_form}
 use Rattle.dv_catalog.specs.CatalogParts.{marks_of, state_of}
 use Rattle.dv_catalog.specs.Marks.{Marked, marks_made}
 use Rattle.dv_catalog.specs.Parts.{Leaves}
@@ -23,7 +23,7 @@ invariant_of-self c =
     let before = c.self.inside.views in
     let sources = c.in_ok-sources.sources in
     let free : is_there c.args.namespace.now (state_of collections before) ≡ false = rw (← c.self.view_is) at c.requires in
-    let these = c.deref-2.ensures.value ∙ c.in_ok-needed.ensures.needed ∙ ap (needed (map form_of before)) (c.in_ok-names.ensures ∙ ap (names_read stages) (c.deref.ensures ∙ sym c.deref-3.ensures)) in
+    let these = c.deref-2.ensures.value ∙ c.in_ok-needed.ensures.needed ∙ ap (needed (map view_form before)) (c.in_ok-names.ensures ∙ ap (names_read stages) (c.deref.ensures ∙ sym c.deref-3.ensures)) in
     let alike = subst (λ (ns : List (List ℕ)). AreAlike ns (pipes.lists_of sources) (lists_of collections)) these c.in_ok-sources.ensures.alike in
     kept_new c.args.namespace.now source stages collections before c.create.new.self c.in-Ok.ensures.ok (neither _ _ free).0 (c.create.ensures.right (lists_of collections) alike c.self.invariant.right) c.self.invariant
 
@@ -48,9 +48,9 @@ invariant_of-self-2 c =
     let collections = c.self.inside.collections in
     let before = c.self.inside.views in
     let sources = c.in_ok-sources.sources in
-    let these = c.deref-2.ensures.value ∙ c.in_ok-needed.ensures.needed ∙ ap (needed (map form_of before)) (c.in_ok-names.ensures ∙ ap (names_read stages) (c.deref.ensures ∙ sym c.deref-3.ensures)) in
+    let these = c.deref-2.ensures.value ∙ c.in_ok-needed.ensures.needed ∙ ap (needed (map view_form before)) (c.in_ok-names.ensures ∙ ap (names_read stages) (c.deref.ensures ∙ sym c.deref-3.ensures)) in
     let alike = subst (λ (ns : List (List ℕ)). AreAlike ns (pipes.lists_of sources) (lists_of collections)) these c.in_ok-sources.ensures.alike in
-    let forms = partly_forms (needed (map form_of before) (names_read stages source)) before c.create.new.self c.in-Err.ensures.err in
+    let forms = partly_forms (needed (map view_form before) (names_read stages source)) before c.create.new.self c.in-Err.ensures.err in
     kept_forms collections before c.create.new.self forms (c.create.ensures.right (lists_of collections) alike c.self.invariant.right) c.self.invariant
 
 pub returns-clause-made : goal.returns-clause-made
@@ -60,7 +60,7 @@ returns-clause-made c =
     let collections = c.self.inside.collections in
     let before = c.self.inside.views in
     let after = c.create.new.self in
-    let forms = partly_forms (needed (map form_of before) (names_read stages source)) before after (rw c.deref-3.ensures at c.in-Err.ensures.err) in
+    let forms = partly_forms (needed (map view_form before) (names_read stages source)) before after (rw c.deref-3.ensures at c.in-Err.ensures.err) in
     subst (λ (m : Marked). Leaves {B = Unit {0}} (made c.args.namespace.now (Some (view_on_seen c.args.view)) m.state) m.state (Err c.refusal_of.result) (state_of collections after)) c.self.view_is
     (rw c.refusal_of.ensures (view_refused c.args.namespace.now source stages collections before after c.in-Err.fault (rw c.deref-3.ensures at c.in-Err.ensures.fault), same_state collections before after forms))
 
@@ -71,5 +71,5 @@ returns-clause-marks c =
     let collections = c.self.inside.collections in
     let before = c.self.inside.views in
     rw (← c.self.view_is, c.refusal_of.ensures)
-    (refused_marks c.args.namespace.now source stages collections before c.create.new.self c.in-Err.fault (rw c.deref-3.ensures at c.in-Err.ensures.fault) (Unit {0}) (marks_made (Some (view_on_seen c.args.view)) (map form_of before) (marks_of before))
+    (refused_marks c.args.namespace.now source stages collections before c.create.new.self c.in-Err.fault (rw c.deref-3.ensures at c.in-Err.ensures.fault) (Unit {0}) (marks_made (Some (view_on_seen c.args.view)) (map view_form before) (marks_of before))
     (rw c.deref-3.ensures at c.in-Err.ensures.err) (rw c.deref-3.ensures at c.in-Err.ensures.refused))

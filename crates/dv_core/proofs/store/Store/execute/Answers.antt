@@ -3,7 +3,7 @@ use Rattle.dv_catalog.specs.Views.{created, dropped}
 use Rattle.dv_command.specs.Asked.{find, aggregate, get_more, kill_cursors, create, drop, create_indexes, drop_indexes, explain, view_stats}
 use Rattle.dv_command.specs.Replies.{reply_of, drop_reply}
 use Rattle.dv_command.specs.View.{aggregate_seen, create_indexes_seen, create_seen, drop_indexes_seen, drop_seen, explain_seen, find_seen, get_more_seen, kill_cursors_seen, view_stats_seen, write_seen}
-use Rattle.dv_core.specs.Find.{found, gathered}
+use Rattle.dv_core.specs.Find.{reply_to_find, reply_to_aggregate}
 use Rattle.dv_core.specs.Indexes.{find_explained, indexed, unindexed}
 use Rattle.dv_core.specs.More.{killed, next_batch}
 use Rattle.dv_core.specs.State.{marked}
@@ -26,7 +26,7 @@ returns-in-Ok-Find-clause-step c =
     let x = find_seen c.in-Ok-Find.find in
     let old = c.args.self.now in
     let stand = read_by_so old c.args.session c.args.command.now (find x) asks c.find.result c.find.new.self.marks c.find.ensures.marks (λ is. is) in
-    cursors_given old c.args.session c.args.command.now (find x) asks c.find.new.self (found c.args.session x old.catalog old.cursors) c.find.result c.outcome_of-in-Ok-Find.result refl c.find.ensures.catalog c.find.ensures.reply
+    cursors_given old c.args.session c.args.command.now (find x) asks c.find.new.self (reply_to_find c.args.session x old.catalog old.cursors) c.find.result c.outcome_of-in-Ok-Find.result refl c.find.ensures.catalog c.find.ensures.reply
     c.outcome_of-in-Ok-Find.ensures stand
 
 pub returns-in-Ok-Aggregate-clause-step : goal.returns-in-Ok-Aggregate-clause-step
@@ -35,7 +35,7 @@ returns-in-Ok-Aggregate-clause-step c =
     let x = aggregate_seen c.in-Ok-Aggregate.aggregate in
     let old = c.args.self.now in
     let stand = read_by_so old c.args.session c.args.command.now (aggregate x) asks c.aggregate.result c.aggregate.new.self.marks c.aggregate.ensures.marks (λ is. is) in
-    cursors_given old c.args.session c.args.command.now (aggregate x) asks c.aggregate.new.self (gathered c.args.session x old.catalog old.cursors) c.aggregate.result c.outcome_of-in-Ok-Aggregate.result refl
+    cursors_given old c.args.session c.args.command.now (aggregate x) asks c.aggregate.new.self (reply_to_aggregate c.args.session x old.catalog old.cursors) c.aggregate.result c.outcome_of-in-Ok-Aggregate.result refl
     c.aggregate.ensures.catalog c.aggregate.ensures.reply c.outcome_of-in-Ok-Aggregate.ensures stand
 
 pub returns-in-Ok-GetMore-clause-step : goal.returns-in-Ok-GetMore-clause-step

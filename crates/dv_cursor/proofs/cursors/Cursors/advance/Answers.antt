@@ -1,6 +1,6 @@
 use Rattle.std.proofs.Common.{◌≡◌, ◌≢◌, [], drop, true≢false, ap, sym, ◌∙◌}
 use Rattle.std.specs.FinMap as finite
-use Rattle.dv_cursor.specs.Cursors.{Cursor, Cursors, Place}
+use Rattle.dv_cursor.specs.Cursors.{Cursor, Cursors, CursorPlace}
 use Rattle.dv_cursor.proofs.Kept.{Kept, kept, get-kept, kept-written, remove-insert, advanced-none, advanced-out, advanced-left}
 use Rattle.dv_cursor.proofs.cursors.Cursors.advance.Goals as goal
 
@@ -11,7 +11,7 @@ returns-in_default c =
 
 pub returns-then-skip : goal.returns-then-skip
 returns-then-skip c =
-    let place : Place = (c.args.session, c.args.id) in
+    let place : CursorPlace = (c.args.session, c.args.id) in
     let there = get-kept c.self.inside.cursors.entries place ∙ sym c.in-Some.ensures.value in
     let written = kept-written c.self.inside.cursors (c.get_mut.follows.lender c.skip.new.self) place _ c.skip.new.self c.in-Some.ensures.value (c.get_mut.follows.holds c.skip.new.self) in
     let out : drop c.args.count c.in-Some.cursor.now.rows ≡ [] = rw c.skip.ensures.skipped at (c.skip.ensures.out.0 c.if-skip.true) in
@@ -22,7 +22,7 @@ returns-then-skip c =
 
 pub returns-else-skip : goal.returns-else-skip
 returns-else-skip c =
-    let place : Place = (c.args.session, c.args.id) in
+    let place : CursorPlace = (c.args.session, c.args.id) in
     let there = get-kept c.self.inside.cursors.entries place ∙ sym c.in-Some.ensures.value in
     let written = kept-written c.self.inside.cursors (c.get_mut.follows.lender c.skip.new.self) place _ c.skip.new.self c.in-Some.ensures.value (c.get_mut.follows.holds c.skip.new.self) in
     let left : drop c.args.count c.in-Some.cursor.now.rows ≢ [] = λ out. true≢false (sym (c.skip.ensures.out.1 (rw c.skip.ensures.skipped out)) ∙ c.if-skip.false) in

@@ -1,6 +1,6 @@
 -- Behind a full front, nothing that is shown changes; else what changes stands at the position of the change and at the edge.
 use Rattle.std.proofs.Common.{append-nil, arith, rules, subst, sym, true, ◌≡◌, ◌∙◌, ◌++◌, ◌+◌, ap, length, refl}
-use Rattle.dv_change.specs.Changes.{IsPositioned, Positioned, place_of, with_change}
+use Rattle.dv_change.specs.Changes.{IsPositioned, Positioned, position_changed, with_change}
 use Rattle.dv_change.specs.DiffLaws.{positioned-changed}
 use Rattle.dv_change.specs.Raised.{raised}
 use Rattle.dv_flow.specs.Limiting.{is_past, limit_left}
@@ -17,7 +17,7 @@ returns-then-is_behind c =
     let xs = c.args.self.now.front.entries in
     let ys = c.args.self.now.rest.entries in
     let behind = c.is_behind.ensures.behind c.if-is_behind.true in
-    let past : is_past (place_of c.args.change) xs ≡ true = ap (λ p. is_past p xs) (sym (c.in_ok-pos.ensures ∙ c.position_of.ensures)) ∙ behind.past in
+    let past : is_past (position_changed c.args.change) xs ≡ true = ap (λ p. is_past p xs) (sym (c.in_ok-pos.ensures ∙ c.position_of.ensures)) ∙ behind.past in
     let most = (cut-length n xs ys c.requires.front).0 in
     let full = behind.full in
     let long : length xs ≡ n = omega (arith, full, most) in

@@ -4,7 +4,7 @@ use Rattle.dv_change.specs.Ordered.{put}
 use Rattle.dv_gather.specs.Grouping.{Accumulation}
 use Rattle.dv_group.specs.declared.bundle.Bundle.{Bundle}
 use Rattle.dv_group.specs.declared.running.Way.TheVariants.{Comes}
-use Rattle.dv_group.specs.Room.{AreNarrowIn, HaveRoom, most}
+use Rattle.dv_group.specs.Room.{AreNarrowIn, HaveRoom, most_rows}
 use Rattle.dv_group.specs.Running.{moved_from}
 use Rattle.dv_group.specs.RunningView.{running_seen}
 use Rattle.dv_group.proofs.Bundled.{came-sound, may-come, none-left, put-over}
@@ -12,7 +12,7 @@ use Rattle.dv_group.proofs.bundle.Bundle.with.Goals as goal
 
 pub follow_each-requires : goal.follow_each-requires
 follow_each-requires c =
-    let few : length c.in_ok-members.field-0.members ≤ most = omega (arith, c.len.ensures) in
+    let few : length c.in_ok-members.field-0.members ≤ most_rows = omega (arith, c.len.ensures) in
     subst (λ (fields : List Accumulation). HaveRoom Comes fields c.args.pos c.args.row (map running_seen c.in_ok-members.field-0.totals.items)) (sym c.fields.ensures)
     (may-come c.args.group.now.fields c.args.pos c.is_exact.ensures c.in_ok-members.field-0 c.in_ok-members.ensures.sound c.args.row few)
 

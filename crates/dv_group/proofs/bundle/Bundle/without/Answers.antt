@@ -3,7 +3,7 @@ use Rattle.dv_change.specs.Changes.{at}
 use Rattle.dv_gather.specs.Grouping.{Accumulation}
 use Rattle.dv_group.specs.declared.bundle.Bundle.{Bundle}
 use Rattle.dv_group.specs.declared.running.Way.TheVariants.{Goes}
-use Rattle.dv_group.specs.Room.{HaveRoom, most}
+use Rattle.dv_group.specs.Room.{HaveRoom, most_rows}
 use Rattle.dv_group.specs.Running.{moved_from}
 use Rattle.dv_group.specs.RunningView.{running_seen}
 use Rattle.dv_group.proofs.Bundled.{may-go, none-went, went-sound}
@@ -12,7 +12,7 @@ use Rattle.dv_group.proofs.bundle.Bundle.without.Goals.{in-Some+in_ok-follow_eac
 
 pub follow_each-requires : goal.follow_each-requires
 follow_each-requires c =
-    let few : length c.args.self.members ≤ most = omega (arith, c.len.ensures) in
+    let few : length c.args.self.members ≤ most_rows = omega (arith, c.len.ensures) in
     let there : at c.args.pos.now c.args.self.members ≡ Some c.in-Some.row.now = sym c.in-Some.ensures in
     subst (λ (fields : List Accumulation). HaveRoom Goes fields c.args.pos.now c.in-Some.row.now (map running_seen c.args.self.totals.items)) (sym c.fields.ensures)
     (may-go c.args.group.now.fields c.args.pos.now c.is_exact.ensures c.args.self c.requires c.in-Some.row.now few there)

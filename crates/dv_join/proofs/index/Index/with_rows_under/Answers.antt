@@ -3,7 +3,7 @@ use Rattle.std.proofs.Common.{rules, ◌≡◌, ◌∙◌, ◌∷◌, [], ap, sy
 use Rattle.std.specs.Option.{option_copied, unwrap_or}
 use Rattle.dv_order.specs.Key.{KeyTree}
 use Rattle.dv_join.specs.Indexed.{under}
-use Rattle.dv_join.specs.Listed.{with_all}
+use Rattle.dv_join.specs.Listed.{with_each_row}
 use Rattle.dv_join.proofs.Indexes.{all_under, all_under-passing}
 use Rattle.dv_join.proofs.index.Index.with_rows_under.Goals as goal
 
@@ -19,7 +19,7 @@ keys-preserved-in-Some-get c =
     let key = c.in-Some.key.now in
     let step : c.keys.key-iterator ≡ key ∷ c.next.new.self = search rules in
     let there : c.in-Some-get.rows.now ≡ under key c.args.self.now = ap (λ o. unwrap_or o []) (sym (ap option_copied c.in-Some-get.is) ∙ c.get.ensures.value) in
-    ap (all_under f c.next.new.self) (c.in_ok-found.ensures ∙ ap (with_all c.keys.found) there)
+    ap (all_under f c.next.new.self) (c.in_ok-found.ensures ∙ ap (with_each_row c.keys.found) there)
     ∙ ap (λ ks. all_under f ks c.keys.found) (sym step)
     ∙ c.keys.invariant
 
@@ -29,6 +29,6 @@ keys-preserved c =
     let key = c.in-Some.key.now in
     let step : c.keys.key-iterator ≡ key ∷ c.next.new.self = search rules in
     let none : under key c.args.self.now ≡ [] = ap (λ o. unwrap_or o []) (sym c.get.ensures.value ∙ ap option_copied c.in_default.is) in
-    ap (λ es. all_under f c.next.new.self (with_all c.keys.found es)) (sym none)
+    ap (λ es. all_under f c.next.new.self (with_each_row c.keys.found es)) (sym none)
     ∙ ap (λ ks. all_under f ks c.keys.found) (sym step)
     ∙ c.keys.invariant

@@ -1,10 +1,10 @@
 -- What is owed is what it makes of the rows that have a key of the document that went or of the one that came.
 use Rattle.std.proofs.Common.{◌≡◌, ◌∙◌, ◌||◌, false, filter, subst, sym, List}
-use Rattle.dv_change.specs.Changes.{IsPositioned, Positioned, at, place_of, row_in, with_change}
+use Rattle.dv_change.specs.Changes.{IsPositioned, Positioned, at, position_changed, row_in, with_change}
 use Rattle.dv_change.specs.Difference.{diff}
 use Rattle.dv_change.specs.DiffLaws.{positioned-changed, positioned-filter}
 use Rattle.dv_bson.specs.Tree.{Field}
-use Rattle.dv_join.specs.Indexed.{IsIndexOf, has_any}
+use Rattle.dv_join.specs.Indexed.{IsJoinIndexOf, has_any}
 use Rattle.dv_join.specs.Placed.{looked_up_at}
 use Rattle.dv_join.specs.Turning.{has_foreign, has_local, if_any}
 use Rattle.dv_join.proofs.Indexes.{index-changed}
@@ -22,7 +22,7 @@ returns-clause-sound c =
       left = c.requires.left;
       foreign = taken.positioned;
       left_by = c.requires.left_by;
-      foreign_by = subst (λ (rows : Positioned). IsIndexOf (has_foreign self.lookup) rows c.exchange.new.self) (sym taken.rows) index;
+      foreign_by = subst (λ (rows : Positioned). IsJoinIndexOf (has_foreign self.lookup) rows c.exchange.new.self) (sym taken.rows) index;
     }
 
 pub returns-clause-owed : goal.returns-clause-owed
@@ -43,7 +43,7 @@ returns-clause-owed c =
     let touched-are : IsPositioned c.in_ok-touched-2.touched = subst (λ (es : Positioned). IsPositioned es) (sym touched) (positioned-filter (λ e. test e.1) rows c.requires.left) in
     let before : c.in_ok-before.before ≡ looked_up_at l c.in_ok-touched-2.touched foreign = c.in_ok-before.ensures foreign c.requires.foreign c.requires.foreign_by touched-are in
     let after : c.in_ok-after.after ≡ looked_up_at l c.in_ok-touched-2.touched (with_change foreign change) = c.in_ok-after.ensures (with_change foreign change) (positioned-changed foreign change c.requires.foreign c.take_in.ensures.exact) index touched-are in
-    let own = touched-by l (at (place_of change) foreign) (row_in change) old_keys new_keys (λ k. c.in_ok-old_keys.ensures k ∙ (λ i. if_any (has_foreign l k) (taken.old i))) (λ k. c.in_ok-new_keys.ensures k ∙ (λ i. if_any (has_foreign l k) (taken.new i))) in
+    let own = touched-by l (at (position_changed change) foreign) (row_in change) old_keys new_keys (λ k. c.in_ok-old_keys.ensures k ∙ (λ i. if_any (has_foreign l k) (taken.old i))) (λ k. c.in_ok-new_keys.ensures k ∙ (λ i. if_any (has_foreign l k) (taken.new i))) in
     (λ i. diff (before i) (after i))
     ∙ (λ i. diff (looked_up_at l (touched i) foreign) (looked_up_at l (touched i) (with_change foreign change)))
     ∙ sym (foreign-owed l rows foreign change test c.requires.left c.requires.foreign c.take_in.ensures.exact own)

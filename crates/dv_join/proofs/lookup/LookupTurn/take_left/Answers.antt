@@ -2,7 +2,7 @@
 use Rattle.std.proofs.Common.{◌≡◌, ◌∙◌, subst, sym}
 use Rattle.dv_change.specs.Changes.{Positioned, alone}
 use Rattle.dv_change.specs.Difference.{diff}
-use Rattle.dv_join.specs.Indexed.{IsIndexOf}
+use Rattle.dv_join.specs.Indexed.{IsJoinIndexOf}
 use Rattle.dv_join.specs.Placed.{looked_up_at}
 use Rattle.dv_join.specs.Turning.{has_local}
 use Rattle.dv_join.proofs.Indexes.{index-changed}
@@ -18,7 +18,7 @@ returns-clause-sound c =
     record {
       left = taken.positioned;
       foreign = c.requires.foreign;
-      left_by = subst (λ (rows : Positioned). IsIndexOf (has_local self.lookup) rows c.exchange.new.self) (sym taken.rows) index;
+      left_by = subst (λ (rows : Positioned). IsJoinIndexOf (has_local self.lookup) rows c.exchange.new.self) (sym taken.rows) index;
       foreign_by = c.requires.foreign_by;
     }
 

@@ -6,7 +6,7 @@ use Rattle.dv_change.specs.Difference.{diff}
 use Rattle.dv_change.specs.Inputs.{left_after}
 use Rattle.dv_change.specs.Raised.{raised}
 use Rattle.dv_join.specs.Placed.{looked_up_at}
-use Rattle.dv_join.specs.Turning.{first_of}
+use Rattle.dv_join.specs.Turning.{first_input}
 use Rattle.dv_join.proofs.Owed.{only-list}
 use Rattle.dv_join.proofs.lookup.LookupTurnTurn.change.Goals as goal
 
@@ -23,7 +23,7 @@ returns-in_ok-old-in-Named-clause-out c =
     let list = only-list c.args.input c.in-Named.field-0 c.args.change self.foreign.entries c.in-Named.is c.requires.input in
     let left : left_after c.args.input c.args.change self.left.entries ≡ self.left.entries = ap (λ input. left_after input c.args.change self.left.entries) c.in-Named.is in
     let out : OnOk c.hand_on-in-Named.result (c.hand_on-in-Named.new.out.items ≡ c.args.out.now.items ++ diff old new) = search rules in
-    on_ok_weaker c.hand_on-in-Named.result (λ h. h ∙ (λ i. c.args.out.now.items ++ diff old (looked_up_at self.lookup (sym left i) (first_of (sym list i))))) out
+    on_ok_weaker c.hand_on-in-Named.result (λ h. h ∙ (λ i. c.args.out.now.items ++ diff old (looked_up_at self.lookup (sym left i) (first_input (sym list i))))) out
 
 pub returns-in_ok-old-in-Named-clause-ticks : goal.returns-in_ok-old-in-Named-clause-ticks
 returns-in_ok-old-in-Named-clause-ticks c =
@@ -33,4 +33,4 @@ returns-in_ok-old-in-Named-clause-ticks c =
     let list = only-list c.args.input c.in-Named.field-0 c.args.change self.foreign.entries c.in-Named.is c.requires.input in
     let left : left_after c.args.input c.args.change self.left.entries ≡ self.left.entries = ap (λ input. left_after input c.args.change self.left.entries) c.in-Named.is in
     let ticks : OnOk c.hand_on-in-Named.result (c.hand_on-in-Named.new.ticks ≡ raised c.args.ticks.now (1 + length (diff old new))) = search rules in
-    on_ok_weaker c.hand_on-in-Named.result (λ h. h ∙ (λ i. raised c.args.ticks.now (1 + length (diff old (looked_up_at self.lookup (sym left i) (first_of (sym list i))))))) ticks
+    on_ok_weaker c.hand_on-in-Named.result (λ h. h ∙ (λ i. raised c.args.ticks.now (1 + length (diff old (looked_up_at self.lookup (sym left i) (first_input (sym list i))))))) ticks

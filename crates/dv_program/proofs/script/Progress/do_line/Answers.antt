@@ -2,7 +2,7 @@ use Rattle.std.proofs.Common.{subst}
 use Rattle.std.specs.String.{string_bytes}
 use Rattle.std.proofs.lemmas.Result.{IfErr-weaker, IfOk-weaker}
 use Rattle.dv_program.specs.Line.{IsLine}
-use Rattle.dv_program.specs.Script.{Does, standing_of}
+use Rattle.dv_program.specs.Script.{DoesOneLine, standing_of}
 use Rattle.dv_program.specs.declared.said.Line.TheVariants.{Bytes, End}
 use Rattle.dv_program.specs.Stops.{StopsLine}
 use Rattle.dv_program.proofs.Stopped.{ends_at, streams_still}
@@ -18,7 +18,7 @@ returns-in-Ok-Bytes-clause-done c =
     IfOk-weaker c.feed.result _ _ (λ text does. (
       meant,
       line,
-      subst (λ bytes. Does old (Bytes c.in-Ok-Bytes.number bytes) (string_bytes text) new) c.as_slice-in-Ok-Bytes.ensures does,
+      subst (λ bytes. DoesOneLine old (Bytes c.in-Ok-Bytes.number bytes) (string_bytes text) new) c.as_slice-in-Ok-Bytes.ensures does,
     )) c.feed.ensures.done
 
 pub returns-in-Ok-Bytes-clause-stopped : goal.returns-in-Ok-Bytes-clause-stopped

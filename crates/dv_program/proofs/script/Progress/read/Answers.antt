@@ -3,7 +3,7 @@ use Rattle.std.proofs.lemmas.List.{drop_all, take_all, length-take-le}
 use Rattle.std.proofs.lemmas.Result.{err_from_is_err_and}
 use Rattle.std.specs.Io.KnownBytes.{Consumes}
 use Rattle.dv_wire.specs.Stream.{once_more}
-use Rattle.dv_program.specs.Pieces.{StopsIn, Takes}
+use Rattle.dv_program.specs.Pieces.{StopsIn, TakesPiece}
 use Rattle.dv_program.specs.Script.{standing_of}
 use Rattle.dv_program.proofs.Scripts.{asked, asked_most, asked_once_more, at_end, at_failure, at_limit, few_asked, last_stops, line_left, never_read, no_more, none_asked, not_flushed, nothing_read, one_more, read_more, read_stops}
 use Rattle.dv_program.proofs.script.Progress.read.Goals as goal
@@ -136,8 +136,8 @@ reads-preserved g c =
     let small = length-take-le c.in-Ok.count c.take.new.piece c.in-Ok.ensures.few in
     let done = c.in_ok-take.ensures.done in
     let new = standing_of c.take-in-reads.new.self.sessions c.take-in-reads.new.hub in
-    let taken : (takes : Takes (standing_of c.reads.self.sessions c.reads.hub) c.reads.self.line.items front done.0 new c.take-in-reads.new.self.line.items) × (c.take-in-reads.new.self.number ≡ c.reads.self.number + length takes.lines) =
-    subst (λ bytes. (takes : Takes (standing_of c.reads.self.sessions c.reads.hub) c.reads.self.line.items bytes done.0 new c.take-in-reads.new.self.line.items) × (c.take-in-reads.new.self.number ≡ c.reads.self.number + length takes.lines))
+    let taken : (takes : TakesPiece (standing_of c.reads.self.sessions c.reads.hub) c.reads.self.line.items front done.0 new c.take-in-reads.new.self.line.items) × (c.take-in-reads.new.self.number ≡ c.reads.self.number + length takes.lines) =
+    subst (λ bytes. (takes : TakesPiece (standing_of c.reads.self.sessions c.reads.hub) c.reads.self.line.items bytes done.0 new c.take-in-reads.new.self.line.items) × (c.take-in-reads.new.self.number ≡ c.reads.self.number + length takes.lines))
     shown (done.2, done.3) in (
       read_more _ _ _ _ _ _ _ _ _ c.reads.invariant.0 (g.R.ByteIn.remaining c.take.new.self) (g.W.ByteOut.contents c.take-in-reads.new.writer) front done.0 new c.take-in-reads.new.self.number c.take-in-reads.new.self.line.items
           (g.W.ByteOut.contents c.flush.new.writer) c.flush.ensures.kept c.in-Ok.ensures.bytes (omega (arith, small, c.in-Ok.ensures.few, same, c.reads.invariant.1)) done.1 taken.0 taken.1 c.in_ok-take.ensures.line,

@@ -1,7 +1,7 @@
 use Rattle.std.proofs.Common.{◌∙◌, ap, sym, subst, refl, rules, of_calls, drop, take, length, ◌-◌, arith}
 use Rattle.std.proofs.lemmas.Fn.{always_returns_same}
 use Rattle.std.specs.Ordering.{is_lt, is_le}
-use Rattle.dv_row.specs.Projecting.{behind}
+use Rattle.dv_row.specs.Projecting.{paths_behind}
 use Rattle.dv_row.specs.Ways.{Ascend}
 use Rattle.dv_row.proofs.Ordered.{stands, parted-strictly, parted-loosely, ascend-drop, all-taken, behind-found, found-ascends, found-none, found-long}
 use Rattle.dv_row.proofs.ways.Ways.behind.Goals as goal
@@ -31,7 +31,7 @@ returns-in-Some c =
     let left = all-taken (length ps - from) from ps refl in
     let first = c.partition_point-from.ensures.partitioned (λ p. is_lt (stands depth name p)) (always_returns_same _ _ _ (λ a r f k. search (rules, of_calls))) (parted-strictly depth name ps c.self.invariant) in
     let second = c.partition_point-count.ensures.partitioned (λ p. is_le (stands depth name p)) (always_returns_same _ _ _ (λ a r f k. search (rules, of_calls))) (parted-loosely depth name qs (subst (Ascend depth) (sym left) (ascend-drop depth name ps c.self.invariant from))) in
-    sym (behind-found depth name ps qs from count c.self.invariant left first second c.partition_point-count.ensures.bound) ∙ ap (behind name) c.self.view_is
+    sym (behind-found depth name ps qs from count c.self.invariant left first second c.partition_point-count.ensures.bound) ∙ ap (paths_behind name) c.self.view_is
 
 pub returns-in_default : goal.returns-in_default
 returns-in_default c =
@@ -47,5 +47,5 @@ returns-in_default c =
     elim c.in_default.branch [
       | in_default-via-in-Some+else-depth-components w ↦ absurd (found-long depth name ps qs from count c.self.invariant left first second c.partition_point-count.ensures.bound w.in-Some.path.now w.in-Some.ensures.value
           (λ l. absurd (omega (arith, l, w.if-depth-components.false, ap length w.components.ensures.components))))
-      | in_default-via-in_default w ↦ found-none depth name ps qs from count c.self.invariant left first second c.partition_point-count.ensures.bound w.in_default.ensures.value ∙ ap (behind name) c.self.view_is
+      | in_default-via-in_default w ↦ found-none depth name ps qs from count c.self.invariant left first second c.partition_point-count.ensures.bound w.in_default.ensures.value ∙ ap (paths_behind name) c.self.view_is
     ]

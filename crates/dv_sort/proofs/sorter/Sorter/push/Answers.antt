@@ -4,7 +4,7 @@ use Rattle.std.specs.Option.{option_map}
 use Rattle.dv_sort.specs.declared.row.Row.{Row}
 use Rattle.dv_sort.specs.Bar.{IsBar, is_behind}
 use Rattle.dv_sort.specs.Front.{with_row}
-use Rattle.dv_sort.specs.Keys.{AreKeyed, IsKeyed, documents}
+use Rattle.dv_sort.specs.Keys.{AreKeyed, HasKeysOf, documents}
 use Rattle.dv_sort.proofs.Bars.{bar-kept, behind-bar}
 use Rattle.dv_sort.proofs.Kept.{documents-push, pushed}
 use Rattle.dv_sort.proofs.sorter.Sorter.push.Goals as goal
@@ -34,7 +34,7 @@ invariant_of-self-2 c =
     let row : Row = record { keys = c.in_ok-keys.keys; document = c.args.document } in
     let ahead : is_behind parts c.in_ok-keys.keys.items bar ≡ false = ap (λ ks. is_behind parts ks bar) (sym c.deref.ensures.value) ∙ sym c.stands_behind.ensures ∙ c.if-stands_behind.false in
     let more = sym (documents-push kept row) ∙ ap documents (sym c.in_ok-push.ensures.items) in (
-      subst (AreKeyed parts) (sym c.in_ok-push.ensures.items) (All-push (IsKeyed parts) kept row c.keep_front.ensures.keyed (record { keys = c.in_ok-keys.ensures })),
+      subst (AreKeyed parts) (sym c.in_ok-push.ensures.items) (All-push (HasKeysOf parts) kept row c.keep_front.ensures.keyed (record { keys = c.in_ok-keys.ensures })),
       subst (λ ds. IfSome c.keep_front.new.bar (λ v. IsBar parts most ds v.items)) more
           (bar-kept (λ v. v.items) parts most (documents kept) c.keep_front.new.bar c.in_ok-keys.keys.items c.args.document c.keep_front.ensures.bar c.in_ok-keys.ensures ahead),
     )

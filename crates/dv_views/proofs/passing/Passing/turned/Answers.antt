@@ -7,7 +7,7 @@ use Rattle.dv_views.specs.Ground.{IsLiveView}
 use Rattle.dv_views.specs.Keeping.{Turns}
 use Rattle.dv_views.specs.Older.{told_found, views_before}
 use Rattle.dv_views.specs.Placed.{lookups_of}
-use Rattle.dv_views.specs.Views.{view_named}
+use Rattle.dv_views.specs.Views.{view_under}
 use Rattle.dv_views.proofs.Rolling.{lookups_count, turns_then}
 use Rattle.dv_views.proofs.passing.Passing.turned.Goals as goal
 
@@ -29,6 +29,6 @@ returns-clause-turns c =
 pub returns-clause-live : goal.returns-clause-live
 returns-clause-live c =
     let older = views_before c.args.self.now.place c.args.self.now.views.now.entries in
-    let own : IsLiveView (view_named c.args.source.now older) = search rules in
-    let others : AllByRecursion (λ name. IsLiveView (view_named name older)) c.args.lookups.now = search rules in
-    (own, subst (λ (names : List (List ℕ)). AllByRecursion (λ name. IsLiveView (view_named name older)) names) c.requires.lookups others)
+    let own : IsLiveView (view_under c.args.source.now older) = search rules in
+    let others : AllByRecursion (λ name. IsLiveView (view_under name older)) c.args.lookups.now = search rules in
+    (own, subst (λ (names : List (List ℕ)). AllByRecursion (λ name. IsLiveView (view_under name older)) names) c.requires.lookups others)

@@ -10,8 +10,8 @@ use Rattle.dv_views.specs.Ground.{IsBuilt}
 use Rattle.dv_views.specs.Made.{IsAdded, IsNoStale}
 use Rattle.dv_views.specs.MarkView.{mark_seen}
 use Rattle.dv_views.specs.Older.{Entries, views}
-use Rattle.dv_views.specs.Seen.{HaveHeights, IsSoundRegistry, named, seen}
-use Rattle.dv_views.specs.Views.{AreNamedApart, AreRight, View, Views, form_of, has_view, view_named}
+use Rattle.dv_views.specs.Seen.{HaveHeights, IsSoundRegistry, view_seen, entry_view}
+use Rattle.dv_views.specs.Views.{AreNamedApart, AreRight, View, Views, view_form, has_view, view_under}
 use Rattle.dv_views.proofs.Entries.{named_apart, none_there, seen_last}
 use Rattle.dv_views.proofs.Heights.{forms_of, heights_added}
 use Rattle.dv_views.proofs.Refreshing.{is_added, right_added, sound_added, views_all}
@@ -30,19 +30,19 @@ invariant_of-self-2 c =
     let absent = none_there (string_bytes key) es (rw (c.in_ok-name.ensures.ok, c.self.view_is) c.requires.new) in
     let left = c.in_ok-insert.ensures.entries ∙ insert_entry-new string_eq c.self.inside.views key body absent in
     let view : View = record { name = name; source = source; stages = stages; mark = mark } in
-    let same : seen (key, body) ≡ view = (λ i. named (c.in_ok-name.ensures.ok i) (c.new-view.ensures i)) ∙ ap (λ (s : List ℕ). record { name = name; source = s; stages = stages; mark = mark }) (c.of-source.ensures ∙ c.in_ok-from_str.ensures.ok) in
+    let same : entry_view (key, body) ≡ view = (λ i. view_seen (c.in_ok-name.ensures.ok i) (c.new-view.ensures i)) ∙ ap (λ (s : List ℕ). record { name = name; source = s; stages = stages; mark = mark }) (c.of-source.ensures ∙ c.in_ok-from_str.ensures.ok) in
     let whole : views c.insert.new.self.entries ≡ views es ++ view ∷ [] = ap views left ∙ seen_last es (key, body) ∙ ap (λ (v : View). views es ++ v ∷ []) same in
     let built : IsBuilt stages source (views es) lists mark = subst (λ (vs : Views). IsBuilt stages source vs lists mark) (views_all c.len.result es c.len.ensures.len) c.in_ok-mark.ensures.built in
     let new : has_view (string_bytes key) (views es) ≡ false = rw (c.in_ok-name.ensures.ok, c.self.view_is) c.requires.new in
     let high : body.height ≡ height_over (heights (forms_of es)) body.stages body.source =
-    ap (λ (b : Body). b.height) c.new-view.ensures ∙ c.height_over-height.ensures ∙ ap (λ (vs : Views). height_over (heights (map form_of vs)) stages source) (sym c.self.view_is)
+    ap (λ (b : Body). b.height) c.new-view.ensures ∙ c.height_over-height.ensures ∙ ap (λ (vs : Views). height_over (heights (map view_form vs)) stages source) (sym c.self.view_is)
     ∙ (λ i. height_over (heights (forms_of es)) (sym (c.new-view.ensures) i).stages (sym (ap (λ (b : Body). b.source) c.new-view.ensures ∙ c.of-source.ensures ∙ c.in_ok-from_str.ensures.ok) i)) in
     record {
       views =
           subst (λ (vs : Views). IsSoundRegistry vs) (sym whole)
-          (sound_added (views es) name source stages mark lists built c.self.invariant.views (subst (λ (vs : Views). AllByRecursion (λ n. IsNoStale (view_named n vs)) (names_read stages source)) (sym c.self.view_is) c.requires.live)
+          (sound_added (views es) name source stages mark lists built c.self.invariant.views (subst (λ (vs : Views). AllByRecursion (λ n. IsNoStale (view_under n vs)) (names_read stages source)) (sym c.self.view_is) c.requires.live)
           (subst (λ (vs : Views). AreNamedApart vs) whole (named_apart c.insert.new.self.entries c.in_ok-insert.ensures.unique))
-          (subst (λ (vs : Views). is_read_by (map form_of vs) name || is_read stages source name ≡ false) (sym c.self.view_is) c.requires.unread));
+          (subst (λ (vs : Views). is_read_by (map view_form vs) name || is_read stages source name ≡ false) (sym c.self.view_is) c.requires.unread));
       heights = subst (λ (fs : Entries _). HaveHeights (heights (forms_of fs)) fs) (sym left) (heights_added es (key, body) new high c.self.invariant.heights);
     }
 
@@ -59,7 +59,7 @@ returns-clause-ok c =
     let absent = none_there (string_bytes key) es (rw (c.in_ok-name.ensures.ok, c.self.view_is) c.requires.new) in
     let left = c.in_ok-insert.ensures.entries ∙ insert_entry-new string_eq c.self.inside.views key body absent in
     let view : View = record { name = name; source = source; stages = stages; mark = mark } in
-    let same : seen (key, body) ≡ view = (λ i. named (c.in_ok-name.ensures.ok i) (c.new-view.ensures i)) ∙ ap (λ (s : List ℕ). record { name = name; source = s; stages = stages; mark = mark }) (c.of-source.ensures ∙ c.in_ok-from_str.ensures.ok) in
+    let same : entry_view (key, body) ≡ view = (λ i. view_seen (c.in_ok-name.ensures.ok i) (c.new-view.ensures i)) ∙ ap (λ (s : List ℕ). record { name = name; source = s; stages = stages; mark = mark }) (c.of-source.ensures ∙ c.in_ok-from_str.ensures.ok) in
     let whole : views c.insert.new.self.entries ≡ views es ++ view ∷ [] = ap views left ∙ seen_last es (key, body) ∙ ap (λ (v : View). views es ++ v ∷ []) same in
     let built : IsBuilt stages source (views es) lists mark = subst (λ (vs : Views). IsBuilt stages source vs lists mark) (views_all c.len.result es c.len.ensures.len) c.in_ok-mark.ensures.built in
     subst (λ (vs : Views). IsAdded name source stages vs (views c.insert.new.self.entries)) c.self.view_is
@@ -78,9 +78,9 @@ returns-clause-right c = λ others alike right.
     let absent = none_there (string_bytes key) es (rw (c.in_ok-name.ensures.ok, c.self.view_is) c.requires.new) in
     let left = c.in_ok-insert.ensures.entries ∙ insert_entry-new string_eq c.self.inside.views key body absent in
     let view : View = record { name = name; source = source; stages = stages; mark = mark } in
-    let same : seen (key, body) ≡ view = (λ i. named (c.in_ok-name.ensures.ok i) (c.new-view.ensures i)) ∙ ap (λ (s : List ℕ). record { name = name; source = s; stages = stages; mark = mark }) (c.of-source.ensures ∙ c.in_ok-from_str.ensures.ok) in
+    let same : entry_view (key, body) ≡ view = (λ i. view_seen (c.in_ok-name.ensures.ok i) (c.new-view.ensures i)) ∙ ap (λ (s : List ℕ). record { name = name; source = s; stages = stages; mark = mark }) (c.of-source.ensures ∙ c.in_ok-from_str.ensures.ok) in
     let whole : views c.insert.new.self.entries ≡ views es ++ view ∷ [] = ap views left ∙ seen_last es (key, body) ∙ ap (λ (v : View). views es ++ v ∷ []) same in
     let built : IsBuilt stages source (views es) lists mark = subst (λ (vs : Views). IsBuilt stages source vs lists mark) (views_all c.len.result es c.len.ensures.len) c.in_ok-mark.ensures.built in
-    let live : AllByRecursion (λ n. IsNoStale (view_named n (views es))) (names_read stages source) = subst (λ (vs : Views). AllByRecursion (λ n. IsNoStale (view_named n vs)) (names_read stages source)) (sym c.self.view_is) c.requires.live in
+    let live : AllByRecursion (λ n. IsNoStale (view_under n (views es))) (names_read stages source) = subst (λ (vs : Views). AllByRecursion (λ n. IsNoStale (view_under n vs)) (names_read stages source)) (sym c.self.view_is) c.requires.live in
     subst (λ (ws : Views). AreRight others ws) (sym whole)
     (right_added (views es) name source stages mark lists built c.self.invariant.views live c.kept_rows_are_those_from_scratch.ensures c.what_is_not_read_does_not_matter.ensures others alike (subst (AreRight others) (sym c.self.view_is) right))

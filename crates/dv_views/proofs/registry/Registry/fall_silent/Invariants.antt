@@ -4,12 +4,12 @@ use Rattle.indexmap.specs.IndexMap.{index_map_len}
 use Rattle.dv_views.specs.Forms.{heights}
 use Rattle.dv_views.specs.Older.{views}
 use Rattle.dv_views.specs.Seen.{HaveHeights}
-use Rattle.dv_views.specs.Views.{form_of}
+use Rattle.dv_views.specs.Views.{view_form}
 use Rattle.dv_views.proofs.registry.Registry.fall_silent.Given as goal
 
 abbrev pub invariant-views : goal.invariant-views
 invariant-views l = record {
   same : views l.self-inside.views.entries ≡ l.fn.self;
-  heights : HaveHeights (heights (map form_of l.fn.self)) l.self-inside.views.entries;
+  heights : HaveHeights (heights (map view_form l.fn.self)) l.self-inside.views.entries;
   count : index_map_len l.self-inside.views ≡ l.place-end;
 }

@@ -2,7 +2,7 @@ use Rattle.std.proofs.Common.{sym, subst, map}
 use Rattle.dv_views.specs.Forms.{AreFounded, heights}
 use Rattle.dv_views.specs.Older.{Entries, views}
 use Rattle.dv_views.specs.Seen.{HaveHeights}
-use Rattle.dv_views.specs.Views.{AreOverLive, form_of, no_distance}
+use Rattle.dv_views.specs.Views.{AreOverLive, view_form, no_distance}
 use Rattle.dv_views.proofs.Entries.{named_apart}
 use Rattle.dv_views.proofs.WellKept.{AreWellKept}
 use Rattle.dv_views.proofs.registry.Registry.new.Goals as goal
@@ -13,7 +13,7 @@ invariant_of-result c = record {
     apart = named_apart c.new.result.entries c.new.ensures.unique;
     kept = subst AreWellKept (sym c.new.ensures.empty) tt;
     live = subst (λ (es : Entries _). AreOverLive no_distance (views es)) (sym c.new.ensures.empty) tt;
-    founded = subst (λ (es : Entries _). AreFounded (map form_of (views es))) (sym c.new.ensures.empty) tt;
+    founded = subst (λ (es : Entries _). AreFounded (map view_form (views es))) (sym c.new.ensures.empty) tt;
   };
-  heights = subst (λ (es : Entries _). HaveHeights (heights (map form_of (views es))) es) (sym c.new.ensures.empty) tt;
+  heights = subst (λ (es : Entries _). HaveHeights (heights (map view_form (views es))) es) (sym c.new.ensures.empty) tt;
 }

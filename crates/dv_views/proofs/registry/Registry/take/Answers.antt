@@ -4,7 +4,7 @@ use Rattle.dv_views.specs.Forms.{ViewForm, heights}
 use Rattle.dv_views.specs.Older.{views}
 use Rattle.dv_views.specs.Seen.{HaveHeights, IsSoundRegistry}
 use Rattle.dv_views.specs.Turned.{HaveTaken}
-use Rattle.dv_views.specs.Views.{Views, form_of}
+use Rattle.dv_views.specs.Views.{Views, view_form}
 use Rattle.dv_views.proofs.Behind.{forms_after, founded_after, over_after}
 use Rattle.dv_views.proofs.Heights.{heights_written}
 use Rattle.dv_views.proofs.Marked.{all_taken, apart_written, kept_there, length_written, taken_next}
@@ -21,7 +21,7 @@ views-preserved c =
       taken = taken_next c.args.namespace.now c.args.change.now place c.args.self.now es left c.views.invariant.taken at;
       kept = subst AreWellKept (sym at.left) (kept_at place es at.new c.views.invariant.kept (at.well (kept_there place es at.old c.views.invariant.kept at.there)));
       apart = apart_written place es left at.new at.left c.views.invariant.apart;
-      heights = subst (HaveHeights (heights (map form_of c.args.self.now))) (sym at.left) (heights_written (heights (map form_of c.args.self.now)) place es at.old at.new at.there at.height c.views.invariant.heights);
+      heights = subst (HaveHeights (heights (map view_form c.args.self.now))) (sym at.left) (heights_written (heights (map view_form c.args.self.now)) place es at.old at.new at.there at.height c.views.invariant.heights);
       count = ap length at.left ∙ length_written place es at.new ∙ c.views.invariant.count;
       all = c.views.invariant.all;
       within = let more : place < c.len-place-end.result = c.views-test.true in omega arith;

@@ -3,7 +3,7 @@ use Rattle.std.proofs.lemmas.Result.{on_ok_weaker}
 use Rattle.dv_order.specs.Key.{KeyTree}
 use Rattle.dv_index.specs.Keys.{has_key}
 use Rattle.dv_index.proofs.Ranges.{found-within}
-use Rattle.dv_index.proofs.search.add_in_range.Goals as goal
+use Rattle.dv_index.proofs.within.add_in_range.Goals as goal
 
 pub returns : goal.returns
 returns c = on_ok_weaker c.add_ids_between.result (λ known k i covered there.

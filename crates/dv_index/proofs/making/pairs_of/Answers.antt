@@ -13,7 +13,7 @@ use Rattle.dv_index.proofs.Noted.{and-true}
 use Rattle.dv_index.proofs.Picked.{tail-ascends}
 use Rattle.dv_index.proofs.Shared.{any-never}
 use Rattle.dv_index.proofs.Taken.{all-others, broken-by, has-some, still-apart-from}
-use Rattle.dv_index.proofs.indexed.pairs_of.Goals as goal
+use Rattle.dv_index.proofs.making.pairs_of.Goals as goal
 
 pub add_keys-requires-clause-identified : goal.add_keys-requires-clause-identified
 add_keys-requires-clause-identified c = (subst (AllByRecursion HasId) c.in-Some.ensures.steps c.loop-document.invariant.identified).0

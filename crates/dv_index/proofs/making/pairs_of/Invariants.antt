@@ -6,7 +6,7 @@ use Rattle.dv_index.specs.Pairs.{has_pair}
 use Rattle.dv_index.specs.Unique.{are_apart}
 use Rattle.dv_index.proofs.Built.{IsElsewhere, some-has}
 use Rattle.dv_index.proofs.Taken.{has-some}
-use Rattle.dv_index.proofs.indexed.pairs_of.Given as goal
+use Rattle.dv_index.proofs.making.pairs_of.Given as goal
 
 -- the keys of the documents that are left are still to be added, and none of theirs is there yet
 abbrev pub invariant-loop-document : goal.invariant-loop-document

@@ -5,7 +5,7 @@ use Rattle.dv_order.specs.Key.{KeyTree}
 use Rattle.dv_index.specs.Keys.{has_key}
 use Rattle.dv_index.specs.Pairs.{has_pair}
 use Rattle.dv_index.proofs.Several.{same-key}
-use Rattle.dv_index.proofs.search.add_at.Goals as goal
+use Rattle.dv_index.proofs.within.add_at.Goals as goal
 
 pub returns-clause-found : goal.returns-clause-found
 returns-clause-found c = on_ok_weaker c.add_ids_at.result (λ known k i alike there.

@@ -3,7 +3,7 @@ use Rattle.std.specs.Ordering.{is_eq}
 use Rattle.dv_order.specs.Key.{key_order}
 use Rattle.dv_index.specs.Keys.{has_key}
 use Rattle.dv_index.proofs.Ordered.{now, one-among-more}
-use Rattle.dv_index.proofs.search.add_each.Goals as goal
+use Rattle.dv_index.proofs.within.add_each.Goals as goal
 
 pub keys-preserved : goal.keys-preserved
 keys-preserved c k i among there = at (has_key k (map now (take c.keys.key-index c.args.keys.now))) refl

@@ -3,7 +3,7 @@ use Rattle.dv_order.specs.Key.{KeyTree}
 use Rattle.dv_index.specs.Keys.{has_key}
 use Rattle.dv_index.specs.Pairs.{has_pair}
 use Rattle.dv_index.proofs.Ordered.{now}
-use Rattle.dv_index.proofs.search.add_each.Given as goal
+use Rattle.dv_index.proofs.within.add_each.Given as goal
 
 abbrev pub invariant-keys : goal.invariant-keys
 invariant-keys l =

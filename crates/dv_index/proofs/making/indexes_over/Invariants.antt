@@ -5,7 +5,7 @@ use Rattle.dv_index.specs.Index.{form_of}
 use Rattle.dv_index.specs.Search.{IsIndexOf}
 use Rattle.dv_index.specs.Unique.{are_broken}
 use Rattle.dv_index.specs.View.{form_of_new}
-use Rattle.dv_index.proofs.indexed.indexes_over.Given as goal
+use Rattle.dv_index.proofs.making.indexes_over.Given as goal
 
 -- the indexes so far, and those that are still wanted
 abbrev pub invariant-wanted : goal.invariant-wanted

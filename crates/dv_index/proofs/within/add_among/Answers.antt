@@ -2,7 +2,7 @@ use Rattle.std.proofs.Common.{◌∙◌, ap, map}
 use Rattle.std.proofs.lemmas.Result.{on_ok_weaker}
 use Rattle.dv_index.specs.Keys.{has_key}
 use Rattle.dv_index.proofs.Ordered.{among-values, now}
-use Rattle.dv_index.proofs.search.add_among.Goals as goal
+use Rattle.dv_index.proofs.within.add_among.Goals as goal
 
 pub returns : goal.returns
 returns c = on_ok_weaker c.add_each.result (λ known k i covered there.
