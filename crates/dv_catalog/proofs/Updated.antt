@@ -10,10 +10,8 @@ use Rattle.dv_order.specs.Key.{KeyTree}
 use Rattle.dv_coll.specs.Collection.{AreStanding, HasId, IsAscending, found, has_key, id_key, inserted, replaced}
 use Rattle.dv_match.specs.Match.{matches}
 use Rattle.dv_order.specs.Same.{same_fields}
-use Rattle.dv_catalog.specs.declared.effect.Changes as memory
-use Rattle.dv_catalog.specs.declared.effect.Changes.TheVariants.{Put, Gone}
 use Rattle.dv_catalog.specs.declared.effect.Updated.{Updated}
-use Rattle.dv_catalog.specs.EffectView.{ArePlaced, AreUpdatesOf, HasWholeName, StandsFor, after_of}
+use Rattle.dv_catalog.specs.EffectView.{ArePlaced, AreUpdatesOf, after_of}
 use Rattle.dv_catalog.proofs.Keys.{AreThere, all_there}
 use Rattle.dv_update.specs.Update as form
 use Rattle.dv_command.specs.Entries.{Updating}
@@ -108,11 +106,6 @@ next_updates law documents name u left are =
       no_id = are.no_id;
       whole = are.whole;
     }
-
--- their name is whole
-pub whole_name : (documents : List (List Field)) (changes : memory.Changes) → StandsFor documents changes → HasWholeName changes
-whole_name documents (Put updates) standing = standing.whole
-whole_name documents (Gone keys) standing = tt
 
 -- the documents that an update changes keep their `_id`s
 ids-kept : KeepsId → (update : form.Update) (d : List Field) (ds : List (List Field)) (first : Result (List Field) Refusal) (rest : Result (List (List Field)) Refusal) (changed : List (List Field))

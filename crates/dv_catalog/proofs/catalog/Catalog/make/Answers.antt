@@ -5,14 +5,10 @@ use Rattle.dv_catalog.specs.Told.{AreTold}
 use Rattle.dv_catalog.proofs.Keeping.{all_able, all_begin, collections_after, documents_after, kept_after, told_first}
 use Rattle.dv_catalog.proofs.Marking.{are_marked}
 use Rattle.dv_catalog.proofs.Stopping.{first_placed}
-use Rattle.dv_catalog.proofs.Updated.{whole_name}
 use Rattle.dv_catalog.proofs.catalog.Catalog.make.Goals as goal
 
-pub told-requires : goal.told-requires
-told-requires c = record {
-  identified = all_begin _ (changes_seen c.args.changes) c.requires.placed;
-  whole = whole_name (documents_of c.args.namespace.now c.args.self.now.state.namespaces) c.args.changes c.requires.standing;
-}
+pub told-requires-clause-identified : goal.told-requires-clause-identified
+told-requires-clause-identified c = all_begin _ (changes_seen c.args.changes) c.requires.placed
 
 pub invariant_of-self : goal.invariant_of-self
 invariant_of-self c =
