@@ -27,7 +27,7 @@ pub fn changes_keep_the_order()
 /// Changes that can be made, as they are told to views, are those that a collection makes.
 pub(crate) fn told_changes_are_made()
     ensures { (documents : List (List Field)) (changes : List Change) → AreOrdered documents → AreAble documents changes
-        → AreMade (map told changes) documents × (changed (map told changes) documents ≡ with_changes documents changes) }
+        → AreMade (map told changes) documents × (documents_changed (map told changes) documents ≡ with_changes documents changes) }
 {
     changes_keep_the_order();
     dv_views::laws::a_put_is_the_collections();

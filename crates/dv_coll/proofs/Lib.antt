@@ -2,5 +2,5 @@ pub mod Places
 pub mod Inserted
 pub mod Removed
 pub mod Replaced
-pub mod PutIn
+pub mod Changed
 pub mod Standing

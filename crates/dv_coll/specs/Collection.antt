@@ -3,8 +3,9 @@ use Rattle.std.specs.Prelude.{◌≡◌, ℕ, pos, Bool, not, List, [], ◌∷�
 use Rattle.std.specs.List.{AllByRecursion, find, filter}
 use Rattle.std.specs.List.Sorted.{IsStrictlySortedBy}
 use Rattle.std.specs.Ordering.{is_eq, is_lt}
-use Rattle.dv_bson.specs.Names.{with_value_under}
+use Rattle.dv_bson.specs.FieldChange.{with_field_changed}
 use Rattle.dv_bson.specs.Tree.{Tree, int64, array, Field}
+use Rattle.dv_bson.specs.declared.field_change.FieldChange.{FieldChange}
 use Rattle.dv_order.specs.Order.{canon}
 use Rattle.dv_order.specs.Key.{KeyTree, value, key_order}
 
@@ -47,10 +48,10 @@ removed k ds = filter (λ d. not (has_key k d)) ds
 abbrev pub replaced : List Field → List (List Field) → List (List Field)
 replaced d ds = map (λ e. if has_key (id_key d) e then d else e) ds
 
--- the documents, with the value put under the name in the one that was found
-abbrev pub with_value_in : Option (List Field) → List ℕ → Tree → List (List Field) → List (List Field)
-with_value_in None name v ds = ds
-with_value_in (Some d) name v ds = replaced (with_value_under name v d) ds
+-- the documents, with the field under the name changed in the one that was found
+abbrev pub with_field_changed_in : Option (List Field) → List ℕ → FieldChange → List (List Field) → List (List Field)
+with_field_changed_in None name c ds = ds
+with_field_changed_in (Some d) name c ds = replaced (with_field_changed name c d) ds
 
 -- each of these is found under its `_id` as it is, and they ascend
 abbrev pub AreStanding : List (List Field) → List (List Field) → Type 0

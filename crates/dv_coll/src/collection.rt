@@ -6,13 +6,14 @@ ghost use Rattle.std.specs.Iterator.{YieldsFirstRef, item_count};
 ghost use Rattle.std.specs.List.{AllByRecursion};
 ghost use Rattle.std.specs.Option.{option_map};
 ghost use Rattle.std.specs.Str.{bytes_eq};
-ghost use Rattle.dv_bson.specs.View.{tree};
+ghost use Rattle.dv_bson.specs.FieldChange.{with_field_changed};
+ghost use Rattle.dv_bson.specs.Names.{has_zero};
 ghost use Rattle.dv_order.specs.Key.{key_order};
-ghost use Rattle.dv_coll.specs.Collection.{HasId, IsAscending, id_key, found, inserted, removed, replaced, with_value_in};
-ghost use Rattle.dv_coll.specs.Keyed.{put_under};
+ghost use Rattle.dv_coll.specs.Collection.{HasId, IsAscending, id_key, found, inserted, removed, replaced, with_field_changed_in};
+ghost use Rattle.dv_coll.specs.Keyed.{changed_under};
 
 use crate::fault::InsertFault;
-use dv_bson::{Document, NoMemory, Value};
+use dv_bson::{Document, FieldChange, NoMemory};
 use dv_order::{Key, key_of, laws, replace_under_first};
 use std::alloc::Global;
 use std::collections::BTreeMap;
@@ -113,30 +114,38 @@ impl Collection {
     }
 
     /// Puts the document in place of the one with an equal `_id`, and answers whether there is one. Where there is none,
-    /// nothing is changed, and the document is dropped. Takes no memory.
+    /// nothing is changed, and the document is dropped. Takes no memory, unless a copy shares the document's fields: then these
+    /// may be copied, to have the names of the first document.
     #[tactic(auto, using(crate::proofs::Replaced::replacements))]
-    pub fn replace(&mut self, document: Document) -> bool
+    pub fn replace(&mut self, mut document: Document) -> bool
         requires { HasId document }
         ensures found { result ≡ is_some (found (id_key document) self.old) }
         ensures documents { self.new ≡ replaced document self.old }
     {
         laws::equal_keys_are_one();
+        take_first_names(&mut document, &self.documents);
         replace_under_first(&mut self.documents, document)
     }
 
-    /// Puts the value in place of the one under the name, in the document under the key of its `_id`, and answers whether
-    /// there is such a document. Where there is none, or where no field of it has the name, nothing is changed, and the value
-    /// is dropped. The document is changed in place, unless a copy shares its fields: then these are copied first, and it
-    /// fails where memory is wanting, with nothing changed.
-    #[tactic(auto, using(crate::proofs::PutIn::put_in))]
-    pub fn put(&mut self, key: &Key, name: &str, value: Value) -> Result<bool, NoMemory>
-        requires { bytes_eq name.now (codes "_id") ≡ false }
+    /// Makes the change of the field under the name, in the document under the key of its `_id`, and answers whether there is
+    /// such a document. Where there is none, nothing is changed, and the value is dropped. The document is changed in place,
+    /// unless a copy shares its fields: then these are copied first. Fails where memory is wanting for that, or for a field or
+    /// an element that comes; then nothing is changed.
+    #[tactic(auto, using(crate::proofs::Changed::changed))]
+    pub fn change_field(
+        &mut self,
+        key: &Key,
+        name: &str,
+        change: FieldChange,
+    ) -> Result<bool, NoMemory>
+        requires no_id { bytes_eq name.now (codes "_id") ≡ false }
+        requires whole { has_zero name.now ≡ false }
         ensures found { IfOk result (λ there. there ≡ is_some (found key.now self.old)) }
-        ensures ok { OnOk result (self.new ≡ with_value_in (found key.now self.old) name.now (tree value) self.old) }
+        ensures ok { OnOk result (self.new ≡ with_field_changed_in (found key.now self.old) name.now change self.old) }
         ensures err { OnErr result (self.new ≡ self.old) }
     {
         laws::equal_keys_are_one();
-        put_in_document(&mut self.documents, key, name, value)
+        change_in_document(&mut self.documents, key, name, change)
     }
 
     /// Takes out the document under the key of its `_id`, where there is one, and answers it. Takes no memory.
@@ -168,25 +177,90 @@ impl Collection {
     }
 }
 
-/// Puts the value in place of the one under the name, in the document under the key, and answers whether there is one. Fails
-/// where memory is wanting to copy the fields; then nothing is changed.
-#[tactic(auto, using(crate::proofs::PutIn::put_same))]
-fn put_in_document(
+/// Makes the change of the field under the name, in the document under the key, and answers whether there is one. Fails where
+/// memory is wanting; then nothing is changed.
+#[tactic(auto, using(crate::proofs::Changed::put_same))]
+fn change_in_document(
     documents: &mut BTreeMap<Key, Document>,
     key: &Key,
     name: &str,
-    value: Value,
+    change: FieldChange,
 ) -> Result<bool, NoMemory>
+    requires { has_zero name.now ≡ false }
     ensures found { IfOk result (λ there. there ≡ is_some (get_by (key_order key.now) documents.old)) }
-    ensures ok { OnOk result (documents.new.entries ≡ put_under (get_by (key_order key.now) documents.old) key.now name.now (tree value) documents.old.entries) }
+    ensures ok { OnOk result (documents.new.entries ≡ changed_under (get_by (key_order key.now) documents.old) key.now name.now change documents.old.entries) }
     ensures err { OnErr result (documents.new.entries ≡ documents.old.entries) }
 {
     let Some(document) = documents.get_mut(key) else {
         return Ok(false);
     };
-    let _ = document.put(name, value)?;
-    document.keep_size();
+    if document.get(name).is_some() {
+        change_and_keep_size(document, name, change)?;
+        return Ok(true);
+    }
+    share_first_names(documents, key);
+    change_in_found(documents, key, name, change)
+}
+
+/// The same, without a look at the names of other documents.
+#[tactic(auto, using(crate::proofs::Changed::put_same))]
+fn change_in_found(
+    documents: &mut BTreeMap<Key, Document>,
+    key: &Key,
+    name: &str,
+    change: FieldChange,
+) -> Result<bool, NoMemory>
+    requires { has_zero name.now ≡ false }
+    ensures found { IfOk result (λ there. there ≡ is_some (get_by (key_order key.now) documents.old)) }
+    ensures ok { OnOk result (documents.new.entries ≡ changed_under (get_by (key_order key.now) documents.old) key.now name.now change documents.old.entries) }
+    ensures err { OnErr result (documents.new.entries ≡ documents.old.entries) }
+{
+    let Some(document) = documents.get_mut(key) else {
+        return Ok(false);
+    };
+    change_and_keep_size(document, name, change)?;
     Ok(true)
+}
+
+/// Makes the change of the field under the name. Fails where memory is wanting; then nothing is changed.
+fn change_and_keep_size(
+    document: &mut Document,
+    name: &str,
+    change: FieldChange,
+) -> Result<(), NoMemory>
+    requires { has_zero name.now ≡ false }
+    ensures ok { OnOk result (document.new ≡ with_field_changed name.now change document.old) }
+    ensures err { OnErr result (document.new ≡ document.old) }
+{
+    document.change_field(name, change)?;
+    document.keep_size();
+    Ok(())
+}
+
+/// Lets the document have the names of the first one: most documents of a collection have the same.
+fn take_first_names(document: &mut Document, documents: &BTreeMap<Key, Document>)
+    ensures { document.new ≡ document.old }
+{
+    if let Some((_, first)) = documents.first_key_value() {
+        document.share_names(first);
+    }
+}
+
+/// Lets the document under the key have the names of the first one, so that a field that comes has the name that lies there.
+/// Where memory is wanting, it keeps its own.
+#[tactic(auto, using(crate::proofs::Changed::put_same))]
+fn share_first_names(documents: &mut BTreeMap<Key, Document>, key: &Key)
+    ensures { documents.new.entries ≡ documents.old.entries }
+{
+    let Some((_, first)) = documents.first_key_value() else {
+        return;
+    };
+    let Ok(first) = first.try_clone() else {
+        return;
+    };
+    if let Some(document) = documents.get_mut(key) {
+        document.share_names(&first);
+    }
 }
 
 /// The key of the document's `_id`. Fails where memory is wanting.

@@ -5,8 +5,9 @@ ghost use Rattle.std.specs.List.{AllByRecursion};
 ghost use Rattle.std.specs.Option.{option_map};
 ghost use Rattle.std.specs.Ordering.{is_eq};
 ghost use Rattle.std.specs.Str.{bytes_eq};
-ghost use Rattle.dv_bson.specs.Names.{with_value_under};
-ghost use Rattle.dv_bson.specs.Tree.{Field, Tree};
+ghost use Rattle.dv_bson.specs.FieldChange.{with_field_changed};
+ghost use Rattle.dv_bson.specs.Tree.{Field};
+ghost use Rattle.dv_bson.specs.declared.field_change.FieldChange.{FieldChange};
 ghost use Rattle.dv_order.specs.Key.{KeyTree, key_order};
 ghost use Rattle.dv_coll.specs.Collection.{AreStanding, HasId, IsAscending, found, has_key, id_key, inserted, removed, replaced};
 
@@ -67,15 +68,15 @@ pub fn replaced_document_is_found()
     ensures { (k : KeyTree) (d : List Field) (ds : List (List Field)) → found k (replaced d ds) ≡ (if has_key k d then option_map (λ e. d) (found k ds) else found k ds) }
 {}
 
-/// A value that is put under another name leaves the `_id` as it is.
-#[tactic(auto, using(crate::proofs::PutIn::id_kept))]
-pub fn a_value_under_another_name_leaves_the_id()
-    ensures begins { (name : List ℕ) (v : Tree) (d : List Field) → bytes_eq name (codes "_id") ≡ false → HasId d → HasId (with_value_under name v d) }
-    ensures key { (name : List ℕ) (v : Tree) (d : List Field) → bytes_eq name (codes "_id") ≡ false → HasId d → id_key (with_value_under name v d) ≡ id_key d }
+/// A change of another field leaves the `_id` as it is.
+#[tactic(auto, using(crate::proofs::Changed::id_kept))]
+pub fn a_change_of_another_field_leaves_the_id()
+    ensures begins { (name : List ℕ) (c : FieldChange) (d : List Field) → bytes_eq name (codes "_id") ≡ false → HasId d → HasId (with_field_changed name c d) }
+    ensures key { (name : List ℕ) (c : FieldChange) (d : List Field) → bytes_eq name (codes "_id") ≡ false → HasId d → id_key (with_field_changed name c d) ≡ id_key d }
 {}
 
 /// A document that is found under a key has it, and begins with an `_id` where all documents do.
-#[tactic(auto, using(crate::proofs::PutIn::found_with_key))]
+#[tactic(auto, using(crate::proofs::Changed::found_with_key))]
 pub fn what_is_found_has_the_key()
     ensures key { (k : KeyTree) (d : List Field) (ds : List (List Field)) → found k ds ≡ Some d → has_key k d ≡ true }
     ensures begins { (k : KeyTree) (d : List Field) (ds : List (List Field)) → AllByRecursion HasId ds → found k ds ≡ Some d → HasId d }

@@ -1,3 +1,4 @@
 mod Lengths
+mod SoundFields
 mod Sounding
 pub mod Errors

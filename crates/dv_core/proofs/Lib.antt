@@ -7,6 +7,7 @@ mod Steps
 mod Endings
 mod Bare
 mod Changed
+mod CursorMoves
 mod Cursored
 mod Made
 mod Standing
@@ -22,6 +23,8 @@ mod Ordered
 mod Parts
 mod Named
 mod Viewed
+mod SpelledRows
+mod SpelledErrors
 mod Spelled
 mod Shown
 mod Worked

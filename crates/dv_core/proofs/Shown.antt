@@ -32,7 +32,8 @@ use Rattle.dv_core.specs.Storable.{is_within_limits}
 use Rattle.dv_core.specs.declared.outcome.Outcome.{Outcome}
 use Rattle.dv_core.proofs.Bare.{BareStep}
 use Rattle.dv_core.proofs.Asking.{AsksSoundly, body_size, soundly_asked}
-use Rattle.dv_core.proofs.Cursored.{CursorLaws, at, catalog_cursors, memory_moves, read_cursors, write_cursors}
+use Rattle.dv_core.proofs.CursorMoves.{CursorLaws, at, catalog_cursors, read_cursors, write_cursors}
+use Rattle.dv_core.proofs.Cursored.{memory_moves}
 use Rattle.dv_core.proofs.Spelled.{both_hold}
 use Rattle.dv_core.proofs.Viewed.{PipesStayValid, gathered_valid, loaded_leaves, rows_valid}
 

@@ -186,10 +186,10 @@ pub fn an_ordered_write_ends_at_its_first_error()
 /// moves of a run: its own, and how views then stand.
 pub fn a_cursors_batches_are_a_front()
     ensures find { (before : List Move) (session : ℕ) (command : Command) (asked : Find) → asked_by command ≡ Ok (find asked)
-        → let state = state_behind_all before empty_state in
+        → let state = state_behind_all before empty_store_state in
         Shows session asked.namespace asked.batch_size asked.single_batch (scan asked.filter asked.sort asked.skip asked.limit (rows_of asked.namespace state.catalog)) state (step state session command) }
     ensures pipeline { (before : List Move) (session : ℕ) (command : Command) (asked : Aggregate) → asked_by command ≡ Ok (aggregate asked)
-        → let state = state_behind_all before empty_state in
+        → let state = state_behind_all before empty_store_state in
         Shows session asked.namespace asked.batch_size false (aggregated asked.stages asked.namespace state.catalog) state (step state session command) }
     ensures replies { (state : State) (session id : ℕ) (command : Command) (asked : GetMore) (rows : List (List Field)) → asked_by command ≡ Ok (get_more asked) → asked.id ≡ pos id
         → rows_to_come session asked.namespace id state.cursors ≡ Some rows

@@ -16,7 +16,7 @@ pub mod Only
 pub mod Foremost
 pub mod Changed
 pub mod Copied
-pub mod PutIn
+pub mod FieldChanged
 pub mod Counted
 pub mod Shared
 pub mod Taken

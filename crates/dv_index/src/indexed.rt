@@ -4,9 +4,9 @@ ghost use Rattle.std.specs.Prelude.{◌≡◌, ◌↔◌, ◌++◌, ◌∷◌, [
 ghost use Rattle.std.specs.List.{AllByRecursion, list_any};
 ghost use Rattle.std.specs.Option.{option_map};
 ghost use Rattle.std.specs.Str.{bytes_eq};
+ghost use Rattle.dv_bson.specs.Names.{has_zero};
 ghost use Rattle.dv_bson.specs.Tree.{Field};
-ghost use Rattle.dv_bson.specs.View.{tree};
-ghost use Rattle.dv_coll.specs.Collection.{AreStanding, HasId, IsAscending, found, id_key, inserted, removed, replaced, with_value_in};
+ghost use Rattle.dv_coll.specs.Collection.{AreStanding, HasId, IsAscending, found, id_key, inserted, removed, replaced, with_field_changed_in};
 ghost use Rattle.dv_match.specs.Match.{matches};
 ghost use Rattle.dv_path.specs.Parts.{part};
 ghost use Rattle.dv_index.specs.Ahead.{is_ahead};
@@ -26,7 +26,7 @@ use crate::making::indexes_over;
 use crate::plan::{Plan, Planner};
 use crate::search::{all_matching, run, run_first};
 use crate::unique::{Replacing, clashes, replacing_clashes};
-use dv_bson::{Document, NoMemory, Value};
+use dv_bson::{Document, FieldChange, NoMemory};
 use dv_coll::{Collection, InsertFault, Iter, laws};
 use dv_match::Filter;
 use dv_order::Key;
@@ -154,30 +154,42 @@ impl IndexedCollection {
         Ok(true)
     }
 
-    /// Puts the value in place of the one under the name, in the document under the key of its `_id`, and answers whether
-    /// there is such a document. Where there is none, or where no field of it has the name, nothing is changed, and the value
-    /// is dropped. Without an index beside that on `_id` the document is changed in place, as `Collection::put` does it. Fails
-    /// where memory is wanting; then nothing is changed.
-    pub fn put(&mut self, key: &Key, name: &str, value: Value) -> Result<bool, NoMemory>
-        requires { bytes_eq name.now (codes "_id") ≡ false }
+    /// Makes the change of the field under the name, in the document under the key of its `_id`, and answers whether there is
+    /// such a document. Where there is none, nothing is changed, and the value is dropped. Without an index beside that on
+    /// `_id` the document is changed in place, as `Collection::change_field` does it. Fails where memory is wanting; then
+    /// nothing is changed.
+    pub fn change_field(
+        &mut self,
+        key: &Key,
+        name: &str,
+        change: FieldChange,
+    ) -> Result<bool, NoMemory>
+        requires no_id { bytes_eq name.now (codes "_id") ≡ false }
+        requires whole { has_zero name.now ≡ false }
         ensures found { IfOk result (λ there. there ≡ is_some (found key.now self.old.documents)) }
-        ensures ok { OnOk result (self.new ≡ with_documents (with_value_in (found key.now self.old.documents) name.now (tree value) self.old.documents) self.old) }
+        ensures ok { OnOk result (self.new ≡ with_documents (with_field_changed_in (found key.now self.old.documents) name.now change self.old.documents) self.old) }
         ensures err { OnErr result (self.new ≡ self.old) }
     {
         if are_only_id(&self.indexes) {
-            return self.documents.put(key, name, value);
+            return self.documents.change_field(key, name, change);
         }
-        self.put_in_copy(key, name, value)
+        self.change_in_copy(key, name, change)
     }
 
     /// The same, by a copy of the document that comes in its place, with its keys in the indexes.
-    fn put_in_copy(&mut self, key: &Key, name: &str, value: Value) -> Result<bool, NoMemory>
-        requires { bytes_eq name.now (codes "_id") ≡ false }
+    fn change_in_copy(
+        &mut self,
+        key: &Key,
+        name: &str,
+        change: FieldChange,
+    ) -> Result<bool, NoMemory>
+        requires no_id { bytes_eq name.now (codes "_id") ≡ false }
+        requires whole { has_zero name.now ≡ false }
         ensures found { IfOk result (λ there. there ≡ is_some (found key.now self.old.documents)) }
-        ensures ok { OnOk result (self.new ≡ with_documents (with_value_in (found key.now self.old.documents) name.now (tree value) self.old.documents) self.old) }
+        ensures ok { OnOk result (self.new ≡ with_documents (with_field_changed_in (found key.now self.old.documents) name.now change self.old.documents) self.old) }
         ensures err { OnErr result (self.new ≡ self.old) }
     {
-        laws::a_value_under_another_name_leaves_the_id();
+        laws::a_change_of_another_field_leaves_the_id();
         laws::what_is_found_has_the_key();
         // All documents begin with their `_id`s.
         let _ = self.documents.len();
@@ -185,7 +197,7 @@ impl IndexedCollection {
             return Ok(false);
         };
         let mut changed = document.try_clone()?;
-        let _ = changed.put(name, value)?;
+        changed.change_field(name, change)?;
         self.change(Change::Replace(changed))?;
         Ok(true)
     }
@@ -359,7 +371,7 @@ impl IndexedCollection {
 }
 
 /// Whether there is no index but the one on `_id`, which has no keys of its own.
-#[tactic(auto, using(crate::proofs::PutIn::one_index))]
+#[tactic(auto, using(crate::proofs::FieldChanged::one_index))]
 fn are_only_id(indexes: &Indexes) -> bool
     ensures { IsTrue result → (documents : List (List Field)) → AreIndexesOf indexes.now documents }
 {

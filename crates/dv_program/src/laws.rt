@@ -12,7 +12,7 @@ ghost use Rattle.dv_program.specs.declared.said.Line.{Line};
 /// does to its hub is one play of the events of its lines, joined in the lines' order.
 pub fn a_script_is_a_schedule()
     ensures line { (old new : OpenSessions) (line : Line) (text : List ℕ) → DoesOneLine old line text new
-        → (all : List Said) × Plays old.hub (events_of old line) all new.hub × Tells line all text }
+        → (all : List Said) × Plays old.hub (events_of old line) all new.hub × TellsEvents line all text }
     ensures script { (old new : OpenSessions) (script text : List ℕ) → (runs : Runs old script text new)
         → (all : List Said) × Plays old.hub (schedule_of old new (slice_split is_lf script) text runs) all new.hub }
 {

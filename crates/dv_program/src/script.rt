@@ -82,7 +82,7 @@ pub fn script<R: ByteIn, W: TextOut>(
     writer: &mut W,
 ) -> Result<(), ScriptFault>
     ensures done { OnOk result (IfSome (R.remaining reader.old) (λ text. (said : List ℕ) × (end : OpenSessions)
-        × Appends (W.contents writer.old) (W.contents writer.new) said × Runs (begun hub.old) text said end × (end.hub ≡ hub.new))) }
+        × Appends (W.contents writer.old) (W.contents writer.new) said × Runs (no_sessions hub.old) text said end × (end.hub ≡ hub.new))) }
     ensures stopped { IfErr result (λ fault. StopsBy fault (no_sessions hub.old) (R.remaining reader.old) (R.remaining reader.new)
         (W.contents writer.old) (W.contents writer.new) hub.new) }
     ensures reader { R.failures reader.new ≡ failures_told script_read_failed result (R.failures reader.old) }
@@ -177,7 +177,7 @@ impl Progress {
         requires numbers { self.old.number + length piece.now < 2 ^ 64 }
         ensures line { OnOk result (HasNoLf self.new.line.items) }
         ensures done { OnOk result ((said : List ℕ) × Appends (W.contents writer.old) (W.contents writer.new) said
-            × (takes : Takes (standing_of self.old.sessions hub.old) self.old.line.items piece.now said (standing_of self.new.sessions hub.new) self.new.line.items)
+            × (takes : TakesPiece (standing_of self.old.sessions hub.old) self.old.line.items piece.now said (standing_of self.new.sessions hub.new) self.new.line.items)
             × (self.new.number ≡ self.old.number + length takes.lines)) }
         ensures stopped { IfErr result (λ fault. (said : List ℕ) × Appends (W.contents writer.old) (W.contents writer.new) said
             × StopsIn fault (standing_of self.old.sessions hub.old) self.old.number self.old.line.items piece.now said hub.new) }
@@ -253,7 +253,7 @@ impl Progress {
         requires { number < 1000 }
         ensures kept { self.new ≡ record self.old { sessions = self.new.sessions } }
         ensures done { IfOk result (λ text.
-            Does (standing_of self.old.sessions hub.old) (Line.Bytes number bytes.now) (string_bytes text) (standing_of self.new.sessions hub.new)) }
+            DoesOneLine (standing_of self.old.sessions hub.old) (Line.Bytes number bytes.now) (string_bytes text) (standing_of self.new.sessions hub.new)) }
         ensures stopped { IfErr result (λ fault. StopsLine fault (standing_of self.old.sessions hub.old) (Line.Bytes number bytes.now) hub.new) }
     {
         let session = self.session(hub, number)?;
@@ -277,7 +277,7 @@ impl Progress {
         requires { number < 1000 }
         ensures kept { self.new ≡ record self.old { sessions = self.new.sessions } }
         ensures done { IfOk result (λ text.
-            Does (standing_of self.old.sessions hub.old) (Line.End number) (string_bytes text) (standing_of self.new.sessions hub.new)) }
+            DoesOneLine (standing_of self.old.sessions hub.old) (Line.End number) (string_bytes text) (standing_of self.new.sessions hub.new)) }
         ensures stopped { IfErr result (λ fault. StopsLine fault (standing_of self.old.sessions hub.old) (Line.End number) hub.new) }
     {
         let session = self.session(hub, number)?;

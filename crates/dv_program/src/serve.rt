@@ -149,7 +149,7 @@ fn serve_next<L: Listener>(
     listener: &mut L,
 ) -> Result<Result<Done, RunFault>, ServeFault>
     ensures served { IfOk result (λ told. (connection : Connection) × Accepts (L.coming listener.old) connection.input (L.coming listener.new)
-        × Closes (L.closed listener.old) connection.left connection.taken (L.closed listener.new) × HasSession connection hub.old told hub.new) }
+        × ClosesConnection (L.closed listener.old) connection.left connection.taken (L.closed listener.new) × HasSession connection hub.old told hub.new) }
     ensures none { OnErr result ((hub.new ≡ hub.old) × (L.coming listener.new ≡ L.coming listener.old) × (L.closed listener.new ≡ L.closed listener.old)) }
     ensures fault { IfErr result (λ fault. fault ≡ ServeFault.Accept) }
     ensures failures { L.failures listener.new ≡ failures_behind result (L.failures listener.old) }

@@ -79,9 +79,9 @@ pub fn documents_are_shown_as_rows()
     ensures included_apart { (paths : List (List (List ℕ))) (front back : Row) → projected (Include paths nothing) (front ++ back) ≡ projected (Include paths nothing) front ++ projected (Include paths nothing) back }
     ensures excluded_apart { (paths : List (List (List ℕ))) (front back : Row) → projected (Exclude paths) (front ++ back) ≡ projected (Exclude paths) front ++ projected (Exclude paths) back }
     ensures included_inside { (paths : List (List (List ℕ))) (name : List ℕ) (d : Row) → list_any (is_alone name) paths ≡ false → list_any (begins_with_name name) paths ≡ true
-        → projected (Include paths nothing) ((name, document (fields_of d)) ∷ []) ≡ (name, document (fields_of (projected (Include (behind name paths) nothing) d))) ∷ [] }
+        → projected (Include paths nothing) ((name, document (fields_of d)) ∷ []) ≡ (name, document (fields_of (projected (Include (paths_behind name paths) nothing) d))) ∷ [] }
     ensures excluded_inside { (paths : List (List (List ℕ))) (name : List ℕ) (d : Row) → list_any (is_alone name) paths ≡ false → list_any (begins_with_name name) paths ≡ true
-        → projected (Exclude paths) ((name, document (fields_of d)) ∷ []) ≡ (name, document (fields_of (projected (Exclude (behind name paths)) d))) ∷ [] }
+        → projected (Exclude paths) ((name, document (fields_of d)) ∷ []) ≡ (name, document (fields_of (projected (Exclude (paths_behind name paths)) d))) ∷ [] }
 {}
 
 /// However deep a document lies, an included path that leads through its levels keeps at each of them that document alone, and in

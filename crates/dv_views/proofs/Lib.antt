@@ -16,6 +16,7 @@ pub mod Marked
 pub mod Needed
 pub mod Unread
 pub mod Limit
+pub mod OneBehind
 pub mod Behind
 pub mod Heights
 pub mod Removing

@@ -1,11 +1,13 @@
 //! The namespaces that stages look into.
 
-ghost use Rattle.std.specs.Prelude.{◌≡◌, IfOk};
+ghost use Rattle.std.specs.Prelude.{◌≡◌, ◌++◌, IfOk, OnOk};
 ghost use Rattle.std.specs.String.{string_bytes};
 ghost use Rattle.dv_pipe.specs.Stages as pipes;
 ghost use Rattle.dv_views.specs.Forms as forms;
+ghost use Rattle.dv_views.specs.Forms.{is_name_among, names_read};
 ghost use Rattle.dv_views.specs.Placed as defined;
 
+use crate::view::View;
 use dv_bson::{NoMemory, Str};
 use dv_pipe::Pipeline;
 use std::alloc::Global;
@@ -54,4 +56,28 @@ pub fn beside(alloc: Global, source: &str, collection: &str) -> Result<String, N
     namespace.push('.')?;
     namespace.push_str(collection)?;
     Ok(namespace)
+}
+
+/// Whether the name is one of these.
+pub(crate) fn is_listed(names: &[Str], name: &str) -> bool
+    ensures { result ≡ is_name_among name.now names.now }
+{
+    'names: for other in names {
+        if other.as_str() == name {
+            return true;
+        }
+    }
+    false
+}
+
+/// Puts the names that the view reads behind the others. Fails where memory is wanting.
+pub(crate) fn push_names_read(names: &mut Vec<Str>, view: &View) -> Result<(), NoMemory>
+    ensures { OnOk result (names.new.items ≡ names.old.items ++ names_read view.now.stages view.now.source) }
+{
+    let alloc = *names.allocator();
+    names.push(Str::of(String::from_str(alloc, view.source())?))?;
+    'lists: for name in view.lookups() {
+        names.push(name.try_clone()?)?;
+    }
+    Ok(())
 }

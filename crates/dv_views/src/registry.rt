@@ -1,6 +1,6 @@
 //! The views by their names.
 
-ghost use Rattle.std.specs.Prelude.{◌≡◌, ◌≢◌, ◌||◌, ◌<◌, ◌++◌, [], false, true, length, map, slice_get, take, None, IfOk, OnOk, OnErr};
+ghost use Rattle.std.specs.Prelude.{◌≡◌, ◌≢◌, ◌||◌, ◌<◌, [], false, true, length, map, slice_get, take, None, IfOk, OnOk, OnErr};
 ghost use Rattle.std.specs.List.{AllByRecursion, list_any};
 ghost use Rattle.std.specs.Option.{option_copied, option_map};
 ghost use Rattle.dv_pipe.specs.Sources.{lists_of};
@@ -17,7 +17,7 @@ ghost use Rattle.dv_views.specs.Views.{AreInOrder, AreNamedApart, ArePartlyRefre
 
 use crate::fault::ViewFault;
 use crate::laws;
-use crate::lookups::{lookups_of, names_read};
+use crate::lookups::{is_listed, lookups_of, names_read, push_names_read};
 use crate::making::{Ground, mark_over};
 use crate::passing::take_at;
 use crate::rows::Rows;
@@ -377,28 +377,4 @@ impl Registry {
         }
         highest + 1
     }
-}
-
-/// Whether the name is one of these.
-fn is_listed(names: &[Str], name: &str) -> bool
-    ensures { result ≡ is_name_among name.now names.now }
-{
-    'names: for other in names {
-        if other.as_str() == name {
-            return true;
-        }
-    }
-    false
-}
-
-/// Puts the names that the view reads behind the others. Fails where memory is wanting.
-fn push_names_read(names: &mut Vec<Str>, view: &View) -> Result<(), NoMemory>
-    ensures { OnOk result (names.new.items ≡ names.old.items ++ names_read view.now.stages view.now.source) }
-{
-    let alloc = *names.allocator();
-    names.push(Str::of(String::from_str(alloc, view.source())?))?;
-    'lists: for name in view.lookups() {
-        names.push(name.try_clone()?)?;
-    }
-    Ok(())
 }

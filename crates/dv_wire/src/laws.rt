@@ -34,7 +34,7 @@ pub fn splitting_goes_on()
 /// A message is split off exactly where its spelling begins the stream.
 pub fn messages_are_spelled()
     ensures { (bytes following : List ℕ) (message : wire.Message) → IsBytes bytes
-        → (wire.front bytes ≡ wire.whole message following) ↔ ((spelled : List ℕ) × wire.IsMessage message spelled × (bytes ≡ spelled ++ following)) }
+        → (wire.stream_front bytes ≡ wire.whole message following) ↔ ((spelled : List ℕ) × wire.IsMessage message spelled × (bytes ≡ spelled ++ following)) }
 {}
 
 /// It doesn't matter how a session's bytes are cut: whatever the pieces are, and however many, they may do together what
@@ -94,7 +94,7 @@ pub fn a_play_without_want_of_memory_is_the_plain_one()
     ensures plain { (old new : World) (all : List Event) (told : List Said) → PlaysBy LiveStep old all told new → AllByRecursion (λ s. SaysWant s → ⊥) told
         → (told ≡ (plain_play old all).said) × (new ≡ (plain_play old all).world) }
     ensures order { (old new : World) (all : List Event) (told : List Said) → PlaysBy LiveStep old all told new → AllByRecursion (λ s. SaysWant s → ⊥) told
-        → (new.state ≡ state_behind old.state (order old.next old.sessions all))
+        → (new.state ≡ state_left old.state (order old.next old.sessions all))
         × ((session : ℕ) → answers session all told ≡ replies_behind session old.state (order old.next old.sessions all)) }
     ensures such { (world : World) (all : List Event) → AreAllLive world.state.marks → PlaysBy LiveStep world all (plain_play world all).said (plain_play world all).world }
 {
@@ -110,7 +110,7 @@ pub fn how_views_stand_matters_to_view_stats_alone()
         → (told ≡ (plain_play old all).said) × (new ≡ world_standing new.state.marks (plain_play old all).world) }
     ensures order { (old new : World) (all : List Event) (told : List Said) → Plays old all told new → AllByRecursion (λ s. SaysWant s → ⊥) told
         → OfCommands AsksNoStats (order old.next old.sessions all)
-        → (new.state ≡ standing new.state.marks (state_behind old.state (order old.next old.sessions all)))
+        → (new.state ≡ standing new.state.marks (state_left old.state (order old.next old.sessions all)))
         × ((session : ℕ) → answers session all told ≡ replies_behind session old.state (order old.next old.sessions all)) }
 {}
 

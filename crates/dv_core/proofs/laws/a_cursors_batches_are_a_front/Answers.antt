@@ -1,4 +1,5 @@
-use Rattle.dv_core.proofs.Cursored.{CursorLaws, find_told, pipeline_told, more_told}
+use Rattle.dv_core.proofs.CursorMoves.{CursorLaws}
+use Rattle.dv_core.proofs.Cursored.{find_told, pipeline_told, more_told}
 use Rattle.dv_core.proofs.Marked.{step_moves}
 use Rattle.dv_core.proofs.laws.a_cursors_batches_are_a_front.Goals as goal
 

@@ -1,6 +1,6 @@
 use Rattle.dv_core.specs.State.{standing}
 use Rattle.dv_core.proofs.Bare.{bare}
-use Rattle.dv_core.proofs.Cursored.{CursorLaws}
+use Rattle.dv_core.proofs.CursorMoves.{CursorLaws}
 use Rattle.dv_core.proofs.Named.{empty_named, steps_named}
 use Rattle.dv_core.proofs.Ordered.{AreWhole, CollectionLaws, UpdateLaws, empty_whole, loaded_sound, steps_sound}
 use Rattle.dv_core.proofs.Unique.{UniqueLaws}

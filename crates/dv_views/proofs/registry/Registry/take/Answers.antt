@@ -5,7 +5,7 @@ use Rattle.dv_views.specs.Older.{views}
 use Rattle.dv_views.specs.Seen.{HaveHeights, IsSoundRegistry}
 use Rattle.dv_views.specs.Turned.{HaveTaken}
 use Rattle.dv_views.specs.Views.{Views, view_form}
-use Rattle.dv_views.proofs.Behind.{forms_after, founded_after, over_after}
+use Rattle.dv_views.proofs.OneBehind.{forms_after, founded_after, over_after}
 use Rattle.dv_views.proofs.Heights.{heights_written}
 use Rattle.dv_views.proofs.Marked.{all_taken, apart_written, kept_there, length_written, taken_next}
 use Rattle.dv_views.proofs.WellKept.{AreWellKept, kept_at}

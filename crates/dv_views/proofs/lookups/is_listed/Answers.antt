@@ -2,7 +2,7 @@ use Rattle.std.proofs.Common.{◌≡◌, ◌+◌, ◌||◌, Bool, true, false, d
 use Rattle.std.specs.Str.{bytes_eq}
 use Rattle.dv_views.specs.Forms.{is_name_among}
 use Rattle.dv_views.proofs.Heights.{among_next}
-use Rattle.dv_views.proofs.registry.is_listed.Goals as goal
+use Rattle.dv_views.proofs.lookups.is_listed.Goals as goal
 
 pub returns-then-eq : goal.returns-then-eq
 returns-then-eq c =

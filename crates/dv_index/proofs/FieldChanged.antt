@@ -1,9 +1,10 @@
--- A document with another value comes in place of the one that was found.
+-- A document with one field changed comes in place of the one that was found.
 use Rattle.std.proofs.Common.{◌≡◌, ◌∙◌, ℕ, List, [], ◌∷◌, length, arith, Some, IsSome, false, true, codes, ap, sym, subst}
 use Rattle.std.specs.List.{AllByRecursion}
 use Rattle.std.specs.Str.{bytes_eq}
-use Rattle.dv_bson.specs.Names.{with_value_under}
-use Rattle.dv_bson.specs.Tree.{Tree, Field}
+use Rattle.dv_bson.specs.FieldChange.{with_field_changed}
+use Rattle.dv_bson.specs.Tree.{Field}
+use Rattle.dv_bson.specs.declared.field_change.FieldChange.{FieldChange}
 use Rattle.dv_order.specs.Key.{KeyTree}
 use Rattle.dv_coll.specs.Collection.{HasId, found, has_key, id_key}
 use Rattle.dv_index.specs.Change.{AreIndexesOf}
@@ -17,10 +18,10 @@ module _ (k : KeyTree) (d e : List Field) (ds : List (List Field)) (here : found
 
 -- what dv_coll's laws say
 abbrev pub LeavesBegin : Type 0
-LeavesBegin = (name : List ℕ) (v : Tree) (d : List Field) → bytes_eq name (codes "_id") ≡ false → HasId d → HasId (with_value_under name v d)
+LeavesBegin = (name : List ℕ) (c : FieldChange) (d : List Field) → bytes_eq name (codes "_id") ≡ false → HasId d → HasId (with_field_changed name c d)
 
 abbrev pub LeavesKey : Type 0
-LeavesKey = (name : List ℕ) (v : Tree) (d : List Field) → bytes_eq name (codes "_id") ≡ false → HasId d → id_key (with_value_under name v d) ≡ id_key d
+LeavesKey = (name : List ℕ) (c : FieldChange) (d : List Field) → bytes_eq name (codes "_id") ≡ false → HasId d → id_key (with_field_changed name c d) ≡ id_key d
 
 abbrev pub FoundHas : Type 0
 FoundHas = (k : KeyTree) (d : List Field) (ds : List (List Field)) → found k ds ≡ Some d → has_key k d ≡ true
@@ -29,12 +30,12 @@ abbrev pub FoundBegins : Type 0
 FoundBegins = (k : KeyTree) (d : List Field) (ds : List (List Field)) → AllByRecursion HasId ds → found k ds ≡ Some d → HasId d
 
 -- the changed document may come in the place of the one that was found
-pub put_possible : LeavesBegin → LeavesKey → FoundHas → FoundBegins → (k : KeyTree) (name : List ℕ) (v : Tree) (d e : List Field) (ds : List (List Field)) → bytes_eq name (codes "_id") ≡ false → AllByRecursion HasId ds
-    → Some d ≡ found k ds → e ≡ with_value_under name v d → HasId e × IsSome (found (id_key e) ds)
-put_possible begin key has found-begins k name v d e ds other all here is =
+pub change_possible : LeavesBegin → LeavesKey → FoundHas → FoundBegins → (k : KeyTree) (name : List ℕ) (c : FieldChange) (d e : List Field) (ds : List (List Field)) → bytes_eq name (codes "_id") ≡ false → AllByRecursion HasId ds
+    → Some d ≡ found k ds → e ≡ with_field_changed name c d → HasId e × IsSome (found (id_key e) ds)
+change_possible begin key has found-begins k name c d e ds other all here is =
     let id : HasId d = found-begins k d ds all (sym here) in
-    let same : id_key e ≡ id_key d = ap id_key is ∙ key name v d other id in
-    (subst HasId (sym is) (begin name v d other id), still_found k d e ds (sym here) (has k d ds (sym here)) same)
+    let same : id_key e ≡ id_key d = ap id_key is ∙ key name c d other id in
+    (subst HasId (sym is) (begin name c d other id), still_found k d e ds (sym here) (has k d ds (sym here)) same)
 
 -- without an index behind the first, whatever documents there are
 pub one_index : (xs : List IndexTree) → length xs ≡ 1 → (ds : List (List Field)) → AreIndexesOf xs ds
