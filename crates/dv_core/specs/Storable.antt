@@ -1,7 +1,6 @@
 -- Documents as they are stored. That `_id` is no array and stands in front, and the limits, are the MongoDB manual's ("Documents",
 -- "MongoDB Limits and Thresholds"); that `_id` has to be there, and which names are refused, are this server's own.
-use Rattle.std.specs.Prelude.{ℕ, ◌&&◌, not, Bool, List, [], ◌∷◌, Option, Some, None, Result, Ok, Err, codes, nat_lt, length, if◌then◌else◌}
-use Rattle.std.specs.Str.{bytes_eq}
+use Rattle.std.specs.Prelude.{◌&&◌, not, Bool, List, ◌∷◌, Option, Some, None, Result, Ok, Err, codes, nat_lt, length, if◌then◌else◌}
 use Rattle.dv_bson.specs.Tree.{Tree, document, array, Field, fields_of}
 use Rattle.dv_bson.specs.Names.{value_under, without}
 use Rattle.dv_bson.specs.Spelling.{spelling, levels}

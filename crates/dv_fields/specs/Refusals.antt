@@ -1,6 +1,5 @@
 -- How commands are refused (MongoDB manual, "Error Codes"; from 900 on they are this server's own).
-use Rattle.std.specs.Prelude.{◌≡◌, ◌⊎◌, ℕ, List, [], ◌∷◌, ◌++◌, Result, Ok, Err, codes}
-use Rattle.dv_bson.specs.Results.{◌>>=◌}
+use Rattle.std.specs.Prelude.{◌≡◌, ◌⊎◌, ℕ, List, ◌++◌, Result, Ok, Err, codes}
 use Rattle.dv_bson.specs.declared.fault.BsonFault.{BsonFault}
 use Rattle.dv_bson.specs.declared.fault.BsonFault.TheVariants.{NoMemory}
 use Rattle.dv_bson.specs.Fault.{fault_text}

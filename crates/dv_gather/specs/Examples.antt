@@ -1,6 +1,6 @@
 -- Worked examples: what $group and $lookup make of rows, the stage and the rows as they are written.
 use Rattle.std.specs.Prelude.{ℕ, pos, true, List, [], ◌∷◌, Result, Ok, codes}
-use Rattle.dv_bson.specs.Tree.{Tree, int32, int64, string, document, array, boolean, null, Field, fields_of, elements_of}
+use Rattle.dv_bson.specs.Tree.{Tree, int64, boolean, null, Field}
 use Rattle.dv_row.specs.declared.fault.PipelineFault.{PipelineFault}
 use Rattle.dv_bson.specs.Results.{◌>>=◌}
 use Rattle.dv_bson.specs.Short.{int, text, doc, list}

@@ -1,6 +1,6 @@
 -- Sums of numbers (MongoDB manual, "$sum (aggregation)"). They have no bound; how those beyond 64 bits are spelled is this server's
 -- own.
-use Rattle.std.specs.Prelude.{ℤ, pos, negsuc, ◌+ℤ◌, ◌^◌, Bool, true, false, not, ◌&&◌, nat_lt, List, [], ◌∷◌, codes, if◌then◌else◌}
+use Rattle.std.specs.Prelude.{ℤ, pos, ◌+ℤ◌, Bool, true, false, not, ◌&&◌, List, [], ◌∷◌, codes, if◌then◌else◌}
 use Rattle.std.specs.Fmt.{signed_decimal}
 use Rattle.std.specs.List.{list_any}
 use Rattle.dv_bson.specs.Tree.{Tree, int32, int64, string, document, field, no_fields}

@@ -81,7 +81,7 @@ no-fields : length (fields_spelling no_fields) ≡ 0
 unfolding payload
 no-fields = refl
 
-no-items : (i : ℕ) → length (elements_spelling i no_elements) ≡ 0
+pub no-items : (i : ℕ) → length (elements_spelling i no_elements) ≡ 0
 unfolding payload
 no-items i = refl
 

@@ -1,6 +1,7 @@
 pub mod AlikeChecked
 pub mod AlikeDown
 pub mod AlikeEdits
+pub mod Behind
 pub mod DownTo
 pub mod FarEdits
 pub mod Gathered
@@ -9,7 +10,7 @@ pub mod LastWay
 pub mod Lawful
 pub mod Lengths
 pub mod Made
-pub mod OneValue
+pub mod OneField
 pub mod Paths
 pub mod Placed
 pub mod PutThere

@@ -1,6 +1,6 @@
 -- Worked examples: what an update makes of a document, both as they are written.
-use Rattle.std.specs.Prelude.{ℕ, pos, List, [], ◌∷◌, Result, codes}
-use Rattle.dv_bson.specs.Tree.{Tree, int32, int64, document, array, Field, fields_of, elements_of}
+use Rattle.std.specs.Prelude.{ℕ, List, [], ◌∷◌, Result, codes}
+use Rattle.dv_bson.specs.Tree.{Tree, Field}
 use Rattle.dv_update.specs.declared.fault.UpdateFault.{UpdateFault}
 use Rattle.dv_update.specs.Apply.{applied}
 use Rattle.dv_update.specs.Parsing.{update_of}

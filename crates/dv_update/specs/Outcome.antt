@@ -1,18 +1,18 @@
--- What an update changes in a document, told by the value of one field where that is all.
+-- What an update changes in a document, told by one field where that is all.
 use Rattle.std.specs.Prelude.{◌≡◌, ℕ, ◌+◌, ◌≤◌, Bool, true, false, List, [], ◌∷◌, length, Option, Some, None, Result, Ok, Err, codes, if◌then◌else◌}
 use Rattle.std.specs.Str.{bytes_eq}
-use Rattle.dv_bson.specs.Names.{with_value_under}
+use Rattle.dv_bson.specs.FieldChange.{with_field_changed}
+use Rattle.dv_bson.specs.Results.{◌>>=◌}
 use Rattle.dv_bson.specs.Spelling.{levels, payload, spelling}
 use Rattle.dv_bson.specs.Tree.{Tree, document, Field, fields_of}
-use Rattle.dv_bson.specs.View.{tree}
-use Rattle.dv_path.specs.Slots.{taken}
-use Rattle.dv_update.specs.Apply.{Path, increased}
+use Rattle.dv_path.specs.Slots.{Slot}
+use Rattle.dv_update.specs.Apply.{Path, checked, edit_at, increased}
 use Rattle.dv_order.specs.Same.{same_fields}
 use Rattle.dv_update.specs.Update.{Operation, assign, increase, Edit, Update, operators, replacement}
 use Rattle.dv_update.specs.declared.fault.UpdateFault.{UpdateFault}
 use Rattle.dv_update.specs.declared.fault.UpdateFault.TheVariants.{NotViable}
 use Rattle.dv_update.specs.declared.outcome.Outcome.{Outcome}
-use Rattle.dv_update.specs.declared.outcome.Outcome.TheVariants.{Same, Value, Whole}
+use Rattle.dv_update.specs.declared.outcome.Outcome.TheVariants as told
 
 -- an edit whose path is one name, and not `_id`: the name, and what is done
 abbrev pub edit_under : Path → Operation → Option (List ℕ × Operation)
@@ -38,31 +38,35 @@ sole_name update = name_of (sole_edit update)
 
 -- the document afterwards
 abbrev pub outcome_seen : List ℕ → List Field → Outcome → List Field
-outcome_seen name d Same = d
-outcome_seen name d (Value v) = with_value_under name (tree v) d
-outcome_seen name d (Whole e) = e
+outcome_seen name d told.Same = d
+outcome_seen name d (told.Field change) = with_field_changed name change d
+outcome_seen name d (told.Whole e) = e
 
 abbrev pub stays : Outcome → Bool
-stays Same = true
+stays told.Same = true
 stays outcome = false
 
--- it is told by the value under one name alone
-abbrev pub is_value : Outcome → Bool
-is_value (Value v) = true
-is_value outcome = false
+-- it is told by one field alone
+abbrev pub is_field : Outcome → Bool
+is_field (told.Field change) = true
+is_field outcome = false
 
 -- a document is told to stay where it is spelled as it was
 abbrev pub stays_so : List ℕ → List Field → Outcome → Bool
 stays_so name d outcome = same_fields (fields_of d) (fields_of (outcome_seen name d outcome))
 
--- the value that comes in place of one that is there, by an operator that doesn't look into documents and arrays
-abbrev pub value_by : Operation → Tree → Result Tree UpdateFault
-value_by (assign v) w = Ok v
-value_by (increase n) w = increased n (taken w)
-value_by o w = Err NotViable
+-- what an edit under a name makes of a document, or the first refusal
+abbrev pub applied_under : List ℕ → Operation → List Field → Result (List Field) UpdateFault
+applied_under name o d = edit_at (name ∷ []) o d >>= checked d
 
--- the document stays within the limits with a value in place of another, in which no document or array is
-pub record HasRoom (d : List Field) (v : Tree) : Type 0 where
-  pub size : length (spelling d) + length (payload v) ≤ 16777216
+-- the value that comes where this stands, by an operator that doesn't look into documents and arrays
+abbrev pub value_by : Operation → Slot → Result Tree UpdateFault
+value_by (assign v) s = Ok v
+value_by (increase n) s = increased n s
+value_by o s = Err NotViable
+
+-- the document stays within the limits with a value more, in which no document or array is, and so many bytes around it
+pub record HasRoom (d : List Field) (around : ℕ) (v : Tree) : Type 0 where
+  pub size : length (spelling d) + (length (payload v) + around) ≤ 16777216
   pub flat : levels v ≡ 0
   pub depth : levels (document (fields_of d)) ≤ 100

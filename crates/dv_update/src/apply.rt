@@ -1,8 +1,8 @@
 //! What an update makes of a document.
 
-ghost use Rattle.std.specs.Prelude.{◌≡◌, [], ◌∷◌, ◌++◌, nat_lt, ◌⊎◌, Err, false, length, codes, IfErr, IfOk, OnOk, OnErr};
+ghost use Rattle.std.specs.Prelude.{◌≡◌, [], nat_lt, ◌⊎◌, Err, length, codes, IfErr, IfOk};
 ghost use Rattle.std.specs.Option.{option_map};
-ghost use Rattle.dv_bson.specs.Names.{has_name, has_zero, value_under};
+ghost use Rattle.dv_bson.specs.Names.{value_under};
 ghost use Rattle.dv_bson.specs.Spelling.{spelling};
 ghost use Rattle.dv_bson.specs.View.{tree};
 ghost use Rattle.dv_update.specs.Apply as defined;
@@ -16,9 +16,9 @@ use crate::fault::UpdateFault;
 use crate::filling::refuse_too_large;
 use crate::form::Update;
 use crate::stand_in::edited_or_alike;
-use dv_bson::{BsonFault, Document, NoMemory, Value, fits, size};
+use dv_bson::{Document, NoMemory, Value, fits, size};
 use dv_order::is_same;
-use std::alloc::{AllocError, Global};
+use std::alloc::Global;
 
 /// The name of the field that a stored document begins with.
 pub(crate) const ID: &str = "_id";
@@ -86,7 +86,7 @@ fn replaced(alloc: Global, fields: &Document, document: &Document) -> Result<Doc
             break;
         };
         if name != ID {
-            add(&mut changed, name, value.try_clone()?)?;
+            changed.add(name, value.try_clone()?)?;
         }
     }
     Ok(changed)
@@ -98,7 +98,7 @@ fn id_alone(alloc: Global, id: Option<&Value>) -> Result<Document, NoMemory>
 {
     let mut document = Document::new(alloc);
     if let Some(id) = id {
-        add(&mut document, ID, id.try_clone()?)?;
+        document.add(ID, id.try_clone()?)?;
     }
     Ok(document)
 }
@@ -110,19 +110,6 @@ fn chosen_id<'a>(fields: &'a Document, document: &'a Document) -> Option<&'a Val
     match fields.get(ID) {
         Some(id) => Some(id),
         None => document.get(ID),
-    }
-}
-
-/// Adds a field whose name is known to be new and without a zero byte. Fails where memory is wanting.
-pub(crate) fn add(document: &mut Document, name: &str, value: Value) -> Result<(), NoMemory>
-    requires whole { has_zero name.now ≡ false }
-    requires fresh { has_name name.now document.old ≡ false }
-    ensures { OnOk result (document.new ≡ document.old ++ (name.now, tree value) ∷ []) }
-{
-    match document.push(name, value) {
-        Ok(()) => Ok(()),
-        Err(BsonFault::NoMemory) => Err(AllocError),
-        Err(_) => unreachable!(),
     }
 }
 

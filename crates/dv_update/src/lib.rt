@@ -10,12 +10,14 @@ mod filling;
 mod form;
 pub mod laws;
 mod number;
+mod one_field;
 mod operand;
 mod operator;
 mod order;
 mod outcome;
 mod parsing;
 mod pieces;
+mod room;
 mod stand_in;
 
 pub use fault::UpdateFault;

@@ -2,6 +2,7 @@
 
 ghost use Rattle.std.specs.Prelude.{◌≡◌};
 ghost use Rattle.dv_bson.specs.View.{tree};
+ghost use Rattle.dv_bson.specs.Widths as widths;
 ghost use Rattle.dv_update.specs.Apply as defined;
 ghost use Rattle.dv_update.specs.Parsing.{Gives};
 
@@ -60,7 +61,7 @@ impl Number {
 
 /// Whether a number has 32 bits.
 fn fits_32(number: i64) -> bool
-    ensures { result ≡ defined.fits_32 number }
+    ensures { result ≡ widths.fits_32 number }
 {
     i64::from(i32::MIN) <= number && number <= i64::from(i32::MAX)
 }

@@ -8,7 +8,6 @@ ghost use Rattle.dv_bson.specs.Tree.{binary};
 ghost use Rattle.dv_bson.specs.View.{tree};
 ghost use Rattle.dv_update.specs.StandIn as defined;
 
-use crate::apply::add;
 use dv_bson::{Bytes, Document, NoMemory, Value, fits, laws, size};
 use dv_path::Component;
 use std::alloc::Global;
@@ -74,7 +73,7 @@ fn twice(alloc: Global, value: Value, name: &str) -> Result<Document, NoMemory>
 {
     laws::what_a_field_adds();
     let mut document = alone(alloc, &value)?;
-    add(&mut document, name, value)?;
+    document.add(name, value)?;
     document.keep_size();
     Ok(document)
 }
@@ -121,6 +120,6 @@ fn alone(alloc: Global, value: &Value) -> Result<Document, NoMemory>
     ensures { IfOk result (λ alone. alone ≡ ([], tree value.now) ∷ []) }
 {
     let mut alone = Document::new(alloc);
-    add(&mut alone, "", value.try_clone()?)?;
+    alone.add("", value.try_clone()?)?;
     Ok(alone)
 }

@@ -8,8 +8,8 @@ use Rattle.dv_row.specs.Expressions.{with_field_behind}
 use Rattle.dv_row.specs.Projecting.{paths_behind, left_of_value, left_inside, fields_left, elements_left, row_left}
 use Rattle.dv_row.proofs.Items.{take-past, take-read, none-there}
 use Rattle.dv_row.proofs.Left.{row-left_more, fields-of_list, elements-of_list, single, elements-left_more}
-use Rattle.dv_row.proofs.project.+left_of_value.Goals as goal
-use Rattle.dv_row.proofs.project.+left_of_value.Goals.{document_left-else-fields-test, document_left-then-fields-test+in_default, list_left-in-Some+in_ok-push, list_left-in_default}
+use Rattle.dv_row.proofs.project.+left.Goals as goal
+use Rattle.dv_row.proofs.project.+left.Goals.{document_left-else-fields-test, document_left-then-fields-test+in_default, list_left-in-Some+in_ok-push, list_left-in_default}
 
 pub document_left-fields-init : goal.document_left-fields-init
 unfolding fields_left

@@ -6,7 +6,7 @@ use Rattle.dv_bson.specs.View.{tree}
 use Rattle.dv_row.specs.Unwinding.{set_through, set_under}
 use Rattle.dv_row.proofs.Items.{some-left}
 use Rattle.dv_row.proofs.Unwound.{list-of-fields_of, set-more}
-use Rattle.dv_row.proofs.unwind.+set_through.Goals as goal
+use Rattle.dv_row.proofs.unwind.+set_at.Goals as goal
 
 pub returns-in_ok-inner-in-Doc : goal.returns-in_ok-inner-in-Doc
 returns-in_ok-inner-in-Doc t c =

@@ -30,7 +30,7 @@ others-preserved c =
     let Kept : List Field → Type 0 = λ copy. IsReplaced (chosen (value_under (codes "_id") c.args.fields.now) (value_under (codes "_id") c.args.document.now)) c.args.fields.now copy rest in
     elim c.if-ne.branch [
       | then-ne+in_ok-try_clone+in_ok-add w ↦
-          (let is : c.others.changed ++ field ∷ [] ≡ c.if-ne.changed = rw (w.changed-is, w.in_ok-add.ensures, w.in_ok-try_clone.ensures) refl in subst Kept is (field_replaced c.others.invariant field rest here (denied (is_id field) w.if-ne.ensures)))
+          (let is : c.others.changed ++ field ∷ [] ≡ c.if-ne.changed = rw (w.changed-is, w.in_ok-add.ensures.ok, w.in_ok-try_clone.ensures) refl in subst Kept is (field_replaced c.others.invariant field rest here (denied (is_id field) w.if-ne.ensures)))
       | else-ne w ↦ subst Kept (sym w.changed-is) (id_passed c.others.invariant field rest here (affirmed (is_id field) w.if-ne.ensures))
     ]
 

@@ -9,5 +9,5 @@ returns c =
     let v = tree c.args.value in
     let first : Field = ([], v) in
     let second : Field = (c.args.name.now, v) in
-    let is : c.keep_size.new.self ≡ first ∷ second ∷ [] = c.keep_size.ensures ∙ c.in_ok-add.ensures ∙ ap (λ d. d ++ second ∷ []) c.in_ok-document.ensures in
+    let is : c.keep_size.new.self ≡ first ∷ second ∷ [] = c.keep_size.ensures ∙ c.in_ok-add.ensures.ok ∙ ap (λ d. d ++ second ∷ []) c.in_ok-document.ensures in
     omega (arith, ap (λ d. length (spelling d)) is, c.what_a_field_adds.ensures.more first (second ∷ []), c.what_a_field_adds.ensures.more second [], c.what_a_field_adds.ensures.nothing)

@@ -1,4 +1,4 @@
-use Rattle.dv_update.proofs.OneValue.{is_itself, stays_applied}
+use Rattle.dv_update.proofs.OneField.{is_itself, stays_applied}
 use Rattle.dv_update.proofs.form.Update.whole_outcome.Goals as goal
 
 pub returns-then-same_documents-clause-applied : goal.returns-then-same_documents-clause-applied
