@@ -106,17 +106,21 @@ fn changed_by(
     Ok(changed)
 }
 
-/// Adds a document to those that are changed, unless it stays as it is spelled. Fails where memory is wanting.
+/// Adds a document to those that are changed, unless it stays as it is spelled. A whole one lies beside the names of the one
+/// before, if it has the same. Fails where memory is wanting.
 fn add_changed(
     changed: &mut Vec<Updated>,
     document: &Document,
-    outcome: Outcome,
+    mut outcome: Outcome,
 ) -> Result<(), NoMemory>
     ensures afters { OnOk result ((name : List ℕ) → map (after_of name) changed.new.items ≡ map (after_of name) changed.old.items ++ (if outcomes.stays outcome then [] else outcomes.outcome_seen name document.now outcome ∷ [])) }
     ensures befores { OnOk result (map (λ u. u.before) changed.new.items ≡ map (λ u. u.before) changed.old.items ++ (if outcomes.stays outcome then [] else document.now ∷ [])) }
 {
     if outcome.stays() {
         return Ok(());
+    }
+    if let Some(last) = changed.last() {
+        outcome.share_names(&last.outcome);
     }
     let before = document.try_clone()?;
     changed.push(Updated { before, outcome })?;
