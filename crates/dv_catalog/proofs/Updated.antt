@@ -2,6 +2,7 @@
 use Rattle.std.proofs.Common.{◌≡◌, ℕ, Bool, true, false, cond, not, List, [], ◌∷◌, length, map, Option, Some, None, is_some, if◌then◌else◌, ◌++◌, append-nil, append_assoc, Result, Ok, Err, refl, sym, ap, subst, ◌∙◌}
 use Rattle.std.specs.Prelude.{codes, filter, take}
 use Rattle.std.specs.Str.{bytes_eq}
+use Rattle.dv_bson.specs.Names.{has_zero}
 use Rattle.dv_bson.specs.Tree.{Field, fields_of}
 use Rattle.std.specs.List.{AllByRecursion}
 use Rattle.std.specs.Option.{option_map}
@@ -103,6 +104,7 @@ next_updates law documents name u left are =
       standing = law (after_of name u) u.before documents (map (λ x. x.before) left) are.standing first;
       same_ids = cc (are.same_ids);
       no_id = are.no_id;
+      whole = are.whole;
     }
 
 -- the documents that an update changes keep their `_id`s
@@ -136,8 +138,8 @@ chosen-stand laws false ds those stand = stand
 chosen-stand laws true ds those stand = laws.first ds those stand
 
 pub updates_stand : StandingLaws → KeepsId → (updating : Updating) (old ds : List (List Field)) (name : List ℕ) (each : List Updated) → ds ≡ all_or_first (not updating.multi) (matching updating.filter old) → IsAscending old → AllByRecursion HasId old
-    → changed_by updating.update ds ≡ Ok (map (after_of name) each) → map (λ u. u.before) each ≡ filter (changes updating.update) ds → bytes_eq name (codes "_id") ≡ false → AreUpdatesOf old name each
-updates_stand laws law updating old ds name each finds ascending all does befores other =
+    → changed_by updating.update ds ≡ Ok (map (after_of name) each) → map (λ u. u.before) each ≡ filter (changes updating.update) ds → bytes_eq name (codes "_id") ≡ false → has_zero name ≡ false → AreUpdatesOf old name each
+updates_stand laws law updating old ds name each finds ascending all does befores other whole =
     let rows = matching updating.filter old in
     let these : AreStanding old ds = subst (AreStanding old) (sym finds) (chosen-stand laws (not updating.multi) old rows (laws.passing (matches updating.filter) old old (laws.all old ascending))) in
     let ids : AllByRecursion HasId ds = subst (AllByRecursion HasId) (sym finds) (chosen_good HasId (not updating.multi) rows (matching_good HasId updating.filter old all)) in
@@ -145,6 +147,7 @@ updates_stand laws law updating old ds name each finds ascending all does before
       standing = subst (AreStanding old) (sym befores) (laws.passing (changes updating.update) old ds these);
       same_ids = all_ids_kept law updating.update ds (map (after_of name) each) ids does ∙ ap (map id_key) (sym befores);
       no_id = other;
+      whole = whole;
     }
 
 -- ---- one document more

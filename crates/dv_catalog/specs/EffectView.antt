@@ -1,6 +1,7 @@
 -- What stands in memory for the effect of a statement.
 use Rattle.std.specs.Prelude.{◌≡◌, ℕ, true, false, List, [], ◌∷◌, codes, map, is_some, ⊤}
 use Rattle.std.specs.Str.{bytes_eq}
+use Rattle.dv_bson.specs.Names.{has_zero}
 use Rattle.dv_bson.specs.Tree.{Field}
 use Rattle.dv_coll.specs.Collection.{AreStanding, HasId, found, id_key}
 use Rattle.dv_update.specs.Outcome.{outcome_seen}
@@ -45,12 +46,19 @@ abbrev pub AreAble : List (List Field) → List Change → Type 0
 AreAble documents [] = ⊤
 AreAble documents (change ∷ changes) = IsAble documents change × AreAble (with_change documents change) changes
 
--- the documents that are updated stand there as they were, and their `_id`s stay
+-- the documents that are updated stand there as they were, and their `_id`s stay; the name of a field that is changed alone is not `_id`,
+-- and has no zero byte
 pub record AreUpdatesOf (documents : List (List Field)) (name : List ℕ) (each : List Updated) : Type 0 where
   pub standing : AreStanding documents (map (λ u. u.before) each)
   pub same_ids : map id_key (map (after_of name) each) ≡ map id_key (map (λ u. u.before) each)
   pub no_id : bytes_eq name (codes "_id") ≡ false
+  pub whole : has_zero name ≡ false
 
 abbrev pub StandsFor : List (List Field) → memory.Changes → Type 0
 StandsFor documents (Put updates) = AreUpdatesOf documents updates.name updates.each.items
 StandsFor documents (Gone keys) = ⊤
+
+-- no zero byte is in the name of a field that is changed alone
+abbrev pub HasWholeName : memory.Changes → Type 0
+HasWholeName (Put updates) = has_zero updates.name ≡ false
+HasWholeName (Gone keys) = ⊤

@@ -1,6 +1,7 @@
 //! What statements do to the documents of a collection.
 
-ghost use Rattle.std.specs.Prelude.{◌≡◌, ◌≤◌, length, take, IfOk};
+ghost use Rattle.std.specs.Prelude.{◌≡◌, ◌≤◌, false, length, take, IfOk};
+ghost use Rattle.dv_bson.specs.Names.{has_zero};
 ghost use Rattle.dv_catalog.specs.Changes.{breaks, with_changes};
 ghost use Rattle.dv_catalog.specs.EffectView.{ArePlaced, StandsFor, after_of, changes_seen};
 ghost use Rattle.dv_index.specs.Indexed.{with_documents};
@@ -25,7 +26,7 @@ pub(crate) enum Changes {
 /// What an update makes of documents, in the order of their `_id`s.
 #[derive(Drop)]
 pub(crate) struct Updates {
-    /// The update's sole name, under which the values come.
+    /// The update's sole name, that of the field where one alone is changed.
     pub(crate) name: Str,
     pub(crate) each: Vec<Updated>,
 }
@@ -38,16 +39,18 @@ pub(crate) struct Updated {
 }
 
 impl Updated {
-    /// The document that comes in its place; a value comes under the name. Fails where memory is wanting.
+    /// The document that comes in its place; where one field alone is changed, that under the name. Fails where memory is
+    /// wanting.
     pub(crate) fn after(&self, name: &str) -> Result<Document, NoMemory>
+        requires whole { has_zero name.now ≡ false }
         ensures { IfOk result (λ after. after ≡ after_of name.now self.now) }
     {
         match &self.outcome {
             Outcome::Same => self.before.try_clone(),
             Outcome::Whole(after) => after.try_clone(),
-            Outcome::Value(value) => {
+            Outcome::Field(change) => {
                 let mut after = self.before.try_clone()?;
-                let _ = after.put(name, value.try_clone()?)?;
+                after.change_field(name, change.try_clone()?)?;
                 Ok(after)
             }
         }

@@ -1,10 +1,11 @@
 //! Changes as they are told to views.
 
-ghost use Rattle.std.specs.Prelude.{◌≡◌, ◌∷◌, [], IfOk, map};
+ghost use Rattle.std.specs.Prelude.{◌≡◌, ◌∷◌, [], false, IfOk, map};
 ghost use Rattle.std.specs.List.{AllByRecursion};
+ghost use Rattle.dv_bson.specs.Names.{has_zero};
 ghost use Rattle.dv_coll.specs.Collection.{HasId, id_key};
 ghost use Rattle.dv_catalog.specs.Changes as changing;
-ghost use Rattle.dv_catalog.specs.EffectView.{BeginsWithId, after_of, changes_seen};
+ghost use Rattle.dv_catalog.specs.EffectView.{BeginsWithId, HasWholeName, after_of, changes_seen};
 ghost use Rattle.dv_catalog.specs.Marks.{all_gone};
 ghost use Rattle.dv_catalog.specs.Told as defined;
 
@@ -23,7 +24,8 @@ pub(crate) fn told(
     namespace: &str,
     changes: &Changes,
 ) -> Result<Vec<Change>, NoMemory>
-    requires { AllByRecursion BeginsWithId (changes_seen changes.now) }
+    requires identified { AllByRecursion BeginsWithId (changes_seen changes.now) }
+    requires whole { HasWholeName changes.now }
     ensures { IfOk result (λ all. defined.AreTold namespace.now views.now (changes_seen changes.now) all.items) }
 {
     if !views.is_read(namespace) {
@@ -36,7 +38,8 @@ pub(crate) fn told(
 }
 
 fn all_put(alloc: Global, updates: &Updates) -> Result<Vec<Change>, NoMemory>
-    requires { AllByRecursion HasId (map (after_of updates.now.name) updates.now.each.items) }
+    requires identified { AllByRecursion HasId (map (after_of updates.now.name) updates.now.each.items) }
+    requires whole { has_zero updates.now.name ≡ false }
     ensures { IfOk result (λ all. all.items ≡ map defined.told (map changing.put (map (after_of updates.now.name) updates.now.each.items))) }
 {
     let mut all = Vec::with_capacity(alloc, updates.each.len())?;

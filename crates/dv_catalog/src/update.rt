@@ -2,6 +2,7 @@
 
 ghost use Rattle.std.specs.Prelude.{◌≡◌, ◌≤◌, ◌++◌, ◌∷◌, ℕ, List, [], Some, codes, false, filter, if◌then◌else◌, length, map, take, IfOk, OnErr, OnOk};
 ghost use Rattle.std.specs.Str.{bytes_eq};
+ghost use Rattle.dv_bson.specs.Names.{has_zero};
 ghost use Rattle.dv_coll.specs.Collection.{HasId, found, id_key, replaced};
 ghost use Rattle.dv_fields.specs.Refusals.{UnlessWanting};
 ghost use Rattle.dv_command.specs.View.{updating_seen};
@@ -81,6 +82,7 @@ fn updated(
 fn name_of(alloc: Global, update: &Update) -> Result<Str, NoMemory>
     ensures name { IfOk result (λ name. name ≡ outcomes.sole_name (seen.update update.now)) }
     ensures no_id { IfOk result (λ name. bytes_eq name (codes "_id") ≡ false) }
+    ensures whole { IfOk result (λ name. has_zero name ≡ false) }
 {
     Ok(Str::of(String::from_str(alloc, update.sole_name())?))
 }
@@ -104,17 +106,21 @@ fn changed_by(
     Ok(changed)
 }
 
-/// Adds a document to those that are changed, unless it stays as it is spelled. Fails where memory is wanting.
+/// Adds a document to those that are changed, unless it stays as it is spelled. A whole one lies beside the names of the one
+/// before, if it has the same. Fails where memory is wanting.
 fn add_changed(
     changed: &mut Vec<Updated>,
     document: &Document,
-    outcome: Outcome,
+    mut outcome: Outcome,
 ) -> Result<(), NoMemory>
     ensures afters { OnOk result ((name : List ℕ) → map (after_of name) changed.new.items ≡ map (after_of name) changed.old.items ++ (if outcomes.stays outcome then [] else outcomes.outcome_seen name document.now outcome ∷ [])) }
     ensures befores { OnOk result (map (λ u. u.before) changed.new.items ≡ map (λ u. u.before) changed.old.items ++ (if outcomes.stays outcome then [] else document.now ∷ [])) }
 {
     if outcome.stays() {
         return Ok(());
+    }
+    if let Some(last) = changed.last() {
+        outcome.share_names(&last.outcome);
     }
     let before = document.try_clone()?;
     changed.push(Updated { before, outcome })?;
@@ -159,6 +165,7 @@ pub(crate) fn updates_clash(
 
 /// The documents that come in the places of those that are updated. Fails where memory is wanting.
 fn afters_of(alloc: Global, updates: &Updates) -> Result<Vec<Document>, NoMemory>
+    requires whole { has_zero updates.now.name ≡ false }
     ensures { IfOk result (λ afters. afters.items ≡ map (after_of updates.now.name) updates.now.each.items) }
 {
     let mut afters = Vec::with_capacity(alloc, updates.each.len())?;
@@ -186,8 +193,8 @@ fn replacings<'d>(
     Ok(pairs)
 }
 
-/// Puts what documents become in their places, where they are, until memory is wanting, and answers how many were put. Values
-/// come under the name.
+/// Puts what documents become in their places, where they are, until memory is wanting, and answers how many were put. Where
+/// one field alone is changed, it is that under the name.
 pub(crate) fn put_each(collection: &mut IndexedCollection, name: &str, each: Vec<Updated>) -> usize
     requires placed { ArePlaced collection.old.documents (map put (map (after_of name.now) each.items)) }
     requires standing { AreUpdatesOf collection.old.documents name.now each.items }
@@ -206,8 +213,8 @@ pub(crate) fn put_each(collection: &mut IndexedCollection, name: &str, each: Vec
     count
 }
 
-/// Puts what a document becomes in its place: a value alone in place, where nothing else shares the fields. Fails where
-/// memory is wanting; then nothing is changed.
+/// Puts what a document becomes in its place: a field alone is changed in place, where nothing else shares the fields. Fails
+/// where memory is wanting; then nothing is changed.
 fn put_one(
     collection: &mut IndexedCollection,
     name: &str,
@@ -216,6 +223,7 @@ fn put_one(
     requires identified { HasId (after_of name.now document) }
     requires standing { found (id_key document.before) collection.old.documents ≡ Some document.before }
     requires no_id { bytes_eq name.now (codes "_id") ≡ false }
+    requires whole { has_zero name.now ≡ false }
     ensures ok { OnOk result (collection.new ≡ with_documents (replaced (after_of name.now document) collection.old.documents) collection.old) }
     ensures err { OnErr result (collection.new ≡ collection.old) }
 {
@@ -226,10 +234,10 @@ fn put_one(
     let _ = match outcome {
         Outcome::Same => collection.replace(before)?,
         Outcome::Whole(after) => collection.replace(after)?,
-        Outcome::Value(value) => {
+        Outcome::Field(change) => {
             let key = key_of_id(&before)?;
             drop(before);
-            collection.put(&key, name, value)?
+            collection.change_field(&key, name, change)?
         }
     };
     Ok(())

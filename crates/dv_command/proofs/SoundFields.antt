@@ -25,14 +25,14 @@ use Rattle.dv_command.proofs.Lengths.{array_long}
 use Rattle.dv_fields.specs.declared.refusal.Refusal.{Refusal}
 use Rattle.dv_fields.specs.declared.refusal.Refusal.TheVariants.{BadValue, CommandNotFound, LimitReached}
 
-record Succeeds {A B : Type 0} (first : Result A Refusal) (rest : A → Result B Refusal) (end : B) : Type 0 where
-  given : A
-  first_is : first ≡ Ok given
-  rest_is : rest given ≡ Ok end
+pub record Succeeds {A B : Type 0} (first : Result A Refusal) (rest : A → Result B Refusal) (end : B) : Type 0 where
+  pub given : A
+  pub first_is : first ≡ Ok given
+  pub rest_is : rest given ≡ Ok end
 
 pub succeeds : {A B : Type 0} (first : Result A Refusal) (rest : A → Result B Refusal) (end : B) → (first >>= rest) ≡ Ok end → Succeeds first rest end
-pub succeeds (Ok x) rest end is = record { given = x; first_is = refl; rest_is = is }
-pub succeeds (Err refusal) rest end is = absurd cc
+succeeds (Ok x) rest end is = record { given = x; first_is = refl; rest_is = is }
+succeeds (Err refusal) rest end is = absurd cc
 
 pub ends : {A : Type 0} (x y : A) → let given : Result A Refusal = Ok x in let end : Result A Refusal = Ok y in given ≡ end → x ≡ y
 ends x y is = cc
@@ -69,8 +69,8 @@ each_valid (element v vs) ds valid is = absurd cc
 
 pub documents_valid : (under : Option Tree) (ds : List (List Field)) → ((v : Tree) → under ≡ Some v → IsValue v) → required documents_in under ≡ Ok ds → AreSpellable ds
 documents_valid None ds valid is = absurd cc
-pub documents_valid (Some (array vs)) ds valid is = each_valid vs ds (valid (array vs) refl) is
-pub documents_valid (Some v) ds valid is = absurd cc
+documents_valid (Some (array vs)) ds valid is = each_valid vs ds (valid (array vs) refl) is
+documents_valid (Some v) ds valid is = absurd cc
 
 one_list_valid : (list others : Option (List (List Field))) (b : Bool) (ds : List (List Field)) → (list ≡ Some ds → AreSpellable ds) → (others ≡ Some ds → AreSpellable ds) → (if b then list else others) ≡ Some ds → AreSpellable ds
 one_list_valid list others true ds first rest is = first is
@@ -83,15 +83,15 @@ beside_valid name (list ∷ lists) ds valid is =
 
 pub either_valid : (under : Option Tree) (beside : Option (List (List Field))) (ds : List (List Field)) → ((v : Tree) → under ≡ Some v → IsValue v) → ((es : List (List Field)) → beside ≡ Some es → AreSpellable es)
     → in_either under beside ≡ Ok ds → AreSpellable ds
-pub either_valid (Some value) None ds valid others is = documents_valid (Some value) ds valid is
+either_valid (Some value) None ds valid others is = documents_valid (Some value) ds valid is
 either_valid None (Some documents) ds valid others is = subst AreSpellable (ends documents ds is) (others documents refl)
 either_valid None None ds valid others is = absurd cc
-pub either_valid (Some value) (Some documents) ds valid others is = absurd cc
+either_valid (Some value) (Some documents) ds valid others is = absurd cc
 
 pub text_valid : (under : Option Tree) (c : List ℕ) → ((v : Tree) → under ≡ Some v → IsValue v) → required text_field under ≡ Ok c → IsUtf8 c
 text_valid None c valid is = absurd cc
-pub text_valid (Some (string name)) c valid is = let same : name ≡ c = cc in subst IsUtf8 same (valid (string name) refl)
-pub text_valid (Some v) c valid is = absurd cc
+text_valid (Some (string name)) c valid is = let same : name ≡ c = cc in subst IsUtf8 same (valid (string name) refl)
+text_valid (Some v) c valid is = absurd cc
 
 elements_again : (vs : Elements) → elements_of (list_of_elements vs) ≡ vs
 elements_again no_elements = refl
@@ -99,19 +99,19 @@ elements_again (element value vs) = ap (element value) (elements_again vs)
 
 pub list_valid : (under : Option Tree) (list : List Tree) → ((v : Tree) → under ≡ Some v → IsValue v) → required array_field under ≡ Ok list → AreElements (elements_of list)
 list_valid None list valid is = absurd cc
-pub list_valid (Some (array vs)) list valid is =
+list_valid (Some (array vs)) list valid is =
     let elements : AreElements (elements_of (list_of_elements vs)) = rw (elements_again vs) (valid (array vs) refl) in
     subst (λ (l : List Tree). AreElements (elements_of l)) (ends (list_of_elements vs) list is) elements
-pub list_valid (Some v) list valid is = absurd cc
+list_valid (Some v) list valid is = absurd cc
 
 pub database_valid : (under : Option Tree) (d : List ℕ) → ((v : Tree) → under ≡ Some v → IsValue v) → database_in under ≡ Ok d → IsUtf8 d
 database_valid None d valid is = absurd cc
-pub database_valid (Some (string name)) d valid is = named (is_database_name name) is
+database_valid (Some (string name)) d valid is = named (is_database_name name) is
   where
     named : (b : Bool) → (if b then Ok name else Err BadValue) ≡ Ok d → IsUtf8 d
     named true e = let same : name ≡ d = cc in subst IsUtf8 same (valid (string name) refl)
     named false e = absurd cc
-pub database_valid (Some v) d valid is = absurd cc
+database_valid (Some v) d valid is = absurd cc
 
 wider : (n : ℤ) → IsValue (int32 n) → IsValue (int64 n)
 wider (pos n) fits = omega arith
@@ -125,28 +125,28 @@ integer_valid v n valid is = absurd cc
 
 pub id_valid : (under : Option Tree) (n : ℤ) → ((v : Tree) → under ≡ Some v → IsValue v) → required integer_in under ≡ Ok n → IsValue (int64 n)
 id_valid None n valid is = absurd cc
-pub id_valid (Some v) n valid is = integer_valid v n (valid v refl) is
+id_valid (Some v) n valid is = integer_valid v n (valid v refl) is
 
 pub integers_valid : (vs : List Tree) (ns : List ℤ) → AreElements (elements_of vs) → each integer_in vs ≡ Ok ns → AreIds ns
 integers_valid [] ns valid is = subst AreIds (ends [] ns is) tt
-pub integers_valid (v ∷ vs) ns valid is =
+integers_valid (v ∷ vs) ns valid is =
     let first = succeeds (integer_in v) _ ns is in
     let others = succeeds (each integer_in vs) _ ns first.rest_is in
     subst AreIds (ends (first.given ∷ others.given) ns others.rest_is) (integer_valid v first.given valid.0 first.first_is, integers_valid vs others.given valid.1 others.first_is)
 
 pub document_valid : (under : Option Tree) (d : List Field) → ((v : Tree) → under ≡ Some v → IsValue v) → required document_in under ≡ Ok d → AreFields (fields_of d)
 document_valid None d valid is = absurd cc
-pub document_valid (Some (document fs)) d valid is =
+document_valid (Some (document fs)) d valid is =
     let fields : AreFields (fields_of (list_of_fields fs)) = rw (fields_again fs) (valid (document fs) refl) in
     subst (λ (e : List Field). AreFields (fields_of e)) (ends (list_of_fields fs) d is) fields
-pub document_valid (Some v) d valid is = absurd cc
+document_valid (Some v) d valid is = absurd cc
 
 -- an update that isn't a document is none
 pub update_valid : (under : Option Tree) (d : List Field) → ((v : Tree) → under ≡ Some v → IsValue v) → required update_in under ≡ Ok d → AreFields (fields_of d)
 update_valid None d valid is = absurd cc
-pub update_valid (Some (document fs)) d valid is = document_valid (Some (document fs)) d valid is
-pub update_valid (Some (array vs)) d valid is = absurd cc
-pub update_valid (Some v) d valid is = absurd cc
+update_valid (Some (document fs)) d valid is = document_valid (Some (document fs)) d valid is
+update_valid (Some (array vs)) d valid is = absurd cc
+update_valid (Some v) d valid is = absurd cc
 
 -- ---- namespaces, and how many statements there are
 
@@ -200,7 +200,7 @@ index_valid entry index valid is =
 
 pub indexes_valid : (list : List (List Field)) (indexes : List IndexAsked) → AreSpellable list → each index_asked list ≡ Ok indexes → AreIndexes indexes
 indexes_valid [] indexes valid is = subst AreIndexes (ends [] indexes is) tt
-pub indexes_valid (entry ∷ list) indexes valid is =
+indexes_valid (entry ∷ list) indexes valid is =
     let first = succeeds (index_asked entry) _ indexes is in
     let others = succeeds (each index_asked list) _ indexes first.rest_is in
     subst AreIndexes (ends (first.given ∷ others.given) indexes others.rest_is) (index_valid entry first.given valid.0 first.first_is, indexes_valid list others.given valid.1 others.first_is)
@@ -210,14 +210,14 @@ pub indexes_valid (entry ∷ list) indexes valid is =
 pub pipeline_valid : (list : List Tree) (stages : List Stage) → AreElements (elements_of list) → stages_asked list ≡ Ok stages → IsSoundPipeline stages
 pipeline_valid list stages valid is = record { list = list; valid = valid; is = parsed pipeline_refusal (pipelines.pipeline_of list) stages is }
 
-abbrev AreViewFields : Option ViewFields → Type 0
+abbrev pub AreViewFields : Option ViewFields → Type 0
 AreViewFields None = ⊤
 AreViewFields (Some fields) = IsUtf8 fields.collection × AreElements (elements_of fields.list)
 
 pub fields_valid : (view_on pipeline : Option Tree) (fields : Option ViewFields) → ((v : Tree) → view_on ≡ Some v → IsValue v) → ((v : Tree) → pipeline ≡ Some v → IsValue v)
     → view_fields_in view_on pipeline ≡ Ok fields → AreViewFields fields
 fields_valid None None fields first second is = subst AreViewFields (ends None fields is) tt
-pub fields_valid (Some view_on) (Some pipeline) fields first second is =
+fields_valid (Some view_on) (Some pipeline) fields first second is =
     let collection = succeeds (text_field view_on) _ fields is in
     let list = succeeds (array_field pipeline) _ fields collection.rest_is in
     let both : Option ViewFields = Some (record { collection = collection.given; list = list.given }) in
@@ -252,12 +252,12 @@ find_valid d body asked named valid is =
     (namespace_valid d collection.given from.given named (text_valid (value_under (codes "find") body) collection.given (λ v under. under_valid (codes "find") body v valid under) collection.first_is) from.first_is)
 
 pub explained_valid : (reading : Result (List Field) Refusal) (d : List Field) → ((e : List Field) → reading ≡ Ok e → AreFields (fields_of e)) → explained_by reading ≡ Ok d → AreFields (fields_of d)
-pub explained_valid (Ok fields) d valid is = by_test (bytes_eq (first_name fields) (codes "find")) is
+explained_valid (Ok fields) d valid is = by_test (bytes_eq (first_name fields) (codes "find")) is
   where
     by_test : (b : Bool) → (if b then Ok fields else Err CommandNotFound) ≡ Ok d → AreFields (fields_of d)
     by_test true e = subst (λ (f : List Field). AreFields (fields_of f)) (ends fields d e) (valid fields refl)
     by_test false e = absurd cc
-pub explained_valid (Err refusal) d valid is = absurd cc
+explained_valid (Err refusal) d valid is = absurd cc
 
 -- ---- how many there are
 
@@ -270,5 +270,5 @@ each_long f (x ∷ xs) ys is =
 
 pub list_long : (under : Option Tree) (list : List Tree) (most : ℕ) → ((v : Tree) → under ≡ Some v → length (payload v) ≤ most) → required array_field under ≡ Ok list → length list ≤ most
 list_long None list most long is = absurd cc
-pub list_long (Some (array vs)) list most long is = subst (λ (l : List Tree). length l ≤ most) (ends (list_of_elements vs) list is) (omega (arith, array_long vs, long (array vs) refl))
-pub list_long (Some v) list most long is = absurd cc
+list_long (Some (array vs)) list most long is = subst (λ (l : List Tree). length l ≤ most) (ends (list_of_elements vs) list is) (omega (arith, array_long vs, long (array vs) refl))
+list_long (Some v) list most long is = absurd cc

@@ -41,30 +41,30 @@ abbrev pub at : ℕ → ℕ → Cursors → Option Cursor
 at session id cursors = finite.get cursors.kept (session, id)
 
 -- it is left as it is
-record Stays (session id : ℕ) (before after : Cursors) (told : Rows) (last : Bool) : Type 0 where
-  same : at session id after ≡ at session id before
-  none : told ≡ []
-  more : last ≡ false
+pub record Stays (session id : ℕ) (before after : Cursors) (told : Rows) (last : Bool) : Type 0 where
+  pub same : at session id after ≡ at session id before
+  pub none : told ≡ []
+  pub more : last ≡ false
 
 -- it is taken out
-record Goes (session id : ℕ) (before after : Cursors) (told : Rows) (last : Bool) : Type 0 where
-  gone : at session id after ≡ None
-  none : told ≡ []
-  more : last ≡ false
+pub record Goes (session id : ℕ) (before after : Cursors) (told : Rows) (last : Bool) : Type 0 where
+  pub gone : at session id after ≡ None
+  pub none : told ≡ []
+  pub more : last ≡ false
 
 -- some of its rows are told, and taken from it
-record Tells (session id : ℕ) (before after : Cursors) (told : Rows) (last : Bool) : Type 0 where
-  cursor : Cursor
-  count : ℕ
-  was : at session id before ≡ Some cursor
-  left : at session id after ≡ cursor_over cursor.namespace (rows_behind count cursor.rows)
-  tells : told ≡ batch count cursor.rows
-  is_last : last ≡ is_nil (rows_behind count cursor.rows)
+pub record Tells (session id : ℕ) (before after : Cursors) (told : Rows) (last : Bool) : Type 0 where
+  pub cursor : Cursor
+  pub count : ℕ
+  pub was : at session id before ≡ Some cursor
+  pub left : at session id after ≡ cursor_over cursor.namespace (rows_behind count cursor.rows)
+  pub tells : told ≡ batch count cursor.rows
+  pub is_last : last ≡ is_nil (rows_behind count cursor.rows)
 
 -- what a move does to it
-record Moves (session id : ℕ) (before after : Cursors) (told : Rows) (last : Bool) : Type 0 where
-  does : Stays session id before after told last ⊎ (Goes session id before after told last ⊎ Tells session id before after told last)
-  next : before.next ≤ after.next
+pub record Moves (session id : ℕ) (before after : Cursors) (told : Rows) (last : Bool) : Type 0 where
+  pub does : Stays session id before after told last ⊎ (Goes session id before after told last ⊎ Tells session id before after told last)
+  pub next : before.next ≤ after.next
 
 unmoved : (session id : ℕ) (before after : Cursors) → after ≡ before → Moves session id before after [] false
 unmoved session id before after same = record { does = inl (record { same = ap (at session id) same; none = refl; more = refl }); next = rw same (omega arith) }
@@ -122,9 +122,9 @@ module _ (laws : CursorLaws) (session id : ℕ) where
     -- ---- more of a cursor is asked
 
     record FoundCursor (namespace : List ℕ) (there : Option Cursor) (rows : Rows) : Type 0 where
-      cursor : Cursor
-      is : there ≡ Some cursor
-      has : cursor.rows ≡ rows
+      pub cursor : Cursor
+      pub is : there ≡ Some cursor
+      pub has : cursor.rows ≡ rows
 
     found_cursor : (namespace : List ℕ) (there : Option Cursor) (rows : Rows) → cursor_rows namespace there ≡ Some rows → FoundCursor namespace there rows
     found_cursor namespace None rows is = absurd cc
@@ -236,26 +236,26 @@ module _ (laws : CursorLaws) (session id : ℕ) where
   session_moves state other false is = record { does = inl (record { same = laws.ended_at session id other state.cursors ∙ rw is refl; none = refl; more = refl }); next = omega arith }
 
   pub each_moves : (move : Move) (state : State) → id < state.cursors.next → Moves session id state.cursors (state_after_move move state).cursors (rows_told session id move state) (tells_last session id move state)
-  pub each_moves (carries other command) state new = command_moves state other (asked_by command) new
-  pub each_moves (ends other) state new = session_moves state other (session == other) refl
-  pub each_moves (wants catalog) state new = unmoved session id state.cursors state.cursors refl
-  pub each_moves (stands marks) state new = unmoved session id state.cursors state.cursors refl
+  each_moves (carries other command) state new = command_moves state other (asked_by command) new
+  each_moves (ends other) state new = session_moves state other (session == other) refl
+  each_moves (wants catalog) state new = unmoved session id state.cursors state.cursors refl
+  each_moves (stands marks) state new = unmoved session id state.cursors state.cursors refl
 
   -- ---- a run
 
   -- rows that are told of a cursor are a front of its rows, and all of them once it is told that none is left
-  record IsFront (rows told : Rows) (out : Bool) : Type 0 where
-    rest : Rows
-    front : told ++ rest ≡ rows
-    whole : out ≡ true → rest ≡ []
+  pub record IsFront (rows told : Rows) (out : Bool) : Type 0 where
+    pub rest : Rows
+    pub front : told ++ rest ≡ rows
+    pub whole : out ≡ true → rest ≡ []
 
-  record IsNothing (told : Rows) (out : Bool) : Type 0 where
-    none : told ≡ []
-    more : out ≡ false
+  pub record IsNothing (told : Rows) (out : Bool) : Type 0 where
+    pub none : told ≡ []
+    pub more : out ≡ false
 
   pub ToldOf : Option Cursor → Rows → Bool → Type 0
   ToldOf None told out = IsNothing told out
-  pub ToldOf (Some cursor) told out = IsFront cursor.rows told out
+  ToldOf (Some cursor) told out = IsFront cursor.rows told out
 
   told_more : (c : Option Cursor) (told : Rows) (out : Bool) → ToldOf c told out → ToldOf c ([] ++ told) (false || out)
   unfolding ToldOf
@@ -300,7 +300,7 @@ module _ (laws : CursorLaws) (session id : ℕ) where
   unfolding ToldOf
   run [] state new None is = record { none = refl; more = refl }
   run [] state new (Some cursor) is = record { rest = cursor.rows; front = refl; whole = λ last. absurd cc }
-  pub run (move ∷ moves) state new c is =
+  run (move ∷ moves) state new c is =
       let moved = each_moves move state new in
       let after : State = state_after_move move state in
       let up : id < after.cursors.next = omega (arith, moved.next) in

@@ -37,10 +37,10 @@ use Rattle.dv_core.proofs.SpelledRows.{more_valid, number_valid, ok_fields, ok_s
 
 -- ---- the errors of statements
 
-record IsShort (refusal : Refusal) : Type 0 where
-  text : IsUtf8 (message_of refusal)
-  few : length (message_of refusal) ≤ 80
-  number : code refusal < 2 ^ 31
+pub record IsShort (refusal : Refusal) : Type 0 where
+  pub text : IsUtf8 (message_of refusal)
+  pub few : length (message_of refusal) ≤ 80
+  pub number : code refusal < 2 ^ 31
 
 plain_short : (refusal : Refusal) → IsPlain refusal → IsShort refusal
 plain_short (InvalidBson fault) plain = absurd plain
@@ -63,7 +63,7 @@ plain_short OnView plain = record { text = IsUtf8-ascii (codes "OnView") refl; f
 plain_short ReadByView plain = record { text = IsUtf8-ascii (codes "ReadByView") refl; few = omega arith; number = omega arith }
 
 -- a fault in bytes, whose numbers are told
-abbrev IsShortText : List ℕ → Type 0
+abbrev pub IsShortText : List ℕ → Type 0
 IsShortText text = IsUtf8 text × (length text ≤ 60)
 
 ascii_short : (text : List ℕ) → are_ascii text ≡ true → length text ≤ 60 → IsShortText text
@@ -104,7 +104,7 @@ fault_short NoMemory told = ascii_short (codes "NoMemory") refl (omega arith)
 fault_short BadName told = ascii_short (codes "BadName") refl (omega arith)
 
 pub told_short : (refusal : Refusal) → IsTold refusal → IsShort refusal
-pub told_short (InvalidBson fault) told =
+told_short (InvalidBson fault) told =
     let short = fault_short fault told in
     record {
       text = IsUtf8-append (codes "InvalidBSON: ") (fault_text fault) (IsUtf8-ascii (codes "InvalidBSON: ") refl) short.0;
@@ -114,7 +114,7 @@ pub told_short (InvalidBson fault) told =
 told_short refusal told = plain_short refusal tt
 
 pub name_short : (refusal : Refusal) → IsShortText (code_name refusal)
-pub name_short (InvalidBson fault) = ascii_short (codes "InvalidBSON") refl (omega arith)
+name_short (InvalidBson fault) = ascii_short (codes "InvalidBSON") refl (omega arith)
 name_short BadValue = ascii_short (codes "BadValue") refl (omega arith)
 name_short FailedToParse = ascii_short (codes "FailedToParse") refl (omega arith)
 name_short TypeMismatch = ascii_short (codes "TypeMismatch") refl (omega arith)
@@ -134,16 +134,16 @@ name_short OnView = ascii_short (codes "OnView") refl (omega arith)
 name_short ReadByView = ascii_short (codes "ReadByView") refl (omega arith)
 
 -- an error of a statement
-abbrev IsSmall : Tree → Type 0
+abbrev pub IsSmall : Tree → Type 0
 IsSmall e = IsValue e × (length (payload e) ≤ 140)
 
 -- what is told in it behind its message
-record IsBehind (behind : List Field) : Type 0 where
-  valid : AreFields (fields_of behind)
-  short : length (spelling behind) ≤ 19
-  index : has_name (codes "index") (list_of_fields (fields_of behind)) ≡ false
-  code : has_name (codes "code") (list_of_fields (fields_of behind)) ≡ false
-  message : has_name (codes "errmsg") (list_of_fields (fields_of behind)) ≡ false
+pub record IsBehind (behind : List Field) : Type 0 where
+  pub valid : AreFields (fields_of behind)
+  pub short : length (spelling behind) ≤ 19
+  pub index : has_name (codes "index") (list_of_fields (fields_of behind)) ≡ false
+  pub code : has_name (codes "code") (list_of_fields (fields_of behind)) ≡ false
+  pub message : has_name (codes "errmsg") (list_of_fields (fields_of behind)) ≡ false
 
 nothing_behind : IsBehind []
 nothing_behind = record { valid = tt; short = omega (arith, spelling-nil); index = refl; code = refl; message = refl }
@@ -172,10 +172,10 @@ error_small place refusal behind within plain is =
     )
 
 -- what statements did so far, of which there are at most so many
-record AreFew (count : ℕ) (w : Written) : Type 0 where
-  statements : w.statements ≤ count
-  errors : length w.errors ≤ count
-  small : AllByRecursion IsSmall w.errors
+pub record AreFew (count : ℕ) (w : Written) : Type 0 where
+  pub statements : w.statements ≤ count
+  pub errors : length w.errors ≤ count
+  pub small : AllByRecursion IsSmall w.errors
 
 small-push : (es : List Tree) (e : Tree) → AllByRecursion IsSmall es → IsSmall e → AllByRecursion IsSmall (es ++ e ∷ [])
 small-push [] e all h = (h, tt)
@@ -258,14 +258,14 @@ update_spelled counts n changed (e ∷ es) few all =
     ))
 
 -- a reply that has a spelling whatever it counts, if its errors are few and small
-abbrev IsSpelled : (ℕ → ℕ → List Tree → List Field) → Type 0
+abbrev pub IsSpelled : (ℕ → ℕ → List Tree → List Field) → Type 0
 IsSpelled reply = (n changed : ℕ) (es : List Tree) → length es ≤ 100000 → AllByRecursion IsSmall es → HasSpelling (reply n changed es)
 
 -- a write of so few statements, each refused plainly, whose reply has a spelling
 pub record IsTellable (write : WriteCounts) : Type 0 where
-  within : length write.statements ≤ 100000
-  plain : AllByRecursion IsPlainStatement write.statements
-  reply : IsSpelled write.reply
+  pub within : length write.statements ≤ 100000
+  pub plain : AllByRecursion IsPlainStatement write.statements
+  pub reply : IsSpelled write.reply
 
 few_written : (write : WriteCounts) (old : Namespaces) (statements : List Statement) → length statements ≤ 100000 → AllByRecursion IsPlainStatement statements
     → AreFew (length statements) (with_all write.namespace write.ordered (nothing_written old) statements)

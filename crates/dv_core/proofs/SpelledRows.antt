@@ -71,13 +71,13 @@ pub next_name : IsBatchName (codes "nextBatch")
 next_name = record { ascii = refl; whole = refl; fresh = λ id namespace. refl; short = omega arith }
 
 module _ (name : List ℕ) (is_name : IsBatchName name) (namespace : List ℕ) (text : IsUtf8 namespace) (short : length namespace ≤ 120) (id : ℕ) (fits : id < 2 ^ 63) (ds : List (List Field)) (valid : AreSpellable ds) (together : total_size ds ≤ 16777216) where
-  abbrev rows : Tree
+  abbrev pub rows : Tree
   rows = array (elements_of (map document_of ds))
 
-  abbrev after : List Field
+  abbrev pub after : List Field
   after = (codes "id", int64 (pos id)) ∷ (codes "ns", string namespace) ∷ []
 
-  abbrev cursor : List Field
+  abbrev pub cursor : List Field
   cursor = (name, rows) ∷ after
 
   cursor_valid : AreFields (fields_of cursor)

@@ -1,8 +1,7 @@
 //! Documents as they are stored.
 
 ghost use Rattle.std.specs.Prelude.{◌≡◌, ◌∷◌, Ok, Err, Some, IfOk, MatchResult, codes};
-ghost use Rattle.dv_bson.specs.Names.{without}
-use Rattle.dv_bson.specs.Names.{value_under};
+ghost use Rattle.dv_bson.specs.Names.{value_under, without};
 ghost use Rattle.dv_bson.specs.View.{tree};
 ghost use Rattle.dv_coll.specs.Collection.{HasId};
 ghost use Rattle.dv_core.specs.Storable as stored;
@@ -48,7 +47,7 @@ fn id_of(document: &Document) -> Result<&Value, Refusal>
 /// A copy of the document with its `_id`, which is given, in front.
 fn with_id_first(alloc: Global, document: &Document, id: &Value) -> Result<Document, NoMemory>
     requires { value_under (codes "_id") document.now ≡ Some (tree id.now) }
-    ensures { IfOk result (λ copy. copy ≡ (codes "_id", tree id.now) ∷ stored.without (codes "_id") document.now) }
+    ensures { IfOk result (λ copy. copy ≡ (codes "_id", tree id.now) ∷ without (codes "_id") document.now) }
 {
     match document.entry(0) {
         Some((name, _)) if name == ID => document.try_clone(),
@@ -59,7 +58,7 @@ fn with_id_first(alloc: Global, document: &Document, id: &Value) -> Result<Docum
 /// As `with_id_first`, wherever `_id` stands.
 fn with_id_moved(alloc: Global, document: &Document, id: &Value) -> Result<Document, NoMemory>
     requires { value_under (codes "_id") document.now ≡ Some (tree id.now) }
-    ensures { IfOk result (λ copy. copy ≡ (codes "_id", tree id.now) ∷ stored.without (codes "_id") document.now) }
+    ensures { IfOk result (λ copy. copy ≡ (codes "_id", tree id.now) ∷ without (codes "_id") document.now) }
 {
     let mut copy = Document::new(alloc);
     add(&mut copy, ID, id.try_clone()?)?;

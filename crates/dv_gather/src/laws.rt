@@ -13,6 +13,7 @@ ghost use Rattle.dv_row.specs.Expressions.{Expression, constant, value_of};
 ghost use Rattle.dv_row.specs.Row.{Row};
 ghost use Rattle.dv_row.specs.Valid.{AreValid};
 ghost use Rattle.dv_gather.specs.Counting.{is_number};
+ghost use Rattle.dv_bson.specs.Short as short;
 ghost use Rattle.dv_gather.specs.Examples as examples;
 ghost use Rattle.dv_gather.specs.GroupParsing.{group_in};
 ghost use Rattle.dv_gather.specs.declared.lookup.Lookup as lookups;
@@ -55,16 +56,16 @@ pub fn values_are_pushed_in_order()
 /// Values of four classes, "x", 3, true and [5]: each class counts for the least and the greatest, and numbers alone in a sum.
 #[tactic(auto, using(crate::proofs::Worked::mixed_least, crate::proofs::Worked::mixed_greatest, crate::proofs::Worked::mixed_sum))]
 pub fn values_of_four_classes()
-    ensures least { accumulated Accumulator.Min examples.mixed ≡ examples.int 3 }
+    ensures least { accumulated Accumulator.Min examples.mixed ≡ short.int 3 }
     ensures greatest { accumulated Accumulator.Max examples.mixed ≡ boolean true }
-    ensures sum { accumulated Accumulator.Sum examples.mixed ≡ examples.int 3 }
+    ensures sum { accumulated Accumulator.Sum examples.mixed ≡ short.int 3 }
 {}
 
 /// A `$group` without `_id` is refused, and so is a `$lookup` with a member beside its four.
 #[tactic(auto, using(crate::proofs::Worked::no_key, crate::proofs::Worked::a_fifth_option))]
 pub fn forms_that_are_refused()
-    ensures no_key { group_in (examples.doc (examples.by (codes "n") (codes "$sum") (examples.int 1) ∷ [])) ≡ Err BadSpec }
-    ensures a_fifth_option { lookup_in (examples.doc ((codes "from", examples.text (codes "d")) ∷ (codes "localField", examples.text (codes "p")) ∷ (codes "foreignField", examples.text (codes "f")) ∷ (codes "as", examples.text (codes "o")) ∷ (codes "pipeline", examples.list []) ∷ [])) ≡ Err BadSpec }
+    ensures no_key { group_in (short.doc (examples.by (codes "n") (codes "$sum") (short.int 1) ∷ [])) ≡ Err BadSpec }
+    ensures a_fifth_option { lookup_in (short.doc ((codes "from", short.text (codes "d")) ∷ (codes "localField", short.text (codes "p")) ∷ (codes "foreignField", short.text (codes "f")) ∷ (codes "as", short.text (codes "o")) ∷ (codes "pipeline", short.list []) ∷ [])) ≡ Err BadSpec }
 {}
 
 /// A sum of ones counts the rows.
@@ -103,12 +104,12 @@ pub fn what_comes_of_valid_rows_is_valid()
 /// Rows by a key that two of them share, that one spells, and that one lacks.
 #[tactic(auto, using(crate::proofs::Worked::rows_in_groups))]
 pub fn rows_in_three_groups()
-    ensures { examples.after_group examples.a_group examples.group_rows ≡ Ok (examples.group_row null (examples.int 2) (examples.int 2 ∷ []) (examples.int 2) ∷ examples.group_row (examples.text (codes "a")) (examples.int 3) (examples.int 3 ∷ null ∷ []) (examples.int 3) ∷ examples.group_row (examples.text (codes "b")) null [] (examples.int 0) ∷ []) }
+    ensures { examples.after_group examples.a_group examples.group_rows ≡ Ok (examples.group_row null (short.int 2) (short.int 2 ∷ []) (short.int 2) ∷ examples.group_row (short.text (codes "a")) (short.int 3) (short.int 3 ∷ null ∷ []) (short.int 3) ∷ examples.group_row (short.text (codes "b")) null [] (short.int 0) ∷ []) }
 {}
 
 /// A row that lacks the field finds the document that lacks it, and a row with an array finds what its elements find, each
 /// once.
 #[tactic(auto, using(crate::proofs::Worked::rows_looked_up))]
 pub fn two_rows_looked_up()
-    ensures { examples.after_lookup examples.a_lookup (((codes "_id", examples.int 1) ∷ []) ∷ ((codes "_id", examples.int 2) ∷ (codes "p", examples.list (examples.int 1 ∷ examples.int 2 ∷ [])) ∷ []) ∷ []) (examples.seven ∷ examples.eight ∷ examples.nine ∷ []) ≡ Ok (((codes "_id", examples.int 1) ∷ (codes "o", examples.list (examples.doc examples.seven ∷ [])) ∷ []) ∷ ((codes "_id", examples.int 2) ∷ (codes "p", examples.list (examples.int 1 ∷ examples.int 2 ∷ [])) ∷ (codes "o", examples.list (examples.doc examples.eight ∷ examples.doc examples.nine ∷ [])) ∷ []) ∷ []) }
+    ensures { examples.after_lookup examples.a_lookup (((codes "_id", short.int 1) ∷ []) ∷ ((codes "_id", short.int 2) ∷ (codes "p", short.list (short.int 1 ∷ short.int 2 ∷ [])) ∷ []) ∷ []) (examples.seven ∷ examples.eight ∷ examples.nine ∷ []) ≡ Ok (((codes "_id", short.int 1) ∷ (codes "o", short.list (short.doc examples.seven ∷ [])) ∷ []) ∷ ((codes "_id", short.int 2) ∷ (codes "p", short.list (short.int 1 ∷ short.int 2 ∷ [])) ∷ (codes "o", short.list (short.doc examples.eight ∷ short.doc examples.nine ∷ [])) ∷ []) ∷ []) }
 {}

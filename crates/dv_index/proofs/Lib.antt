@@ -17,6 +17,7 @@ pub mod Foremost
 pub mod Changed
 pub mod Copied
 pub mod FieldChanged
+pub mod InPlace
 pub mod Counted
 pub mod Shared
 pub mod Taken

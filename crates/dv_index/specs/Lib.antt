@@ -2,6 +2,7 @@ pub mod Keys
 pub mod Pairs
 pub mod Ids
 pub mod Index
+pub mod Through
 pub mod Choice
 pub mod View
 pub mod Ends

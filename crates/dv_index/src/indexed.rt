@@ -155,8 +155,8 @@ impl IndexedCollection {
     }
 
     /// Makes the change of the field under the name, in the document under the key of its `_id`, and answers whether there is
-    /// such a document. Where there is none, nothing is changed, and the value is dropped. Without an index beside that on
-    /// `_id` the document is changed in place, as `Collection::change_field` does it. Fails where memory is wanting; then
+    /// such a document. Where there is none, nothing is changed, and the value is dropped. Where no index's path begins with
+    /// the name, the document is changed in place, as `Collection::change_field` does it. Fails where memory is wanting; then
     /// nothing is changed.
     pub fn change_field(
         &mut self,
@@ -170,7 +170,12 @@ impl IndexedCollection {
         ensures ok { OnOk result (self.new ≡ with_documents (with_field_changed_in (found key.now self.old.documents) name.now change self.old.documents) self.old) }
         ensures err { OnErr result (self.new ≡ self.old) }
     {
-        if are_only_id(&self.indexes) {
+        laws::a_change_of_another_field_leaves_the_id();
+        laws::what_is_found_has_the_key();
+        laws::replaced_document_is_found();
+        // All documents begin with their `_id`s.
+        let _ = self.documents.len();
+        if !self.indexes.have_path_through(name) {
             return self.documents.change_field(key, name, change);
         }
         self.change_in_copy(key, name, change)

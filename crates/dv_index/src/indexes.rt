@@ -10,6 +10,7 @@ ghost use Rattle.dv_index.specs.Index.{BeginsWithId, form_of, id_form};
 ghost use Rattle.dv_index.specs.Indexed.{is_dropped};
 ghost use Rattle.dv_index.specs.Keys.{has_key};
 ghost use Rattle.dv_index.specs.Pairs.{has_pair};
+ghost use Rattle.dv_index.specs.Through.{any_leads_through, leads_through};
 
 use crate::change::{Change, carry_out};
 use crate::keys::Keys;
@@ -174,6 +175,16 @@ impl Indexes {
         has_unique(self.indexes.as_slice())
     }
 
+    /// Whether the path of one of them, but for the one on `_id`, begins with the name. Takes no memory.
+    pub fn have_path_through(&self, name: &str) -> bool
+        ensures { result ≡ any_leads_through name.now (map form_of self.now) }
+    {
+        match self.indexes.as_slice().split_first() {
+            Some((_by_id, others)) => any_begins_with(others, name),
+            None => false,
+        }
+    }
+
     /// Puts indexes behind the others. Where memory is wanting, nothing changes, and they are dropped.
     pub fn append(&mut self, mut more: Vec<Index>) -> Result<(), NoMemory>
         ensures ok { OnOk result (self.new ≡ self.old ++ more.items) }
@@ -270,6 +281,22 @@ fn has_unique(indexes: &[Index]) -> bool
     ensures { result ≡ list_any (λ x. (form_of x).unique) indexes.now }
 {
     indexes.iter().any(|index| index.is_unique())
+}
+
+fn any_begins_with(indexes: &[Index], name: &str) -> bool
+    ensures { result ≡ list_any (λ x. leads_through name.now (form_of x).path) indexes.now }
+{
+    indexes.iter().any(|index| begins_with(index.path(), name))
+}
+
+/// Whether the name is the path's first component.
+fn begins_with(path: &Path, name: &str) -> bool
+    ensures { result ≡ leads_through name.now path.now }
+{
+    match path.components() {
+        [first, ..] => first.as_str() == name,
+        [] => true,
+    }
 }
 
 fn has_dropped(indexes: &[Index], name: &str) -> bool

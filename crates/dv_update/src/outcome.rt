@@ -1,9 +1,10 @@
 //! What an update changes in a document, told by one field where that is all.
 
-ghost use Rattle.std.specs.Prelude.{◌≡◌, false, codes, IfOk, IfSome, Ok};
+ghost use Rattle.std.specs.Prelude.{◌≡◌, ℕ, List, false, codes, IfOk, IfSome, Ok};
 ghost use Rattle.std.specs.Option.{option_map};
 ghost use Rattle.std.specs.Str.{bytes_eq};
 ghost use Rattle.dv_bson.specs.Names.{has_zero};
+ghost use Rattle.dv_bson.specs.Tree.{Field};
 ghost use Rattle.dv_update.specs.Apply.{applied};
 ghost use Rattle.dv_update.specs.Outcome as defined;
 ghost use Rattle.dv_update.specs.Parsing.{Gives};
@@ -34,6 +35,20 @@ impl Outcome {
         ensures { result ≡ defined.stays self.now }
     {
         matches!(self, Outcome::Same)
+    }
+
+    /// Lets a whole document lie beside another one's names, if it has the same. Nothing that a caller sees changes but how much
+    /// memory is taken.
+    pub fn share_names(&mut self, with: &Outcome)
+        ensures seen { (name : List ℕ) → (d : List Field) → defined.outcome_seen name d self.new ≡ defined.outcome_seen name d self.old }
+        ensures stays { defined.stays self.new ≡ defined.stays self.old }
+    {
+        let Outcome::Whole(other) = with else {
+            return;
+        };
+        if let Outcome::Whole(document) = self {
+            document.share_names(other);
+        }
     }
 }
 

@@ -25,7 +25,7 @@ use Rattle.dv_views.proofs.Right.{UnreadDoesNotMatter, itself, neither, or-left,
 use Rattle.dv_views.proofs.Scratch.{one_length}
 use Rattle.dv_views.proofs.Unread.{lists_behind, no_arrivals, one_change, shares_more}
 use Rattle.dv_views.proofs.Turns.{EqualKeysAreOne, changed_parts, first-change, one-identified, one-own}
-use Rattle.dv_views.proofs.OneBehind.{Leads, forms_after, none_of}
+use Rattle.dv_views.proofs.OneBehind.{Leads, forms_after, next-agreed, next-leads, next-same, none_of, right-one}
 
 -- ---- all views behind the change
 

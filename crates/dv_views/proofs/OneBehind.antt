@@ -22,7 +22,7 @@ use Rattle.dv_views.proofs.Right.{UnreadDoesNotMatter, itself, neither, or-left,
 
 pub none_of : (o : Option (List Change)) → is_some o ≡ false → o ≡ None
 none_of None e = refl
-pub none_of (Some changes) e = absurd cc
+none_of (Some changes) e = absurd cc
 
 -- where a change doesn't come, nothing is told under any name that is read
 nothing-told : (names : List (List ℕ)) (told : Told) (name : List ℕ) → list_any (λ n. is_some (told n)) names ≡ false → is_name_among name names ≡ true → told name ≡ None
@@ -129,7 +129,7 @@ founded_after come before after founded taken = subst AreFounded (sym (forms_aft
 -- where changes are told they lead there, and where nothing is told it is the same
 abbrev pub Leads : Option (List Change) → Positioned → Positioned → Type 0
 Leads None rows now = now ≡ rows
-pub Leads (Some changes) rows now = now ≡ with_changes rows changes
+Leads (Some changes) rows now = now ≡ with_changes rows changes
 
 abbrev taken_by : Taken → List Arrival → Taken
 taken_by t all = fold (λ t a. taken_after a.input a.change t) t all
@@ -256,7 +256,7 @@ module _ (scratch : FromScratch) (unread : UnreadDoesNotMatter) (told : Told) (d
     over-read : (name : List ℕ) → is_read v.stages v.source name ≡ true → distances name ≤ distance w.view.mark
     over-read name read = over name (reads-alike told distances distances v w taken name ∙ read)
 
-    right-one : IsWellKept w.view.stages w.view.mark → IsRight others rows w.view
+    pub right-one : IsWellKept w.view.stages w.view.mark → IsRight others rows w.view
     right-one well = alike v w.view taken.form others rows (by (is_reached v.stages v.source told) refl)
       where
         by : (b : Bool) → is_reached v.stages v.source told ≡ b → AreKept w.view.mark (taken_from v.stages v.source others) (evaluated v.stages v.source rows)
@@ -274,7 +274,7 @@ module _ (scratch : FromScratch) (unread : UnreadDoesNotMatter) (told : Told) (d
             subst (λ (o : Option (List Change)). Leads o (outs_of v.stages v.source places) (outs_of v.stages v.source others)) (sym (none_of w.told (taken.tells ∙ away)))
             (sym (same_outs v.source places others v.stages (unread-places v.stages v.source away (λ name read. no-more (distances name) (subst (λ (n : ℕ). distances name ≤ n) zero (over-read name read))))))
 
-    next-leads : (name : List ℕ) → with_distance w.view distances name ≡ 0 → Leads (flow_with_told v.name w.told told name) (with_places (view_form v) places name) (with_places (view_form w.view) others name)
+    pub next-leads : (name : List ℕ) → with_distance w.view distances name ≡ 0 → Leads (flow_with_told v.name w.told told name) (with_places (view_form v) places name) (with_places (view_form w.view) others name)
     next-leads name zero =
         subst (λ (f : ViewForm). Leads (flow_with_told v.name w.told told name) (with_places (view_form v) places name) (with_places f others name)) (sym taken.form)
         (by (bytes_eq name v.name) (subst (λ (f : ViewForm). (if bytes_eq name f.name then distance w.view.mark else distances name) ≡ 0) taken.form zero))
@@ -283,12 +283,12 @@ module _ (scratch : FromScratch) (unread : UnreadDoesNotMatter) (told : Told) (d
         by true zero = own-leads zero
         by false zero = leads name zero
 
-    next-same : (name : List ℕ) → flow_with_told v.name w.told told name ≡ None → with_rows (view_form w.view) rows name ≡ with_rows (view_form v) lists name
+    pub next-same : (name : List ℕ) → flow_with_told v.name w.told told name ≡ None → with_rows (view_form w.view) rows name ≡ with_rows (view_form v) lists name
     next-same name none = ap (λ (f : ViewForm). with_rows f rows name) taken.form ∙ by (bytes_eq name v.name) none
       where
         by : (b : Bool) → (if b then w.told else told name) ≡ None → (if b then evaluated v.stages v.source rows else rows name) ≡ (if b then evaluated v.stages v.source lists else lists name)
         by true none = sym (unread-rows v.stages v.source (silent told distances distances v w taken none))
         by false none = same name none
 
-    next-agreed : IsWellKept w.view.stages w.view.mark → (name : List ℕ) → with_distance w.view distances name ≡ 0 → Agrees (with_places (view_form w.view) others name) (with_rows (view_form w.view) rows name)
+    pub next-agreed : IsWellKept w.view.stages w.view.mark → (name : List ℕ) → with_distance w.view distances name ≡ 0 → Agrees (with_places (view_form w.view) others name) (with_rows (view_form w.view) rows name)
     next-agreed well name zero = agree_over scratch distances others rows (w.view ∷ []) agreed (over, tt) (right-one well, tt) (takes_in_order w.view.stages w.view.mark well, tt) name zero

@@ -7,8 +7,8 @@ use Rattle.dv_catalog.proofs.Marking.{are_marked}
 use Rattle.dv_catalog.proofs.Stopping.{first_placed}
 use Rattle.dv_catalog.proofs.catalog.Catalog.make.Goals as goal
 
-pub told-requires : goal.told-requires
-told-requires c = all_begin _ (changes_seen c.args.changes) c.requires.placed
+pub told-requires-clause-identified : goal.told-requires-clause-identified
+told-requires-clause-identified c = all_begin _ (changes_seen c.args.changes) c.requires.placed
 
 pub invariant_of-self : goal.invariant_of-self
 invariant_of-self c =
