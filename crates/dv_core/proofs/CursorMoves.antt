@@ -253,7 +253,7 @@ module _ (laws : CursorLaws) (session id : ℕ) where
     pub none : told ≡ []
     pub more : out ≡ false
 
-  pub ToldOf : Option Cursor → Rows → Bool → Type 0
+  unfoldable pub ToldOf : Option Cursor → Rows → Bool → Type 0
   ToldOf None told out = IsNothing told out
   ToldOf (Some cursor) told out = IsFront cursor.rows told out
 

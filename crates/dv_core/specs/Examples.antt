@@ -55,7 +55,7 @@ abbrev pub one_field : List ℕ → Tree → List Field
 one_field name value = (name, value) ∷ []
 
 abbrev pub ping_command : List Field
-ping_command = (codes "ping_command", number 1) ∷ []
+ping_command = (codes "ping", number 1) ∷ []
 
 -- these values into a collection of t
 abbrev pub insert_values : List ℕ → List Tree → List Field

@@ -108,11 +108,11 @@ sections = record {
 
 -- ---- a ping, from its bytes
 
-read_name : name_at false [] (112 ∷ 105 ∷ 110 ∷ 103 ∷ 0 ∷ 1 ∷ 0 ∷ 0 ∷ 0 ∷ 2 ∷ 36 ∷ 100 ∷ 98 ∷ 0 ∷ 2 ∷ 0 ∷ 0 ∷ 0 ∷ 116 ∷ 0 ∷ []) ≡ Ok (codes "ping_message", 1 ∷ 0 ∷ 0 ∷ 0 ∷ 2 ∷ 36 ∷ 100 ∷ 98 ∷ 0 ∷ 2 ∷ 0 ∷ 0 ∷ 0 ∷ 116 ∷ 0 ∷ [])
+read_name : name_at false [] (112 ∷ 105 ∷ 110 ∷ 103 ∷ 0 ∷ 1 ∷ 0 ∷ 0 ∷ 0 ∷ 2 ∷ 36 ∷ 100 ∷ 98 ∷ 0 ∷ 2 ∷ 0 ∷ 0 ∷ 0 ∷ 116 ∷ 0 ∷ []) ≡ Ok (codes "ping", 1 ∷ 0 ∷ 0 ∷ 0 ∷ 2 ∷ 36 ∷ 100 ∷ 98 ∷ 0 ∷ 2 ∷ 0 ∷ 0 ∷ 0 ∷ 116 ∷ 0 ∷ [])
 unfolding name_at cut_at_zero
-read_name = rw (is_text (codes "ping_message") refl) refl
+read_name = rw (is_text (codes "ping") refl) refl
 
-read_second : name_at false ((codes "ping_message", int32 (pos 1)) ∷ []) (36 ∷ 100 ∷ 98 ∷ 0 ∷ 2 ∷ 0 ∷ 0 ∷ 0 ∷ 116 ∷ 0 ∷ []) ≡ Ok (codes "$db", 2 ∷ 0 ∷ 0 ∷ 0 ∷ 116 ∷ 0 ∷ [])
+read_second : name_at false ((codes "ping", int32 (pos 1)) ∷ []) (36 ∷ 100 ∷ 98 ∷ 0 ∷ 2 ∷ 0 ∷ 0 ∷ 0 ∷ 116 ∷ 0 ∷ []) ≡ Ok (codes "$db", 2 ∷ 0 ∷ 0 ∷ 0 ∷ 116 ∷ 0 ∷ [])
 unfolding name_at cut_at_zero
 read_second = rw (is_text (codes "$db") refl) refl
 
@@ -121,11 +121,11 @@ unfolding text_at count_at
 read_text = rw (is_text (codes "t") refl) refl
 
 module _ (inside : Inside) where
-  read_first : fields_at inside 21 false 4 [] (16 ∷ 112 ∷ 105 ∷ 110 ∷ 103 ∷ 0 ∷ 1 ∷ 0 ∷ 0 ∷ 0 ∷ 2 ∷ 36 ∷ 100 ∷ 98 ∷ 0 ∷ 2 ∷ 0 ∷ 0 ∷ 0 ∷ 116 ∷ 0 ∷ []) 0 ≡ fields_at inside 20 false 14 ((codes "ping_message", int32 (pos 1)) ∷ []) (2 ∷ 36 ∷ 100 ∷ 98 ∷ 0 ∷ 2 ∷ 0 ∷ 0 ∷ 0 ∷ 116 ∷ 0 ∷ []) 0
+  read_first : fields_at inside 21 false 4 [] (16 ∷ 112 ∷ 105 ∷ 110 ∷ 103 ∷ 0 ∷ 1 ∷ 0 ∷ 0 ∷ 0 ∷ 2 ∷ 36 ∷ 100 ∷ 98 ∷ 0 ∷ 2 ∷ 0 ∷ 0 ∷ 0 ∷ 116 ∷ 0 ∷ []) 0 ≡ fields_at inside 20 false 14 ((codes "ping", int32 (pos 1)) ∷ []) (2 ∷ 36 ∷ 100 ∷ 98 ∷ 0 ∷ 2 ∷ 0 ∷ 0 ∷ 0 ∷ 116 ∷ 0 ∷ []) 0
   unfolding fields_at kind_at kind_of_byte value_at
   read_first = rw read_name refl
 
-  read_last : fields_at inside 20 false 14 ((codes "ping_message", int32 (pos 1)) ∷ []) (2 ∷ 36 ∷ 100 ∷ 98 ∷ 0 ∷ 2 ∷ 0 ∷ 0 ∷ 0 ∷ 116 ∷ 0 ∷ []) 0 ≡ Ok ping_fields
+  read_last : fields_at inside 20 false 14 ((codes "ping", int32 (pos 1)) ∷ []) (2 ∷ 36 ∷ 100 ∷ 98 ∷ 0 ∷ 2 ∷ 0 ∷ 0 ∷ 0 ∷ 116 ∷ 0 ∷ []) 0 ≡ Ok ping_fields
   unfolding fields_at kind_at kind_of_byte value_at
   read_last = rw (read_second, read_text) refl
 

@@ -120,7 +120,7 @@ pub record SectionExamples : Type 0 where
 
 -- {ping: 1, $db: "t"}, its bytes, and a message with it and these flags
 abbrev pub ping_fields : List Field
-ping_fields = (codes "ping_message", int32 (pos 1)) ∷ (codes "$db", string (codes "t")) ∷ []
+ping_fields = (codes "ping", int32 (pos 1)) ∷ (codes "$db", string (codes "t")) ∷ []
 
 abbrev pub ping_document : List ℕ
 ping_document = 26 ∷ 0 ∷ 0 ∷ 0 ∷ 16 ∷ 112 ∷ 105 ∷ 110 ∷ 103 ∷ 0 ∷ 1 ∷ 0 ∷ 0 ∷ 0 ∷ 2 ∷ 36 ∷ 100 ∷ 98 ∷ 0 ∷ 2 ∷ 0 ∷ 0 ∷ 0 ∷ 116 ∷ 0 ∷ 0 ∷ []
