@@ -42,7 +42,7 @@ pub(crate) enum Front<'a> {
 
 /// Looks at the front of a stream. A message's length is shown by its fourth byte, its code by the sixteenth, its
 /// flags by the twentieth, its sections by its last. Where memory is wanting to look at the sections, that closes.
-#[tactic(auto, unfolding(crate::specs::Message::front))]
+#[tactic(auto, unfolding(crate::specs::Message::stream_front))]
 pub(crate) fn front_of(alloc: Global, bytes: &[u8]) -> Front<'_>
     ensures { (front_seen result ≡ wire.stream_front bytes.now) ⊎ (result ≡ Front.Closing CloseFault.NoMemory) }
 {

@@ -109,7 +109,7 @@ fn documents_in(alloc: Global, bytes: &[u8]) -> Result<Vec<&[u8]>, CloseFault>
 }
 
 /// What a length at the front, at least 5, frames, itself included; and what follows it.
-#[tactic(auto, unfolding(crate::specs::Sections::frame_at))]
+#[tactic(auto, unfolding(crate::specs::Sections::section_frame))]
 fn frame_at(bytes: &[u8]) -> Option<(&[u8], &[u8])>
     ensures { option_map (λ parts. (parts.0.now, parts.1.now)) result ≡ wire.section_frame bytes.now }
 {
