@@ -25,6 +25,7 @@ pub mod Payloads
 pub mod Rest
 pub mod Written
 pub mod Moved
+pub mod Resized
 pub mod Changed
 pub mod Pushed
 pub mod Shallow

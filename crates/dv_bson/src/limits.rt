@@ -116,6 +116,19 @@ fn with_element(total: usize, name: usize, value: &Value) -> Option<usize>
     sum(total, sum(sum(size, name)?, 2)?)
 }
 
+/// The length with one value in place of another one, which was counted. `None` where the new one has no length.
+pub(crate) fn with_other(total: u32, before: &Value, value: &Value) -> Option<u32>
+    requires { length (payload (tree before.now)) ≤ total }
+    ensures size { IfSome result (λ size. size + length (payload (tree before.now)) ≡ total + length (payload (tree value.now))) }
+    ensures within { IfSome result (λ size. size ≤ 2147483647) }
+    ensures valid { IfSome result (λ _. IsValue (tree value.now)) }
+{
+    let less = value_size(before)?;
+    let more = value_size(value)?;
+    let size = sum(total as usize - less, more)?;
+    Some(size as u32)
+}
+
 /// As `size`, and that the document is valid at each of its levels. One look where the size is kept.
 #[cycle(size)]
 pub(crate) fn document_size(document: &Document) -> Option<usize>

@@ -9,6 +9,7 @@ ghost use Rattle.dv_bson.specs.Put.{with_value_at};
 ghost use Rattle.dv_bson.specs.View.{tree};
 
 use crate::NoMemory;
+use crate::limits::with_other;
 use crate::value::{Fields, Measured, Value};
 
 impl Measured {
@@ -64,8 +65,21 @@ impl Measured {
         ensures before { option_map tree result ≡ value_under name.now self.old }
         ensures after { self.new ≡ with_value_under name.now (tree value) self.old }
     {
+        let place = self.fields.place_of(name)?;
+        let size = self.size_with(place, &value);
         self.size = None;
-        self.fields.replace(name, value)
+        let before = self.fields.replace(name, value);
+        self.size = size;
+        before
+    }
+
+    /// The length of the spelling with this value in place of the one at `place`, if it is known. In time of the two values.
+    fn size_with(&self, place: usize, value: &Value) -> Option<u32>
+        ensures { IfSome result (λ size. IsMeasure size (with_value_at place (tree value.now) self.now)) }
+    {
+        let total = self.size?;
+        let (_name, before) = self.fields.entry(place)?;
+        with_other(total, before, value)
     }
 
     /// As `push_element` of `Fields`.
@@ -82,7 +96,8 @@ impl Measured {
         requires { place < length self.now }
         ensures { IfOk result (λ copy. copy ≡ with_value_at place (tree value) self.now) }
     {
-        Ok(Measured::of(self.fields.copy_with(place, value)?, None))
+        let size = self.size_with(place, &value);
+        Ok(Measured::of(self.fields.copy_with(place, value)?, size))
     }
 
     /// As `remove` of `Fields`.
