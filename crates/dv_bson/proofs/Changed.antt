@@ -72,7 +72,7 @@ around v place values lt = rw (← take-map tree place values, ← drop-map tree
 -- ---- the field at a place has the name
 
 module _ (name : List ℕ) where
-  found_behind : (i k : ℕ) (fs : List Field) → position_from (λ f. bytes_eq name f.0) i fs ≡ Some k → i ≤ k
+  pub found_behind : (i k : ℕ) (fs : List Field) → position_from (λ f. bytes_eq name f.0) i fs ≡ Some k → i ≤ k
   found_behind i k [] found = absurd cc
   found_behind i k (f ∷ fs) found = grind (arith, found_behind (i + 1) k fs)
 

@@ -25,9 +25,9 @@ pub mod Payloads
 pub mod Rest
 pub mod Written
 pub mod Moved
-pub mod Resized
 pub mod Changed
 pub mod Pushed
+pub mod Resized
 pub mod Shallow
 pub mod Last
 pub mod Removed

@@ -1,13 +1,21 @@
 -- The length of a document's spelling as one of its fields changes.
-use Rattle.std.proofs.Common.{◌≡◌, ℕ, zero, suc, ◌+◌, ◌≤◌, false, List, [], ◌∷◌, length, Option, Some, None, IfSome, refl, ap, ◌∙◌, arith}
-use Rattle.std.specs.List.{slice_get}
+use Rattle.std.proofs.Common.{◌≡◌, ℕ, zero, suc, ◌+◌, ◌≤◌, false, List, [], ◌∷◌, ◌++◌, length, length-append, decimal, Option, Some, None, IfSome, refl, sym, ap, subst, ◌∙◌, arith}
+use Rattle.std.specs.List.{slice_get, position_from}
+use Rattle.std.specs.Str.{IsUtf8, bytes_eq}
+use Rattle.std.proofs.lemmas.List.Elements.{All-append, All-cons, All-nil}
+use Rattle.dv_bson.specs.FieldChange.{with_value_pushed}
 use Rattle.dv_bson.specs.Measure.{IsMeasure}
-use Rattle.dv_bson.specs.Names.{has_name}
+use Rattle.dv_bson.specs.Names.{has_name, has_zero, place_under, value_under}
 use Rattle.dv_bson.specs.Put.{with_value_at}
-use Rattle.dv_bson.specs.Spelling.{payload, spelling, IsValue, AreFields}
-use Rattle.dv_bson.specs.Tree.{Tree, Field, fields_of}
+use Rattle.dv_bson.specs.Spelling.{payload, spelling, elements_spelling, IsValue, AreFields, AreElements}
+use Rattle.dv_bson.specs.Tree.{Tree, array, Field, fields_of, elements_of}
+use Rattle.dv_bson.proofs.Changed.{found_behind, with_value_at-found}
 use Rattle.dv_bson.proofs.Fields.{list_of_fields-fields_of}
-use Rattle.dv_bson.proofs.Moved.{length-field}
+use Rattle.dv_bson.proofs.Moved.{length-field, each_valid, all_valid}
+use Rattle.dv_bson.proofs.Named.{AreNamed-push}
+use Rattle.dv_bson.proofs.Payloads.{length-array, length-element_spelling}
+use Rattle.dv_bson.proofs.Pushed.{list_of_elements-elements_of}
+use Rattle.dv_bson.proofs.Rest.{elements_spelling-element, elements_spelling-nil}
 
 -- ---- a value in place of another one
 
@@ -51,3 +59,61 @@ pub measured-with : (v : Tree) (place : ℕ) (fs : List Field) (f : Field) (size
     → IfSome result (λ after. IsMeasure after (with_value_at place v fs))
 measured-with v place fs f size None here measure value sum within = tt
 measured-with v place fs f size (Some after) here measure value sum within = measured-at v place fs f size after here measure value sum within
+
+-- ---- a field more
+
+length-more : (fs : List Field) (f : Field) → length (spelling (fs ++ f ∷ [])) ≡ length (spelling fs) + (length (payload f.1) + length f.0 + 2)
+length-more [] f = omega (arith, length-field f [])
+length-more (g ∷ fs) f = omega (arith, length-more fs f, length-field g fs, length-field g (fs ++ f ∷ []))
+
+valid-more : (fs : List Field) (f : Field) → IsUtf8 f.0 → has_zero f.0 ≡ false → has_name f.0 fs ≡ false → IsValue f.1 → AreFields (fields_of fs) → AreFields (fields_of (fs ++ f ∷ []))
+valid-more fs f text whole fresh value valid =
+    let each = each_valid fs valid in
+    let P : Field → Type 0 = λ g. IsUtf8 g.0 × IsValue g.1 in
+    all_valid (fs ++ f ∷ []) (All-append P fs (f ∷ []) each.0 (All-cons P f [] (text, value) (All-nil P)), AreNamed-push fs f each.1 whole fresh)
+
+pub measured-more : (fs : List Field) (f : Field) (size after : ℕ) → IsMeasure size fs → IsUtf8 f.0 → has_zero f.0 ≡ false → has_name f.0 fs ≡ false → IsValue f.1 → after ≡ size + (length (payload f.1) + length f.0 + 2) → after ≤ 2147483647
+    → IsMeasure after (fs ++ f ∷ [])
+measured-more fs f size after measure text whole fresh value sum within = record {
+  whole = omega (arith, sum, measure.whole, length-more fs f);
+  within = within;
+  valid = valid-more fs f text whole fresh value measure.valid;
+}
+
+-- ---- an element more
+
+length-pushed : (i : ℕ) (vs : List Tree) (v : Tree) → length (elements_spelling i (elements_of (vs ++ v ∷ []))) ≡ length (elements_spelling i (elements_of vs)) + (length (payload v) + length (decimal (i + length vs)) + 2)
+length-pushed i [] v =
+    let none : i + 0 ≡ i = omega arith in
+    rw (none, elements_spelling-element i v [], length-append, length-element_spelling, elements_spelling-nil i [] refl, elements_spelling-nil (suc i) [] refl) (omega arith)
+length-pushed i (w ∷ vs) v =
+    let next : i + length (w ∷ vs) ≡ suc i + length vs = omega arith in
+    rw (next, elements_spelling-element i w (vs ++ v ∷ []), elements_spelling-element i w vs, length-append, length-append) (omega (arith, length-pushed (suc i) vs v))
+
+valid-pushed : (vs : List Tree) (v : Tree) → IsValue v → AreElements (elements_of vs) → AreElements (elements_of (vs ++ v ∷ []))
+valid-pushed [] v value valid = (value, tt)
+valid-pushed (w ∷ vs) v value valid = (valid.0, valid-pushed vs v value valid.1)
+
+valid-there : (place : ℕ) (fs : List Field) (f : Field) → slice_get fs place ≡ Some f → AreFields (fields_of fs) → IsValue f.1
+valid-there place [] f here valid = absurd cc
+valid-there zero (g ∷ fs) f here valid = let e : g ≡ f = cc in subst (λ (h : Field). IsValue h.1) e valid.3
+valid-there (suc place) (g ∷ fs) f here valid = valid-there place fs f here valid.4
+
+there-from : (name : List ℕ) (i j k : ℕ) (fs : List Field) (f : Field) → k ≡ i + j → position_from (λ f. bytes_eq name f.0) i fs ≡ Some k → slice_get fs j ≡ Some f → value_under name fs ≡ Some f.1
+there-from name i j k [] f at found here = absurd cc
+there-from name i zero k (g ∷ fs) f at found here = grind (arith, found_behind name (i + 1) k fs)
+there-from name i (suc j) k (g ∷ fs) f at found here = grind (arith, there-from name (i + 1) j k fs f)
+
+module _ (name : List ℕ) (v : Tree) (place : ℕ) (fs : List Field) (f : Field) (vs : List Tree) (found : Some place ≡ place_under name fs) (here : slice_get fs place ≡ Some f) (is : f.1 ≡ array (elements_of vs)) where
+  pushed-at : with_value_at place (array (elements_of (vs ++ v ∷ []))) fs ≡ with_value_pushed name v fs
+  pushed-at =
+      let under : value_under name fs ≡ Some (array (elements_of vs)) = there-from name 0 place place fs f (omega arith) (sym found) here ∙ ap Some is in
+      rw (under, list_of_elements-elements_of vs) (with_value_at-found name (array (elements_of (vs ++ v ∷ []))) place fs found)
+
+  pub measured-pushed : (size after : ℕ) → IsMeasure size fs → IsValue v → after ≡ size + (length (payload v) + length (decimal (length vs)) + 2) → after ≤ 2147483647 → IsMeasure after (with_value_pushed name v fs)
+  measured-pushed size after measure value sum within =
+      let before : IsValue (array (elements_of vs)) = subst IsValue is (valid-there place fs f here measure.valid) in
+      let longer : length (payload (array (elements_of (vs ++ v ∷ [])))) ≡ length (payload f.1) + (length (payload v) + length (decimal (length vs)) + 2) =
+          let first : 0 + length vs ≡ length vs = omega arith in
+          omega (arith, ap (λ (t : Tree). length (payload t)) is, length-array (elements_of vs), length-array (elements_of (vs ++ v ∷ [])), rw first at (length-pushed 0 vs v)) in
+      subst (IsMeasure after) pushed-at (measured-at (array (elements_of (vs ++ v ∷ []))) place fs f size after here measure (valid-pushed vs v value before) (omega (arith, sum, longer)) within)

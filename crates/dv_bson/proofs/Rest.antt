@@ -15,7 +15,7 @@ pub fields_spelling-field : (f : Field) (fs : List Field) → fields_spelling (f
 unfolding fields_spelling
 fields_spelling-field f fs = refl
 
-elements_spelling-element : (place : ℕ) (v : Tree) (vs : List Tree) → elements_spelling place (elements_of (v ∷ vs)) ≡ element_spelling (kind_of v) (decimal place) (payload v) ++ elements_spelling (suc place) (elements_of vs)
+pub elements_spelling-element : (place : ℕ) (v : Tree) (vs : List Tree) → elements_spelling place (elements_of (v ∷ vs)) ≡ element_spelling (kind_of v) (decimal place) (payload v) ++ elements_spelling (suc place) (elements_of vs)
 unfolding elements_spelling
 elements_spelling-element place v vs = refl
 

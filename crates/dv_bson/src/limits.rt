@@ -58,7 +58,7 @@ fn sum(length: usize, more: usize) -> Option<usize>
 }
 
 /// How many digits a number has.
-fn digits(number: usize) -> usize
+pub(crate) fn digits(number: usize) -> usize
     ensures { result ≡ length (decimal number) }
 {
     let mut buffer = Buffer::new();
@@ -108,7 +108,7 @@ fn value_size(value: &Value) -> Option<usize>
 
 /// The length with an element added: a type byte, a name of so many bytes, a zero byte, and the value.
 #[cycle(size)]
-fn with_element(total: usize, name: usize, value: &Value) -> Option<usize>
+pub(crate) fn with_element(total: usize, name: usize, value: &Value) -> Option<usize>
     ensures size { SomeIff result (total + (length (payload (tree value.now)) + name + 2) ≤ 2147483647) (total + (length (payload (tree value.now)) + name + 2)) }
     ensures valid { IfSome result (λ _. IsValue (tree value.now)) }
 {

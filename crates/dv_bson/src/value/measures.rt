@@ -9,7 +9,7 @@ ghost use Rattle.dv_bson.specs.Put.{with_value_at};
 ghost use Rattle.dv_bson.specs.View.{tree};
 
 use crate::NoMemory;
-use crate::limits::with_other;
+use crate::limits::{digits, with_element, with_other};
 use crate::value::{Fields, Measured, Value};
 
 impl Measured {
@@ -49,8 +49,22 @@ impl Measured {
         ensures ok { OnOk result (self.new ≡ self.old ++ (name.now, tree value) ∷ []) }
         ensures err { OnErr result (self.new ≡ self.old) }
     {
+        let size = self.size_added(name, &value);
         self.size = None;
-        self.fields.add(name, value)
+        self.fields.add(name, value)?;
+        self.size = size;
+        Ok(())
+    }
+
+    /// The length of the spelling with this field behind the others, if it is known. In time of the value.
+    fn size_added(&self, name: &str, value: &Value) -> Option<u32>
+        requires whole { has_zero name.now ≡ false }
+        requires fresh { has_name name.now self.now ≡ false }
+        ensures { IfSome result (λ size. IsMeasure size (self.now ++ (name.now, tree value.now) ∷ [])) }
+    {
+        let total = self.size?;
+        let size = with_element(total as usize, name.len(), value)?;
+        Some(size as u32)
     }
 
     /// As `reserve_one` of `Fields`. The spelling stays as it is.
@@ -87,8 +101,27 @@ impl Measured {
         ensures ok { OnOk result (self.new ≡ with_value_pushed name.now (tree value) self.old) }
         ensures err { OnErr result (self.new ≡ self.old) }
     {
+        let size = self.size_pushed(name, &value);
         self.size = None;
-        self.fields.push_element(name, value)
+        self.fields.push_element(name, value)?;
+        self.size = size;
+        Ok(())
+    }
+
+    /// The length of the spelling with this value behind the elements of the array under the name, if it is known. In time
+    /// of the value.
+    fn size_pushed(&self, name: &str, value: &Value) -> Option<u32>
+        ensures { IfSome result (λ size. IsMeasure size (with_value_pushed name.now (tree value.now) self.now)) }
+    {
+        let total = self.size?;
+        let place = self.fields.place_of(name)?;
+        let (_name, found) = self.fields.entry(place)?;
+        let Value::Array(list) = found else {
+            return None;
+        };
+        let count = digits(list.as_slice().len());
+        let size = with_element(total as usize, count, value)?;
+        Some(size as u32)
     }
 
     /// As `copy_with` of `Fields`.
