@@ -82,13 +82,16 @@ measured-more fs f size after measure text whole fresh value sum within = record
 
 -- ---- an element more
 
+length-element : (i : ℕ) (v : Tree) (vs : List Tree) → length (elements_spelling i (elements_of (v ∷ vs))) ≡ length (payload v) + length (decimal i) + 2 + length (elements_spelling (suc i) (elements_of vs))
+length-element i v vs = rw (elements_spelling-element i v vs, length-append, length-element_spelling) refl
+
 length-pushed : (i : ℕ) (vs : List Tree) (v : Tree) → length (elements_spelling i (elements_of (vs ++ v ∷ []))) ≡ length (elements_spelling i (elements_of vs)) + (length (payload v) + length (decimal (i + length vs)) + 2)
 length-pushed i [] v =
     let none : i + 0 ≡ i = omega arith in
-    rw (none, elements_spelling-element i v [], length-append, length-element_spelling, elements_spelling-nil i [] refl, elements_spelling-nil (suc i) [] refl) (omega arith)
+    rw none (omega (arith, length-element i v [], ap length (elements_spelling-nil i [] refl), ap length (elements_spelling-nil (suc i) [] refl)))
 length-pushed i (w ∷ vs) v =
     let next : i + length (w ∷ vs) ≡ suc i + length vs = omega arith in
-    rw (next, elements_spelling-element i w (vs ++ v ∷ []), elements_spelling-element i w vs, length-append, length-append) (omega (arith, length-pushed (suc i) vs v))
+    rw next (omega (arith, length-pushed (suc i) vs v, length-element i w vs, length-element i w (vs ++ v ∷ [])))
 
 valid-pushed : (vs : List Tree) (v : Tree) → IsValue v → AreElements (elements_of vs) → AreElements (elements_of (vs ++ v ∷ []))
 valid-pushed [] v value valid = (value, tt)
@@ -114,6 +117,6 @@ module _ (name : List ℕ) (v : Tree) (place : ℕ) (fs : List Field) (f : Field
   measured-pushed size after measure value sum within =
       let before : IsValue (array (elements_of vs)) = subst IsValue is (valid-there place fs f here measure.valid) in
       let longer : length (payload (array (elements_of (vs ++ v ∷ [])))) ≡ length (payload f.1) + (length (payload v) + length (decimal (length vs)) + 2) =
-          let first : 0 + length vs ≡ length vs = omega arith in
-          omega (arith, ap (λ (t : Tree). length (payload t)) is, length-array (elements_of vs), length-array (elements_of (vs ++ v ∷ [])), rw first at (length-pushed 0 vs v)) in
+      let first : 0 + length vs ≡ length vs = omega arith in
+      omega (arith, ap (λ (t : Tree). length (payload t)) is, length-array (elements_of vs), length-array (elements_of (vs ++ v ∷ [])), rw first at (length-pushed 0 vs v)) in
       subst (IsMeasure after) pushed-at (measured-at (array (elements_of (vs ++ v ∷ []))) place fs f size after here measure (valid-pushed vs v value before) (omega (arith, sum, longer)) within)

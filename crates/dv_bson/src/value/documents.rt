@@ -233,7 +233,7 @@ impl Document {
     pub fn keep_size(&mut self)
         ensures { self.new ≡ self.old }
     {
-        if self.is_shared() {
+        if self.is_shared() || self.kept_size().is_some() {
             return;
         }
         let Some(size) = document_size(self) else {

@@ -1,9 +1,8 @@
-use Rattle.std.proofs.Common.{◌≡◌, ◌+◌, length, map, decimal, Some, ap, sym, arith, rules}
+use Rattle.std.proofs.Common.{◌≡◌, length, decimal, Some, ap, sym, arith, rules}
 use Rattle.std.specs.List.{slice_get}
 use Rattle.std.proofs.lemmas.List.{length-map}
 use Rattle.dv_bson.specs.Measure.{IsMeasure}
 use Rattle.dv_bson.specs.Names.{place_under}
-use Rattle.dv_bson.specs.Spelling.{payload}
 use Rattle.dv_bson.specs.Tree.{Field, array, elements_of}
 use Rattle.dv_bson.specs.View.{tree}
 use Rattle.dv_bson.proofs.Resized.{measured-pushed}
