@@ -82,7 +82,8 @@ pub(crate) struct Fields {
 #[derive(Debug, Drop)]
 pub(crate) struct Measured {
     fields: Fields,
-    /// Forgotten as the fields change. Where there is one, they are known to be valid at each of their levels, too.
+    /// Follows what is added and put; forgotten where a field goes. Where there is one, the fields are known to be valid at
+    /// each of their levels, too.
     size: Option<u32>,
 }
 

@@ -164,7 +164,8 @@ impl Document {
 
     /// Puts the value in place of the one under the name, and gives that one. Where no field has the name there is none,
     /// nothing is changed, and the value is dropped; so it is where memory is wanting. Memory is taken only where a copy
-    /// shares the fields, which are copied first. In time logarithmic in the number of fields where none does.
+    /// shares the fields, which are copied first. In time logarithmic in the number of fields where none does; where the
+    /// length of the spelling is kept, both values are measured besides.
     pub fn replace(&mut self, name: &str, value: Value) -> Result<Option<Value>, NoMemory>
         ensures before { IfOk result (λ before. option_map tree before ≡ value_under name.now self.old) }
         ensures ok { OnOk result (self.new ≡ with_value_under name.now (tree value) self.old) }
@@ -183,7 +184,7 @@ impl Document {
     /// Puts the value in place of the one under the name, which is dropped. Where no field has the name, nothing is changed
     /// and the value is given back; where memory is wanting, nothing is changed and it is dropped. Memory is taken only
     /// where a copy shares the fields: then the other values are copied. In time logarithmic in the number of fields where
-    /// none does.
+    /// none does; where the length of the spelling is kept, both values are measured besides.
     pub fn put(&mut self, name: &str, value: Value) -> Result<Option<Value>, NoMemory>
         ensures back { IfOk result (λ back. option_map tree back ≡ (if has_name name.now self.old then None else Some (tree value))) }
         ensures ok { OnOk result (self.new ≡ with_value_under name.now (tree value) self.old) }
@@ -226,10 +227,11 @@ impl Document {
         }
     }
 
-    /// Keeps the length of the spelling beside the fields, if there is one and no copy shares them, until they change: then
-    /// `size`, `fits` and writing need not work it out again, where this document stands in another one either. Nothing
-    /// that a caller sees changes. Takes no memory. In time linear in what stands in the document, but for documents inside
-    /// it that keep theirs.
+    /// Keeps the length of the spelling beside the fields, if there is one and no copy shares them: then `size`, `fits` and
+    /// writing need not work it out again, where this document stands in another one either. It follows what is added and
+    /// put, and is forgotten where a field is taken away. Nothing that a caller sees changes. Takes no memory. One look
+    /// where it is kept, and else in time linear in what stands in the document, but for documents inside it that keep
+    /// theirs.
     pub fn keep_size(&mut self)
         ensures { self.new ≡ self.old }
     {
@@ -307,7 +309,7 @@ fn put_value(
         return Ok(Some(value));
     };
     if let Some(own) = Rc::get_mut(shared) {
-        own.replace(name, value);
+        own.put_at(place, value);
         return Ok(None);
     }
     let changed = shared.copy_with(place, value)?;

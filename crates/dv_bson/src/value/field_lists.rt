@@ -148,6 +148,14 @@ impl Fields {
         Some(replace(&mut self.values[place], value))
     }
 
+    /// Puts the value in place of the one at `place`, which is dropped.
+    pub(super) fn put_at(&mut self, place: usize, value: Value)
+        requires { place < length self.old }
+        ensures { self.new ≡ with_value_at place (tree value) self.old }
+    {
+        self.values[place] = value;
+    }
+
     /// Puts the value behind the elements of the array under the name, where there is one. Fails where memory is wanting.
     pub(super) fn push_element(&mut self, name: &str, value: Value) -> Result<(), NoMemory>
         ensures ok { OnOk result (self.new ≡ with_value_pushed name.now (tree value) self.old) }

@@ -1,4 +1,4 @@
-//! Fields with the length of their spelling, which is forgotten as they change.
+//! Fields with the length of their spelling, which follows what is added and put, and is forgotten where a field goes.
 
 ghost use Rattle.std.specs.Prelude.{◌≡◌, ◌<◌, [], ◌∷◌, ◌++◌, false, length, OnOk, OnErr, IfOk, IfSome};
 ghost use Rattle.std.specs.Option.{option_map};
@@ -85,6 +85,17 @@ impl Measured {
         let before = self.fields.replace(name, value);
         self.size = size;
         before
+    }
+
+    /// As `put_at` of `Fields`.
+    pub(super) fn put_at(&mut self, place: usize, value: Value)
+        requires { place < length self.old }
+        ensures { self.new ≡ with_value_at place (tree value) self.old }
+    {
+        let size = self.size_with(place, &value);
+        self.size = None;
+        self.fields.put_at(place, value);
+        self.size = size;
     }
 
     /// The length of the spelling with this value in place of the one at `place`, if it is known. In time of the two values.

@@ -36,3 +36,15 @@ returns-clause-ok c =
     let found : Some c.in-Some.place ≡ place_under c.args.name.now c.args.shared.now.value = rw (c.fields.ensures, c.deref.ensures) at c.in-Some.ensures.place in
     let put = with_value_at-found c.args.name.now (tree c.args.value) c.in-Some.place c.args.shared.now.value found in
     grind (arith, common_steps)
+
+pub put_at-requires : goal.put_at-requires
+put_at-requires c =
+    let found : Some c.in-Some.place ≡ place_under c.args.name.now c.args.shared.now.value = rw (c.fields.ensures, c.deref.ensures) at c.in-Some.ensures.place in
+    let within = found_within c.args.name.now c.in-Some.place c.args.shared.now.value found in
+    grind (arith, common_steps)
+
+pub returns-in-Some-get_mut-clause-ok : goal.returns-in-Some-get_mut-clause-ok
+returns-in-Some-get_mut-clause-ok c =
+    let found : Some c.in-Some.place ≡ place_under c.args.name.now c.args.shared.now.value = rw (c.fields.ensures, c.deref.ensures) at c.in-Some.ensures.place in
+    let put = with_value_at-found c.args.name.now (tree c.args.value) c.in-Some.place c.args.shared.now.value found in
+    grind (arith, common_steps)
