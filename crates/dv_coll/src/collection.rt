@@ -198,13 +198,12 @@ fn change_in_document(
         change_and_keep_size(document, name, change)?;
         return Ok(true);
     }
-    share_first_names(documents, key);
-    change_in_found(documents, key, name, change)
+    change_beside_first(documents, key, name, change)
 }
 
-/// The same, without a look at the names of other documents.
+/// The same, where the document first takes the names of the first one: a field that comes then has the name that lies there.
 #[tactic(auto, using(crate::proofs::Changed::put_same))]
-fn change_in_found(
+fn change_beside_first(
     documents: &mut BTreeMap<Key, Document>,
     key: &Key,
     name: &str,
@@ -215,11 +214,21 @@ fn change_in_found(
     ensures ok { OnOk result (documents.new.entries ≡ changed_under (get_by (key_order key.now) documents.old) key.now name.now change documents.old.entries) }
     ensures err { OnErr result (documents.new.entries ≡ documents.old.entries) }
 {
+    let first = first_copy(documents);
     let Some(document) = documents.get_mut(key) else {
         return Ok(false);
     };
+    if let Some(first) = first {
+        document.share_names(&first);
+    }
     change_and_keep_size(document, name, change)?;
     Ok(true)
+}
+
+/// A copy of the first document, where there is one and memory for it.
+fn first_copy(documents: &BTreeMap<Key, Document>) -> Option<Document> {
+    let (_, first) = documents.first_key_value()?;
+    first.try_clone().ok()
 }
 
 /// Makes the change of the field under the name. Fails where memory is wanting; then nothing is changed.
@@ -243,23 +252,6 @@ fn take_first_names(document: &mut Document, documents: &BTreeMap<Key, Document>
 {
     if let Some((_, first)) = documents.first_key_value() {
         document.share_names(first);
-    }
-}
-
-/// Lets the document under the key have the names of the first one, so that a field that comes has the name that lies there.
-/// Where memory is wanting, it keeps its own.
-#[tactic(auto, using(crate::proofs::Changed::put_same))]
-fn share_first_names(documents: &mut BTreeMap<Key, Document>, key: &Key)
-    ensures { documents.new.entries ≡ documents.old.entries }
-{
-    let Some((_, first)) = documents.first_key_value() else {
-        return;
-    };
-    let Ok(first) = first.try_clone() else {
-        return;
-    };
-    if let Some(document) = documents.get_mut(key) {
-        document.share_names(&first);
     }
 }
 
