@@ -1,6 +1,6 @@
 -- What each command asks is sound.
-use Rattle.std.proofs.Common.{◌≡◌, ◌<◌, ◌≤◌, ◌&&◌, ℕ, true, false, if◌then◌else◌, List, [], ◌∷◌, length, Option, Some, None, Ok, subst, ◌∙◌, arith}
-use Rattle.std.specs.Prelude.{codes, ⊤}
+use Rattle.std.proofs.Common.{◌≡◌, ℕ, true, false, List, length, Option, Some, None, Ok, subst, arith}
+use Rattle.std.specs.Prelude.{codes}
 use Rattle.std.specs.Str.{IsUtf8}
 use Rattle.dv_bson.specs.Names.{value_under}
 use Rattle.dv_bson.specs.Spelling.{IsValue, AreFields, spelling}
@@ -22,7 +22,7 @@ use Rattle.dv_command.specs.Entries.{Updating, index_asked}
 use Rattle.dv_fields.specs.Kinds as kinds
 use Rattle.dv_fields.specs.Namespaces.{database, namespace}
 use Rattle.dv_fields.specs.Refusals.{update_refusal}
-use Rattle.dv_bson.specs.Results.{◌>>=◌, each}
+use Rattle.dv_bson.specs.Results.{each}
 use Rattle.dv_command.specs.Sound.{AreValidLists, IsNamespace, IsSoundRequest, IsSoundUpdate}
 use Rattle.dv_command.proofs.Lengths.{FieldsAdd, under_long}
 use Rattle.dv_command.proofs.SoundFields.{beside_valid, count_valid, database_valid, document_valid, documents_valid, each_long, either_valid, ends, explained_valid, fields_valid, find_valid, id_valid, indexes_valid, integers_valid, list_long, list_valid, namespace_valid, parsed, pipeline_valid, succeeds, text_valid, under_valid, update_valid, view_valid}

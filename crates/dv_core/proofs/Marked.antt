@@ -7,7 +7,7 @@ use Rattle.dv_catalog.specs.Marks.{AreMarkedWhere, Marks, all_gone, live, marks_
 use Rattle.dv_catalog.specs.State.{documents_of, is_collection, is_there, is_view, lists_of, without_view}
 use Rattle.dv_catalog.specs.State as stored
 use Rattle.dv_catalog.specs.Views.{created, dropped, made, reads_name, with_view, with_view_by, with_views}
-use Rattle.dv_command.specs.Asked.{Asked, Create, Drop, ViewOn, hello, ping, find, aggregate, get_more, kill_cursors, create, drop, create_indexes, drop_indexes, explain, view_stats, asked_by}
+use Rattle.dv_command.specs.Asked.{Asked, ViewOn, hello, ping, find, aggregate, get_more, kill_cursors, create, drop, create_indexes, drop_indexes, explain, view_stats, asked_by}
 use Rattle.dv_command.specs.Asked as asking
 use Rattle.dv_command.specs.Replies.{drop_reply, reply_of}
 use Rattle.dv_command.specs.declared.command.Command.{Command}

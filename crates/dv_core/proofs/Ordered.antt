@@ -22,7 +22,7 @@ use Rattle.dv_command.specs.declared.command.Command.{Command}
 use Rattle.dv_fields.specs.declared.refusal.Refusal.{Refusal}
 use Rattle.dv_fields.specs.declared.refusal.Refusal.TheVariants.{BadValue, OnView, TooLarge}
 use Rattle.dv_core.specs.declared.outcome.Outcome.{Outcome}
-use Rattle.dv_catalog.specs.Changes.{Change, Effect, put, gone, breaks, changes_of, clashes_by, done_to, with_change}
+use Rattle.dv_catalog.specs.Changes.{Change, Effect, put, gone, breaks, changes_of, done_to, with_change}
 use Rattle.dv_update.specs.Apply.{applied}
 use Rattle.dv_update.specs.Parsing.{update_of}
 use Rattle.dv_update.specs.Update as form

@@ -1,5 +1,5 @@
 -- The errors of statements have a spelling, and are told within what a reply may hold.
-use Rattle.std.proofs.Common.{◌≡◌, ◌⊎◌, ◌&&◌, ℕ, suc, ◌+◌, ◌*◌, ◌≤◌, ◌<◌, ◌^◌, ◌/◌, ◌%◌, ◌-◌, min, decimal, Bool, true, false, nat_lt, List, [], ◌∷◌, ◌++◌, length, map, pos, Result, Ok, Err, if◌then◌else◌, length-append, refl, sym, subst, arith}
+use Rattle.std.proofs.Common.{◌≡◌, ℕ, suc, ◌+◌, ◌*◌, ◌≤◌, ◌<◌, ◌^◌, ◌/◌, ◌%◌, ◌-◌, min, decimal, Bool, true, false, nat_lt, List, [], ◌∷◌, ◌++◌, length, map, pos, Result, Ok, Err, if◌then◌else◌, length-append, refl, sym, subst, arith}
 use Rattle.std.proofs.lemmas.Bool.Decides.{nat_tests}
 use Rattle.std.proofs.lemmas.List.{length-map}
 use Rattle.std.proofs.lemmas.Fmt.{IsAscii-decimal, length-decimal-le}
@@ -18,7 +18,6 @@ use Rattle.dv_bson.specs.Tree.{Tree, int32, int64, string, array, Field, fields_
 use Rattle.dv_command.specs.Asked as asking
 use Rattle.dv_command.specs.Replies.{document_of, count, reply_of, cut_error, write_error, update_reply, errors_field}
 use Rattle.dv_fields.specs.Refusals.{code, code_name, message_of}
-use Rattle.dv_bson.specs.Results.{◌>>=◌}
 use Rattle.dv_command.specs.declared.asking.WriteKind.{WriteKind}
 use Rattle.dv_command.specs.declared.asking.WriteKind.TheVariants.{Insert, Update, Delete}
 use Rattle.dv_fields.specs.declared.refusal.Refusal.{Refusal}

@@ -1,5 +1,5 @@
 -- The documents that a find replies have a spelling.
-use Rattle.std.proofs.Common.{◌≡◌, ◌⊎◌, ◌&&◌, ℕ, suc, ◌+◌, ◌*◌, ◌≤◌, ◌<◌, ◌^◌, ◌/◌, ◌%◌, ◌-◌, true, false, List, [], ◌∷◌, ◌++◌, length, map, pos, if◌then◌else◌, refl, ap, arith}
+use Rattle.std.proofs.Common.{◌≡◌, ℕ, suc, ◌+◌, ◌*◌, ◌≤◌, ◌<◌, ◌^◌, ◌-◌, true, false, List, [], ◌∷◌, length, map, pos, refl, ap, arith}
 use Rattle.std.proofs.lemmas.Int.{fits_signed_from_abs}
 use Rattle.std.specs.Int.{w32, w64}
 use Rattle.std.specs.Prelude.{codes}
@@ -8,7 +8,6 @@ use Rattle.dv_bson.specs.Names.{has_name, has_zero}
 use Rattle.dv_bson.specs.Spelling.{payload, spelling, IsValue, AreFields, AreElements, Spells}
 use Rattle.dv_bson.specs.Tree.{Tree, int32, int64, string, array, Field, fields_of, list_of_fields, elements_of}
 use Rattle.dv_command.specs.Replies.{document_of, count, reply_of, batch_reply}
-use Rattle.dv_bson.specs.Results.{◌>>=◌}
 use Rattle.dv_cursor.specs.Batch.{total_size}
 use Rattle.dv_command.specs.Sound.{AreSpellable}
 use Rattle.dv_core.specs.Sound.{HasSpelling}

@@ -5,7 +5,7 @@ use Rattle.dv_bson.specs.Tree.{Tree, int32, int64, string, document, array, bool
 use Rattle.dv_bson.specs.Names.{value_under, with_value_under, without}
 use Rattle.dv_path.specs.Candidates.{Candidate}
 use Rattle.dv_path.specs.Placing as placing
-use Rattle.dv_path.specs.Placing.{put, put_behind, put_field, result_map}
+use Rattle.dv_path.specs.Placing.{put, put_behind, result_map}
 use Rattle.dv_path.specs.Removing.{remove, left_behind}
 use Rattle.dv_row.specs.Parsing.{unwinding}
 use Rattle.dv_row.specs.Row.{Row}

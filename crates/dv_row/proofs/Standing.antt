@@ -5,7 +5,7 @@ use Rattle.dv_bson.specs.Names.{value_under}
 use Rattle.dv_bson.specs.View.{tree}
 use Rattle.dv_bson.specs.declared.value.Value.{Value}
 use Rattle.dv_path.specs.Candidates.{Candidate}
-use Rattle.dv_path.specs.Expression.{component_entered, expression, expr}
+use Rattle.dv_path.specs.Expression.{expression, expr}
 use Rattle.dv_row.specs.Valid.{fields_again}
 
 none_left : {X : Type 0} (xs : List X) → true ≡ (length xs == 0) → xs ≡ []
