@@ -1,4 +1,4 @@
-use Rattle.std.proofs.Common.{◌≡◌, ◌≢◌, [], drop, ap, sym, ◌∙◌}
+use Rattle.std.proofs.Common.{◌≡◌, ◌≢◌, [], drop, true≢false, ap, sym, ◌∙◌}
 use Rattle.std.specs.FinMap as finite
 use Rattle.dv_cursor.specs.Cursors.{Cursor, Cursors, CursorPlace}
 use Rattle.dv_cursor.proofs.Kept.{Kept, kept, get-kept, kept-written, remove-insert, advanced-none, advanced-out, advanced-left}
