@@ -82,8 +82,8 @@ pub(crate) struct Fields {
 #[derive(Debug, Drop)]
 pub(crate) struct Measured {
     fields: Fields,
-    /// Follows what is added and put; forgotten where a field goes. Where there is one, the fields are known to be valid at
-    /// each of their levels, too.
+    /// Follows a value that is added, or put in place of one that is dropped; other changes forget it. Where there is one, the
+    /// fields are known to be valid at each of their levels, too.
     size: Option<u32>,
 }
 

@@ -164,8 +164,7 @@ impl Document {
 
     /// Puts the value in place of the one under the name, and gives that one. Where no field has the name there is none,
     /// nothing is changed, and the value is dropped; so it is where memory is wanting. Memory is taken only where a copy
-    /// shares the fields, which are copied first. In time logarithmic in the number of fields where none does; where the
-    /// length of the spelling is kept, both values are measured besides.
+    /// shares the fields, which are copied first. In time logarithmic in the number of fields where none does.
     pub fn replace(&mut self, name: &str, value: Value) -> Result<Option<Value>, NoMemory>
         ensures before { IfOk result (λ before. option_map tree before ≡ value_under name.now self.old) }
         ensures ok { OnOk result (self.new ≡ with_value_under name.now (tree value) self.old) }
@@ -228,10 +227,10 @@ impl Document {
     }
 
     /// Keeps the length of the spelling beside the fields, if there is one and no copy shares them: then `size`, `fits` and
-    /// writing need not work it out again, where this document stands in another one either. It follows what is added and
-    /// put, and is forgotten where a field is taken away. Nothing that a caller sees changes. Takes no memory. One look
-    /// where it is kept, and else in time linear in what stands in the document, but for documents inside it that keep
-    /// theirs.
+    /// writing need not work it out again, where this document stands in another one either. It follows a
+    /// value that is added, or put in place of one that is dropped; other changes forget it. Nothing that a caller sees
+    /// changes. Takes no memory. One look where it is kept, and else in time linear in what stands in the document, but for
+    /// documents inside it that keep theirs.
     pub fn keep_size(&mut self)
         ensures { self.new ≡ self.old }
     {

@@ -1,4 +1,5 @@
-//! Fields with the length of their spelling, which follows what is added and put, and is forgotten where a field goes.
+//! Fields with the length of their spelling: it follows a value that is added, or put in place of one that is dropped, in time of
+//! these values; other changes forget it.
 
 ghost use Rattle.std.specs.Prelude.{◌≡◌, ◌<◌, [], ◌∷◌, ◌++◌, false, length, OnOk, OnErr, IfOk, IfSome};
 ghost use Rattle.std.specs.Option.{option_map};
@@ -74,17 +75,14 @@ impl Measured {
         self.fields.reserve_one()
     }
 
-    /// As `replace` of `Fields`.
+    /// As `replace` of `Fields`. The length is forgotten: the value that was there isn't dropped, and may be far longer than
+    /// what is done with it.
     pub(super) fn replace(&mut self, name: &str, value: Value) -> Option<Value>
         ensures before { option_map tree result ≡ value_under name.now self.old }
         ensures after { self.new ≡ with_value_under name.now (tree value) self.old }
     {
-        let place = self.fields.place_of(name)?;
-        let size = self.size_with(place, &value);
         self.size = None;
-        let before = self.fields.replace(name, value);
-        self.size = size;
-        before
+        self.fields.replace(name, value)
     }
 
     /// As `put_at` of `Fields`.
@@ -135,13 +133,12 @@ impl Measured {
         Some(size as u32)
     }
 
-    /// As `copy_with` of `Fields`.
+    /// As `copy_with` of `Fields`, without a length, as under `replace`.
     pub(super) fn copy_with(&self, place: usize, value: Value) -> Result<Self, NoMemory>
         requires { place < length self.now }
         ensures { IfOk result (λ copy. copy ≡ with_value_at place (tree value) self.now) }
     {
-        let size = self.size_with(place, &value);
-        Ok(Measured::of(self.fields.copy_with(place, value)?, size))
+        Ok(Measured::of(self.fields.copy_with(place, value)?, None))
     }
 
     /// As `remove` of `Fields`.
