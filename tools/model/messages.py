@@ -1,7 +1,7 @@
 """OP_MSG: whole messages taken off a stream, what asks, and what answers."""
 import struct
 
-from model.values import BsonFault, int32, read_document, spelling, utf8
+from model.values import BsonFault, int32, read_fields, spelling, utf8
 
 BODY, LIST = 0, 1  # kinds of sections
 HEADER = 21  # the bytes in front of the body of a message that has nothing else
@@ -81,5 +81,6 @@ def message(answered, body, number=0):
 
 
 def answer(data):
-    """The body of a reply."""
-    return read_document(data[HEADER:])
+    """The body of a reply, which may have more bytes than a document that is read, and three levels above its rows."""
+    body = data[HEADER:]
+    return read_fields(body, 0, len(body), -2, is_array=False)
