@@ -6,6 +6,9 @@ canonical:
     {"$numberInt": "5"}  {"$numberLong": "5"}  {"$oid": "24 hexadecimal digits"}
     {"$binary": {"base64": "AP8=", "subType": "00"}}  {"$date": {"$numberLong": "0"}}  {"$date": "1970-01-01T00:00:00.000Z"}
     {"$timestamp": {"t": 1, "i": 2}}  {"$minKey": 1}  {"$maxKey": 1}  null
+    {"$uuid": "00112233-4455-6677-8899-aabbccddeeff"}, binary data of subtype 4
+
+Kinds that docd doesn't have, as {"$numberDouble": "1.5"}, are refused.
 
 Values are given as JSON with int32 as plain numbers, int64 as $numberLong and datetimes as $date with $numberLong, so that
 each kind is seen. `tools/notation.py` reads this as text.
@@ -13,6 +16,7 @@ each kind is seen. `tools/notation.py` reads this as text.
 import base64
 import datetime
 import re
+import uuid
 
 from model.values import (ARRAY, BINARY, BOOLEAN, DATETIME, DOCUMENT, INT32, INT64, MAX_KEY, MIN_KEY, NULL, NUMBERS, OBJECT_ID,
                           TEXT, TIMESTAMP)
@@ -48,6 +52,8 @@ def integer(number):
 def extended(fields):
     """The value that a document of JSON is: itself, or one of a kind that JSON lacks."""
     names = tuple(name for name, _ in fields)
+    if names in LACKING:
+        raise ValueError("%s is of a kind that docd doesn't have" % names[0].decode())
     if names not in EXTENDED:
         return DOCUMENT, fields
     made, form = EXTENDED[names]
@@ -118,12 +124,19 @@ EXTENDED = {
     (b"$numberLong",): (lambda value: (INT64, digits_of(value, 64)), '{"$numberLong": "5"}'),
     (b"$oid",): (lambda value: object_id_of(of_kind(value, TEXT).decode()), '{"$oid": "507f1f77bcf86cd799439011"}'),
     (b"$binary",): (binary_of, '{"$binary": {"base64": "AP8=", "subType": "00"}}'),
+    (b"$uuid",): (lambda value: (BINARY, (4, uuid.UUID(of_kind(value, TEXT).decode()).bytes)),
+                  '{"$uuid": "00112233-4455-6677-8899-aabbccddeeff"}'),
     (b"$date",): (date_of, '{"$date": "1970-01-01T00:00:00.000Z"} or {"$date": {"$numberLong": "0"}}'),
     (b"$timestamp",): (lambda value: timestamp_of(*(of_kind(one, *NUMBERS) for one in members_of(value, b"t", b"i"))),
                        '{"$timestamp": {"t": 1, "i": 2}}'),
     (b"$minKey",): (lambda value: (MIN_KEY, None), '{"$minKey": 1}'),
     (b"$maxKey",): (lambda value: (MAX_KEY, None), '{"$maxKey": 1}'),
 }
+
+
+# The documents of these names stand for values that docd doesn't have.
+LACKING = {(b"$numberDouble",), (b"$numberDecimal",), (b"$regularExpression",), (b"$code",), (b"$code", b"$scope"), (b"$symbol",),
+           (b"$dbPointer",), (b"$undefined",)}
 
 
 def json_of(kind, held):

@@ -69,6 +69,12 @@ CALLS = {
     "Timestamp": (timestamp, "a timestamp is written with its seconds and its count: Timestamp(1, 2)"),
     "Binary": (binary, 'binary data are written with their subtype and pairs of hexadecimal digits: Binary(0, "00ff")'),
 }
+# What is told of words of MongoDB's shell.
+FOREIGN = {
+    "new": "leave new out", "ISODate": CALLS["Date"][1], "BinData": CALLS["Binary"][1], "UUID": CALLS["Binary"][1],
+    **dict.fromkeys(["NumberInt", "NumberLong", "NumberDecimal", "Int32", "Long", "Double", "Decimal128"],
+                    "docd has whole numbers alone: 5 has 32 bits, 5L has 64"),
+}
 
 
 class Unfinished(ValueError):
@@ -102,6 +108,10 @@ class Reader:
     def fail(self, told, at=None, kind=ValueError):
         raise kind("column %d: %s" % ((self.at if at is None else at) + 1, told))
 
+    def lacks(self, told):
+        """Tells that something is missing here; where the text ends, another line may have it."""
+        self.fail(told, kind=ValueError if self.has() else Unfinished)
+
     def value(self):
         start = self.at
         if self.takes("{"):
@@ -118,8 +128,10 @@ class Reader:
         if word in CALLS and self.takes("("):
             return self.call(word, start)
         if word:
-            self.fail("`%s` is no value: a text stands in double quotes" % word, start)
-        return self.fail("a value is missing: a number, a text in double quotes, {..}, [..], true, false or null")
+            self.fail(FOREIGN.get(word, "`%s` is no value: a text stands in double quotes" % word), start)
+        if self.text.startswith("'", start):
+            self.fail("a text stands in double quotes")
+        return self.lacks("a value is missing: a number, a text in double quotes, {..}, [..], true, false or null")
 
     def number(self, digits, start):
         form = WHOLE.fullmatch(digits)
@@ -144,9 +156,12 @@ class Reader:
         found = []
         while not self.takes(closing):
             if not self.has():
-                self.fail("the line ends where a %s is missing" % closing, kind=Unfinished)
+                self.lacks("the line ends where a %s is missing" % closing)
             if found and not self.takes(","):
                 self.fail("a comma is missing, or a %s" % closing)
+            if found and self.text.startswith(closing, self.at):
+                wanted = "name" if closing == "}" else "value"
+                self.fail("a %s is missing behind the comma: write none behind the last" % wanted)
             found.append(one())
         return found
 
@@ -164,11 +179,11 @@ class Reader:
         start, is_quoted = self.at, self.text.startswith('"', self.at)
         name = self.quoted() if is_quoted else (self.match(WORD) or self.match(DIGITS)).encode()
         if not is_quoted and not name:
-            self.fail("a name is missing: write {name: value}")
+            self.lacks("a name is missing: write {name: value}, or the name in double quotes")
         if b"\0" in name:
             self.fail("a name can't have a zero byte", start)
         if not self.takes(":"):
-            self.fail("a colon is missing behind the name; one that is more than a word stands in double quotes")
+            self.lacks("a colon is missing behind the name; one that is more than a word stands in double quotes")
         return is_quoted, name, self.value()
 
     def call(self, word, start):

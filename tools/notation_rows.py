@@ -11,7 +11,7 @@ from checking import status_of
 from making.values import Values
 from model.values import (ARRAY, BINARY, BOOLEAN, DATETIME, DOCUMENT, INT32, INT64, MAX_KEY, MIN_KEY, NULL, OBJECT_ID, TEXT,
                           TIMESTAMP)
-from notation import document_of, shown
+from notation import Unfinished, document_of, shown
 
 DOCUMENTS = 2_000
 ID = bytes.fromhex("507f1f77bcf86cd799439011")
@@ -32,6 +32,7 @@ ROWS = [
     ((INT64, -2**63), "-9223372036854775808L", "-9223372036854775808"),
     ((INT64, 5), "5L", '{"$numberLong": "5"}'),
     ((BINARY, (0, b"")), 'Binary(0, "")', '{"$binary": {"base64": "", "subType": "00"}}'),
+    ((BINARY, (4, bytes(range(16)))), 'Binary(4, "000102030405060708090a0b0c0d0e0f")', '{"$uuid": "00010203-0405-0607-0809-0a0b0c0d0e0f"}'),
     ((BINARY, (255, b"\0\xff")), 'Binary(255, "00ff")', 'Binary(255, "00FF")', '{"$binary": {"subType": "ff", "base64": "AP8="}}'),
     ((OBJECT_ID, ID), 'ObjectId("507f1f77bcf86cd799439011")', '{"$oid": "507F1F77BCF86CD799439011"}'),
     ((DATETIME, 0), 'Date("1970-01-01T00:00:00.000Z")', "Date(0)", '{"$date": "1970-01-01T00:00:00Z"}', '{"$date": {"$numberLong": "0"}}'),
@@ -57,8 +58,13 @@ FAULTS = [
     ('{a: Date("2026-11-22")}', 5, "Date("), ('{a: Date("2026-11-22T18:30:15.1234Z")}', 5, "Date("),
     ("{a: Timestamp(1, 4294967296)}", 5, "Timestamp("), ('{a: Binary(256, "")}', 5, "Binary("), ('{a: Binary(0, "0")}', 5, "Binary("),
     ('{a: {"$numberInt": "2147483648"}}', 6, "$numberInt"), ('{a: {"$date": 5}}', 6, "$date"), ("{a: Foo(1)}", 5, "no value"),
-    ('{"$oid": "507f1f77bcf86cd799439011"}', 1, "no value of another kind"),
+    ('{"$oid": "507f1f77bcf86cd799439011"}', 1, "no value of another kind"), ('{a: {"$numberDouble": "1.5"}}', 6, "doesn't have"),
+    ('{a: {"$uuid": "00"}}', 6, "$uuid"), ("{'a': 1}", 2, "double quotes"), ('{a: ISODate("2026-11-22")}', 5, "Date("),
+    ("{a: new Date()}", 5, "leave new out"), ("{a: NumberLong(5)}", 5, "5L"), ('{a: BinData(0, "AP8=")}', 5, "Binary("),
 ]
+
+# A command in two lines, with a bar wherever the first one may end.
+PARTED = '{|a|: |[|1,| {|"b"|: |Timestamp(|1|, |2|)|,| c: |"x"|}|]|,| d: |5L|'
 
 
 def read(text):
@@ -82,6 +88,19 @@ def check_faults(tell):
         tell(told.startswith("column %d: " % column) and word in told, "of %s is told: %s" % (text, told))
 
 
+def check_parted(tell):
+    parts = PARTED.split("|")
+    for count in range(1, len(parts) + 1):
+        text = "".join(parts[:count])
+        try:
+            told = "nothing: it is read as %s" % shown((DOCUMENT, document_of(text)))
+        except Unfinished:
+            told = ""
+        except ValueError as error:
+            told = str(error)
+        tell(not told, "of %s, which another line may end, is told: %s" % (text, told))
+
+
 def check_random(tell):
     for place in range(DOCUMENTS):
         fields = Values(random.Random(place)).fields(8, 0)
@@ -89,4 +108,4 @@ def check_random(tell):
 
 
 if __name__ == "__main__":
-    sys.exit(status_of("notation_rows", check_rows, check_faults, check_random))
+    sys.exit(status_of("notation_rows", check_rows, check_faults, check_parted, check_random))

@@ -13,8 +13,9 @@ import sys
 import machine
 from checking import status_of
 from making.values import Values
-from model import commands, refusals
-from model.values import DOCUMENT
+from model import commands, refusals, values
+from model.messages import answer, message
+from model.values import ARRAY, DOCUMENT, INT32, TEXT
 from notation import document_of
 from prompt import guide, telling
 from prompt.completing import candidates
@@ -30,7 +31,7 @@ NAMES = ["orders", "spent"]
 
 # What is typed, with a bar where the word that Tab completes begins, and what may stand there.
 COMPLETED = [
-    ("|fin", []), ("{|fin", ["find: "]), ('{find: "|o', ["orders"]), ("{find: |", ['"orders"', '"spent"']),
+    ("|fin", []), ("{|fin", ["find: "]), ('{find: "|o', ["orders"]), ("{find: |", ['"orders"', '"spent"']), ('{find: "spent"|', []),
     ('{find: "c", |s', ["sort: ", "skip: ", "singleBatch: "]), ('{find: "c", filter: {a: {|$gt', ["$gt: ", "$gte: "]),
     ('{find: "c", filter: {|$o', ["$or: "]), ('{aggregate: "c", pipeline: [{|$l', ["$limit: ", "$lookup: "]),
     ('{aggregate: "c", pipeline: [{$group: {_id: "$a", n: {|$s', ["$sum: "]), ('{aggregate: "c", pipeline: [{$lookup: {|f', ["from: ", "foreignField: "]),
@@ -38,6 +39,12 @@ COMPLETED = [
     ('{update: "c", updates: [{q: {}, u: {|$', ["$inc: ", "$pull: ", "$push: ", "$set: ", "$unset: "]),
     ('{update: "c", updates: [{q: {}, u: {}, multi: |t', ["true"]), ('{delete: "c", deletes: [{q: {a: 1}, |l', ["limit: "]),
     ('{create: "v", viewOn: "|sp', ["spent"]), ('{insert: "c", documents: [{|a', []), ('{find: "c", filter: {a: "|o', []),
+]
+
+# What help is asked of, and what it tells among others.
+TOLD = [
+    ("$min", "the least"), ("$max", "the greatest value"), ("$literal", "is that value"), ("$each", "appends a value"), ("$push", "appends"),
+    ("$in", "one of the list"), ("lookup", "into each row"), ("more", "the next rows"), ("insert", "under its _id"), ("$x", "no operator"),
 ]
 
 # A command that is refused, with which code and for which statement, and a word of what may be wrong in it.
@@ -52,7 +59,8 @@ SUSPECTED = [
     ('{update: "c", updates: [{q: {}}]}', 9, 0, "u is missing"), ('{update: "c", updates: [{q: {}, w: {}}]}', 9, 0, "in updates.0 there is no field w"), ('{update: "c", updates: [{q: {}, u: {$inc: {a: "x"}}}]}', 14, 0, '$inc: {a: "x"}'),
     ('{update: "c", updates: [{q: {}, u: {a: 1}}]}', 28, 0, "updates.0"), ('{delete: "c", deletes: [{q: {}, limit: 2}]}', 2, 0, "limit: 2"),
     ('{explain: {count: "c"}}', 59, None, "a find alone"), ('{find: "c", filter: {a: {$regex: "b"}}}', 2, None, "$regex"),
-    ('{createIndexes: "c", indexes: [{key: {a: 1}}]}', 9, None, "the index"), ('{ping: 1, $db: "a.b"}', 2, None, "the database"),
+    ('{find: "c", projection: {a: 1}}', 9, None, "{} alone"), ('{aggregate: "c", pipeline: [{$group: {_id: 1, n: {$avg: "$a"}}}]}', 9, None, "$avg"),
+    ('{$db: "t"}', 59, None, "no command"), ('{explain: {find: "c", limt: 5}}', 9, None, "limit may be meant"), ('{createIndexes: "c", indexes: [{key: {a: 1}}]}', 9, None, "the index"), ('{ping: 1, $db: "a.b"}', 2, None, "the database"),
 ]
 
 
@@ -100,6 +108,9 @@ def check_help(tell):
     for table in (telling.FIELDS.values(), (telling.UPDATE_ENTRY, telling.DELETE_ENTRY)):
         for name, kind in (one for fields in table for one in fields.items()):
             tell(kind in telling.KINDS, "nothing tells what %s may be" % name)
+    for topic, word in TOLD:
+        told = " ".join(telling.help_of(topic, 100))
+        tell(word in told, "help %s tells: %s" % (topic, told))
 
 
 def check_completions(tell):
@@ -124,5 +135,15 @@ def check_layout(tell):
         tell("..cut" in text or document_of(text) == fields, "another is read than was laid out: " + text)
 
 
+def check_replies(tell):
+    deep = (INT32, 1)
+    for _ in range(values.MOST_LEVELS):
+        deep = (DOCUMENT, [(b"a", deep)])
+    for row in deep, (DOCUMENT, [(b"a", (TEXT, b"x" * (values.MOST_BYTES - 13)))]):
+        fields = [(b"cursor", (DOCUMENT, [(b"firstBatch", (ARRAY, [row]))]))]
+        tell(values.fits(row[1]) and answer(message(1, fields)) == fields, "a reply with a row at the limits isn't read")
+
+
 if __name__ == "__main__":
-    sys.exit(status_of("prompt_rows", check_codes, check_help, check_completions, check_suspects, check_layout))
+    sys.exit(status_of("prompt_rows", check_codes, check_help, check_completions, check_suspects, check_layout,
+                       check_replies))

@@ -35,8 +35,9 @@ class Asker:
         try:
             self.served = Served(port, lambda: tell(WAITS % port))
         except OSError as error:
-            raise NoDocd("nothing serves at %s (%s): start ./docd serve --port %d --connections 1000 in another terminal, or name "
-                         "its port; it ends behind the last of its connections" % (self.address, error.strerror, port)) from None
+            raise NoDocd("nothing serves at %s (%s): start ./docd serve --port %d --connections 1000000 in another terminal, or "
+                         "name its port; it ends behind the last of its connections" % (
+                             self.address, error.strerror, port)) from None
 
     def fields_of(self, line):
         """The fields of a line's command."""

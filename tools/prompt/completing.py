@@ -55,6 +55,8 @@ class Place:
             self.under = part.strip('"')
             if len(self.above) == 1 and not self.command:
                 self.command = self.under
+        elif not self.is_quoted:
+            self.under = None  # its value is there
 
     def names(self):
         """The names that may stand here."""

@@ -41,8 +41,8 @@ def sections(text):
 
 
 def plain(text):
-    """A text without marks of links."""
-    return LINK.sub(r"\1", text)
+    """A text without marks of links and of code."""
+    return LINK.sub(r"\1", text).replace("`", "")
 
 
 def anchor(heading):
@@ -109,6 +109,7 @@ def told_of(operator):
     """The paragraph and the example of the manual that tell of an operator, None for each that isn't there."""
     text = text_of(MANUAL)
     paragraphs = [one for one in re.split(r"\n\n+", BLOCK.sub("\n\n", text)) if one[:1] not in "#|->"]
-    told = [one for one in paragraphs if "`%s`" % operator in one]
-    told.sort(key=lambda one: one.find("`%s`" % operator))  # where it stands in front, the paragraph is about it
+    told = [one for one in paragraphs if "`%s`" % operator in one or "`{%s: " % operator in one]
+    # a paragraph that begins with operators tells what they do, and is about the one in front
+    told.sort(key=lambda one: (not one.startswith("`$"), one.find("`%s`" % operator)))
     return plain(told[0]) if told else None, example_with(text, "%s: " % operator)

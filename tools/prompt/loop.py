@@ -11,7 +11,7 @@ from prompt.asking import COMMAND, DATABASE
 from prompt.completing import Names, candidates
 from prompt.editing import Editing
 from prompt.layout import Layout, batch_of
-from prompt.watching import Refused, Watching, counted
+from prompt.watching import Refused, Watching, counted, tell_if_none
 
 NARROWEST = 40
 PROMPT, FURTHER = "> ", ".. "
@@ -113,7 +113,8 @@ class Prompt:
     def more_of(self, reply, cursor):
         """The command that gives the next rows."""
         database, _, name = dict(dict(reply)[b"cursor"][1])[b"ns"][1].partition(b".")
-        return [(b"getMore", cursor), (b"collection", (TEXT, name)), (DATABASE, (TEXT, database))]
+        return [(b"getMore", cursor), (b"collection", (TEXT, name)), (b"batchSize", (INT32, telling.MORE)),
+                (DATABASE, (TEXT, database))]
 
     def say(self, lines):
         if lines:
@@ -141,6 +142,7 @@ class Prompt:
     def watch(self, name):
         self.watching = Watching(name.strip('"')) if name else None
         if self.watching:
+            tell_if_none(self.asker, self.watching.view, tell)
             self.say(self.watching.look(self.asker, width()))
 
     def completions(self, text, word):

@@ -5,13 +5,14 @@ refuse with the reply's code is told.
 """
 import difflib
 
+from model import fields as kinds
 from model.commands import COMMANDS, LISTS, needed_by
 from model.fields import DELETE_ENTRY, FIELDS, IGNORED, UPDATE_ENTRY, check_fields
 from model.filters import LOGIC, OPERATORS as CONDITIONS, filter_of
 from model.indexes import entry_of
 from model.namespaces import database_name, namespace
 from model.paths import field_of, sort_of
-from model.pipelines import STAGES, pipeline_of
+from model.pipelines import ACCUMULATORS, STAGES, pipeline_of
 from model.refusals import (BAD_VALUE, COMMAND_NOT_FOUND, DUPLICATE_KEY, FAILED_TO_PARSE, IMMUTABLE_FIELD, NAMESPACE_EXISTS,
                             NAMESPACE_NOT_FOUND, ON_VIEW, READ_BY_VIEW, Refusal)
 from model.updates import OPERATORS as UPDATES, update_of
@@ -22,11 +23,21 @@ MOST = 60  # signs of a value that are shown
 ALIKE = 0.7  # how alike, of 1, a name is that may be meant
 OF_NAMES = NAMESPACE_NOT_FOUND, NAMESPACE_EXISTS, ON_VIEW, READ_BY_VIEW
 ENTRIES = {b"updates": UPDATE_ENTRY, b"deletes": DELETE_ENTRY}
+IN_STAGES = {*STAGES, *LOGIC, *CONDITIONS, *ACCUMULATORS, b"$literal"}
+KINDS = {
+    kinds.text: "a text", kinds.documents: "an array of documents", kinds.boolean: "true or false", kinds.document: "a document",
+    kinds.array: "an array of stages", kinds.natural: "a number from 0", kinds.any_number: "a number",
+    kinds.numbers: "an array of numbers", kinds.batch_document: "{batchSize: a number from 0}", kinds.find_document: "a find",
+    kinds.nothing_but_empty: "{} alone", kinds.anything: "anything", kinds.zero_or_one: "0, for all, or 1",
+    kinds.update_document: "operators, or a document in place of the old one", kinds.false_alone: "false alone",
+}
 
 
 def suspect(fields, code, index=None):
     """What may be wrong in a command that was refused with a code, or in its statement of an index; None where nothing shows."""
     name, value = fields[0]
+    if code == COMMAND_NOT_FOUND and name == b"$db":
+        return "no command stands in front"
     if code == COMMAND_NOT_FOUND:
         return "explain takes a find alone" if name in COMMANDS else misnamed("command", name, COMMANDS)
     if code in OF_NAMES and value[0] == TEXT:
@@ -85,6 +96,8 @@ def of_command(fields):
     yield "the database, %s" % short(dict(fields).get(b"$db", (TEXT, b""))), lambda: database_name(fields)
     if command not in FIELDS:
         return
+    if command == b"explain" and fields[0][1][0] == DOCUMENT:
+        yield from of_fields("in explain ", fields[0][1][1], FIELDS[b"find"], IGNORED)
     yield from of_fields("", fields, FIELDS[command], IGNORED | {b"$db"})
     for name in needed_by(command, dict(fields)):
         yield "the field %s is missing" % shown_name(name), lambda name=name: name in dict(fields) or refuse(FAILED_TO_PARSE)
@@ -97,7 +110,8 @@ def of_fields(place, fields, known, ignored=frozenset()):
     """Each field of a document at a place, where there may be these."""
     for name, value in fields:
         if name in known:
-            yield "%sthe field %s: %s" % (place, shown_name(name), short(value)), lambda name=name, value=value: known[name](*value)
+            told = "%sthe field %s: %s; it may be %s" % (place, shown_name(name), short(value), KINDS[known[name]])
+            yield told, lambda name=name, value=value: known[name](*value)
         else:
             one = [(name, value)]
             yield place + misnamed("field", name, known), lambda one=one: check_fields(one, known, ignored)
@@ -117,6 +131,8 @@ def held_in(fields):
         told = "stage %d of the pipeline: %s" % (place, short(stage))
         if stage[0] == DOCUMENT and stage[1] and stage[1][0][0] not in STAGES:
             told = misnamed("stage", stage[1][0][0], STAGES)
+        elif operator := unknown_in(stage, IN_STAGES):
+            told += "; " + misnamed("operator", operator, IN_STAGES)
         yield told, lambda stage=stage: pipeline_of([stage])
     for place, entry in enumerate(given.get(b"indexes", (ARRAY, []))[1]):
         yield "the index %s" % short(entry), lambda entry=entry: entry_of(entry[1])

@@ -1,30 +1,23 @@
 """What the prompt tells in words: its help, and what a refusal means."""
 import textwrap
 
-from model import fields as kinds
 from model.commands import COMMANDS, needed_by
 from model.fields import DELETE_ENTRY, FIELDS, IGNORED, UPDATE_ENTRY
 from model.values import ARRAY
 from prompt import guide
-from prompt.suspects import suspect
+from prompt.suspects import KINDS, suspect
 
+MORE = 101  # rows that the prompt's word `more` asks for
 WORDS = [
     ("help", "this; help find, help $set and help 11000 tell of a command, an operator and a code"),
     ("use NAME", "commands that name no database are of this one"),
-    ("more", "the next rows of the last answer"),
+    ("more", "the next rows of the last answer, %d at most" % MORE),
     ("whole", "the last answer, with nothing cut"),
     ("watch VIEW", "shows a view's rows behind each command that changes them; watch alone ends that"),
     ("exit", "ends, as Control-D does"),
 ]
 MOST = 5  # refused statements that something is told of
 ENTRIES = {b"update": ("updates", UPDATE_ENTRY), b"delete": ("deletes", DELETE_ENTRY)}
-KINDS = {
-    kinds.text: "a text", kinds.documents: "an array of documents", kinds.boolean: "true or false", kinds.document: "a document",
-    kinds.array: "an array of stages", kinds.natural: "a number from 0", kinds.any_number: "a number",
-    kinds.numbers: "an array of numbers", kinds.batch_document: "{batchSize: a number from 0}", kinds.find_document: "a find",
-    kinds.nothing_but_empty: "{} alone", kinds.anything: "anything", kinds.zero_or_one: "0, for all, or 1",
-    kinds.update_document: "operators, or a document in place of the old one", kinds.false_alone: "false alone",
-}
 
 
 def table(rows, width):
@@ -51,6 +44,10 @@ def help_of(topic, width):
     code = next((one for one in guide.codes().values() if name in (str(one.number), one.name)), None)
     if code:
         return wrapped(meaning(code), width)
+    if words := [row for row in WORDS if row[0].split()[0] == name]:
+        return [*table(words, width)]
+    if guide.told_of("$" + name)[0]:
+        return [*of_operator("$" + name, width)]
     return ["nothing is known of %s: help lists the commands" % name]
 
 
@@ -79,7 +76,7 @@ def of_command(name, width):
         yield "for example"
         yield from ("  " + line for line in example)
     yield "may be refused with"
-    yield from table([("%d %s" % (code.number, code.name), code.meaning.replace("`", "")) for code in guide.codes_of(name)], width)
+    yield from table([("%d %s" % (code.number, code.name), code.meaning) for code in guide.codes_of(name)], width)
     if row:
         yield "docs/MANUAL.md, \"%s\", tells more." % guide.section_at(row.place)[0]
 
@@ -94,14 +91,14 @@ def of_operator(name, width):
     if not told:
         yield "there is no operator %s: Tab lists those that may stand at a place" % name
         return
-    yield from wrapped(told.replace("`", ""), width)
+    yield from wrapped(told, width)
     if example:
         yield "for example"
         yield from ("  " + line for line in example)
 
 
 def meaning(code):
-    return "%d %s: %s" % (code.number, code.name, code.meaning.replace("`", ""))
+    return "%d %s: %s" % (code.number, code.name, code.meaning)
 
 
 def refusal_lines(fields, reply, width):

@@ -33,10 +33,12 @@ def answered(asker, fields):
     return batch_of(reply)
 
 
-def is_view(asker, view):
-    """Whether a view has the name."""
+def tell_if_none(asker, view, tell):
+    """Tells where no view has the name."""
     reply = asker.reply_to([(b"viewStats", (TEXT, view.encode())), (b"$db", (TEXT, asker.database.encode()))])
-    return dict(reply)[b"ok"][1] == 1
+    if dict(reply)[b"ok"][1] != 1:
+        tell("no view is named %s in the database %s: shown are the rows of a collection, where one has the name" % (
+            view, asker.database))
 
 
 def counted(rows):
@@ -71,9 +73,8 @@ def watch(port, database, view, every, width, tell):
     watching, is_first = Watching(view), True
     while True:
         asker = Asker(port, database, tell)
-        if is_first and not is_view(asker, view):
-            tell("no view is named %s in the database %s: shown are the rows of a collection, where one has the name" % (
-                view, database))
+        if is_first:
+            tell_if_none(asker, view, tell)
         is_first, lines = False, watching.look(asker, width())
         asker.close()
         if lines:
