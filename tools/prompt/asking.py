@@ -9,8 +9,8 @@ from served import NotDocd, Served
 COMMAND = re.compile(r"(?:(\d{0,3})>)?\s*(.*)", re.S)
 DATABASE = b"$db"
 ADDRESS = "127.0.0.1:%d"
-WAITS = ("no answer from %s yet: docd takes one connection after the other, and another one may be open, or what listens there "
-         "isn't docd (Control-C ends this)" % ADDRESS)
+WAITS = ("no answer from %s yet: docd takes one connection after the other, and another one may be open, or its last command at "
+         "work; or what listens there isn't docd (Control-C ends this)" % ADDRESS)
 
 
 class NoDocd(Exception):

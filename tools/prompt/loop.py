@@ -82,7 +82,11 @@ class Prompt:
             self.ask(self.asker.fields_of(text))
 
     def ask(self, fields):
-        reply = self.asker.reply_to(fields)
+        try:
+            reply = self.asker.reply_to(fields)
+        except KeyboardInterrupt:
+            tell("docd carries this command out to its end, and the next connection waits for that")
+            raise
         self.names.learn(fields, reply)
         self.show(fields, reply)
         if self.watching:
