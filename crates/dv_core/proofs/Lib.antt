@@ -25,6 +25,7 @@ mod Named
 mod Viewed
 mod SpelledRows
 mod SpelledErrors
+mod SpelledRefusals
 mod Spelled
 mod Shown
 mod Worked

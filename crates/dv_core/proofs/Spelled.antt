@@ -1,25 +1,24 @@
 -- Every reply has a spelling.
 use Rattle.std.proofs.lemmas.Bool.{ltb-true}
-use Rattle.std.proofs.Common.{◌≡◌, ◌⊎◌, inl, inr, ℤ, ◌&&◌, ℕ, suc, ◌+◌, ◌*◌, ◌≤◌, ◌<◌, ◌^◌, ◌-◌, min, Bool, true, false, not, Option, Some, None, nat_lt, List, [], ◌∷◌, ◌++◌, length, map, pos, negsuc, Result, Ok, Err, if◌then◌else◌, refl, sym, ap, subst, arith}
+use Rattle.std.proofs.Common.{◌≡◌, ◌⊎◌, inl, inr, ℤ, ◌&&◌, ℕ, suc, ◌*◌, ◌≤◌, ◌<◌, ◌^◌, ◌-◌, min, Bool, true, false, not, Option, Some, None, nat_lt, List, [], ◌∷◌, ◌++◌, length, map, pos, negsuc, Result, Ok, Err, if◌then◌else◌, refl, sym, ap, subst, arith}
 use Rattle.std.proofs.lemmas.Bool.Decides.{nat_tests}
 use Rattle.std.specs.List.{list_all, list_any}
 use Rattle.std.specs.Prelude.{codes}
 use Rattle.std.specs.Str.{bytes_eq}
 use Rattle.dv_bson.specs.declared.fault.BsonFault.TheVariants.{NoMemory}
 use Rattle.dv_bson.specs.Names.{has_name}
-use Rattle.dv_bson.specs.Spelling.{framed, element_spelling, counted, payload, spelling, IsValue, AreFields, AreElements}
-use Rattle.dv_bson.specs.Tree.{Tree, int32, int64, boolean, string, array, Field, fields_of, list_of_fields, elements_of}
+use Rattle.dv_bson.specs.Spelling.{spelling, IsValue, AreFields, AreElements}
+use Rattle.dv_bson.specs.Tree.{Tree, int64, string, array, Field, fields_of, list_of_fields, elements_of}
 use Rattle.dv_command.specs.Asked.{Asked, ViewOn, hello, ping, find, aggregate, get_more, kill_cursors, create, drop, create_indexes, drop_indexes, explain, view_stats, asked_by}
 use Rattle.dv_command.specs.Asked as asking
-use Rattle.dv_command.specs.Replies.{document_of, count, long_count, drop_reply, hello_reply, reply_of, refusal_reply, first_batch_reply, kill_cursors_reply, create_indexes_reply, drop_indexes_reply, view_stats_reply}
-use Rattle.dv_fields.specs.Refusals.{code, code_name, message_of}
+use Rattle.dv_command.specs.Replies.{document_of, count, long_count, drop_reply, reply_of, first_batch_reply, kill_cursors_reply, create_indexes_reply, drop_indexes_reply, view_stats_reply}
 use Rattle.dv_bson.specs.Results.{◌>>=◌}
 use Rattle.dv_command.specs.declared.command.Command.{Command}
 use Rattle.dv_core.specs.declared.outcome.Outcome.TheVariants.{Wanting}
 use Rattle.dv_fields.specs.declared.refusal.Refusal.{Refusal}
 use Rattle.dv_fields.specs.declared.refusal.Refusal.TheVariants.{BadValue, ConflictingUpdateOperators, DuplicateKey, WantOfMemory, TooLarge, LimitReached, NamespaceNotFound, IndexNotFound, CursorNotFound, NamespaceExists, OnView, ReadByView}
 use Rattle.dv_catalog.specs.Scan.{scan}
-use Rattle.dv_catalog.specs.IndexMaking.{Explained, Way, over_view, by_index, over_all, explained, indexes_created, indexes_dropped, with_all as with_all_entries, unless_broken, with_entries, with_index, without_named, within_limit}
+use Rattle.dv_catalog.specs.IndexMaking.{Explained, Way, over_view, by_index, over_all, explained, indexes_created, indexes_dropped, unless_broken, with_entries, with_index, without_named, within_limit}
 use Rattle.dv_views.specs.Forms.{ViewForm}
 use Rattle.dv_views.specs.declared.fault.ViewFault.{ViewFault}
 use Rattle.dv_views.specs.declared.fault.ViewFault.TheVariants.{Exists, NoMemory}
@@ -49,62 +48,11 @@ use Rattle.dv_core.specs.Indexes.{explained_reply, form_asked, index_count, inde
 use Rattle.dv_core.specs.More.{gone_ids, id_behind, missing_ids, next_of, cursor_number, rows_asked, rows_wanted, went_each}
 use Rattle.dv_core.specs.Sound.{AreShown, AreSoundCursors, HasSpelling, IsTold, IsSound, IsSoundCommand}
 use Rattle.dv_core.specs.Storable.{is_within_limits}
-use Rattle.dv_core.proofs.Spellings.{spelling-field, spelling-nil, length-int32, length-int64, length-string, sizes, array-bound}
+use Rattle.dv_core.proofs.Spellings.{spelling-field, length-int64, length-string, sizes, array-bound}
 use Rattle.dv_core.proofs.Texts.{are_ascii, IsUtf8-ascii}
-use Rattle.dv_core.proofs.SpelledRows.{first_name, id_valid, more_valid, next_name, number_valid, ok_fields, ok_size, ok_valid, ping_spelled, rows_spelled, spelled}
-use Rattle.dv_core.proofs.SpelledErrors.{CountsAreValid, IsTellable, count_size, cut_spelled, front_all, name_short, told_short, write_spelled, write_tellable}
-
--- ---- a greeting
-
-hello_size : length (spelling hello_reply) ≡ 155
-unfolding framed element_spelling payload counted
-hello_size = refl
-
-hello_spelled : HasSpelling hello_reply
-hello_spelled =
-    let fields6 : List Field = (codes "readOnly", boolean false) ∷ ok_fields in
-    let valid6 : AreFields (fields_of fields6) = more_valid (codes "readOnly") (boolean false) ok_fields refl refl refl (tt) ok_valid in
-    let fields5 : List Field = (codes "maxWireVersion", int32 (pos 17)) ∷ fields6 in
-    let valid5 : AreFields (fields_of fields5) = more_valid (codes "maxWireVersion") (int32 (pos 17)) fields6 refl refl refl (number_valid 17 (omega arith)) valid6 in
-    let fields4 : List Field = (codes "minWireVersion", int32 (pos 0)) ∷ fields5 in
-    let valid4 : AreFields (fields_of fields4) = more_valid (codes "minWireVersion") (int32 (pos 0)) fields5 refl refl refl (number_valid 0 (omega arith)) valid5 in
-    let fields3 : List Field = (codes "maxWriteBatchSize", int32 (pos 100000)) ∷ fields4 in
-    let valid3 : AreFields (fields_of fields3) = more_valid (codes "maxWriteBatchSize") (int32 (pos 100000)) fields4 refl refl refl (number_valid 100000 (omega arith)) valid4 in
-    let fields2 : List Field = (codes "maxMessageSizeBytes", int32 (pos 48000000)) ∷ fields3 in
-    let valid2 : AreFields (fields_of fields2) = more_valid (codes "maxMessageSizeBytes") (int32 (pos 48000000)) fields3 refl refl refl (number_valid 48000000 (omega arith)) valid3 in
-    let fields1 : List Field = (codes "maxBsonObjectSize", int32 (pos 16777216)) ∷ fields2 in
-    let valid1 : AreFields (fields_of fields1) = more_valid (codes "maxBsonObjectSize") (int32 (pos 16777216)) fields2 refl refl refl (number_valid 16777216 (omega arith)) valid2 in
-    let fields0 : List Field = (codes "isWritablePrimary", boolean true) ∷ fields1 in
-    let valid0 : AreFields (fields_of fields0) = more_valid (codes "isWritablePrimary") (boolean true) fields1 refl refl refl (tt) valid1 in
-    spelled hello_reply valid0 (omega (arith, hello_size))
-
--- ---- every command
-
-pub refusal_spelled : (refusal : Refusal) → IsTold refusal → HasSpelling (refusal_reply refusal)
-refusal_spelled refusal told =
-    let short = told_short refusal told in
-    let called = name_short refusal in
-    let name : List Field = (codes "codeName", string (code_name refusal)) ∷ [] in
-    let number : List Field = (codes "code", int32 (pos (code refusal))) ∷ name in
-    let message : List Field = (codes "errmsg", string (message_of refusal)) ∷ number in
-    spelled (refusal_reply refusal)
-    (more_valid (codes "ok") (int32 (pos 0)) message refl refl refl (number_valid 0 (omega arith))
-    (more_valid (codes "errmsg") (string (message_of refusal)) number refl refl refl short.text
-    (more_valid (codes "code") (int32 (pos (code refusal))) name refl refl refl (number_valid (code refusal) short.number) (more_valid (codes "codeName") (string (code_name refusal)) [] refl refl refl called.0 tt))))
-    (omega (
-      arith,
-      spelling-field (codes "ok", int32 (pos 0)) message,
-      length-int32 (pos 0),
-      spelling-field (codes "errmsg", string (message_of refusal)) number,
-      length-string (message_of refusal),
-      short.few,
-      spelling-field (codes "code", int32 (pos (code refusal))) name,
-      length-int32 (pos (code refusal)),
-      spelling-field (codes "codeName", string (code_name refusal)) [],
-      length-string (code_name refusal),
-      called.1,
-      spelling-nil,
-    ))
+use Rattle.dv_core.proofs.SpelledRows.{first_name, id_valid, more_valid, next_name, ok_fields, ok_size, ok_valid, ping_spelled, rows_spelled, spelled}
+use Rattle.dv_core.proofs.SpelledErrors.{CountsAreValid, IsTellable, count_size, cut_spelled, front_all, write_spelled, write_tellable}
+use Rattle.dv_core.proofs.SpelledRefusals.{hello_spelled, refusal_spelled}
 
 -- ---- batches
 

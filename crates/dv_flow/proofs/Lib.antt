@@ -2,6 +2,8 @@ pub mod Bounds
 pub mod Owed
 pub mod Forgetting
 pub mod Lawful
+pub mod Fronts
+pub mod LimitBound
 pub mod Limits
 pub mod Onto
 pub mod Sorted

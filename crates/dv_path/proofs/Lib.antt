@@ -6,6 +6,7 @@ pub mod Left
 pub mod Parsing
 pub mod Reach
 pub mod SpecParts
+pub mod WalkedArrays
 pub mod Walks
 pub mod Earliest
 pub mod KeySets

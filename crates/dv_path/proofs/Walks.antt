@@ -1,24 +1,22 @@
 -- What a walk reaches, step by step.
-use Rattle.std.proofs.Common.{◌≡◌, ℕ, zero, suc, ◌+◌, ◌<◌, ◌≤◌, ◌==◌, ◌&&◌, ◌||◌, nat_lt, ◌⊎◌, inl, inr, Bool, true, false, List, [], ◌∷◌, length, drop, Option, Some, None, slice_get, refl, ap, sym, ◌∙◌, arith, tests, rules}
+use Rattle.std.proofs.Common.{◌≡◌, ℕ, zero, suc, ◌+◌, ◌<◌, ◌≤◌, ◌==◌, ◌&&◌, ◌||◌, nat_lt, ◌⊎◌, inl, inr, Bool, true, false, List, [], ◌∷◌, length, drop, Option, Some, None, refl, ap, sym, ◌∙◌, arith, tests, rules}
 use Rattle.std.specs.Int.{bit_at}
 use Rattle.std.specs.Str.{bytes_eq}
 use Rattle.std.specs.List.{list_any}
 use Rattle.std.proofs.Math.Seq.{drop-length}
 use Rattle.std.proofs.lemmas.Nat.Bits.{bit_at-suc, bit_at-zero}
-use Rattle.std.proofs.lemmas.Bool.{or_cases, or_left, or_right, and_parts}
+use Rattle.std.proofs.lemmas.Bool.{or_cases, or_left, and_parts}
 use Rattle.std.proofs.lemmas.Slice.Eq.{bytes_eq-Decides}
-use Rattle.std.proofs.lemmas.Option.{slice_get_within}
 use Rattle.dv_bson.specs.declared.value.Value.{Value}
 use Rattle.dv_bson.specs.Tree.{Tree, document, array, Field, fields_of, list_of_fields, elements_of, list_of_elements}
 use Rattle.dv_bson.specs.Names.{value_under}
 use Rattle.dv_bson.specs.View.{tree}
 use Rattle.dv_path.specs.declared.places.Places.{Places}
-use Rattle.dv_path.specs.Path.{index_of}
 use Rattle.dv_path.specs.Candidates.{Candidate, step_from, whole}
 use Rattle.dv_path.specs.Fold.{PassesOne}
-use Rattle.dv_path.specs.Places.{has, passes_at, picks, follows, IsWithin, IsBefore, IsDocument, Reaches, ReachesElement}
+use Rattle.dv_path.specs.Places.{has, passes_at, picks, IsWithin, IsBefore, Reaches}
 use Rattle.dv_path.proofs.Bits.{none}
-use Rattle.dv_path.proofs.Reach.{name_at, passes_at-within, passes_at-before, hits, missing-hits, hits-document, hits-array-to, hits-array-from, hits-plain}
+use Rattle.dv_path.proofs.Reach.{name_at, passes_at-within, passes_at-before, hits, missing-hits, hits-document, hits-plain}
 
 pub list_of_fields_of : (fs : List Field) → list_of_fields (fields_of fs) ≡ fs
 list_of_fields_of [] = refl
@@ -28,11 +26,11 @@ pub list_of_elements_of : (vs : List Tree) → list_of_elements (elements_of vs)
 list_of_elements_of [] = refl
 list_of_elements_of (v ∷ vs) = ap (λ ws. v ∷ ws) (list_of_elements_of vs)
 
-picks-to : (k : ℕ) (o : Option ℕ) → picks k o ≡ true → o ≡ Some k
+pub picks-to : (k : ℕ) (o : Option ℕ) → picks k o ≡ true → o ≡ Some k
 picks-to k None h = absurd cc
 picks-to k (Some j) h = let same : j ≡ k = grind (arith, tests) in ap Some same
 
-picks-from : (k : ℕ) (o : Option ℕ) → o ≡ Some k → picks k o ≡ true
+pub picks-from : (k : ℕ) (o : Option ℕ) → o ≡ Some k → picks k o ≡ true
 picks-from k o e = rw e (let same : (k == k) ≡ true = grind (arith, tests) in same)
 
 -- some of a set of places, those whose components pass a test
@@ -120,12 +118,12 @@ module _ (names : List (List ℕ)) (s : Places) (before : IsBefore names s) wher
   pub reaches-missing : (v : Tree) (p : Candidate → Bool) → ((name : List ℕ) → step_from name (Some v) ≡ None ∷ []) → Reaches names s (Some v) p → p None ≡ true
   reaches-missing v p plain r = sym (hits-plain p names r.place v (before.before r.place r.inside) (name_at names r.place) (plain (name_at names r.place))) ∙ r.passes
 
-drop_behind : (names : List (List ℕ)) (place : ℕ) → drop place (drop 1 names) ≡ drop (suc place) names
+pub drop_behind : (names : List (List ℕ)) (place : ℕ) → drop place (drop 1 names) ≡ drop (suc place) names
 drop_behind [] zero = refl
 drop_behind [] (suc place) = refl
 drop_behind (name ∷ names) place = refl
 
-one_more : (m n : ℕ) → m < n + 1 → (m < n) ⊎ (m ≡ n)
+pub one_more : (m n : ℕ) → m < n + 1 → (m < n) ⊎ (m ≡ n)
 one_more m zero h = inr (omega arith)
 one_more zero (suc n) h = inl (omega arith)
 one_more (suc m) (suc n) h = elim (one_more m n (omega arith)) [ inl less ↦ inl (omega arith) | inr same ↦ inr (ap suc same) ]
@@ -335,123 +333,3 @@ module _ {names : List (List ℕ)} {s : Places} (fs : List Field) where
           | inr now ↦ inr (there-behind p r now)
         ]
       ]
-
--- ---- arrays
-module _ (names : List (List ℕ)) (s : Places) (vs : List Tree) where
-  -- what the elements before a place reach
-  pub record ReachesBelow (end : ℕ) (p : Candidate → Bool) : Type 0 where
-    pub index : ℕ
-    pub below : index < end
-    pub value : Tree
-    pub there : slice_get vs index ≡ Some value
-    pub reaches : ReachesElement names s index value p
-
-module _ {names : List (List ℕ)} {s : Places} (vs : List Tree) (before : IsBefore names s) where
-  pub element-whole : (index : ℕ) (v : Tree) → slice_get vs index ≡ Some v → (p : Candidate → Bool) → ReachesElement names s index v p → Reaches names s (Some (array (elements_of vs))) p
-  element-whole index v there p r = record {
-    place = r.place;
-    inside = r.inside;
-    passes = hits-array-from p names r.place (elements_of vs) index v (before.before r.place r.inside) (ap (λ ws. slice_get ws index) (list_of_elements_of vs) ∙ there) r.way;
-  }
-
-  pub below-whole : {end : ℕ} (p : Candidate → Bool) → ReachesBelow names s vs end p → Reaches names s (Some (array (elements_of vs))) p
-  below-whole p r = element-whole r.index r.value r.there p r.reaches
-
-  pub whole-below : {end : ℕ} → length vs ≤ end → (p : Candidate → Bool) → Reaches names s (Some (array (elements_of vs))) p → ReachesBelow names s vs end p
-  whole-below over p r =
-      let it = hits-array-to p names r.place (elements_of vs) (before.before r.place r.inside) r.passes in
-      let there : slice_get vs it.0 ≡ Some it.1 = ap (λ ws. slice_get ws it.0) (sym (list_of_elements_of vs)) ∙ it.2 in
-      record {
-        index = it.0;
-        below = let bound = slice_get_within vs it.0 it.1 there in omega arith;
-        value = it.1;
-        there = there;
-        reaches = record { place = r.place; inside = r.inside; way = it.3 };
-      }
-
-module _ {names : List (List ℕ)} {s : Places} (vs : List Tree) where
-  pub below-none : (p : Candidate → Bool) → ReachesBelow names s vs 0 p → ⊥
-  below-none p r = let below = r.below in omega arith
-
-  pub below-more : (index : ℕ) (v : Tree) → slice_get vs index ≡ Some v → (p : Candidate → Bool) → ReachesBelow names s vs (index + 1) p → ReachesBelow names s vs index p ⊎ ReachesElement names s index v p
-  below-more index v there p r = elim (one_more r.index index r.below) [
-    | inl less ↦ inl (record { index = r.index; below = less; value = r.value; there = r.there; reaches = r.reaches })
-    | inr same ↦
-        let is : slice_get vs index ≡ Some r.value = rw (← same) r.there in
-        let value : r.value ≡ v = cc in
-        inr (rw (← same, ← value) r.reaches)
-  ]
-
--- ---- elements
-follows-to : (inside : ℕ → Bool) (place : ℕ) → follows inside place ≡ true → (earlier : ℕ) × (place ≡ suc earlier) × (inside earlier ≡ true)
-follows-to inside zero h = absurd cc
-follows-to inside (suc place) h = (place, refl, h)
-
-module _ {names : List (List ℕ)} {s picking : Places} {test : List ℕ → Bool} (part : IsPart names s picking test) (before : IsBefore names s) (both : Places) (joined : (place : ℕ) → has both place ≡ (has s place || follows (has picking) place)) where
-  pub both-within : IsWithin names both
-  both-within = record {
-    within = λ place h. elim (or_cases (has s place) (follows (has picking) place) (sym (joined place) ∙ h)) [
-      | inl entering ↦ let bound = before.before place entering in omega arith
-      | inr behind ↦
-          let it = follows-to (has picking) place behind in
-          let bound = (part-before part).before it.0 it.2 in
-          let same = it.1 in
-          omega arith
-    ];
-  }
-
-module _ {names : List (List ℕ)} {s picking : Places} (index : ℕ) (v : Tree) (part : IsPart names s picking (λ name. picks index (index_of name))) where
-  pub picked-element : (p : Candidate → Bool) → Reaches (drop 1 names) picking (Some v) p → ReachesElement names s index v p
-  picked-element p r = record {
-    place = r.place;
-    inside = part-in part r.place r.inside;
-    way = inl (picks-to index (index_of (name_at names r.place)) (part-test part r.place r.inside), ap (λ ns. hits p ns (Some v)) (sym (drop_behind names r.place)) ∙ r.passes);
-  }
-
-  element-picked : IsBefore names s → (p : Candidate → Bool) (place : ℕ) → has s place ≡ true → index_of (name_at names place) ≡ Some index → hits p (drop (suc place) names) (Some v) ≡ true → Reaches (drop 1 names) picking (Some v) p
-  element-picked before p place inside here passes = record {
-    place = place;
-    inside = part-has part place inside (before.before place inside) (picks-from index (index_of (name_at names place)) here);
-    passes = ap (λ ns. hits p ns (Some v)) (drop_behind names place) ∙ passes;
-  }
-
-  -- an element that is no document is picked alone
-  pub element-only-picked : IsBefore names s → (IsDocument v → ⊥) → (p : Candidate → Bool) → ReachesElement names s index v p → Reaches (drop 1 names) picking (Some v) p
-  element-only-picked before none p r = elim r.way [
-    | inl w ↦ element-picked before p r.place r.inside w.0 w.1
-    | inr w ↦ absurd (none w.0)
-  ]
-
-  -- a document is picked or entered
-  pub entered-element : IsDocument v → (p : Candidate → Bool) → Reaches names s (Some v) p → ReachesElement names s index v p
-  entered-element d p r = record { place = r.place; inside = r.inside; way = inr (d, r.passes) }
-
-  pub element-either : IsBefore names s → (p : Candidate → Bool) → ReachesElement names s index v p → Reaches names s (Some v) p ⊎ Reaches (drop 1 names) picking (Some v) p
-  element-either before p r = elim r.way [
-    | inl w ↦ inr (element-picked before p r.place r.inside w.0 w.1)
-    | inr w ↦ inl (record { place = r.place; inside = r.inside; passes = w.1 })
-  ]
-
-  -- or both at once
-  module _ (before : IsBefore names s) (both : Places) (joined : (place : ℕ) → has both place ≡ (has s place || follows (has picking) place)) where
-    pub both-element : IsDocument v → (p : Candidate → Bool) → Reaches names both (Some v) p → ReachesElement names s index v p
-    both-element d p r = elim (or_cases (has s r.place) (follows (has picking) r.place) (sym (joined r.place) ∙ r.inside)) [
-      | inl entering ↦ record { place = r.place; inside = entering; way = inr (d, r.passes) }
-      | inr behind ↦
-          let it = follows-to (has picking) r.place behind in
-          picked-element p (record {
-            place = it.0;
-            inside = it.2;
-            passes = ap (λ ns. hits p ns (Some v)) (drop_behind names it.0) ∙ ap (λ place. hits p (drop place names) (Some v)) (sym it.1) ∙ r.passes;
-          })
-    ]
-
-    pub element-both : (p : Candidate → Bool) → ReachesElement names s index v p → Reaches names both (Some v) p
-    element-both p r = elim (element-either before p r) [
-      | inl e ↦ record { place = e.place; inside = joined e.place ∙ or_left (has s e.place) _ e.inside; passes = e.passes }
-      | inr e ↦ record {
-        place = suc e.place;
-        inside = joined (suc e.place) ∙ or_right (has s (suc e.place)) _ e.inside;
-        passes = ap (λ ns. hits p ns (Some v)) (sym (drop_behind names e.place)) ∙ e.passes;
-      }
-    ]

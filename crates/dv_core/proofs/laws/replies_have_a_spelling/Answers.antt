@@ -1,7 +1,8 @@
 use Rattle.dv_core.specs.State.{standing}
 use Rattle.dv_core.specs.declared.outcome.Outcome.TheVariants.{Wanting}
 use Rattle.dv_core.proofs.Bare.{bare}
-use Rattle.dv_core.proofs.Spelled.{refusal_spelled, replies_spelled, wanting_spelled}
+use Rattle.dv_core.proofs.Spelled.{replies_spelled, wanting_spelled}
+use Rattle.dv_core.proofs.SpelledRefusals.{refusal_spelled}
 use Rattle.dv_core.proofs.Viewed.{rows_valid}
 use Rattle.dv_core.proofs.laws.replies_have_a_spelling.Goals as goal
 

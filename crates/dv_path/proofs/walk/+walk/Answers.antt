@@ -11,7 +11,8 @@ use Rattle.dv_path.specs.Places.{has, picks}
 use Rattle.dv_path.proofs.Bits.{none}
 use Rattle.dv_path.proofs.Items.{document_tree, get_or_any, slice_get_seen, value_weighs_less, value_weighs_less_in, no_document, a_document}
 use Rattle.dv_path.proofs.Folds.{FoldsOver-none, FoldsOver-call, FoldsOver-more, FoldsOver-same, StopsAmong-call, StopsAmong-more, Folded-same, Folded-more, Folded-call}
-use Rattle.dv_path.proofs.Walks.{IsPart, part-before, part-reaches, reaches-before, reaches-end, end-reaches, plain-step, missing-reaches, reaches-missing, behind-within, value_at, IsSorted, IsSorted-none, there-none, IsSorted-skipped, there-skipped, IsSorted-missing, there-missing, IsSorted-found, there-found, behind-whole, missing-whole, whole-or-missing, whole-all-there, element-whole, whole-below, below-none, below-more, picked-element, element-only-picked, entered-element, element-either, both-element, element-both}
+use Rattle.dv_path.proofs.WalkedArrays.{element-whole, whole-below, below-none, below-more, picked-element, element-only-picked, entered-element, element-either, both-element, element-both}
+use Rattle.dv_path.proofs.Walks.{IsPart, part-before, part-reaches, reaches-before, reaches-end, end-reaches, plain-step, missing-reaches, reaches-missing, behind-within, value_at, IsSorted, IsSorted-none, there-none, IsSorted-skipped, there-skipped, IsSorted-missing, there-missing, IsSorted-found, there-found, behind-whole, missing-whole, whole-or-missing, whole-all-there}
 use Rattle.dv_path.proofs.walk.+walk.Goals as goal
 use Rattle.dv_path.proofs.walk.+walk.Goals.{fold_document-then-not-has-via-then-not-has, fold_document-then-not-has-via-else-not-has+then-has, fold_document-in-None, fold_document-in-Some+in_ok-folded-in-Some}
 

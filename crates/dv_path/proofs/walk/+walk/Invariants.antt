@@ -6,7 +6,8 @@ use Rattle.dv_bson.specs.Tree.{array}
 use Rattle.dv_path.specs.Fold.{FoldsOver}
 use Rattle.dv_path.specs.Places.{Reaches}
 use Rattle.dv_path.specs.View.{seen}
-use Rattle.dv_path.proofs.Walks.{Whole, ReachesThere, IsSorted, ReachesBelow}
+use Rattle.dv_path.proofs.WalkedArrays.{ReachesBelow}
+use Rattle.dv_path.proofs.Walks.{Whole, ReachesThere, IsSorted}
 use Rattle.dv_path.proofs.walk.+walk.Given as goal
 
 abbrev pub decreases-fold_value : goal.decreases-fold_value

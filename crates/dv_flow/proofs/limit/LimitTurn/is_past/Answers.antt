@@ -1,7 +1,7 @@
 -- As the last of the rows tells.
 use Rattle.std.proofs.Common.{rules, ◌≡◌, ◌∙◌, ◌-◌, length, slice_get, Some, is_gt}
 use Rattle.dv_change.specs.Positions.{pos_order}
-use Rattle.dv_flow.proofs.Limits.{past-is}
+use Rattle.dv_flow.proofs.Fronts.{past-is}
 use Rattle.dv_flow.proofs.limit.LimitTurn.is_past.Goals as goal
 
 pub returns-in-Some : goal.returns-in-Some

@@ -1,6 +1,6 @@
 -- Where the front is full, the place of its last row.
 use Rattle.std.proofs.Common.{rules, ◌≡◌, ◌∙◌, ◌<◌, ◌≤◌, ◌-◌, ap, arith, length, slice_get, sym, Some}
-use Rattle.dv_flow.proofs.Limits.{last-empty, last-is, last-none, no-length}
+use Rattle.dv_flow.proofs.Fronts.{last-empty, last-is, last-none, no-length}
 use Rattle.dv_flow.proofs.limit.LimitTurn.last_place.Goals as goal
 
 pub returns-then-len-self : goal.returns-then-len-self

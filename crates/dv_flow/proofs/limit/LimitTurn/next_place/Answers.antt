@@ -1,6 +1,6 @@
 -- The place of the first of the others.
 use Rattle.std.proofs.Common.{rules, ◌≡◌, ◌∙◌, ap, slice_get, sym, Some}
-use Rattle.dv_flow.proofs.Limits.{next-empty, next-first, next-is, no-length}
+use Rattle.dv_flow.proofs.Fronts.{next-empty, next-first, next-is, no-length}
 use Rattle.dv_flow.proofs.limit.LimitTurn.next_place.Goals as goal
 
 pub returns-in_ok-try_clone-in-Some : goal.returns-in_ok-try_clone-in-Some

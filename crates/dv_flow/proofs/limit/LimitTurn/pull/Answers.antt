@@ -1,7 +1,7 @@
 -- The first of the others stands behind the front.
 use Rattle.std.proofs.Common.{rules, ◌≡◌, ◌∙◌, ◌∷◌, ◌<◌, ap, arith, length, subst, sym}
 use Rattle.dv_change.specs.Changes.{IsPositioned, Positioned}
-use Rattle.dv_flow.proofs.Limits.{cut-full, pulled, pulled-length}
+use Rattle.dv_flow.proofs.Fronts.{cut-full, pulled, pulled-length}
 use Rattle.dv_flow.proofs.limit.LimitTurn.pull.Goals as goal
 
 pub returns-in_ok-insert : goal.returns-in_ok-insert

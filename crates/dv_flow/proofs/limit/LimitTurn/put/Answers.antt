@@ -3,7 +3,7 @@ use Rattle.std.proofs.Common.{◌≡◌, ◌∙◌, ◌++◌, ap, arith, is_some
 use Rattle.dv_change.specs.Changes.{IsPositioned, Positioned}
 use Rattle.dv_change.specs.Ordered.{put}
 use Rattle.dv_change.specs.RowLaws.{positioned-put}
-use Rattle.dv_flow.proofs.Limits.{at-most-one, cut-length, ok-one, put-within}
+use Rattle.dv_flow.proofs.Fronts.{at-most-one, cut-length, ok-one, put-within}
 use Rattle.dv_flow.proofs.limit.LimitTurn.put.Goals as goal
 
 pub spill-requires : goal.spill-requires

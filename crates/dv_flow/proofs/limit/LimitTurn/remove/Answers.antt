@@ -4,7 +4,7 @@ use Rattle.dv_change.specs.Changes.{IsPositioned, Positioned, at}
 use Rattle.dv_change.specs.Ordered.{gone}
 use Rattle.dv_change.specs.RowLaws.{positioned-gone}
 use Rattle.dv_flow.specs.Placed.{front_at}
-use Rattle.dv_flow.proofs.Limits.{cut-length, cut-others, gone-behind, gone-front, gone-none, ok-one}
+use Rattle.dv_flow.proofs.Fronts.{cut-length, cut-others, gone-behind, gone-front, gone-none, ok-one}
 use Rattle.dv_flow.proofs.limit.LimitTurn.remove.Goals as goal
 
 pub pull-requires : goal.pull-requires

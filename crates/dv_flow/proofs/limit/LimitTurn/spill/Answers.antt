@@ -2,7 +2,7 @@
 use Rattle.std.proofs.Common.{rules, ◌≡◌, ◌∙◌, ◌∷◌, ◌++◌, [], ap, arith, length, subst, sym}
 use Rattle.std.proofs.lemmas.List.{length_push}
 use Rattle.dv_change.specs.Changes.{IsPositioned, Positioned}
-use Rattle.dv_flow.proofs.Limits.{cut-full, spilled}
+use Rattle.dv_flow.proofs.Fronts.{cut-full, spilled}
 use Rattle.dv_flow.proofs.limit.LimitTurn.spill.Goals as goal
 
 pub returns-in_ok-insert : goal.returns-in_ok-insert

@@ -5,7 +5,8 @@ use Rattle.dv_change.specs.DiffLaws.{positioned-changed}
 use Rattle.dv_change.specs.Raised.{raised}
 use Rattle.dv_flow.specs.Limiting.{is_past, limit_left}
 use Rattle.dv_flow.specs.Placed.{front_at}
-use Rattle.dv_flow.proofs.Limits.{changed-past, cut-full, cut-length, limit-handed, nothing-owed, ok-one, positioned-rest}
+use Rattle.dv_flow.proofs.Fronts.{changed-past, cut-full, cut-length, nothing-owed, ok-one, positioned-rest}
+use Rattle.dv_flow.proofs.Limits.{limit-handed}
 use Rattle.dv_flow.proofs.limit.LimitTurn.take.Goals as goal
 
 pub take_in-requires : goal.take_in-requires
