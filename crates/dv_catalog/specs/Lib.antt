@@ -6,7 +6,7 @@ pub mod Views
 pub mod IndexMaking
 pub mod Told
 pub mod Marks
--- words that only bodies need
+-- words of bodies, and of this crate's own contracts
 pub mod StateCode
 pub mod View
 pub mod ScanParts

@@ -23,7 +23,7 @@ owed_by input change makes named rows = diff (makes named rows) (makes (others_a
 abbrev pub owed : Input → Change → Form → Positioned → List Change
 owed input change form rows = owed_by input change form.makes form.named rows
 
--- the changes that a stage hands on for changes of its rows, one after the other; it makes the one of the other
+-- the changes that a stage hands on for changes of its rows, one after the other, by what it makes of rows
 abbrev pub handed : (Positioned → Positioned) → Positioned → List Change → List Change
 handed makes rows [] = []
 handed makes rows (change ∷ changes) = diff (makes rows) (makes (with_change rows change)) ++ handed makes (with_change rows change) changes

@@ -13,7 +13,7 @@ ghost use Rattle.dv_change.specs.Positions.{IsExact, PosTree, pos_order};
 ghost use Rattle.dv_change.specs.Raised.{raised};
 ghost use Rattle.dv_change.specs.Work.{pass_in, work_in};
 
-/// Positions that stand beside each other are one, where their keys are those of values.
+/// Positions that stand beside each other are one, where their keys are those of values, or the one that no value has.
 #[tactic(auto, using(crate::proofs::Lawful::lawful))]
 pub fn equal_positions_are_one()
     ensures { (p q : PosTree) → IsExact p → IsExact q → pos_order p q ≡ Equal → p ≡ q }

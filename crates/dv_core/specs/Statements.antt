@@ -67,7 +67,7 @@ module _ (namespace : List ℕ) (ordered : Bool) where
 
 -- ---- a command of statements
 
--- its reply, by how many documents its statements are counted for, how many changes they made, and their errors
+-- where it writes, whether an error ends it, its statements, and its reply, by how many documents they are counted for, their changes and errors
 pub record WriteCounts : Type 0 where
   pub namespace : List ℕ
   pub ordered : Bool

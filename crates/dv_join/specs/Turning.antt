@@ -18,7 +18,7 @@ has_local l k d = is_some_key k (joined_by l.local d)
 abbrev pub has_foreign : Lookup → KeyTree → List Field → Bool
 has_foreign l k d = is_some_key k (leaf_values l.foreign d)
 
--- the same, where there may be none
+-- a test of a document, where there may be none
 abbrev pub if_any : (List Field → Bool) → Option (List Field) → Bool
 if_any test None = false
 if_any test (Some d) = test d

@@ -1,4 +1,4 @@
--- What changes of a collection make of its documents, and what they may make of views.
+-- What changes of a collection make of its documents, and which changes it makes.
 use Rattle.std.specs.Prelude.{◌≡◌, ℕ, List, [], ◌∷◌, IsSome, if◌then◌else◌, ⊤}
 use Rattle.std.specs.List.{AllByRecursion}
 use Rattle.std.specs.Str.{bytes_eq}

@@ -11,7 +11,7 @@ use dv_change::{Change, Part, Pos};
 use dv_order::{Key, key_of};
 use std::alloc::Global;
 
-/// The document, which is shared, put at its own position. Fails where memory is wanting.
+/// The document, which is shared and begins with its `_id`, put at its own position. Fails where memory is wanting.
 pub fn document_put(alloc: Global, document: &Document) -> Result<Change, NoMemory>
     requires { HasId document.now }
     ensures { IfOk result (λ change. change ≡ Put (own_position document.now) document.now) }
@@ -31,7 +31,7 @@ pub fn document_gone(alloc: Global, key: Key) -> Result<Change, NoMemory>
     })
 }
 
-/// The key of the document's `_id`. Fails where memory is wanting.
+/// The key of the `_id` with which the document begins. Fails where memory is wanting.
 pub fn key_of_id(document: &Document) -> Result<Key, NoMemory>
     requires { HasId document.now }
     ensures { IfOk result (λ key. key ≡ id_key document.now) }

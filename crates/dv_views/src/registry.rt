@@ -197,8 +197,8 @@ impl Registry {
         Some(ViewFault::LimitReached)
     }
 
-    /// Adds a view behind the others, with the rows that its pipeline gives over what stands under the names that it reads:
-    /// views, of which the stale ones that are needed are made anew first, and `sources`. Refused with the first fault that
+    /// Adds a view behind the others, with the rows that its pipeline gives over what it reads: views, of which the stale ones
+    /// that are needed are made anew first, and `sources`, each in the order of its `_id`s. Refused with the first fault that
     /// holds of `Exists`, `ReadByView` and `LimitReached`, which takes no memory; then nothing is changed. Where none holds,
     /// refused with `NoMemory` if memory is wanting; then views that were made anew before stay so. The pipeline is dropped.
     pub fn create(
@@ -271,8 +271,8 @@ impl Registry {
     /// Carries changes that were made to the documents under the namespace on to the views that stand over it: each change
     /// goes to each view in creation order before the next one, and there to the source first and then to each list that a
     /// stage looks into; what changes of a view's rows goes to the views that read it, one change after the other. A view
-    /// counts the work that this takes. One that finds no memory drops what it keeps and is stale, which takes none, and so
-    /// is each that reads it; so is one with a `$push` over a group of more than 256 rows, whose rows are made anew.
+    /// counts the work that this takes. One that finds no memory drops what it keeps and is stale, which takes none. So is
+    /// one whose rows were made anew, one with a `$push` over a group of more than 256 rows, and each that reads a stale one.
     pub fn apply(&mut self, namespace: &str, changes: &[Change])
         ensures forms { map view_form self.new ≡ map view_form self.old }
         ensures right { (lists : Lists) → AreMade changes.now (lists namespace.now) → AreRight lists self.old → AreRight (with_changed namespace.now changes.now lists) self.new }
@@ -307,9 +307,9 @@ impl Registry {
         }
     }
 
-    /// Makes the stale views of these names anew, in creation order, over older views and `sources`. The names are such as
-    /// `needed` gives: with each view those that it reads. Fails where memory is wanting; then views that were made anew
-    /// before stay so.
+    /// Makes the stale views of these names anew, in creation order, over older views and `sources`, each in the order of its
+    /// `_id`s. The names are such as `needed` gives: with each view those that it reads. Fails where memory is wanting; then
+    /// views that were made anew before stay so.
     pub fn refresh(&mut self, names: &[Str], sources: &Sources<'_>) -> Result<(), NoMemory>
         requires closed { forms.IsClosed names.now (map view_form self.old) }
         requires read { AllByRecursion (λ n. AreInOrder (lists_of sources.now n)) names.now }

@@ -37,7 +37,7 @@ pub(crate) struct View {
 pub(crate) enum Mark {
     /// Its rows, kept by changes.
     Live(Live<Turner>),
-    /// Its rows, made anew behind a change.
+    /// Its rows, made anew, until what it reads changes.
     Made(Vec<Document>),
     /// Nothing, since its rows have to be made anew.
     Stale,
