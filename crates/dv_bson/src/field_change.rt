@@ -34,7 +34,7 @@ impl Document {
     /// Makes the change of the field under the name. Memory is taken for a field or an element that comes, and where a copy
     /// shares the fields: then these are copied first. Fails where it is wanting; then nothing is changed, and the value is
     /// dropped. A value that comes in place of another one takes time logarithmic in the number of fields; where the length
-    /// of the spelling is kept, both values are measured besides.
+    /// of the spelling is kept, both values are measured besides. The name holds no zero byte.
     pub fn change_field(&mut self, name: &str, change: FieldChange) -> Result<(), NoMemory>
         requires { has_zero name.now ≡ false }
         ensures ok { OnOk result (self.new ≡ with_field_changed name.now change self.old) }

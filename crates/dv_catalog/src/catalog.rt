@@ -97,7 +97,7 @@ impl Catalog {
 
     /// Puts a document into the collection of a namespace, which is made where it isn't there. Refused with
     /// `DuplicateKey` where a document has an equal `_id`, or one has a key of it in a unique index, and with
-    /// `WantOfMemory`; then nothing is changed, and no collection is made.
+    /// `WantOfMemory`; then nothing is changed, and no collection is made. No view stands there.
     pub fn insert(&mut self, namespace: &str, document: Document) -> Result<(), Stopped>
         requires identified { HasId document }
         requires collection { is_view namespace.now self.old.state.views ≡ false }
@@ -118,7 +118,7 @@ impl Catalog {
 
     /// Updates the documents of a namespace that an updating is for. Refused as the first of them is, then with
     /// `DuplicateKey` where one of the changes, made one after the other, would put a key of a unique index under two `_id`s;
-    /// then nothing is changed. Where memory is wanting, the first so many changes, not all of them, are made.
+    /// then nothing is changed. Where memory is wanting, the first so many changes, not all, are made. No view stands there.
     pub fn update(&mut self, namespace: &str, updating: &Updating) -> Result<Counted, Stopped>
         requires { is_view namespace.now self.old.state.views ≡ false }
         ensures made { Makes (λ counted. counted) namespace.now (effects.update_chosen (updating_seen updating.now)) self.old.state.namespaces result self.new.state.namespaces }
@@ -135,7 +135,7 @@ impl Catalog {
     }
 
     /// Takes out the documents of a namespace that a deletion is for. Where memory is wanting, the first so many, not all of
-    /// them, are taken out.
+    /// them, are taken out. No view stands there.
     pub fn delete(&mut self, namespace: &str, deletion: &Deletion) -> Result<Counted, Stopped>
         requires { is_view namespace.now self.old.state.views ≡ false }
         ensures made { Makes (λ counted. counted) namespace.now (effects.delete_chosen (deletion_seen deletion.now)) self.old.state.namespaces result self.new.state.namespaces }

@@ -19,7 +19,7 @@ pub struct Taken {
     pub new: Option<Document>,
 }
 
-/// Takes a change into the rows. Fails where memory is wanting.
+/// Takes a change into the rows, which stand in the order of their positions. Fails where memory is wanting.
 pub fn take_in(rows: &mut BTreeMap<Pos, Document>, change: Change) -> Result<Taken, NoMemory>
     requires { IsPositioned rows.old.entries }
     ensures exact { IsExactChange change }

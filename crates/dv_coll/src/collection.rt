@@ -130,7 +130,7 @@ impl Collection {
     /// Makes the change of the field under the name, in the document under the key of its `_id`, and answers whether there is
     /// such a document. Where there is none, nothing is changed, and the value is dropped. The document is changed in place,
     /// unless a copy shares its fields: then these are copied first. Fails where memory is wanting for that, or for a field or
-    /// an element that comes; then nothing is changed.
+    /// an element that comes; then nothing is changed. The name is not `_id`, and holds no zero byte.
     #[tactic(auto, using(crate::proofs::Changed::changed))]
     pub fn change_field(
         &mut self,

@@ -20,7 +20,7 @@ use dv_path::{Candidate, Path, any_leaf};
 use std::alloc::Global;
 
 /// How many documents a plan covers: those that have a leaf in its bounds, Missing counting as null, and for a scan all.
-/// Fails where memory is wanting.
+/// The indexes have the keys of the collection's documents. Fails where memory is wanting.
 pub fn covered(
     alloc: Global,
     plan: &Plan<'_>,

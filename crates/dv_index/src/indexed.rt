@@ -135,8 +135,8 @@ impl IndexedCollection {
     }
 
     /// Puts the document in place of the one with an equal `_id`, and answers whether there is one. Where there is none,
-    /// nothing is changed, and the document is dropped. Fails where memory is wanting for the keys that it has and the other
-    /// one had not; then nothing is changed.
+    /// nothing is changed, and the document is dropped. Fails where memory is wanting for the keys of both, of which there are
+    /// none without an index beside that on `_id`; then nothing is changed.
     pub fn replace(&mut self, document: Document) -> Result<bool, NoMemory>
         requires { HasId document }
         ensures found { IfOk result (λ replaced. replaced ≡ is_some (found (id_key document) self.old.documents)) }
@@ -157,7 +157,7 @@ impl IndexedCollection {
     /// Makes the change of the field under the name, in the document under the key of its `_id`, and answers whether there is
     /// such a document. Where there is none, nothing is changed, and the value is dropped. Where no index's path begins with
     /// the name, the document is changed in place, as `Collection::change_field` does it. Fails where memory is wanting; then
-    /// nothing is changed.
+    /// nothing is changed. The name is not `_id`, and holds no zero byte.
     pub fn change_field(
         &mut self,
         key: &Key,
@@ -249,7 +249,7 @@ impl IndexedCollection {
     }
 
     /// Whether one of the documents that come can't stand among the documents, each put in place of the one that it replaces,
-    /// one after the other. Nothing is changed. Fails where memory is wanting for the keys that come and go.
+    /// in the order of their `_id`s. Nothing is changed. Fails where memory is wanting for the keys that come and go.
     pub fn replacing_clashes(&self, each: &[Replacing<'_>]) -> Result<bool, NoMemory>
         requires standing { AreStanding self.now.documents (befores each.now) }
         requires same_ids { map id_key (afters each.now) ≡ map id_key (befores each.now) }

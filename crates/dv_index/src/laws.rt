@@ -95,7 +95,7 @@ pub fn fewer_indexes_break_no_more()
     ensures { (p : IndexForm → Bool) (indexes : List IndexForm) (ds : List (List Field)) → are_broken indexes ds ≡ false → are_broken (kept p indexes) ds ≡ false }
 {}
 
-/// One of some indexes and of others is broken where one of the ones is, or one of the others.
+/// Of indexes and others behind them one is broken where one of the first is, or one of the others.
 #[tactic(auto, using(crate::proofs::Apart::one_by_one))]
 pub fn indexes_break_one_by_one()
     ensures { (xs ys : List IndexForm) (ds : List (List Field)) → are_broken (xs ++ ys) ds ≡ (are_broken xs ds || are_broken ys ds) }

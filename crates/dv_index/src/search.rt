@@ -31,7 +31,7 @@ use dv_order::{Key, key_of, laws};
 use std::alloc::Global;
 
 /// The documents that match the filter, in the order of their `_id`s. By an index no more are looked at than stand under the
-/// keys in the plan's bounds. Fails where memory is wanting.
+/// keys in the plan's bounds. The plan is the filter's, the indexes have the collection's keys. Fails where memory is wanting.
 pub fn run<'c>(
     alloc: Global,
     plan: &Plan<'_>,

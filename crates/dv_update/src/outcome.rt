@@ -66,9 +66,9 @@ impl Update {
         }
     }
 
-    /// What the update makes of the document, which stays as it is: what `apply` makes of it, and refused as there. Where
-    /// one value that is no document or array comes under the sole name, or behind the elements of the array there, nothing
-    /// else is copied, and `Field` tells that change alone. `Same` is told exactly where the document stays as it is spelled.
+    /// What the update makes of the document, which stays as it is: what `apply` makes of it, and refused as there. Where one
+    /// value that is no document or array comes under the sole name, or behind the array's elements there, and surely has room,
+    /// nothing else is copied: `Field` tells that alone. `Same` is told exactly where the document stays as it is spelled.
     pub fn outcome(&self, alloc: Global, document: &Document) -> Result<Outcome, UpdateFault>
         ensures applied { Gives (λ outcome. defined.outcome_seen (defined.sole_name (update self.now)) document.now outcome) result (applied (update self.now) document.now) }
         ensures same { IfOk result (λ outcome. defined.stays outcome ≡ defined.stays_so (defined.sole_name (update self.now)) document.now outcome) }
