@@ -23,7 +23,7 @@ use Rattle.dv_flow.specs.Placed.{front_at}
 
 -- ---- what a change makes of the first rows, at positions that stand beside neither its own nor the edge
 
-pub abbrev is_beside : PosTree → Option PosTree → Bool
+abbrev pub is_beside : PosTree → Option PosTree → Bool
 is_beside q None = false
 is_beside q (Some p) = is_eq (pos_order q p)
 
