@@ -1,5 +1,5 @@
 -- Which documents a find answers with, and in which order (MongoDB manual, "find", "Sort Consistency"). That those which stand beside
--- each other in a sort, and all where there is no sort, come in the order of their `_id`s is this server's own.
+-- each other in a sort, and all where there is no sort, come as they stand, in a collection by their `_id`s, is this server's own.
 use Rattle.std.specs.Prelude.{ℕ, zero, suc, List, take, drop}
 use Rattle.std.specs.List.{filter}
 use Rattle.dv_bson.specs.Tree.{Field}
