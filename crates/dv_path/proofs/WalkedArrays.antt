@@ -2,7 +2,7 @@
 use Rattle.std.proofs.Common.{◌≡◌, ℕ, zero, suc, ◌+◌, ◌<◌, ◌≤◌, ◌||◌, ◌⊎◌, inl, inr, Bool, true, List, length, drop, Some, slice_get, refl, ap, sym, ◌∙◌, arith}
 use Rattle.std.proofs.lemmas.Bool.{or_cases, or_left, or_right}
 use Rattle.std.proofs.lemmas.Option.{slice_get_within}
-use Rattle.dv_bson.specs.Tree.{Tree, document, array, elements_of}
+use Rattle.dv_bson.specs.Tree.{Tree, array, elements_of}
 use Rattle.dv_path.specs.declared.places.Places.{Places}
 use Rattle.dv_path.specs.Path.{index_of}
 use Rattle.dv_path.specs.Candidates.{Candidate}

@@ -8,7 +8,7 @@ use Rattle.std.proofs.lemmas.Nat.Bits.{bit_at-suc, bit_at-zero}
 use Rattle.std.proofs.lemmas.Bool.{or_cases, or_left, and_parts}
 use Rattle.std.proofs.lemmas.Slice.Eq.{bytes_eq-Decides}
 use Rattle.dv_bson.specs.declared.value.Value.{Value}
-use Rattle.dv_bson.specs.Tree.{Tree, document, array, Field, fields_of, list_of_fields, elements_of, list_of_elements}
+use Rattle.dv_bson.specs.Tree.{Tree, document, Field, fields_of, list_of_fields, elements_of, list_of_elements}
 use Rattle.dv_bson.specs.Names.{value_under}
 use Rattle.dv_bson.specs.View.{tree}
 use Rattle.dv_path.specs.declared.places.Places.{Places}
