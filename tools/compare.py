@@ -4,7 +4,8 @@
 Needs the built program (run ./docd once). The same seed makes the same scripts (`tools/random_scripts.py`). They have
 the commands that docd has, good ones and ones with every kind of fault, in sessions that end and open again, in messages
 cut anywhere into lines; a few scripts at the limits of sizes and counts come last. The first script that docd answers in
-another way than the model is cut down and printed with both answers, and the exit status is 1.
+another way than the model is cut down and printed with both answers, and the exit status is 1. How far it is stands on standard
+error; a script takes a quarter of a second to a whole one.
 
     python3 tools/compare.py
     python3 tools/compare.py --seed 7 --count 10000 --program crates/docd/out/docd
@@ -26,6 +27,7 @@ from program import parsed
 from random_scripts import Maker
 
 MOST_TRIES = 3_000  # runs of docd that cutting a script down may take
+A_LOOK = 500  # scripts from one line of how far it is to the next
 
 
 def answers(program, lines):
@@ -167,6 +169,8 @@ def main():
             return 1
         messages += maker.messages
         count_replies(wanted[1], seen)
+        if (place - given.start + 1) % A_LOOK == 0:
+            print("compare: no difference in %d scripts so far" % (place - given.start + 1), file=sys.stderr, flush=True)
     for place, lines in enumerate(edges()):
         said, wanted = answers(given.program, lines)
         if said != wanted:
