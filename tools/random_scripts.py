@@ -31,6 +31,7 @@ class Maker(Commands):
     def __init__(self, rng):
         super().__init__(rng)
         self.messages = 0
+        self.is_crowded = False  # whether there are many documents
 
     def first(self, name=b"c", count=None):
         """An insert of some documents into a collection, so that something is there."""
@@ -48,10 +49,12 @@ class Maker(Commands):
         return data
 
     def views(self):
-        """Views of what is there, in some scripts, and another collection into which they may look; and towers of views."""
+        """Views of what is there, in some scripts, and another collection into which they may look; and towers of views, over few
+        documents alone, since their lookups may give each row all others."""
         names = [b"v", b"w", b"x"][:self.rng.choice([0, 1, 2, 3])]
         made = ([self.first(b"d")] if names else []) + [self.asked(self.view(name)) for name in names]
-        return made + ([self.asked(self.of_tower(*one)) for one in enumerate(self.tower())] if self.often(0.25) else [])
+        return made + ([self.asked(self.of_tower(*one)) for one in enumerate(self.tower())]
+                       if self.often(0.25) and not self.is_crowded else [])
 
     def views_of_each_stage(self):
         """The commands that make a view of each stage, named after it. No random command has such a name."""
@@ -165,6 +168,7 @@ class Maker(Commands):
         """Many documents, and an index on a field that some of them have, in a few scripts."""
         if self.often(0.92):
             return []
+        self.is_crowded = True
         entry = [(b"key", document([(self.rng.choice([b"a", b"b"]), number(1))])), (b"name", text(b"i"))]
         return [self.first(count=self.rng.randint(80, 200)),
                 self.asked([(b"createIndexes", text(b"c")), (b"indexes", array([document(entry)]))])]

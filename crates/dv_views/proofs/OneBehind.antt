@@ -10,7 +10,7 @@ use Rattle.dv_change.specs.declared.input.Input.TheVariants.{Left, Named}
 use Rattle.dv_change.specs.Changes.{IsPositioned, Positioned, with_change, with_changes}
 use Rattle.dv_pipe.specs.Stages.{Lists, evaluated, is_read}
 use Rattle.dv_pipe.specs.declared.stage.Stage.{Stage}
-use Rattle.dv_views.specs.Flow.{Arrival, Told, arrivals, arriving, arriving_at_lists, handed_by, is_reached, outs_made, taken_after, flow_with_told}
+use Rattle.dv_views.specs.Flow.{Arrival, Told, arrivals, arriving, arriving_at_lists, handed_by, is_reached, nothing, outs_made, taken_after, flow_with_told}
 use Rattle.dv_views.specs.Forms.{AreFounded, ViewForm, is_name_among, names_read, outs_of, with_places, with_rows}
 use Rattle.dv_views.specs.Placed.{ListPlaces, lookups_of}
 use Rattle.dv_views.specs.Seen.{IsWellKept}
