@@ -2,8 +2,9 @@
 """Turns one rule of the model at a time, and looks whether the worked examples see it.
 
 Each turn in tools/turns puts a wrong rule in the place of a right one in a copy of the model of tools/machine.py, which is
-kept in memory; then that model answers the examples of tools/worked_examples.txt. Where it answers all of them as they say,
-no example holds that rule: the turn is printed, and the exit status is 1.
+kept in memory; then that model answers the examples of tools/worked_examples.txt, those that take long last. Where it answers
+all of them as they say, no example holds that rule: the turn is printed, and the exit status is 1. All turns take some 40
+minutes.
 
     python3 tools/turned_rules.py
     python3 tools/turned_rules.py --only unwind     the turns whose names or files have this word
@@ -21,6 +22,7 @@ import importlib.util
 import os
 import signal
 import sys
+import time
 import types
 from collections import Counter, namedtuple
 
@@ -29,6 +31,7 @@ from worked_examples import answers, scripts
 HERE = os.path.dirname(os.path.abspath(__file__))
 TURNS = os.path.join(HERE, "turns", "*.txt")
 MOST_SECONDS = 600  # that a turned model may take for all examples
+LONG = 0.1  # seconds from which on an example takes long
 
 # What a turned rule does, the file that it is turned in, and pairs of a text that stands once there and what is put in its
 # place.
@@ -119,11 +122,22 @@ def machine_of(texts):
         sys.modules.update(kept)
 
 
-def tables():
-    """What the examples ask in the gate's script, then all that they ask."""
+def seconds_of(machine, script):
+    """The seconds that a machine takes for each example of a script."""
+    seconds, begin = Counter(), time.process_time()
+    for example, *_ in answers(machine, script):
+        end = time.process_time()
+        seconds[example.title] += end - begin
+        begin = end
+    return seconds
+
+
+def tables(texts):
+    """What the examples ask in the gate's script, first without those that take long, then all that they ask."""
     found = scripts()
     in_gate = [example._replace(steps=[one for one in example.steps if one.is_in_gate]) for example in found[0]]
-    return [[in_gate], found]
+    seconds = seconds_of(machine_of(texts).Machine(), in_gate)
+    return [[[example for example in in_gate if seconds[example.title] < LONG]], [in_gate], found]
 
 
 def seen_by(texts, table):
@@ -156,7 +170,7 @@ def told_of(texts, turn, examples):
         for place, table in enumerate(examples):
             seen = seen_by(texts, table)
             if seen:
-                return seen, place == 0, None
+                return seen, place < len(examples) - 1, None
         return None, False, "nothing sees it"
     except Wrong as fault:
         return None, False, fault
@@ -168,9 +182,10 @@ def main():
     options = argparse.ArgumentParser(description=__doc__, formatter_class=argparse.RawDescriptionHelpFormatter)
     options.add_argument("--only", default="")
     options.add_argument("--list", action="store_true")
-    given, texts, examples, counts = options.parse_args(), sources(), tables(), Counter()
+    given, texts, counts = options.parse_args(), sources(), Counter()
+    examples = tables(texts)
     signal.signal(signal.SIGALRM, stop)
-    if seen_by(texts, examples[1]):
+    if any(seen_by(texts, table) for table in examples):
         sys.exit("turned_rules: the model answers otherwise before a rule is turned: run tools/machine_rows.py")
     for turn in [one for one in turns() if given.only in one.name + " " + one.file]:
         seen, is_in_gate, fault = told_of(texts, turn, examples)
