@@ -5,13 +5,15 @@ Needs the built program (run ./docd once). The same seed makes the same scripts 
 the commands that docd has, good ones and ones with every kind of fault, in sessions that end and open again, in messages
 cut anywhere into lines; a few scripts at the limits of sizes and counts come last. The first script that docd answers in
 another way than the model is cut down and printed with both answers, and the exit status is 1. How far it is stands on standard
-error; a script takes a quarter of a second to a whole one.
+error; a script takes a quarter of a second to a whole one. A few in ten thousand have lookups into lookups that make millions of
+rows: those for which the model takes over a minute are passed over, and counted apart.
 
     python3 tools/compare.py
     python3 tools/compare.py --seed 7 --count 10000 --program crates/docd/out/docd
 """
 import argparse
 import random
+import signal
 import struct
 import subprocess
 import sys
@@ -28,14 +30,41 @@ from random_scripts import Maker
 
 MOST_TRIES = 3_000  # runs of docd that cutting a script down may take
 A_LOOK = 500  # scripts from one line of how far it is to the next
+MOST_SECONDS = 60  # that a script may take to be made and to be answered by the model
 
 
-def answers(program, lines):
-    """What docd and the model print for these lines: the status, and both outputs."""
-    script = b"".join(line + b"\n" for line in lines)
-    done = subprocess.run([program, "run", "--hex"], input=script, capture_output=True, timeout=600)
-    output, error = machine.run(script)
-    return (done.returncode, done.stdout, done.stderr), (1 if error else 0, output, error)
+class TooLong(Exception):
+    """A script takes too long."""
+
+
+def stop(*_):
+    raise TooLong
+
+
+def answer(program, lines):
+    """What docd prints for these lines: the status, and both outputs."""
+    done = subprocess.run([program, "run", "--hex"], input=b"\n".join([*lines, b""]), capture_output=True, timeout=600)
+    return done.returncode, done.stdout, done.stderr
+
+
+def wanted_answer(lines):
+    """What the model prints for these lines."""
+    output, error = machine.run(b"\n".join([*lines, b""]))
+    return 1 if error else 0, output, error
+
+
+def random_script(seed, place):
+    """A script's lines, lines that bring the same messages each in one, how many messages there are, and what the model answers;
+    None where that takes too long."""
+    signal.alarm(MOST_SECONDS)
+    try:
+        maker = Maker(random.Random("%d/%d" % (seed, place)))
+        cut, plain = maker.script()
+        return cut, plain, maker.messages, wanted_answer(cut)
+    except TooLong:
+        return None
+    finally:
+        signal.alarm(0)
 
 
 class Cutting:
@@ -48,8 +77,7 @@ class Cutting:
         self.tries += 1
         if self.tries > MOST_TRIES:
             return False
-        said, wanted = answers(self.program, lines)
-        return said != wanted
+        return answer(self.program, lines) != wanted_answer(lines)
 
     def cut(self, cut, plain):
         """A small script, made of either of these, which bring the same messages."""
@@ -121,7 +149,7 @@ def tell(program, lines):
     for line in lines:
         print(line.decode(errors="replace") if len(line) < 4_000 else "%s.. (%d bytes)" % (line[:200].decode(), len(line)))
         print(readable(line))
-    for who, (status, output, error) in zip(("docd", "the model"), answers(program, lines)):
+    for who, (status, output, error) in (("docd", answer(program, lines)), ("the model", wanted_answer(lines))):
         print("%s: status %d %s" % (who, status, error.decode(errors="replace").strip()))
         for line in output.splitlines():
             print("    " + line[:2_000].decode(errors="replace"))
@@ -158,27 +186,29 @@ def main():
     options.add_argument("--count", type=int, default=2_000, help="how many random scripts")
     options.add_argument("--start", type=int, default=0, help="the first one's number")
     given = parsed(options, "compare")
-    messages, seen = 0, Counter()
+    signal.signal(signal.SIGALRM, stop)
+    compared, messages, seen = 0, 0, Counter()
     for place in range(given.start, given.start + given.count):
-        maker = Maker(random.Random("%d/%d" % (given.seed, place)))
-        cut, plain = maker.script()
-        said, wanted = answers(given.program, cut)
-        if said != wanted:
+        made = random_script(given.seed, place)
+        if made is None:
+            print("compare: seed %d, script %d is passed over" % (given.seed, place), file=sys.stderr, flush=True)
+            continue
+        cut, plain, count, wanted = made
+        if answer(given.program, cut) != wanted:
             print("compare: seed %d, script %d differs:" % (given.seed, place))
             tell(given.program, Cutting(given.program).cut(cut, plain))
             return 1
-        messages += maker.messages
+        compared, messages = compared + 1, messages + count
         count_replies(wanted[1], seen)
-        if (place - given.start + 1) % A_LOOK == 0:
-            print("compare: no difference in %d scripts so far" % (place - given.start + 1), file=sys.stderr, flush=True)
+        if compared % A_LOOK == 0:
+            print("compare: no difference in %d scripts so far" % compared, file=sys.stderr, flush=True)
     for place, lines in enumerate(edges()):
-        said, wanted = answers(given.program, lines)
-        if said != wanted:
+        if answer(given.program, lines) != wanted_answer(lines):
             print("compare: script %d at the limits differs:" % place)
             tell(given.program, lines)
             return 1
-    print("%d scripts (seed %d) with %d messages, and %d at the limits: no difference"
-          % (given.count, given.seed, messages, place + 1))
+    print("%d scripts (seed %d) with %d messages, and %d at the limits: no difference; %d passed over"
+          % (compared, given.seed, messages, place + 1, given.count - compared))
     print(", ".join("%d %s" % (count, what) for what, count in sorted(seen.items())))
     return 0
 
