@@ -5,8 +5,8 @@ Needs the built program (run ./docd once). The same seed makes the same scripts 
 the commands that docd has, good ones and ones with every kind of fault, in sessions that end and open again, in messages
 cut anywhere into lines; a few scripts at the limits of sizes and counts come last. The first script that docd answers in
 another way than the model is cut down and printed with both answers, and the exit status is 1. How far it is stands on standard
-error; a script takes a quarter of a second to a whole one. A few in ten thousand have lookups into lookups that make millions of
-rows: those for which the model takes over a minute are passed over, and counted apart.
+error; a script takes a quarter of a second to a whole one. A few in ten thousand have towers of views
+that each join the one below with itself: those for which the model takes over a minute are passed over, and counted apart.
 
     python3 tools/compare.py
     python3 tools/compare.py --seed 7 --count 10000 --program crates/docd/out/docd
