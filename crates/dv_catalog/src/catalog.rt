@@ -4,7 +4,7 @@ ghost use Rattle.std.specs.Prelude.{◌≡◌};
 ghost use Rattle.dv_catalog.specs.Views.{view_refusal};
 
 use crate::collections::Collections;
-use crate::counted::Counted;
+use crate::counted::{Counted, NOTHING};
 use crate::delete::deleted;
 use crate::effect::{Changes, Effect};
 use crate::explained::{Explained, explained_in, explained_view};
@@ -26,12 +26,6 @@ use dv_pipe::evaluate;
 use dv_views::{Registry, ViewFault, names_read};
 use std::alloc::Global;
 use std::marker::Model;
-
-/// What a statement is counted for that does nothing.
-const NOTHING: Counted = Counted {
-    matched: 0,
-    changed: 0,
-};
 
 /// Collections, and views over them and over older views, in the order in which they were made. Each view that isn't stale
 /// keeps the rows of its pipeline over what stands under the names that it reads, as it is at this moment, and counts the

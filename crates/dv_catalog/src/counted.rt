@@ -6,3 +6,9 @@ pub struct Counted {
     pub matched: usize,
     pub changed: usize,
 }
+
+/// What a statement is counted for that does nothing.
+pub const NOTHING: Counted = Counted {
+    matched: 0,
+    changed: 0,
+};
