@@ -3,7 +3,9 @@
 
 Needs the built program (run ./docd once), and Linux, which tells a process's memory in /proc. A client inserts, updates,
 deletes and drops at random in two collections with indexes, one of them unique, under views of every stage and views over these,
-and reads between (`tools/making/orders.py`). The number of documents stays between bounds. Behind every thousand writes
+and reads between (`tools/making/orders.py`). The client is one of few lines, or with `--driver` MongoDB's driver for C
+(`tools/driver.py`), whose own calls write and go through cursors. The number of documents stays between bounds. Behind every
+thousand writes
 
 - each view's rows, by a find and all its batches, have to be those of an aggregate of the same pipeline;
 - viewStats has to tell `live` and so many rows; in front of the find it may tell `stale` of a `$push` over more than 256 rows,
@@ -17,15 +19,17 @@ at every hundred writes; its greatest in the last quarter of the time may be 5 %
 is printed, and the exit status is 1. So it is where memory grew.
 
     python3 tools/soak.py
-    python3 tools/soak.py --seconds 600 --seed 7 --program crates/docd/out/docd
+    python3 tools/soak.py --driver --seconds 600 --seed 7 --program crates/docd/out/docd
 """
 import argparse
+import itertools
 import struct
 import subprocess
 import sys
 import time
 from collections import Counter
 
+from driver import Driven
 from making.orders import INDEXES, LARGE, Orders, READ, UNIQUE, VIEWS, indexing, making
 from program import parsed
 from served import Served, free_port
@@ -34,9 +38,11 @@ DUPLICATE_KEY = 11000
 A_ROUND = 1_000  # writes from one comparison to the next
 A_LOOK = 100  # writes from one look at the memory to the next
 MOST_CURSORS = 20
+SOME_ROWS = [1, 11, 102, 300]  # of a cursor, in batches of which some end in front of the last of these
 GROWN = 1.05
 MOST_SHOWN = 20_000  # characters of a difference
 QUARTERS = 4
+DATABASE = "t"
 END = {"$numberLong": "0"}  # the cursor where no rows are left
 
 
@@ -44,18 +50,62 @@ class Difference(Exception):
     """Something that docd answers is wrong."""
 
 
+class Plain(Served):
+    """A connection of few lines: it asks for each batch of rows itself."""
+
+    def __init__(self, port, database):
+        super().__init__(port)
+        self.database = database
+
+    def ask(self, command):
+        return super().ask({**command, "$db": self.database})
+
+    def opened(self, command):
+        return Cursor(self, command)
+
+
+class Cursor:
+    """The rows of a find or an aggregate, batch by batch."""
+
+    def __init__(self, client, command):
+        self.client = client
+        self.take(command, "firstBatch")
+
+    def take(self, command, batch):
+        told = right(command, self.client.ask(command))["cursor"]
+        self.rows, self.number, self.name = iter(told[batch]), told["id"], told["ns"].partition(".")[2]
+
+    def __iter__(self):
+        while True:
+            yield from self.rows
+            if self.number == END:
+                return
+            self.take({"getMore": self.number, "collection": self.name}, "nextBatch")
+
+    def close(self):
+        if self.number != END:
+            right("killCursors", self.client.ask({"killCursors": self.name, "cursors": [self.number]}))
+
+
+def right(command, reply):
+    """A reply, which has to be a right one."""
+    if reply["ok"] != 1 or any(error["code"] != DUPLICATE_KEY for error in reply.get("writeErrors", [])):
+        raise Difference("%r is answered %r" % (command, reply))
+    return reply
+
+
 class Docd:
     """A served docd, and a connection to it."""
 
-    def __init__(self, program):
-        self.port, self.connection = free_port(), 0
+    def __init__(self, program, client):
+        self.client, self.port, self.connection = client, free_port(), 0
         words = [program, "serve", "--port", str(self.port), "--connections", "1000000"]
         self.process = subprocess.Popen(words, stdout=subprocess.PIPE)
         self.process.stdout.readline()
         self.connect()
 
     def connect(self):
-        self.served, self.connection = Served(self.port), self.connection + 1
+        self.served, self.connection = self.client(self.port, DATABASE), self.connection + 1
 
     def connect_anew(self):
         self.served.close()
@@ -65,19 +115,16 @@ class Docd:
         self.connect()
 
     def ask(self, command):
-        """The reply to a command of the database `t`, which has to be a right one."""
-        reply = self.served.ask({**command, "$db": "t"})
-        if reply["ok"] != 1 or any(error["code"] != DUPLICATE_KEY for error in reply.get("writeErrors", [])):
-            raise Difference("%r is answered %r" % (command, reply))
-        return reply
+        return right(command, self.served.ask(command))
+
+    def opened(self, command):
+        return self.served.opened(command)
 
     def rows(self, command):
         """All rows of a find or an aggregate."""
-        cursor = self.ask(command)["cursor"]
-        found = cursor["firstBatch"]
-        while cursor["id"] != END:
-            cursor = self.ask(more(cursor))["cursor"]
-            found += cursor["nextBatch"]
+        cursor = self.opened(command)
+        found = list(cursor)
+        cursor.close()
         return found
 
     def memory(self):
@@ -89,11 +136,6 @@ class Docd:
     def end(self):
         self.process.kill()
         self.process.wait()
-
-
-def more(cursor):
-    """The command that asks for a cursor's next rows."""
-    return {"getMore": cursor["id"], "collection": cursor["ns"].partition(".")[2]}
 
 
 class Soak:
@@ -132,13 +174,14 @@ class Soak:
             self.docd.ask(indexing(collection))
 
     def read(self):
-        """Reads a first batch, and mostly keeps the cursor; where there are many, they go."""
-        cursor = self.docd.ask(self.orders.read())["cursor"]
+        """Reads some rows, and keeps the cursor; where there are many, they go."""
+        cursor = self.docd.opened(self.orders.read())
         self.seen["reads"] += 1
-        if cursor["id"] != END:
-            self.cursors.append(self.docd.ask(more(cursor) | {"batchSize": 1})["cursor"])
+        self.seen["rows read"] += sum(1 for _ in itertools.islice(cursor, self.orders.rng.choice(SOME_ROWS)))
+        self.cursors.append(cursor)
         if len(self.cursors) > MOST_CURSORS:
-            self.docd.ask({"killCursors": "orders", "cursors": [one["id"] for one in self.cursors]})
+            for one in self.cursors:
+                one.close()
             self.cursors.clear()
 
     def compare(self):
@@ -189,8 +232,9 @@ def main():
     options = argparse.ArgumentParser(description=__doc__, formatter_class=argparse.RawDescriptionHelpFormatter)
     options.add_argument("--seed", type=int, default=1)
     options.add_argument("--seconds", type=float, default=3_600, help="how long it works")
+    options.add_argument("--driver", action="store_true", help="the client is MongoDB's driver for C")
     given = parsed(options, "soak")
-    docd = Docd(given.program)
+    docd = Docd(given.program, Driven if given.driver else Plain)
     try:
         soak = Soak(docd, given.seed)
         soak.work(given.seconds)

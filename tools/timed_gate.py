@@ -1,6 +1,6 @@
 #!/usr/bin/python3
-"""Runs the gate, and tells how much processor time the proof, the tests and the edits of each crate took: the table of
-docs/GATE.md. It is to run alone on the machine, or the figures are too high.
+"""Runs the gate, and tells how much processor time the proof of each crate, with that of its tests, and its edits took: the
+table of docs/GATE.md. It is to run alone on the machine, or the figures are too high.
 
 What the gate says goes to its own standard output as it comes, the table behind it. Needs Linux, which tells in /proc what a
 process and its children took; it is looked at each second, so that at most the last second of a process is lost.
@@ -20,8 +20,8 @@ A_LOOK = 1  # seconds from one look at the processes to the next
 TICKS = os.sysconf("SC_CLK_TCK")
 EDITS, TESTS, PROOF = "edits", "tests", "proof"
 TAKES_EDITS = "rt-edits-"  # in the words of a check of an edit: the folder in which a crate's edits share their work
-FIGURES = "| `%s` | %s | %s | %s | %s | %s | %s | %s |"
-HEAD = ["| Crate | Code | Definitions | Proofs | Proof | Tests | Edits | Their time |", "|---|---:|---:|---:|---:|---:|---:|---:|"]
+LINE = "| `%s` | %s | %s | %s | %s | %s | %s |"
+HEAD = ["| Crate | Code | Definitions | Proofs | Proof | Edits | Their time |", "|---|---:|---:|---:|---:|---:|---:|"]
 
 # A process: its parent, when it began, the seconds that it took, and those that its ended children took.
 Process = namedtuple("Process", "parent began own ended")
@@ -90,7 +90,7 @@ def taken(number, seen, below):
 
 
 def lines_in(crate, part):
-    """How many lines that aren't empty stand below a folder of a crate, but for tests."""
+    """How many lines that aren't empty stand below a folder of a crate."""
     files = [it for it in (ROOT / "crates" / crate / part).rglob("*") if it.suffix in (".rt", ".antt")]
     return sum(1 for it in files for line in it.read_text().splitlines() if line.strip())
 
@@ -100,8 +100,9 @@ def table(sums):
     names = [it.partition(":")[0] for it in (ROOT / "crates.txt").read_text().splitlines() if it]
     for name in names:
         edits = len(list((ROOT / "crates" / name / "must-fail").glob("*.edit")))
-        counts = [lines_in(name, part) for part in ("src", "specs", "proofs")] + [round(sums[name, PROOF]), round(sums[name, TESTS]), edits, round(sums[name, EDITS])]
-        yield FIGURES % (name, *(it or "" for it in counts))
+        lines = [lines_in(name, part) for part in ("src", "specs", "proofs")]
+        counts = lines + [round(sums[name, PROOF] + sums[name, TESTS]), edits, round(sums[name, EDITS])]
+        yield LINE % (name, *(it or "" for it in counts))
 
 
 def main():

@@ -23,7 +23,7 @@ pub enum Refusal {
     TypeMismatch,
     /// A document of the message can't be read (22).
     InvalidBson(BsonFault),
-    /// Nothing stands under a namespace (26).
+    /// Nothing stands under a namespace, or no view where one is asked for (26).
     NamespaceNotFound,
     /// A collection has no index of a name (27).
     IndexNotFound,
@@ -36,11 +36,11 @@ pub enum Refusal {
     CursorNotFound,
     /// Something stands under a namespace (48).
     NamespaceExists,
-    /// There is no such command (59).
+    /// There is no such command, or it is an explain of anything but a find (59).
     CommandNotFound,
     /// An update changes a document's `_id`, or its spelling (66).
     ImmutableField,
-    /// A document has an equal `_id` (11000).
+    /// A document has an equal `_id`, or a key of a unique index would come under two (11000).
     DuplicateKey,
     /// Memory is wanting (900).
     WantOfMemory,
@@ -48,9 +48,9 @@ pub enum Refusal {
     TooLarge,
     /// A view stands where only a collection may (902).
     OnView,
-    /// There are more statements, stages, views, indexes or cursors than there may be (903).
+    /// There are more statements, stages, views, indexes or cursors than there may be, or a view would stand too high (903).
     LimitReached,
-    /// A view reads the namespace of a view that is asked for (904).
+    /// A view reads the namespace of a view that is to be made or dropped, or would read itself (904).
     ReadByView,
 }
 

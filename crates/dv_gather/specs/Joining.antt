@@ -1,6 +1,6 @@
--- Which documents a document is joined with (MongoDB manual, "$lookup (aggregation)"): those that have one of its values. That
--- Missing counts as null on both sides, and that an array stands for its elements on the one side and for itself too on the
--- other, is this server's own.
+-- Which documents a document is joined with (MongoDB manual, "$lookup (aggregation)"): those that have one of its values. Missing
+-- counts as null on both sides; an array stands for its elements on the one side, for itself too on the other. That an empty one
+-- stands for nothing on the one side is this server's own.
 use Rattle.std.specs.Prelude.{ℕ, Bool, List, [], ◌∷◌, Some, filter}
 use Rattle.std.specs.List.{flat_map, list_any}
 use Rattle.std.specs.Ordering.{is_eq}

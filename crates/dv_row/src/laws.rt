@@ -102,7 +102,7 @@ pub fn an_id_that_is_not_asked_for_stays()
         → filter (λ f. bytes_eq f.0 (codes "_id")) (projected p row) ≡ filter (λ f. bytes_eq f.0 (codes "_id")) row }
 {}
 
-/// `_id` goes where it is excluded, be it alone, beside what is included, or beside what is excluded, and only there.
+/// `_id` stays beside what is included and beside what is excluded, and goes where it is excluded itself, alone or beside either.
 #[tactic(auto, using(crate::proofs::Worked::id_stays_included, crate::proofs::Worked::id_stays_excluded, crate::proofs::Worked::id_goes_alone, crate::proofs::Worked::id_goes_included, crate::proofs::Worked::id_goes_excluded))]
 pub fn examples_of_ids()
     ensures stays_beside_included { (id a b : Tree) → shown ((codes "a", int 1) ∷ []) ((codes "_id", id) ∷ (codes "a", a) ∷ (codes "b", b) ∷ []) ≡ Ok ((codes "_id", id) ∷ (codes "a", a) ∷ []) }

@@ -1,0 +1,208 @@
+"""A connection to a docd that serves on this machine by libmongoc, MongoDB's own driver for C (Debian: apt-get install
+libmongoc-1.0-0), which Python's ctypes calls.
+
+Documents are handed to the driver and taken from it as BSON bytes. How it greets, which messages its calls become, which ones
+ask for a cursor's next rows and which end it, is the driver's. Why it is set up so, examples/client.c says.
+"""
+import ctypes
+from ctypes import POINTER, byref, c_bool, c_char_p, c_int, c_size_t, c_uint32, c_void_p
+
+from extended_json import json_of, value_of
+from model.values import DOCUMENT, int32, read_fields, spelling
+
+API_OF_VERSION_ONE = 0
+ALIGNMENT = 128  # of a bson_t, and its size
+TOP_LEVEL = -2  # of what the driver hands out: a reply has three levels above its rows
+
+
+class Error(ctypes.Structure):
+    """A bson_error_t."""
+    _fields_ = [("domain", c_uint32), ("code", c_uint32), ("message", ctypes.c_char * 504)]
+
+
+class DriverFault(ConnectionError):
+    """The driver's call failed, and not for a statement that docd refused."""
+
+    def __init__(self, error):
+        super().__init__("the driver says: %s" % error.message.decode())
+
+
+# The driver's calls: what each gives, and what it takes.
+A_DOCUMENT = AN_OBJECT = c_void_p
+CALLS = {
+    "bson_new_from_data": (A_DOCUMENT, [c_char_p, c_size_t]),
+    "bson_get_data": (c_void_p, [A_DOCUMENT]),
+    "bson_destroy": (None, [A_DOCUMENT]),
+    "mongoc_init": (None, []),
+    "mongoc_uri_new_with_error": (AN_OBJECT, [c_char_p, POINTER(Error)]),
+    "mongoc_uri_destroy": (None, [AN_OBJECT]),
+    "mongoc_server_api_new": (AN_OBJECT, [c_int]),
+    "mongoc_server_api_destroy": (None, [AN_OBJECT]),
+    "mongoc_client_new_from_uri": (AN_OBJECT, [AN_OBJECT]),
+    "mongoc_client_set_server_api": (c_bool, [AN_OBJECT, AN_OBJECT, POINTER(Error)]),
+    "mongoc_client_get_collection": (AN_OBJECT, [AN_OBJECT, c_char_p, c_char_p]),
+    "mongoc_client_command_simple": (c_bool, [AN_OBJECT, c_char_p, A_DOCUMENT, AN_OBJECT, A_DOCUMENT, POINTER(Error)]),
+    "mongoc_client_destroy": (None, [AN_OBJECT]),
+    "mongoc_collection_insert_many": (c_bool, [AN_OBJECT, POINTER(A_DOCUMENT), c_size_t, A_DOCUMENT, A_DOCUMENT, POINTER(Error)]),
+    "mongoc_collection_update_one": (c_bool, [AN_OBJECT, A_DOCUMENT, A_DOCUMENT, A_DOCUMENT, A_DOCUMENT, POINTER(Error)]),
+    "mongoc_collection_update_many": (c_bool, [AN_OBJECT, A_DOCUMENT, A_DOCUMENT, A_DOCUMENT, A_DOCUMENT, POINTER(Error)]),
+    "mongoc_collection_replace_one": (c_bool, [AN_OBJECT, A_DOCUMENT, A_DOCUMENT, A_DOCUMENT, A_DOCUMENT, POINTER(Error)]),
+    "mongoc_collection_delete_one": (c_bool, [AN_OBJECT, A_DOCUMENT, A_DOCUMENT, A_DOCUMENT, POINTER(Error)]),
+    "mongoc_collection_delete_many": (c_bool, [AN_OBJECT, A_DOCUMENT, A_DOCUMENT, A_DOCUMENT, POINTER(Error)]),
+    "mongoc_collection_find_with_opts": (AN_OBJECT, [AN_OBJECT, A_DOCUMENT, A_DOCUMENT, AN_OBJECT]),
+    "mongoc_collection_aggregate": (AN_OBJECT, [AN_OBJECT, c_int, A_DOCUMENT, A_DOCUMENT, AN_OBJECT]),
+    "mongoc_collection_destroy": (None, [AN_OBJECT]),
+    "mongoc_cursor_next": (c_bool, [AN_OBJECT, POINTER(A_DOCUMENT)]),
+    "mongoc_cursor_error": (c_bool, [AN_OBJECT, POINTER(Error)]),
+    "mongoc_cursor_destroy": (None, [AN_OBJECT]),
+}
+
+
+def opened_library():
+    """The driver. It finds libbson's calls too, on which it stands."""
+    library = ctypes.CDLL("libmongoc-1.0.so.0")
+    for name, (gives, takes) in CALLS.items():
+        call = getattr(library, name)
+        call.restype, call.argtypes = gives, takes
+    library.mongoc_init()
+    return library
+
+
+class Given:
+    """Documents that are lent to the driver for a call."""
+
+    def __init__(self, library, *held):
+        self.library = library
+        self.documents = [self.made(*value_of(one)) for one in held]
+
+    def made(self, kind, fields):
+        data = spelling(fields)
+        return self.library.bson_new_from_data(data, len(data))
+
+    def __enter__(self):
+        return self.documents
+
+    def __exit__(self, *_):
+        for one in self.documents:
+            self.library.bson_destroy(one)
+
+
+class Cursor:
+    """The rows of a find or an aggregate, in order, which the driver brings."""
+
+    def __init__(self, connection, cursor):
+        self.library, self.cursor, self.opened = connection.library, cursor, connection.opened_cursors
+        self.opened.add(self)
+
+    def __iter__(self):
+        return self
+
+    def __next__(self):
+        row, error = A_DOCUMENT(), Error()
+        if self.library.mongoc_cursor_next(self.cursor, byref(row)):
+            return json_at(self.library, row)
+        if self.library.mongoc_cursor_error(self.cursor, byref(error)):
+            raise DriverFault(error)
+        raise StopIteration
+
+    def close(self):
+        self.library.mongoc_cursor_destroy(self.cursor)
+        self.opened.remove(self)
+
+
+def json_at(library, document):
+    """What a document of the driver's holds, as json makes it."""
+    data = library.bson_get_data(document)
+    length = int32(ctypes.string_at(data, 4), 0)
+    return json_of(DOCUMENT, read_fields(ctypes.string_at(data, length), 0, length, TOP_LEVEL, is_array=False))
+
+
+class Driven:
+    """A connection of the driver's to a database. Commands and rows are dicts, as those of served.py."""
+
+    library = None
+
+    def __init__(self, port, database):
+        Driven.library = self.library = Driven.library or opened_library()
+        self.database, self.collections, self.opened_cursors = database.encode(), {}, set()
+        room = ctypes.create_string_buffer(2 * ALIGNMENT)
+        self.room, self.reply = room, ctypes.addressof(room) + -ctypes.addressof(room) % ALIGNMENT
+        error = Error()
+        uri = self.library.mongoc_uri_new_with_error(b"mongodb://127.0.0.1:%d/?directConnection=true" % port, byref(error))
+        self.client = self.library.mongoc_client_new_from_uri(uri)
+        api = self.library.mongoc_server_api_new(API_OF_VERSION_ONE)
+        if not self.library.mongoc_client_set_server_api(self.client, api, byref(error)):
+            raise DriverFault(error)
+        self.library.mongoc_server_api_destroy(api)
+        self.library.mongoc_uri_destroy(uri)
+
+    def collection(self, name):
+        if name not in self.collections:
+            self.collections[name] = self.library.mongoc_client_get_collection(self.client, self.database, name.encode())
+        return self.collections[name]
+
+    def ask(self, command):
+        """The reply to a command, in docd's words: inserts, updates and deletes go by the driver's own calls for those."""
+        if "insert" in command:
+            return self.insert(command["insert"], command["documents"], command["ordered"])
+        if "update" in command:
+            (entry,) = command["updates"]
+            return self.update(command["update"], entry["q"], entry["u"], entry.get("multi", False))
+        if "delete" in command:
+            (entry,) = command["deletes"]
+            return self.delete(command["delete"], entry["q"], entry["limit"] == 1)
+        with Given(self.library, command) as (document,):
+            return self.told(self.library.mongoc_client_command_simple, self.client, self.database, document, None)
+
+    def insert(self, name, documents, is_ordered):
+        with Given(self.library, {"ordered": is_ordered}, *documents) as (options, *given):
+            listed = (A_DOCUMENT * len(given))(*given)
+            told = self.told(self.library.mongoc_collection_insert_many, self.collection(name), listed, len(given), options)
+        return counted(told, n="insertedCount")
+
+    def update(self, name, query, change, is_for_all):
+        is_replacement = not any(name.startswith("$") for name in change)
+        call = (self.library.mongoc_collection_replace_one if is_replacement
+                else self.library.mongoc_collection_update_many if is_for_all else self.library.mongoc_collection_update_one)
+        with Given(self.library, query, change) as given:
+            return counted(self.told(call, self.collection(name), *given, None), n="matchedCount", nModified="modifiedCount")
+
+    def delete(self, name, query, is_for_one):
+        call = self.library.mongoc_collection_delete_one if is_for_one else self.library.mongoc_collection_delete_many
+        with Given(self.library, query) as given:
+            return counted(self.told(call, self.collection(name), *given, None), n="deletedCount")
+
+    def told(self, call, *operands):
+        """What a call tells. A statement that docd refuses is no fault of the call."""
+        error = Error()
+        is_well = call(*operands, self.reply, byref(error))
+        told = json_at(self.library, self.reply)
+        self.library.bson_destroy(self.reply)
+        if not is_well and "writeErrors" not in told:
+            raise DriverFault(error)
+        return told
+
+    def opened(self, command):
+        """The rows of a find or an aggregate."""
+        options = dict(command)
+        if "find" in command:
+            collection, query = self.collection(options.pop("find")), options.pop("filter", {})
+            with Given(self.library, query, options) as given:
+                return Cursor(self, self.library.mongoc_collection_find_with_opts(collection, *given, None))
+        collection, pipeline = self.collection(command["aggregate"]), {"pipeline": command["pipeline"]}
+        with Given(self.library, pipeline, command["cursor"]) as given:
+            return Cursor(self, self.library.mongoc_collection_aggregate(collection, 0, *given, None))
+
+    def close(self):
+        """Ends the connection, and first the cursors that are open, as the driver asks."""
+        for cursor in list(self.opened_cursors):
+            cursor.close()
+        for one in self.collections.values():
+            self.library.mongoc_collection_destroy(one)
+        self.library.mongoc_client_destroy(self.client)
+
+
+def counted(told, **names):
+    """A write's reply in docd's words, of what the driver tells; the names are docd's and the driver's."""
+    errors = {"writeErrors": told["writeErrors"]} if told.get("writeErrors") else {}
+    return {**{of_docd: told[of_driver] for of_docd, of_driver in names.items()}, **errors, "ok": 1}
