@@ -109,7 +109,8 @@ fn connection(
 /// Serves so many connections, one after the other, each by a session of the hub from its first byte to its last, and then
 /// closes it: the replies to a connection go to its output. Behind each its number, from 1, and how it ended is written as a
 /// line, and flushed, before the next one is waited for: `connection K ended`; `connection K closed F` where a closing fault
-/// of this number ended it; `connection K failed` where its reader or its writer failed, it took too many reads, or no session was had.
+/// of this number ended it; `connection K failed` where its reader or its writer failed, it took too many reads, or no
+/// session was had.
 ///
 /// Fails with `Accept` where no connection is had and with `Write` where the writer fails. What was served stands; behind
 /// `Write` the last connection's line wasn't written or not flushed, and those in front of it were.
