@@ -291,8 +291,8 @@ impl IndexedCollection {
         self.indexes.clear();
     }
 
-    /// The documents that match the filter, in the order of their `_id`s, whatever indexes there are. By an index no more
-    /// are looked at than stand under the keys in the plan's bounds. Fails where memory is wanting.
+    /// The documents that match the filter, in the order of their `_id`s, whatever indexes there are. Fails where memory is
+    /// wanting.
     pub fn find(&self, filter: &Filter) -> Result<Vec<&Document>, NoMemory>
         ensures { IfOk result (λ found. map (λ d. d.now) found.items ≡ kept (λ d. matches filter.now d) self.now.documents) }
     {

@@ -30,8 +30,9 @@ use dv_match::Filter;
 use dv_order::{Key, key_of, laws};
 use std::alloc::Global;
 
-/// The documents that match the filter, in the order of their `_id`s. By an index no more are looked at than stand under the
-/// keys in the plan's bounds. The plan is the filter's, the indexes have the collection's keys. Fails where memory is wanting.
+/// The documents that match the filter, in the order of their `_id`s. By an index only those are looked at that stand under the
+/// keys in the plan's bounds, or may by having several keys; by a range of `_id`s all are. The plan is the filter's, the indexes
+/// have the collection's keys. Fails where memory is wanting.
 pub fn run<'c>(
     alloc: Global,
     plan: &Plan<'_>,

@@ -35,8 +35,8 @@ impl Update {
     /// is there, `TooLarge` above 16,777,216 bytes, and `TooDeep` above 100 levels. Fails with `NoMemory` where memory is
     /// wanting.
     ///
-    /// What isn't changed is shared with the document; fields of which one is changed are copied once. An edit that changes
-    /// nothing copies none.
+    /// What isn't changed is shared with the document; fields of which one is changed are copied once. A `$set`, `$unset` or
+    /// `$pull` that changes nothing copies none.
     pub fn apply(&self, alloc: Global, document: &Document) -> Result<Document, UpdateFault>
         ensures { Gives (λ changed. changed) result (defined.applied (update self.now) document.now) }
     {
