@@ -13,8 +13,8 @@ from model.indexes import entry_of
 from model.namespaces import database_name, namespace
 from model.paths import field_of, sort_of
 from model.pipelines import ACCUMULATORS, STAGES, pipeline_of
-from model.refusals import (BAD_VALUE, COMMAND_NOT_FOUND, DUPLICATE_KEY, FAILED_TO_PARSE, IMMUTABLE_FIELD, NAMESPACE_EXISTS,
-                            NAMESPACE_NOT_FOUND, ON_VIEW, READ_BY_VIEW, Refusal)
+from model.refusals import (BAD_VALUE, COMMAND_NOT_FOUND, DUPLICATE_KEY, FAILED_TO_PARSE, IMMUTABLE_FIELD, INVALID_BSON,
+                            NAMESPACE_EXISTS, NAMESPACE_NOT_FOUND, ON_VIEW, READ_BY_VIEW, Refusal)
 from model.updates import OPERATORS as UPDATES, update_of
 from model.values import ARRAY, DOCUMENT, TEXT, is_storable
 from notation import shown, shown_name
@@ -117,7 +117,7 @@ def of_fields(place, fields, known, ignored=frozenset()):
             yield place + misnamed("field", name, known), lambda one=one: check_fields(one, known, ignored)
     twice = next((name for place, (name, _) in enumerate(fields) if name in dict(fields[:place])), None)
     if twice:
-        yield "%sthe field %s stands twice" % (place, shown_name(twice)), lambda: refuse(FAILED_TO_PARSE)
+        yield "%sthe field %s stands twice" % (place, shown_name(twice)), lambda: refuse(INVALID_BSON)
 
 
 def held_in(fields):
