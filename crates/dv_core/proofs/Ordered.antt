@@ -1,5 +1,5 @@
 -- The documents of each namespace stay in the order of their `_id`s, and sound, and no key of a unique index stands in two of them.
-use Rattle.std.proofs.Common.{◌≡◌, ℕ, Bool, true, false, cond, not, List, [], ◌∷◌, map, Option, Some, None, Result, Ok, Err, if◌then◌else◌, is_some, refl, sym, subst}
+use Rattle.std.proofs.Common.{◌≡◌, ℕ, Bool, true, false, cond, not, List, [], ◌∷◌, map, Option, Some, None, Result, Ok, Err, if◌then◌else◌, is_some, OnErr, OnOk, refl, sym, subst}
 use Rattle.std.specs.Prelude.{codes}
 use Rattle.std.specs.Cmp.Lexicographic.{slice_cmp}
 use Rattle.std.specs.FinMap as finite
@@ -27,9 +27,9 @@ use Rattle.dv_update.specs.Apply.{applied}
 use Rattle.dv_update.specs.Parsing.{update_of}
 use Rattle.dv_update.specs.Update as form
 use Rattle.dv_catalog.specs.Effects.{after}
-use Rattle.dv_core.specs.Sound.{IsSoundDocument, AreSound, IsSoundCommand}
-use Rattle.dv_core.specs.Load.{insert_alone, left_by, loaded, namespace_in}
-use Rattle.dv_catalog.specs.State.{AreOrdered, Collection, IsOrdered, Standing, collection_at, collection_of, documents_of, indexes_of, is_view}
+use Rattle.dv_core.specs.Sound.{IsOrderly, IsSoundDocument, AreSound, IsSoundCommand}
+use Rattle.dv_core.specs.Load.{IsLoaded, insert_alone, left_by, loaded, namespace_in}
+use Rattle.dv_catalog.specs.State.{AreOrdered, Collection, Standing, collection_at, collection_of, documents_of, indexes_of, is_view}
 use Rattle.dv_core.specs.State.{State, empty_store_state}
 use Rattle.dv_core.specs.Statements.{WriteCounts}
 use Rattle.dv_core.specs.Step.{asked_write}
@@ -39,18 +39,14 @@ use Rattle.dv_core.specs.Writes.{insert_one, statement_of, write_by}
 use Rattle.dv_core.proofs.Bare.{BareStep}
 use Rattle.dv_core.proofs.Asking.{AsksSoundly, soundly_asked}
 use Rattle.dv_core.proofs.Done.{changes_unbroken}
-use Rattle.dv_core.proofs.Standing.{IsKeptBy, Stands, documents_kept}
+use Rattle.dv_core.proofs.Standing.{IsKeptBy, Stands}
 use Rattle.dv_core.proofs.Unique.{UniqueLaws, change_unbroken, indexes_unbroken}
 use Rattle.dv_index.specs.Indexed.{empty_indexed}
 use Rattle.dv_index.specs.Unique.{are_broken}
-use Rattle.dv_catalog.specs.StateLaws.{documents_there}
 use Rattle.dv_core.proofs.Kept.{ChangesKeep, Keeps, apply_holds, does_good, insert_keeps, updates_keep, deletes_keep, step_holds}
 use Rattle.dv_core.proofs.Stored.{storable_fits}
 use Rattle.dv_catalog.specs.EffectLaws.{KeepsId, told_after, after_id}
 use Rattle.dv_core.proofs.Valid.{storable_valid}
-
-nothing_there : (namespace : List ℕ) → [] ≡ documents_of namespace empty_store_state.catalog.namespaces
-nothing_there namespace = sym (documents_there empty_store_state.catalog.namespaces namespace None (finite.get-empty (slice_cmp nat_cmp) namespace))
 
 none_ordered : AreOrdered []
 unfolding IsStrictlySortedBy
@@ -59,11 +55,7 @@ none_ordered = (tt, tt)
 none_sound : AreSound []
 none_sound = (none_ordered, tt)
 
--- the documents of a collection are in order
-abbrev IsInOrder : List ℕ → Collection → Type 0
-IsInOrder namespace c = AreOrdered c.documents
-
--- and no key of a unique index stands in two of them
+-- the documents of a collection are in order, and no key of a unique index stands in two of them
 pub record IsApart (namespace : List ℕ) (c : Collection) : Type 0 where
   pub documents : AreOrdered c.documents
   pub unique : are_broken c.indexes c.documents ≡ false
@@ -78,9 +70,6 @@ pub record IsWhole (namespace : List ℕ) (c : Collection) : Type 0 where
 
 abbrev pub AreWhole : State → Type 0
 AreWhole state = Stands IsWhole state.catalog.namespaces
-
-pub empty_ordered : IsOrdered empty_store_state.catalog
-empty_ordered namespace = subst AreOrdered (nothing_there namespace) none_ordered
 
 none_apart : (namespace : List ℕ) → IsApart namespace empty_indexed
 none_apart namespace = record { documents = none_ordered; unique = refl }
@@ -185,12 +174,6 @@ module _ (laws : CollectionLaws) where
     steps_hold : ((what : Asked) → IsKeptBy P what) → (old new : State) (session : ℕ) (command : Command) (outcome : Outcome) → Stands P old.catalog.namespaces → BareStep old session command outcome new → Stands P new.catalog.namespaces
     steps_hold kept old new session command outcome h steps = step_holds P BeginsWithId changes old new session command outcome kept (λ what write asks is. writes_hold what write is) h steps
 
-  changes_order : ChangesKeep IsInOrder BeginsWithId
-  changes_order namespace c change ordered good apart = change_ordered c.documents change ordered good
-
-  pub steps_ordered : (old new : State) (session : ℕ) (command : Command) (outcome : Outcome) → IsOrdered old.catalog → BareStep old session command outcome new → IsOrdered new.catalog
-  steps_ordered = steps_hold IsInOrder (λ namespace c ordered. ordered) changes_order (documents_kept (λ namespace ds. AreOrdered ds) (λ namespace. none_ordered))
-
 -- a load keeps what its insert does
 module _ (P : List ℕ → Collection → Type 0) (Good : Change → Type 0) (changes : ChangesKeep P Good) where
   alone_holds : (old new : State) (namespace : List ℕ) (does : Result Effect Refusal) → AllByRecursion Good (changes_of does)
@@ -234,6 +217,11 @@ module _ (laws : CollectionLaws) (unique_laws : UniqueLaws) where
 
   pub loaded_apart : (old new : State) (text : List ℕ) (d : List Field) → AreApart old → loaded text d old ≡ Ok new → AreApart new
   loaded_apart old new text d h is = load_holds IsApart BeginsWithId changes_apart old new (namespace_in text) d (inserts_hold laws IsApart apart_ordered changes_apart (d ∷ [])).0 h is
+
+-- a load that is refused leaves the state
+pub kept_by_load : {A B : Type 0} (text : List ℕ) (d : List Field) (old new : State) (result : Result A B) → (IsLoaded text d old new → IsOrderly new) → OnOk result (IsLoaded text d old new) → OnErr result (new ≡ old) → IsOrderly old → IsOrderly new
+kept_by_load text d old new (Ok done) keeps loads same orderly = keeps loads
+kept_by_load text d old new (Err refusal) keeps loads same orderly = subst IsOrderly (sym same) orderly
 
 -- ---- and sound, if the documents of commands are, and no key of a unique index comes into two of them
 

@@ -9,7 +9,7 @@ use Rattle.dv_bson.specs.declared.fault.BsonFault.TheVariants.{RefusedType}
 use Rattle.dv_fields.specs.declared.refusal.Refusal.{Refusal}
 use Rattle.dv_fields.specs.declared.refusal.Refusal.TheVariants.{InvalidBson}
 use Rattle.dv_index.specs.Unique.{are_broken}
-use Rattle.dv_catalog.specs.State.{documents_of, indexes_of, AreOrdered}
+use Rattle.dv_catalog.specs.State.{documents_of, indexes_of, AreOrdered, IsOrdered}
 use Rattle.dv_core.specs.State.{State}
 use Rattle.dv_cursor.specs.Cursors.{rows_to_come}
 use Rattle.dv_core.specs.Find.{are_too_large}
@@ -35,6 +35,12 @@ AreSoundIndexes state = (namespace : List ℕ) → AllByRecursion (λ index. IsI
 -- of a unique index no key stands in two documents
 abbrev pub AreUnique : State → Type 0
 AreUnique state = (namespace : List ℕ) → are_broken (indexes_of namespace state.catalog.namespaces) (documents_of namespace state.catalog.namespaces) ≡ false
+
+-- what every store keeps: the documents of each namespace stand in the strict order of their `_id`s, and of a unique index no key stands
+-- in two of them
+pub record IsOrderly (state : State) : Type 0 where
+  pub ordered : IsOrdered state.catalog
+  pub unique : AreUnique state
 
 -- the stages of each view were read from valid values
 abbrev pub AreSoundViews : State → Type 0

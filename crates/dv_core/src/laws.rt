@@ -18,8 +18,8 @@ ghost use Rattle.dv_core.specs.Examples as examples;
 ghost use Rattle.dv_core.specs.Find.{are_too_large, first_batch};
 ghost use Rattle.dv_core.specs.Load.{IsLoaded, insert_alone, loaded, namespace_in};
 ghost use Rattle.dv_core.specs.Part.{IsPart};
-ghost use Rattle.dv_core.specs.Sound.{AreUnique, HasSpelling, IsSound, IsSoundCommand, IsSoundDocument, IsTold};
-ghost use Rattle.dv_catalog.specs.State.{Namespaces, IsOrdered, documents_of, is_view, rows_of};
+ghost use Rattle.dv_core.specs.Sound.{HasSpelling, IsOrderly, IsSound, IsSoundCommand, IsSoundDocument, IsTold};
+ghost use Rattle.dv_catalog.specs.State.{Namespaces, documents_of, is_view, rows_of};
 ghost use Rattle.dv_core.specs.State.{State, empty_store_state};
 ghost use Rattle.std.specs.Str.{bytes_eq};
 ghost use Rattle.dv_core.specs.Runs.{Move, Shows, carries, stands, wants, rows_told, state_after_move, state_behind_all, tells_last};
@@ -84,30 +84,14 @@ pub fn a_delete_leaves_a_part()
         → MemoryStep old session command outcome new → (namespace : List ℕ) → IsPart (documents_of namespace new.catalog.namespaces) (documents_of namespace old.catalog.namespaces) }
 {}
 
-/// The documents of each namespace stay in the order of their `_id`s, no two of which are equal, whatever the width of
-/// their integers: so it is before the first command, and so after each.
-pub fn documents_stay_in_order()
-    ensures before { IsOrdered empty_store_state.catalog }
-    ensures after { (old new : State) (session : ℕ) (command : Command) (outcome : Outcome) → IsOrdered old.catalog
-        → MemoryStep old session command outcome new → IsOrdered new.catalog }
-{
-    dv_coll::laws::inserted_documents_ascend();
-    dv_coll::laws::inserted_documents_begin_with_ids();
-    dv_coll::laws::removed_documents_ascend();
-    dv_coll::laws::removed_documents_begin_with_ids();
-    dv_coll::laws::replaced_documents_ascend();
-    dv_coll::laws::replaced_documents_begin_with_ids();
-    dv_update::laws::the_id_stays();
-}
-
-/// No key of a unique index comes into two documents, whatever commands and loads bring: so it is before the first command, and
-/// so after each command, each load and each end of a session.
-pub fn unique_keys_stay_apart()
-    ensures before { AreUnique empty_store_state }
-    ensures after { (old new : State) (session : ℕ) (command : Command) (outcome : Outcome) → IsOrdered old.catalog → AreUnique old
-        → MemoryStep old session command outcome new → AreUnique new }
-    ensures loaded { (old new : State) (namespace : List ℕ) (d : List Field) → IsOrdered old.catalog → AreUnique old → loaded namespace d old ≡ Ok new → AreUnique new }
-    ensures ended { (session : ℕ) (state : State) → AreUnique state → AreUnique (end_session session state) }
+/// What every store keeps, whatever commands and loads bring: the documents of each namespace stand in the order of their
+/// `_id`s, no two of which are equal, whatever the width of their integers, and no key of a unique index stands in two of them.
+/// So it is before the first command, and so after each command, each load and each end of a session.
+pub fn states_stay_orderly()
+    ensures before { IsOrderly empty_store_state }
+    ensures after { (old new : State) (session : ℕ) (command : Command) (outcome : Outcome) → IsOrderly old → MemoryStep old session command outcome new → IsOrderly new }
+    ensures loaded { (old new : State) (namespace : List ℕ) (d : List Field) → IsOrderly old → IsLoaded namespace d old new → IsOrderly new }
+    ensures ended { (session : ℕ) (state : State) → IsOrderly state → IsOrderly (end_session session state) }
 {
     dv_coll::laws::inserted_documents_ascend();
     dv_coll::laws::inserted_documents_begin_with_ids();

@@ -6,6 +6,7 @@ mod find;
 mod indexing;
 pub mod laws;
 mod loading;
+mod machine;
 mod more;
 mod next;
 mod outcome;

@@ -1,80 +1,51 @@
-//! The commands, and what they are carried out on.
+//! The store: the machine, and what is true of it at every moment.
 
-use crate::answers::{hello, outcome_of, ping, refuse, told};
-use crate::find::{First, first_batch};
-use crate::indexing::{explained, new_indexes};
-use crate::loading::namespace_in;
-use crate::more::{kill_all, next_batch};
+use crate::laws::states_stay_orderly;
+use crate::machine::Machine;
 use crate::outcome::Outcome;
-use crate::storable::storable;
-use crate::writes::write_all;
 use dv_bson::Document;
-use dv_catalog::Catalog;
-use dv_command::replies::{
-    create_indexes_reply, drop_indexes_reply, drop_reply, reply_of, view_stats_reply,
-};
-use dv_command::{
-    Aggregate, Asked, Command, Create, CreateIndexes, DropIndexes, DropNamespace, Explain, Find,
-    GetMore, KillCursors, Refusal, ReplyNames, ViewStats, Write, parse,
-};
-use dv_cursor::Cursors;
+use dv_command::Command;
 use std::alloc::Global;
 use std::marker::Model;
 
 /// All that commands read and change: collections, and views, each of which keeps at every moment the rows of its pipeline
 /// over documents of collections and rows of older views, or, where it is stale, none. And the cursors of all sessions,
-/// with the rows that they have still to tell.
+/// with the rows that they have still to tell. The documents of a collection stand in the order of their `_id`s, no two of
+/// which are equal, and no key of a unique index stands in two of them.
 #[derive(Debug, Drop)]
 pub struct Store {
-    alloc: Global,
-    catalog: Catalog,
-    cursors: Cursors,
-    /// Replies are made beside these.
-    names: ReplyNames,
+    machine: Machine,
 }
 
 impl Model for Store {
     ghost use Rattle.dv_core.specs.State.{State};
     ghost use Rattle.dv_core.specs.StateCode.{coded_store_state};
+    ghost use Rattle.dv_core.specs.Sound.{IsOrderly};
 
     ghost Value = { State };
 
     ghost coded = { coded_store_state };
 
-    ghost view = { λ s. record { catalog = s.catalog.state; cursors = s.cursors; marks = s.catalog.marks } };
+    ghost view = { λ s. s.machine };
+
+    ghost invariant = { λ s. IsOrderly s.machine };
 }
 
 impl Store {
-    ghost use Rattle.std.specs.Prelude.{◌≡◌, [], Ok, IfErr, OnErr, OnOk};
+    ghost use Rattle.std.specs.Prelude.{◌≡◌, IfErr, OnErr, OnOk};
     ghost use Rattle.dv_bson.specs.declared.fault.BsonFault.TheVariants.{NoMemory};
-    ghost use Rattle.dv_catalog.specs.Marks.{AreMarkedByDrop, marks_made, names_of_new};
-    ghost use Rattle.dv_catalog.specs.Parts.{StandMade, StandSo};
-    ghost use Rattle.dv_catalog.specs.Views as views;
     ghost use Rattle.dv_command.specs.declared.command.Command.TheVariants.{Invalid};
-    ghost use Rattle.dv_fields.specs.Refusals.{UnlessWanting};
-    ghost use Rattle.dv_command.specs.Asked as asking;
-    ghost use Rattle.dv_command.specs.Replies as replies;
-    ghost use Rattle.dv_command.specs.View.{aggregate_seen, create_indexes_seen, create_seen, drop_indexes_seen, drop_seen, explain_seen, find_seen, get_more_seen, kill_cursors_seen, view_stats_seen, write_seen};
-    ghost use Rattle.dv_core.specs.Find as finding;
-    ghost use Rattle.dv_core.specs.Indexes as indexing;
-    ghost use Rattle.dv_core.specs.More as more;
     ghost use Rattle.dv_core.specs.Load as loading;
-    ghost use Rattle.dv_core.specs.State.{empty_store_state, marked, standing};
-    ghost use Rattle.dv_core.specs.Stats as telling;
-    ghost use Rattle.dv_core.specs.Step.{MemoryStep, TellsOfWant, end_session, replying};
-    ghost use Rattle.dv_core.specs.StepParts.{Ends, GivesAndLeaves, LoadsOne, StandRead};
-    ghost use Rattle.dv_core.specs.WriteParts.{WritesOn};
-    ghost use Rattle.dv_core.specs.Writes.{write_by};
+    ghost use Rattle.dv_core.specs.State.{empty_store_state};
+    ghost use Rattle.dv_core.specs.Step.{MemoryStep, TellsOfWant, end_session};
 
     /// A store without any collection.
     pub fn new(alloc: Global) -> Self
         ensures { result ≡ empty_store_state }
     {
+        states_stay_orderly();
         Store {
-            alloc,
-            catalog: Catalog::new(alloc),
-            cursors: Cursors::new(alloc),
-            names: ReplyNames::new(alloc),
+            machine: Machine::new(alloc),
         }
     }
 
@@ -86,167 +57,8 @@ impl Store {
         // A command for which memory was wanting as it was read is told so.
         ensures unread { command.now ≡ Invalid NoMemory → TellsOfWant result }
     {
-        match parse(self.alloc, command) {
-            Ok(Asked::Hello) => outcome_of(self.alloc, hello(self.alloc)),
-            Ok(Asked::Ping) => outcome_of(self.alloc, ping(self.alloc)),
-            Ok(Asked::Write(write)) => self.write(write),
-            Ok(Asked::Find(find)) => outcome_of(self.alloc, self.find(session, find)),
-            Ok(Asked::Aggregate(aggregate)) => {
-                outcome_of(self.alloc, self.aggregate(session, aggregate))
-            }
-            Ok(Asked::GetMore(asked)) => outcome_of(self.alloc, self.get_more(session, asked)),
-            Ok(Asked::KillCursors(asked)) => self.kill_cursors(session, asked),
-            Ok(Asked::Create(create)) => outcome_of(self.alloc, self.create(create)),
-            Ok(Asked::Drop(drop)) => outcome_of(self.alloc, self.drop_namespace(drop)),
-            Ok(Asked::CreateIndexes(asked)) => self.create_indexes(asked),
-            Ok(Asked::DropIndexes(asked)) => self.drop_indexes(asked),
-            Ok(Asked::Explain(asked)) => outcome_of(self.alloc, self.explain(asked)),
-            Ok(Asked::ViewStats(asked)) => outcome_of(self.alloc, self.view_stats(asked)),
-            Err(refusal) => refuse(self.alloc, refusal),
-        }
-    }
-
-    /// Carries out a write. A statement one of whose changes, made one after the other, would find one of its keys of a
-    /// unique index under another `_id` is refused before the first of them.
-    fn write(&mut self, write: Write<'_>) -> Outcome
-        ensures { WritesOn (write_by (write_seen write.entry)) self.old result self.new }
-    {
-        if self.catalog.is_view(&write.namespace) {
-            return refuse(self.alloc, Refusal::OnView);
-        }
-        self.names.prepare(self.alloc);
-        write_all(self.alloc, &self.names, &mut self.catalog, write)
-    }
-
-    fn find(&mut self, session: u32, find: Find) -> Result<Document, Refusal>
-        ensures catalog { self.new.catalog ≡ self.old.catalog }
-        ensures reply { GivesAndLeaves (finding.reply_to_find session (find_seen find) self.old.catalog self.old.cursors) self.old.cursors result self.new.cursors }
-        ensures marks { StandRead (asking.find (find_seen find)) self.old result self.new.marks }
-    {
-        let rows = self.catalog.find(&find)?;
-        let Find {
-            namespace,
-            batch_size,
-            single_batch,
-            ..
-        } = find;
-        let first = First {
-            session,
-            namespace,
-            count: batch_size,
-            single: single_batch,
-        };
-        self.names.prepare(self.alloc);
-        first_batch(self.alloc, &self.names, &mut self.cursors, first, rows)
-    }
-
-    fn aggregate(&mut self, session: u32, aggregate: Aggregate) -> Result<Document, Refusal>
-        ensures catalog { self.new.catalog ≡ self.old.catalog }
-        ensures reply { GivesAndLeaves (finding.reply_to_aggregate session (aggregate_seen aggregate) self.old.catalog self.old.cursors) self.old.cursors result self.new.cursors }
-        ensures marks { StandRead (asking.aggregate (aggregate_seen aggregate)) self.old result self.new.marks }
-    {
-        let rows = self.catalog.aggregate(&aggregate)?;
-        let Aggregate {
-            namespace,
-            batch_size,
-            ..
-        } = aggregate;
-        let first = First {
-            session,
-            namespace,
-            count: batch_size,
-            single: false,
-        };
-        self.names.prepare(self.alloc);
-        first_batch(self.alloc, &self.names, &mut self.cursors, first, rows)
-    }
-
-    fn get_more(&mut self, session: u32, asked: GetMore) -> Result<Document, Refusal>
-        ensures catalog { self.new.catalog ≡ self.old.catalog }
-        ensures reply { GivesAndLeaves (more.next_batch session (get_more_seen asked) self.old.cursors) self.old.cursors result self.new.cursors }
-        ensures marks { self.new.marks ≡ self.old.marks }
-    {
-        self.names.prepare(self.alloc);
-        next_batch(self.alloc, &self.names, &mut self.cursors, session, asked)
-    }
-
-    fn kill_cursors(&mut self, session: u32, asked: KillCursors) -> Outcome
-        ensures catalog { self.new.catalog ≡ self.old.catalog }
-        ensures reply { Ends (Ok (more.killed session (kill_cursors_seen asked) self.old.cursors)) self.old.cursors result self.new.cursors }
-        ensures marks { self.new.marks ≡ self.old.marks }
-    {
-        kill_all(self.alloc, &mut self.cursors, session, asked)
-    }
-
-    fn create(&mut self, create: Create) -> Result<Document, Refusal>
-        ensures cursors { self.new.cursors ≡ self.old.cursors }
-        ensures reply { let asked = create_seen create in GivesAndLeaves (replying (replies.reply_of []) (views.created asked.namespace asked.view self.old.catalog)) self.old.catalog result self.new.catalog }
-        ensures marks { let view = (create_seen create).view in StandMade (names_of_new view) (marks_made view self.old.catalog.views self.old.marks) (marked self.old) result self.new.marks }
-    {
-        // Behind the change nothing may want memory.
-        let reply = reply_of(Document::new(self.alloc))?;
-        self.catalog.create(create)?;
-        Ok(reply)
-    }
-
-    fn drop_namespace(&mut self, drop: DropNamespace) -> Result<Document, Refusal>
-        ensures cursors { self.new.cursors ≡ self.old.cursors }
-        ensures reply { let asked = drop_seen drop in GivesAndLeaves (replying (replies.drop_reply asked.namespace) (views.dropped asked.namespace self.old.catalog)) self.old.catalog result self.new.catalog }
-        ensures marks { StandSo (AreMarkedByDrop (drop_seen drop).namespace self.old.catalog self.old.marks) self.old.marks result self.new.marks }
-    {
-        let DropNamespace { namespace } = drop;
-        // Behind the change nothing may want memory.
-        let told = String::from_str(self.alloc, &namespace)?;
-        let reply = drop_reply(self.alloc, told)?;
-        self.catalog.remove(&namespace)?;
-        Ok(reply)
-    }
-
-    fn create_indexes(&mut self, asked: CreateIndexes) -> Outcome
-        ensures cursors { self.new.cursors ≡ self.old.cursors }
-        ensures reply { Ends (indexing.indexed (create_indexes_seen asked) self.old.catalog) self.old.catalog result self.new.catalog }
-        ensures marks { self.new.marks ≡ self.old.marks }
-    {
-        let CreateIndexes { namespace, indexes } = asked;
-        let Ok(entries) = new_indexes(self.alloc, indexes) else {
-            return refuse(self.alloc, Refusal::WantOfMemory);
-        };
-        match self.catalog.create_indexes(&namespace, entries) {
-            Ok(counts) => told(create_indexes_reply(self.alloc, counts.before, counts.after)),
-            Err(refusal) => refuse(self.alloc, refusal),
-        }
-    }
-
-    fn drop_indexes(&mut self, asked: DropIndexes) -> Outcome
-        ensures cursors { self.new.cursors ≡ self.old.cursors }
-        ensures reply { Ends (indexing.unindexed (drop_indexes_seen asked) self.old.catalog) self.old.catalog result self.new.catalog }
-        ensures marks { self.new.marks ≡ self.old.marks }
-    {
-        let DropIndexes { namespace, index } = asked;
-        match self.catalog.drop_indexes(&namespace, &index) {
-            Ok(count) => told(drop_indexes_reply(self.alloc, count)),
-            Err(refusal) => refuse(self.alloc, refusal),
-        }
-    }
-
-    fn explain(&mut self, asked: Explain) -> Result<Document, Refusal>
-        ensures same { standing self.old.marks self.new ≡ self.old }
-        ensures reply { UnlessWanting (λ reply. reply) (Ok (indexing.find_explained (explain_seen asked) self.old.catalog)) result }
-        ensures marks { StandRead (asking.explain (explain_seen asked)) self.old result self.new.marks }
-    {
-        let Explain { find } = asked;
-        let told = self.catalog.explain(&find.namespace, &find.filter)?;
-        explained(self.alloc, told)
-    }
-
-    fn view_stats(&self, asked: ViewStats) -> Result<Document, Refusal>
-        ensures { UnlessWanting (λ reply. reply) (telling.view_told (view_stats_seen asked) (marked self.now)) result }
-    {
-        let Some(stats) = self.catalog.stats(&asked.namespace) else {
-            return Err(Refusal::NamespaceNotFound);
-        };
-        let reply = view_stats_reply(self.alloc, stats.is_live, stats.rows, stats.ticks)?;
-        Ok(reply)
+        states_stay_orderly();
+        self.machine.execute(session, command)
     }
 
     /// Loads a document into the collection of a namespace, which is made where it isn't there: what an insert of that
@@ -260,31 +72,15 @@ impl Store {
         ensures code { IfErr result (λ code. loading.IsCodeOf (loading.loaded namespace.now document self.old) code) }
         ensures kept { OnErr result (self.new ≡ self.old) }
     {
-        match self.insert_alone(namespace, &document) {
-            Ok(()) => Ok(()),
-            Err(refusal) => Err(refusal.code()),
-        }
-    }
-
-    /// Inserts a document into the collection of the namespace that a text is. Refused as `load` is; then nothing is changed.
-    fn insert_alone(&mut self, text: &str, document: &Document) -> Result<(), Refusal>
-        ensures { LoadsOne text.now document.now self.old result self.new }
-    {
-        let namespace = namespace_in(self.alloc, text)?;
-        if self.catalog.is_view(&namespace) {
-            return Err(Refusal::OnView);
-        }
-        let stored = storable(self.alloc, document)?;
-        if let Err(stopped) = self.catalog.insert(&namespace, stored) {
-            return Err(stopped.refusal);
-        }
-        Ok(())
+        states_stay_orderly();
+        self.machine.load(namespace, document)
     }
 
     /// Ends the cursors of a session. Takes no memory, and costs the cursors that it has.
     pub fn end_session(&mut self, session: u32)
         ensures { self.new ≡ end_session session self.old }
     {
-        self.cursors.end_session(session);
+        states_stay_orderly();
+        self.machine.end_session(session);
     }
 }

@@ -5,7 +5,7 @@ use Rattle.dv_command.specs.View.{write_seen}
 use Rattle.dv_core.specs.State.{State}
 use Rattle.dv_core.specs.Writes.{write_by}
 use Rattle.dv_core.proofs.Steps.{on_collection}
-use Rattle.dv_core.proofs.store.Store.write.Goals as goal
+use Rattle.dv_core.proofs.machine.Machine.write.Goals as goal
 
 pub returns : goal.returns
 returns c =

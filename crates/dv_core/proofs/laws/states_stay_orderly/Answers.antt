@@ -2,7 +2,7 @@ use Rattle.dv_core.specs.State.{standing}
 use Rattle.dv_core.proofs.Bare.{bare}
 use Rattle.dv_core.proofs.Ordered.{AreApart, CollectionLaws, empty_whole, loaded_apart, steps_apart}
 use Rattle.dv_core.proofs.Unique.{UniqueLaws}
-use Rattle.dv_core.proofs.laws.unique_keys_stay_apart.Goals as goal
+use Rattle.dv_core.proofs.laws.states_stay_orderly.Goals as goal
 
 pub returns : goal.returns
 returns c =
@@ -24,13 +24,13 @@ returns c =
       one_by_one = c.indexes_break_one_by_one.ensures;
     } in
     record {
-      before = λ namespace. (empty_whole namespace).unique;
-      after = λ old new session command outcome ordered unbroken steps. (
+      before = record { ordered = λ namespace. (empty_whole namespace).documents.0; unique = λ namespace. (empty_whole namespace).unique };
+      after = λ old new session command outcome keeps steps. (
           let left : AreApart (standing old.marks new) =
-          steps_apart laws unique old (standing old.marks new) session command outcome (λ name. record { documents = ordered name; unique = unbroken name }) (bare old new session command outcome steps) in
-          λ namespace. (left namespace).unique);
-      loaded = λ old new namespace d ordered unbroken is. (
-          let left : AreApart new = loaded_apart laws unique old new namespace d (λ name. record { documents = ordered name; unique = unbroken name }) is in
-          λ name. (left name).unique);
-      ended = λ session state unbroken. unbroken;
+          steps_apart laws unique old (standing old.marks new) session command outcome (λ namespace. record { documents = keeps.ordered namespace; unique = keeps.unique namespace }) (bare old new session command outcome steps) in
+          record { ordered = λ namespace. (left namespace).documents; unique = λ namespace. (left namespace).unique });
+      loaded = λ old new text d keeps is. (
+          let left : AreApart (standing old.marks new) = loaded_apart laws unique old (standing old.marks new) text d (λ namespace. record { documents = keeps.ordered namespace; unique = keeps.unique namespace }) is.so in
+          record { ordered = λ namespace. (left namespace).documents; unique = λ namespace. (left namespace).unique });
+      ended = λ session state keeps. record { ordered = keeps.ordered; unique = keeps.unique };
     }

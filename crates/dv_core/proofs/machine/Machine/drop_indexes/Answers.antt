@@ -4,7 +4,7 @@ use Rattle.dv_command.specs.Replies.{drop_indexes_reply}
 use Rattle.dv_command.specs.View.{drop_indexes_seen}
 use Rattle.dv_core.specs.Indexes.{index_count, unindexed}
 use Rattle.dv_core.proofs.Endings.{done_ends, unindexed_so}
-use Rattle.dv_core.proofs.store.Store.drop_indexes.Goals as goal
+use Rattle.dv_core.proofs.machine.Machine.drop_indexes.Goals as goal
 
 pub returns-in-Ok-clause-reply : goal.returns-in-Ok-clause-reply
 returns-in-Ok-clause-reply c =

@@ -10,7 +10,7 @@ use Rattle.dv_core.specs.State.{marked}
 use Rattle.dv_core.specs.Stats.{view_told}
 use Rattle.dv_core.specs.Step.{replying}
 use Rattle.dv_core.proofs.Steps.{catalog_ended, catalog_given, create_stands, cursors_ended, cursors_given, drop_stands, read_by_so, read_steps, refusal_steps, same_by, write_steps}
-use Rattle.dv_core.proofs.store.Store.execute.Goals as goal
+use Rattle.dv_core.proofs.machine.Machine.execute.Goals as goal
 
 pub returns-in-Ok-Write-clause-step : goal.returns-in-Ok-Write-clause-step
 returns-in-Ok-Write-clause-step c =

@@ -4,7 +4,7 @@ use Rattle.dv_command.specs.Replies.{create_indexes_reply}
 use Rattle.dv_command.specs.View.{create_indexes_seen}
 use Rattle.dv_core.specs.Indexes.{form_asked, index_count, indexed}
 use Rattle.dv_core.proofs.Endings.{done_ends, indexed_so, wanting_ends}
-use Rattle.dv_core.proofs.store.Store.create_indexes.Goals as goal
+use Rattle.dv_core.proofs.machine.Machine.create_indexes.Goals as goal
 
 pub returns-in_default-clause-reply : goal.returns-in_default-clause-reply
 returns-in_default-clause-reply c = wanting_ends (indexed (create_indexes_seen c.args.asked) c.args.self.now.catalog) c.args.self.now.catalog c.args.self.now.catalog c.refuse.result c.refuse.ensures refl

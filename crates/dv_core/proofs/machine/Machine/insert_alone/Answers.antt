@@ -5,7 +5,7 @@ use Rattle.dv_core.specs.Load.{namespace_in}
 use Rattle.dv_core.specs.State.{State}
 use Rattle.dv_core.specs.Storable.{storable}
 use Rattle.dv_core.proofs.Alone.{load_done, load_stopped}
-use Rattle.dv_core.proofs.store.Store.insert_alone.Goals as goal
+use Rattle.dv_core.proofs.machine.Machine.insert_alone.Goals as goal
 
 pub returns-in-Err : goal.returns-in-Err
 returns-in-Err c =
