@@ -114,8 +114,7 @@ impl Collection {
     }
 
     /// Puts the document in place of the one with an equal `_id`, and answers whether there is one. Where there is none,
-    /// nothing is changed, and the document is dropped. Takes no memory, unless a copy shares the document's fields: then these
-    /// may be copied, to have the names of the first document.
+    /// nothing is changed, and the document is dropped. Takes no memory.
     #[tactic(auto, using(crate::proofs::Replaced::replacements))]
     pub fn replace(&mut self, mut document: Document) -> bool
         requires { HasId document }

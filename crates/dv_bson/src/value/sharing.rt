@@ -9,9 +9,8 @@ use std::rc::Rc;
 
 impl Document {
     /// Lets the names of the fields lie where those of the other document do, if these are the same, or no more than as
-    /// many follow there. Nothing that a caller sees changes but how much memory is taken. Fields that a copy shares are
-    /// copied first, where no other document has their names; where others have them, or memory is wanting, they stay
-    /// where they are.
+    /// many follow there; where a copy shares the fields, they stay where they are. Nothing that a caller sees changes but
+    /// how much memory is taken. Takes none.
     pub fn share_names(&mut self, with: &Document)
         ensures { self.new ≡ self.old }
     {
@@ -29,13 +28,9 @@ impl Document {
         let Some(others) = &with.fields else {
             return;
         };
-        if !gains_names(shared, others.fields()) {
-            return;
+        if let Some(own) = Rc::get_mut(shared) {
+            own.share_names(others.fields(), levels);
         }
-        let Ok(own) = Rc::make_mut(shared) else {
-            return;
-        };
-        own.share_names(others.fields(), levels);
     }
 }
 
@@ -65,14 +60,6 @@ impl Fields {
         self.names = names;
         share_inner_names(&mut self.values, &other.values, levels);
     }
-}
-
-/// Whether the fields may take the other's names: where no copy shares them, or names that no other document has could go.
-fn gains_names(shared: &Rc<Measured>, other: &Fields) -> bool {
-    let fields = shared.fields();
-    Rc::strong_count(shared) == 1
-        || (Rc::strong_count(&fields.names) == 1
-            && fields.names.begins_as(&other.names, fields.values.len()))
 }
 
 /// Lets the names of the documents among these values lie where those of the documents at their places do.
