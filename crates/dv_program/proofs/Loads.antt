@@ -20,10 +20,10 @@ pub record LoadsSoFar (file namespace : List ℕ) (old : State) (number : ℕ) (
   pub number_is : number ≡ length documents + 1
   pub within : length documents + length rest ≤ length file
 
-pub nothing_yet : (file namespace : List ℕ) (old : State) → LoadsSoFar file namespace old 1 file old
-nothing_yet file namespace old = record {
+pub nothing_yet : (file namespace : List ℕ) (old : State) → length file ≤ 1073741824 → LoadsSoFar file namespace old 1 file old
+nothing_yet file namespace old small = record {
   documents = [];
-  loads = record { front = []; whole = refl; held = record { storable = tt; whole = refl }; stand = refl };
+  loads = record { small = small; front = []; whole = refl; held = record { storable = tt; whole = refl }; stand = refl };
   number_is = refl;
   within = omega arith;
 }
@@ -38,6 +38,7 @@ LoadsEach-more namespace (e ∷ documents) d old mid new before this = (before.0
 Loads-more : (file namespace : List ℕ) (old mid new : State) (documents : List (List Field)) (rest : List ℕ) (d : List Field) (behind : List ℕ)
     → LoadsDocuments file namespace old documents rest mid → Begins rest d behind → IsLoaded namespace d mid new → LoadsDocuments file namespace old (documents ++ d ∷ []) behind new
 Loads-more file namespace old mid new documents rest d behind loads begins this = record {
+  small = loads.small;
   front = loads.front ++ begins.front;
   whole = loads.whole ∙ ap (λ xs. loads.front ++ xs) begins.whole ∙ sym (append_assoc loads.front begins.front behind);
   held = Holds-more documents d loads.front begins.front loads.held begins.spells begins.fits;

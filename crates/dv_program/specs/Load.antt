@@ -1,5 +1,5 @@
 -- Loading the documents of a file, one after the other.
-use Rattle.std.specs.Prelude.{◌≡◌, ◌≢◌, ◌⊎◌, ⊤, ℕ, ◌+◌, ◌<◌, ℤ, pos, List, [], ◌∷◌, ◌++◌, length, Bool, true, false, Result, Ok, Err, Some}
+use Rattle.std.specs.Prelude.{◌≡◌, ◌≢◌, ◌⊎◌, ⊤, ℕ, ◌+◌, ◌<◌, ◌≤◌, ℤ, pos, List, [], ◌∷◌, ◌++◌, length, Bool, true, false, Result, Ok, Err, Some}
 use Rattle.dv_bson.specs.Tree.{Field}
 use Rattle.dv_bson.specs.Reading.{first_fault}
 use Rattle.dv_core.specs.Load.{IsCodeOf, IsLoaded, loaded}
@@ -25,8 +25,9 @@ abbrev pub LoadsEach : List ℕ → List (List Field) → State → State → Ty
 LoadsEach namespace [] old new = new ≡ old
 LoadsEach namespace (d ∷ documents) old new = (mid : State) × IsLoaded namespace d old mid × LoadsEach namespace documents mid new
 
--- documents from the front of a file are loaded under the namespace, and this is left; these bytes stand behind them
+-- documents from the front of a file, which isn't too large, are loaded under the namespace, and this is left; these bytes stand behind them
 pub record LoadsDocuments (file namespace : List ℕ) (old : State) (documents : List (List Field)) (rest : List ℕ) (new : State) : Type 0 where
+  pub small : length file ≤ 1073741824
   pub front : List ℕ
   pub whole : file ≡ front ++ rest
   pub held : Holds documents front

@@ -1,6 +1,6 @@
 //! Loading a file of documents into a store.
 
-ghost use Rattle.std.specs.Prelude.{◌≡◌, ◌≢◌, ◌⊎◌, ℕ, List, Ok, Err, pos, IfErr, IfOk, IfSome, OnErr};
+ghost use Rattle.std.specs.Prelude.{◌≡◌, ◌≢◌, ◌⊎◌, ◌≤◌, ℕ, List, Ok, Err, length, pos, IfErr, IfOk, IfSome, OnErr};
 ghost use Rattle.dv_bson.specs.declared.fault.BsonFault.{BsonFault};
 ghost use Rattle.dv_bson.specs.Tree.{Field};
 ghost use Rattle.dv_core.specs.Load.{IsLoaded};
@@ -109,6 +109,7 @@ fn load_documents(
     namespace: &str,
     bytes: &[u8],
 ) -> Result<(), LoadFault>
+    requires { length bytes.now ≤ 1073741824 }
     ensures loads { LoadsFile bytes.now namespace.now store.old result store.new }
     ensures reader { (n : ℕ) → failures_told load_read_failed result n ≡ n }
 {
