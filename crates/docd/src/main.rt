@@ -7,7 +7,7 @@ use dv_program::program::docd;
 use std::process::ExitCode;
 
 fn main(rt: HostRuntime) -> ExitCode {
-    match docd(&rt) {
+    match docd(&rt, &rt.stderr()) {
         Ok(()) => ExitCode::SUCCESS,
         Err(fault) => {
             // Where standard error fails too, the status alone tells of the fault.

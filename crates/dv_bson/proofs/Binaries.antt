@@ -3,9 +3,9 @@ use Rattle.std.proofs.Common.{◌≡◌, ℕ, ◌+◌, ◌<◌, ◌≤◌, false
 use Rattle.std.specs.Int.{w32, to_le_bytes, from_le_bytes}
 use Rattle.std.proofs.lemmas.Bool.{ltb-false, le-ltb, or_parts}
 use Rattle.std.proofs.lemmas.List.{take_at, drop_at, take-append-drop, length-append, length-take}
-use Rattle.dv_bson.specs.declared.fault.BsonFault.TheVariants.{BadLength}
-use Rattle.dv_bson.specs.Tree.{Tree, binary}
-use Rattle.dv_bson.specs.Spelling.{IsBytes, tagged}
+use Rattle.dv_value.specs.declared.fault.BsonFault.TheVariants.{BadLength}
+use Rattle.dv_value.specs.Tree.{Tree, binary}
+use Rattle.dv_value.specs.Spelling.{IsBytes, tagged}
 use Rattle.dv_bson.specs.Reading.{tagged_at, binary_at}
 use Rattle.dv_bson.proofs.Steps.{IsBytes-take, IsBytes-drop, IsBytes-rest, Takes, refused_not, ok_is}
 use Rattle.dv_bson.proofs.Numbers.{wide32}
@@ -57,7 +57,3 @@ unfolding tagged
 binary_again subtype own rest lt =
     let count = to_le_bytes w32 (length own) in
     ap binary_at (append_assoc count (subtype ∷ own) rest) ∙ binary_front count own rest subtype (wide32.len (length own)) (wide32.again (length own) (omega arith)) lt
-
-pub length-tagged : (subtype : ℕ) (own : List ℕ) → length (tagged subtype own) ≡ length own + 5
-unfolding tagged
-length-tagged subtype own = omega (arith, length-append (to_le_bytes w32 (length own)) (subtype ∷ own), wide32.len (length own))

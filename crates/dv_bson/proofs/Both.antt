@@ -2,14 +2,15 @@
 use Rattle.std.proofs.Common.{◌≡◌, ℕ, suc, ◌+◌, ◌-◌, ◌<◌, ◌≤◌, ◌↔◌, max, false, ltb, List, [], ◌++◌, length, take, drop, Some, None, Result, Ok, Err, refl, sym, ap, ap₂, subst, ◌∙◌, arith}
 use Rattle.std.proofs.lemmas.Bool.{ltb-false, le-ltb}
 use Rattle.std.proofs.lemmas.List.{take_at, length-append, length-take, length-drop, take-append-drop}
-use Rattle.dv_bson.specs.declared.fault.BsonFault.{BsonFault}
-use Rattle.dv_bson.specs.declared.fault.BsonFault.TheVariants.{BadLength, Truncated, TooLarge}
-use Rattle.dv_bson.specs.Tree.{Field, fields_of}
-use Rattle.dv_bson.specs.Spelling.{framed, payload, fields_spelling, elements_spelling, fields_levels, spelling, IsBytes, Spells, Fits}
+use Rattle.dv_value.specs.declared.fault.BsonFault.{BsonFault}
+use Rattle.dv_value.specs.declared.fault.BsonFault.TheVariants.{BadLength, Truncated, TooLarge}
+use Rattle.dv_value.specs.Tree.{Field, fields_of}
+use Rattle.dv_value.specs.Spelled.{length-framed}
+use Rattle.dv_value.specs.Spelling.{framed, payload, fields_spelling, elements_spelling, fields_levels, spelling, IsBytes, Spells, Fits}
 use Rattle.dv_bson.specs.Reading.{count_at, Frame, frame_of, body_at, outermost_of, document_at, fault_of, first_fault}
-use Rattle.dv_bson.specs.Results.{◌>>=◌}
+use Rattle.dv_value.specs.Results.{◌>>=◌}
 use Rattle.dv_bson.proofs.Steps.{bind_ok, bind_at, refused_not, given, ok_is, IsBytes-take, IsBytes-drop, Takes}
-use Rattle.dv_bson.proofs.Frames.{length-framed, framed_count, frame_of_again, frame_of_takes}
+use Rattle.dv_bson.proofs.Frames.{framed_count, frame_of_again, frame_of_takes}
 use Rattle.dv_bson.proofs.Fields.{AreFields-from_read, AreRead-fields}
 use Rattle.dv_bson.proofs.Taken.{TakesInside, body_sound}
 use Rattle.dv_bson.proofs.Again.{body_complete}

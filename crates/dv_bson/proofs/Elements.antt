@@ -1,12 +1,12 @@
 -- An element that was read, as a part of what it was read into.
 use Rattle.std.proofs.Common.{◌≡◌, ℕ, suc, ◌+◌, ◌-◌, true, false, List, [], ◌∷◌, ◌++◌, length, map, decimal, Ok, refl, ap, subst, ◌∙◌, arith}
-use Rattle.dv_bson.specs.declared.kind.Kind.TheVariants as kinds
-use Rattle.dv_bson.specs.declared.value.Value.{Value}
-use Rattle.dv_bson.specs.Tree.{Tree, array, Field, elements_of}
-use Rattle.dv_bson.specs.View.{tree}
-use Rattle.dv_bson.specs.Names.{has_name, has_zero}
+use Rattle.dv_value.specs.declared.kind.Kind.TheVariants as kinds
+use Rattle.dv_value.specs.declared.value.Value.{Value}
+use Rattle.dv_value.specs.Tree.{Tree, array, Field, elements_of}
+use Rattle.dv_value.specs.View.{tree}
+use Rattle.dv_value.specs.Names.{has_name, has_zero}
 use Rattle.dv_bson.specs.Reading.{name_at, value_at, Frame, frame_at, Inside}
-use Rattle.dv_bson.specs.Results.{◌>>=◌}
+use Rattle.dv_value.specs.Results.{◌>>=◌}
 use Rattle.dv_bson.specs.Parts.{with_name, front_kind_at, field_at, numbered}
 use Rattle.dv_bson.proofs.Steps.{bind_ok, ok_is}
 use Rattle.dv_bson.proofs.Fields.{name_takes, values-numbered}

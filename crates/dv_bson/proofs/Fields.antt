@@ -7,10 +7,10 @@ use Rattle.std.proofs.lemmas.Fmt.{decimal_by_steps, IsAscii-decimal}
 use Rattle.std.proofs.lemmas.List.{length_push}
 use Rattle.std.proofs.lemmas.Slice.Eq.{bytes_eq-Decides}
 use Rattle.std.proofs.lemmas.Str.{IsUtf8-from_is_utf8, is_utf8-from_IsUtf8, IsUtf8-from_ascii}
-use Rattle.dv_bson.specs.declared.fault.BsonFault.TheVariants.{BadLength, BadUtf8, BadArrayName, RepeatedName}
-use Rattle.dv_bson.specs.Tree.{Tree, Fields, no_fields, field, Elements, no_elements, element, Field, fields_of, list_of_fields, elements_of, list_of_elements}
-use Rattle.dv_bson.specs.Names.{has_name, has_zero}
-use Rattle.dv_bson.specs.Spelling.{kind_of, element_spelling, payload, fields_spelling, elements_spelling, IsValue, AreFields, AreElements, levels, fields_levels, elements_levels}
+use Rattle.dv_value.specs.declared.fault.BsonFault.TheVariants.{BadLength, BadUtf8, BadArrayName, RepeatedName}
+use Rattle.dv_value.specs.Tree.{Tree, Fields, no_fields, field, Elements, no_elements, element, Field, fields_of, list_of_fields, elements_of, list_of_elements}
+use Rattle.dv_value.specs.Names.{has_name, has_zero}
+use Rattle.dv_value.specs.Spelling.{kind_of, element_spelling, payload, fields_spelling, elements_spelling, IsValue, AreFields, AreElements, levels, fields_levels, elements_levels}
 use Rattle.dv_bson.specs.Reading.{cut_at_zero, checked_name, named_by, name_at}
 use Rattle.dv_bson.specs.Parts.{numbered}
 use Rattle.dv_bson.proofs.Steps.{passed, refused_not, given, ok_is}

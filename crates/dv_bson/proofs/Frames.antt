@@ -5,12 +5,12 @@ use Rattle.std.specs.Str.{IsUtf8, is_utf8}
 use Rattle.std.proofs.lemmas.Bool.{ltb-false, le-ltb, eqb-true, or_parts}
 use Rattle.std.proofs.lemmas.List.{take_at, drop_at, take-append-drop, length-append, length-take, length-drop, get_or-drop, get_or_at, drop-drop}
 use Rattle.std.proofs.lemmas.Str.{IsUtf8-from_is_utf8, is_utf8-from_IsUtf8}
-use Rattle.dv_bson.specs.declared.fault.BsonFault.{BsonFault}
-use Rattle.dv_bson.specs.declared.fault.BsonFault.TheVariants.{BadLength, BadUtf8}
-use Rattle.dv_bson.specs.Tree.{Tree, Field}
-use Rattle.dv_bson.specs.Spelling.{IsBytes, framed, counted}
+use Rattle.dv_value.specs.declared.fault.BsonFault.{BsonFault}
+use Rattle.dv_value.specs.declared.fault.BsonFault.TheVariants.{BadLength, BadUtf8}
+use Rattle.dv_value.specs.Tree.{Tree, Field}
+use Rattle.dv_value.specs.Spelling.{IsBytes, framed, counted}
 use Rattle.dv_bson.specs.Reading.{Inside, count_at, counted_at, text_at, Frame, frame_of, framed_at, frame_at}
-use Rattle.dv_bson.specs.Results.{◌>>=◌}
+use Rattle.dv_value.specs.Results.{◌>>=◌}
 use Rattle.dv_bson.proofs.Steps.{IsBytes-take, IsBytes-drop, Takes, refused_not, passed, given, ok_is, parted_at_zero}
 use Rattle.dv_bson.proofs.Numbers.{count_takes, count_again, wide32}
 
@@ -29,17 +29,6 @@ enclosed_takes bytes n k fits count lt z =
       parts = whole ∙ ap (λ (f : List ℕ). f ++ (take k (drop 4 bytes) ++ 0 ∷ drop (suc k) (drop 4 bytes))) count ∙ sym (regrouped (to_le_bytes w32 n) (take k (drop 4 bytes)) (drop (suc k) (drop 4 bytes)));
       rest_fits = IsBytes-drop (suc k) (drop 4 bytes) (IsBytes-drop 4 bytes fits);
     }
-
-length-enclosed : (n : ℕ) (text : List ℕ) → length (enclosed n text) ≡ length text + 5
-length-enclosed n text = omega (arith, length-append (to_le_bytes w32 n) (text ++ 0 ∷ []), length-append text (0 ∷ []), wide32.len n)
-
-pub length-counted : (text : List ℕ) → length (counted text) ≡ length text + 5
-unfolding counted
-length-counted text = length-enclosed (length text + 1) text
-
-pub length-framed : (elements : List ℕ) → length (framed elements) ≡ length elements + 5
-unfolding framed
-length-framed elements = length-enclosed (length elements + 5) elements
 
 -- ---- texts
 

@@ -1,11 +1,11 @@
 -- The byte for a type and a name: what is read is spelled so, and what is spelled so is read.
 use Rattle.std.proofs.Common.{◌≡◌, ℕ, ◌⊎◌, Bool, true, false, cond, eqb, List, [], ◌∷◌, ◌++◌, Option, Some, None, Ok, refl, ap, subst, ◌∙◌, inl, inr}
 use Rattle.std.proofs.lemmas.Bool.{eqb-true, or_from, or_parts}
-use Rattle.dv_bson.specs.declared.kind.Kind.{Kind}
-use Rattle.dv_bson.specs.declared.kind.Kind.TheVariants as kinds
-use Rattle.dv_bson.specs.declared.fault.BsonFault.TheVariants.{BadLength}
-use Rattle.dv_bson.specs.Names.{has_zero}
-use Rattle.dv_bson.specs.Spelling.{type_byte}
+use Rattle.dv_value.specs.declared.kind.Kind.{Kind}
+use Rattle.dv_value.specs.declared.kind.Kind.TheVariants as kinds
+use Rattle.dv_value.specs.declared.fault.BsonFault.TheVariants.{BadLength}
+use Rattle.dv_value.specs.Names.{has_zero}
+use Rattle.dv_value.specs.Spelling.{type_byte}
 use Rattle.dv_bson.specs.Reading.{kind_at, kind_of_byte, kind_or_refused, cut_at_zero, onto_name}
 use Rattle.dv_bson.proofs.Steps.{refused_not}
 

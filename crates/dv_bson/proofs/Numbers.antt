@@ -7,9 +7,9 @@ use Rattle.std.proofs.lemmas.Bool.{ltb-false, le-ltb, lt-ltb}
 use Rattle.std.proofs.lemmas.Int.{of_z-to_z, to_z-of_z}
 use Rattle.std.proofs.lemmas.List.{take_at, drop_at, take-append-drop, length-append, length-take}
 use Rattle.std.proofs.lemmas.Nat.{le_bytes_4, le_bytes_8, from_le_bytes-to_le_bytes_4, from_le_bytes-to_le_bytes_8}
-use Rattle.dv_bson.specs.declared.fault.BsonFault.TheVariants.{BadLength}
-use Rattle.dv_bson.specs.Tree.{Tree}
-use Rattle.dv_bson.specs.Spelling.{IsBytes}
+use Rattle.dv_value.specs.declared.fault.BsonFault.TheVariants.{BadLength}
+use Rattle.dv_value.specs.Tree.{Tree}
+use Rattle.dv_value.specs.Spelling.{IsBytes}
 use Rattle.dv_bson.specs.Reading.{count_at, first_bytes, signed_at}
 use Rattle.dv_bson.proofs.Steps.{IsBytes-take, IsBytes-drop, Takes, refused_not, ok_is}
 

@@ -1,15 +1,15 @@
 -- The outermost document, whose frame is looked at first.
 use Rattle.std.proofs.Common.{◌≡◌, ℕ, ◌++◌, ◌⊎◌, inl, inr, Bool, true, false, List, length, Option, None, Some, Result, Ok, Err, refl, ap, subst, ◌∙◌}
 use Rattle.std.specs.Prelude.{if◌then◌else◌, nat_lt}
-use Rattle.dv_bson.specs.declared.fault.BsonFault.{BsonFault}
-use Rattle.dv_bson.specs.declared.fault.BsonFault.TheVariants.{Truncated, BadLength, TooLarge, NoMemory}
+use Rattle.dv_value.specs.declared.fault.BsonFault.{BsonFault}
+use Rattle.dv_value.specs.declared.fault.BsonFault.TheVariants.{Truncated, BadLength, TooLarge, NoMemory}
 use Rattle.dv_bson.specs.declared.fault.ReadError.{ReadError}
 use Rattle.dv_bson.specs.declared.fault.ReadError.TheVariants as errors
 use Rattle.dv_bson.specs.Reading.{Fails, count_at, Frame, frame_of, body_at, outermost_of, document_at, first_fault, fault_of}
-use Rattle.dv_bson.specs.Results.{◌>>=◌}
+use Rattle.dv_value.specs.Results.{◌>>=◌}
 use Rattle.dv_bson.specs.Parts.{outermost_frame, outermost_frame_at, public_fault}
-use Rattle.dv_bson.specs.Spelling.{Spells, Fits}
-use Rattle.dv_bson.specs.Tree.{Field}
+use Rattle.dv_value.specs.Spelling.{Spells, Fits}
+use Rattle.dv_value.specs.Tree.{Field}
 use Rattle.dv_bson.proofs.Both.{document_again}
 
 -- the document in a frame, and its length

@@ -1,13 +1,10 @@
--- The bytes of each kind of value, and how many there are.
-use Rattle.std.proofs.Common.{◌≡◌, ℕ, ℤ, ◌+◌, Bool, List, [], ◌∷◌, length, length-append, refl, ap, ◌∙◌, arith}
+-- The bytes of each kind of value.
+use Rattle.std.proofs.Common.{◌≡◌, ℕ, ℤ, Bool, List, [], ◌∷◌, refl, ap, ◌∙◌}
 use Rattle.std.specs.Prelude.{FitsSigned}
 use Rattle.std.specs.Int.{w32, w64, to_le_bytes, cast_unsigned, cast_signed, from_bool}
 use Rattle.std.proofs.lemmas.Int.{to_z-of_z}
-use Rattle.dv_bson.specs.declared.kind.Kind.{Kind}
-use Rattle.dv_bson.specs.Tree.{int32, int64, string, document, array, boolean, binary, object_id, date, null, timestamp, min_key, max_key, Fields, Elements}
-use Rattle.dv_bson.proofs.Binaries.{length-tagged}
-pub use Rattle.dv_bson.proofs.Frames.{length-counted, length-framed}
-use Rattle.dv_bson.specs.Spelling.{framed, counted, tagged, element_spelling, payload, fields_spelling, elements_spelling}
+use Rattle.dv_value.specs.Tree.{int32, int64, string, document, array, boolean, binary, object_id, date, null, timestamp, min_key, max_key, Fields, Elements}
+use Rattle.dv_value.specs.Spelling.{framed, counted, tagged, payload, fields_spelling, elements_spelling}
 
 -- a signed number's bytes, as code reads them through its bits
 pub payload-int32 : (n : ℤ) (bytes : List ℕ) → FitsSigned w32 n → bytes ≡ to_le_bytes w32 (cast_unsigned w32 (cast_signed w32 (cast_unsigned w32 n))) → bytes ≡ payload (int32 n)
@@ -62,19 +59,3 @@ payload-document fs = refl
 pub payload-array : (vs : Elements) → payload (array vs) ≡ framed (elements_spelling 0 vs)
 unfolding payload
 payload-array vs = refl
-
-pub length-element_spelling : (kind : Kind) (name value : List ℕ) → length (element_spelling kind name value) ≡ length value + length name + 2
-unfolding element_spelling
-length-element_spelling kind name value = omega (arith, length-append name (0 ∷ value))
-
-pub length-document : (fs : Fields) → length (payload (document fs)) ≡ length (fields_spelling fs) + 5
-length-document fs = rw payload-document (length-framed (fields_spelling fs))
-
-pub length-array : (vs : Elements) → length (payload (array vs)) ≡ length (elements_spelling 0 vs) + 5
-length-array vs = rw payload-array (length-framed (elements_spelling 0 vs))
-
-pub binary_length : (subtype : ℕ) (bytes : List ℕ) → length (payload (binary subtype bytes)) ≡ length bytes + 5
-binary_length subtype bytes = rw payload-binary (length-tagged subtype bytes)
-
-pub length-string : (s : List ℕ) → length (payload (string s)) ≡ length s + 5
-length-string s = rw payload-string (length-counted s)

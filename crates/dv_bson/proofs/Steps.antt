@@ -3,9 +3,9 @@ use Rattle.std.proofs.Common.{◌≡◌, ℕ, suc, ◌+◌, ◌<◌, ◌⊎◌, 
 use Rattle.std.proofs.lemmas.Bool.{cases_lt}
 use Rattle.std.proofs.lemmas.List.{length-take, get_or-drop, get_or-take, get_or_past, get_or-append-add, take-append-drop}
 use Rattle.std.proofs.Math.Seq.{drop-cons}
-use Rattle.dv_bson.specs.declared.fault.BsonFault.{BsonFault}
-use Rattle.dv_bson.specs.Spelling.{IsBytes}
-use Rattle.dv_bson.specs.Results.{◌>>=◌}
+use Rattle.dv_value.specs.declared.fault.BsonFault.{BsonFault}
+use Rattle.dv_value.specs.Spelling.{IsBytes}
+use Rattle.dv_value.specs.Results.{◌>>=◌}
 
 -- the value of a step that did not fail
 pub bind_ok : {A B : Type 0} (r : Result A BsonFault) (f : A → Result B BsonFault) (y : B) → (r >>= f) ≡ Ok y → (x : A) × (r ≡ Ok x) × (f x ≡ Ok y)

@@ -2,13 +2,13 @@
 use Rattle.std.proofs.Common.{◌≡◌, ℕ, zero, suc, ◌+◌, ◌-◌, ◌<◌, ◌≤◌, Bool, true, false, eqb, List, [], ◌∷◌, ◌++◌, length, map, Ok, Err, refl, sym, ap, subst, ◌∙◌, append_assoc, append-nil, inl, inr, arith}
 use Rattle.std.specs.Int.{w32, w64, from_le_bytes, from_bool}
 use Rattle.std.proofs.lemmas.Bool.{eqb-true}
-use Rattle.dv_bson.specs.declared.kind.Kind.{Kind}
-use Rattle.dv_bson.specs.declared.kind.Kind.TheVariants as kinds
-use Rattle.dv_bson.specs.declared.fault.BsonFault.TheVariants.{BadLength, BadBool}
-use Rattle.dv_bson.specs.Tree.{Tree, int32, int64, string, document, array, boolean, object_id, date, null, timestamp, min_key, max_key, Field, fields_of, elements_of}
-use Rattle.dv_bson.specs.Spelling.{IsBytes, type_byte, kind_of, framed, element_spelling, payload, fields_spelling, elements_spelling, IsValue, levels, fields_levels}
+use Rattle.dv_value.specs.declared.kind.Kind.{Kind}
+use Rattle.dv_value.specs.declared.kind.Kind.TheVariants as kinds
+use Rattle.dv_value.specs.declared.fault.BsonFault.TheVariants.{BadLength, BadBool}
+use Rattle.dv_value.specs.Tree.{Tree, int32, int64, string, document, array, boolean, object_id, date, null, timestamp, min_key, max_key, Field, fields_of, elements_of}
+use Rattle.dv_value.specs.Spelling.{IsBytes, type_byte, kind_of, framed, element_spelling, payload, fields_spelling, elements_spelling, IsValue, levels, fields_levels}
 use Rattle.dv_bson.specs.Reading.{Inside, kind_at, name_at, text_at, frame_at, boolean_at, value_at, closed_by, fields_at, body_at}
-use Rattle.dv_bson.specs.Results.{◌>>=◌}
+use Rattle.dv_value.specs.Results.{◌>>=◌}
 use Rattle.dv_bson.proofs.Steps.{bind_ok, passed, branched, done, ok_is, IsBytes-rest, IsBytes-behind, Takes}
 use Rattle.dv_bson.proofs.Numbers.{wide32, wide64, first_takes, signed_takes}
 use Rattle.dv_bson.proofs.Binaries.{binary_takes}

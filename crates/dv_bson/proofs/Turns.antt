@@ -1,12 +1,12 @@
 -- An element that is read part by part: what is read of each part, or the first part's fault.
 use Rattle.std.proofs.Common.{◌≡◌, ℕ, ◌+◌, ◌-◌, Bool, List, length, Result, Ok, Err, refl}
-use Rattle.dv_bson.specs.declared.kind.Kind.{Kind}
-use Rattle.dv_bson.specs.declared.fault.BsonFault.{BsonFault}
+use Rattle.dv_value.specs.declared.kind.Kind.{Kind}
+use Rattle.dv_value.specs.declared.fault.BsonFault.{BsonFault}
 use Rattle.dv_bson.specs.declared.fault.ReadError.{ReadError}
 use Rattle.dv_bson.specs.declared.fault.ReadError.TheVariants as errors
-use Rattle.dv_bson.specs.Tree.{Tree, Field}
+use Rattle.dv_value.specs.Tree.{Tree, Field}
 use Rattle.dv_bson.specs.Reading.{Fails, Gives, name_at, value_at, Inside}
-use Rattle.dv_bson.specs.Results.{◌>>=◌}
+use Rattle.dv_value.specs.Results.{◌>>=◌}
 use Rattle.dv_bson.specs.Parts.{GivesPart, front_kind_at, field_at}
 
 fails_first : {A B : Type 0} (e : ReadError) (r : Result A BsonFault) (f : A → Result B BsonFault) → Fails e r → Fails e (r >>= f)

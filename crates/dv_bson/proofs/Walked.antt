@@ -1,14 +1,14 @@
 -- Elements that are gone over, and not made.
 use Rattle.std.proofs.Common.{◌≡◌, ℕ, zero, suc, ◌+◌, ◌-◌, ◌<◌, Bool, true, false, List, [], ◌∷◌, ◌++◌, length, map, Result, Ok, Err, refl, sym, ap, subst, ◌∙◌, arith}
 use Rattle.std.proofs.lemmas.List.{map-append}
-use Rattle.dv_bson.specs.declared.fault.BsonFault.{BsonFault}
+use Rattle.dv_value.specs.declared.fault.BsonFault.{BsonFault}
 use Rattle.dv_bson.specs.declared.fault.ReadError.{ReadError}
-use Rattle.dv_bson.specs.declared.kind.Kind.TheVariants as kinds
-use Rattle.dv_bson.specs.Names.{bare, has_name, has_zero}
+use Rattle.dv_value.specs.declared.kind.Kind.TheVariants as kinds
+use Rattle.dv_value.specs.Names.{bare, has_name, has_zero}
 use Rattle.dv_bson.specs.Parts.{Passes, field_at}
 use Rattle.dv_bson.specs.Reading.{Fails, Gives, Frame, Inside, frame_at, text_at, binary_at, value_at, fields_at}
-use Rattle.dv_bson.specs.Results.{◌>>=◌}
-use Rattle.dv_bson.specs.Tree.{Tree, string, array, document, null, min_key, max_key, Field, fields_of, elements_of}
+use Rattle.dv_value.specs.Results.{◌>>=◌}
+use Rattle.dv_value.specs.Tree.{Tree, string, array, document, null, min_key, max_key, Field, fields_of, elements_of}
 use Rattle.dv_bson.proofs.Elements.{field_may_be_added}
 use Rattle.dv_bson.proofs.Fronts.{has_name-bare}
 use Rattle.dv_bson.proofs.Loop.{shorter, goes_on}

@@ -1,14 +1,14 @@
 -- Parts of reading, as the reader takes them one by one.
 use Rattle.std.specs.Prelude.{◌≡◌, ℕ, suc, ◌+◌, ◌-◌, Bool, List, [], ◌∷◌, length, Option, Some, None, Result, Ok, Err, nat_lt, if◌then◌else◌, decimal}
 use Rattle.std.specs.Str.{is_utf8}
-use Rattle.dv_bson.specs.declared.kind.Kind.{Kind}
-use Rattle.dv_bson.specs.declared.fault.BsonFault.{BsonFault}
-use Rattle.dv_bson.specs.declared.fault.BsonFault.TheVariants.{Truncated, BadLength, BadUtf8, TooLarge, NoMemory}
+use Rattle.dv_value.specs.declared.kind.Kind.{Kind}
+use Rattle.dv_value.specs.declared.fault.BsonFault.{BsonFault}
+use Rattle.dv_value.specs.declared.fault.BsonFault.TheVariants.{Truncated, BadLength, BadUtf8, TooLarge, NoMemory}
 use Rattle.dv_bson.specs.declared.fault.ReadError.{ReadError}
 use Rattle.dv_bson.specs.declared.fault.ReadError.TheVariants as errors
-use Rattle.dv_bson.specs.Tree.{Tree, Field}
+use Rattle.dv_value.specs.Tree.{Tree, Field}
 use Rattle.dv_bson.specs.Reading.{Fails, Gives, count_at, kind_at, cut_at_zero, name_at, value_at, Frame, frame_of, Inside}
-use Rattle.dv_bson.specs.Results.{◌>>=◌}
+use Rattle.dv_value.specs.Results.{◌>>=◌}
 
 -- a type, and the bytes behind its byte
 abbrev pub with_rest : List ℕ → Kind → Result (Kind × List ℕ) BsonFault

@@ -2,15 +2,15 @@
 use Rattle.std.specs.Prelude.{◌≡◌, ℕ, ℤ, zero, suc, ◌+◌, ◌-◌, Bool, true, false, ◌||◌, List, [], ◌∷◌, ◌++◌, length, take, drop, map, slice_index, Option, Some, None, Result, Ok, Err, nat_lt, ◌==◌, if◌then◌else◌, decimal}
 use Rattle.std.specs.Int.{Width, w32, w64, byte_len, from_le_bytes, cast_signed}
 use Rattle.std.specs.Str.{bytes_eq, is_utf8}
-use Rattle.dv_bson.specs.Results.{◌>>=◌}
-use Rattle.dv_bson.specs.declared.kind.Kind.{Kind}
-use Rattle.dv_bson.specs.declared.kind.Kind.TheVariants as kinds
-use Rattle.dv_bson.specs.declared.fault.BsonFault.{BsonFault}
-use Rattle.dv_bson.specs.declared.fault.BsonFault.TheVariants.{Truncated, BadLength, RefusedType, BadUtf8, BadBool, BadArrayName, RepeatedName, TooDeep, TooLarge}
+use Rattle.dv_value.specs.Results.{◌>>=◌}
+use Rattle.dv_value.specs.declared.kind.Kind.{Kind}
+use Rattle.dv_value.specs.declared.kind.Kind.TheVariants as kinds
+use Rattle.dv_value.specs.declared.fault.BsonFault.{BsonFault}
+use Rattle.dv_value.specs.declared.fault.BsonFault.TheVariants.{Truncated, BadLength, RefusedType, BadUtf8, BadBool, BadArrayName, RepeatedName, TooDeep, TooLarge}
 use Rattle.dv_bson.specs.declared.fault.ReadError.{ReadError}
 use Rattle.dv_bson.specs.declared.fault.ReadError.TheVariants as errors
-use Rattle.dv_bson.specs.Tree.{Tree, int32, int64, string, document, array, boolean, binary, object_id, date, null, timestamp, min_key, max_key, Field, fields_of, elements_of}
-use Rattle.dv_bson.specs.Names.{has_name}
+use Rattle.dv_value.specs.Tree.{Tree, int32, int64, string, document, array, boolean, binary, object_id, date, null, timestamp, min_key, max_key, Field, fields_of, elements_of}
+use Rattle.dv_value.specs.Names.{has_name}
 
 -- What a function returned, seen by view, is what reading gives, unless memory is wanting.
 abbrev pub Fails : {Y : Type 0} → ReadError → Result Y BsonFault → Type 0

@@ -1,20 +1,18 @@
 //! Documents from bytes.
 
 ghost use Rattle.std.specs.Prelude.{◌≡◌, ℕ, ◌+◌, ◌<◌, ◌≤◌, ◌++◌, ◌⊎◌, true, false, List as Entries, take, length, map, decimal, IfOk, IfErr, MatchResult};
-ghost use Rattle.dv_bson.specs.Tree.{Field};
-ghost use Rattle.dv_bson.specs.View.{tree};
-ghost use Rattle.dv_bson.specs.Spelling.{Spells, Fits};
+ghost use Rattle.dv_value.specs.Tree.{Field};
+ghost use Rattle.dv_value.specs.View.{tree};
+ghost use Rattle.dv_value.specs.Spelling.{Spells, Fits};
 ghost use Rattle.dv_bson.specs.Reading.{Gives, value_at, closed_by, body_at, document_at, first_fault};
 ghost use Rattle.dv_bson.specs.Parts.{field_at, numbered};
 
-use crate::fault::{BsonFault, ReadError};
-use crate::kind::Kind;
-use crate::limits::{FRAME, MAX_LEVELS};
+use crate::fault::ReadError;
 use crate::reading::{
     behind_index, binary_of, boolean_of, date_of, field_name_of, frame_of, front_kind_of, int32_of,
     int64_of, kind_of, object_id_of, outermost_frame_of, text_of, timestamp_of,
 };
-use crate::value::{Document, Fields, List, Value};
+use dv_value::{BsonFault, Document, FRAME, Fields, Kind, List, MAX_LEVELS, Value};
 use std::alloc::Global;
 
 /// A value of this type, which stands at `at` in the outermost document, with so many levels left inside
@@ -30,7 +28,8 @@ fn value_of<'a>(
     at: usize,
     bytes: &'a [u8],
 ) -> Result<(Value, &'a [u8]), ReadError>
-    requires { at + length bytes.now < 16777216 }
+    requires at { at + length bytes.now < 16777216 }
+    requires levels { levels ≤ 100 }
     ensures { Gives (λ x. (tree x.0, x.1.now)) result (value_at (body_at levels) kind at bytes.now) }
 {
     match kind {
@@ -86,7 +85,8 @@ fn field_of<'a>(
     before: &Fields,
     bytes: &'a [u8],
 ) -> Result<(&'a str, Value, &'a [u8]), ReadError>
-    requires { at + length bytes.now < 16777216 }
+    requires at { at + length bytes.now < 16777216 }
+    requires levels { levels ≤ 100 }
     ensures { Gives (λ x. ((x.0.now, tree x.1), x.2.now)) result (field_at (body_at levels) false at before.now bytes.now) }
 {
     let (kind, behind) = front_kind_of(bytes, at)?;
@@ -108,7 +108,8 @@ fn element_of<'a>(
     before: &[Value],
     bytes: &'a [u8],
 ) -> Result<(Value, &'a [u8]), ReadError>
-    requires { at + length bytes.now < 16777216 }
+    requires at { at + length bytes.now < 16777216 }
+    requires levels { levels ≤ 100 }
     ensures { Gives (λ x. ((decimal (length before.now), tree x.0), x.1.now)) result (field_at (body_at levels) true at (numbered 0 (map tree before.now)) bytes.now) }
 {
     let (kind, behind) = front_kind_of(bytes, at)?;
@@ -171,7 +172,8 @@ fn document_of(
     elements: &[u8],
     last: u8,
 ) -> Result<Document, ReadError>
-    requires { at + length elements.now < 16777216 }
+    requires at { at + length elements.now < 16777216 }
+    requires levels { levels ≤ 100 }
     ensures { Gives (λ document. document) result (body_at levels false at elements.now last) }
 {
     if levels == 0 {
@@ -200,7 +202,8 @@ fn list_of(
     elements: &[u8],
     last: u8,
 ) -> Result<List, ReadError>
-    requires { at + length elements.now < 16777216 }
+    requires at { at + length elements.now < 16777216 }
+    requires levels { levels ≤ 100 }
     ensures { Gives (λ list. numbered 0 list) result (body_at levels true at elements.now last) }
 {
     if levels == 0 {

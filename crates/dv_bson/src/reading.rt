@@ -4,18 +4,13 @@ ghost use Rattle.std.specs.Prelude.{◌≡◌, ◌≤◌, ◌<◌, ◌+◌, ◌=
 ghost use Rattle.std.specs.Option.{option_map};
 ghost use Rattle.std.specs.Int.{w32, w64, from_le_bytes};
 ghost use Rattle.std.specs.Str.{is_utf8};
-ghost use Rattle.dv_bson.specs.Tree.{Field, int32, int64, binary, object_id, date, timestamp};
-ghost use Rattle.dv_bson.specs.View.{tree};
-ghost use Rattle.dv_bson.specs.Reading.{Gives, count_at, kind_at, cut_at_zero, name_at, text_at, frame_of, frame_at, boolean_at, first_bytes, signed_at, binary_at};
+ghost use Rattle.dv_value.specs.Tree.{Field, int32, int64, binary, object_id, date, timestamp};
+ghost use Rattle.dv_value.specs.View.{tree};
+ghost use Rattle.dv_bson.specs.Reading.{Gives, count_at, kind_of_byte, kind_at, cut_at_zero, name_at, text_at, frame_of, frame_at, boolean_at, first_bytes, signed_at, binary_at};
 ghost use Rattle.dv_bson.specs.Parts.{front_kind_at, any_name_at, outermost_frame_at};
 
-use crate::bytes::Bytes;
-use crate::fault::{BsonFault, ReadError};
-use crate::kind::Kind;
-use crate::limits::MAX_DOCUMENT_LEN;
-use crate::name_list::Names;
-use crate::text::Str;
-use crate::value::{Fields, Value};
+use crate::fault::ReadError;
+use dv_value::{BsonFault, Bytes, Fields, Kind, MAX_DOCUMENT_LEN, Names, Str, Value};
 use itoa::Buffer;
 use std::alloc::Global;
 
@@ -49,6 +44,29 @@ pub(crate) fn count_of(bytes: &[u8]) -> Option<(usize, &[u8])>
     }
 }
 
+/// The type that a byte in front of a name stands for (BSON 1.1, "element"), if it is one that is supported.
+#[tactic(auto, unfolding(crate::specs::Reading::kind_of_byte))]
+fn kind_of_byte(byte: u8) -> Option<Kind>
+    ensures { result ≡ kind_of_byte byte }
+{
+    match byte {
+        0x02 => Some(Kind::Text),
+        0x03 => Some(Kind::Doc),
+        0x04 => Some(Kind::Array),
+        0x05 => Some(Kind::Binary),
+        0x07 => Some(Kind::ObjectId),
+        0x08 => Some(Kind::Bool),
+        0x09 => Some(Kind::Date),
+        0x0A => Some(Kind::Null),
+        0x10 => Some(Kind::Int32),
+        0x11 => Some(Kind::Timestamp),
+        0x12 => Some(Kind::Int64),
+        0x7F => Some(Kind::MaxKey),
+        0xFF => Some(Kind::MinKey),
+        _ => None,
+    }
+}
+
 /// The type that a type byte stands for, which stands at `at` in the outermost document.
 #[tactic(auto, unfolding(crate::specs::Reading::kind_at))]
 pub(crate) fn kind_of(byte: u8, at: usize) -> Result<Kind, ReadError>
@@ -57,7 +75,7 @@ pub(crate) fn kind_of(byte: u8, at: usize) -> Result<Kind, ReadError>
     if byte == 0 {
         return Err(ReadError::Fault(BsonFault::BadLength));
     }
-    match Kind::of_byte(byte) {
+    match kind_of_byte(byte) {
         Some(kind) => Ok(kind),
         None => Err(ReadError::Fault(BsonFault::RefusedType { byte, at })),
     }

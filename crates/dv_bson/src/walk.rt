@@ -1,22 +1,19 @@
 //! Documents that are checked without being made.
 
 ghost use Rattle.std.specs.Prelude.{◌≡◌, ℕ, ◌+◌, ◌<◌, ◌≤◌, ◌++◌, ◌⊎◌, Ok, Some, true, false, List as Entries, take, length, map, IfOk, IfErr, MatchResult};
-ghost use Rattle.dv_bson.specs.Tree.{Field};
-ghost use Rattle.dv_bson.specs.View.{tree};
-ghost use Rattle.dv_bson.specs.Spelling.{Spells, Fits};
+ghost use Rattle.dv_value.specs.Tree.{Field};
+ghost use Rattle.dv_value.specs.View.{tree};
+ghost use Rattle.dv_value.specs.Spelling.{Spells, Fits};
 ghost use Rattle.dv_bson.specs.Reading.{value_at, body_at, document_at, first_fault};
 ghost use Rattle.dv_bson.specs.Parts.{GivesPart, Passes, EndsAs, field_at};
 
-use crate::fault::{BsonFault, ReadError};
-use crate::kind::Kind;
-use crate::limits::MAX_LEVELS;
-use crate::name_list::Names;
+use crate::fault::ReadError;
 use crate::reader::{closed, first_room};
 use crate::reading::{
     behind_index, boolean_of, counted_binary_of, counted_text_of, date_of, frame_of, front_kind_of,
     int32_of, int64_of, new_name_of, object_id_of, outermost_frame_of, timestamp_of,
 };
-use crate::value::Value;
+use dv_value::{BsonFault, Kind, MAX_LEVELS, Names, Value};
 use std::alloc::Global;
 
 /// The bytes behind a value that takes no memory.

@@ -1,15 +1,13 @@
 //! Documents as bytes.
 
 ghost use Rattle.std.specs.Prelude.{◌≡◌, ℕ, ◌+◌, ◌<◌, ◌≤◌, ◌↔◌, ◌⊎◌, ◌++◌, List as Entries, length, OnOk, IfErr, OnErr, IsErrOf};
-ghost use Rattle.dv_bson.specs.Tree.{fields_of, elements_of};
-ghost use Rattle.dv_bson.specs.Tree as trees;
-ghost use Rattle.dv_bson.specs.Spelling.{payload, spelling, framed, counted, tagged, element_spelling, kind_of, Spells};
-ghost use Rattle.dv_bson.specs.View.{tree};
+ghost use Rattle.dv_value.specs.Tree.{fields_of, elements_of};
+ghost use Rattle.dv_value.specs.Tree as trees;
+ghost use Rattle.dv_value.specs.Spelling.{payload, spelling, framed, counted, tagged, element_spelling, kind_of, Spells};
+ghost use Rattle.dv_value.specs.View.{tree};
 ghost use Rattle.dv_bson.specs.Writing.{IsPut};
 
-use crate::fault::BsonFault;
-use crate::limits::document_size;
-use crate::value::{Document, List, Value};
+use dv_value::{BsonFault, Document, List, Value, document_size};
 use itoa::Buffer;
 
 /// Appends the spelling of the document (BSON 1.1, "document"). Refused with `TooLarge` where that is

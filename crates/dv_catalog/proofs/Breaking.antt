@@ -1,10 +1,10 @@
 -- Changes, and the keys of unique indexes.
 use Rattle.std.proofs.Common.{◌≡◌, ◌||◌, ◌&&◌, Bool, true, false, if◌then◌else◌, List, [], ◌∷◌, map, None, IsSome, is_some, Ok, Err, refl, ap, ◌∙◌}
 use Rattle.std.specs.List.{list_any}
-use Rattle.dv_bson.specs.Tree.{Field}
+use Rattle.dv_value.specs.Tree.{Field}
 use Rattle.dv_coll.specs.Collection.{found, id_key, removed}
 use Rattle.dv_fields.specs.declared.refusal.Refusal.TheVariants.{DuplicateKey}
-use Rattle.dv_index.specs.Index.{IndexForm}
+use Rattle.dv_keyed.specs.Index.{IndexForm}
 use Rattle.dv_index.specs.Unique.{clashes, is_key_taken, replacing_clashes}
 use Rattle.dv_order.specs.Key.{KeyTree}
 use Rattle.dv_catalog.specs.Changes.{Change, Effect, Statement, breaks, done_to, gone, put, with_put}

@@ -9,8 +9,8 @@ use Rattle.dv_coll.specs.declared.fault.InsertFault.TheVariants.{Duplicate, NoMe
 use Rattle.dv_fields.specs.declared.refusal.Refusal.{Refusal}
 use Rattle.dv_fields.specs.declared.refusal.Refusal.TheVariants.{BadValue, DuplicateKey, IndexNotFound, LimitReached, WantOfMemory}
 use Rattle.dv_fields.specs.Refusals.{insert_refusal}
-use Rattle.dv_bson.specs.Results.{◌>>=◌}
-use Rattle.dv_index.specs.Index.{IndexForm, id_form}
+use Rattle.dv_value.specs.Results.{◌>>=◌}
+use Rattle.dv_keyed.specs.Index.{IndexForm, id_form}
 use Rattle.dv_index.specs.Indexed.{is_dropped, without_index}
 use Rattle.dv_index.specs.Unique.{are_broken}
 use Rattle.dv_catalog.specs.IndexMaking.{index_limit, unless_broken, with_all, with_entries, within_limit, without_named}

@@ -1,7 +1,7 @@
 -- How finds are answered.
 use Rattle.std.proofs.Common.{◌≡◌, ◌||◌, ℕ, Bool, true, false, if◌then◌else◌, List, [], ◌∷◌, map, length, Option, Some, None, refl, sym, ap, ◌∙◌}
 use Rattle.std.specs.FinMap as finite
-use Rattle.dv_bson.specs.Tree.{Field}
+use Rattle.dv_value.specs.Tree.{Field}
 use Rattle.dv_match.specs.Filter.{Members}
 use Rattle.dv_views.specs.Views.{View, Views, view_form, is_view_named, has_view, rows_shown, view_under}
 use Rattle.dv_catalog.specs.CatalogParts.{AreLive, rows_kept, rows_or, state_of}

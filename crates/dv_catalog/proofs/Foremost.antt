@@ -6,8 +6,8 @@ use Rattle.std.specs.List.{AllByRecursion}
 use Rattle.std.specs.Ordering.{is_lt, ordering_reverse}
 use Rattle.std.specs.declared.cmp.Ordering.{Ordering}
 use Rattle.std.specs.declared.cmp.Ordering.TheVariants.{Less, Equal, Greater}
-use Rattle.dv_bson.specs.Tree.{Field}
-use Rattle.dv_index.specs.Ahead.{is_ahead}
+use Rattle.dv_value.specs.Tree.{Field}
+use Rattle.dv_keyed.specs.Ahead.{is_ahead}
 use Rattle.dv_order.specs.Key.{KeyTree, key_order}
 use Rattle.dv_order.specs.KeyLaws.{key_order_total}
 use Rattle.dv_path.specs.declared.direction.Direction.{Direction}

@@ -11,8 +11,8 @@ use Rattle.std.specs.declared.string.String.{String}
 use Rattle.dv_catalog.specs.ComingParts.{AreFound, joined}
 use Rattle.dv_catalog.specs.IndexMaking.{is_alike, is_same}
 use Rattle.dv_catalog.specs.StateLaws.{bytes_eq-symmetric}
-use Rattle.dv_index.specs.Choice.{same_path}
-use Rattle.dv_index.specs.Index.{IndexForm}
+use Rattle.dv_keyed.specs.Choice.{same_path}
+use Rattle.dv_keyed.specs.Index.{IndexForm}
 
 both_are : (a b : Bool) → a && b ≡ true → (a ≡ true) × (b ≡ true)
 both_are true b h = (refl, h)

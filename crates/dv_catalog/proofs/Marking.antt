@@ -10,10 +10,10 @@ use Rattle.dv_views.specs.Forms.{ViewForm, is_read_by}
 use Rattle.dv_views.specs.Views.{AreRight, View, Views, view_form, is_view_named, is_stale, mark_ticks, views_without}
 use Rattle.dv_views.specs.Views as views
 use Rattle.dv_catalog.specs.CatalogParts.{mark_of, marks_of}
-use Rattle.dv_bson.specs.Tree.{Field}
+use Rattle.dv_value.specs.Tree.{Field}
 use Rattle.dv_coll.specs.Collection.{found, id_key}
 use Rattle.dv_command.specs.Entries.{Deletion, Updating}
-use Rattle.dv_bson.specs.Results.{◌>>=◌}
+use Rattle.dv_value.specs.Results.{◌>>=◌}
 use Rattle.dv_fields.specs.declared.refusal.Refusal.{Refusal}
 use Rattle.dv_fields.specs.declared.refusal.Refusal.TheVariants.{DuplicateKey}
 use Rattle.dv_catalog.specs.declared.stopped.Stopped.{Stopped}
@@ -33,7 +33,6 @@ use Rattle.dv_catalog.proofs.Stopping.{take_none}
 
 shown_mark : (m : views.ViewMark) → mark_of m ≡ (if is_stale m then stale else live (mark_ticks m))
 shown_mark (views.live kept) = refl
-shown_mark (views.anew rows) = refl
 shown_mark views.stale = refl
 
 -- a view

@@ -1,7 +1,7 @@
 -- Documents stay in order.
 use Rattle.std.proofs.Common.{◌≡◌, cond, List, Option, Some, None, is_some, refl}
 use Rattle.std.specs.List.{AllByRecursion}
-use Rattle.dv_bson.specs.Tree.{Field}
+use Rattle.dv_value.specs.Tree.{Field}
 use Rattle.dv_order.specs.Key.{KeyTree}
 use Rattle.dv_coll.specs.Collection.{HasId, IsAscending, found, id_key, inserted, removed, replaced}
 use Rattle.dv_catalog.specs.Changes.{Change, put, gone, with_change}

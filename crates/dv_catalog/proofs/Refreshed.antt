@@ -5,7 +5,7 @@ use Rattle.std.specs.List.{list_any}
 use Rattle.std.specs.Option.{option_and_then}
 use Rattle.std.specs.Result.{IsErr}
 use Rattle.std.specs.Str.{bytes_eq}
-use Rattle.dv_bson.specs.Tree.{Field}
+use Rattle.dv_value.specs.Tree.{Field}
 use Rattle.dv_pipe.specs.Stages.{Lists}
 use Rattle.dv_views.specs.Forms.{ViewForm, is_name_among, needed, rows_over}
 use Rattle.dv_views.specs.Made.{AreAlike}
@@ -24,17 +24,14 @@ same_state namespaces before after forms = λ i. record { namespaces = namespace
 
 pub fresh_mark : (m : views.ViewMark) → IsJustMade m → mark_of m ≡ live 0
 fresh_mark (views.live kept) fresh = ap live fresh.ticks
-fresh_mark (views.anew rows) fresh = refl
 fresh_mark views.stale fresh = absurd (cc (fresh.live))
 
 stale_mark : (m : views.ViewMark) → is_stale m ≡ true → mark_of m ≡ stale
 stale_mark (views.live kept) is = absurd cc
-stale_mark (views.anew rows) is = absurd cc
 stale_mark views.stale is = refl
 
 live_mark : (m : views.ViewMark) → is_stale m ≡ false → mark_read (mark_of m) ≡ mark_of m
 live_mark (views.live kept) is = refl
-live_mark (views.anew rows) is = refl
 live_mark views.stale is = absurd cc
 
 stands_one : (v : View) (b : Bool) → (b ≡ true → is_stale v.mark ≡ false) → (if b then mark_read (mark_of v.mark) else mark_of v.mark) ≡ mark_of v.mark
@@ -157,7 +154,6 @@ UnnamedIsLeft = (name : List ℕ) (lists : Lists) (forms : List ViewForm) → li
 
 live_is_shown : (m : views.ViewMark) → is_stale m ≡ false → kept_rows m ≡ None → ⊥
 live_is_shown (views.live kept) is none = cc
-live_is_shown (views.anew rows) is none = cc
 live_is_shown views.stale is none = cc
 
 pub none_shown : (name : List ℕ) (vs : Views) → AreLive (name ∷ []) vs → rows_shown name vs ≡ None → has_view name vs ≡ false

@@ -1,12 +1,12 @@
 -- What is told of how a view stands.
 use Rattle.std.proofs.Common.{◌≡◌, ℕ, Bool, true, false, if◌then◌else◌, List, [], ◌∷◌, map, length, Option, Some, None, refl, sym, ap, ◌∙◌}
 use Rattle.std.specs.Option.{option_and_then, option_map}
-use Rattle.dv_bson.specs.Tree.{Field}
+use Rattle.dv_value.specs.Tree.{Field}
 use Rattle.dv_views.specs.Views.{View, Views, view_form, is_view_named, kept_rows, rows_shown, view_under}
 use Rattle.dv_views.specs.Views as views
 use Rattle.dv_views.specs.declared.state.ViewState.{ViewState}
 use Rattle.dv_catalog.specs.CatalogParts.{mark_of, marked_of, marks_of, state_of}
-use Rattle.dv_catalog.specs.Marks.{Mark, Stats, mark_named, stats_by, stats_of}
+use Rattle.dv_catalog.specs.Marks.{Mark, Stats, mark_named, rows_by, stats_by, stats_of, stored_of}
 use Rattle.dv_catalog.specs.State.{Namespaces, rows_of}
 use Rattle.dv_catalog.specs.StatsView.{live_shown}
 
@@ -28,8 +28,11 @@ stats_in m = record { is_live = live_shown (views.state_of_mark m); rows = views
 
 stats_shown : (m : views.ViewMark) (those : List (List Field)) → ((rows : List (List Field)) → kept_rows m ≡ Some rows → rows ≡ those) → stats_in m ≡ stats_by those (mark_of m)
 stats_shown (views.live kept) those right = λ i. record { is_live = true; rows = length (right kept.rows refl i); ticks = kept.ticks }
-stats_shown (views.anew rows) those right = λ i. record { is_live = true; rows = length (right rows refl i); ticks = 0 }
 stats_shown views.stale those right = refl
+
+stored_shown : (m : views.ViewMark) (those : List (List Field)) → ((rows : List (List Field)) → kept_rows m ≡ Some rows → rows ≡ those) → kept_rows m ≡ rows_by those (mark_of m)
+stored_shown (views.live kept) those right = ap Some (right kept.rows refl)
+stored_shown views.stale those right = refl
 
 module _ (name : List ℕ) (namespaces : Namespaces) (vs : Views) where
   abbrev those : List (List Field)
@@ -50,3 +53,13 @@ module _ (name : List ℕ) (namespaces : Namespaces) (vs : Views) where
       (λ i. Some (record { is_live = live_shown (so i); rows = many i; ticks = counted i }))
       ∙ ap Some (stats_shown v.mark those (λ rows is. right rows (ap (option_and_then (λ (w : View). kept_rows w.mark)) named ∙ is)))
       ∙ sym (ap (option_map (stats_by those)) (mark_shown name vs ∙ ap (option_map (λ (w : View). mark_of w.mark)) named))
+
+  -- where the rows that are shown are right
+  pub stored_are : ((rows : List (List Field)) → rows_shown name vs ≡ Some rows → rows ≡ those) → (there : Option View) → view_under name vs ≡ there → rows_shown name vs ≡ stored_of name (marked_of namespaces vs)
+  stored_are right None named =
+      ap (option_and_then (λ (w : View). kept_rows w.mark)) named
+      ∙ sym (ap (option_and_then (rows_by those)) (mark_shown name vs ∙ ap (option_map (λ (w : View). mark_of w.mark)) named))
+  stored_are right (Some v) named =
+      ap (option_and_then (λ (w : View). kept_rows w.mark)) named
+      ∙ stored_shown v.mark those (λ rows is. right rows (ap (option_and_then (λ (w : View). kept_rows w.mark)) named ∙ is))
+      ∙ sym (ap (option_and_then (rows_by those)) (mark_shown name vs ∙ ap (option_map (λ (w : View). mark_of w.mark)) named))

@@ -1,7 +1,7 @@
 -- Changes that are made one after the other, all of them or some.
 use Rattle.std.proofs.Common.{◌≡◌, ◌<◌, ◌+◌, ◌++◌, ◌⊎◌, inl, inr, ℕ, Bool, true, is_some, if◌then◌else◌, zero, suc, List, [], ◌∷◌, length, map, take, drop, drop-cons, add-one, get_or, Result, Err, refl, sym, ap, subst, ◌∙◌, append_assoc, length-append}
 use Rattle.std.proofs.lemmas.List.{map_push}
-use Rattle.dv_bson.specs.Tree.{Field}
+use Rattle.dv_value.specs.Tree.{Field}
 use Rattle.dv_fields.specs.declared.refusal.Refusal.{Refusal}
 use Rattle.dv_fields.specs.declared.refusal.Refusal.TheVariants.{WantOfMemory}
 use Rattle.dv_index.specs.Indexed.{IndexedTree, with_documents}

@@ -1,7 +1,7 @@
 -- Changes that are told to views are those that are made.
 use Rattle.std.proofs.Common.{◌≡◌, List, [], ◌∷◌, ◌++◌, map, is_some, if◌then◌else◌, refl, sym, ap, subst, ◌∙◌}
 use Rattle.std.specs.List.{AllByRecursion}
-use Rattle.dv_bson.specs.Tree.{Field}
+use Rattle.dv_value.specs.Tree.{Field}
 use Rattle.dv_coll.specs.Collection.{HasId, IsAscending, found, id_key, inserted, removed, replaced}
 use Rattle.dv_change.specs.declared.change.Change as flow
 use Rattle.dv_change.specs.declared.change.Change.TheVariants.{Put, Gone}

@@ -2,8 +2,8 @@
 use Rattle.std.proofs.Common.{◌≡◌, ℕ, Bool, true, false, cond, not, List, [], ◌∷◌, length, map, Option, Some, None, is_some, if◌then◌else◌, ◌++◌, append-nil, append_assoc, Result, Ok, Err, refl, sym, ap, subst, ◌∙◌}
 use Rattle.std.specs.Prelude.{codes, filter, take}
 use Rattle.std.specs.Str.{bytes_eq}
-use Rattle.dv_bson.specs.Names.{has_zero}
-use Rattle.dv_bson.specs.Tree.{Field, fields_of}
+use Rattle.dv_value.specs.Names.{has_zero}
+use Rattle.dv_value.specs.Tree.{Field, fields_of}
 use Rattle.std.specs.List.{AllByRecursion}
 use Rattle.std.specs.Option.{option_map}
 use Rattle.dv_order.specs.Key.{KeyTree}
@@ -15,7 +15,7 @@ use Rattle.dv_catalog.specs.EffectView.{ArePlaced, AreUpdatesOf, after_of}
 use Rattle.dv_catalog.proofs.Keys.{AreThere, all_there}
 use Rattle.dv_update.specs.Update as form
 use Rattle.dv_command.specs.Entries.{Updating}
-use Rattle.dv_bson.specs.Results.{◌>>=◌}
+use Rattle.dv_value.specs.Results.{◌>>=◌}
 use Rattle.dv_fields.specs.declared.refusal.Refusal.{Refusal}
 use Rattle.dv_catalog.specs.Changes.{Change, put, Effect}
 use Rattle.dv_catalog.specs.Effects.{all_or_first}

@@ -1,7 +1,7 @@
 -- What holds of collections and views together.
 use Rattle.std.specs.Prelude.{◌≡◌, Bool, true, false, ℕ, List, map, Option, Some, None}
 use Rattle.std.specs.List.{AllByRecursion, list_any}
-use Rattle.dv_bson.specs.Tree.{Field}
+use Rattle.dv_value.specs.Tree.{Field}
 use Rattle.dv_views.specs.Forms.{is_name_among}
 use Rattle.dv_views.specs.Views as views
 use Rattle.dv_catalog.specs.Marks.{Mark, Marked, live, stale}
@@ -13,7 +13,6 @@ state_of namespaces registry = record { namespaces = namespaces; views = map vie
 -- how a view stands
 abbrev pub mark_of : views.ViewMark → Mark
 mark_of (views.live kept) = live kept.ticks
-mark_of (views.anew rows) = live 0
 mark_of views.stale = stale
 
 abbrev pub marks_of : views.Views → List Mark

@@ -1,12 +1,12 @@
 -- What statements change: one document after the other.
 use Rattle.std.specs.Prelude.{ℕ, ◌||◌, Bool, false, List, [], ◌∷◌, Result, Ok, Err, is_some, if◌then◌else◌}
-use Rattle.dv_bson.specs.Tree.{Field}
+use Rattle.dv_value.specs.Tree.{Field}
 use Rattle.dv_order.specs.Key.{KeyTree}
 use Rattle.dv_coll.specs.Collection.{id_key, found, inserted, removed, replaced}
 use Rattle.dv_fields.specs.declared.refusal.Refusal.{Refusal}
 use Rattle.dv_fields.specs.declared.refusal.Refusal.TheVariants.{DuplicateKey}
-use Rattle.dv_bson.specs.Results.{◌>>=◌}
-use Rattle.dv_index.specs.Index.{IndexForm}
+use Rattle.dv_value.specs.Results.{◌>>=◌}
+use Rattle.dv_keyed.specs.Index.{IndexForm}
 use Rattle.dv_index.specs.Unique.{clashes}
 use Rattle.dv_catalog.specs.State.{Collection, Namespaces, documents_of, with_documents}
 

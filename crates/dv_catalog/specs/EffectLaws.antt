@@ -2,7 +2,7 @@
 use Rattle.std.proofs.Common.{◌≡◌, ◌⊎◌, inl, inr, Bool, true, false, cond, List, [], ◌∷◌, Result, Ok, Err, refl, sym, ap, subst, ◌∙◌, if◌then◌else◌}
 use Rattle.std.specs.Prelude.{codes}
 use Rattle.std.specs.List.{AllByRecursion}
-use Rattle.dv_bson.specs.Tree.{Tree, Field, fields_of}
+use Rattle.dv_value.specs.Tree.{Tree, Field, fields_of}
 use Rattle.dv_coll.specs.Collection.{HasId, id_key}
 use Rattle.dv_match.specs.Filter.{Members}
 use Rattle.dv_match.specs.Match.{matches}
@@ -11,7 +11,7 @@ use Rattle.dv_order.specs.Same.{same_fields}
 use Rattle.dv_update.specs.Update as form
 use Rattle.dv_update.specs.declared.fault.UpdateFault.{UpdateFault}
 use Rattle.dv_fields.specs.Refusals.{refused_by, update_refusal}
-use Rattle.dv_bson.specs.Results.{◌>>=◌}
+use Rattle.dv_value.specs.Results.{◌>>=◌}
 use Rattle.dv_fields.specs.declared.refusal.Refusal.{Refusal}
 use Rattle.dv_fields.specs.declared.refusal.Refusal.TheVariants.{DuplicateKey}
 use Rattle.dv_catalog.specs.Changes.{Effect, Statement, breaks, changes_of, done_to, unless_it_breaks}

@@ -1,8 +1,8 @@
 -- What stands in memory for the effect of a statement.
 use Rattle.std.specs.Prelude.{◌≡◌, ℕ, true, false, List, [], ◌∷◌, codes, map, is_some, ⊤}
 use Rattle.std.specs.Str.{bytes_eq}
-use Rattle.dv_bson.specs.Names.{has_zero}
-use Rattle.dv_bson.specs.Tree.{Field}
+use Rattle.dv_value.specs.Names.{has_zero}
+use Rattle.dv_value.specs.Tree.{Field}
 use Rattle.dv_coll.specs.Collection.{AreStanding, HasId, found, id_key}
 use Rattle.dv_update.specs.Outcome.{outcome_seen}
 use Rattle.dv_catalog.specs.declared.effect.Changes as memory

@@ -1,6 +1,6 @@
 -- What the statements of a write do to documents, once they are parsed (MongoDB manual, "insert", "update", "delete").
 use Rattle.std.specs.Prelude.{Bool, true, false, not, List, [], ◌∷◌, length, map, take, Result, Ok, Err, is_some, if◌then◌else◌}
-use Rattle.dv_bson.specs.Tree.{Field, fields_of}
+use Rattle.dv_value.specs.Tree.{Field, fields_of}
 use Rattle.dv_coll.specs.Collection.{id_key, found}
 use Rattle.dv_update.specs.Apply.{applied}
 use Rattle.dv_order.specs.Same.{same_fields}
@@ -9,7 +9,7 @@ use Rattle.dv_fields.specs.declared.refusal.Refusal.{Refusal}
 use Rattle.dv_fields.specs.declared.refusal.Refusal.TheVariants.{DuplicateKey}
 use Rattle.dv_command.specs.Entries.{Deletion, Updating}
 use Rattle.dv_fields.specs.Refusals.{refused_by, update_refusal}
-use Rattle.dv_bson.specs.Results.{◌>>=◌}
+use Rattle.dv_value.specs.Results.{◌>>=◌}
 use Rattle.dv_catalog.specs.Changes.{Effect, Statement, gone, put}
 use Rattle.dv_catalog.specs.Scan.{matching}
 

@@ -8,9 +8,9 @@ use Rattle.std.specs.List.{list_any}
 use Rattle.std.specs.Str.{bytes_eq}
 use Rattle.dv_fields.specs.declared.refusal.Refusal.{Refusal}
 use Rattle.dv_fields.specs.declared.refusal.Refusal.TheVariants.{BadValue, DuplicateKey, NamespaceNotFound, IndexNotFound, ConflictingUpdateOperators, OnView, LimitReached}
-use Rattle.dv_bson.specs.Results.{◌>>=◌}
-use Rattle.dv_index.specs.Choice.{same_path}
-use Rattle.dv_index.specs.Index.{IndexForm, id_form}
+use Rattle.dv_value.specs.Results.{◌>>=◌}
+use Rattle.dv_keyed.specs.Choice.{same_path}
+use Rattle.dv_keyed.specs.Index.{IndexForm, id_form}
 use Rattle.dv_index.specs.Indexed.{documents_covered, index_chosen, is_dropped, without_index}
 use Rattle.dv_index.specs.Unique.{are_broken}
 use Rattle.dv_match.specs.Filter.{Members}

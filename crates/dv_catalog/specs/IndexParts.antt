@@ -2,8 +2,8 @@
 use Rattle.std.specs.Prelude.{ℕ, List, Result, Ok}
 use Rattle.std.specs.String.{string_bytes}
 use Rattle.dv_fields.specs.declared.refusal.Refusal.{Refusal}
-use Rattle.dv_bson.specs.Results.{◌>>=◌}
-use Rattle.dv_index.specs.Index.{IndexForm}
+use Rattle.dv_value.specs.Results.{◌>>=◌}
+use Rattle.dv_keyed.specs.Index.{IndexForm}
 use Rattle.dv_catalog.specs.declared.explained.Explained.{Explained}
 use Rattle.dv_catalog.specs.declared.explained.Way.{Way}
 use Rattle.dv_catalog.specs.declared.explained.Way.TheVariants.{View, Index, All}

@@ -1,7 +1,7 @@
 -- How views stand, beside what they show: how much work changes took since a view was made, or that it has no rows.
 use Rattle.std.specs.Prelude.{◌≡◌, ◌⊎◌, ℕ, Bool, true, false, List, [], ◌∷◌, ◌++◌, length, map, Option, Some, None, if◌then◌else◌}
-use Rattle.std.specs.Option.{option_map}
-use Rattle.dv_bson.specs.Tree.{Field}
+use Rattle.std.specs.Option.{option_and_then, option_map}
+use Rattle.dv_value.specs.Tree.{Field}
 use Rattle.dv_coll.specs.Collection.{id_key}
 use Rattle.dv_command.specs.Asked.{ViewOn}
 use Rattle.dv_pipe.specs.Stages.{Lists}
@@ -12,8 +12,8 @@ use Rattle.dv_catalog.specs.Changes.{Change, gone}
 use Rattle.dv_catalog.specs.State.{State, documents_of, empty_state, has_name, is_collection, lists_of, rows_of}
 use Rattle.dv_catalog.specs.Told.{told}
 
--- a view is live, and counts the work that changes took since it was made; or it is stale, and has no rows until it is read:
--- memory was wanting for them, or a `$push` held too many
+-- a view is live, and counts the work that changes took since it was made; or it is stale, and has no rows until it is read, since
+-- memory was wanting for them
 pub data Mark : Type 0 where
   live : ℕ → Mark
   stale : Mark
@@ -146,3 +146,14 @@ mark_named namespace (v ∷ views) (mark ∷ marks) = if has_name namespace v th
 
 abbrev pub stats_of : List ℕ → Marked → Option Stats
 stats_of namespace marked = option_map (stats_by (rows_of namespace marked.state)) (mark_named namespace marked.state.views marked.marks)
+
+-- ---- what a view keeps
+
+-- of the rows of its pipeline a live view keeps all, and a stale one has none
+abbrev pub rows_by : List (List Field) → Mark → Option (List (List Field))
+rows_by rows (live ticks) = Some rows
+rows_by rows stale = None
+
+-- the rows that the view under a namespace keeps, where there is one and it is live
+abbrev pub stored_of : List ℕ → Marked → Option (List (List Field))
+stored_of namespace marked = option_and_then (rows_by (rows_of namespace marked.state)) (mark_named namespace marked.state.views marked.marks)

@@ -1,6 +1,6 @@
 -- What stands in memory for rows.
 use Rattle.std.specs.Prelude.{List, []}
-use Rattle.dv_bson.specs.Tree.{Field}
+use Rattle.dv_value.specs.Tree.{Field}
 use Rattle.dv_catalog.specs.declared.rows.Origin.{Origin}
 use Rattle.dv_catalog.specs.declared.rows.Origin.TheVariants.{Nothing, Collection, View}
 

@@ -2,7 +2,7 @@
 -- each other in a sort, and all where there is no sort, come as they stand, in a collection by their `_id`s, is this server's own.
 use Rattle.std.specs.Prelude.{ℕ, zero, suc, List, take, drop}
 use Rattle.std.specs.List.{filter}
-use Rattle.dv_bson.specs.Tree.{Field}
+use Rattle.dv_value.specs.Tree.{Field}
 use Rattle.dv_path.specs.SortSpec.{Part}
 use Rattle.dv_match.specs.Filter.{Members}
 use Rattle.dv_match.specs.Match.{matches}

@@ -1,7 +1,7 @@
 -- What holds of all documents holds of those that are found.
 use Rattle.std.proofs.Common.{ℕ, zero, suc, Bool, true, false, cond, List, [], ◌∷◌, fold, drop, take}
 use Rattle.std.specs.List.{AllByRecursion}
-use Rattle.dv_bson.specs.Tree.{Field}
+use Rattle.dv_value.specs.Tree.{Field}
 use Rattle.dv_match.specs.Filter.{Members}
 use Rattle.dv_match.specs.Match.{matches}
 use Rattle.dv_path.specs.SortSpec.{Part}

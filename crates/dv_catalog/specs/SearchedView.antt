@@ -1,6 +1,6 @@
 -- What stands in memory for what a find looks through.
 use Rattle.std.specs.Prelude.{List}
-use Rattle.dv_bson.specs.Tree.{Field}
+use Rattle.dv_value.specs.Tree.{Field}
 use Rattle.dv_catalog.specs.declared.searched.Searched.{Searched}
 use Rattle.dv_catalog.specs.declared.searched.Searched.TheVariants.{Collection, Rows}
 

@@ -8,9 +8,9 @@ use Rattle.std.specs.FinMap as finite
 use Rattle.std.specs.List.{AllByRecursion, find, list_any}
 use Rattle.std.specs.Ordering.{nat_cmp}
 use Rattle.std.specs.Str.{bytes_eq}
-use Rattle.dv_bson.specs.Tree.{Field}
+use Rattle.dv_value.specs.Tree.{Field}
 use Rattle.dv_coll.specs.Collection.{HasId, IsAscending}
-use Rattle.dv_index.specs.Index.{IndexForm}
+use Rattle.dv_keyed.specs.Index.{IndexForm}
 use Rattle.dv_index.specs.Indexed.{IndexedTree, empty_indexed}
 use Rattle.dv_pipe.specs.Stages.{Lists}
 use Rattle.dv_views.specs.Forms.{ViewForm, rows_over}

@@ -1,8 +1,8 @@
 //! The first rows of a sort, by the order of an index.
 
 ghost use Rattle.std.specs.Prelude.{◌≡◌, ◌∷◌, take, filter as kept, IfOk, IfSome, List};
-ghost use Rattle.dv_bson.specs.Tree.{Field};
-ghost use Rattle.dv_index.specs.Ahead as defined;
+ghost use Rattle.dv_value.specs.Tree.{Field};
+ghost use Rattle.dv_keyed.specs.Ahead as defined;
 ghost use Rattle.dv_path.specs.Parts.{part};
 ghost use Rattle.dv_path.specs.SortSpec.{Part};
 ghost use Rattle.dv_pipe.specs.Sources.{rows_referred};
@@ -10,10 +10,10 @@ ghost use Rattle.dv_sort.specs.Sorting.{stable};
 ghost use Rattle.dv_catalog.specs.Scan.{matching};
 
 use crate::scan::sorted;
-use dv_bson::{Document, NoMemory};
 use dv_index::{Ahead, IndexedCollection, is_ahead};
 use dv_match::Filter;
 use dv_path::{SortPart, SortSpec};
+use dv_value::{Document, NoMemory};
 use std::alloc::Global;
 
 /// How often documents are looked at, the last time more than there can be.

@@ -18,11 +18,11 @@ use crate::stopped::Stopped;
 use crate::told::{all_told_gone, one_told, told};
 use crate::update::updated_in;
 use crate::upkeep::{refresh_read, refresh_under, shown_rows_are_right};
-use dv_bson::{Document, NoMemory};
 use dv_command::{Aggregate, Create, Deletion, Find, Refusal, Updating, ViewOn};
 use dv_index::NewIndex;
 use dv_match::Filter;
 use dv_pipe::evaluate;
+use dv_value::{Document, NoMemory};
 use dv_views::{Registry, ViewFault, names_read};
 use std::alloc::Global;
 use std::marker::Model;
@@ -62,12 +62,12 @@ impl Catalog {
     ghost use Rattle.dv_catalog.specs.EffectView.{ArePlaced, StandsFor, changes_seen, effect_seen};
     ghost use Rattle.dv_catalog.specs.IndexMaking as indexing;
     ghost use Rattle.dv_catalog.specs.IndexParts.{explained_seen};
-    ghost use Rattle.dv_catalog.specs.Marks.{AreMarkedBy, AreMarkedByDrop, all_gone, marks_made, names_of_new, nothing_marked, stats_of};
+    ghost use Rattle.dv_catalog.specs.Marks.{AreMarkedBy, AreMarkedByDrop, all_gone, marks_made, names_of_new, nothing_marked, stats_of, stored_of};
     ghost use Rattle.dv_catalog.specs.Parts.{Leaves, Makes, MakesSo, Reads, StandBehind, StandBy, StandMade, StandSo, one_changed};
     ghost use Rattle.dv_catalog.specs.StatsView.{stats_seen};
     ghost use Rattle.dv_catalog.specs.Scan as scans;
     ghost use Rattle.dv_catalog.specs.State.{AreOrdered, documents_of, indexes_of, is_collection, is_there, is_view, lists_of, rows_of};
-    ghost use Rattle.dv_index.specs.View.{form_of_new};
+    ghost use Rattle.dv_keyed.specs.View.{form_of_new};
     ghost use Rattle.dv_views.specs.Forms as forms;
     ghost use Rattle.dv_catalog.specs.Views as making;
 
@@ -265,6 +265,15 @@ impl Catalog {
             rows,
             ticks,
         })
+    }
+
+    /// The rows that the view of a namespace keeps, in their order: those of its pipeline, as what it reads stands now. None
+    /// where no view stands there, or a stale one. Takes no memory.
+    pub fn stored_rows(&self, namespace: &str) -> Option<dv_views::Rows<'_>>
+        ensures { result ≡ stored_of namespace.now self.now }
+    {
+        shown_rows_are_right(&self.views);
+        self.views.rows(namespace)
     }
 
     /// Makes a collection without documents, or a view, which has its rows from then on; stale views that it needs are made

@@ -5,9 +5,9 @@ ghost use Rattle.dv_catalog.specs.Effects.{all_or_first};
 ghost use Rattle.dv_catalog.specs.Scan as scans;
 ghost use Rattle.dv_pipe.specs.Sources.{rows_referred};
 
-use dv_bson::{Document, NoMemory};
 use dv_index::IndexedCollection;
 use dv_match::Filter;
+use dv_value::{Document, NoMemory};
 
 /// The documents that match the filter, in the order of their `_id`s: all of them, or the first alone. Fails where memory is
 /// wanting.

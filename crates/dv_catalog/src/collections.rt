@@ -13,16 +13,16 @@ ghost use Rattle.dv_catalog.specs.IndexParts.{namespaces_so};
 ghost use Rattle.dv_catalog.specs.Parts.{Leaves, Makes, one_changed};
 ghost use Rattle.dv_catalog.specs.State.{AreOrdered, collection_of, documents_of, empty_state, indexes_of, is_collection, with_documents};
 ghost use Rattle.dv_catalog.specs.View.{standing_seen};
-ghost use Rattle.dv_index.specs.View.{form_of_new};
+ghost use Rattle.dv_keyed.specs.View.{form_of_new};
 
 use crate::effect::Changes;
 use crate::indexing::{IndexCounts, create_each, drop_named};
 use crate::insert::put_new;
 use crate::rows::Rows;
 use crate::stopped::Stopped;
-use dv_bson::{Document, NoMemory};
 use dv_command::Refusal;
 use dv_index::{IndexedCollection, NewIndex};
+use dv_value::{Document, NoMemory};
 use std::alloc::Global;
 use std::collections::BTreeMap;
 use std::marker::Model;

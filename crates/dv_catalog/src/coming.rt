@@ -3,14 +3,14 @@
 ghost use Rattle.std.specs.Prelude.{◌≡◌, ◌∷◌, ◌++◌, [], true, map, IfOk, OnOk};
 ghost use Rattle.std.specs.List.{list_any};
 ghost use Rattle.std.specs.String.{string_bytes};
-ghost use Rattle.dv_index.specs.View.{form_of_new};
+ghost use Rattle.dv_keyed.specs.View.{form_of_new};
 ghost use Rattle.dv_catalog.specs.ComingParts.{joined};
 ghost use Rattle.dv_catalog.specs.IndexMaking as making;
 
 use crate::indexing::{is_alike, is_same};
-use dv_bson::NoMemory;
+use dv_candidates::Path;
 use dv_index::NewIndex;
-use dv_path::Path;
+use dv_value::NoMemory;
 use std::alloc::Global;
 use std::collections::{BTreeMap, BTreeSet};
 use std::marker::Model;
@@ -28,8 +28,8 @@ pub(crate) struct Coming {
 impl Model for Coming {
     ghost use Rattle.std.specs.Prelude.{List, map};
     ghost use Rattle.std.specs.Coded.{coded_list};
-    ghost use Rattle.dv_index.specs.Index.{IndexForm, coded_form};
-    ghost use Rattle.dv_index.specs.View.{form_of_new};
+    ghost use Rattle.dv_keyed.specs.Index.{IndexForm, coded_form};
+    ghost use Rattle.dv_keyed.specs.View.{form_of_new};
     ghost use Rattle.dv_catalog.specs.ComingParts.{AreFound};
 
     ghost Value = { List IndexForm };

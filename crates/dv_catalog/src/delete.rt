@@ -13,11 +13,11 @@ ghost use Rattle.dv_pipe.specs.Sources.{rows_referred};
 
 use crate::chosen::chosen;
 use crate::effect::{Changes, Effect};
-use dv_bson::{Document, NoMemory};
 use dv_coll::laws;
 use dv_command::Deletion;
 use dv_index::IndexedCollection;
 use dv_order::Key;
+use dv_value::{Document, NoMemory};
 use dv_views::key_of_id;
 use std::alloc::Global;
 

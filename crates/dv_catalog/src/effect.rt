@@ -1,17 +1,17 @@
 //! What statements do to the documents of a collection.
 
 ghost use Rattle.std.specs.Prelude.{◌≡◌, ◌≤◌, false, length, take, IfOk};
-ghost use Rattle.dv_bson.specs.Names.{has_zero};
+ghost use Rattle.dv_value.specs.Names.{has_zero};
 ghost use Rattle.dv_catalog.specs.Changes.{breaks, with_changes};
 ghost use Rattle.dv_catalog.specs.EffectView.{ArePlaced, StandsFor, after_of, changes_seen};
 ghost use Rattle.dv_index.specs.Indexed.{with_documents};
 
 use crate::delete::remove_each;
 use crate::update::{put_each, updates_clash};
-use dv_bson::{Document, NoMemory, Str};
 use dv_index::IndexedCollection;
 use dv_order::Key;
 use dv_update::Outcome;
+use dv_value::{Document, NoMemory, Str};
 use std::alloc::Global;
 
 /// Changes of a collection, each of one document, in order.

@@ -6,9 +6,9 @@ ghost use Rattle.dv_catalog.specs.IndexMaking as making;
 ghost use Rattle.dv_catalog.specs.IndexParts.{explained_seen};
 
 use crate::collections::Collections;
-use dv_bson::NoMemory;
 use dv_index::IndexedCollection;
 use dv_match::Filter;
+use dv_value::NoMemory;
 use dv_views::Rows;
 use std::alloc::Global;
 

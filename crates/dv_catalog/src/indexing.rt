@@ -4,18 +4,18 @@ ghost use Rattle.std.specs.Prelude.{◌≡◌, ◌++◌, ◌||◌, map, length, 
 ghost use Rattle.std.specs.List.{list_any};
 ghost use Rattle.std.specs.Str.{bytes_eq};
 ghost use Rattle.dv_fields.specs.Refusals.{UnlessWanting};
-ghost use Rattle.dv_index.specs.Choice.{same_path as is_same_path};
-ghost use Rattle.dv_index.specs.Index.{form_of, id_form};
-ghost use Rattle.dv_index.specs.View.{form_of_new};
+ghost use Rattle.dv_keyed.specs.Choice.{same_path as is_same_path};
+ghost use Rattle.dv_keyed.specs.Index.{form_of, id_form};
+ghost use Rattle.dv_keyed.specs.View.{form_of_new};
 ghost use Rattle.dv_catalog.specs.IndexMaking as making;
 ghost use Rattle.dv_catalog.specs.ComingParts.{joined};
 ghost use Rattle.dv_catalog.specs.IndexParts.{collection_so};
 ghost use Rattle.dv_catalog.specs.Parts.{Leaves};
 
 use crate::coming::{Coming, text_of};
+use dv_candidates::Path;
 use dv_command::Refusal;
 use dv_index::{Index, IndexedCollection, NewIndex, same_path};
-use dv_path::Path;
 use std::alloc::Global;
 
 /// How many indexes a collection has at most, that on `_id` among them.

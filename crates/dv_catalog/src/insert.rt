@@ -7,9 +7,9 @@ ghost use Rattle.dv_catalog.specs.Changes.{done_to, put, with_put};
 ghost use Rattle.dv_catalog.specs.Effects as effects;
 ghost use Rattle.dv_index.specs.Indexed.{with_documents};
 
-use dv_bson::Document;
 use dv_command::Refusal;
 use dv_index::IndexedCollection;
+use dv_value::Document;
 
 /// Puts a document into a collection. Refused with `DuplicateKey` where a document has an equal `_id`, or one has a key of it
 /// in a unique index, and with `WantOfMemory`; then nothing is changed.

@@ -1,7 +1,7 @@
 //! What holds of changes, each the contract of a function that does nothing.
 
 ghost use Rattle.std.specs.Prelude.{◌≡◌, ◌<◌, ◌≤◌, ◌++◌, ◌∷◌, [], false, length, List, map, Ok, Err};
-ghost use Rattle.dv_bson.specs.Tree.{Field};
+ghost use Rattle.dv_value.specs.Tree.{Field};
 ghost use Rattle.dv_catalog.specs.Changes.{Change, with_change, with_changes};
 ghost use Rattle.dv_catalog.specs.EffectView.{AreAble, BeginsWithId};
 ghost use Rattle.dv_catalog.specs.State.{AreOrdered, is_view};

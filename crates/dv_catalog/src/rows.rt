@@ -2,8 +2,8 @@
 
 ghost use Rattle.std.specs.Prelude.{◌≡◌, []};
 
-use dv_bson::Document;
 use dv_coll::Iter;
+use dv_value::Document;
 use std::marker::Model;
 
 /// Where rows come from.
@@ -26,8 +26,8 @@ pub(crate) struct Rows<'a> {
 impl<'a> Model for Rows<'a> {
     ghost use Rattle.std.specs.Prelude as prelude;
     ghost use Rattle.std.specs.Coded.{coded_list, coded×, coded_ℕ};
-    ghost use Rattle.dv_bson.specs.Tree.{Field};
-    ghost use Rattle.dv_bson.specs.TreeCode.{coded_tree};
+    ghost use Rattle.dv_value.specs.Tree.{Field};
+    ghost use Rattle.dv_value.specs.TreeCode.{coded_tree};
     ghost use Rattle.dv_catalog.specs.RowsView as seen;
 
     ghost Value = { prelude.List (prelude.List Field) };

@@ -10,11 +10,11 @@ ghost use Rattle.dv_sort.specs.Sorting.{front, stable};
 
 use crate::ahead::first_by_index;
 use crate::searched::{Searched, first_found};
-use dv_bson::{Document, NoMemory};
 use dv_command::Find;
 use dv_match::Filter;
 use dv_path::SortSpec;
 use dv_sort::{Sorter, laws};
+use dv_value::{Document, NoMemory};
 use std::alloc::Global;
 
 /// The rows that a find is for, in its order. Fails where memory is wanting.

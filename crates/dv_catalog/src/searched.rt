@@ -9,9 +9,9 @@ ghost use Rattle.dv_sort.specs.Sorting.{front};
 
 use crate::collections::Collections;
 use crate::rows::Rows;
-use dv_bson::{Document, NoMemory};
 use dv_index::IndexedCollection;
 use dv_match::Filter;
+use dv_value::{Document, NoMemory};
 use dv_views::Registry;
 use std::alloc::Global;
 

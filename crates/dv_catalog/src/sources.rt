@@ -11,8 +11,8 @@ ghost use Rattle.dv_catalog.specs.State.{AreOrdered, lists_of};
 
 use crate::collections::Collections;
 use crate::rows::Rows;
-use dv_bson::{Document, NoMemory, Str};
 use dv_pipe::Sources;
+use dv_value::{Document, NoMemory, Str};
 use dv_views::Registry;
 use std::alloc::Global;
 

@@ -2,7 +2,7 @@
 
 ghost use Rattle.std.specs.Prelude.{◌≡◌, ◌∷◌, [], false, IfOk, map};
 ghost use Rattle.std.specs.List.{AllByRecursion};
-ghost use Rattle.dv_bson.specs.Names.{has_zero};
+ghost use Rattle.dv_value.specs.Names.{has_zero};
 ghost use Rattle.dv_coll.specs.Collection.{HasId, id_key};
 ghost use Rattle.dv_catalog.specs.Changes as changing;
 ghost use Rattle.dv_catalog.specs.EffectView.{BeginsWithId, HasWholeName, after_of, changes_seen};
@@ -11,9 +11,9 @@ ghost use Rattle.dv_catalog.specs.Told as defined;
 
 use crate::effect::{Changes, Updates};
 use crate::rows::Rows;
-use dv_bson::{Document, NoMemory};
 use dv_change::Change;
 use dv_order::Key;
+use dv_value::{Document, NoMemory};
 use dv_views::{Registry, document_gone, document_put, key_of_id};
 use std::alloc::Global;
 

@@ -2,7 +2,7 @@
 
 ghost use Rattle.std.specs.Prelude.{◌≡◌, ◌≤◌, ◌++◌, ◌∷◌, ℕ, List, [], Some, codes, false, filter, if◌then◌else◌, length, map, take, IfOk, OnErr, OnOk};
 ghost use Rattle.std.specs.Str.{bytes_eq};
-ghost use Rattle.dv_bson.specs.Names.{has_zero};
+ghost use Rattle.dv_value.specs.Names.{has_zero};
 ghost use Rattle.dv_coll.specs.Collection.{HasId, found, id_key, replaced};
 ghost use Rattle.dv_fields.specs.Refusals.{UnlessWanting};
 ghost use Rattle.dv_command.specs.View.{updating_seen};
@@ -20,11 +20,11 @@ ghost use Rattle.dv_update.specs.UpdateView as seen;
 
 use crate::chosen::chosen;
 use crate::effect::{Changes, Effect, Updated, Updates};
-use dv_bson::{Document, NoMemory, Str};
 use dv_coll::laws;
 use dv_command::{Refusal, Updating};
 use dv_index::{IndexedCollection, Replacing};
 use dv_update::{Outcome, Update, UpdateFault};
+use dv_value::{Document, NoMemory, Str};
 use dv_views::key_of_id;
 use std::alloc::Global;
 

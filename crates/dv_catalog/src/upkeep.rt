@@ -1,7 +1,7 @@
 //! Views, kept over what stands under namespaces.
 
 ghost use Rattle.std.specs.Prelude.{◌≡◌, ◌∷◌, [], false, ℕ, List, Some, OnOk};
-ghost use Rattle.dv_bson.specs.Tree.{Field};
+ghost use Rattle.dv_value.specs.Tree.{Field};
 ghost use Rattle.dv_views.specs.Forms as forms;
 ghost use Rattle.dv_views.specs.Views as views;
 ghost use Rattle.dv_catalog.specs.CatalogParts as parts;
@@ -11,8 +11,8 @@ ghost use Rattle.dv_catalog.specs.State.{Namespaces, lists_of, rows_of};
 
 use crate::collections::Collections;
 use crate::sources::documents_under;
-use dv_bson::{NoMemory, Str};
 use dv_pipe::Pipeline;
+use dv_value::{NoMemory, Str};
 use dv_views::{Registry, ViewState, names_read};
 use std::alloc::Global;
 

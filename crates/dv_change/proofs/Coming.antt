@@ -1,6 +1,6 @@
 -- Of rows one by one: those that come.
 use Rattle.std.specs.Prelude.{◌≡◌, Bool, true, false, not, cond, List, [], ◌∷◌, ◌++◌, map, filter, if◌then◌else◌, refl}
-use Rattle.dv_bson.specs.Tree.{Field}
+use Rattle.dv_value.specs.Tree.{Field}
 use Rattle.dv_change.specs.declared.change.Change.TheVariants.{Put}
 use Rattle.dv_change.specs.Changes.{Positioned, at}
 use Rattle.dv_change.specs.Difference.{put_over, puts, stands_as}

@@ -6,7 +6,7 @@ use Rattle.dv_change.specs.declared.input.Input.{Input}
 use Rattle.dv_change.specs.declared.input.Input.TheVariants.{Left, Named}
 use Rattle.dv_change.specs.Inputs.{left_after}
 use Rattle.dv_change.specs.Linked.{HasTaken, IsLinked, first_left, forms_of}
-use Rattle.dv_change.specs.Work.{forms_after, pass_in, through_forms, work_in}
+use Rattle.dv_change.specs.Work.{Form, forms_after, pass_in, through_forms, work_in}
 
 module _ {T : Type 0} (left : T → Positioned) (others : T → List Positioned) (makes : T → List Positioned → Positioned → Positioned) (sound : T → Type 0) where
   -- without a turn the rows are those that come
@@ -37,9 +37,17 @@ module _ {T : Type 0} (left : T → Positioned) (others : T → List Positioned)
   work-taken [] out rows (Named i) change taken = refl
   work-taken (t ∷ ts) out rows input change taken = ap (work_in input change (forms_of left others makes sound (t ∷ ts))) taken.0.1
 
+  through-none : ((t : T) (named : List Positioned) → makes t named [] ≡ []) → (ts : List T) → through_forms (forms_of left others makes sound ts) [] ≡ []
+  through-none empty [] = refl
+  through-none empty (t ∷ ts) = ap (through_forms (forms_of left others makes sound ts)) (empty t (others t)) ∙ through-none empty ts
+
+  -- what comes out of turns that have taken in nothing, once rows come
+  pub filled-taken : ((t : T) (named : List Positioned) → makes t named [] ≡ []) → (ts us : List T) (out now rows : Positioned) (made : List Change) → forms_of left others makes sound us ≡ forms_of left others makes sound ts → IsLinked left others makes sound us rows
+      → with_changes [] made ≡ through_forms (forms_of left others makes sound ts) rows → now ≡ with_changes out made → HasTaken left others makes sound ts out [] → HasTaken left others makes sound us now rows
+  filled-taken empty ts us out now rows made forms linked leads is taken = (
+    linked,
+    is ∙ ap (λ (es : Positioned). with_changes es made) (taken.1 ∙ through-none empty ts) ∙ leads ∙ ap (λ (fs : List Form). through_forms fs rows) (sym forms),
+  )
+
   pub fresh-taken : (ts : List T) (out : Positioned) → ((t : T) (named : List Positioned) → makes t named [] ≡ []) → IsLinked left others makes sound ts [] → out ≡ [] → HasTaken left others makes sound ts out []
-  fresh-taken ts out empty linked none = (linked, none ∙ sym (through-none ts))
-    where
-      through-none : (us : List T) → through_forms (forms_of left others makes sound us) [] ≡ []
-      through-none [] = refl
-      through-none (u ∷ us) = ap (through_forms (forms_of left others makes sound us)) (empty u (others u)) ∙ through-none us
+  fresh-taken ts out empty linked none = (linked, none ∙ sym (through-none empty ts))

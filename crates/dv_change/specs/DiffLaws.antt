@@ -8,7 +8,7 @@ use Rattle.std.specs.List.{AllByRecursion, filter}
 use Rattle.std.specs.List.Sorted.{IsStrictlySortedBy}
 use Rattle.std.specs.Map.{keys_of}
 use Rattle.std.proofs.lemmas.Map.Entries.{option_filter}
-use Rattle.dv_bson.specs.Tree.{Field, fields_of}
+use Rattle.dv_value.specs.Tree.{Field, fields_of}
 use Rattle.dv_order.specs.Same.{same_fields}
 use Rattle.dv_order.specs.SameLaws.{same_documents}
 use Rattle.dv_change.specs.declared.change.Change.{Change}

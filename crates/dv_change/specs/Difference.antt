@@ -1,7 +1,7 @@
 -- The changes that lead from a list of rows to another one.
 use Rattle.std.specs.Prelude.{Bool, false, not, List, [], ◌∷◌, ◌++◌, map, Option, None, Some, is_none, if◌then◌else◌}
 use Rattle.std.specs.List.{filter}
-use Rattle.dv_bson.specs.Tree.{Field, fields_of}
+use Rattle.dv_value.specs.Tree.{Field, fields_of}
 use Rattle.dv_order.specs.Same.{same_fields}
 use Rattle.dv_change.specs.declared.change.Change.{Change}
 use Rattle.dv_change.specs.declared.change.Change.TheVariants.{Put, Gone}

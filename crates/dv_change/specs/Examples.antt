@@ -1,6 +1,6 @@
 -- Rows and stages of examples.
 use Rattle.std.specs.Prelude.{ℕ, pos, List, [], ◌∷◌, codes, take}
-use Rattle.dv_bson.specs.Tree.{Field, int32, int64}
+use Rattle.dv_value.specs.Tree.{Field, int32, int64}
 use Rattle.dv_change.specs.declared.position.Part.TheVariants.{At}
 use Rattle.dv_change.specs.Changes.{Positioned}
 use Rattle.dv_change.specs.Positions.{PosTree}

@@ -1,6 +1,7 @@
 pub mod Positions
 pub mod PositionLaws
 pub mod Changes
+pub mod Beginning
 pub mod Difference
 pub mod DiffLaws
 pub mod Inputs

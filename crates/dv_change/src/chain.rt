@@ -1,7 +1,8 @@
 //! Stages one behind the other.
 
-ghost use Rattle.std.specs.Prelude.{◌≡◌, ◌+◌, ◌<◌, ◌++◌, [], length, OnOk};
+ghost use Rattle.std.specs.Prelude.{◌≡◌, ◌+◌, ◌<◌, ◌≤◌, ◌++◌, [], length, IfOk, OnErr, OnOk};
 ghost use Rattle.std.specs.List.{AllByRecursion};
+ghost use Rattle.dv_change.specs.Beginning.{BeginsWith};
 ghost use Rattle.dv_change.specs.Changes.{IsExactChange, with_changes};
 ghost use Rattle.dv_change.specs.Inputs.{left_after};
 ghost use Rattle.dv_change.specs.Linked.{IsLinked, first_left, forms_of, last_outs};
@@ -10,10 +11,11 @@ ghost use Rattle.dv_change.specs.Work as defined;
 ghost use Rattle.dv_change.specs.Work.{HasAny, forms_after, forms_named, named_in, pass, pass_in, pass_named, through_forms, work, work_in, work_named};
 
 use crate::change::Change;
+use crate::filling::fill_all;
 use crate::input::Input;
 use crate::ticks::Ticks;
 use crate::turn::Turn;
-use dv_bson::NoMemory;
+use dv_value::NoMemory;
 use std::alloc::Global;
 use std::marker::Model;
 
@@ -44,7 +46,7 @@ impl<T: Turn + Drop> Chain<T> {
 
     /// Takes in a change of an input, and puts what comes out of the last turn behind what is in `out`. The lists that turns
     /// look into are counted from 0 through all of them. Fails where memory is wanting; then it is spent and may only be
-    /// dropped.
+    /// dropped, `out` may have grown at its end, and `ticks` may have risen.
     pub fn change(
         &mut self,
         input: Input,
@@ -60,6 +62,8 @@ impl<T: Turn + Drop> Chain<T> {
         ensures leads { OnOk result (with_changes (through_forms (forms_of T.left T.others T.makes T.sound self.old) (first_left T.left T.others T.makes T.sound self.old)) (pass_in input change (forms_of T.left T.others T.makes T.sound self.old) (first_left T.left T.others T.makes T.sound self.old)) ≡ through_forms (forms_of T.left T.others T.makes T.sound self.new) (left_after input change (first_left T.left T.others T.makes T.sound self.old))) }
         ensures out { OnOk result (out.new.items ≡ out.old.items ++ pass_in input change (forms_of T.left T.others T.makes T.sound self.old) (first_left T.left T.others T.makes T.sound self.old)) }
         ensures ticks { OnOk result (ticks.new ≡ raised ticks.old (work_in input change (forms_of T.left T.others T.makes T.sound self.old) (first_left T.left T.others T.makes T.sound self.old))) }
+        ensures begins { OnErr result (BeginsWith out.new.items out.old.items) }
+        ensures no_fewer { OnErr result (ticks.old ≤ ticks.new) }
     {
         feed_input(
             self.alloc,
@@ -69,6 +73,17 @@ impl<T: Turn + Drop> Chain<T> {
             ticks,
             out,
         )
+    }
+
+    /// Takes in rows where it has taken in nothing, as the changes leave them that put them in. Gives changes that lead to what
+    /// the last turn makes; counts nothing. Fails where memory is wanting; then it is spent and may only be dropped.
+    pub fn fill(&mut self, changes: Vec<Change>) -> Result<Vec<Change>, NoMemory>
+        requires { IsLinked T.left T.others T.makes T.sound self.old [] }
+        ensures forms { OnOk result (forms_of T.left T.others T.makes T.sound self.new ≡ forms_of T.left T.others T.makes T.sound self.old) }
+        ensures linked { OnOk result (IsLinked T.left T.others T.makes T.sound self.new (with_changes [] changes.items)) }
+        ensures made { IfOk result (λ made. with_changes [] made.items ≡ through_forms (forms_of T.left T.others T.makes T.sound self.old) (with_changes [] changes.items)) }
+    {
+        fill_all(self.turns.as_mut_slice(), changes)
     }
 }
 
@@ -89,6 +104,8 @@ fn feed_input<T: Turn>(
     ensures leads { OnOk result (with_changes (through_forms (forms_of T.left T.others T.makes T.sound turns.old) (first_left T.left T.others T.makes T.sound turns.old)) (pass_in input change (forms_of T.left T.others T.makes T.sound turns.old) (first_left T.left T.others T.makes T.sound turns.old)) ≡ through_forms (forms_of T.left T.others T.makes T.sound turns.new) (left_after input change (first_left T.left T.others T.makes T.sound turns.old))) }
     ensures out { OnOk result (out.new.items ≡ out.old.items ++ pass_in input change (forms_of T.left T.others T.makes T.sound turns.old) (first_left T.left T.others T.makes T.sound turns.old)) }
     ensures ticks { OnOk result (ticks.new ≡ raised ticks.old (work_in input change (forms_of T.left T.others T.makes T.sound turns.old) (first_left T.left T.others T.makes T.sound turns.old))) }
+    ensures begins { OnErr result (BeginsWith out.new.items out.old.items) }
+    ensures no_fewer { OnErr result (ticks.old ≤ ticks.new) }
 {
     change.is_exact();
     match input {
@@ -115,6 +132,8 @@ fn feed<T: Turn>(
     ensures others { OnOk result (T.others turn.new ≡ T.others turn.old) }
     ensures out { OnOk result (out.new.items ≡ out.old.items ++ defined.handed (T.makes turn.old (T.others turn.old)) (T.left turn.old) changes.items) }
     ensures ticks { OnOk result (ticks.new ≡ raised ticks.old (length changes.items + length (defined.handed (T.makes turn.old (T.others turn.old)) (T.left turn.old) changes.items))) }
+    ensures begins { OnErr result (BeginsWith out.new.items out.old.items) }
+    ensures no_fewer { OnErr result (ticks.old ≤ ticks.new) }
 {
     'changes: for change in changes {
         turn.change(Input::Left, change, ticks, out)?;
@@ -136,6 +155,8 @@ fn feed_all<T: Turn>(
     ensures linked { OnOk result (IsLinked T.left T.others T.makes T.sound turns.new (with_changes (first_left T.left T.others T.makes T.sound turns.old) changes.items)) }
     ensures out { OnOk result (out.new.items ≡ out.old.items ++ pass (forms_of T.left T.others T.makes T.sound turns.old) (first_left T.left T.others T.makes T.sound turns.old) changes.items) }
     ensures ticks { OnOk result (ticks.new ≡ raised ticks.old (work (forms_of T.left T.others T.makes T.sound turns.old) (first_left T.left T.others T.makes T.sound turns.old) changes.items)) }
+    ensures begins { OnErr result (BeginsWith out.new.items out.old.items) }
+    ensures no_fewer { OnErr result (ticks.old ≤ ticks.new) }
 {
     let Some((first, behind)) = turns.split_first_mut() else {
         return push_all(changes, out);
@@ -160,6 +181,8 @@ fn feed_named<T: Turn>(
     ensures linked { OnOk result (IsLinked T.left T.others T.makes T.sound turns.new (first_left T.left T.others T.makes T.sound turns.old)) }
     ensures out { OnOk result (out.new.items ≡ out.old.items ++ pass_named place change (forms_of T.left T.others T.makes T.sound turns.old) (first_left T.left T.others T.makes T.sound turns.old)) }
     ensures ticks { OnOk result (ticks.new ≡ raised ticks.old (work_named place change (forms_of T.left T.others T.makes T.sound turns.old) (first_left T.left T.others T.makes T.sound turns.old))) }
+    ensures begins { OnErr result (BeginsWith out.new.items out.old.items) }
+    ensures no_fewer { OnErr result (ticks.old ≤ ticks.new) }
 {
     let Some((first, behind)) = turns.split_first_mut() else {
         unreachable!()
@@ -176,7 +199,8 @@ fn feed_named<T: Turn>(
 
 /// Puts the changes behind the others.
 fn push_all(changes: Vec<Change>, out: &mut Vec<Change>) -> Result<(), NoMemory>
-    ensures { OnOk result (out.new.items ≡ out.old.items ++ changes.items) }
+    ensures out { OnOk result (out.new.items ≡ out.old.items ++ changes.items) }
+    ensures begins { OnErr result (BeginsWith out.new.items out.old.items) }
 {
     'changes: for change in changes {
         out.push(change)?;

@@ -4,7 +4,7 @@ ghost use Rattle.std.specs.Prelude.{◌≡◌, IfOk};
 ghost use Rattle.dv_change.specs.Changes.{IsExactChange};
 
 use crate::position::Pos;
-use dv_bson::{Document, NoMemory};
+use dv_value::{Document, NoMemory};
 
 /// What changed in a list of rows at positions.
 #[derive(Debug, Drop)]

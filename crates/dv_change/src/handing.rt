@@ -1,6 +1,7 @@
 //! What a stage hands on that made some rows and now makes others.
 
-ghost use Rattle.std.specs.Prelude.{◌≡◌, ◌+◌, ◌++◌, length, OnOk};
+ghost use Rattle.std.specs.Prelude.{◌≡◌, ◌≤◌, ◌+◌, ◌++◌, length, OnErr, OnOk};
+ghost use Rattle.dv_change.specs.Beginning.{BeginsWith};
 ghost use Rattle.dv_change.specs.Difference as defined;
 ghost use Rattle.dv_change.specs.Difference.{diff, gones, puts};
 ghost use Rattle.dv_change.specs.Raised.{raised};
@@ -9,12 +10,12 @@ use crate::change::Change;
 use crate::ordered::Ordered;
 use crate::position::Pos;
 use crate::ticks::Ticks;
-use dv_bson::{Document, NoMemory};
 use dv_order::same_documents;
+use dv_value::{Document, NoMemory};
 
 /// Hands on what leads from the old rows to the new ones: each position that goes, and then each row that comes or isn't the
 /// same, behind what is in `out`. Counts 1 for the change that it is owed for, and 1 for each that is handed on. Fails where
-/// memory is wanting.
+/// memory is wanting; then `out` may have grown at its end.
 pub fn hand_on(
     old: &Ordered<Document>,
     new: &Ordered<Document>,
@@ -23,6 +24,8 @@ pub fn hand_on(
 ) -> Result<(), NoMemory>
     ensures out { OnOk result (out.new.items ≡ out.old.items ++ diff old.now new.now) }
     ensures ticks { OnOk result (ticks.new ≡ raised ticks.old (1 + length (diff old.now new.now))) }
+    ensures begins { OnErr result (BeginsWith out.new.items out.old.items) }
+    ensures no_fewer { OnErr result (ticks.old ≤ ticks.new) }
 {
     let before = out.len();
     push_gones(old, new, out)?;
@@ -38,7 +41,8 @@ fn push_gones(
     new: &Ordered<Document>,
     out: &mut Vec<Change>,
 ) -> Result<(), NoMemory>
-    ensures { OnOk result (out.new.items ≡ out.old.items ++ gones old.now new.now) }
+    ensures out { OnOk result (out.new.items ≡ out.old.items ++ gones old.now new.now) }
+    ensures begins { OnErr result (BeginsWith out.new.items out.old.items) }
 {
     let Some((pos, _)) = old.first() else {
         return Ok(());
@@ -52,7 +56,8 @@ fn push_gones(
 
 /// Puts the position behind what is in `out`, where no new row stands at it.
 fn push_gone(pos: &Pos, new: &Ordered<Document>, out: &mut Vec<Change>) -> Result<(), NoMemory>
-    ensures { OnOk result (out.new.items ≡ out.old.items ++ defined.gone_from pos.now new.now) }
+    ensures out { OnOk result (out.new.items ≡ out.old.items ++ defined.gone_from pos.now new.now) }
+    ensures err { OnErr result (out.new.items ≡ out.old.items) }
 {
     if new.get(pos).is_none() {
         out.push(Change::Gone {
@@ -68,7 +73,8 @@ fn push_puts(
     new: &Ordered<Document>,
     out: &mut Vec<Change>,
 ) -> Result<(), NoMemory>
-    ensures { OnOk result (out.new.items ≡ out.old.items ++ puts old.now new.now) }
+    ensures out { OnOk result (out.new.items ≡ out.old.items ++ puts old.now new.now) }
+    ensures begins { OnErr result (BeginsWith out.new.items out.old.items) }
 {
     let Some((pos, row)) = new.first() else {
         return Ok(());
@@ -87,7 +93,8 @@ fn push_put(
     row: &Document,
     out: &mut Vec<Change>,
 ) -> Result<(), NoMemory>
-    ensures { OnOk result (out.new.items ≡ out.old.items ++ defined.put_over old.now pos.now row.now) }
+    ensures out { OnOk result (out.new.items ≡ out.old.items ++ defined.put_over old.now pos.now row.now) }
+    ensures err { OnErr result (out.new.items ≡ out.old.items) }
 {
     if let Some(there) = old.get(pos) {
         if same_documents(there, row) {

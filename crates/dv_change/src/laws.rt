@@ -1,17 +1,19 @@
 //! What holds of positions, changes and work, each the contract of a function that does nothing.
 
-ghost use Rattle.std.specs.Prelude.{◌≡◌, ◌∷◌, [], List};
-ghost use Rattle.std.specs.declared.cmp.Ordering.TheVariants.{Equal};
+ghost use Rattle.std.specs.Prelude.{◌≡◌, ◌∷◌, [], ℕ, List};
+ghost use Rattle.std.specs.declared.cmp.Ordering.TheVariants.{Equal, Less};
 ghost use Rattle.std.specs.List.{AllByRecursion};
 ghost use Rattle.dv_change.specs.declared.change.Change.{Change};
 ghost use Rattle.dv_change.specs.declared.change.Change.TheVariants.{Gone, Put};
+ghost use Rattle.dv_change.specs.declared.position.Part.TheVariants.{At, Down, Up};
 ghost use Rattle.dv_change.specs.declared.input.Input.TheVariants.{Left, Named};
 ghost use Rattle.dv_change.specs.Changes.{IsExactChange, IsPositioned, Positioned, at, with_change, with_changes};
 ghost use Rattle.dv_change.specs.Difference.{diff};
 ghost use Rattle.dv_change.specs.Examples.{as_it_comes, first_alone, looked_up_form, numbered_row, place, wide_number};
-ghost use Rattle.dv_change.specs.Positions.{IsExact, PosTree, pos_order};
+ghost use Rattle.dv_change.specs.Positions.{IsExact, PosTree, part_order, pos_order};
 ghost use Rattle.dv_change.specs.Raised.{raised};
 ghost use Rattle.dv_change.specs.Work.{pass_in, work_in};
+ghost use Rattle.dv_order.specs.Key.{KeyTree};
 
 /// Positions that stand beside each other are one, where their keys are those of values, or the one that no value has.
 #[tactic(auto, using(crate::proofs::Lawful::lawful))]
@@ -36,6 +38,12 @@ pub fn a_difference_leads_from_old_to_new()
     ensures { (old new : Positioned) → IsPositioned old → IsPositioned new → with_changes old (diff old new) ≡ new }
 {}
 
+/// A part that rises stands before one that falls, and either before a number, whatever they hold.
+pub fn positions_by_example()
+    ensures rising_first { (k l : KeyTree) → part_order (Up k) (Down l) ≡ Less }
+    ensures number_last { (k : KeyTree) (n : ℕ) → part_order (Down k) (At n) ≡ Less }
+{}
+
 /// What goes comes first, and what stays as it is isn't told.
 pub fn examples_of_differences()
     ensures nothing { diff ((place 0, numbered_row 1) ∷ []) ((place 0, numbered_row 1) ∷ []) ≡ [] }
@@ -52,6 +60,7 @@ pub fn examples_of_counts()
 /// Each change between two stages counts twice: as it is handed on, and as it is taken in.
 pub fn examples_of_work()
     ensures no_stage { pass_in Left (Gone (place 0)) [] [] ≡ Gone (place 0) ∷ [] }
+    ensures no_work_without_a_stage { work_in Left (Gone (place 0)) [] [] ≡ 0 }
     ensures next_row { pass_in Left (Gone (place 0)) (as_it_comes ∷ first_alone ∷ []) ((place 0, numbered_row 1) ∷ (place 1, numbered_row 2) ∷ []) ≡ Gone (place 0) ∷ Put (place 1) (numbered_row 2) ∷ [] }
     ensures work_for_next_row { work_in Left (Gone (place 0)) (as_it_comes ∷ first_alone ∷ []) ((place 0, numbered_row 1) ∷ (place 1, numbered_row 2) ∷ []) ≡ 5 }
     ensures no_work_behind { work_in Left (Put (place 7) (numbered_row 9)) (as_it_comes ∷ first_alone ∷ []) ((place 0, numbered_row 1) ∷ (place 1, numbered_row 2) ∷ []) ≡ 3 }

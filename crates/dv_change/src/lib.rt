@@ -3,6 +3,7 @@
 
 mod chain;
 mod change;
+mod filling;
 mod handing;
 mod input;
 pub mod laws;

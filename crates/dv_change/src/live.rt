@@ -1,7 +1,8 @@
 //! Rows that are kept by changes.
 
-ghost use Rattle.std.specs.Prelude.{◌≡◌, ◌↔◌, ◌++◌, [], length, IfOk, IsTrue, OnOk};
+ghost use Rattle.std.specs.Prelude.{◌≡◌, ◌↔◌, ◌++◌, [], length, IfOk, IsTrue, OnErr, OnOk};
 ghost use Rattle.std.specs.List.{AllByRecursion};
+ghost use Rattle.dv_change.specs.Beginning.{BeginsWith};
 ghost use Rattle.dv_change.specs.Changes.{Positioned, forget, with_change, with_changes};
 ghost use Rattle.dv_change.specs.Inputs.{left_after};
 ghost use Rattle.dv_change.specs.Linked.{HasTaken, IsLinked, first_left, forms_of};
@@ -14,7 +15,7 @@ use crate::input::Input;
 use crate::position::Pos;
 use crate::ticks::Ticks;
 use crate::turn::Turn;
-use dv_bson::{Document, NoMemory};
+use dv_value::{Document, NoMemory};
 use std::alloc::Global;
 use std::collections::BTreeMap;
 use std::collections::btree_map::{Iter, Values};
@@ -61,11 +62,26 @@ impl<T: Turn + Drop> Live<T> {
         ensures ticks { IfOk result (λ live. (rows : Positioned) → HasTaken T.left T.others T.makes T.sound self.chain self.rows.entries rows → live.ticks ≡ raised self.ticks (work_in input change (forms_of T.left T.others T.makes T.sound self.chain) rows)) }
         ensures told { IfOk result (λ live. (rows : Positioned) → HasTaken T.left T.others T.makes T.sound self.chain self.rows.entries rows → told.new.items ≡ told.old.items ++ pass_in input change (forms_of T.left T.others T.makes T.sound self.chain) rows) }
         ensures leads { IfOk result (λ live. (rows : Positioned) → HasTaken T.left T.others T.makes T.sound self.chain self.rows.entries rows → live.rows.entries ≡ with_changes self.rows.entries (pass_in input change (forms_of T.left T.others T.makes T.sound self.chain) rows)) }
+        ensures begins { OnErr result (BeginsWith told.new.items told.old.items) }
     {
         let mut live = self;
         let mut out = Vec::new(live.alloc);
         live.chain.change(input, change, &mut live.ticks, &mut out)?;
         put_all(&mut live.rows, out, told)?;
+        Ok(live)
+    }
+
+    /// Takes in rows where it has taken in nothing, as the changes leave them that put them in, and counts nothing. Fails where
+    /// memory is wanting; then all is dropped.
+    pub fn fill(self, changes: Vec<Change>) -> Result<Self, NoMemory>
+        requires { HasTaken T.left T.others T.makes T.sound self.chain self.rows.entries [] }
+        ensures forms { IfOk result (λ live. forms_of T.left T.others T.makes T.sound live.chain ≡ forms_of T.left T.others T.makes T.sound self.chain) }
+        ensures taken { IfOk result (λ live. HasTaken T.left T.others T.makes T.sound live.chain live.rows.entries (with_changes [] changes.items)) }
+        ensures ticks { IfOk result (λ live. live.ticks ≡ self.ticks) }
+    {
+        let mut live = self;
+        let made = live.chain.fill(changes)?;
+        put_each(&mut live.rows, made)?;
         Ok(live)
     }
 
@@ -125,10 +141,21 @@ fn put_all(
 ) -> Result<(), NoMemory>
     ensures rows { OnOk result (rows.new.entries ≡ with_changes rows.old.entries changes.items) }
     ensures told { OnOk result (told.new.items ≡ told.old.items ++ changes.items) }
+    ensures begins { OnErr result (BeginsWith told.new.items told.old.items) }
 {
     'changes: for change in changes {
         put(rows, change.try_clone()?)?;
         told.push(change)?;
+    }
+    Ok(())
+}
+
+/// Carries the changes out, one after the other.
+fn put_each(rows: &mut BTreeMap<Pos, Document>, changes: Vec<Change>) -> Result<(), NoMemory>
+    ensures { OnOk result (rows.new.entries ≡ with_changes rows.old.entries changes.items) }
+{
+    'changes: for change in changes {
+        put(rows, change)?;
     }
     Ok(())
 }

@@ -5,7 +5,7 @@ ghost use Rattle.std.specs.Option.{option_map};
 ghost use Rattle.dv_change.specs.Ordered.{found_at, gone, put};
 
 use crate::position::Pos;
-use dv_bson::NoMemory;
+use dv_value::NoMemory;
 use std::alloc::Global;
 use std::cmp::Ordering;
 use std::collections::BTreeMap;

@@ -6,8 +6,8 @@ ghost use Rattle.std.specs.Ordering.{as_partial_cmp, eq_by_cmp};
 ghost use Rattle.dv_change.specs.Positions.{IsExact, IsExactPart, kind, part_order, pos_order};
 ghost use Rattle.dv_change.specs.PositionLaws.{part_order_total, pos_order_total};
 
-use dv_bson::NoMemory;
 use dv_order::Key;
+use dv_value::NoMemory;
 use std::alloc::Global;
 use std::cmp::Ordering;
 use std::marker::Model;

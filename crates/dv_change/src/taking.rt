@@ -5,7 +5,7 @@ ghost use Rattle.dv_change.specs.Changes.{IsExactChange, IsPositioned, at, posit
 
 use crate::change::Change;
 use crate::position::Pos;
-use dv_bson::{Document, NoMemory};
+use dv_value::{Document, NoMemory};
 use std::collections::BTreeMap;
 
 /// What a change made of rows: where, which row stood there, and which one stands there now.

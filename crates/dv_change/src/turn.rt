@@ -1,8 +1,9 @@
 //! Stages that are kept by changes.
 
-ghost use Rattle.std.specs.Prelude.{◌≡◌, ◌+◌, ◌++◌, List, [], length, OnOk};
+ghost use Rattle.std.specs.Prelude.{◌≡◌, ◌≤◌, ◌+◌, ◌++◌, List, [], length, IfOk, OnErr, OnOk};
 ghost use Rattle.std.specs.List.{AllByRecursion};
-ghost use Rattle.dv_change.specs.Changes.{HaveOneLength, IsPositioned, Positioned};
+ghost use Rattle.dv_change.specs.Beginning.{BeginsWith};
+ghost use Rattle.dv_change.specs.Changes.{HaveOneLength, IsPositioned, Positioned, with_changes};
 ghost use Rattle.dv_change.specs.Inputs.{HasInput, left_after, others_after};
 ghost use Rattle.dv_change.specs.Raised.{raised};
 ghost use Rattle.dv_change.specs.Work.{owed_by};
@@ -10,7 +11,7 @@ ghost use Rattle.dv_change.specs.Work.{owed_by};
 use crate::change::Change;
 use crate::input::Input;
 use crate::ticks::Ticks;
-use dv_bson::NoMemory;
+use dv_value::NoMemory;
 
 /// A stage of a pipeline that keeps what it has taken in, and hands on what changes of its rows.
 pub trait Turn {
@@ -31,7 +32,8 @@ pub trait Turn {
         ensures { result ≡ length (others self.now) };
 
     /// Takes in a change of an input, and hands on what changes of its rows, behind what is in `out`. Counts 1 for the change
-    /// and 1 for each that it hands on. Fails where memory is wanting; then it is spent and may only be dropped.
+    /// and 1 for each that it hands on. Fails where memory is wanting; then it is spent and may only be dropped, `out` may
+    /// have grown at its end, and `ticks` may have risen.
     fn change(
         &mut self,
         input: Input,
@@ -46,7 +48,28 @@ pub trait Turn {
         ensures left { OnOk result (left self.new ≡ left_after input change (left self.old)) }
         ensures others { OnOk result (others self.new ≡ others_after input change (others self.old)) }
         ensures out { OnOk result (out.new.items ≡ out.old.items ++ owed_by input change (makes self.old) (others self.old) (left self.old)) }
-        ensures ticks { OnOk result (ticks.new ≡ raised ticks.old (1 + length (owed_by input change (makes self.old) (others self.old) (left self.old)))) };
+        ensures ticks { OnOk result (ticks.new ≡ raised ticks.old (1 + length (owed_by input change (makes self.old) (others self.old) (left self.old)))) }
+        ensures begins { OnErr result (BeginsWith out.new.items out.old.items) }
+        ensures no_fewer { OnErr result (ticks.old ≤ ticks.new) };
+
+    /// Takes in rows where it has taken in none, as the changes leave them that put them in. Gives changes that lead to what it
+    /// makes of these rows; counts nothing. Fails where memory is wanting; then it is spent and may only be dropped.
+    fn fill(&mut self, changes: Vec<Change>) -> Result<Vec<Change>, NoMemory>
+        requires sound { sound self.old }
+        requires empty { left self.old ≡ [] }
+        ensures sound { OnOk result (sound self.new) }
+        ensures makes { OnOk result (makes self.new ≡ makes self.old) }
+        ensures left { OnOk result (left self.new ≡ with_changes [] changes.items) }
+        ensures others { OnOk result (others self.new ≡ others self.old) }
+        ensures made { IfOk result (λ made. with_changes [] made.items ≡ makes self.old (others self.old) (with_changes [] changes.items)) }
+    {
+        let mut made = Vec::new(*changes.allocator());
+        let mut ticks = Ticks::new();
+        'changes: for change in changes {
+            self.change(Input::Left, change, &mut ticks, &mut made)?;
+        }
+        Ok(made)
+    }
 
     /// What it has taken in stands at exact positions, in their order.
     ghost positioned: { (t : Self) → sound t → IsPositioned (left t) × AllByRecursion (λ rows. IsPositioned rows) (others t) };

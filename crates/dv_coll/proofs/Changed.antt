@@ -7,12 +7,12 @@ use Rattle.std.specs.BTreeMap.{is_at}
 use Rattle.std.specs.Ordering.{is_eq}
 use Rattle.std.specs.Str.{bytes_eq}
 use Rattle.std.specs.Cmp.{Equal-is}
-use Rattle.dv_bson.specs.FieldChange.{with_found_pushed, with_field_changed}
-use Rattle.dv_bson.specs.Names.{has_name, value_under, with_value_under}
-use Rattle.dv_bson.specs.Tree.{Tree, array, Field, elements_of, list_of_elements}
-use Rattle.dv_bson.specs.View.{tree}
-use Rattle.dv_bson.specs.declared.field_change.FieldChange.{FieldChange}
-use Rattle.dv_bson.specs.declared.field_change.FieldChange.TheVariants.{Set, Push}
+use Rattle.dv_value.specs.FieldChange.{with_found_pushed, with_field_changed}
+use Rattle.dv_value.specs.Names.{has_name, value_under, with_value_under}
+use Rattle.dv_value.specs.Tree.{Tree, array, Field, elements_of, list_of_elements}
+use Rattle.dv_value.specs.View.{tree}
+use Rattle.dv_value.specs.declared.field_change.FieldChange.{FieldChange}
+use Rattle.dv_value.specs.declared.field_change.FieldChange.TheVariants.{Set, Push}
 use Rattle.dv_order.specs.Key.{KeyTree, key_order, key_at, first_value}
 use Rattle.dv_order.specs.KeyLaws.{key_order_total}
 use Rattle.dv_coll.specs.Collection.{HasId, id_key, has_key, found, replaced, with_field_changed_in}

@@ -3,9 +3,9 @@ use Rattle.std.specs.Prelude.{◌≡◌, ℕ, pos, Bool, not, List, [], ◌∷�
 use Rattle.std.specs.List.{AllByRecursion, find, filter}
 use Rattle.std.specs.List.Sorted.{IsStrictlySortedBy}
 use Rattle.std.specs.Ordering.{is_eq, is_lt}
-use Rattle.dv_bson.specs.FieldChange.{with_field_changed}
-use Rattle.dv_bson.specs.Tree.{Tree, int64, array, Field}
-use Rattle.dv_bson.specs.declared.field_change.FieldChange.{FieldChange}
+use Rattle.dv_value.specs.FieldChange.{with_field_changed}
+use Rattle.dv_value.specs.Tree.{Tree, int64, array, Field}
+use Rattle.dv_value.specs.declared.field_change.FieldChange.{FieldChange}
 use Rattle.dv_order.specs.Order.{canon}
 use Rattle.dv_order.specs.Key.{KeyTree, value, key_order}
 

@@ -4,9 +4,9 @@ use Rattle.std.specs.List.{AllByRecursion}
 use Rattle.std.specs.List.Sorted.{IsStrictlySortedBy}
 use Rattle.std.specs.BTreeMap.{is_at}
 use Rattle.std.specs.Map.{keys_of, values_of, set_value}
-use Rattle.dv_bson.specs.FieldChange.{with_field_changed}
-use Rattle.dv_bson.specs.Tree.{Field}
-use Rattle.dv_bson.specs.declared.field_change.FieldChange.{FieldChange}
+use Rattle.dv_value.specs.FieldChange.{with_field_changed}
+use Rattle.dv_value.specs.Tree.{Field}
+use Rattle.dv_value.specs.declared.field_change.FieldChange.{FieldChange}
 use Rattle.dv_order.specs.Key.{KeyTree, key_order}
 use Rattle.dv_coll.specs.Collection.{HasId, id_key}
 

@@ -6,15 +6,15 @@ ghost use Rattle.std.specs.Iterator.{YieldsFirstRef, item_count};
 ghost use Rattle.std.specs.List.{AllByRecursion};
 ghost use Rattle.std.specs.Option.{option_map};
 ghost use Rattle.std.specs.Str.{bytes_eq};
-ghost use Rattle.dv_bson.specs.FieldChange.{with_field_changed};
-ghost use Rattle.dv_bson.specs.Names.{has_zero};
+ghost use Rattle.dv_value.specs.FieldChange.{with_field_changed};
+ghost use Rattle.dv_value.specs.Names.{has_zero};
 ghost use Rattle.dv_order.specs.Key.{key_order};
 ghost use Rattle.dv_coll.specs.Collection.{HasId, IsAscending, id_key, found, inserted, removed, replaced, with_field_changed_in};
 ghost use Rattle.dv_coll.specs.Keyed.{changed_under};
 
 use crate::fault::InsertFault;
-use dv_bson::{Document, FieldChange, NoMemory};
 use dv_order::{Key, key_of, laws, replace_under_first};
+use dv_value::{Document, FieldChange, NoMemory};
 use std::alloc::Global;
 use std::collections::BTreeMap;
 use std::collections::btree_map::{Entry, Values};
@@ -33,8 +33,8 @@ impl Model for Collection {
     ghost use Rattle.std.specs.Prelude as prelude;
     ghost use Rattle.std.specs.Coded.{coded_list, coded×, coded_ℕ};
     ghost use Rattle.std.specs.BTreeMap.{values};
-    ghost use Rattle.dv_bson.specs.Tree.{Field};
-    ghost use Rattle.dv_bson.specs.TreeCode.{coded_tree};
+    ghost use Rattle.dv_value.specs.Tree.{Field};
+    ghost use Rattle.dv_value.specs.TreeCode.{coded_tree};
     ghost use Rattle.dv_coll.specs.Keyed.{IsKeyed};
 
     ghost Value = { prelude.List (prelude.List Field) };
@@ -274,8 +274,8 @@ pub struct Iter<'a> {
 impl<'a> Model for Iter<'a> {
     ghost use Rattle.std.specs.Prelude as prelude;
     ghost use Rattle.std.specs.Coded.{coded_list, coded×, coded_ℕ};
-    ghost use Rattle.dv_bson.specs.Tree.{Field};
-    ghost use Rattle.dv_bson.specs.TreeCode.{coded_tree};
+    ghost use Rattle.dv_value.specs.Tree.{Field};
+    ghost use Rattle.dv_value.specs.TreeCode.{coded_tree};
 
     ghost Value = { prelude.List (prelude.List Field) };
 

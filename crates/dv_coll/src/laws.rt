@@ -5,9 +5,9 @@ ghost use Rattle.std.specs.List.{AllByRecursion};
 ghost use Rattle.std.specs.Option.{option_map};
 ghost use Rattle.std.specs.Ordering.{is_eq};
 ghost use Rattle.std.specs.Str.{bytes_eq};
-ghost use Rattle.dv_bson.specs.FieldChange.{with_field_changed};
-ghost use Rattle.dv_bson.specs.Tree.{Field};
-ghost use Rattle.dv_bson.specs.declared.field_change.FieldChange.{FieldChange};
+ghost use Rattle.dv_value.specs.FieldChange.{with_field_changed};
+ghost use Rattle.dv_value.specs.Tree.{Field};
+ghost use Rattle.dv_value.specs.declared.field_change.FieldChange.{FieldChange};
 ghost use Rattle.dv_order.specs.Key.{KeyTree, key_order};
 ghost use Rattle.dv_coll.specs.Collection.{AreStanding, HasId, IsAscending, found, has_key, id_key, inserted, removed, replaced};
 

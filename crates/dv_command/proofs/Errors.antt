@@ -3,10 +3,10 @@ use Rattle.std.proofs.Common.{◌≡◌, true, false, List, [], ◌∷◌, lengt
 use Rattle.std.specs.Bool.{◌==◌}
 use Rattle.std.specs.Prelude.{codes}
 use Rattle.std.proofs.lemmas.Bool.{eqb-true}
-use Rattle.dv_bson.specs.declared.value.Value.{Value}
-use Rattle.dv_bson.specs.Names.{has_name}
-use Rattle.dv_bson.specs.Tree.{Tree, array, elements_of}
-use Rattle.dv_bson.specs.View.{tree}
+use Rattle.dv_value.specs.declared.value.Value.{Value}
+use Rattle.dv_value.specs.Names.{has_name}
+use Rattle.dv_value.specs.Tree.{Tree, array, elements_of}
+use Rattle.dv_value.specs.View.{tree}
 use Rattle.dv_command.specs.Replies.{errors_field}
 
 pub no_errors : (vs : List Value) → true ≡ (length vs == 0) → errors_field (map tree vs) ≡ []

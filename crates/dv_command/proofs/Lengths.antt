@@ -1,10 +1,10 @@
 -- What stands in fields is no longer than they are, and no list has more values than bytes.
 use Rattle.std.proofs.Common.{◌≡◌, ◌≤◌, ◌+◌, ℕ, suc, Bool, true, false, if◌then◌else◌, List, [], ◌∷◌, ◌++◌, length, decimal, length-append, Option, Some, refl, subst, arith}
 use Rattle.std.specs.Str.{bytes_eq}
-use Rattle.dv_bson.specs.Names.{value_under}
-use Rattle.dv_bson.specs.Spelling.{kind_of, framed, element_spelling, payload, elements_spelling, spelling}
-use Rattle.dv_bson.specs.Tree.{Tree, array, Elements, no_elements, element, Field, list_of_elements}
-use Rattle.dv_bson.specs.declared.kind.Kind.{Kind}
+use Rattle.dv_value.specs.Names.{value_under}
+use Rattle.dv_value.specs.Spelling.{kind_of, framed, element_spelling, payload, elements_spelling, spelling}
+use Rattle.dv_value.specs.Tree.{Tree, array, Elements, no_elements, element, Field, list_of_elements}
+use Rattle.dv_value.specs.declared.kind.Kind.{Kind}
 
 -- what a field adds to a spelling
 abbrev pub FieldsAdd : Type 0

@@ -4,9 +4,9 @@ use Rattle.std.proofs.lemmas.Bool.Decides.{nat_tests}
 use Rattle.std.proofs.lemmas.Str.{IsUtf8-append, IsUtf8-from_ascii}
 use Rattle.std.specs.Prelude.{codes, ⊤}
 use Rattle.std.specs.Str.{IsUtf8, bytes_eq}
-use Rattle.dv_bson.specs.Names.{value_under}
-use Rattle.dv_bson.specs.Spelling.{IsValue, AreFields, AreElements, payload}
-use Rattle.dv_bson.specs.Tree.{Tree, int32, int64, string, document, array, Fields, no_fields, field, Elements, no_elements, element, Field, fields_of, list_of_fields, elements_of, list_of_elements}
+use Rattle.dv_value.specs.Names.{value_under}
+use Rattle.dv_value.specs.Spelling.{IsValue, AreFields, AreElements, payload}
+use Rattle.dv_value.specs.Tree.{Tree, int32, int64, string, document, array, Fields, no_fields, field, Elements, no_elements, element, Field, fields_of, list_of_fields, elements_of, list_of_elements}
 use Rattle.dv_pipe.specs.StageParsing as pipelines
 use Rattle.dv_pipe.specs.declared.stage.Stage.{Stage}
 use Rattle.dv_command.specs.Asked.{Find, find, find_in, first_batch_size, explained_by, ViewOn, ViewFields, view_fields_in, view_of, check_count, statement_limit}
@@ -19,7 +19,7 @@ use Rattle.dv_command.specs.Entries.{IndexAsked, index_asked, key_path, check_in
 use Rattle.dv_fields.specs.Kinds as kinds
 use Rattle.dv_fields.specs.Namespaces.{database_in, namespace, dotted, is_database_name, is_collection_name, longest_namespace}
 use Rattle.dv_fields.specs.Refusals.{refused_by, pipeline_refusal}
-use Rattle.dv_bson.specs.Results.{◌>>=◌, each}
+use Rattle.dv_value.specs.Results.{◌>>=◌, each}
 use Rattle.dv_command.specs.Sound.{AreSpellable, AreValidLists, AreIds, IsIndexName, AreIndexes, IsNamespace, IsSoundPipeline, IsSoundViewAsked}
 use Rattle.dv_command.proofs.Lengths.{array_long}
 use Rattle.dv_fields.specs.declared.refusal.Refusal.{Refusal}

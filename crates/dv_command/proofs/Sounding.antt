@@ -2,9 +2,9 @@
 use Rattle.std.proofs.Common.{◌≡◌, ℕ, true, false, List, length, Option, Some, None, Ok, subst, arith}
 use Rattle.std.specs.Prelude.{codes}
 use Rattle.std.specs.Str.{IsUtf8}
-use Rattle.dv_bson.specs.Names.{value_under}
-use Rattle.dv_bson.specs.Spelling.{IsValue, AreFields, spelling}
-use Rattle.dv_bson.specs.Tree.{Tree, document, Field, fields_of}
+use Rattle.dv_value.specs.Names.{value_under}
+use Rattle.dv_value.specs.Spelling.{IsValue, AreFields, spelling}
+use Rattle.dv_value.specs.Tree.{Tree, document, Field, fields_of}
 use Rattle.dv_update.specs.Parsing as updates
 use Rattle.dv_command.specs.Asked.{Asked, Find, hello, ping, write, find, aggregate, get_more, kill_cursors, create, drop, create_indexes, drop_indexes, explain, view_stats, command_named, asked_as, asked_under, hello_of, ping_of, write_of, find_of, find_in, aggregate_of, cursor_size, get_more_of, kill_cursors_of, create_of, drop_of, create_indexes_of, drop_indexes_of, explain_of, view_stats_of, explained_command, view_fields, view_of, looked_database, checked_database, check_count}
 use Rattle.dv_command.specs.declared.asking.WriteKind.{WriteKind}
@@ -22,7 +22,7 @@ use Rattle.dv_command.specs.Entries.{Updating, index_asked}
 use Rattle.dv_fields.specs.Kinds as kinds
 use Rattle.dv_fields.specs.Namespaces.{database, namespace}
 use Rattle.dv_fields.specs.Refusals.{update_refusal}
-use Rattle.dv_bson.specs.Results.{each}
+use Rattle.dv_value.specs.Results.{each}
 use Rattle.dv_command.specs.Sound.{AreValidLists, IsNamespace, IsSoundRequest, IsSoundUpdate}
 use Rattle.dv_command.proofs.Lengths.{FieldsAdd, under_long}
 use Rattle.dv_command.proofs.SoundFields.{beside_valid, count_valid, database_valid, document_valid, documents_valid, each_long, either_valid, ends, explained_valid, fields_valid, find_valid, id_valid, indexes_valid, integers_valid, list_long, list_valid, namespace_valid, parsed, pipeline_valid, succeeds, text_valid, under_valid, update_valid, view_valid}

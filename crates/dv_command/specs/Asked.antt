@@ -1,15 +1,15 @@
 -- What commands ask (MongoDB manual, "Database Commands"). Which commands there are, and in which order refusals are told, is this server's own.
 use Rattle.std.specs.Prelude.{ℕ, ℤ, Bool, true, false, List, Option, Some, None, Result, Ok, Err, codes, nat_lt, length, if◌then◌else◌, ⊤}
 use Rattle.std.specs.Str.{bytes_eq}
-use Rattle.dv_bson.specs.Names.{value_under}
-use Rattle.dv_bson.specs.Tree.{Tree, Field}
+use Rattle.dv_value.specs.Names.{value_under}
+use Rattle.dv_value.specs.Tree.{Tree, Field}
 use Rattle.dv_path.specs.SortSpec.{Part}
 use Rattle.dv_match.specs.Filter.{Members}
 use Rattle.dv_pipe.specs.declared.stage.Stage.{Stage}
 use Rattle.dv_fields.specs.declared.refusal.Refusal.{Refusal}
 use Rattle.dv_fields.specs.declared.refusal.Refusal.TheVariants.{FailedToParse, CommandNotFound, LimitReached}
 use Rattle.dv_fields.specs.Refusals.{refusal_of}
-use Rattle.dv_bson.specs.Results.{◌>>=◌, each}
+use Rattle.dv_value.specs.Results.{◌>>=◌, each}
 use Rattle.dv_fields.specs.Kinds as kinds
 use Rattle.dv_fields.specs.Fields as reading
 use Rattle.dv_fields.specs.Fields.{Table, first_name, check_fields, text_field, array_field, text_under, array_under, boolean_under, document_under, document_or_none, integer_under, integers_under, natural_under}

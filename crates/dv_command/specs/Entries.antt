@@ -1,14 +1,14 @@
 -- The entries of commands (MongoDB manual, "delete": `deletes`; "update": `updates`; "createIndexes": `indexes`), those of statements each read when its turn comes.
 -- The order in which refusals are told is this server's own.
 use Rattle.std.specs.Prelude.{ℕ, ◌&&◌, Bool, false, List, [], ◌∷◌, is_some, Result, Ok, Err, codes, nat_lt, length, if◌then◌else◌, ⊤}
-use Rattle.dv_bson.specs.Tree.{Field}
-use Rattle.dv_path.specs.Path.{path_of}
+use Rattle.dv_value.specs.Tree.{Field}
+use Rattle.dv_candidates.specs.Path.{path_of}
 use Rattle.dv_path.specs.SortSpec.{direction_of}
 use Rattle.dv_match.specs.Filter.{Members}
 use Rattle.dv_update.specs.Update.{Update}
 use Rattle.dv_fields.specs.declared.refusal.Refusal.{Refusal}
 use Rattle.dv_fields.specs.declared.refusal.Refusal.TheVariants.{BadValue, FailedToParse}
-use Rattle.dv_bson.specs.Results.{◌>>=◌}
+use Rattle.dv_value.specs.Results.{◌>>=◌}
 use Rattle.dv_fields.specs.Kinds as kinds
 use Rattle.dv_fields.specs.Fields.{check_fields, boolean_under, document_under, only_first_under, text_under, update_under}
 use Rattle.dv_command.specs.Tables.{deletion_table, updating_table, index_table}

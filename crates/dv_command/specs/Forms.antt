@@ -1,8 +1,8 @@
 -- The filters, sorts, updates and pipelines that commands hold (MongoDB manual, "find": `filter`, `sort`; "update": `u`; "aggregate": `pipeline`).
 -- How they are refused is this server's own.
 use Rattle.std.specs.Prelude.{ℕ, not, Bool, List, [], ◌∷◌, Option, Some, None, Result, Ok, Err}
-use Rattle.dv_bson.specs.Names.{begins_with_dollar}
-use Rattle.dv_bson.specs.Tree.{Tree, Field, fields_of}
+use Rattle.dv_value.specs.Names.{begins_with_dollar}
+use Rattle.dv_value.specs.Tree.{Tree, Field, fields_of}
 use Rattle.dv_path.specs.SortSpec.{Part, sort_spec_of}
 use Rattle.dv_match.specs.Filter.{Members}
 use Rattle.dv_match.specs.Parsing.{filter_in}
@@ -13,7 +13,7 @@ use Rattle.dv_pipe.specs.declared.stage.Stage.{Stage}
 use Rattle.dv_fields.specs.declared.refusal.Refusal.{Refusal}
 use Rattle.dv_fields.specs.declared.refusal.Refusal.TheVariants.{BadValue}
 use Rattle.dv_fields.specs.Refusals.{refused_by, filter_refusal, update_refusal, pipeline_refusal}
-use Rattle.dv_bson.specs.Results.{◌>>=◌}
+use Rattle.dv_value.specs.Results.{◌>>=◌}
 use Rattle.dv_fields.specs.Fields.{document_or_none, first_name}
 
 -- the filter that a document is

@@ -2,8 +2,8 @@
 use Rattle.std.specs.Prelude.{ℕ, List, [], ◌∷◌, Option, Some, None, Result, Ok, Err, if◌then◌else◌, ⊤}
 use Rattle.std.specs.List.{list_all}
 use Rattle.std.specs.Str.{bytes_eq}
-use Rattle.dv_bson.specs.Names.{value_under}
-use Rattle.dv_bson.specs.Tree.{Tree, Field}
+use Rattle.dv_value.specs.Names.{value_under}
+use Rattle.dv_value.specs.Tree.{Tree, Field}
 use Rattle.dv_fields.specs.Fields.{documents_in}
 use Rattle.dv_fields.specs.declared.refusal.Refusal.{Refusal}
 use Rattle.dv_fields.specs.declared.refusal.Refusal.TheVariants.{FailedToParse}

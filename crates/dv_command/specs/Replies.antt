@@ -1,7 +1,7 @@
 -- The documents of replies (MongoDB manual, "hello", "insert", "update", "delete", "find", "aggregate", "getMore", "killCursors", "drop", "createIndexes", "dropIndexes", "explain": their output). The codes from 900 on and what stands
 -- beside them, the versions of the wire, and the reply to a viewStats are this server's own.
 use Rattle.std.specs.Prelude.{ℕ, ◌^◌, ◌-◌, min, Bool, List, [], ◌∷◌, ◌++◌, Option, Some, None, pos, true, false, codes, nat_lt, if◌then◌else◌}
-use Rattle.dv_bson.specs.Tree.{Tree, string, int32, int64, boolean, document, array, Field, fields_of, elements_of}
+use Rattle.dv_value.specs.Tree.{Tree, string, int32, int64, boolean, document, array, Field, fields_of, elements_of}
 use Rattle.dv_fields.specs.declared.refusal.Refusal.{Refusal}
 use Rattle.dv_fields.specs.declared.refusal.Refusal.TheVariants.{WantOfMemory}
 use Rattle.dv_fields.specs.Refusals.{code, code_name, message_of}

@@ -2,8 +2,8 @@
 use Rattle.std.specs.Prelude.{◌≡◌, ◌≤◌, ℕ, ℤ, List, Option, Some, None, length, Ok, ⊤}
 use Rattle.std.specs.List.{AllByRecursion}
 use Rattle.std.specs.Str.{IsUtf8}
-use Rattle.dv_bson.specs.Spelling.{IsValue, AreFields, AreElements}
-use Rattle.dv_bson.specs.Tree.{Tree, int64, Field, fields_of, elements_of}
+use Rattle.dv_value.specs.Spelling.{IsValue, AreFields, AreElements}
+use Rattle.dv_value.specs.Tree.{Tree, int64, Field, fields_of, elements_of}
 use Rattle.dv_update.specs.Update.{Update}
 use Rattle.dv_update.specs.Parsing as updates
 use Rattle.dv_pipe.specs.StageParsing.{pipeline_of}

@@ -3,11 +3,12 @@
 ghost use Rattle.std.specs.Prelude.{◌≤◌, length};
 ghost use Rattle.dv_command.specs.Asked.{statement_limit};
 
-use dv_bson::{List, Str};
+use dv_candidates::Path;
 use dv_fields::Documents;
 use dv_match::Filter;
-use dv_path::{Path, SortSpec};
+use dv_path::SortSpec;
 use dv_pipe::Pipeline;
+use dv_value::{List, Str};
 
 /// What a command asks.
 #[derive(Drop)]

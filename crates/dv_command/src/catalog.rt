@@ -6,7 +6,7 @@ ghost use Rattle.dv_command.specs.Asked as asking;
 ghost use Rattle.dv_command.specs.Entries as entered;
 ghost use Rattle.dv_command.specs.View.{asked_seen, index_seen, view_fields_seen, view_on_seen};
 ghost use Rattle.dv_fields.specs.Refusals.{UnlessWanting};
-ghost use Rattle.dv_bson.specs.Results.{each};
+ghost use Rattle.dv_value.specs.Results.{each};
 
 use crate::asking::{
     Asked, Create, CreateIndexes, DropIndexes, DropNamespace, IndexAsked, ViewFields, ViewOn,
@@ -19,11 +19,11 @@ use crate::forms::pipeline_of;
 use crate::rules::{
     CREATE_INDEXES_RULES, CREATE_RULES, DROP_INDEXES_RULES, DROP_RULES, VIEW_STATS_RULES,
 };
-use dv_bson::Document;
 use dv_fields::fields::{documents_under, text_under};
 use dv_fields::namespaces::namespace;
 use dv_fields::values::{array_of, text_of};
 use dv_fields::{Documents, Refusal};
+use dv_value::Document;
 use std::alloc::Global;
 
 pub(crate) fn create_of<'a>(

@@ -6,10 +6,10 @@ ghost use Rattle.dv_fields.specs.View.{rule_seen};
 
 use crate::command::DocumentLists;
 use crate::lists::check_none;
-use dv_bson::Document;
 use dv_fields::namespaces::database;
 use dv_fields::rules::check_fields;
 use dv_fields::{Place, Refusal, Rule};
+use dv_value::Document;
 
 /// The database of a command, whose fields are looked at.
 pub(crate) fn looked_database<'a>(rules: &[Rule], body: &'a Document) -> Result<&'a str, Refusal>

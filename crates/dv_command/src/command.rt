@@ -7,7 +7,7 @@ ghost use Rattle.std.specs.Str.{bytes_eq};
 ghost use Rattle.dv_command.specs.Lists as defined;
 ghost use Rattle.dv_command.specs.ListsView.{list_seen};
 
-use dv_bson::{BsonFault, Document, Str};
+use dv_value::{BsonFault, Document, Str};
 use std::alloc::Global;
 use std::marker::Model;
 
@@ -40,8 +40,8 @@ impl Model for DocumentLists {
     ghost use Rattle.std.specs.Prelude as prelude;
     ghost use Rattle.std.specs.Prelude.{ℕ, map};
     ghost use Rattle.std.specs.Coded.{coded_list, coded×, coded_ℕ};
-    ghost use Rattle.dv_bson.specs.Tree.{Field};
-    ghost use Rattle.dv_bson.specs.TreeCode.{coded_tree};
+    ghost use Rattle.dv_value.specs.Tree.{Field};
+    ghost use Rattle.dv_value.specs.TreeCode.{coded_tree};
 
     ghost Value = { prelude.List (prelude.List ℕ × prelude.List (prelude.List Field)) };
 

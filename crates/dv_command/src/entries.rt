@@ -1,8 +1,8 @@
 //! The entries of commands.
 
 ghost use Rattle.std.specs.Prelude.{◌≡◌, is_some};
-ghost use Rattle.dv_bson.specs.View.{tree};
-ghost use Rattle.dv_path.specs.Path as paths;
+ghost use Rattle.dv_value.specs.View.{tree};
+ghost use Rattle.dv_candidates.specs.Path as paths;
 ghost use Rattle.dv_path.specs.SortSpec.{direction_of, direction_of_number};
 ghost use Rattle.dv_command.specs.Forms.{or_bad_value};
 ghost use Rattle.dv_command.specs.Entries as entries;
@@ -12,15 +12,15 @@ ghost use Rattle.dv_command.specs.View.{deletion_seen, index_seen, updating_seen
 use crate::asking::IndexAsked;
 use crate::forms::{filter_of, is_replacement, update_of};
 use crate::rules::{DELETION_RULES, INDEX_RULES, UPDATING_RULES};
-use dv_bson::{Document, Str, Value};
+use dv_candidates::{Path, PathFault};
 use dv_fields::fields::{
     boolean_under, document_under, only_first_under, text_under, update_under,
 };
 use dv_fields::rules::check_fields;
 use dv_fields::{Place, Refusal};
 use dv_match::Filter;
-use dv_path::{Path, PathFault};
 use dv_update::Update;
+use dv_value::{Document, Str, Value};
 use std::alloc::Global;
 
 /// What an entry of a delete asks: the documents that match go.

@@ -6,13 +6,13 @@ ghost use Rattle.dv_command.specs.Forms as forms;
 ghost use Rattle.dv_fields.specs.Refusals.{UnlessWanting};
 ghost use Rattle.dv_command.specs.View.{sort_seen};
 
-use dv_bson::{Document, List, begins_with_dollar};
 use dv_fields::Refusal;
 use dv_fields::fields::{document_or, first_name};
 use dv_match::Filter;
 use dv_path::SortSpec;
 use dv_pipe::Pipeline;
 use dv_update::Update;
+use dv_value::{Document, List, begins_with_dollar};
 use std::alloc::Global;
 
 /// The filter under a name, or the one that all documents match where there is no field of the name. Refused with

@@ -1,8 +1,8 @@
 //! Laws of what commands ask and of replies, each the contract of a function that does nothing.
 
 ghost use Rattle.std.specs.Prelude.{◌≡◌, ℕ, List, Ok, length};
-ghost use Rattle.dv_bson.specs.Spelling.{AreFields, IsValue, spelling};
-ghost use Rattle.dv_bson.specs.Tree.{Field, fields_of};
+ghost use Rattle.dv_value.specs.Spelling.{AreFields, IsValue, spelling};
+ghost use Rattle.dv_value.specs.Tree.{Field, fields_of};
 ghost use Rattle.dv_command.specs.Asked.{Asked, asked_under, command_name};
 ghost use Rattle.dv_command.specs.Lists.{CommandLists};
 ghost use Rattle.dv_command.specs.Replies.{count};
@@ -15,7 +15,7 @@ ghost use Rattle.dv_command.specs.Sound.{AreValidLists, IsSoundRequest, IsSoundU
 pub fn what_is_asked_is_sound()
     ensures { (body : List Field) (lists : CommandLists) (asked : Asked) → AreFields (fields_of body) → AreValidLists lists → asked_under (command_name body) body lists ≡ Ok asked → IsSoundRequest (length (spelling body)) asked }
 {
-    dv_bson::laws::what_a_field_adds();
+    dv_value::laws::what_a_field_adds();
 }
 
 /// The update that an entry asks is that of a document with valid fields, where the entry's fields are.

@@ -4,9 +4,9 @@ ghost use Rattle.std.specs.Prelude.{◌≡◌, Ok, Err, MatchResult};
 ghost use Rattle.dv_command.specs.Lists as defined;
 
 use crate::command::DocumentLists;
-use dv_bson::Document;
 use dv_fields::values::documents_of;
 use dv_fields::{Documents, Refusal};
+use dv_value::Document;
 
 /// Looks at the lists beside the body of a command that has none: one is refused with `FailedToParse`.
 pub(crate) fn check_none(lists: &DocumentLists) -> Result<(), Refusal>

@@ -10,10 +10,10 @@ use crate::command::{Command, DocumentLists};
 use crate::names::{CommandName, command_named};
 use crate::reads::{aggregate_of, explain_of, find_of, get_more_of, kill_cursors_of};
 use crate::statements::write_of;
-use dv_bson::Document;
 use dv_fields::Refusal;
 use dv_fields::fields::first_name;
 use dv_fields::namespaces::database;
+use dv_value::Document;
 use std::alloc::Global;
 
 /// What a command asks, or the first refusal: of a document that can't be read (`InvalidBson`), of a command that

@@ -12,7 +12,6 @@ use crate::forms::{filter_under, pipeline_of, sort_under};
 use crate::rules::{
     AGGREGATE_RULES, EXPLAIN_RULES, EXPLAINED_RULES, FIND_RULES, GET_MORE_RULES, KILL_CURSORS_RULES,
 };
-use dv_bson::Document;
 use dv_fields::fields::{
     array_under, boolean_under, document_or, document_under, first_name, integer_under,
     integers_under, natural_under, text_under,
@@ -20,6 +19,7 @@ use dv_fields::fields::{
 use dv_fields::namespaces::{database, namespace};
 use dv_fields::rules::check_fields;
 use dv_fields::{Place, Refusal};
+use dv_value::Document;
 use std::alloc::Global;
 
 /// How many rows come in a first batch where none says so.

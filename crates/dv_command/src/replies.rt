@@ -4,14 +4,14 @@ ghost use Rattle.std.specs.Prelude.{◌≡◌, ◌∷◌, [], ◌++◌, ◌^◌,
 ghost use Rattle.std.specs.Option.{option_map};
 ghost use Rattle.std.specs.Str.{bytes_eq};
 ghost use Rattle.std.specs.String.{string_bytes};
-ghost use Rattle.dv_bson.specs.Names.{has_name, has_zero};
-ghost use Rattle.dv_bson.specs.Tree.{string};
-ghost use Rattle.dv_bson.specs.View.{tree};
+ghost use Rattle.dv_value.specs.Names.{has_name, has_zero};
+ghost use Rattle.dv_value.specs.Tree.{string};
+ghost use Rattle.dv_value.specs.View.{tree};
 ghost use Rattle.dv_command.specs.Replies as replies;
 
 use crate::reply_names::ReplyNames;
-use dv_bson::{Document, List, NoMemory, Str, Value};
 use dv_fields::Refusal;
+use dv_value::{Document, List, NoMemory, Str, Value};
 use std::alloc::{AllocError, Global};
 
 /// The reply to a command that was carried out: these fields, and `ok: 1`. Fails where memory is wanting.

@@ -1,6 +1,6 @@
 //! The names of replies.
 
-use dv_bson::{Document, Value};
+use dv_value::{Document, Value};
 use std::alloc::Global;
 
 /// The names of the replies that come most often, each in a document beside which such a reply is made: it shares them, and

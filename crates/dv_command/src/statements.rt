@@ -9,10 +9,10 @@ use crate::checked::looked_database;
 use crate::command::DocumentLists;
 use crate::lists::{check_only, documents_under};
 use crate::rules::write_rules;
-use dv_bson::Document;
 use dv_fields::Refusal;
 use dv_fields::fields::{boolean_under, text_under};
 use dv_fields::namespaces::namespace;
+use dv_value::Document;
 use std::alloc::Global;
 
 /// How many statements a command may have.

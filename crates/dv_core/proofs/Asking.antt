@@ -1,8 +1,8 @@
 -- What a sound command asks.
 use Rattle.std.proofs.Common.{◌≡◌, ◌≤◌, ℕ, List, [], ◌∷◌, length, Ok, arith}
 use Rattle.std.specs.List.{AllByRecursion}
-use Rattle.dv_bson.specs.Spelling.{AreFields, spelling}
-use Rattle.dv_bson.specs.Tree.{Field, fields_of}
+use Rattle.dv_value.specs.Spelling.{AreFields, spelling}
+use Rattle.dv_value.specs.Tree.{Field, fields_of}
 use Rattle.dv_command.specs.Asked.{Asked, asked_by, asked_under, command_name}
 use Rattle.dv_command.specs.Lists.{CommandLists}
 use Rattle.dv_command.specs.Sound.{AreSpellable, AreValidLists, IsSoundRequest}

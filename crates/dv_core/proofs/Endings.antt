@@ -1,12 +1,12 @@
 -- How commands end that may find no memory for their reply.
 use Rattle.std.proofs.Common.{◌≡◌, ℕ, suc, ℤ, Bool, List, [], ◌∷◌, length, map, Result, Ok, Err, IfOk, OnErr, inl, inr, refl, sym, ap, subst}
-use Rattle.dv_bson.specs.Tree.{Field}
+use Rattle.dv_value.specs.Tree.{Field}
 use Rattle.dv_catalog.specs.IndexMaking.{indexes_created, indexes_dropped}
 use Rattle.dv_catalog.specs.State.{State}
 use Rattle.dv_command.specs.Asked.{CreateIndexes, DropIndexes, KillCursors}
 use Rattle.dv_command.specs.Replies.{create_indexes_reply, drop_indexes_reply, kill_cursors_reply}
 use Rattle.dv_cursor.specs.Cursors.{Cursors}
-use Rattle.dv_bson.specs.Results.{◌>>=◌}
+use Rattle.dv_value.specs.Results.{◌>>=◌}
 use Rattle.dv_fields.specs.declared.refusal.Refusal.{Refusal}
 use Rattle.dv_fields.specs.declared.refusal.Refusal.TheVariants.{WantOfMemory}
 use Rattle.dv_core.specs.declared.outcome.Outcome.{Outcome}

@@ -1,7 +1,7 @@
 -- What statements keep of the collection of each namespace.
 use Rattle.std.proofs.Common.{ℕ, zero, suc, Bool, true, false, cond, List, [], ◌∷◌, ◌++◌, length, map, not, take, Some, Result, Ok, Err, is_some, if◌then◌else◌, ◌≡◌, inl, inr, refl, subst}
 use Rattle.std.specs.List.{AllByRecursion}
-use Rattle.dv_bson.specs.Tree.{Field}
+use Rattle.dv_value.specs.Tree.{Field}
 use Rattle.dv_coll.specs.Collection.{found, id_key}
 use Rattle.dv_order.specs.Key.{KeyTree}
 use Rattle.dv_command.specs.Asked.{Asked, asked_by}
@@ -9,7 +9,7 @@ use Rattle.dv_command.specs.Entries.{Deletion, deletion_of, Updating, updating_o
 use Rattle.dv_command.specs.declared.command.Command.{Command}
 use Rattle.dv_fields.specs.declared.refusal.Refusal.{Refusal}
 use Rattle.dv_fields.specs.declared.refusal.Refusal.TheVariants.{DuplicateKey}
-use Rattle.dv_bson.specs.Results.{◌>>=◌}
+use Rattle.dv_value.specs.Results.{◌>>=◌}
 use Rattle.dv_core.specs.declared.outcome.Outcome.{Outcome}
 use Rattle.dv_catalog.specs.Changes.{Change, put, gone, Effect, Statement, apply, breaks, changes_of, clashes_by, done_to, with_change, with_changes}
 use Rattle.dv_update.specs.Update as form

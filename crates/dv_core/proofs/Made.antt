@@ -6,7 +6,7 @@ use Rattle.std.specs.Str.{bytes_eq}
 use Rattle.dv_views.specs.Forms.{ViewForm}
 use Rattle.dv_catalog.specs.State.{State, Standing, Namespaces, collection, collection_at, collection_of, documents_of, indexes_of, with_documents, with_indexes, without_view, is_collection, is_view, is_there}
 use Rattle.dv_catalog.specs.IndexMaking.{indexes_created, indexes_dropped, with_all, without_named, with_indexes_so}
-use Rattle.dv_index.specs.Index.{IndexForm}
+use Rattle.dv_keyed.specs.Index.{IndexForm}
 use Rattle.dv_core.specs.Indexes.{form_asked}
 use Rattle.dv_core.specs.State as core
 use Rattle.dv_catalog.specs.StateLaws.{get-insert, get-remove}

@@ -2,7 +2,7 @@
 use Rattle.std.proofs.Common.{◌≡◌, ◌⊎◌, ℕ, suc, Bool, true, false, if◌then◌else◌, List, [], ◌∷◌, ◌++◌, length, Option, Some, None, Result, Ok, Err, pos, inl, inr, refl, sym, ap, subst, ◌∙◌, arith}
 use Rattle.std.proofs.lemmas.List.{length-append}
 use Rattle.std.specs.FinMap as finite
-use Rattle.dv_bson.specs.Tree.{Field, int32}
+use Rattle.dv_value.specs.Tree.{Field, int32}
 use Rattle.dv_catalog.specs.Marks.{AreMarkedWhere, Marks, all_gone, live, marks_counted, marks_made, marks_read, marks_without}
 use Rattle.dv_catalog.specs.State.{documents_of, is_collection, is_there, is_view, lists_of, without_view}
 use Rattle.dv_catalog.specs.State as stored
@@ -12,7 +12,7 @@ use Rattle.dv_command.specs.Asked as asking
 use Rattle.dv_command.specs.Replies.{drop_reply, reply_of}
 use Rattle.dv_command.specs.declared.command.Command.{Command}
 use Rattle.dv_cursor.specs.Cursors.{Cursors}
-use Rattle.dv_bson.specs.Results.{◌>>=◌}
+use Rattle.dv_value.specs.Results.{◌>>=◌}
 use Rattle.dv_fields.specs.declared.refusal.Refusal.{Refusal}
 use Rattle.dv_fields.specs.declared.refusal.Refusal.TheVariants.{NamespaceExists, NamespaceNotFound, OnView, ReadByView}
 use Rattle.dv_views.specs.Forms.{ViewForm, fault_of_new, names_read}

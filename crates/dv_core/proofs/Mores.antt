@@ -2,9 +2,9 @@
 use Rattle.std.proofs.Common.{◌≡◌, ℕ, zero, suc, ◌+◌, ◌<◌, ◌≤◌, ℤ, Bool, true, false, nat_lt, List, [], ◌∷◌, ◌++◌, take, drop, set, length, map, cond, if◌then◌else◌, Option, Some, is_some, Ok, refl, ap, sym, ◌∙◌, add-one, append_assoc, arith}
 use Rattle.std.proofs.Math.Seq.{take-suc-set}
 use Rattle.std.proofs.lemmas.Bool.Decides.{nat_tests}
-use Rattle.dv_bson.specs.Tree.{Tree, int64, Field}
-use Rattle.dv_bson.specs.View.{tree}
-use Rattle.dv_bson.specs.declared.value.Value.{Value}
+use Rattle.dv_value.specs.Tree.{Tree, int64, Field}
+use Rattle.dv_value.specs.View.{tree}
+use Rattle.dv_value.specs.declared.value.Value.{Value}
 use Rattle.dv_command.specs.Replies.{document_of, next_batch_reply}
 use Rattle.dv_cursor.specs.Batch.{batch}
 use Rattle.dv_cursor.specs.Cursors.{Cursors, advanced}

@@ -8,7 +8,7 @@ use Rattle.std.specs.Ordering.{nat_cmp}
 use Rattle.std.specs.List.{AllByRecursion, list_any, slice_get}
 use Rattle.std.specs.Option.{option_map}
 use Rattle.std.specs.Str.{bytes_eq}
-use Rattle.dv_bson.specs.Tree.{Field}
+use Rattle.dv_value.specs.Tree.{Field}
 use Rattle.dv_catalog.specs.Changes.{Change, Effect, Statement, apply, changes_of, done_to}
 use Rattle.dv_catalog.specs.IndexMaking.{over_view, explained, explained_at, is_alike, is_made, way_by, unless_broken, with_all as with_all_entries, with_entries, with_index, within_limit, without_named, index_limit}
 use Rattle.dv_catalog.specs.State.{Collection, Standing, Namespaces, collection, collection_at, collection_of, indexes_of, with_documents, is_view}
@@ -29,12 +29,12 @@ use Rattle.dv_core.proofs.Asking.{AsksSoundly, body_size, soundly_asked}
 use Rattle.dv_core.proofs.Changed.{Did, MayWrite, outcome_may}
 use Rattle.dv_core.proofs.Standing.{IsKeptBy, indexes_by, made_stands}
 use Rattle.dv_core.proofs.Texts.{IsUtf8-ascii}
-use Rattle.dv_bson.specs.Results.{◌>>=◌}
+use Rattle.dv_value.specs.Results.{◌>>=◌}
 use Rattle.dv_fields.specs.declared.refusal.Refusal.{Refusal}
 use Rattle.dv_fields.specs.declared.refusal.Refusal.TheVariants.{BadValue, ConflictingUpdateOperators, DuplicateKey, IndexNotFound, LimitReached}
-use Rattle.dv_index.specs.Index.{IndexForm, id_form}
+use Rattle.dv_keyed.specs.Index.{IndexForm, id_form}
 use Rattle.dv_index.specs.Indexed.{index_chosen, is_dropped, name_at, paths_of, without_index}
-use Rattle.dv_index.specs.Choice.{chosen}
+use Rattle.dv_keyed.specs.Choice.{chosen}
 use Rattle.dv_index.specs.Unique.{are_broken}
 use Rattle.dv_match.specs.Filter.{Condition, Members}
 

@@ -6,14 +6,14 @@ use Rattle.std.specs.FinMap as finite
 use Rattle.std.specs.List.{AllByRecursion}
 use Rattle.std.specs.List.Sorted.{IsStrictlySortedBy}
 use Rattle.std.specs.Ordering.{nat_cmp, is_lt}
-use Rattle.dv_bson.specs.Names.{value_under, without}
-use Rattle.dv_bson.specs.Spelling.{AreFields, Fits}
-use Rattle.dv_bson.specs.Tree.{Tree, array, Field, fields_of}
+use Rattle.dv_value.specs.Names.{value_under, without}
+use Rattle.dv_value.specs.Spelling.{AreFields, Fits}
+use Rattle.dv_value.specs.Tree.{Tree, array, Field, fields_of}
 use Rattle.dv_order.specs.Key.{KeyTree, key_order}
 use Rattle.dv_coll.specs.Collection.{HasId, IsAscending, found, has_key, id_key, inserted, removed, replaced}
 use Rattle.dv_command.specs.Asked.{Asked, asked_by}
 use Rattle.dv_command.specs.Asked as asking
-use Rattle.dv_bson.specs.Results.{◌>>=◌}
+use Rattle.dv_value.specs.Results.{◌>>=◌}
 use Rattle.dv_command.specs.Entries.{Updating, updating_of}
 use Rattle.dv_command.specs.Sound.{AreSpellable, IsSoundUpdate}
 use Rattle.dv_command.specs.declared.asking.WriteKind.{WriteKind}

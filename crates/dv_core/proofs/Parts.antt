@@ -1,7 +1,7 @@
 -- A delete leaves a part of the documents.
 use Rattle.std.proofs.Common.{◌≡◌, ◌&&◌, not, ℕ, Bool, true, false, cond, List, [], ◌∷◌, map, Some, Ok, refl, sym, ap, subst, ◌∙◌}
 use Rattle.std.specs.List.{AllByRecursion, filter}
-use Rattle.dv_bson.specs.Tree.{Field}
+use Rattle.dv_value.specs.Tree.{Field}
 use Rattle.dv_coll.specs.Collection.{has_key, removed}
 use Rattle.dv_command.specs.Asked.{Asked, asked_by}
 use Rattle.dv_command.specs.Asked as asking

@@ -3,8 +3,8 @@ use Rattle.std.proofs.Common.{◌&&◌, Bool, true, false, cond, ℤ, pos, negsu
 use Rattle.std.specs.List.{AllByRecursion}
 use Rattle.std.specs.Prelude.{codes}
 use Rattle.std.specs.Str.{bytes_eq}
-use Rattle.dv_bson.specs.Names.{value_under, without}
-use Rattle.dv_bson.specs.Tree.{Tree, int32, int64, string, boolean, document, array, no_fields, Elements, no_elements, element, Field, fields_of}
+use Rattle.dv_value.specs.Names.{value_under, without}
+use Rattle.dv_value.specs.Tree.{Tree, int32, int64, string, boolean, document, array, no_fields, Elements, no_elements, element, Field, fields_of}
 use Rattle.dv_coll.specs.Collection.{id_key, found}
 use Rattle.dv_match.specs.declared.fault.FilterFault.{FilterFault}
 use Rattle.dv_match.specs.declared.fault.FilterFault.TheVariants as filtering
@@ -17,7 +17,7 @@ use Rattle.dv_update.specs.Update as form
 use Rattle.dv_fields.specs.declared.refusal.Refusal.{Refusal}
 use Rattle.dv_fields.specs.declared.refusal.Refusal.TheVariants.{InvalidBson, BadValue, FailedToParse, DuplicateKey, TooLarge}
 use Rattle.dv_fields.specs.Refusals.{refused_by, filter_refusal, update_refusal}
-use Rattle.dv_bson.specs.Results.{◌>>=◌, each}
+use Rattle.dv_value.specs.Results.{◌>>=◌, each}
 use Rattle.dv_fields.specs.Kinds.{Kind, FieldPlace}
 use Rattle.dv_fields.specs.Kinds as kinds
 use Rattle.dv_fields.specs.Fields.{Table, update_in, check_false, optional, boolean_under, update_under, text_field, boolean_in, document_in, each_document, documents_in, array_field, integer_in, not_negative, natural_in, one_or_all, only_first_in, check_batch_size, check_cursor, check_empty, check_none, check_single, integers_in, check_value, check_known, check_field, check_fields, is_ignored, kind_in, required, document_under, only_first_under}

@@ -4,8 +4,8 @@ use Rattle.std.specs.FinMap as finite
 use Rattle.std.specs.List.{list_all}
 use Rattle.std.specs.Str.{bytes_eq}
 use lib.ListN.{drop as behind_first}
-use Rattle.dv_bson.specs.Spelling.{AreFields}
-use Rattle.dv_bson.specs.Tree.{Field, fields_of}
+use Rattle.dv_value.specs.Spelling.{AreFields}
+use Rattle.dv_value.specs.Tree.{Field, fields_of}
 use Rattle.dv_catalog.specs.Scan.{scan}
 use Rattle.dv_catalog.specs.ScanLaws.{all_scanned}
 use Rattle.dv_catalog.specs.State as stored
@@ -17,7 +17,7 @@ use Rattle.dv_command.specs.declared.command.Command.{Command}
 use Rattle.dv_cursor.specs.Batch.{batch}
 use Rattle.dv_cursor.specs.Cursors.{Cursor, Cursors, added, advanced, closed, cursor_behind, cursor_over, free_id, place_cmp, rows_to_come, cursor_rows}
 use Rattle.dv_cursor.specs.Runs.{is_cursor_place}
-use Rattle.dv_bson.specs.Results.{◌>>=◌}
+use Rattle.dv_value.specs.Results.{◌>>=◌}
 use Rattle.dv_fields.specs.declared.refusal.Refusal.{Refusal}
 use Rattle.dv_fields.specs.declared.refusal.Refusal.TheVariants.{TooLarge}
 use Rattle.dv_core.specs.Find.{are_too_large, reply_to_find, first_batch, reply_to_aggregate, kept, kept_under, kept_by_cursor, replied}

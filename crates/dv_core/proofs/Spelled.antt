@@ -5,14 +5,14 @@ use Rattle.std.proofs.lemmas.Bool.Decides.{nat_tests}
 use Rattle.std.specs.List.{list_all, list_any}
 use Rattle.std.specs.Prelude.{codes}
 use Rattle.std.specs.Str.{bytes_eq}
-use Rattle.dv_bson.specs.declared.fault.BsonFault.TheVariants.{NoMemory}
-use Rattle.dv_bson.specs.Names.{has_name}
-use Rattle.dv_bson.specs.Spelling.{spelling, IsValue, AreFields, AreElements}
-use Rattle.dv_bson.specs.Tree.{Tree, int64, string, array, Field, fields_of, list_of_fields, elements_of}
+use Rattle.dv_value.specs.declared.fault.BsonFault.TheVariants.{NoMemory}
+use Rattle.dv_value.specs.Names.{has_name}
+use Rattle.dv_value.specs.Spelling.{spelling, IsValue, AreFields, AreElements}
+use Rattle.dv_value.specs.Tree.{Tree, int64, string, array, Field, fields_of, list_of_fields, elements_of}
 use Rattle.dv_command.specs.Asked.{Asked, ViewOn, hello, ping, find, aggregate, get_more, kill_cursors, create, drop, create_indexes, drop_indexes, explain, view_stats, asked_by}
 use Rattle.dv_command.specs.Asked as asking
 use Rattle.dv_command.specs.Replies.{document_of, count, long_count, drop_reply, reply_of, first_batch_reply, kill_cursors_reply, create_indexes_reply, drop_indexes_reply, view_stats_reply}
-use Rattle.dv_bson.specs.Results.{◌>>=◌}
+use Rattle.dv_value.specs.Results.{◌>>=◌}
 use Rattle.dv_command.specs.declared.command.Command.{Command}
 use Rattle.dv_core.specs.declared.outcome.Outcome.TheVariants.{Wanting}
 use Rattle.dv_fields.specs.declared.refusal.Refusal.{Refusal}
@@ -30,7 +30,7 @@ use Rattle.dv_catalog.specs.Marks.{Stats, stats_of}
 use Rattle.dv_cursor.specs.Batch.{batch, rows_behind, total_size}
 use Rattle.dv_cursor.specs.Cursors.{Cursors, added, free_id}
 use Rattle.dv_cursor.specs.Runs.{IsWithinBatch}
-use Rattle.dv_index.specs.Index.{IndexForm, id_form}
+use Rattle.dv_keyed.specs.Index.{IndexForm, id_form}
 use Rattle.dv_index.specs.Indexed.{is_dropped, without_index}
 use Rattle.dv_catalog.specs.State as states
 use Rattle.dv_catalog.specs.Views.{aggregated, created, dropped, made, reads_name, with_view, with_view_by, with_views}

@@ -8,13 +8,13 @@ use Rattle.std.specs.Fmt.{digit_glyph}
 use Rattle.std.specs.List.{AllByRecursion}
 use Rattle.std.specs.Prelude.{codes}
 use Rattle.std.specs.Str.{IsUtf8}
-use Rattle.dv_bson.specs.Fault.{fault_text, hex_byte}
-use Rattle.dv_bson.specs.declared.fault.BsonFault.{BsonFault}
-use Rattle.dv_bson.specs.declared.fault.BsonFault.TheVariants as bson
-use Rattle.dv_bson.specs.declared.fault.BsonFault.TheVariants.{Truncated, BadLength, RefusedType, BadUtf8, BadBool, BadArrayName, RepeatedName, TooDeep, NoMemory, BadName}
-use Rattle.dv_bson.specs.Names.{has_name}
-use Rattle.dv_bson.specs.Spelling.{payload, spelling, IsValue, AreFields, AreElements}
-use Rattle.dv_bson.specs.Tree.{Tree, int32, int64, string, array, Field, fields_of, list_of_fields, elements_of}
+use Rattle.dv_value.specs.Fault.{fault_text, hex_byte}
+use Rattle.dv_value.specs.declared.fault.BsonFault.{BsonFault}
+use Rattle.dv_value.specs.declared.fault.BsonFault.TheVariants as bson
+use Rattle.dv_value.specs.declared.fault.BsonFault.TheVariants.{Truncated, BadLength, RefusedType, BadUtf8, BadBool, BadArrayName, RepeatedName, TooDeep, NoMemory, BadName}
+use Rattle.dv_value.specs.Names.{has_name}
+use Rattle.dv_value.specs.Spelling.{payload, spelling, IsValue, AreFields, AreElements}
+use Rattle.dv_value.specs.Tree.{Tree, int32, int64, string, array, Field, fields_of, list_of_fields, elements_of}
 use Rattle.dv_command.specs.Asked as asking
 use Rattle.dv_command.specs.Replies.{document_of, count, reply_of, cut_error, write_error, update_reply, errors_field}
 use Rattle.dv_fields.specs.Refusals.{code, code_name, message_of}

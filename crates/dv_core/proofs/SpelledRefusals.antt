@@ -1,8 +1,8 @@
 -- The greeting and each refusal have a spelling.
 use Rattle.std.proofs.Common.{◌≡◌, true, false, List, [], ◌∷◌, length, pos, refl, arith}
 use Rattle.std.specs.Prelude.{codes}
-use Rattle.dv_bson.specs.Spelling.{framed, element_spelling, counted, payload, spelling, AreFields}
-use Rattle.dv_bson.specs.Tree.{int32, boolean, string, Field, fields_of}
+use Rattle.dv_value.specs.Spelling.{framed, element_spelling, counted, payload, spelling, AreFields}
+use Rattle.dv_value.specs.Tree.{int32, boolean, string, Field, fields_of}
 use Rattle.dv_command.specs.Replies.{hello_reply, refusal_reply}
 use Rattle.dv_fields.specs.Refusals.{code, code_name, message_of}
 use Rattle.dv_fields.specs.declared.refusal.Refusal.{Refusal}

@@ -4,9 +4,9 @@ use Rattle.std.proofs.lemmas.Int.{fits_signed_from_abs}
 use Rattle.std.specs.Int.{w32, w64}
 use Rattle.std.specs.Prelude.{codes}
 use Rattle.std.specs.Str.{IsUtf8}
-use Rattle.dv_bson.specs.Names.{has_name, has_zero}
-use Rattle.dv_bson.specs.Spelling.{payload, spelling, IsValue, AreFields, AreElements, Spells}
-use Rattle.dv_bson.specs.Tree.{Tree, int32, int64, string, array, Field, fields_of, list_of_fields, elements_of}
+use Rattle.dv_value.specs.Names.{has_name, has_zero}
+use Rattle.dv_value.specs.Spelling.{payload, spelling, IsValue, AreFields, AreElements, Spells}
+use Rattle.dv_value.specs.Tree.{Tree, int32, int64, string, array, Field, fields_of, list_of_fields, elements_of}
 use Rattle.dv_command.specs.Replies.{document_of, count, reply_of, batch_reply}
 use Rattle.dv_cursor.specs.Batch.{total_size}
 use Rattle.dv_command.specs.Sound.{AreSpellable}

@@ -1,9 +1,9 @@
 -- How long spellings are.
 use Rattle.std.proofs.Common.{◌≡◌, ℕ, ℤ, suc, ◌+◌, ◌*◌, ◌≤◌, ◌<◌, ◌^◌, List, [], ◌∷◌, ◌++◌, length, decimal, length-append, refl, arith}
 use Rattle.std.proofs.lemmas.Fmt.{length-decimal-le}
-use Rattle.dv_bson.specs.Tree.{Tree, int32, int64, string, document, array, Fields, Elements, no_elements, element, Field, fields_of, elements_of}
-use Rattle.dv_bson.specs.Spelling.{kind_of, framed, counted, element_spelling, payload, spelling, fields_spelling, elements_spelling}
-use Rattle.dv_bson.specs.declared.kind.Kind.{Kind}
+use Rattle.dv_value.specs.Tree.{Tree, int32, int64, string, document, array, Fields, Elements, no_elements, element, Field, fields_of, elements_of}
+use Rattle.dv_value.specs.Spelling.{kind_of, framed, counted, element_spelling, payload, spelling, fields_spelling, elements_spelling}
+use Rattle.dv_value.specs.declared.kind.Kind.{Kind}
 
 length-framed : (elements : List ℕ) → length (framed elements) ≡ length elements + 5
 unfolding framed

@@ -3,7 +3,7 @@ use Rattle.std.proofs.Common.{◌≡◌, ℕ, Bool, true, false, cond, if◌then
 use Rattle.std.proofs.lemmas.Slice.Eq.{bytes_eq-Decides}
 use Rattle.std.specs.FinMap as finite
 use Rattle.std.specs.Str.{bytes_eq}
-use Rattle.dv_bson.specs.Tree.{Field}
+use Rattle.dv_value.specs.Tree.{Field}
 use Rattle.dv_catalog.specs.IndexMaking.{indexes_created, indexes_dropped, with_all, with_indexes_so, without_named}
 use Rattle.dv_catalog.specs.State.{Collection, Namespaces, Standing, State, collection, collection_at, collection_of, indexes_of, is_collection, is_there, is_view, with_documents, with_indexes, without_view}
 use Rattle.dv_catalog.specs.StateLaws.{get-insert, get-remove}
@@ -15,7 +15,7 @@ use Rattle.dv_core.proofs.Changed.{Made}
 use Rattle.dv_core.proofs.Made.{views_only}
 use Rattle.dv_fields.specs.declared.refusal.Refusal.{Refusal}
 use Rattle.dv_fields.specs.declared.refusal.Refusal.TheVariants.{NamespaceExists, NamespaceNotFound, OnView, ReadByView}
-use Rattle.dv_index.specs.Index.{IndexForm}
+use Rattle.dv_keyed.specs.Index.{IndexForm}
 use Rattle.dv_index.specs.Indexed.{empty_indexed}
 
 -- the indexes that a command leaves a collection with

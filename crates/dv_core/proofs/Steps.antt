@@ -1,6 +1,6 @@
 -- What carrying out a command gives is a step of the machine.
 use Rattle.std.proofs.Common.{◌≡◌, ◌⊎◌, ℕ, Bool, true, false, List, Result, Ok, Err, if◌then◌else◌, inl, inr, refl, sym, ap, subst, ◌∙◌}
-use Rattle.dv_bson.specs.Tree.{Field}
+use Rattle.dv_value.specs.Tree.{Field}
 use Rattle.dv_catalog.specs.Marks.{AreMarkedByDrop, Marks, marks_made, names_of_new}
 use Rattle.dv_catalog.specs.Parts.{StandMade, StandSo}
 use Rattle.dv_catalog.specs.State.{is_view}
@@ -11,7 +11,7 @@ use Rattle.dv_catalog.specs.Views.{created, dropped}
 use Rattle.dv_command.specs.Asked.{Asked, Create, Drop, asked_by, create, drop}
 use Rattle.dv_command.specs.Asked as asking
 use Rattle.dv_fields.specs.Refusals.{UnlessWanting}
-use Rattle.dv_bson.specs.Results.{◌>>=◌}
+use Rattle.dv_value.specs.Results.{◌>>=◌}
 use Rattle.dv_command.specs.declared.command.Command.{Command}
 use Rattle.dv_fields.specs.declared.refusal.Refusal.{Refusal}
 use Rattle.dv_fields.specs.declared.refusal.Refusal.TheVariants.{OnView, WantOfMemory}

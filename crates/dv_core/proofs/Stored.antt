@@ -5,14 +5,14 @@ use Rattle.std.proofs.Common.{ap, sym, ◌∙◌, subst, arith, append_assoc, dr
 use Rattle.std.proofs.lemmas.List.{append-nil}
 use Rattle.std.proofs.lemmas.Bool.Decides.{nat_tests}
 use Rattle.std.proofs.lemmas.Slice.Eq.{bytes_eq-Decides}
-use Rattle.dv_bson.specs.Tree.{Tree, document, array, Field, fields_of}
-use Rattle.dv_bson.specs.Names.{value_under, has_name, has_zero, AreNamed, without}
-use Rattle.dv_bson.specs.Spelling.{spelling, fields_levels, levels, Fits}
+use Rattle.dv_value.specs.Tree.{Tree, document, array, Field, fields_of}
+use Rattle.dv_value.specs.Names.{value_under, has_name, has_zero, AreNamed, without}
+use Rattle.dv_value.specs.Spelling.{spelling, fields_levels, levels, Fits}
 use Rattle.dv_catalog.specs.StateLaws.{bytes_eq-symmetric}
 use Rattle.dv_core.proofs.Spellings.{spelling-field}
 use Rattle.dv_fields.specs.declared.refusal.Refusal.{Refusal}
 use Rattle.dv_fields.specs.declared.refusal.Refusal.TheVariants.{TooLarge}
-use Rattle.dv_bson.specs.Results.{◌>>=◌}
+use Rattle.dv_value.specs.Results.{◌>>=◌}
 use Rattle.dv_core.specs.Storable.{id_in, is_within_limits, with_id_first, storable}
 
 -- past the last field nothing is left

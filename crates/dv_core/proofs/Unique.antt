@@ -4,7 +4,7 @@ use Rattle.std.proofs.lemmas.List.{append-nil}
 use Rattle.std.specs.List.{filter, list_any}
 use Rattle.std.specs.Prelude.{IsSome, codes}
 use Rattle.std.specs.Str.{bytes_eq}
-use Rattle.dv_bson.specs.Tree.{Field}
+use Rattle.dv_value.specs.Tree.{Field}
 use Rattle.dv_order.specs.Key.{KeyTree}
 use Rattle.dv_coll.specs.Collection.{IsAscending, found, id_key, inserted, removed, replaced}
 use Rattle.dv_catalog.specs.Changes.{Change, put, gone, clashes_by, with_change}
@@ -14,10 +14,10 @@ use Rattle.dv_command.specs.Asked.{Asked, create_indexes, drop_indexes}
 use Rattle.dv_core.specs.Indexes.{form_asked}
 use Rattle.dv_core.proofs.Done.{both_false}
 use Rattle.dv_core.proofs.Standing.{indexes_by}
-use Rattle.dv_bson.specs.Results.{◌>>=◌}
+use Rattle.dv_value.specs.Results.{◌>>=◌}
 use Rattle.dv_fields.specs.declared.refusal.Refusal.{Refusal}
 use Rattle.dv_fields.specs.declared.refusal.Refusal.TheVariants.{BadValue, ConflictingUpdateOperators, DuplicateKey, IndexNotFound, LimitReached}
-use Rattle.dv_index.specs.Index.{IndexForm, id_form}
+use Rattle.dv_keyed.specs.Index.{IndexForm, id_form}
 use Rattle.dv_index.specs.Indexed.{is_dropped, without_index}
 use Rattle.dv_index.specs.Unique.{are_broken, clashes}
 

@@ -2,10 +2,10 @@
 use Rattle.std.proofs.Common.{◌≡◌, ℕ, Bool, true, false, List, [], ◌∷◌, Option, Some, None, Result, Ok, Err, if◌then◌else◌, refl, sym, ap, subst}
 use Rattle.std.specs.Prelude.{codes}
 use Rattle.std.specs.Str.{bytes_eq}
-use Rattle.dv_bson.specs.Names.{value_under, has_name, AreNamed, without}
-use Rattle.dv_bson.specs.Spelling.{IsValue, AreFields}
-use Rattle.dv_bson.specs.Tree.{Tree, array, Field, fields_of, list_of_fields}
-use Rattle.dv_bson.specs.Results.{◌>>=◌}
+use Rattle.dv_value.specs.Names.{value_under, has_name, AreNamed, without}
+use Rattle.dv_value.specs.Spelling.{IsValue, AreFields}
+use Rattle.dv_value.specs.Tree.{Tree, array, Field, fields_of, list_of_fields}
+use Rattle.dv_value.specs.Results.{◌>>=◌}
 use Rattle.dv_fields.specs.declared.refusal.Refusal.{Refusal}
 use Rattle.dv_fields.specs.declared.refusal.Refusal.TheVariants.{BadValue, TooLarge}
 use Rattle.dv_path.specs.Names.{has_bad_name}

@@ -2,8 +2,8 @@
 use Rattle.std.proofs.Common.{◌≡◌, inl, inr, not, ℕ, Bool, true, false, cond, if◌then◌else◌, List, [], ◌∷◌, ◌++◌, map, Option, Some, None, Result, Ok, Err, refl, sym, ap, subst, ◌∙◌}
 use Rattle.std.specs.List.{AllByRecursion}
 use Rattle.std.specs.Str.{bytes_eq}
-use Rattle.dv_bson.specs.Spelling.{AreElements, AreFields}
-use Rattle.dv_bson.specs.Tree.{Tree, Field, elements_of, fields_of}
+use Rattle.dv_value.specs.Spelling.{AreElements, AreFields}
+use Rattle.dv_value.specs.Tree.{Tree, Field, elements_of, fields_of}
 use Rattle.dv_catalog.specs.State.{Namespaces, collection_of, documents_of, indexes_of, has_name, is_collection, is_there, is_view, lists_of, rows_of, with_documents, without_view}
 use Rattle.dv_catalog.specs.Changes.{Effect, done_to}
 use Rattle.dv_catalog.specs.State as stored
@@ -23,7 +23,7 @@ use Rattle.dv_core.proofs.Asking.{AsksSoundly, body_size, documents_valid, sound
 use Rattle.dv_core.proofs.Changed.{Made, MayWrite, outcome_may}
 use Rattle.dv_core.proofs.Made.{created_so, dropped_so}
 use Rattle.dv_core.proofs.Named.{Named, apply_leaves}
-use Rattle.dv_bson.specs.Results.{◌>>=◌}
+use Rattle.dv_value.specs.Results.{◌>>=◌}
 use Rattle.dv_fields.specs.declared.refusal.Refusal.{Refusal}
 use Rattle.dv_fields.specs.declared.refusal.Refusal.TheVariants.{NamespaceExists, NamespaceNotFound, OnView, ReadByView}
 use Rattle.dv_pipe.specs.StageParsing.{pipeline_of}

@@ -4,8 +4,8 @@ use Rattle.std.specs.Cmp.Lexicographic.{slice_cmp, nat_list_cmp_total}
 use Rattle.std.specs.Prelude.{codes}
 use Rattle.std.specs.FinMap as finite
 use Rattle.std.specs.Ordering.{nat_cmp, eq_by_cmp}
-use Rattle.dv_bson.specs.Tree.{Tree, Field, int64, boolean}
-use Rattle.dv_bson.specs.Spelling.{framed, element_spelling, payload, counted}
+use Rattle.dv_value.specs.Tree.{Tree, Field, int64, boolean}
+use Rattle.dv_value.specs.Spelling.{framed, element_spelling, payload, counted}
 use Rattle.dv_match.specs.Filter.{no_members}
 use Rattle.dv_match.specs.Match.{matches}
 use Rattle.dv_match.specs.Parsing.{filter_in}
@@ -14,7 +14,7 @@ use Rattle.dv_command.specs.Asked.{Asked, asked_by}
 use Rattle.dv_command.specs.Asked as asking
 use Rattle.dv_command.specs.declared.asking.WriteKind.TheVariants.{Insert}
 use Rattle.dv_command.specs.Replies.{document_of, write_error, cut_error, reply_of, refusal_reply}
-use Rattle.dv_bson.specs.Results.{◌>>=◌}
+use Rattle.dv_value.specs.Results.{◌>>=◌}
 use Rattle.dv_fields.specs.declared.refusal.Refusal.{Refusal}
 use Rattle.dv_fields.specs.declared.refusal.Refusal.TheVariants.{DuplicateKey, WantOfMemory}
 use Rattle.dv_catalog.specs.Changes.{put, Effect, Statement, done_to, unless_it_breaks, with_put}

@@ -2,12 +2,12 @@
 use Rattle.std.proofs.Common.{◌≡◌, ℕ, ◌+◌, true, false, List, [], ◌∷◌, length, Ok, refl, ap, ◌∙◌}
 use Rattle.std.specs.Fmt.{digits}
 use Rattle.std.specs.Prelude.{codes}
-use Rattle.dv_bson.specs.Tree.{Field, null}
+use Rattle.dv_value.specs.Tree.{Field, null}
 use Rattle.dv_coll.specs.Collection.{id_key}
 use Rattle.dv_command.specs.Replies.{document_of}
-use Rattle.dv_bson.specs.Spelling.{framed, element_spelling, payload, counted}
-use Rattle.dv_path.specs.Path.{path_of, index_of}
-use Rattle.dv_path.specs.Candidates.{whole, leaves}
+use Rattle.dv_value.specs.Spelling.{framed, element_spelling, payload, counted}
+use Rattle.dv_candidates.specs.Path.{path_of, index_of}
+use Rattle.dv_candidates.specs.Candidates.{whole, leaves}
 use Rattle.dv_path.specs.declared.direction.Direction.TheVariants.{Ascending, Descending}
 use Rattle.dv_path.specs.SortKey.{sort_key}
 use Rattle.dv_path.specs.SortSpec.{Part}

@@ -5,11 +5,11 @@ use Rattle.std.specs.FinMap as finite
 use Rattle.std.specs.Ordering.{nat_cmp}
 use Rattle.std.specs.Prelude.{codes}
 use Rattle.std.specs.Str.{bytes_eq}
-use Rattle.dv_bson.specs.Spelling.{framed, element_spelling, payload, counted}
-use Rattle.dv_bson.specs.Tree.{Field}
+use Rattle.dv_value.specs.Spelling.{framed, element_spelling, payload, counted}
+use Rattle.dv_value.specs.Tree.{Field}
 use Rattle.dv_match.specs.Filter.{no_members}
 use Rattle.dv_match.specs.Match.{matches}
-use Rattle.dv_path.specs.Candidates.{whole}
+use Rattle.dv_candidates.specs.Candidates.{whole}
 use Rattle.dv_path.specs.SortKey.{sort_key}
 use Rattle.dv_views.specs.Flow.{Share, shares}
 use Rattle.dv_catalog.specs.Marks.{Marks, all_counted, live, marks_counted, stale}

@@ -1,7 +1,7 @@
 -- Worked examples of commands on the collection c of the database t. Integers are int32 where nothing else is said.
 use Rattle.std.specs.Prelude.{◌≡◌, ℕ, zero, suc, false, List, [], ◌∷◌, ◌++◌, map, pos, negsuc, Ok, Err, codes}
-use Rattle.dv_bson.specs.Tree.{Tree, null, string, int32, int64, document, no_fields, array, boolean, Field, elements_of}
-use Rattle.dv_bson.specs.declared.fault.BsonFault.TheVariants.{TooDeep}
+use Rattle.dv_value.specs.Tree.{Tree, null, string, int32, int64, document, no_fields, array, boolean, Field, elements_of}
+use Rattle.dv_value.specs.declared.fault.BsonFault.TheVariants.{TooDeep}
 use Rattle.dv_command.specs.declared.command.Command.{Command}
 use Rattle.dv_command.specs.declared.command.Command.TheVariants.{Sections, Invalid}
 use Rattle.dv_command.specs.Asked.{asked_by}

@@ -2,12 +2,12 @@
 -- is this server's own.
 use Rattle.std.specs.Prelude.{ℕ, not, Bool, false, List, [], ◌∷◌, map, Option, Some, None, Result, Ok, Err, if◌then◌else◌}
 use Rattle.std.specs.List.{list_all}
-use Rattle.dv_bson.specs.Tree.{Field}
+use Rattle.dv_value.specs.Tree.{Field}
 use Rattle.dv_cursor.specs.Batch.{batch, rows_behind}
 use Rattle.dv_cursor.specs.Cursors.{Cursors, added, free_id}
 use Rattle.dv_fields.specs.declared.refusal.Refusal.{Refusal}
 use Rattle.dv_fields.specs.declared.refusal.Refusal.TheVariants.{LimitReached, TooLarge}
-use Rattle.dv_bson.specs.Results.{◌>>=◌}
+use Rattle.dv_value.specs.Results.{◌>>=◌}
 use Rattle.dv_command.specs.Asked.{Aggregate, Find}
 use Rattle.dv_command.specs.Replies.{document_of, first_batch_reply}
 use Rattle.dv_catalog.specs.Scan.{scan}

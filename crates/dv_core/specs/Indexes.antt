@@ -1,12 +1,12 @@
 -- What is replied on indexes (MongoDB manual, "createIndexes", "dropIndexes", "explain": their output).
 use Rattle.std.specs.Prelude.{ℕ, List, map, length, Option, Some, None, Result, Ok, codes}
-use Rattle.dv_bson.specs.Tree.{Field}
+use Rattle.dv_value.specs.Tree.{Field}
 use Rattle.dv_fields.specs.declared.refusal.Refusal.{Refusal}
-use Rattle.dv_bson.specs.Results.{◌>>=◌}
+use Rattle.dv_value.specs.Results.{◌>>=◌}
 use Rattle.dv_command.specs.Asked.{CreateIndexes, DropIndexes, Explain}
 use Rattle.dv_command.specs.Entries.{IndexAsked}
 use Rattle.dv_command.specs.Replies.{create_indexes_reply, drop_indexes_reply, explain_reply}
-use Rattle.dv_index.specs.Index.{IndexForm}
+use Rattle.dv_keyed.specs.Index.{IndexForm}
 use Rattle.dv_catalog.specs.IndexMaking.{Explained, Way, over_view, by_index, over_all, explained, indexes_created, indexes_dropped}
 use Rattle.dv_catalog.specs.State.{State, indexes_of}
 

@@ -1,7 +1,7 @@
 -- Loading documents into a collection beside any session: each as an insert of it alone.
 use Rattle.std.specs.Prelude.{◌≡◌, ◌⊎◌, ◌==◌, ◌&&◌, ℕ, ℤ, pos, List, Result, Ok, Err, if◌then◌else◌}
 use Rattle.std.specs.List.{after_first, before_first}
-use Rattle.dv_bson.specs.Tree.{Field}
+use Rattle.dv_value.specs.Tree.{Field}
 use Rattle.dv_catalog.specs.Changes.{Effect, apply, changes_of, done_to}
 use Rattle.dv_catalog.specs.Marks.{AreMarkedBy}
 use Rattle.dv_catalog.specs.State.{collection_of, is_view, lists_of}
@@ -10,7 +10,7 @@ use Rattle.dv_core.specs.State.{State, standing}
 use Rattle.dv_path.specs.Names.{has_dot}
 use Rattle.dv_fields.specs.Namespaces.{is_database_name, namespace}
 use Rattle.dv_fields.specs.Refusals.{code}
-use Rattle.dv_bson.specs.Results.{◌>>=◌}
+use Rattle.dv_value.specs.Results.{◌>>=◌}
 use Rattle.dv_fields.specs.declared.refusal.Refusal.{Refusal}
 use Rattle.dv_fields.specs.declared.refusal.Refusal.TheVariants.{BadValue, OnView, WantOfMemory}
 

@@ -1,6 +1,6 @@
 -- What is asked of cursors that are there (MongoDB manual, "getMore", "killCursors").
 use Rattle.std.specs.Prelude.{ℕ, ℤ, pos, negsuc, ◌==◌, Bool, List, [], ◌∷◌, length, map, is_some, Option, Some, None, Result, Ok, Err, if◌then◌else◌}
-use Rattle.dv_bson.specs.Tree.{Tree, int64, Field}
+use Rattle.dv_value.specs.Tree.{Tree, int64, Field}
 use Rattle.dv_cursor.specs.Batch.{batch, rows_behind}
 use Rattle.dv_cursor.specs.Cursors.{Cursors, rows_to_come, advanced, closed}
 use Rattle.dv_fields.specs.declared.refusal.Refusal.{Refusal}

@@ -1,7 +1,7 @@
 -- What a delete leaves.
 use Rattle.std.specs.Prelude.{◌≡◌, Bool, List}
 use Rattle.std.specs.List.{filter}
-use Rattle.dv_bson.specs.Tree.{Field}
+use Rattle.dv_value.specs.Tree.{Field}
 
 -- some of the documents, in their order: those that some test lets stay
 abbrev pub IsPart : List (List Field) → List (List Field) → Type 0

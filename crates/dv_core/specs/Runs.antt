@@ -1,6 +1,6 @@
 -- What the replies of a run tell of a cursor's rows.
 use Rattle.std.specs.Prelude.{◌≡◌, ◌≢◌, ◌⊎◌, ℕ, ℤ, pos, negsuc, ◌==◌, ◌&&◌, ◌||◌, not, Bool, true, false, List, [], ◌∷◌, ◌++◌, map, Option, Some, None, Result, Ok, Err, if◌then◌else◌}
-use Rattle.dv_bson.specs.Tree.{Field}
+use Rattle.dv_value.specs.Tree.{Field}
 use Rattle.dv_command.specs.Asked.{Asked, GetMore, get_more, asked_by}
 use Rattle.dv_command.specs.Replies.{document_of, first_batch_reply}
 use Rattle.dv_command.specs.declared.command.Command.{Command}

@@ -1,11 +1,11 @@
 -- What holds of every state that is reached.
 use Rattle.std.specs.Prelude.{◌≡◌, ℕ, ◌<◌, ◌^◌, false, List, Option, Some, None, ⊤}
 use Rattle.std.specs.List.{AllByRecursion}
-use Rattle.dv_bson.specs.Tree.{Field, fields_of}
-use Rattle.dv_bson.specs.Spelling.{AreFields, Fits, Spells, spelling}
+use Rattle.dv_value.specs.Tree.{Field, fields_of}
+use Rattle.dv_value.specs.Spelling.{AreFields, Fits, Spells, spelling}
 use Rattle.dv_command.specs.declared.command.Command.{Command}
 use Rattle.dv_command.specs.declared.command.Command.TheVariants.{Sections, Invalid}
-use Rattle.dv_bson.specs.declared.fault.BsonFault.TheVariants.{RefusedType}
+use Rattle.dv_value.specs.declared.fault.BsonFault.TheVariants.{RefusedType}
 use Rattle.dv_fields.specs.declared.refusal.Refusal.{Refusal}
 use Rattle.dv_fields.specs.declared.refusal.Refusal.TheVariants.{InvalidBson}
 use Rattle.dv_index.specs.Unique.{are_broken}

@@ -1,14 +1,14 @@
 -- Documents as they are stored. That `_id` is no array and stands in front, and the limits, are the MongoDB manual's ("Documents",
 -- "MongoDB Limits and Thresholds"); that `_id` has to be there, and which names are refused, are this server's own.
 use Rattle.std.specs.Prelude.{◌&&◌, not, Bool, List, ◌∷◌, Option, Some, None, Result, Ok, Err, codes, nat_lt, length, if◌then◌else◌}
-use Rattle.dv_bson.specs.Tree.{Tree, document, array, Field, fields_of}
-use Rattle.dv_bson.specs.Names.{value_under, without}
-use Rattle.dv_bson.specs.Spelling.{spelling, levels}
+use Rattle.dv_value.specs.Tree.{Tree, document, array, Field, fields_of}
+use Rattle.dv_value.specs.Names.{value_under, without}
+use Rattle.dv_value.specs.Spelling.{spelling, levels}
 use Rattle.dv_fields.specs.declared.refusal.Refusal.{Refusal}
 use Rattle.dv_fields.specs.declared.refusal.Refusal.TheVariants.{BadValue, TooLarge}
 use Rattle.dv_path.specs.Names.{has_bad_name}
 use Rattle.dv_update.specs.Apply.{document_limit, level_limit}
-use Rattle.dv_bson.specs.Results.{◌>>=◌}
+use Rattle.dv_value.specs.Results.{◌>>=◌}
 
 -- there has to be an `_id`, and it can't be an array
 abbrev pub id_in : Option Tree → Result Tree Refusal

@@ -1,6 +1,6 @@
 -- Writes (MongoDB manual, "insert", "update", "delete"): what each does with one of its entries, and its reply.
 use Rattle.std.specs.Prelude.{ℕ, List, map}
-use Rattle.dv_bson.specs.Tree.{Tree, Field}
+use Rattle.dv_value.specs.Tree.{Tree, Field}
 use Rattle.dv_catalog.specs.Changes.{Statement}
 use Rattle.dv_catalog.specs.Effects.{put_new, update_chosen, delete_chosen}
 use Rattle.dv_command.specs.Asked as asking
@@ -8,7 +8,7 @@ use Rattle.dv_command.specs.Entries.{updating_of, deletion_of}
 use Rattle.dv_command.specs.Replies.{write_reply, update_reply}
 use Rattle.dv_command.specs.declared.asking.WriteKind.{WriteKind}
 use Rattle.dv_command.specs.declared.asking.WriteKind.TheVariants.{Insert, Update, Delete}
-use Rattle.dv_bson.specs.Results.{◌>>=◌}
+use Rattle.dv_value.specs.Results.{◌>>=◌}
 use Rattle.dv_core.specs.Storable.{storable}
 use Rattle.dv_core.specs.Statements.{WriteCounts}
 

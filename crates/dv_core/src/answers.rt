@@ -8,9 +8,9 @@ ghost use Rattle.dv_core.specs.declared.outcome.Outcome.TheVariants.{Reply, NoRe
 ghost use Rattle.dv_core.specs.StepParts.{Refuses, TellsReply};
 
 use crate::outcome::Outcome;
-use dv_bson::{Document, NoMemory};
 use dv_command::Refusal;
 use dv_command::replies::{hello_reply, refusal_reply, reply_of};
+use dv_value::{Document, NoMemory};
 use std::alloc::Global;
 
 /// The outcome of a command that changes nothing: its reply, or why it is refused.

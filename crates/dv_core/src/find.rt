@@ -7,10 +7,10 @@ ghost use Rattle.dv_core.specs.StepParts.{GivesAndLeaves};
 ghost use Rattle.dv_command.specs.Replies as replies;
 ghost use Rattle.dv_command.specs.Replies.{document_of};
 
-use dv_bson::{Document, List, NoMemory, Value, fits};
 use dv_command::replies::first_batch_reply;
 use dv_command::{Refusal, ReplyNames};
 use dv_cursor::{Cursors, Rows};
+use dv_value::{Document, List, NoMemory, Value, fits};
 use std::alloc::Global;
 
 /// A first batch but for its rows.

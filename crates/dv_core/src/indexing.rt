@@ -4,15 +4,15 @@ ghost use Rattle.std.specs.Prelude.{◌≡◌, IfOk, map};
 ghost use Rattle.dv_catalog.specs.IndexParts.{explained_seen};
 ghost use Rattle.dv_command.specs.View.{index_seen};
 ghost use Rattle.dv_core.specs.Indexes.{explained_reply, form_asked};
-ghost use Rattle.dv_index.specs.View.{form_of_new};
+ghost use Rattle.dv_keyed.specs.View.{form_of_new};
 ghost use Rattle.dv_fields.specs.Refusals.{UnlessWanting};
 ghost use Rattle.std.specs.Prelude.{Ok};
 
-use dv_bson::{Document, NoMemory};
 use dv_catalog::{Explained, Way};
 use dv_command::replies::explain_reply;
 use dv_command::{IndexAsked, Refusal};
 use dv_index::NewIndex;
+use dv_value::{Document, NoMemory};
 use std::alloc::Global;
 
 /// The reply that tells how a find is answered. Refused where memory is wanting.

@@ -1,9 +1,9 @@
 //! What holds of every step of the machine.
 
 ghost use Rattle.std.specs.Prelude.{◌≡◌, ◌≤◌, ◌↔◌, ◌⊎◌, Bool, ℕ, IsSome, List, [], ◌∷◌, Some, None, Ok, Err, true, false, codes, pos, length, map, if◌then◌else◌};
-ghost use Rattle.dv_bson.specs.Names.{value_under};
-ghost use Rattle.dv_bson.specs.Spelling.{Fits};
-ghost use Rattle.dv_bson.specs.Tree.{Field, int32};
+ghost use Rattle.dv_value.specs.Names.{value_under};
+ghost use Rattle.dv_value.specs.Spelling.{Fits};
+ghost use Rattle.dv_value.specs.Tree.{Field, int32};
 ghost use Rattle.dv_command.specs.Asked.{Aggregate, Asked, Create, Drop, Find, GetMore, aggregate, create, drop, find, get_more, asked_by};
 ghost use Rattle.dv_command.specs.Asked as asking;
 ghost use Rattle.dv_command.specs.Replies.{document_of, next_batch_reply, refusal_reply, write_error, write_reply};

@@ -15,5 +15,6 @@ mod store;
 mod writes;
 mod written;
 
+pub use dv_command::Command;
 pub use outcome::Outcome;
 pub use store::Store;

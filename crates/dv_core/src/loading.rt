@@ -2,7 +2,7 @@
 
 ghost use Rattle.std.specs.Prelude.{◌≡◌, ◌&&◌, not, nat_lt, length};
 ghost use Rattle.std.specs.String.{string_bytes};
-ghost use Rattle.dv_bson.specs.Names.{has_zero};
+ghost use Rattle.dv_value.specs.Names.{has_zero};
 ghost use Rattle.dv_core.specs.Load as defined;
 ghost use Rattle.dv_fields.specs.Refusals.{UnlessWanting};
 

@@ -8,7 +8,6 @@ use crate::more::{kill_all, next_batch};
 use crate::outcome::Outcome;
 use crate::storable::storable;
 use crate::writes::write_all;
-use dv_bson::Document;
 use dv_catalog::Catalog;
 use dv_command::replies::{
     create_indexes_reply, drop_indexes_reply, drop_reply, reply_of, view_stats_reply,
@@ -18,6 +17,8 @@ use dv_command::{
     GetMore, KillCursors, Refusal, ReplyNames, ViewStats, Write, parse,
 };
 use dv_cursor::Cursors;
+use dv_value::Document;
+use dv_views::Rows;
 use std::alloc::Global;
 use std::marker::Model;
 
@@ -44,8 +45,8 @@ impl Model for Machine {
 
 impl Machine {
     ghost use Rattle.std.specs.Prelude.{◌≡◌, [], Ok, IfErr, OnErr, OnOk};
-    ghost use Rattle.dv_bson.specs.declared.fault.BsonFault.TheVariants.{NoMemory};
-    ghost use Rattle.dv_catalog.specs.Marks.{AreMarkedByDrop, marks_made, names_of_new};
+    ghost use Rattle.dv_value.specs.declared.fault.BsonFault.TheVariants.{NoMemory};
+    ghost use Rattle.dv_catalog.specs.Marks.{AreMarkedByDrop, marks_made, names_of_new, stored_of};
     ghost use Rattle.dv_catalog.specs.Parts.{StandMade, StandSo};
     ghost use Rattle.dv_catalog.specs.Views as views;
     ghost use Rattle.dv_command.specs.declared.command.Command.TheVariants.{Invalid};
@@ -269,6 +270,13 @@ impl Machine {
             return Err(stopped.refusal);
         }
         Ok(())
+    }
+
+    /// The rows that the view of a namespace keeps, in their order. None where no view stands there, or a stale one.
+    pub fn stored_rows(&self, namespace: &str) -> Option<Rows<'_>>
+        ensures { result ≡ stored_of namespace.now (marked self.now) }
+    {
+        self.catalog.stored_rows(namespace)
     }
 
     /// Ends the cursors of a session.

@@ -10,10 +10,10 @@ ghost use Rattle.dv_core.specs.StepParts.{Ends, GivesAndLeaves};
 use crate::answers::{refuse, told};
 use crate::find::values_of;
 use crate::outcome::Outcome;
-use dv_bson::{Document, List, NoMemory, Value};
 use dv_command::replies::{kill_cursors_reply, next_batch_reply};
 use dv_command::{GetMore, KillCursors, Refusal, ReplyNames};
 use dv_cursor::{Cursors, Rows};
+use dv_value::{Document, List, NoMemory, Value};
 use std::alloc::Global;
 
 /// The reply with the next rows of a cursor, which goes when its rows are out. Refused with `CursorNotFound` where the

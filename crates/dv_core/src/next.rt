@@ -3,10 +3,10 @@
 ghost use Rattle.std.specs.Prelude.{◌≡◌, ◌<◌, ◌^◌, IfOk};
 ghost use Rattle.dv_core.specs.WriteParts as parts;
 
-use dv_bson::{Document, NoMemory};
 use dv_catalog::Stopped;
 use dv_command::Refusal;
 use dv_command::replies::{cut_error, write_error};
+use dv_value::{Document, NoMemory};
 use std::alloc::Global;
 
 /// What comes behind a statement.

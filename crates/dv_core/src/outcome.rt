@@ -1,6 +1,6 @@
 //! What carrying out a command gives.
 
-use dv_bson::Document;
+use dv_value::Document;
 
 /// What carrying out a command gave.
 #[derive(Debug, Drop)]

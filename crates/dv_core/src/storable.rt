@@ -1,16 +1,16 @@
 //! Documents as they are stored.
 
 ghost use Rattle.std.specs.Prelude.{◌≡◌, ◌∷◌, Ok, Err, Some, IfOk, MatchResult, codes};
-ghost use Rattle.dv_bson.specs.Names.{value_under, without};
-ghost use Rattle.dv_bson.specs.View.{tree};
+ghost use Rattle.dv_value.specs.Names.{value_under, without};
+ghost use Rattle.dv_value.specs.View.{tree};
 ghost use Rattle.dv_coll.specs.Collection.{HasId};
 ghost use Rattle.dv_core.specs.Storable as stored;
 ghost use Rattle.dv_fields.specs.Refusals.{UnlessWanting};
 
-use dv_bson::{Document, NoMemory, Value, fits};
 use dv_command::Refusal;
 use dv_command::replies::add;
 use dv_path::has_bad_name;
+use dv_value::{Document, NoMemory, Value, fits};
 use std::alloc::Global;
 
 /// The name of the field that a stored document begins with.

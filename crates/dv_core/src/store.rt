@@ -3,8 +3,9 @@
 use crate::laws::states_stay_orderly;
 use crate::machine::Machine;
 use crate::outcome::Outcome;
-use dv_bson::Document;
 use dv_command::Command;
+use dv_value::Document;
+use dv_views::Rows;
 use std::alloc::Global;
 use std::marker::Model;
 
@@ -33,10 +34,11 @@ impl Model for Store {
 
 impl Store {
     ghost use Rattle.std.specs.Prelude.{◌≡◌, IfErr, OnErr, OnOk};
-    ghost use Rattle.dv_bson.specs.declared.fault.BsonFault.TheVariants.{NoMemory};
+    ghost use Rattle.dv_value.specs.declared.fault.BsonFault.TheVariants.{NoMemory};
+    ghost use Rattle.dv_catalog.specs.Marks.{stored_of};
     ghost use Rattle.dv_command.specs.declared.command.Command.TheVariants.{Invalid};
     ghost use Rattle.dv_core.specs.Load as loading;
-    ghost use Rattle.dv_core.specs.State.{empty_store_state};
+    ghost use Rattle.dv_core.specs.State.{empty_store_state, marked};
     ghost use Rattle.dv_core.specs.Step.{MemoryStep, TellsOfWant, end_session};
 
     /// A store without any collection.
@@ -74,6 +76,14 @@ impl Store {
     {
         states_stay_orderly();
         self.machine.load(namespace, document)
+    }
+
+    /// The rows that the view of a namespace keeps, in their order: at every moment those of its pipeline, run anew over what it
+    /// reads. None where no view stands there, or a stale one. Takes no memory.
+    pub fn stored_rows(&self, namespace: &str) -> Option<Rows<'_>>
+        ensures { result ≡ stored_of namespace.now (marked self.now) }
+    {
+        self.machine.stored_rows(namespace)
     }
 
     /// Ends the cursors of a session. Takes no memory, and costs the cursors that it has.

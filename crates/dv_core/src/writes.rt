@@ -2,7 +2,7 @@
 
 ghost use Rattle.std.specs.Prelude.{◌≡◌, ◌<◌, true, false, map};
 ghost use Rattle.std.specs.String.{string_bytes};
-ghost use Rattle.dv_bson.specs.View.{tree};
+ghost use Rattle.dv_value.specs.View.{tree};
 ghost use Rattle.dv_command.specs.Asked.{statement_limit};
 ghost use Rattle.dv_command.specs.View.{write_seen};
 ghost use Rattle.dv_core.specs.Statements.{is_due};
@@ -15,9 +15,9 @@ use crate::next::Next;
 use crate::outcome::Outcome;
 use crate::storable::storable;
 use crate::written::Written;
-use dv_bson::{Document, NoMemory};
 use dv_catalog::{Catalog, Counted, Stopped};
 use dv_command::{ReplyNames, Write, WriteKind, deletion_of, updating_of};
+use dv_value::{Document, NoMemory};
 use std::alloc::Global;
 
 /// Carries out the statements of a write one after the other. Where memory is wanting for one the command ends with it;

@@ -3,10 +3,10 @@
 ghost use Rattle.std.specs.Prelude.{◌*◌, ◌≤◌, ◌^◌};
 
 use crate::next::{Next, error_of, next_behind};
-use dv_bson::{Document, NoMemory, Value};
 use dv_catalog::{Counted, Stopped};
 use dv_command::replies::{update_reply, write_reply};
 use dv_command::{ReplyNames, WriteKind};
+use dv_value::{Document, NoMemory, Value};
 use std::alloc::Global;
 
 /// How many statements were looked at, how many documents those that were carried out are counted for, and the errors
@@ -29,7 +29,7 @@ impl Written {
     ghost use Rattle.dv_core.specs.Statements.{nothing_written};
     ghost use Rattle.dv_core.specs.WriteParts.{written_seen, with_counted, Notes};
     ghost use Rattle.dv_core.specs.Writes.{reply_by};
-    ghost use Rattle.dv_bson.specs.View.{tree};
+    ghost use Rattle.dv_value.specs.View.{tree};
 
     /// No statement so far.
     pub(crate) fn new(alloc: Global) -> Self

@@ -2,8 +2,8 @@
 use Rattle.std.proofs.lemmas.Bool.Decides.{nat_tests}
 use Rattle.std.proofs.lemmas.Bool.{le-leb}
 use Rattle.std.proofs.Common.{◌≡◌, ◌∙◌, ℕ, zero, suc, ◌+◌, ◌<◌, ◌≤◌, ◌&&◌, ◌||◌, ◌⊎◌, inl, inr, Bool, true, false, cond, nat_le, nat_lt, min, List, [], ◌∷◌, ◌++◌, length, length-append, take, take_all, append_assoc, append-nil, refl, ap, sym, arith}
-use Rattle.dv_bson.specs.Tree.{Field}
-use Rattle.dv_bson.specs.Spelling.{spelling}
+use Rattle.dv_value.specs.Tree.{Field}
+use Rattle.dv_value.specs.Spelling.{spelling}
 use Rattle.dv_cursor.specs.Batch.{total_size, batch_limit, can_hold, longest_front, batch}
 
 abbrev Rows : Type 0

@@ -6,7 +6,7 @@ use Rattle.std.specs.List.Sorted.{IsStrictlySortedBy}
 use Rattle.std.specs.Ordering.{nat_cmp, MatchOrdering}
 use Rattle.std.specs.declared.cmp.Ordering.{Ordering}
 use Rattle.std.specs.declared.cmp.Ordering.TheVariants.{Less, Equal, Greater}
-use Rattle.dv_bson.specs.Tree.{Field}
+use Rattle.dv_value.specs.Tree.{Field}
 use Rattle.dv_cursor.specs.Cursors.{Cursor, Cursors, CursorPlace, free_id, with_cursor}
 use Rattle.dv_cursor.specs.Runs.{Event, add, advance, close, end, after_event, added_under, with_cursor_id, id_given, ids_given}
 

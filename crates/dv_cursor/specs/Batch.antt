@@ -1,7 +1,7 @@
 -- Batches of rows (MongoDB manual, "find", "getMore": batchSize). How many bytes a batch has at most is this server's own.
 use Rattle.std.specs.Prelude.{ℕ, zero, suc, ◌+◌, ◌&&◌, ◌||◌, Bool, List, [], ◌∷◌, drop, take, length, nat_le, if◌then◌else◌}
-use Rattle.dv_bson.specs.Tree.{Field}
-use Rattle.dv_bson.specs.Spelling.{spelling}
+use Rattle.dv_value.specs.Tree.{Field}
+use Rattle.dv_value.specs.Spelling.{spelling}
 
 -- how many bytes rows are together
 abbrev pub total_size : List (List Field) → ℕ

@@ -2,8 +2,8 @@
 use Rattle.std.specs.Prelude.{ℕ, List, refl}
 use Rattle.std.specs.Coded.{Coded, code_by, coded_list, coded×, coded_ℕ}
 use Rattle.std.specs.FinMap as finite
-use Rattle.dv_bson.specs.Tree.{Field}
-use Rattle.dv_bson.specs.TreeCode.{coded_tree}
+use Rattle.dv_value.specs.Tree.{Field}
+use Rattle.dv_value.specs.TreeCode.{coded_tree}
 use Rattle.dv_cursor.specs.Cursors.{Cursor, Cursors, place_cmp}
 
 abbrev pub coded_batch : Coded (List (List Field))

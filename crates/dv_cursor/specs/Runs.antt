@@ -1,6 +1,6 @@
 -- Batches one after the other, and cursors over whole runs.
 use Rattle.std.specs.Prelude.{ℕ, ◌≤◌, ◌⊎◌, ◌++◌, List, [], ◌∷◌, Option, Some, None, length, ◌==◌, ◌&&◌, Bool}
-use Rattle.dv_bson.specs.Tree.{Field}
+use Rattle.dv_value.specs.Tree.{Field}
 use Rattle.dv_cursor.specs.Batch.{batch, batch_limit, rows_behind, total_size}
 use Rattle.dv_cursor.specs.Cursors.{Cursors, free_id, added, advanced, closed, without_session}
 

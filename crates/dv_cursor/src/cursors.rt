@@ -7,7 +7,7 @@ ghost use Rattle.std.specs.String.{string_bytes};
 
 use crate::cursor::Cursor;
 use crate::rows::Rows;
-use dv_bson::NoMemory;
+use dv_value::NoMemory;
 use std::alloc::Global;
 use std::collections::BTreeMap;
 use std::marker::Model;

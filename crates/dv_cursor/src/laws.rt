@@ -4,7 +4,7 @@ ghost use Rattle.std.specs.FinMap as finite;
 ghost use Rattle.std.specs.Prelude.{◌≡◌, ◌≢◌, ◌++◌, ◌∷◌, ◌<◌, ◌≤◌, ◌==◌, ℕ, List, [], None, Some, false, length, take, if◌then◌else◌};
 ghost use Rattle.std.specs.List.Sorted.{IsStrictlySortedBy};
 ghost use Rattle.std.specs.Ordering.{nat_cmp};
-ghost use Rattle.dv_bson.specs.Tree.{Field};
+ghost use Rattle.dv_value.specs.Tree.{Field};
 ghost use Rattle.dv_cursor.specs.Batch.{batch, rows_behind, can_hold};
 ghost use Rattle.dv_cursor.specs.Cursors.{Cursors, added, advanced, closed, cursor_behind, free_id, without_session};
 ghost use Rattle.dv_cursor.specs.Runs.{Event, IsWithinBatch, behind_all, ids_given, is_cursor_place, batches_joined};

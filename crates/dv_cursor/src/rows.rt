@@ -1,10 +1,10 @@
 //! Rows that are taken from the front.
 
 ghost use Rattle.std.specs.Prelude.{◌≡◌, ◌+◌, ◌≤◌, ◌&&◌, ◌||◌, ◌↔◌, [], drop, length, min, nat_le, nat_lt, IfOk, IsTrue};
-ghost use Rattle.dv_bson.specs.Spelling.{spelling};
+ghost use Rattle.dv_value.specs.Spelling.{spelling};
 ghost use Rattle.dv_cursor.specs.Batch.{batch, batch_limit};
 
-use dv_bson::{Document, NoMemory, size};
+use dv_value::{Document, NoMemory, size};
 use std::collections::VecDeque;
 use std::marker::Model;
 
@@ -19,7 +19,7 @@ pub struct Rows {
 
 impl Model for Rows {
     ghost use Rattle.std.specs.Prelude as prelude;
-    ghost use Rattle.dv_bson.specs.Tree.{Field};
+    ghost use Rattle.dv_value.specs.Tree.{Field};
     ghost use Rattle.dv_cursor.specs.CursorsCode.{coded_batch};
 
     ghost Value = { prelude.List (prelude.List Field) };

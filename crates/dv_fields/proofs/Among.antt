@@ -1,12 +1,12 @@
 -- The values of an array, the documents among them, and the integers.
 use Rattle.std.proofs.Common.{◌≡◌, true, false, List, [], ◌∷◌, length, map, refl, ap, ◌∙◌, suc, ℤ, Result, Ok, Err}
 use Rattle.std.specs.List.{list_all}
-use Rattle.dv_bson.specs.declared.value.Value.{Value}
-use Rattle.dv_bson.specs.declared.value.Value.TheVariants.{Doc, Int32, Int64}
-use Rattle.dv_bson.specs.Tree.{Tree, Field, elements_of, list_of_elements, fields_of, list_of_fields}
-use Rattle.dv_bson.specs.View.{tree}
+use Rattle.dv_value.specs.declared.value.Value.{Value}
+use Rattle.dv_value.specs.declared.value.Value.TheVariants.{Doc, Int32, Int64}
+use Rattle.dv_value.specs.Tree.{Tree, Field, elements_of, list_of_elements, fields_of, list_of_fields}
+use Rattle.dv_value.specs.View.{tree}
 use Rattle.dv_fields.specs.Fields.{each_document, integer_in, check_read}
-use Rattle.dv_bson.specs.Results.{◌>>=◌, each}
+use Rattle.dv_value.specs.Results.{◌>>=◌, each}
 use Rattle.dv_fields.specs.declared.refusal.Refusal.{Refusal}
 use Rattle.dv_fields.specs.declared.refusal.Refusal.TheVariants.{TypeMismatch}
 use Rattle.dv_fields.specs.DocumentsView.{is_document, is_integer, AreDocuments, documents_seen}

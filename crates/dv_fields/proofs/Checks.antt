@@ -1,11 +1,11 @@
 -- Fields, looked at one after the other.
 use Rattle.std.proofs.Common.{◌≡◌, ◌≢◌, ℕ, ◌+◌, List, [], ◌∷◌, drop, length, ◌<◌, ap, refl, arith, Some, Err}
 use Rattle.std.specs.List.{slice_get}
-use Rattle.dv_bson.specs.Tree.{document, Field, fields_of}
+use Rattle.dv_value.specs.Tree.{document, Field, fields_of}
 use Rattle.dv_fields.specs.Kinds.{FieldPlace}
 use Rattle.dv_fields.specs.declared.refusal.Refusal.TheVariants.{FailedToParse}
 use Rattle.dv_fields.specs.Fields.{Table, check_fields, check_field, check_empty, check_none, check_single}
-use Rattle.dv_bson.specs.Results.{◌>>=◌}
+use Rattle.dv_value.specs.Results.{◌>>=◌}
 use Rattle.dv_fields.proofs.Lists.{drop_at}
 
 -- the field at an index is looked at, and then those behind it

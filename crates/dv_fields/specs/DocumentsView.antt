@@ -1,8 +1,8 @@
 -- The documents and the integers among values, and what stands in memory for documents that are still to come.
 use Rattle.std.specs.Prelude.{Bool, true, false, List, [], ◌∷◌, ⊤}
-use Rattle.dv_bson.specs.Tree.{Field}
-use Rattle.dv_bson.specs.declared.value.Value.{Value}
-use Rattle.dv_bson.specs.declared.value.Value.TheVariants.{Doc, Int32, Int64}
+use Rattle.dv_value.specs.Tree.{Field}
+use Rattle.dv_value.specs.declared.value.Value.{Value}
+use Rattle.dv_value.specs.declared.value.Value.TheVariants.{Doc, Int32, Int64}
 use Rattle.dv_fields.specs.declared.documents.Source.{Source}
 use Rattle.dv_fields.specs.declared.documents.Source.TheVariants.{Array, Beside}
 

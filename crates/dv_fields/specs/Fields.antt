@@ -3,13 +3,13 @@
 use Rattle.std.specs.Prelude.{ℕ, ℤ, pos, negsuc, ◌||◌, Bool, true, false, List, [], ◌∷◌, Option, Some, None, Result, Ok, Err, codes, if◌then◌else◌, ⊤}
 use Rattle.std.specs.Ordering.{int_eq}
 use Rattle.std.specs.Str.{bytes_eq}
-use Rattle.dv_bson.specs.Tree.{Tree, int32, int64, string, document, array, boolean, no_fields, Elements, no_elements, element, Field, list_of_fields, list_of_elements}
-use Rattle.dv_bson.specs.Names.{value_under}
+use Rattle.dv_value.specs.Tree.{Tree, int32, int64, string, document, array, boolean, no_fields, Elements, no_elements, element, Field, list_of_fields, list_of_elements}
+use Rattle.dv_value.specs.Names.{value_under}
 use Rattle.dv_fields.specs.Kinds.{Kind, FieldPlace}
 use Rattle.dv_fields.specs.Kinds as kinds
 use Rattle.dv_fields.specs.declared.refusal.Refusal.{Refusal}
 use Rattle.dv_fields.specs.declared.refusal.Refusal.TheVariants.{BadValue, FailedToParse, TypeMismatch}
-use Rattle.dv_bson.specs.Results.{◌>>=◌, each}
+use Rattle.dv_value.specs.Results.{◌>>=◌, each}
 
 -- ---- which fields there may be
 

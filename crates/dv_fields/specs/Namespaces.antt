@@ -1,8 +1,8 @@
 -- The names of databases and collections (MongoDB manual, "Naming Restrictions"). Which of its restrictions hold here, the longest
 -- namespace and the codes are this server's own.
 use Rattle.std.specs.Prelude.{ℕ, ◌&&◌, not, Bool, List, ◌∷◌, ◌++◌, Option, Some, None, Result, Ok, Err, codes, nat_lt, length, if◌then◌else◌}
-use Rattle.dv_bson.specs.Tree.{Tree, string, Field}
-use Rattle.dv_bson.specs.Names.{begins_with_dollar, value_under, has_zero}
+use Rattle.dv_value.specs.Tree.{Tree, string, Field}
+use Rattle.dv_value.specs.Names.{begins_with_dollar, value_under, has_zero}
 use Rattle.dv_path.specs.Names.{has_dot}
 use Rattle.dv_fields.specs.declared.refusal.Refusal.{Refusal}
 use Rattle.dv_fields.specs.declared.refusal.Refusal.TheVariants.{BadValue, FailedToParse, TypeMismatch}

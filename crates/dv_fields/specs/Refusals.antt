@@ -1,8 +1,8 @@
 -- How commands are refused (MongoDB manual, "Error Codes"; from 900 on they are this server's own).
 use Rattle.std.specs.Prelude.{◌≡◌, ◌⊎◌, ℕ, List, ◌++◌, Result, Ok, Err, codes}
-use Rattle.dv_bson.specs.declared.fault.BsonFault.{BsonFault}
-use Rattle.dv_bson.specs.declared.fault.BsonFault.TheVariants.{NoMemory}
-use Rattle.dv_bson.specs.Fault.{fault_text}
+use Rattle.dv_value.specs.declared.fault.BsonFault.{BsonFault}
+use Rattle.dv_value.specs.declared.fault.BsonFault.TheVariants.{NoMemory}
+use Rattle.dv_value.specs.Fault.{fault_text}
 use Rattle.dv_coll.specs.declared.fault.InsertFault.{InsertFault}
 use Rattle.dv_coll.specs.declared.fault.InsertFault.TheVariants as inserting
 use Rattle.dv_match.specs.declared.fault.FilterFault.{FilterFault}

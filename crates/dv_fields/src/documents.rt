@@ -3,12 +3,12 @@
 ghost use Rattle.std.specs.Prelude.{◌≡◌, ◌↔◌, Ok, Err, MatchResult, IsTrue, length};
 ghost use Rattle.std.specs.Iterator.{YieldsFirstRef, item_count};
 ghost use Rattle.std.specs.List.{list_all};
-ghost use Rattle.dv_bson.specs.Tree.{elements_of};
+ghost use Rattle.dv_value.specs.Tree.{elements_of};
 ghost use Rattle.dv_fields.specs.Fields as fields;
 ghost use Rattle.dv_fields.specs.DocumentsView.{is_document};
 
 use crate::refusal::Refusal;
-use dv_bson::{Document, List, Value};
+use dv_value::{Document, List, Value};
 use std::marker::Model;
 
 /// Documents that are still to come, in order: those of an array, or those of a list beside a body.
@@ -27,8 +27,8 @@ enum Source<'a> {
 impl<'a> Model for Documents<'a> {
     ghost use Rattle.std.specs.Prelude as prelude;
     ghost use Rattle.std.specs.Coded.{coded_list, coded×, coded_ℕ};
-    ghost use Rattle.dv_bson.specs.Tree.{Field};
-    ghost use Rattle.dv_bson.specs.TreeCode.{coded_tree};
+    ghost use Rattle.dv_value.specs.Tree.{Field};
+    ghost use Rattle.dv_value.specs.TreeCode.{coded_tree};
     ghost use Rattle.dv_fields.specs.DocumentsView.{source_seen, IsOfDocuments};
 
     ghost Value = { prelude.List (prelude.List Field) };

@@ -1,8 +1,8 @@
 //! The fields of commands and of their entries, by their names.
 
 ghost use Rattle.std.specs.Prelude.{◌≡◌, [], Some, None, Ok, Err, MatchResult};
-ghost use Rattle.dv_bson.specs.Names.{value_under};
-ghost use Rattle.dv_bson.specs.View.{tree};
+ghost use Rattle.dv_value.specs.Names.{value_under};
+ghost use Rattle.dv_value.specs.View.{tree};
 ghost use Rattle.dv_fields.specs.Fields as defined;
 ghost use Rattle.dv_fields.specs.Refusals.{UnlessWanting};
 ghost use Rattle.dv_fields.specs.declared.refusal.Refusal.TheVariants.{FailedToParse};
@@ -13,7 +13,7 @@ use crate::values::{
     array_of, boolean_of, document_of, documents_of, integer_of, integers_of, natural_of,
     only_first_of, text_of, update_of,
 };
-use dv_bson::{Document, List, Value};
+use dv_value::{Document, List, Value};
 use std::alloc::Global;
 
 /// The first name of fields, which in a body is the command; empty where there is none.

@@ -6,8 +6,8 @@ ghost use Rattle.dv_fields.specs.Namespaces as names;
 ghost use Rattle.dv_fields.specs.Refusals.{UnlessWanting};
 
 use crate::refusal::Refusal;
-use dv_bson::{Document, Value, begins_with_dollar};
 use dv_path::has_dot;
+use dv_value::{Document, Value, begins_with_dollar};
 use std::alloc::Global;
 
 /// How many bytes a namespace may have.

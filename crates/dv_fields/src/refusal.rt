@@ -5,11 +5,11 @@ ghost use Rattle.std.specs.String.{string_bytes};
 ghost use Rattle.dv_fields.specs.Refusals as refusals;
 ghost use Rattle.dv_fields.specs.declared.refusal.Refusal.TheVariants.{WantOfMemory};
 
-use dv_bson::BsonFault;
 use dv_coll::InsertFault;
 use dv_match::FilterFault;
 use dv_row::PipelineFault;
 use dv_update::UpdateFault;
+use dv_value::BsonFault;
 use std::alloc::{AllocError, AllocFailed, Global};
 
 /// Why a command is refused: the server error codes of the MongoDB manual, and this server's own from 900 on.

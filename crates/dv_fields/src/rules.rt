@@ -3,7 +3,7 @@
 ghost use Rattle.std.specs.Prelude.{◌≡◌, map};
 ghost use Rattle.std.specs.List.{list_all};
 ghost use Rattle.std.specs.Option.{option_map};
-ghost use Rattle.dv_bson.specs.View.{tree};
+ghost use Rattle.dv_value.specs.View.{tree};
 ghost use Rattle.dv_fields.specs.DocumentsView.{is_integer};
 ghost use Rattle.dv_fields.specs.Fields as defined;
 ghost use Rattle.dv_fields.specs.Kinds as kinds;
@@ -14,7 +14,7 @@ use crate::values::{
     array_of, boolean_of, document_of, documents_of, integer_of, natural_of, only_first_of,
     text_of, update_of,
 };
-use dv_bson::{Document, Value};
+use dv_value::{Document, Value};
 
 /// Where fields stand.
 #[derive(Clone, Copy)]

@@ -1,14 +1,14 @@
 //! What the value of a field is, where it is of the type that is asked for.
 
 ghost use Rattle.std.specs.Prelude.{◌≡◌, Ok, Err, MatchResult, map};
-ghost use Rattle.dv_bson.specs.View.{tree};
+ghost use Rattle.dv_value.specs.View.{tree};
 ghost use Rattle.dv_fields.specs.Fields as defined;
 ghost use Rattle.dv_fields.specs.Refusals.{UnlessWanting};
-ghost use Rattle.dv_bson.specs.Results.{each};
+ghost use Rattle.dv_value.specs.Results.{each};
 
 use crate::documents::Documents;
 use crate::refusal::Refusal;
-use dv_bson::{Document, List, Value};
+use dv_value::{Document, List, Value};
 use std::alloc::Global;
 
 /// The text that a value is. Refused with `TypeMismatch` where it is another value.

@@ -8,7 +8,7 @@ use Rattle.std.specs.Cmp.{Equal-is, alike_right}
 use Rattle.std.specs.List.{AllByRecursion}
 use Rattle.std.specs.Map.{keys_of}
 use Rattle.std.specs.Ordering.{is_eq, match_ordering}
-use Rattle.dv_bson.specs.Tree.{Field}
+use Rattle.dv_value.specs.Tree.{Field}
 use Rattle.dv_change.specs.declared.change.Change.{Change}
 use Rattle.dv_change.specs.declared.change.Change.TheVariants.{Gone, Put}
 use Rattle.dv_change.specs.Changes.{IsExactChange, IsPositioned, Positioned, at, forget, position_changed, with_change}

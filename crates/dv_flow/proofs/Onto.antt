@@ -1,7 +1,7 @@
 -- Numbered rows that are put in front of others, from the last one on.
 use Rattle.std.specs.Prelude.{◌≡◌, ◌+◌, ℕ, suc, List, [], ◌∷◌, ◌++◌, length, refl}
 use Rattle.std.proofs.Common.{ap, arith, ◌∙◌}
-use Rattle.dv_bson.specs.Tree.{Field}
+use Rattle.dv_value.specs.Tree.{Field}
 use Rattle.dv_change.specs.declared.position.Part.TheVariants.{At}
 use Rattle.dv_change.specs.Changes.{Positioned, in_row_order}
 use Rattle.dv_change.specs.Ordered.{put}

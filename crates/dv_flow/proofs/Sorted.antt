@@ -10,7 +10,7 @@ use Rattle.std.specs.List.Sorted.{IsStrictlySortedBy}
 use Rattle.std.specs.Map.{keys_of}
 use Rattle.std.proofs.lemmas.List.MinMax.{ranks_by}
 use Rattle.std.proofs.lemmas.Map.Keys.{sorted_head, sorted_tail}
-use Rattle.dv_bson.specs.Tree.{Field}
+use Rattle.dv_value.specs.Tree.{Field}
 use Rattle.dv_order.specs.Key.{KeyTree}
 use Rattle.dv_path.specs.declared.direction.Direction.{Direction}
 use Rattle.dv_path.specs.declared.direction.Direction.TheVariants.{Ascending, Descending}

@@ -1,6 +1,6 @@
 -- What the bounds on a stage's changes count.
 use Rattle.std.specs.Prelude.{ℕ, List, length, Option, None, Some}
-use Rattle.dv_bson.specs.Tree.{Field}
+use Rattle.dv_value.specs.Tree.{Field}
 use Rattle.dv_row.specs.declared.unwind.Unwind.{Unwind}
 use Rattle.dv_row.specs.Unwinding.{unwound}
 

@@ -7,7 +7,7 @@ use Rattle.std.specs.Cmp.{Equal-is}
 use Rattle.std.specs.Ordering.{is_eq}
 use Rattle.std.specs.List.{AllByRecursion, flat_map}
 use Rattle.std.specs.Map.{keys_of}
-use Rattle.dv_bson.specs.Tree.{Field}
+use Rattle.dv_value.specs.Tree.{Field}
 use Rattle.dv_change.specs.Changes.{IsPositioned, Positioned, alone, at, in_row_order}
 use Rattle.dv_change.specs.DiffLaws.{or_else}
 use Rattle.dv_change.specs.PositionLaws.{pos_order_total}

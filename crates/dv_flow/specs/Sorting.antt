@@ -5,10 +5,10 @@ use Rattle.std.specs.declared.cmp.Ordering.TheVariants.{Equal}
 use Rattle.std.specs.Cmp.{Equal-is}
 use Rattle.std.specs.Ordering.{is_eq}
 use Rattle.std.specs.List.{AllByRecursion, best_of, flat_map}
-use Rattle.dv_bson.specs.Tree.{Field, Tree, array, list_of_elements, null}
+use Rattle.dv_value.specs.Tree.{Field, Tree, array, list_of_elements, null}
 use Rattle.dv_order.specs.Key.{KeyTree, key_at}
 use Rattle.dv_order.specs.OwnKeys.{IsOwn}
-use Rattle.dv_path.specs.Candidates.{Candidate, whole}
+use Rattle.dv_candidates.specs.Candidates.{Candidate, whole}
 use Rattle.dv_path.specs.declared.direction.Direction.{Direction}
 use Rattle.dv_path.specs.declared.direction.Direction.TheVariants.{Ascending, Descending}
 use Rattle.dv_path.specs.SortKey as keys

@@ -7,8 +7,8 @@ ghost use Rattle.dv_change.specs.Difference.{diff};
 ghost use Rattle.dv_change.specs.Positions.{IsExact, PosTree, pos_order};
 ghost use Rattle.dv_flow.specs.Rows.{IsSoundRows, rows_left};
 
-use dv_bson::{Document, NoMemory};
 use dv_change::{Change, Input, Ordered, Pos, Taken, Ticks, Turn, hand_on, take_in};
+use dv_value::{Document, NoMemory};
 use std::alloc::Global;
 use std::collections::BTreeMap;
 

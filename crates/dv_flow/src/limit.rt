@@ -1,6 +1,7 @@
 //! `$limit`, kept by changes.
 
-ghost use Rattle.std.specs.Prelude.{◌≡◌, ◌+◌, ◌++◌, ◌≤◌, ◌∷◌, false, [], length, IfOk, IsTrue, OnOk};
+ghost use Rattle.std.specs.Prelude.{◌≡◌, ◌+◌, ◌++◌, ◌≤◌, ◌∷◌, false, [], length, IfOk, IsTrue, OnErr, OnOk};
+ghost use Rattle.dv_change.specs.Beginning.{BeginsWith};
 ghost use Rattle.dv_change.specs.Changes.{at, position_changed, with_change};
 ghost use Rattle.dv_change.specs.Difference.{diff};
 ghost use Rattle.dv_change.specs.Ordered.{gone, put};
@@ -8,8 +9,8 @@ ghost use Rattle.dv_change.specs.Raised.{raised};
 ghost use Rattle.dv_flow.specs.Limiting.{IsBehind, IsOverfull, IsSoundLimit, IsUnderfull, IsWithinLimit, at_either, edge_of, is_past, last_place, limit_empty, limit_even, limit_left, limit_makes, limit_ordered, next_place, with_limited_row};
 ghost use Rattle.dv_flow.specs.Placed.{front_at};
 
-use dv_bson::{Document, NoMemory};
 use dv_change::{Change, Input, Ordered, Pos, Ticks, Turn, hand_on, take_in};
+use dv_value::{Document, NoMemory};
 use std::alloc::Global;
 use std::collections::BTreeMap;
 
@@ -52,6 +53,8 @@ impl LimitTurn {
         ensures left { OnOk result (limit_left self.new ≡ with_change (limit_left self.old) change) }
         ensures out { OnOk result (out.new.items ≡ out.old.items ++ diff (front_at self.old.count (limit_left self.old)) (front_at self.old.count (with_change (limit_left self.old) change))) }
         ensures ticks { OnOk result (ticks.new ≡ raised ticks.old (1 + length (diff (front_at self.old.count (limit_left self.old)) (front_at self.old.count (with_change (limit_left self.old) change))))) }
+        ensures begins { OnErr result (BeginsWith out.new.items out.old.items) }
+        ensures no_fewer { OnErr result (ticks.old ≤ ticks.new) }
     {
         change.is_exact();
         let pos = position_of(&change).try_clone()?;

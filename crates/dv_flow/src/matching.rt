@@ -5,9 +5,9 @@ ghost use Rattle.dv_flow.specs.Matching.{match_even, match_ordered, match_single
 ghost use Rattle.dv_flow.specs.Placed.{matched_at};
 
 use crate::by_row::{ByRow, RowTurn};
-use dv_bson::{Document, NoMemory};
 use dv_change::{Ordered, Pos};
 use dv_match::Filter;
+use dv_value::{Document, NoMemory};
 use std::alloc::Global;
 
 /// The rows that match a filter, kept by changes.

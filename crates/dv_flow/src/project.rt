@@ -5,9 +5,9 @@ ghost use Rattle.dv_flow.specs.Placed.{shown_at};
 ghost use Rattle.dv_flow.specs.Projecting.{project_even, project_ordered, project_single};
 
 use crate::by_row::{ByRow, RowTurn};
-use dv_bson::{Document, NoMemory};
 use dv_change::{Ordered, Pos};
 use dv_row::Project;
+use dv_value::{Document, NoMemory};
 use std::alloc::Global;
 
 /// Rows as they are shown, kept by changes.

@@ -8,8 +8,8 @@ use crate::matching::MatchTurn;
 use crate::project::ProjectTurn;
 use crate::sort::SortTurn;
 use crate::unwind::UnwindTurn;
-use dv_bson::NoMemory;
 use dv_change::{Change, Input, Ticks, Turn};
+use dv_value::NoMemory;
 
 /// A stage of one of these kinds, kept by changes, so that they can stand in one chain.
 #[derive(Drop)]

@@ -6,10 +6,10 @@ ghost use Rattle.dv_flow.specs.Placed.{sorted_at};
 ghost use Rattle.dv_flow.specs.Sorting.{sort_empty, sort_even, sort_exact, sort_ordered, sort_single};
 
 use crate::by_row::{ByRow, RowTurn};
-use dv_bson::{Document, NoMemory};
 use dv_change::{Ordered, Part, Pos};
 use dv_order::Key;
 use dv_path::{Direction, SortSpec, sort_key};
+use dv_value::{Document, NoMemory};
 use std::alloc::Global;
 
 /// Rows in the order of a sort, kept by changes.

@@ -6,9 +6,9 @@ ghost use Rattle.dv_flow.specs.Placed.{rows_numbered, unwound_at};
 ghost use Rattle.dv_flow.specs.Unwinding.{but_last, unwind_empty, unwind_even, unwind_exact, unwind_ordered, unwind_single};
 
 use crate::by_row::{ByRow, RowTurn};
-use dv_bson::{Document, NoMemory};
 use dv_change::{Ordered, Part, Pos};
 use dv_row::Unwind;
+use dv_value::{Document, NoMemory};
 use std::alloc::Global;
 
 /// The rows of each row's elements, kept by changes.

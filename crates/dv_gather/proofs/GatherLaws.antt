@@ -7,8 +7,8 @@ use Rattle.std.specs.declared.cmp.Ordering.{Ordering}
 use Rattle.std.specs.declared.cmp.Ordering.TheVariants.{Less, Equal, Greater}
 use Rattle.std.proofs.lemmas.Bool.Decides.{nat_tests}
 use Rattle.std.proofs.lemmas.Int.{ints}
-use Rattle.dv_bson.specs.Tree.{Tree, int32, int64, array, no_elements}
-use Rattle.dv_bson.specs.Spelling.{IsValue}
+use Rattle.dv_value.specs.Tree.{Tree, int32, int64, array, no_elements}
+use Rattle.dv_value.specs.Spelling.{IsValue}
 use Rattle.dv_order.specs.Order.{order}
 use Rattle.dv_row.specs.Expressions.{constant, value_of}
 use Rattle.dv_row.specs.Row.{Row}

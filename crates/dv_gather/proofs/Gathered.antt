@@ -3,10 +3,10 @@ use Rattle.std.proofs.Common.{◌≡◌, ℕ, List, [], ◌∷◌, map, refl, ap
 use Rattle.std.specs.List.{flat_map}
 use Rattle.std.specs.Option.{unwrap_or}
 use Rattle.std.specs.Ordering.{is_eq}
-use Rattle.dv_bson.specs.Tree.{Tree, Field, array, fields_of, list_of_fields}
+use Rattle.dv_value.specs.Tree.{Tree, Field, array, fields_of, list_of_fields}
 use Rattle.dv_order.specs.Order.{canon}
 use Rattle.dv_order.specs.Key.{KeyTree, value, key_order}
-use Rattle.dv_path.specs.Candidates.{Candidate, array_in, leaves, or_null, whole, with_elements}
+use Rattle.dv_candidates.specs.Candidates.{Candidate, array_in, leaves, or_null, whole, with_elements}
 use Rattle.dv_path.specs.LeafKeys.{is_key_of, is_some_key, leaf_values}
 use Rattle.dv_gather.specs.Joining.{joined_by, local_values}
 use Rattle.dv_gather.specs.KeySets.{AreKeysOf}

@@ -8,10 +8,10 @@ use Rattle.std.specs.BTreeMap.{insert_entry, is_at}
 use Rattle.std.specs.Ordering.{match_ordering}
 use Rattle.std.specs.declared.cmp.Ordering.{Ordering}
 use Rattle.std.specs.declared.cmp.Ordering.TheVariants.{Less, Equal, Greater}
-use Rattle.dv_bson.specs.Tree.{Tree, Field}
+use Rattle.dv_value.specs.Tree.{Tree, Field}
 use Rattle.dv_order.specs.Order.{canon, order}
 use Rattle.dv_order.specs.Key.{KeyTree, value, key_order}
-use Rattle.dv_path.specs.Candidates.{Candidate}
+use Rattle.dv_candidates.specs.Candidates.{Candidate}
 use Rattle.dv_row.specs.Expressions.{Expression, value_of, with_field_behind}
 use Rattle.dv_row.specs.Row.{Row}
 use Rattle.dv_gather.specs.declared.extreme.Extreme.{Extreme}

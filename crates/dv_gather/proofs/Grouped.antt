@@ -9,7 +9,7 @@ use Rattle.std.specs.BTreeMap.{insert_entry, is_at}
 use Rattle.std.specs.Ordering.{is_eq, match_ordering}
 use Rattle.std.specs.declared.cmp.Ordering.{Ordering}
 use Rattle.std.specs.declared.cmp.Ordering.TheVariants.{Less, Equal, Greater}
-use Rattle.dv_bson.specs.Tree.{Tree, Field}
+use Rattle.dv_value.specs.Tree.{Tree, Field}
 use Rattle.dv_order.specs.Order.{canon, order}
 use Rattle.dv_order.specs.Key.{value, key_order}
 use Rattle.dv_gather.specs.Groups.{Keyed, with_key, keys_from, group_keys, documents_under_key, groups_of}

@@ -5,9 +5,9 @@ use Rattle.std.specs.Ordering.{is_eq, match_ordering}
 use Rattle.std.specs.declared.cmp.Ordering.{Ordering}
 use Rattle.std.specs.declared.cmp.Ordering.TheVariants.{Less, Equal, Greater}
 use Rattle.std.proofs.lemmas.Int.{ints}
-use Rattle.dv_bson.specs.Tree.{Tree, int32, int64, string, document, array, boolean, binary, object_id, date, null, timestamp, min_key, max_key, elements_of}
+use Rattle.dv_value.specs.Tree.{Tree, int32, int64, string, document, array, boolean, binary, object_id, date, null, timestamp, min_key, max_key, elements_of}
 use Rattle.dv_order.specs.Order.{order}
-use Rattle.dv_path.specs.Candidates.{Candidate}
+use Rattle.dv_candidates.specs.Candidates.{Candidate}
 use Rattle.dv_row.specs.Expressions.{Expression, value_of}
 use Rattle.dv_row.specs.Row.{Row}
 use Rattle.dv_gather.specs.Counting.{is_number}

@@ -1,14 +1,14 @@
 -- Worked examples, computed from the definitions alone.
 use Rattle.std.proofs.Common.{◌≡◌, refl, true, [], ◌∷◌, Ok, Err, codes}
-use Rattle.dv_bson.specs.Tree.{null, boolean}
-use Rattle.dv_path.specs.Candidates.{whole, leaves}
+use Rattle.dv_value.specs.Tree.{null, boolean}
+use Rattle.dv_candidates.specs.Candidates.{whole, leaves}
 use Rattle.dv_path.specs.Expression.{expr}
 use Rattle.dv_path.specs.LeafKeys.{leaf_values}
-use Rattle.dv_path.specs.Path.{path_of}
+use Rattle.dv_candidates.specs.Path.{path_of}
 use Rattle.dv_row.specs.ExpressionParsing.{expression_in}
 use Rattle.dv_row.specs.Expressions.{value_of}
-use Rattle.dv_gather.specs.Examples.{by, mixed, a_group, group_rows, group_row, after_group, a_lookup, seven, eight, nine, after_lookup}
-use Rattle.dv_bson.specs.Short.{int, text, doc, list}
+use Rattle.dv_gather.specs.Examples.{by, mixed, a_group, group_rows, group_row, after_group, a_lookup, seven, eight, nine, ten, after_lookup}
+use Rattle.dv_value.specs.Short.{int, text, doc, list}
 use Rattle.dv_gather.specs.GroupParsing.{group_in}
 use Rattle.dv_gather.specs.Grouping.{accumulated, grouped}
 use Rattle.dv_gather.specs.declared.accumulator.Accumulator.TheVariants.{Sum, Min, Max}
@@ -23,7 +23,7 @@ unfolding group_in grouped groups_of expression_in value_of expr path_of spelled
 rows_in_groups = refl
 
 -- {_id: 1} and {_id: 2, p: [1, 2]}
-pub rows_looked_up : after_lookup a_lookup (((codes "_id", int 1) ∷ []) ∷ ((codes "_id", int 2) ∷ (codes "p", list (int 1 ∷ int 2 ∷ [])) ∷ []) ∷ []) (seven ∷ eight ∷ nine ∷ [])
+pub rows_looked_up : after_lookup a_lookup (((codes "_id", int 1) ∷ []) ∷ ((codes "_id", int 2) ∷ (codes "p", list (int 1 ∷ int 2 ∷ [])) ∷ []) ∷ []) (seven ∷ eight ∷ nine ∷ ten ∷ [])
     ≡ Ok (((codes "_id", int 1) ∷ (codes "o", list (doc seven ∷ [])) ∷ []) ∷ ((codes "_id", int 2) ∷ (codes "p", list (int 1 ∷ int 2 ∷ [])) ∷ (codes "o", list (doc eight ∷ doc nine ∷ [])) ∷ []) ∷ [])
 unfolding lookup_in looked_up joined_by leaf_values whole leaves path_of
 rows_looked_up = refl

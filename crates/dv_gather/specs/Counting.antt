@@ -1,6 +1,6 @@
 -- Values that a sum counts.
 use Rattle.std.specs.Prelude.{Bool, ◌==◌}
-use Rattle.dv_bson.specs.Tree.{Tree}
+use Rattle.dv_value.specs.Tree.{Tree}
 use Rattle.dv_order.specs.Order.{class}
 
 -- whether a value stands among the numbers

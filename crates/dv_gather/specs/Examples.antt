@@ -1,9 +1,9 @@
 -- Worked examples: what $group and $lookup make of rows, the stage and the rows as they are written.
 use Rattle.std.specs.Prelude.{ℕ, pos, true, List, [], ◌∷◌, Result, Ok, codes}
-use Rattle.dv_bson.specs.Tree.{Tree, int64, boolean, null, Field}
+use Rattle.dv_value.specs.Tree.{Tree, int64, boolean, null, Field}
 use Rattle.dv_row.specs.declared.fault.PipelineFault.{PipelineFault}
-use Rattle.dv_bson.specs.Results.{◌>>=◌}
-use Rattle.dv_bson.specs.Short.{int, text, doc, list}
+use Rattle.dv_value.specs.Results.{◌>>=◌}
+use Rattle.dv_value.specs.Short.{int, text, doc, list}
 use Rattle.dv_row.specs.Row.{Row}
 use Rattle.dv_gather.specs.GroupParsing.{group_in}
 use Rattle.dv_gather.specs.Grouping.{grouped}
@@ -40,7 +40,7 @@ after_group v rows = group_in v >>= λ g. Ok (grouped g rows)
 abbrev pub a_lookup : Tree
 a_lookup = doc ((codes "from", text (codes "d")) ∷ (codes "localField", text (codes "p")) ∷ (codes "foreignField", text (codes "f")) ∷ (codes "as", text (codes "o")) ∷ [])
 
--- {_id: 7}, {_id: 8, f: 2}, {_id: 9, f: [1, 2L]}
+-- {_id: 7}, {_id: 8, f: 2}, {_id: 9, f: [1, 2L]}, {_id: 10, f: [[1, 2]]}
 abbrev pub seven : Row
 seven = (codes "_id", int 7) ∷ []
 
@@ -49,6 +49,9 @@ eight = (codes "_id", int 8) ∷ (codes "f", int 2) ∷ []
 
 abbrev pub nine : Row
 nine = (codes "_id", int 9) ∷ (codes "f", list (int 1 ∷ int64 (pos 2) ∷ [])) ∷ []
+
+abbrev pub ten : Row
+ten = (codes "_id", int 10) ∷ (codes "f", list (list (int 1 ∷ int 2 ∷ []) ∷ [])) ∷ []
 
 -- what a $lookup makes of rows
 abbrev pub after_lookup : Tree → List Row → List Row → Result (List Row) PipelineFault

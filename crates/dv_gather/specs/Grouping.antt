@@ -1,8 +1,8 @@
 -- What $group makes of rows (MongoDB manual, "$group (aggregation)"). The order of the groups, and which row spells a key, is this
 -- server's own.
 use Rattle.std.specs.Prelude.{ℕ, List, [], ◌∷◌, Option, Some, None, codes, map}
-use Rattle.dv_bson.specs.Tree.{Tree, array, null, Field, elements_of}
-use Rattle.dv_path.specs.Candidates.{Candidate, or_null}
+use Rattle.dv_value.specs.Tree.{Tree, array, null, Field, elements_of}
+use Rattle.dv_candidates.specs.Candidates.{Candidate, or_null}
 use Rattle.dv_row.specs.Expressions.{Expression, value_of, with_field_behind}
 use Rattle.dv_row.specs.Row.{Row}
 use Rattle.dv_gather.specs.declared.extreme.Extreme.TheVariants.{Least, Greatest}

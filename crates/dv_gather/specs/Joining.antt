@@ -4,9 +4,9 @@
 use Rattle.std.specs.Prelude.{ℕ, Bool, List, [], ◌∷◌, Some, filter}
 use Rattle.std.specs.List.{flat_map, list_any}
 use Rattle.std.specs.Ordering.{is_eq}
-use Rattle.dv_bson.specs.Tree.{Tree, array, document, Field, fields_of, list_of_elements}
+use Rattle.dv_value.specs.Tree.{Tree, array, document, Field, fields_of, list_of_elements}
 use Rattle.dv_order.specs.Order.{order}
-use Rattle.dv_path.specs.Candidates.{Candidate, or_null, whole}
+use Rattle.dv_candidates.specs.Candidates.{Candidate, or_null, whole}
 use Rattle.dv_path.specs.LeafKeys.{leaf_values}
 
 -- the values that a candidate stands for on the local side: an array for its elements

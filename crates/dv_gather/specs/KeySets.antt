@@ -3,7 +3,7 @@ use Rattle.std.specs.Prelude.{◌≡◌, Bool, List, map}
 use Rattle.std.specs.List.{list_any}
 use Rattle.std.specs.Ordering.{is_eq}
 use denote.Ref.{Bor}
-use Rattle.dv_bson.specs.Tree.{Tree, Field}
+use Rattle.dv_value.specs.Tree.{Tree, Field}
 use Rattle.dv_order.specs.Key.{KeyTree, key_order}
 use Rattle.dv_path.specs.LeafKeys.{is_some_key}
 

@@ -2,7 +2,7 @@
 use Rattle.std.specs.Prelude.{◌≡◌, ◌≢◌, ◌⊎◌, List, ◌∷◌, ◌++◌}
 use Rattle.std.specs.List.{AllByRecursion}
 use Rattle.std.specs.declared.cmp.Ordering.{Ordering}
-use Rattle.dv_bson.specs.Tree.{Tree, null}
+use Rattle.dv_value.specs.Tree.{Tree, null}
 use Rattle.dv_order.specs.Order.{order}
 
 -- a value among others that isn't null. It stands so (before, or behind) to each earlier value but null, and no later one but

@@ -1,14 +1,14 @@
 -- What $lookup makes of rows (MongoDB manual, "$lookup (aggregation)"), and its form, or its fault. Which names are taken, and which
 -- fault is told, is this server's own.
 use Rattle.std.specs.Prelude.{ℕ, ◌==◌, ◌||◌, List, length, Option, Some, None, Result, Ok, Err, codes, map, if◌then◌else◌}
-use Rattle.dv_bson.specs.Tree.{Tree, string, array, document, Field, elements_of, list_of_fields}
-use Rattle.dv_bson.specs.Names.{begins_with_dollar, has_name, has_zero, value_under, with_value_under}
-use Rattle.dv_path.specs.Candidates.{Candidate}
-use Rattle.dv_path.specs.Path.{path_of}
+use Rattle.dv_value.specs.Tree.{Tree, string, array, document, Field, elements_of, list_of_fields}
+use Rattle.dv_value.specs.Names.{begins_with_dollar, has_name, has_zero, value_under, with_value_under}
+use Rattle.dv_candidates.specs.Candidates.{Candidate}
+use Rattle.dv_candidates.specs.Path.{path_of}
 use Rattle.dv_row.specs.declared.fault.PipelineFault.{PipelineFault}
 use Rattle.dv_row.specs.declared.fault.PipelineFault.TheVariants.{BadSpec}
 use Rattle.dv_row.specs.Expressions.{with_field_behind}
-use Rattle.dv_bson.specs.Results.{◌>>=◌}
+use Rattle.dv_value.specs.Results.{◌>>=◌}
 use Rattle.dv_path.specs.Names.{has_dot}
 use Rattle.dv_row.specs.Row.{Row}
 use Rattle.dv_gather.specs.declared.lookup.Lookup.{Lookup}

@@ -3,8 +3,8 @@
 use Rattle.std.specs.Prelude.{ℤ, pos, ◌+ℤ◌, Bool, true, false, not, ◌&&◌, List, [], ◌∷◌, codes, if◌then◌else◌}
 use Rattle.std.specs.Fmt.{signed_decimal}
 use Rattle.std.specs.List.{list_any}
-use Rattle.dv_bson.specs.Tree.{Tree, int32, int64, string, document, field, no_fields}
-use Rattle.dv_bson.specs.Widths.{fits_32, fits_64}
+use Rattle.dv_value.specs.Tree.{Tree, int32, int64, string, document, field, no_fields}
+use Rattle.dv_value.specs.Widths.{fits_32, fits_64}
 
 -- what a value adds: a number itself, and any other value nothing
 abbrev pub addend : Tree → ℤ

@@ -1,8 +1,8 @@
 -- What a total and a group so far stand for.
 use Rattle.std.specs.Prelude.{List, [], ◌∷◌, map, Option, Some, None}
-use Rattle.dv_bson.specs.Tree.{Tree}
-use Rattle.dv_bson.specs.View.{tree}
-use Rattle.dv_bson.specs.declared.value.Value.{Value}
+use Rattle.dv_value.specs.Tree.{Tree}
+use Rattle.dv_value.specs.View.{tree}
+use Rattle.dv_value.specs.declared.value.Value.{Value}
 use Rattle.dv_order.specs.Key.{KeyTree}
 use Rattle.dv_gather.specs.declared.adding.Sum as sums
 use Rattle.dv_gather.specs.declared.total.Total as memory

@@ -1,6 +1,6 @@
 -- What has come of values so far: words of bodies.
 use Rattle.std.specs.Prelude.{ℕ, zero, suc, ℤ, pos, ◌+ℤ◌, Bool, true, not, ◌&&◌, List, [], ◌∷◌, ◌++◌}
-use Rattle.dv_bson.specs.Tree.{Tree, array, null, elements_of}
+use Rattle.dv_value.specs.Tree.{Tree, array, null, elements_of}
 use Rattle.dv_gather.specs.declared.extreme.Extreme.{Extreme}
 use Rattle.dv_gather.specs.declared.extreme.Extreme.TheVariants.{Least, Greatest}
 use Rattle.dv_gather.specs.declared.accumulator.Accumulator.{Accumulator}

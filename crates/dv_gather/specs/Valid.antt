@@ -11,17 +11,17 @@ use Rattle.std.specs.Ordering.{is_eq}
 use Rattle.std.specs.Prelude.{FitsSigned}
 use Rattle.std.specs.Result.{IfOk}
 use Rattle.std.specs.Str.{IsAscii, IsUtf8}
-use Rattle.dv_bson.specs.Names.{begins_with_dollar, has_name, has_zero, value_under, without, with_value_under}
-use Rattle.dv_bson.specs.Spelling.{IsValue}
-use Rattle.dv_bson.specs.Tree.{Tree, int32, int64, string, document, null, Field, list_of_fields}
+use Rattle.dv_value.specs.Names.{begins_with_dollar, has_name, has_zero, value_under, without, with_value_under}
+use Rattle.dv_value.specs.Spelling.{IsValue}
+use Rattle.dv_value.specs.Tree.{Tree, int32, int64, string, document, null, Field, list_of_fields}
 use Rattle.dv_order.specs.Order.{order}
-use Rattle.dv_path.specs.Candidates.{Candidate, or_null}
+use Rattle.dv_candidates.specs.Candidates.{Candidate, or_null}
 use Rattle.dv_row.specs.declared.fault.PipelineFault.{PipelineFault}
 use Rattle.dv_row.specs.declared.fault.PipelineFault.TheVariants.{BadSpec}
 use Rattle.dv_path.specs.Names.{has_dot}
 use Rattle.dv_row.specs.ExpressionParsing.{expression_in}
 use Rattle.dv_row.specs.Expressions.{Expression, value_of, with_field_behind}
-use Rattle.dv_bson.specs.Results.{◌>>=◌, each}
+use Rattle.dv_value.specs.Results.{◌>>=◌, each}
 use Rattle.dv_row.specs.Row.{Row}
 use Rattle.dv_row.specs.Valid.{AreValues, IsValid, AreValid, IsSound, listed-fields, valid-fields, valid-elements, either, bound, unless, any-ok, each-sound, value_under-valid, with_field-valid, with_value_under-valid, without-valid, value_of-valid, expression_in-sound}
 use Rattle.dv_gather.specs.declared.accumulator.Accumulator.{Accumulator}
@@ -36,7 +36,7 @@ use Rattle.dv_gather.specs.Groups.{documents_under_key, group_keys, groups_of}
 use Rattle.dv_gather.specs.Joining.{as_value, is_joined, matches}
 use Rattle.dv_gather.specs.Lookups.{set_field, joined_documents, looked_up, text_in, target_in, from_option, field_option, as_option, looking, lookup_of, lookup_in}
 use Rattle.dv_gather.specs.Sums.{digits as spelled_out, total, is_int64, spelled}
-use Rattle.dv_bson.specs.Widths.{fits_32, fits_64}
+use Rattle.dv_value.specs.Widths.{fits_32, fits_64}
 
 abbrev pub IsSoundAccumulation : Accumulation → Type 0
 IsSoundAccumulation a = IsUtf8 a.name × IsSound a.argument

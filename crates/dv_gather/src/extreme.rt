@@ -1,11 +1,11 @@
 //! Least and greatest values.
 
 ghost use Rattle.std.specs.Prelude.{◌≡◌};
-ghost use Rattle.dv_bson.specs.View.{tree};
+ghost use Rattle.dv_value.specs.View.{tree};
 ghost use Rattle.dv_gather.specs.Extremes as defined;
 
-use dv_bson::Value;
 use dv_order::compare;
+use dv_value::Value;
 
 /// Which of values is taken.
 #[derive(Clone, Copy, Debug)]

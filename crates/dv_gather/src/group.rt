@@ -13,9 +13,9 @@ ghost use Rattle.dv_gather.specs.TotalView.{tallies_seen};
 
 use crate::accumulator::Accumulator;
 use crate::tally::Tally;
-use dv_bson::{Document, NoMemory, Str, Value};
 use dv_order::{Key, key_of, laws};
 use dv_row::{Expr, RowValue};
+use dv_value::{Document, NoMemory, Str, Value};
 use std::alloc::Global;
 use std::collections::BTreeMap;
 use std::marker::Model;

@@ -1,18 +1,18 @@
 //! `$group` from values.
 
 ghost use Rattle.std.specs.Prelude.{◌≡◌, map, codes, IfOk};
-ghost use Rattle.dv_bson.specs.Names.{value_under, without};
-ghost use Rattle.dv_bson.specs.View.{tree};
+ghost use Rattle.dv_value.specs.Names.{value_under, without};
+ghost use Rattle.dv_value.specs.View.{tree};
 ghost use Rattle.dv_row.specs.ExpressionView.{expression_seen};
 ghost use Rattle.dv_row.specs.Parsing.{Gives};
-ghost use Rattle.dv_bson.specs.Results.{each};
+ghost use Rattle.dv_value.specs.Results.{each};
 ghost use Rattle.dv_gather.specs.GroupParsing as defined;
 ghost use Rattle.dv_gather.specs.GroupView.{accumulation};
 
 use crate::accumulator::Accumulator;
 use crate::group::{Group, GroupField};
-use dv_bson::{Document, NoMemory, Str, Value};
 use dv_row::{Expr, PipelineFault};
+use dv_value::{Document, NoMemory, Str, Value};
 use std::alloc::Global;
 
 impl Group {

@@ -11,8 +11,8 @@ ghost use Rattle.dv_gather.specs.Places.{AreMatches, ArePlaces, items_chosen, is
 
 use crate::keys::sole_key;
 use crate::lookup::Lookup;
-use dv_bson::{Document, List, NoMemory, Value};
 use dv_order::{Key, laws};
+use dv_value::{Document, List, NoMemory, Value};
 use std::alloc::Global;
 use std::collections::{BTreeMap, BTreeSet};
 

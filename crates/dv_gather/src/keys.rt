@@ -4,17 +4,15 @@ ghost use Rattle.std.specs.Prelude.{◌≡◌, ◌||◌, ◌∷◌, [], IfOk, If
 ghost use Rattle.std.specs.BTreeSet.{contains};
 ghost use Rattle.dv_order.specs.Key.{KeyTree, key_order};
 ghost use Rattle.dv_path.specs.LeafKeys.{is_some_key, leaf_values};
-ghost use Rattle.dv_path.specs.View.{seen};
+ghost use Rattle.dv_candidates.specs.View.{seen};
 ghost use Rattle.dv_gather.specs.Joining.{joined_by, local_values};
 ghost use Rattle.dv_gather.specs.KeySets.{AreKeysOf};
 
 use crate::lookup::Lookup;
-use dv_bson::{Document, NoMemory};
+use dv_candidates::{Candidate, Path, fold_whole, sole_candidate};
 use dv_order::Key;
-use dv_path::{
-    Candidate, Path, add_element_keys, add_key, array_in, candidate_key, fold_whole, leaf_keys,
-    sole_candidate,
-};
+use dv_path::{add_element_keys, add_key, array_in, candidate_key, leaf_keys};
+use dv_value::{Document, NoMemory};
 use std::alloc::Global;
 use std::collections::BTreeSet;
 

@@ -1,15 +1,15 @@
 //! `$lookup`.
 
 ghost use Rattle.std.specs.Prelude.{◌≡◌, IfOk, OnOk};
-ghost use Rattle.dv_bson.specs.View.{tree};
+ghost use Rattle.dv_value.specs.View.{tree};
 ghost use Rattle.dv_gather.specs.KeySets.{referred};
 ghost use Rattle.dv_gather.specs.Lookups as defined;
 
 use crate::joining::{matches_of, places_of};
-use dv_bson::{Document, NoMemory, Str, Value};
+use dv_candidates::Path;
 use dv_order::Key;
-use dv_path::Path;
 use dv_row::{copy_beside, push_field};
+use dv_value::{Document, NoMemory, Str, Value};
 use std::alloc::Global;
 use std::collections::BTreeMap;
 use std::marker::Model;
@@ -40,13 +40,13 @@ pub struct Join<'a> {
 
 impl<'a> Model for Join<'a> {
     ghost use Rattle.std.specs.Prelude.{List};
-    ghost use Rattle.dv_bson.specs.Tree.{Field};
+    ghost use Rattle.dv_value.specs.Tree.{Field};
     ghost use Rattle.dv_gather.specs.declared.lookup.Lookup.{Lookup};
 
     ghost Value = { Lookup × List (List Field) };
 
     ghost use Rattle.std.specs.Coded.{coded_list, coded×, coded_ℕ};
-    ghost use Rattle.dv_bson.specs.TreeCode.{coded_tree};
+    ghost use Rattle.dv_value.specs.TreeCode.{coded_tree};
     ghost use Rattle.dv_gather.specs.contracts.lookup.Lookup as lookups;
 
     ghost coded = { coded× lookups.the_row.coded (coded_list (coded_list (coded× (coded_list coded_ℕ) coded_tree))) };

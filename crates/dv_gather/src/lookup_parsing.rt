@@ -1,15 +1,16 @@
 //! `$lookup` from values.
 
 ghost use Rattle.std.specs.Prelude.{◌≡◌};
-ghost use Rattle.dv_bson.specs.Names as names;
-ghost use Rattle.dv_bson.specs.View.{tree};
+ghost use Rattle.dv_value.specs.Names as names;
+ghost use Rattle.dv_value.specs.View.{tree};
 ghost use Rattle.dv_row.specs.Parsing.{Gives};
 ghost use Rattle.dv_gather.specs.Lookups as defined;
 
 use crate::lookup::Lookup;
-use dv_bson::{Document, Str, Value, begins_with_dollar};
-use dv_path::{Path, has_dot};
+use dv_candidates::Path;
+use dv_path::has_dot;
 use dv_row::PipelineFault;
+use dv_value::{Document, Str, Value, begins_with_dollar};
 use std::alloc::Global;
 
 impl Lookup {

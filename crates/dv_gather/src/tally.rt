@@ -1,7 +1,7 @@
 //! Groups so far.
 
 ghost use Rattle.std.specs.Prelude.{◌≡◌, ℕ, suc, map, IfOk, OnOk};
-ghost use Rattle.dv_bson.specs.View.{tree};
+ghost use Rattle.dv_value.specs.View.{tree};
 ghost use Rattle.dv_row.specs.RowValueView.{row_value};
 ghost use Rattle.dv_gather.specs.Bounds.{AreWithin, most};
 ghost use Rattle.dv_gather.specs.GroupView.{accumulation};
@@ -10,8 +10,8 @@ ghost use Rattle.dv_gather.specs.TotalView.{keys_seen, tally_seen, total_seen};
 
 use crate::group::GroupField;
 use crate::total::{Total, add_at};
-use dv_bson::{Document, NoMemory, Value};
 use dv_row::{RowValue, push_field, row_beside};
+use dv_value::{Document, NoMemory, Value};
 use std::alloc::Global;
 
 /// What has come of a group's rows so far.

@@ -1,7 +1,7 @@
 //! What has come of the values of a group's rows so far.
 
 ghost use Rattle.std.specs.Prelude.{◌≡◌, ℕ, suc, map, IfOk, OnOk};
-ghost use Rattle.dv_bson.specs.View.{tree};
+ghost use Rattle.dv_value.specs.View.{tree};
 ghost use Rattle.dv_row.specs.RowValueView.{row_value};
 ghost use Rattle.dv_gather.specs.Bounds.{AreWithin, IsWithinCount, most};
 ghost use Rattle.dv_gather.specs.Totals as defined;
@@ -10,8 +10,8 @@ ghost use Rattle.dv_gather.specs.TotalView.{total_seen};
 use crate::accumulator::Accumulator;
 use crate::adding::Sum;
 use crate::extreme::Extreme;
-use dv_bson::{List, NoMemory, Value};
 use dv_row::RowValue;
+use dv_value::{List, NoMemory, Value};
 use std::alloc::Global;
 
 /// What has come of values so far.

@@ -4,7 +4,7 @@ use Rattle.std.proofs.Common.{ap, subst, sym, ◌∙◌}
 use Rattle.std.specs.Cmp.{tied_itself}
 use Rattle.std.specs.List.{AllByRecursion}
 use Rattle.std.specs.Ordering.{is_eq}
-use Rattle.dv_bson.specs.Tree.{Tree}
+use Rattle.dv_value.specs.Tree.{Tree}
 use Rattle.dv_row.specs.Row.{Row}
 use Rattle.dv_change.specs.Changes.{IsPositioned, Positioned, at, forget}
 use Rattle.dv_change.specs.Ordered.{gone, put}
@@ -99,11 +99,11 @@ narrow-seen t sum a d v is same narrow = subst (λ u. IsNarrowIn (running_seen u
 
 -- the row of a group is made of its first row, and of what is told of its fields
 pub row-told : (g : Grouping) (rows : Positioned) (e : PosTree × Row) (ts : List Running) → IsPositioned rows → slice_get rows 0 ≡ Some e → ts ≡ map (λ a. running_of a rows) g.fields
-    → Some (with_told g.fields rows ts ((codes "_id", key_in g e.1) ∷ [])) ≡ row_shown g (forget rows)
+    → Some (with_told g.fields ts ((codes "_id", key_in g e.1) ∷ [])) ≡ row_shown g (forget rows)
 row-told g [] e ts are first same = cc
 row-told g (r ∷ rows) e ts are first same =
     let own : r ≡ e = cc in
-    ap (λ us. Some (with_told g.fields (r ∷ rows) us ((codes "_id", key_in g e.1) ∷ []))) same
+    ap (λ us. Some (with_told g.fields us ((codes "_id", key_in g e.1) ∷ []))) same
     ∙ ap Some (all-told g.fields (r ∷ rows) ((codes "_id", key_in g e.1) ∷ []) are)
     ∙ ap (λ f. Some (with_accumulated g.fields (forget (r ∷ rows)) ((codes "_id", key_in g f.1) ∷ []))) (sym own)
 

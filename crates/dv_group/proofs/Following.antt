@@ -5,7 +5,7 @@ use Rattle.std.specs.declared.cmp.Ordering.{Ordering}
 use Rattle.std.specs.declared.cmp.Ordering.TheVariants.{Less, Equal, Greater}
 use Rattle.std.specs.List.{AllByRecursion}
 use Rattle.std.specs.Ordering.{is_eq, match_ordering}
-use Rattle.dv_bson.specs.Tree.{Field}
+use Rattle.dv_value.specs.Tree.{Field, array, elements_of}
 use Rattle.dv_row.specs.Expressions.{with_field_behind}
 use Rattle.dv_row.specs.Row.{Row}
 use Rattle.dv_change.specs.Changes.{IsPositioned, Positioned, at, forget}
@@ -19,6 +19,7 @@ use Rattle.dv_group.specs.declared.running.Way.{Way}
 use Rattle.dv_group.specs.declared.running.Way.TheVariants.{Comes, Goes}
 use Rattle.dv_group.specs.Room.{AreNarrowIn, HasRoomFor, HaveRoom, IsNarrow, IsNarrowFor, IsNarrowIn, IsWithinRows, most_rows}
 use Rattle.dv_group.specs.Running.{Running, moved_at, moved_by, moved_from, running_by, running_of, summed, told_by, with_running_row, with_told, without_row}
+use Rattle.dv_group.proofs.Pushing.{pushed-gone, pushed-put, pushed-values}
 use Rattle.dv_group.proofs.Ranking.{first-greatest, first-least, ranked-gone, ranked-put}
 use Rattle.dv_group.proofs.SumsKept.{counted, narrow-is, sum-gone, sum-put, total-is, wides-gone, wides-put, within-most}
 
@@ -67,13 +68,13 @@ module _ (a : Accumulation) (p : PosTree) (d : Row) (rows : Positioned) (are : I
   came Sum is none = sym (λ i. summed (sum-put a p d rows none i) (wides-put a p d rows none i))
   came Min is none = ap Running.ranked (sym (ranked-put a p d rows are x none))
   came Max is none = ap Running.ranked (sym (ranked-put a p d rows are x none))
-  came Push is none = refl
+  came Push is none = ap Running.pushed (sym (pushed-put a p d rows are x none))
 
   went : (accumulator : Accumulator) → a.accumulator ≡ accumulator → at p rows ≡ Some d → without_row a p d (running_by accumulator a rows) ≡ running_by accumulator a (gone p rows)
   went Sum is there = sym (λ i. summed (sum-gone a p d rows there i) (wides-gone a p d rows there i))
   went Min is there = ap Running.ranked (sym (ranked-gone a p d rows are x there))
   went Max is there = ap Running.ranked (sym (ranked-gone a p d rows are x there))
-  went Push is there = refl
+  went Push is there = ap Running.pushed (sym (pushed-gone a p rows are))
 
   room-to-come : (accumulator : Accumulator) → length rows ≤ most_rows → AllByRecursion (λ e. IsNarrowFor accumulator a e.1) rows → HasRoomFor Comes a p d (running_by accumulator a rows)
   room-to-come Sum few all = within-most a rows few all
@@ -95,11 +96,11 @@ narrow-for Min a d rows narrow = tt
 narrow-for Max a d rows narrow = tt
 narrow-for Push a d rows narrow = tt
 
-told : (a : Accumulation) (rows : Positioned) → IsPositioned rows → (accumulator : Accumulator) → a.accumulator ≡ accumulator → told_by a rows (running_by accumulator a rows) ≡ accumulated accumulator (values_over a.argument (forget rows))
+told : (a : Accumulation) (rows : Positioned) → IsPositioned rows → (accumulator : Accumulator) → a.accumulator ≡ accumulator → told_by a (running_by accumulator a rows) ≡ accumulated accumulator (values_over a.argument (forget rows))
 told a rows are Sum is = λ i. spelled (narrow-is a rows i) (total-is a rows i)
 told a rows are Min is = first-least a rows is are
 told a rows are Max is = first-greatest a rows is are
-told a rows are Push is = refl
+told a rows are Push is = ap (λ vs. array (elements_of vs)) (pushed-values a rows)
 
 -- ---- all fields
 
@@ -144,8 +145,8 @@ all-narrow [] d rows narrow = tt
 all-narrow (a ∷ fields) d rows narrow = (narrow-for a.accumulator a d rows narrow.0, all-narrow fields d rows narrow.1)
 
 -- the fields that are told are those that are accumulated
-pub all-told : (fields : List Accumulation) (rows : Positioned) (fs : List Field) → IsPositioned rows → with_told fields rows (map (λ a. running_of a rows) fields) fs ≡ with_accumulated fields (forget rows) fs
+pub all-told : (fields : List Accumulation) (rows : Positioned) (fs : List Field) → IsPositioned rows → with_told fields (map (λ a. running_of a rows) fields) fs ≡ with_accumulated fields (forget rows) fs
 all-told [] rows fs are = refl
 all-told (a ∷ fields) rows fs are =
-    ap (λ v. with_told fields rows (map (λ a. running_of a rows) fields) (with_field_behind a.name (Some v) fs)) (told a rows are a.accumulator refl)
+    ap (λ v. with_told fields (map (λ a. running_of a rows) fields) (with_field_behind a.name (Some v) fs)) (told a rows are a.accumulator refl)
     ∙ all-told fields rows (with_field_behind a.name (Some (field_over a (forget rows))) fs) are

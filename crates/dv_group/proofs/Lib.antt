@@ -4,6 +4,7 @@ pub mod Bounds
 pub mod Forgetting
 pub mod Lawful
 pub mod SumsKept
+pub mod Pushing
 pub mod Ranking
 pub mod Following
 pub mod Places

@@ -1,15 +1,17 @@
 -- What is owed for a change of a row: what changes of the rows of its two groups.
-use Rattle.std.specs.Prelude.{◌≡◌, ◌||◌, Bool, true, false, cond, [], ◌∷◌, Option, None, Some, Result, Ok, Err, OnOk, refl}
+use Rattle.std.specs.Prelude.{◌≡◌, ◌||◌, Bool, true, false, cond, List, [], ◌∷◌, Option, None, Some, Result, Ok, Err, IfOk, OnOk, refl}
 use Rattle.std.proofs.Common.{ap, sym, ◌∙◌, inl, inr}
 use Rattle.std.specs.declared.cmp.Ordering.{Ordering}
 use Rattle.std.specs.declared.cmp.Ordering.TheVariants.{Less, Equal, Greater}
 use Rattle.std.specs.Cmp.{Equal-is}
-use Rattle.std.specs.List.{AllByRecursion}
-use Rattle.std.specs.Map.{keys_of}
+use Rattle.std.specs.BTreeMap.{is_at}
+use Rattle.std.specs.List.{AllByRecursion, list_any}
+use Rattle.std.specs.Map.{keys_of, lookup}
 use Rattle.std.specs.Option.{option_map}
 use Rattle.std.specs.Ordering.{is_eq, ordering_then}
 use Rattle.std.proofs.lemmas.Map.Entries.{option_filter}
 use Rattle.dv_order.specs.Key.{KeyTree, key_order}
+use Rattle.dv_order.specs.OwnKeys.{IsOwn}
 use Rattle.dv_row.specs.Row.{Row}
 use Rattle.dv_change.specs.declared.change.Change.{Change}
 use Rattle.dv_change.specs.declared.position.Part.TheVariants.{Up, Down, At}
@@ -21,7 +23,7 @@ use Rattle.dv_change.specs.Positions.{IsExact, PosTree, pos_order}
 use Rattle.dv_change.specs.RowLaws.{all-put, at-gone, at-like, at-put, at_back, positioned-gone, positioned-none, positioned-put, same_rows}
 use Rattle.dv_gather.specs.Grouping.{Grouping, row_shown}
 use Rattle.dv_group.specs.Grouped.{IsKeyPlace, at-grouped, beside, group_ordered, grouped-places, one-part}
-use Rattle.dv_group.specs.Members.{AreMembers, KeptGroups, row_has_key, is_key, group_members, moved, put_some, row_key, rows_with, shown_of, with_shown}
+use Rattle.dv_group.specs.Members.{AreMembers, KeptGroups, row_has_key, is_key, group_members, moved, put_some, row_key, rows_in, rows_with, shown_of, with_shown}
 use Rattle.dv_group.specs.Placed.{grouped_at}
 
 -- ---- a row more, where there is one
@@ -123,6 +125,60 @@ module _ (g : Grouping) where
         with_shown-at other (with_shown g under key [])
         ∙ ap (λ a. cond (is_key k other) (or_else shown a) a) (with_shown-at key [])
         ∙ one-shown (is_key k key) (is_key k other) shown
+
+  -- ---- the rows of all groups
+
+  module _ (under : KeyTree → Positioned) where
+    -- rows with those of the groups of some keys, one after the other
+    abbrev pub with_each : List KeyTree → Positioned → Positioned
+    with_each [] rows = rows
+    with_each (k ∷ ks) rows = with_each ks (with_shown g under (Some k) rows)
+
+    pub positioned-group : (k : KeyTree) (rows : Positioned) → IsOwn k → IsPositioned rows → IsPositioned (with_shown g under (Some k) rows)
+    positioned-group k rows own are = positioned-put_some (Up k ∷ []) (row_shown g (forget (under k))) rows are (own, tt)
+
+    places-each : (ks : List KeyTree) (rows : Positioned) → AllByRecursion IsKeyPlace (keys_of rows) → AllByRecursion IsKeyPlace (keys_of (with_each ks rows))
+    places-each [] rows all = all
+    places-each (k ∷ ks) rows all = places-each ks (with_shown g under (Some k) rows) (shown-places under (Some k) rows all)
+
+    abbrev is_any : KeyTree → List KeyTree → Bool
+    is_any k ks = list_any (λ l. is_eq (key_order k l)) ks
+
+    module _ (rows : Positioned) (kept : AreMembers g under rows) where
+      shown-twice : (b any : Bool) (r a : Option Row) → cond any (or_else r (cond b (or_else r a) a)) (cond b (or_else r a) a) ≡ cond (b || any) (or_else r a) a
+      shown-twice true true None a = refl
+      shown-twice true true (Some d) a = refl
+      shown-twice true false r a = refl
+      shown-twice false any r a = refl
+
+      at-each_with : (k : KeyTree) (ks : List KeyTree) (so_far : Positioned) → at (Up k ∷ []) (with_each ks so_far) ≡ cond (is_any k ks) (or_else (row_shown g (forget (rows_with g k rows))) (at (Up k ∷ []) so_far)) (at (Up k ∷ []) so_far)
+      at-each_with k [] so_far = refl
+      at-each_with k (l ∷ ks) so_far =
+          let r = row_shown g (forget (rows_with g k rows)) in
+          at-each_with k ks (with_shown g under (Some l) so_far)
+          ∙ ap (λ a. cond (is_any k ks) (or_else r a) a) (with_shown-at under rows kept k (Some l) so_far)
+          ∙ shown-twice (is_eq (key_order k l)) (is_any k ks) r (at (Up k ∷ []) so_far)
+
+      -- where under other keys nothing stands, they are the rows of all groups
+      pub all-grouped : (ks : List KeyTree) → ((k : KeyTree) → is_any k ks ≡ false → under k ≡ []) → IsPositioned rows → IsPositioned (with_each ks []) → with_each ks [] ≡ grouped_at g rows
+      all-grouped ks none are made = same_rows (with_each ks []) (grouped_at g rows) made (group_ordered g rows are) (λ q exact. there q)
+        where
+          elsewhere : (q : PosTree) → ((k : KeyTree) → is_eq (pos_order q (Up k ∷ [])) ≡ false) → at q (with_each ks []) ≡ at q (grouped_at g rows)
+          elsewhere q apart = nowhere q apart (with_each ks []) (places-each ks [] tt) ∙ sym (nowhere q apart (grouped_at g rows) (grouped-places g rows))
+
+          there : (q : PosTree) → at q (with_each ks []) ≡ at q (grouped_at g rows)
+          there [] = elsewhere [] (λ k. refl)
+          there (Down l ∷ q) = elsewhere (Down l ∷ q) (λ k. refl)
+          there (At n ∷ q) = elsewhere (At n ∷ q) (λ k. refl)
+          there (Up l ∷ a ∷ q) = elsewhere (Up l ∷ a ∷ q) (λ k. longer (key_order l k))
+          there (Up k ∷ []) = at-each_with k ks [] ∙ by (is_any k ks) refl ∙ sym (at-grouped g rows k)
+            where
+              shown : Option Row
+              shown = row_shown g (forget (rows_with g k rows))
+
+              by : (b : Bool) → is_any k ks ≡ b → cond b (or_else shown None) None ≡ shown
+              by true is = nothing-else shown
+              by false is = ap (λ es. row_shown g (forget es)) (sym (none k is) ∙ kept k)
 
   -- ---- a change of a row
 
@@ -273,7 +329,20 @@ module _ (g : Grouping) where
         (λ i. diff (shown_of g (λ k. group_members k kept) (own-key i) (own-other i)) (shown_of g (λ k. group_members k still) (own-key i) (own-other i)))
         ∙ sym (group-owed rows change are exact (λ k. group_members k kept) (λ k. group_members k still) are-kept are-still)
 
+-- under a key that no group has stands nothing
+pub none-under : (k : KeyTree) (es : KeptGroups) → list_any (λ l. is_eq (key_order k l)) (keys_of es) ≡ false → group_members k es ≡ []
+none-under k [] none = refl
+none-under k (e ∷ es) none = by (is_eq (key_order k e.0)) none (none-under k es)
+  where
+    by : (b : Bool) → b || list_any (λ l. is_eq (key_order k l)) (keys_of es) ≡ false → (list_any (λ l. is_eq (key_order k l)) (keys_of es) ≡ false → group_members k es ≡ []) → rows_in (cond b (Some e.1) (lookup (is_at (key_order k)) es)) ≡ []
+    by true none rest = cc
+    by false none rest = rest none
+
 -- where all goes well
+pub ok-then : {A E : Type 0} {P Q : A → Type 0} (r : Result A E) → IfOk r P → ((x : A) → P x → Q x) → IfOk r Q
+ok-then (Ok a) p f = f a p
+ok-then (Err e) p f = tt
+
 pub both-ok : {A E P Q R : Type 0} (r : Result A E) → OnOk r P → OnOk r Q → (P → Q → R) → OnOk r R
 both-ok (Ok a) p q f = f p q
 both-ok (Err e) p q f = tt

@@ -2,7 +2,7 @@
 use Rattle.std.specs.Prelude.{◌≡◌, ◌⊎◌, ◌≤◌, ◌<◌, ℕ, zero, suc, ◌+◌, List, [], ◌∷◌, drop, get_or, length, map, slice_set, refl}
 use Rattle.std.proofs.Common.{add-one, ap, arith, inl, inr, subst, sym, ◌∙◌}
 use Rattle.std.proofs.lemmas.List.{drop_more}
-use Rattle.dv_bson.specs.Tree.{Field}
+use Rattle.dv_value.specs.Tree.{Field}
 use Rattle.dv_row.specs.Row.{Row}
 use Rattle.dv_change.specs.Changes.{Positioned}
 use Rattle.dv_change.specs.Positions.{PosTree}
@@ -95,8 +95,8 @@ module _ (way : Way) (a : Accumulation) (p : PosTree) (d : Row) (fields : List A
 -- ---- what is told
 
 -- where one of the two ends, nothing more is told
-pub told-ended : (fields : List Accumulation) (rows : Positioned) (ts : List Running) (fs : List Field) → (length fields ≡ 0) ⊎ (length ts ≡ 0) → with_told fields rows ts fs ≡ fs
-told-ended [] rows ts fs over = refl
-told-ended (a ∷ fields) rows [] fs over = refl
-told-ended (a ∷ fields) rows (t ∷ ts) fs (inl none) = absurd (omega (arith, none))
-told-ended (a ∷ fields) rows (t ∷ ts) fs (inr none) = absurd (omega (arith, none))
+pub told-ended : (fields : List Accumulation) (ts : List Running) (fs : List Field) → (length fields ≡ 0) ⊎ (length ts ≡ 0) → with_told fields ts fs ≡ fs
+told-ended [] ts fs over = refl
+told-ended (a ∷ fields) [] fs over = refl
+told-ended (a ∷ fields) (t ∷ ts) fs (inl none) = absurd (omega (arith, none))
+told-ended (a ∷ fields) (t ∷ ts) fs (inr none) = absurd (omega (arith, none))

@@ -8,13 +8,13 @@ use Rattle.std.specs.Cmp.{IsTotalOrder, Equal-is, alike_right, on_total, tied_it
 use Rattle.std.specs.Ordering.{is_eq, is_gt, is_lt, match_ordering, on, ordering_reverse, ordering_then}
 use Rattle.std.proofs.lemmas.Map.{lookup-none}
 use Rattle.std.proofs.lemmas.Map.Entries.{none_below_head, option_filter}
-use Rattle.dv_bson.specs.Tree.{Tree, null}
+use Rattle.dv_value.specs.Tree.{Tree, null}
 use Rattle.dv_order.specs.Key.{value}
 use Rattle.dv_order.specs.Order.{canon, order}
 use Rattle.dv_order.specs.OwnKeys.{IsOwn}
 use Rattle.dv_order.specs.SameOrder.{order_of_canon}
 use Rattle.dv_order.specs.TotalOrder.{order_total}
-use Rattle.dv_path.specs.Candidates.{or_null}
+use Rattle.dv_candidates.specs.Candidates.{or_null}
 use Rattle.dv_row.specs.Row.{Row}
 use Rattle.dv_change.specs.declared.position.Part.{Part}
 use Rattle.dv_change.specs.Changes.{IsPositioned, Positioned, at, forget}

@@ -14,9 +14,10 @@ use Rattle.dv_change.specs.declared.position.Part.TheVariants.{Up}
 use Rattle.dv_change.specs.Changes.{Positioned, forget}
 use Rattle.dv_gather.specs.Grouping.{Grouping, row_shown}
 use Rattle.dv_group.specs.declared.bundle.Bundle.{Bundle}
+use Rattle.dv_group.specs.declared.kept.Kept.{Kept}
 use Rattle.dv_group.specs.Grouped.{beside}
 use Rattle.dv_group.specs.Room.{IsBundle}
-use Rattle.dv_group.specs.Members.{AreBundles, KeptGroups, are_one, group_members, put_some, rows_in, shown_of, with_shown}
+use Rattle.dv_group.specs.Members.{AreBundles, IsKept, IsRowOf, KeptGroups, are_one, group_members, put_some, rows_in, shown_of, with_shown}
 
 back : (k l : KeyTree) → is_eq (key_order k l) ≡ is_eq (key_order l k)
 back k l = (eq_by_cmp_equiv key_order_total).symm k l
@@ -36,7 +37,7 @@ none-first (x ∷ xs) e = absurd cc
 
 module _ (es fs : KeptGroups) (key : KeyTree) where
   -- one key's rows become others
-  pub changed-under : (change : Positioned → Positioned) (new : Option Bundle) → rows_in new ≡ change (group_members key es) → ((k : KeyTree) → lookup (is_at (key_order k)) fs ≡ cond (is_at (key_order key) k) new (lookup (is_at (key_order k)) es))
+  pub changed-under : (change : Positioned → Positioned) (new : Option Kept) → rows_in new ≡ change (group_members key es) → ((k : KeyTree) → lookup (is_at (key_order k)) fs ≡ cond (is_at (key_order key) k) new (lookup (is_at (key_order k)) es))
       → (k : KeyTree) → group_members k fs ≡ cond (is_eq (key_order k key)) (change (group_members k es)) (group_members k es)
   changed-under change new is written k = ap rows_in (written k ∙ ap (λ b. cond b new (lookup (is_at (key_order k)) es)) (back key k)) ∙ by (is_eq (key_order k key)) refl
     where
@@ -44,12 +45,20 @@ module _ (es fs : KeptGroups) (key : KeyTree) where
       by true here = is ∙ ap change (sym (members-alike k key ((Equal-is (key_order k key)).0 here) es))
       by false here = refl
 
+cond-same : {A : Type 0} (b : Bool) (x : A) → cond b x x ≡ x
+cond-same true x = refl
+cond-same false x = refl
+
+-- a key's rows stay as they are
+pub same-under : (es fs : KeptGroups) (key : KeyTree) (new : Option Kept) → rows_in new ≡ group_members key es → ((k : KeyTree) → lookup (is_at (key_order k)) fs ≡ cond (is_at (key_order key) k) new (lookup (is_at (key_order k)) es)) → (k : KeyTree) → group_members k fs ≡ group_members k es
+same-under es fs key new is written k = changed-under es fs key (λ rows. rows) new is written k ∙ cond-same (is_eq (key_order k key)) (group_members k es)
+
 cond-over : {A : Type 0} (b : Bool) (x y z : A) → cond b x (cond b y z) ≡ cond b x z
 cond-over true x y z = refl
 cond-over false x y z = refl
 
 -- rows come in the place of those that were taken out
-pub put-back : (es ms fs : KeptGroups) (key own : KeyTree) (new : Bundle) → own ≡ key
+pub put-back : (es ms fs : KeptGroups) (key own : KeyTree) (new : Kept) → own ≡ key
     → ((k : KeyTree) → lookup (is_at (key_order k)) ms ≡ cond (is_at (key_order key) k) None (lookup (is_at (key_order k)) es))
     → ((k : KeyTree) → lookup (is_at (key_order k)) fs ≡ cond (is_at (key_order own) k) (Some new) (lookup (is_at (key_order k)) ms))
     → (k : KeyTree) → lookup (is_at (key_order k)) fs ≡ cond (is_at (key_order key) k) (Some new) (lookup (is_at (key_order k)) es)
@@ -75,10 +84,28 @@ shown-once g es (Some k) (Some l) one =
 -- ---- sound groups
 
 module _ (g : Grouping) where
-  abbrev SoundEntry : KeyTree × Bundle → Type 0
-  SoundEntry e = IsBundle g.fields e.1
+  abbrev SoundEntry : KeyTree × Kept → Type 0
+  SoundEntry e = IsKept g e.1
 
-  with-entry : (k : KeyTree) (b : Bundle) (es : KeptGroups) → IsBundle g.fields b → AreBundles g es → AreBundles g (insert_entry key_order es k b)
+  -- one whose row isn't made
+  pub kept-of : (b : Bundle) (kept : Kept) → kept.bundle ≡ b → kept.row ≡ None → IsBundle g.fields b → IsKept g kept
+  kept-of b kept is none sound = record {
+    bundle = subst (λ (x : Bundle). IsBundle g.fields x) (sym is) sound;
+    row = subst (IsRowOf g kept.bundle.members) (sym none) tt;
+  }
+
+  -- one whose row is made
+  row-of : (rows : Positioned) (row : Option Row) → row ≡ row_shown g (forget rows) → IsRowOf g rows row
+  row-of rows None is = tt
+  row-of rows (Some d) is = is
+
+  pub kept-settled : (before after : Kept) → after.bundle ≡ before.bundle → after.row ≡ row_shown g (forget before.bundle.members) → IsKept g before → IsKept g after
+  kept-settled before after is shown sound = record {
+    bundle = subst (λ (x : Bundle). IsBundle g.fields x) (sym is) sound.bundle;
+    row = row-of after.bundle.members after.row (shown ∙ ap (λ (x : Bundle). row_shown g (forget x.members)) (sym is));
+  }
+
+  with-entry : (k : KeyTree) (b : Kept) (es : KeptGroups) → IsKept g b → AreBundles g es → AreBundles g (insert_entry key_order es k b)
   with-entry k b [] sound all = (sound, tt)
   with-entry k b (e ∷ es) sound all = by (key_order k e.0) (with-entry k b es sound all.1)
     where
@@ -87,7 +114,7 @@ module _ (g : Grouping) where
       by Equal rest = (sound, all.1)
       by Greater rest = (all.0, rest)
 
-  pub bundles-put : (k : KeyTree) (b : Bundle) (es fs : KeptGroups) → fs ≡ insert_entry key_order es k b → IsBundle g.fields b → AreBundles g es → AreBundles g fs
+  pub bundles-put : (k : KeyTree) (b : Kept) (es fs : KeptGroups) → fs ≡ insert_entry key_order es k b → IsKept g b → AreBundles g es → AreBundles g fs
   bundles-put k b es fs is sound all = subst (AreBundles g) (sym is) (with-entry k b es sound all)
 
   without-entry : (k : KeyTree) (es : KeptGroups) → AreBundles g es → AreBundles g (remove_entry (is_at (key_order k)) es)
@@ -101,10 +128,10 @@ module _ (g : Grouping) where
   pub bundles-left : (k : KeyTree) (es fs : KeptGroups) → fs ≡ remove_entry (is_at (key_order k)) es → AreBundles g es → AreBundles g fs
   bundles-left k es fs is all = subst (AreBundles g) (sym is) (without-entry k es all)
 
-  pub bundle-there : (k : KeyTree) (b : Bundle) (es : KeptGroups) → lookup (is_at (key_order k)) es ≡ Some b → AreBundles g es → IsBundle g.fields b
+  pub bundle-there : (k : KeyTree) (b : Kept) (es : KeptGroups) → lookup (is_at (key_order k)) es ≡ Some b → AreBundles g es → IsKept g b
   bundle-there k b [] there all = cc
   bundle-there k b (e ∷ es) there all = by (is_eq (key_order k e.0)) there (λ there. bundle-there k b es there all.1)
     where
-      by : (c : Bool) → cond c (Some e.1) (lookup (is_at (key_order k)) es) ≡ Some b → (lookup (is_at (key_order k)) es ≡ Some b → IsBundle g.fields b) → IsBundle g.fields b
-      by true there rest = let same : e.1 ≡ b = cc in subst (λ (c : Bundle). IsBundle g.fields c) same all.0
+      by : (c : Bool) → cond c (Some e.1) (lookup (is_at (key_order k)) es) ≡ Some b → (lookup (is_at (key_order k)) es ≡ Some b → IsKept g b) → IsKept g b
+      by true there rest = let same : e.1 ≡ b = cc in subst (λ (c : Kept). IsKept g c) same all.0
       by false there rest = rest there

@@ -8,7 +8,7 @@ use Rattle.std.specs.Ordering.{is_eq, ordering_then}
 use Rattle.std.specs.List.{AllByRecursion, list_any}
 use Rattle.std.specs.List.Sorted.{IsStrictlySortedBy}
 use Rattle.std.specs.Map.{keys_of}
-use Rattle.dv_bson.specs.Tree.{Tree}
+use Rattle.dv_value.specs.Tree.{Tree}
 use Rattle.dv_order.specs.Order.{canon, order}
 use Rattle.dv_order.specs.SameOrder.{equal_is_canon, order_of_canon}
 use Rattle.dv_order.specs.TotalOrder.{order_total}

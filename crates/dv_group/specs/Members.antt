@@ -1,5 +1,5 @@
 -- Rows by their keys, and the rows of the groups of some keys: words of bodies.
-use Rattle.std.specs.Prelude.{◌≡◌, Bool, false, List, [], ◌∷◌, Option, Some, None, cond, filter}
+use Rattle.std.specs.Prelude.{◌≡◌, Bool, false, List, [], ◌∷◌, Option, Some, None, cond, filter, ⊤}
 use Rattle.std.specs.List.{AllByRecursion}
 use Rattle.std.specs.Ordering.{is_eq}
 use Rattle.std.specs.Map.{lookup}
@@ -12,7 +12,7 @@ use Rattle.dv_change.specs.Changes.{Positioned, forget}
 use Rattle.dv_change.specs.Ordered.{gone, put}
 use Rattle.dv_change.specs.Positions.{PosTree}
 use Rattle.dv_gather.specs.Grouping.{Grouping, key_in, row_shown}
-use Rattle.dv_group.specs.declared.bundle.Bundle.{Bundle}
+use Rattle.dv_group.specs.declared.kept.Kept.{Kept}
 use Rattle.dv_group.specs.Room.{IsBundle}
 
 -- the key of a row
@@ -29,20 +29,30 @@ rows_with g k rows = filter (λ e. row_has_key g k e.1) rows
 
 -- groups under keys
 abbrev pub KeptGroups : Type 0
-KeptGroups = List (KeyTree × Bundle)
+KeptGroups = List (KeyTree × Kept)
 
 -- the rows of a group, where there is one
-abbrev pub rows_in : Option Bundle → Positioned
+abbrev pub rows_in : Option Kept → Positioned
 rows_in None = []
-rows_in (Some b) = b.members
+rows_in (Some kept) = kept.bundle.members
 
 -- the rows under a key
 abbrev pub group_members : KeyTree → KeptGroups → Positioned
 group_members k es = rows_in (lookup (is_at (key_order k)) es)
 
+-- a row that is made is that of these rows
+abbrev pub IsRowOf : Grouping → Positioned → Option Row → Type 0
+IsRowOf g rows None = ⊤
+IsRowOf g rows (Some row) = Some row ≡ row_shown g (forget rows)
+
+-- a group is sound, and so is its row
+pub record IsKept (g : Grouping) (kept : Kept) : Type 0 where
+  pub bundle : IsBundle g.fields kept.bundle
+  pub row : IsRowOf g kept.bundle.members kept.row
+
 -- each group is sound
 abbrev pub AreBundles : Grouping → KeptGroups → Type 0
-AreBundles g es = AllByRecursion (λ e. IsBundle g.fields e.1) es
+AreBundles g es = AllByRecursion (λ e. IsKept g e.1) es
 
 -- under each key stand the rows that have it
 abbrev pub AreMembers : Grouping → (KeyTree → Positioned) → Positioned → Type 0

@@ -1,7 +1,7 @@
 -- How far kept sums can be from 0, by how many rows there are: words of bodies.
 use Rattle.std.specs.Prelude.{◌≡◌, ◌≤◌, ℕ, ◌-◌, ◌*◌, ◌^◌, pos, ◌+ℤ◌, ◌≤ℤ◌, List, [], ◌∷◌, map, Option, ⊤}
 use Rattle.std.specs.List.{AllByRecursion}
-use Rattle.dv_bson.specs.Tree.{Tree}
+use Rattle.dv_value.specs.Tree.{Tree}
 use Rattle.dv_row.specs.Row.{Row}
 use Rattle.dv_change.specs.Changes.{IsPositioned}
 use Rattle.dv_change.specs.Positions.{PosTree}
@@ -22,7 +22,7 @@ reach count = count * 2 ^ 63
 abbrev pub IsWithinRows : ℕ → Running → Type 0
 IsWithinRows count (summed n wides) = ((pos 0 ≤ℤ (n +ℤ pos (reach count))) × (n ≤ℤ pos (reach count))) × (wides ≤ count)
 IsWithinRows count (ranked rows) = ⊤
-IsWithinRows count pushed = ⊤
+IsWithinRows count (pushed vs) = ⊤
 
 -- so many rows as there can be
 abbrev pub most_rows : ℕ
@@ -32,7 +32,7 @@ most_rows = 2 ^ 64 - 1
 abbrev pub IsCounted : Accumulation → Row → Running → Type 0
 IsCounted a d (summed n wides) = widens (field_value a d) ≤ wides
 IsCounted a d (ranked rows) = ⊤
-IsCounted a d pushed = ⊤
+IsCounted a d (pushed vs) = ⊤
 
 -- there is room for what comes, or for what is left
 abbrev pub HasRoomFor : Way → Accumulation → PosTree → Row → Running → Type 0
@@ -62,7 +62,7 @@ IsNarrow a d = IsNarrowFor a.accumulator a d
 abbrev pub IsNarrowIn : Running → Accumulation → Row → Type 0
 IsNarrowIn (summed n wides) a d = IsNarrowFor Sum a d
 IsNarrowIn (ranked rows) a d = ⊤
-IsNarrowIn pushed a d = ⊤
+IsNarrowIn (pushed vs) a d = ⊤
 
 abbrev pub AreNarrowIn : List Running → List Accumulation → Row → Type 0
 AreNarrowIn ts [] d = ⊤

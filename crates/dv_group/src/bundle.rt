@@ -10,10 +10,10 @@ ghost use Rattle.dv_group.specs.Running.{moved_at, moved_from, running_of, with_
 ghost use Rattle.dv_group.specs.RunningView.{running_seen};
 
 use crate::running::{Running, Way};
-use dv_bson::{Document, NoMemory};
 use dv_change::{Ordered, Pos};
 use dv_gather::{Group, GroupField};
 use dv_row::{push_field, row_beside};
+use dv_value::{Document, NoMemory};
 use std::alloc::Global;
 
 /// The rows of a group by their positions, and what has come of their values.
@@ -115,10 +115,10 @@ impl Bundle {
         fields: &[GroupField],
         row: &mut Document,
     ) -> Result<(), NoMemory>
-        ensures { OnOk result (row.new ≡ with_told (map accumulation fields.now) self.now.members (map running_seen self.now.totals.items) row.old) }
+        ensures { OnOk result (row.new ≡ with_told (map accumulation fields.now) (map running_seen self.now.totals.items) row.old) }
     {
         'fields: for (field, total) in fields.iter().zip(&self.totals) {
-            let value = total.value(alloc, field, &self.members)?;
+            let value = total.value(alloc, field)?;
             push_field(row, field.name.as_str(), Some(value))?;
         }
         Ok(())

@@ -3,24 +3,23 @@
 ghost use Rattle.std.specs.Prelude.{◌≡◌, IfOk, None, OnOk, Some, cond};
 ghost use Rattle.std.specs.BTreeMap.{is_at};
 ghost use Rattle.std.specs.Map.{lookup};
-ghost use Rattle.dv_change.specs.Changes.{forget};
 ghost use Rattle.dv_change.specs.Ordered.{gone, put};
-ghost use Rattle.dv_gather.specs.KeySets.{referred};
 ghost use Rattle.dv_order.specs.Key.{KeyTree, key_order};
 ghost use Rattle.dv_group.specs.Members as defined;
 ghost use Rattle.dv_group.specs.Members.{AreBundles, is_key, group_members, moved, put_some};
 ghost use Rattle.dv_group.specs.Room.{IsBundle};
 
 use crate::bundle::Bundle;
-use dv_bson::{Document, NoMemory};
-use dv_change::{Ordered, Pos};
+use crate::kept::Kept;
+use dv_change::Pos;
 use dv_gather::Group;
 use dv_order::Key;
+use dv_value::{Document, NoMemory};
 use std::alloc::Global;
 use std::collections::BTreeMap;
 
 /// The groups, by their keys.
-pub(crate) type Groups = BTreeMap<Key, Bundle>;
+pub(crate) type Groups = BTreeMap<Key, Kept>;
 
 /// Takes what stands at the position out of the group of the one key, and puts the row there into that of the other one, where
 /// there are keys and a row. Fails where memory is wanting.
@@ -39,6 +38,30 @@ pub(crate) fn move_row(
 {
     take_out(alloc, group, groups, key, &pos)?;
     put_in(alloc, group, groups, other, pos, new)
+}
+
+/// Makes the row of the group of the key, where there are a key and a group, and the row isn't made since its rows changed. A
+/// row before it lends its names. Fails where memory is wanting.
+pub(crate) fn settle(
+    alloc: Global,
+    group: &Group,
+    groups: &mut Groups,
+    key: &Option<Key>,
+    before: Option<&Document>,
+) -> Result<(), NoMemory>
+    requires { AreBundles group.now groups.old.entries }
+    ensures rows { OnOk result ((k : KeyTree) → group_members k groups.new.entries ≡ group_members k groups.old.entries) }
+    ensures sound { OnOk result (AreBundles group.now groups.new.entries) }
+{
+    let Some(key) = key else {
+        return Ok(());
+    };
+    let Some(kept) = groups.remove(key) else {
+        return Ok(());
+    };
+    let settled = kept.settled(alloc, group, before)?;
+    groups.insert(key.try_clone()?, settled)?;
+    Ok(())
 }
 
 /// Takes what stands at the position out of the group of the key, where there is a key.
@@ -74,7 +97,7 @@ fn take_from(
     let bundle = bundle_of(alloc, group, groups, key)?;
     let left = bundle.without(alloc, group, pos)?;
     if !left.is_empty() {
-        groups.insert(key.try_clone()?, left)?;
+        groups.insert(key.try_clone()?, Kept::of(left))?;
     }
     Ok(())
 }
@@ -93,7 +116,7 @@ fn bundle_of(
     ensures others { OnOk result ((k : KeyTree) → lookup (is_at (key_order k)) groups.new.entries ≡ cond (is_at (key_order key.now) k) None (lookup (is_at (key_order k)) groups.old.entries)) }
 {
     match groups.remove(key) {
-        Some(bundle) => Ok(bundle),
+        Some(kept) => Ok(kept.into_bundle()),
         None => Bundle::new(alloc, group),
     }
 }
@@ -135,7 +158,7 @@ fn put_under(
 {
     let bundle = bundle_of(alloc, group, groups, key)?;
     let more = bundle.with(alloc, group, pos, row)?;
-    groups.insert(key.try_clone()?, more)?;
+    groups.insert(key.try_clone()?, Kept::of(more))?;
     Ok(())
 }
 
@@ -150,22 +173,4 @@ pub(crate) fn are_one(key: &Option<Key>, other: &Option<Key>) -> bool
         Some(other) => key == other,
         None => false,
     }
-}
-
-/// The rows without their positions. Fails where memory is wanting.
-pub(crate) fn documents<'a>(
-    alloc: Global,
-    rows: &'a Ordered<Document>,
-) -> Result<Vec<&'a Document>, NoMemory>
-    ensures { IfOk result (λ documents. referred documents.items ≡ forget rows.now) }
-{
-    let mut documents = Vec::with_capacity(alloc, rows.len())?;
-    let Some((_, row)) = rows.first() else {
-        return Ok(documents);
-    };
-    documents.push(row)?;
-    'others: for (_, row) in rows.others() {
-        documents.push(row)?;
-    }
-    Ok(documents)
 }

@@ -4,6 +4,7 @@
 mod bundle;
 mod group_turn;
 mod groups;
+mod kept;
 pub mod laws;
 mod running;
 mod summing;

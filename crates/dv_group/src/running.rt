@@ -1,25 +1,21 @@
 //! What has come of the values of a group's rows, so that it follows changes.
 
-ghost use Rattle.std.specs.Prelude.{◌≡◌, [], ◌∷◌, IfOk, OnOk};
-ghost use Rattle.dv_bson.specs.Tree.{array, elements_of};
-ghost use Rattle.dv_bson.specs.View.{tree};
-ghost use Rattle.dv_change.specs.Changes.{forget};
+ghost use Rattle.std.specs.Prelude.{◌≡◌, [], ◌∷◌, IfOk, OnOk, map};
+ghost use Rattle.dv_value.specs.Tree.{array, elements_of};
+ghost use Rattle.dv_value.specs.View.{tree};
 ghost use Rattle.dv_gather.specs.GroupView.{accumulation};
-ghost use Rattle.dv_gather.specs.Grouping.{Accumulation, values_over};
-ghost use Rattle.dv_row.specs.ExpressionView.{expression_seen};
+ghost use Rattle.dv_gather.specs.Grouping.{Accumulation};
 ghost use Rattle.dv_group.specs.Room.{HasRoomFor, IsNarrowIn};
 ghost use Rattle.dv_group.specs.Running as defined;
-ghost use Rattle.dv_group.specs.Running.{value_of_first, moved_by, rank, running_by, told_by};
-ghost use Rattle.dv_group.specs.RunningView.{running_seen};
+ghost use Rattle.dv_group.specs.Running.{value_of_first, moved_by, rank, running_by, told_by, values_in};
+ghost use Rattle.dv_group.specs.RunningView.{running_seen, values_seen};
 
-use crate::groups::documents;
 use crate::summing::KeptSum;
-use dv_bson::{Document, List, NoMemory, Value};
 use dv_change::{Ordered, Part, Pos};
 use dv_gather::{Accumulator, GroupField};
 use dv_order::key_of;
-use dv_row::Expr;
-use std::alloc::{AllocError, Global};
+use dv_value::{Document, List, NoMemory, Value};
+use std::alloc::Global;
 use std::mem::replace;
 
 /// Whether a row comes or goes.
@@ -39,8 +35,8 @@ pub(crate) enum Running {
     /// For `$min` and `$max`: the rows with a value that isn't null, by it and then by their positions. The least value is the
     /// first for `$min`, the greatest for `$max`.
     Ranked(Ordered<Document>),
-    /// For `$push`: nothing, since all of the rows are asked.
-    Pushed,
+    /// For `$push`: the values, by the positions of their rows.
+    Pushed(Ordered<Value>),
 }
 
 impl Running {
@@ -51,7 +47,7 @@ impl Running {
         match accumulator {
             Accumulator::Sum => Running::Summed(KeptSum::of_none()),
             Accumulator::Min | Accumulator::Max => Running::Ranked(Ordered::new(alloc)),
-            Accumulator::Push => Running::Pushed,
+            Accumulator::Push => Running::Pushed(Ordered::new(alloc)),
         }
     }
 
@@ -81,24 +77,22 @@ impl Running {
                 let some = replace(rows, Ordered::new(alloc));
                 *rows = reranked(alloc, some, field, way, pos, row)?;
             }
-            Running::Pushed => {}
+            Running::Pushed(values) => {
+                let some = replace(values, Ordered::new(alloc));
+                *values = repushed(alloc, some, field, way, pos, row)?;
+            }
         }
         Ok(())
     }
 
-    /// What it tells of the values of these rows. Fails where memory is wanting.
-    pub(crate) fn value(
-        &self,
-        alloc: Global,
-        field: &GroupField,
-        rows: &Ordered<Document>,
-    ) -> Result<Value, NoMemory>
-        ensures { IfOk result (λ value. tree value ≡ told_by (accumulation field.now) rows.now (running_seen self.now)) }
+    /// What it tells of the values. Fails where memory is wanting.
+    pub(crate) fn value(&self, alloc: Global, field: &GroupField) -> Result<Value, NoMemory>
+        ensures { IfOk result (λ value. tree value ≡ told_by (accumulation field.now) (running_seen self.now)) }
     {
         match self {
             Running::Summed(sum) => sum.value(alloc),
             Running::Ranked(rows) => value_of_first(alloc, field, rows),
-            Running::Pushed => pushed(alloc, &field.expr, rows),
+            Running::Pushed(values) => array_of(alloc, values),
         }
     }
 }
@@ -163,22 +157,46 @@ fn value_of_first(
     }
 }
 
-/// How many rows a group of a `$push` has at most: at each change all of their values are told.
-const MOST_PUSHED: usize = 256;
-
-/// The values of the expression over the rows, as an array. Fails where memory is wanting, and where there are too many rows.
-fn pushed(alloc: Global, expr: &Expr, rows: &Ordered<Document>) -> Result<Value, NoMemory>
-    ensures { IfOk result (λ value. tree value ≡ array (elements_of (values_over (expression_seen expr.now) (forget rows.now)))) }
+/// The values with that of the row at the position, where it has one, or without it. Fails where memory is wanting.
+#[tactic(auto, using(crate::proofs::Pushing::values_put, crate::proofs::Pushing::values_gone))]
+fn repushed(
+    alloc: Global,
+    values: Ordered<Value>,
+    field: &GroupField,
+    way: Way,
+    pos: &Pos,
+    row: &Document,
+) -> Result<Ordered<Value>, NoMemory>
+    ensures { IfOk result (λ now. values_seen now ≡ defined.repushed way (accumulation field.now) pos.now row.now (values_seen values)) }
 {
-    if rows.len() > MOST_PUSHED {
-        return Err(AllocError);
+    match way {
+        Way::Comes => match field.expr.value_in(alloc, row)? {
+            Some(value) => values.with(pos.try_clone()?, value.into_value()?),
+            None => Ok(values),
+        },
+        Way::Goes => Ok(values.without(pos)),
     }
-    let mut values = Vec::new(alloc);
-    let documents = documents(alloc, rows)?;
-    'rows: for row in &documents {
-        if let Some(value) = expr.value_in(alloc, row)? {
-            values.push(value.into_value()?)?;
-        }
+}
+
+/// A copy of the values, as an array. Fails where memory is wanting.
+fn array_of(alloc: Global, values: &Ordered<Value>) -> Result<Value, NoMemory>
+    ensures { IfOk result (λ value. tree value ≡ array (elements_of (values_in (values_seen values.now)))) }
+{
+    let copies = copies_of(alloc, values)?;
+    Ok(Value::Array(List::of(copies)))
+}
+
+/// A copy of the values, without their positions. Fails where memory is wanting.
+fn copies_of(alloc: Global, values: &Ordered<Value>) -> Result<Vec<Value>, NoMemory>
+    ensures { IfOk result (λ copies. map tree copies.items ≡ values_in (values_seen values.now)) }
+{
+    let mut copies = Vec::with_capacity(alloc, values.len())?;
+    let Some((_, first)) = values.first() else {
+        return Ok(copies);
+    };
+    copies.push(first.try_clone()?)?;
+    'others: for (_, value) in values.others() {
+        copies.push(value.try_clone()?)?;
     }
-    Ok(Value::Array(List::of(values)))
+    Ok(copies)
 }

@@ -1,14 +1,14 @@
 //! Sums of numbers that come and go.
 
 ghost use Rattle.std.specs.Prelude.{◌≡◌, ◌≤◌, ◌+◌, ◌-◌, ◌+ℤ◌, ◌-ℤ◌, IfOk, Some, nat_eq, pos};
-ghost use Rattle.dv_bson.specs.View.{tree};
+ghost use Rattle.dv_value.specs.View.{tree};
 ghost use Rattle.dv_gather.specs.Sums as sums;
 ghost use Rattle.dv_group.specs.Room.{IsNarrowValue, IsWithinRows, most_rows};
 ghost use Rattle.dv_group.specs.Running.{adds, summed, widens};
 ghost use Rattle.dv_group.specs.RunningView.{kept_sum_seen};
 
-use dv_bson::{NoMemory, Value};
 use dv_gather::{addend, is_int64, sum_value};
+use dv_value::{NoMemory, Value};
 use std::alloc::Global;
 
 /// The sum of numbers that come and go.

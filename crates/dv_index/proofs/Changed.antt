@@ -3,21 +3,20 @@ use Rattle.std.proofs.Common.{◌≡◌, ◌∙◌, ℕ, List, ◌∷◌, refl, 
 use Rattle.std.specs.List.{AllByRecursion, find, list_any}
 use Rattle.std.specs.Option.{IsSome, option_map}
 use Rattle.std.specs.Ordering.{is_eq}
-use Rattle.dv_bson.specs.Tree.{Field}
+use Rattle.dv_value.specs.Tree.{Field}
 use Rattle.dv_order.specs.Key.{KeyTree, key_order}
 use Rattle.dv_order.specs.KeyLaws.{key_order_total}
 use Rattle.dv_coll.specs.Collection.{found, id_key, has_key as is_of, inserted, removed, replaced}
-use Rattle.dv_index.specs.Keys.{has_key}
-use Rattle.dv_index.specs.Pairs.{Pair, has_pair}
-use Rattle.dv_index.specs.Index.{IndexForm, IndexTree, form_of}
+use Rattle.dv_keyed.specs.Keys.{has_key}
+use Rattle.dv_keyed.specs.Pairs.{Pair, has_pair}
+use Rattle.dv_keyed.specs.Index.{IndexForm, IndexTree, form_of}
 use Rattle.dv_index.specs.Search.{IsIndexOf, is_key_under}
 use Rattle.dv_index.specs.Change.{IsChangeOf, IsFresh, changed_id, document_after, documents_after}
 use Rattle.dv_index.specs.declared.change.Change.{Change}
 use Rattle.dv_index.specs.declared.change.Change.TheVariants.{Insert, Replace, Remove}
-use Rattle.dv_index.proofs.Lists.{equal-back, equal-from}
-use Rattle.dv_index.proofs.Several.{any-filter}
-use Rattle.dv_index.proofs.Noted.{and-true}
+use Rattle.dv_index.proofs.Lists.{and-true, equal-back, equal-from}
 use Rattle.std.proofs.lemmas.Cmp.{tied_itself}
+use Rattle.std.proofs.lemmas.Map.Views.{any-filter_same}
 
 -- ---- what is found after a change, by the laws of collections
 abbrev pub InsertedIsFound : Type 0
@@ -53,8 +52,15 @@ found-after law₁ law₂ law₃ (Replace d) ds h f i = law₃ i d ds ∙ at (is
 same-member : (k l : KeyTree) (ks : List KeyTree) → is_eq (key_order k l) ≡ true → has_key k ks ≡ has_key l ks
 same-member k l ks e = ap (λ t. list_any t ks) (λ j m. is_eq (key_order_total.congr k l m (equal-from (key_order k l) e) j))
 
-pub keys-left : (ks ls : List KeyTree) (k : KeyTree) → has_key k (filter (λ l. not (has_key l ls)) ks) ≡ has_key k ks && not (has_key k ls)
-keys-left ks ls k = any-filter (λ l. is_eq (key_order k l)) (λ l. not (has_key l ls)) (not (has_key k ls)) (λ l e. ap not (sym (same-member k l ls e))) ks
+swapped : (a b : Bool) → a && b ≡ b && a
+swapped true true = refl
+swapped true false = refl
+swapped false true = refl
+swapped false false = refl
+
+keys-left : (ks ls : List KeyTree) (k : KeyTree) → has_key k (filter (λ l. not (has_key l ls)) ks) ≡ has_key k ks && not (has_key k ls)
+keys-left ks ls k =
+    any-filter_same (λ l. is_eq (key_order k l)) (λ l. not (has_key l ls)) (not (has_key k ls)) (λ l e. ap not (sym (same-member k l ls e))) ks ∙ swapped (not (has_key k ls)) (has_key k ks)
 
 -- ---- one index
 not-both : (o n : Bool) → n && not o ≡ true → o ≡ false

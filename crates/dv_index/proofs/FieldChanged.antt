@@ -2,13 +2,13 @@
 use Rattle.std.proofs.Common.{◌≡◌, ◌∙◌, ℕ, List, [], ◌∷◌, length, arith, Some, IsSome, false, true, codes, ap, sym, subst}
 use Rattle.std.specs.List.{AllByRecursion}
 use Rattle.std.specs.Str.{bytes_eq}
-use Rattle.dv_bson.specs.FieldChange.{with_field_changed}
-use Rattle.dv_bson.specs.Tree.{Field}
-use Rattle.dv_bson.specs.declared.field_change.FieldChange.{FieldChange}
+use Rattle.dv_value.specs.FieldChange.{with_field_changed}
+use Rattle.dv_value.specs.Tree.{Field}
+use Rattle.dv_value.specs.declared.field_change.FieldChange.{FieldChange}
 use Rattle.dv_order.specs.Key.{KeyTree}
 use Rattle.dv_coll.specs.Collection.{HasId, found, has_key, id_key}
 use Rattle.dv_index.specs.Change.{AreIndexesOf}
-use Rattle.dv_index.specs.Index.{IndexTree}
+use Rattle.dv_keyed.specs.Index.{IndexTree}
 use Rattle.dv_index.proofs.Changed.{found-same}
 
 module _ (k : KeyTree) (d e : List Field) (ds : List (List Field)) (here : found k ds ≡ Some d) where

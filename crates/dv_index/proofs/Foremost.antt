@@ -1,29 +1,31 @@
 -- What a path of one component sorts before a bar is found by the index on it.
-use Rattle.std.proofs.Common.{◌≡◌, ◌∙◌, ◌≤◌, ◌<◌, ℕ, arith, length, List, [], ◌∷◌, map, refl, ap, sym, append-nil, Bool, true, false, cond, not, Option, Some, None, filter, subst}
+use Rattle.std.proofs.Common.{◌≡◌, ◌∙◌, ◌≤◌, ◌<◌, ℕ, arith, length, List, [], ◌∷◌, map, refl, ap, sym, append-nil, Bool, true, false, cond, Option, Some, None, filter, subst}
 use Rattle.std.specs.List.{AllByRecursion, best_of}
 use Rattle.std.specs.Option.{IfSome}
-use Rattle.std.specs.Ordering.{is_eq, is_le, is_lt, ordering_reverse}
-use Rattle.std.specs.declared.cmp.Ordering.{Ordering}
-use Rattle.std.specs.declared.cmp.Ordering.TheVariants.{Less, Equal, Greater}
+use Rattle.std.specs.Ordering.{is_eq}
+use Rattle.std.specs.Str.{bytes_eq}
 use Rattle.std.proofs.lemmas.Bool.{or_left, or_right}
 use Rattle.std.proofs.lemmas.Cmp.{tied_itself}
-use Rattle.dv_bson.specs.Names.{value_under}
-use Rattle.dv_bson.specs.Tree.{Tree, Field, array, null, no_elements, element, fields_of, list_of_fields, list_of_elements}
+use Rattle.std.proofs.lemmas.Slice.Eq.{bytes_eq-Decides}
+use Rattle.dv_value.specs.Names.{value_under}
+use Rattle.dv_value.specs.Tree.{Tree, Field, array, null, no_elements, element, fields_of, list_of_fields, list_of_elements}
 use Rattle.dv_order.specs.Order.{canon}
-use Rattle.dv_order.specs.Key.{KeyTree, no_element, value, key_at, key_order}
+use Rattle.dv_order.specs.Key.{KeyTree, value, key_at}
 use Rattle.dv_order.specs.KeyLaws.{key_order_total}
 use Rattle.dv_path.specs.declared.direction.Direction.{Direction}
-use Rattle.dv_path.specs.Candidates.{Candidate, leaves, or_null, whole, with_elements}
+use Rattle.dv_candidates.specs.Candidates.{Candidate, leaves, or_null, whole, with_elements}
 use Rattle.dv_path.specs.LeafKeys.{is_key_of, is_leaf_key, is_some_key, leaf_values}
 use Rattle.dv_path.specs.SortKey.{earliest, keys_of, sort_key, stands_first}
 use Rattle.dv_coll.specs.Collection.{IsAscending, found, id_key}
-use Rattle.dv_index.specs.Ahead.{is_ahead, leaf_sorted_by}
-use Rattle.dv_index.specs.Index.{IndexTree}
-use Rattle.dv_index.specs.Pairs.{has_pair}
+use Rattle.dv_keyed.specs.Choice.{same_path}
+use Rattle.dv_keyed.specs.Ahead.{is_ahead, leaf_sorted_by}
+use Rattle.dv_keyed.specs.Index.{IndexTree}
+use Rattle.dv_keyed.specs.Pairs.{has_pair}
 use Rattle.dv_index.specs.Search.{IsIndexOf, is_key_under}
+use Rattle.dv_index.proofs.Lists.{both}
 use Rattle.dv_index.proofs.Picked.{all-found}
 use Rattle.dv_index.proofs.Places.{some-same}
-use Rattle.dv_index.proofs.Sound.{narrowed}
+use Rattle.dv_index.proofs.Gathered.{narrowed}
 
 -- ---- the key by which a candidate is sorted is that of a leaf of it, or stands for the empty array
 -- the best of some keys is one of them
@@ -77,18 +79,16 @@ module _ (index : IndexTree) (path : List (List ℕ)) (direction : Direction) (i
   pub ahead-gathered : IsAscending ds → filter (is_ahead (path, direction) bar) (filter (λ d. among-ids (id_key d)) ds) ≡ filter (is_ahead (path, direction) bar) ds
   ahead-gathered ascending = narrowed among-ids (is_ahead (path, direction) bar) (λ d. found (id_key d) ds ≡ Some d) one-gathered ds (all-found ds ascending)
 
--- ---- one key or another
-pub by-kind : (P : KeyTree → Type 0) → P no_element → ((v : Tree) → P (value v)) → (k : KeyTree) → P k
-by-kind P none some no_element = none
-by-kind P none some (value v) = some v
-
-turned : (o : Ordering) → not (is_le o) ≡ is_lt (ordering_reverse o)
-turned Less = refl
-turned Equal = refl
-turned Greater = refl
-
-pub before-end : (k bar : KeyTree) → is_lt (key_order k bar) ≡ true → not (is_le (key_order bar k)) ≡ true
-before-end k bar e = turned (key_order bar k) ∙ sym (ap is_lt (key_order_total.antisymm k bar)) ∙ e
+-- ---- paths whose components are the same
+pub one-path : (p q : List (List ℕ)) → same_path p q ≡ true → p ≡ q
+one-path [] [] e = refl
+one-path [] (y ∷ ys) e = absurd cc
+one-path (x ∷ xs) [] e = absurd cc
+one-path (x ∷ xs) (y ∷ ys) e =
+    let parts = both (bytes_eq x y) (same_path xs ys) e in
+    let first : x ≡ y = (bytes_eq-Decides x y).0 parts.0 in
+    let rest = one-path xs ys parts.1 in
+    cc
 
 -- ---- two tests in either order
 pub tests-swapped : {X : Type 0} (p q : X → Bool) (xs : List X) → filter p (filter q xs) ≡ filter q (filter p xs)

@@ -6,18 +6,18 @@ use Rattle.std.specs.Ordering.{is_eq}
 use Rattle.std.specs.Str.{bytes_eq}
 use Rattle.std.proofs.lemmas.Bool.{or_parts}
 use Rattle.std.proofs.lemmas.Slice.Eq.{bytes_eq-Decides}
-use Rattle.dv_bson.specs.FieldChange.{with_found_pushed, with_field_changed}
-use Rattle.dv_bson.specs.Names.{has_name, value_under, with_value_under}
-use Rattle.dv_bson.specs.Tree.{Tree, array, Field, fields_of, list_of_fields, elements_of, list_of_elements}
-use Rattle.dv_bson.specs.View.{tree}
-use Rattle.dv_bson.specs.declared.field_change.FieldChange.{FieldChange}
-use Rattle.dv_bson.specs.declared.field_change.FieldChange.TheVariants.{Set, Push}
+use Rattle.dv_value.specs.FieldChange.{with_found_pushed, with_field_changed}
+use Rattle.dv_value.specs.Names.{has_name, value_under, with_value_under}
+use Rattle.dv_value.specs.Tree.{Tree, array, Field, fields_of, list_of_fields, elements_of, list_of_elements}
+use Rattle.dv_value.specs.View.{tree}
+use Rattle.dv_value.specs.declared.field_change.FieldChange.{FieldChange}
+use Rattle.dv_value.specs.declared.field_change.FieldChange.TheVariants.{Set, Push}
 use Rattle.dv_order.specs.Key.{KeyTree, key_order}
-use Rattle.dv_path.specs.Candidates.{candidates, leaves, or_null, whole, with_elements}
+use Rattle.dv_candidates.specs.Candidates.{candidates, leaves, or_null, whole, with_elements}
 use Rattle.dv_path.specs.LeafKeys.{is_leaf_key, is_some_key, leaf_values}
 use Rattle.dv_coll.specs.Collection.{HasId, found, has_key as is_of, id_key, replaced, with_field_changed_in}
 use Rattle.dv_index.specs.Change.{AreIndexesOf}
-use Rattle.dv_index.specs.Index.{IndexForm, IndexTree, form_of}
+use Rattle.dv_keyed.specs.Index.{IndexForm, IndexTree, form_of}
 use Rattle.dv_index.specs.Search.{IsIndexOf, is_key_under}
 use Rattle.dv_index.specs.Through.{leads_through, any_leads_through}
 use Rattle.dv_index.proofs.Changed.{ReplacedIsFound, found-same}

@@ -17,22 +17,13 @@ pub or-false : (a : Bool) → a || false ≡ a
 or-false true = refl
 or-false false = refl
 
+pub and-true : (a : Bool) → a && true ≡ a
+and-true true = refl
+and-true false = refl
+
 pub or-assoc : (a b c : Bool) → (a || b) || c ≡ a || (b || c)
 or-assoc true b c = refl
 or-assoc false b c = refl
-
-pub cond-or : (b a : Bool) → cond b true a ≡ a || b
-cond-or true true = refl
-cond-or true false = refl
-cond-or false true = refl
-cond-or false false = refl
-
-pub any-one-more : {X : Type 0} (p : X → Bool) (xs : List X) (i : ℕ) (x : X) → i < length xs → x ≡ get_or xs i x → list_any p (take (i + 1) xs) ≡ list_any p (take i xs) || p x
-any-one-more p [] i x within is = absurd (omega arith)
-any-one-more p (y ∷ ys) zero x within is = or-false (p y) ∙ ap p (sym is)
-any-one-more p (y ∷ ys) (suc i) x within is =
-    let rest = rw add-one at (any-one-more p ys i x (omega arith) is) in
-    rw add-one (ap (λ b. p y || b) rest ∙ sym (or-assoc (p y) (list_any p (take i ys)) (p x)))
 
 pub any-map : {X Y : Type 0} (p : Y → Bool) (view : X → Y) (xs : List X) → list_any p (map view xs) ≡ list_any (λ x. p (view x)) xs
 any-map p view [] = refl

@@ -7,12 +7,23 @@ use Rattle.std.specs.Ordering.{is_eq, ordering_reverse}
 use Rattle.std.proofs.Common.{map}
 use Rattle.std.proofs.lemmas.Map.Keys.{sorted_head, sorted_tail}
 use Rattle.std.proofs.lemmas.Cmp.{alike_right, tied_itself}
-use Rattle.dv_bson.specs.Tree.{Field}
-use Rattle.dv_order.specs.Key.{KeyTree, key_order}
+use Rattle.dv_value.specs.Tree.{Field, Tree}
+use Rattle.dv_value.specs.View.{tree}
+use Rattle.dv_value.specs.declared.value.Value.{Value}
+use Rattle.dv_order.specs.Order.{canon}
+use Rattle.dv_order.specs.Key.{KeyTree, key_order, value}
 use Rattle.dv_order.specs.KeyLaws.{key_order_total}
+use Rattle.dv_path.specs.LeafKeys.{is_key_of, is_some_key}
 use Rattle.dv_coll.specs.Collection.{IsAscending, id_key, has_key, found}
-use Rattle.dv_index.proofs.Lists.{equal-back, equal-from}
-use Rattle.dv_index.proofs.Ordered.{now}
+use Rattle.dv_index.proofs.Lists.{any-map, equal-back, equal-from}
+
+abbrev pub now : Bor KeyTree → KeyTree
+now x = x.now
+
+-- to stand among the keys of values is to be the key of one of them
+pub among-values : (k : KeyTree) (ids : List (Bor KeyTree)) (keys : List KeyTree) (vs : List Value) (ts : List Tree) → map now ids ≡ keys → keys ≡ map (λ v. value (canon (tree v))) vs → map tree vs ≡ ts → list_any (λ l. is_eq (key_order k l)) (map now ids) ≡ is_some_key k ts
+among-values k ids keys vs ts e f g =
+    ap (list_any (λ l. is_eq (key_order k l))) (e ∙ f) ∙ any-map (λ l. is_eq (key_order k l)) (λ v. value (canon (tree v))) vs ∙ sym (any-map (is_key_of k) tree vs) ∙ ap (is_some_key k) g
 
 abbrev pub as-list : {X : Type 0} → Option X → List X
 as-list None = []

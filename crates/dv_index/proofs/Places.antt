@@ -2,9 +2,9 @@
 use Rattle.std.proofs.Common.{◌≡◌, ◌∙◌, ℕ, zero, suc, List, [], ◌∷◌, map, refl, ap, sym, subst, Some, slice_get}
 use Rattle.std.specs.List.{AllByRecursion}
 use Rattle.std.specs.Option.{option_map}
-use Rattle.dv_bson.specs.Tree.{Field}
+use Rattle.dv_value.specs.Tree.{Field}
 use Rattle.dv_index.specs.Change.{AreIndexesOf, IsIndexAt}
-use Rattle.dv_index.specs.Index.{IndexForm, IndexTree, BeginsWithId, form_of}
+use Rattle.dv_keyed.specs.Index.{IndexForm, IndexTree, BeginsWithId, form_of}
 use Rattle.dv_index.specs.Search.{IsIndexOf}
 
 pub some-same : {X : Type 0} (x y : X) → Some x ≡ Some y → x ≡ y

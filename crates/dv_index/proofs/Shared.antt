@@ -4,7 +4,7 @@ use Rattle.std.specs.List.{AllByRecursion, list_any}
 use Rattle.std.specs.Ordering.{is_eq}
 use Rattle.std.proofs.lemmas.Bool.{or_left, or_right}
 use Rattle.std.proofs.lemmas.Cmp.{tied_itself}
-use Rattle.dv_bson.specs.Tree.{Field, Tree}
+use Rattle.dv_value.specs.Tree.{Field, Tree}
 use Rattle.dv_order.specs.Key.{KeyTree, key_order, value}
 use Rattle.dv_order.specs.KeyLaws.{key_order_total}
 use Rattle.dv_order.specs.Order.{canon}
@@ -52,18 +52,6 @@ module _ {X : Type 0} where
   pub any-never : (xs : List X) → list_any (λ x. false) xs ≡ false
   any-never [] = refl
   any-never (x ∷ xs) = any-never xs
-
-  pub any-swap : {Y : Type 0} (r : X → Y → Bool) (xs : List X) (ys : List Y) → list_any (λ x. list_any (λ y. r x y) ys) xs ≡ list_any (λ y. list_any (λ x. r x y) xs) ys
-  any-swap {Y = Y} r [] ys = sym (never ys)
-    where
-      never : (zs : List Y) → list_any (λ y. false) zs ≡ false
-      never [] = refl
-      never (z ∷ zs) = never zs
-  any-swap {Y = Y} r (x ∷ xs) ys = ap (λ b. list_any (λ y. r x y) ys || b) (any-swap r xs ys) ∙ sym (merged ys)
-    where
-      merged : (zs : List Y) → list_any (λ y. r x y || list_any (λ x. r x y) xs) zs ≡ list_any (λ y. r x y) zs || list_any (λ y. list_any (λ x. r x y) xs) zs
-      merged [] = refl
-      merged (z ∷ zs) = ap (λ b. (r x z || list_any (λ x. r x z) xs) || b) (merged zs) ∙ or-shuffled (r x z) (list_any (λ x. r x z) xs) (list_any (λ y. r x y) zs) (list_any (λ y. list_any (λ x. r x y) xs) zs)
 
 -- ---- one document's keys
 module _ (path : List (List ℕ)) (d : List Field) where

@@ -4,24 +4,34 @@ use Rattle.std.specs.List.{AllByRecursion, list_any}
 use Rattle.std.specs.Ordering.{is_eq}
 use Rattle.std.proofs.lemmas.Bool.{and_from, and_parts, or_cases, or_left, or_right}
 use Rattle.std.proofs.lemmas.Cmp.{alike_right, tied_itself}
-use Rattle.dv_bson.specs.Tree.{Field}
+use Rattle.dv_value.specs.Tree.{Field}
 use Rattle.dv_order.specs.Key.{KeyTree, key_order}
 use Rattle.dv_order.specs.KeyLaws.{key_order_total}
 use Rattle.dv_path.specs.LeafKeys.{is_leaf_key}
 use Rattle.dv_coll.specs.Collection.{IsAscending, found, has_key as is_of, id_key}
-use Rattle.dv_index.specs.Keys.{has_key}
-use Rattle.dv_index.specs.Pairs.{Pair, has_another_at, has_pair, is_pair_of, is_under_another, pairs_without}
+use Rattle.dv_keyed.specs.Keys.{has_key}
+use Rattle.dv_keyed.specs.Pairs.{Pair, has_pair, is_pair_of, is_under_another, pairs_without}
 use Rattle.dv_index.specs.Search.{is_key_under}
 use Rattle.dv_index.specs.Unique.{are_apart, is_key_taken, share_key}
-use Rattle.dv_index.proofs.Entries.{any-and}
-use Rattle.dv_index.proofs.Lists.{equal-back, equal-from}
-use Rattle.dv_index.proofs.Noted.{and-true}
+use Rattle.dv_index.proofs.Lists.{and-true, equal-back, equal-from}
 use Rattle.dv_index.proofs.Picked.{all-found}
-use Rattle.dv_index.proofs.Several.{same-id, same-key}
-use Rattle.dv_index.proofs.Shared.{any-or, any-swap, any-weaker, bool-alike, leaf-same, share-both, share-from, some-of}
+use Rattle.dv_index.proofs.Shared.{any-or, any-weaker, bool-alike, leaf-same, share-both, share-from, some-of}
 
 -- ---- pairs that are gone
-pub any-kept : {X : Type 0} (r q : X → Bool) (xs : List X) → list_any q (filter r xs) ≡ list_any (λ x. r x && q x) xs
+any-and : {X : Type 0} (a : Bool) (p : X → Bool) (xs : List X) → list_any (λ x. a && p x) xs ≡ a && list_any p xs
+any-and true p xs = refl
+any-and false p [] = refl
+any-and false p (x ∷ xs) = any-and false p xs
+
+-- keys that stand beside each other have the same pairs
+same-key : (k l id : KeyTree) (ps : List Pair) → is_eq (key_order k l) ≡ true → has_pair k id ps ≡ has_pair l id ps
+same-key k l id ps e = ap (λ t. list_any t ps) (λ j p. is_eq (key_order_total.congr k l p.0 (equal-from (key_order k l) e) j) && is_eq (key_order id p.1))
+
+-- and so `_id`s
+same-id : (k i id : KeyTree) (ps : List Pair) → is_eq (key_order i id) ≡ true → has_pair k i ps ≡ has_pair k id ps
+same-id k i id ps e = ap (λ t. list_any t ps) (λ j p. is_eq (key_order k p.0) && is_eq (key_order_total.congr i id p.1 (equal-from (key_order i id) e) j))
+
+any-kept : {X : Type 0} (r q : X → Bool) (xs : List X) → list_any q (filter r xs) ≡ list_any (λ x. r x && q x) xs
 any-kept r q [] = refl
 any-kept r q (x ∷ xs) = at (r x) (any-kept r q xs)
   where
@@ -56,35 +66,6 @@ has-left gone ps k i =
     ∙ ap (λ t. list_any t ps) (λ j p. gone-alike gone k i p j)
     ∙ any-and (not (has_pair k i gone)) (is_pair_of k i) ps
     ∙ swapped (not (has_pair k i gone)) (has_pair k i ps)
-
--- ---- keys, one after the other, are looked for under another `_id`
-module _ (keys : List KeyTree) (id : KeyTree) (gone ps : List Pair) where
-  abbrev other : Pair → Bool
-  other p = not (is_eq (key_order id p.1))
-
-  moved : (k : KeyTree) (p : Pair) → is_eq (key_order k p.0) && (other p && not (has_pair k p.1 gone)) ≡ is_eq (key_order k p.0) && (other p && not (has_pair p.0 p.1 gone))
-  moved k p = at (is_eq (key_order k p.0)) refl
-    where
-      at : (b : Bool) → is_eq (key_order k p.0) ≡ b → b && (other p && not (has_pair k p.1 gone)) ≡ b && (other p && not (has_pair p.0 p.1 gone))
-      at true e = ap (λ c. other p && not c) (same-key k p.0 p.1 gone e)
-      at false e = refl
-
-  turned : (h n g : Bool) → (n && g) && h ≡ g && (h && n)
-  turned true n g = and-true (n && g) ∙ swapped n g
-  turned false n g = swapped (n && g) false ∙ swapped false g
-
-  gathered : (p : Pair) → list_any (λ k. is_eq (key_order k p.0) && (other p && not (has_pair p.0 p.1 gone))) keys ≡ not (has_pair p.0 p.1 gone) && (has_key p.0 keys && other p)
-  gathered p =
-      ap (λ t. list_any t keys) (λ j k. ((ap (λ b. b && (other p && not (has_pair p.0 p.1 gone))) (equal-back k p.0)) ∙ swapped (is_eq (key_order p.0 k)) (other p && not (has_pair p.0 p.1 gone))) j)
-      ∙ any-and (other p && not (has_pair p.0 p.1 gone)) (λ k. is_eq (key_order p.0 k)) keys
-      ∙ turned (has_key p.0 keys) (other p) (not (has_pair p.0 p.1 gone))
-
-  pub each-key : list_any (λ k. has_another_at k id gone ps) keys ≡ is_under_another (λ k. has_key k keys) id (pairs_without gone ps)
-  each-key =
-      ap (λ t. list_any t keys) (λ j k. list_any (λ p. moved k p j) ps)
-      ∙ any-swap (λ k p. is_eq (key_order k p.0) && (other p && not (has_pair p.0 p.1 gone))) keys ps
-      ∙ ap (λ t. list_any t ps) (λ j p. gathered p j)
-      ∙ sym (any-kept (λ p. not (has_pair p.0 p.1 gone)) (λ p. has_key p.0 keys && other p) ps)
 
 -- ---- pairs, by what they are of
 each-paired : (ps qs : List Pair) → ((k i : KeyTree) → has_pair k i qs ≡ true → has_pair k i ps ≡ true) → AllByRecursion (λ p. has_pair p.0 p.1 ps ≡ true) qs

@@ -1,10 +1,10 @@
 -- What becomes of one document, and that the indexes of a collection have the keys of its documents.
 use Rattle.std.specs.Prelude.{◌≡◌, ℕ, zero, suc, true, List, [], ◌∷◌, Option, None, Some, IsSome, ⊤}
 use Rattle.std.specs.List.{AllByRecursion}
-use Rattle.dv_bson.specs.Tree.{Field}
+use Rattle.dv_value.specs.Tree.{Field}
 use Rattle.dv_order.specs.Key.{KeyTree}
 use Rattle.dv_coll.specs.Collection.{HasId, id_key, found, inserted, removed, replaced}
-use Rattle.dv_index.specs.Index.{IndexTree, id_form}
+use Rattle.dv_keyed.specs.Index.{IndexTree, id_form}
 use Rattle.dv_index.specs.Search.{IsIndexOf}
 use Rattle.dv_index.specs.declared.change.Change.{Change}
 use Rattle.dv_index.specs.declared.change.Change.TheVariants.{Insert, Replace, Remove}

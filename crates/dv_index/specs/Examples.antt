@@ -1,20 +1,13 @@
--- Worked examples: the keys of a document, by which index a find is answered, and how many documents it covers. Filters and
+-- Worked examples: by which index a find is answered, and how many documents it covers. Filters and
 -- documents are as they are written.
-use Rattle.std.specs.Prelude.{ℕ, Bool, false, List, [], ◌∷◌, Option, Result, Ok, codes}
-use Rattle.dv_bson.specs.Tree.{Tree, Field, fields_of}
-use Rattle.dv_order.specs.Order.{canon}
-use Rattle.dv_order.specs.Key.{value}
-use Rattle.dv_path.specs.LeafKeys.{is_leaf_key}
+use Rattle.std.specs.Prelude.{ℕ, false, List, [], ◌∷◌, Option, Result, Ok, codes}
+use Rattle.dv_value.specs.Tree.{Field, fields_of}
 use Rattle.dv_match.specs.declared.fault.FilterFault.{FilterFault}
-use Rattle.dv_bson.specs.Short.{int, list}
+use Rattle.dv_value.specs.Short.{int, list}
 use Rattle.dv_match.specs.Parsing.{filter_in}
-use Rattle.dv_bson.specs.Results.{◌>>=◌}
-use Rattle.dv_index.specs.Index.{IndexForm, id_form}
+use Rattle.dv_value.specs.Results.{◌>>=◌}
+use Rattle.dv_keyed.specs.Index.{IndexForm, id_form}
 use Rattle.dv_index.specs.Indexed.{documents_covered, index_chosen}
-
--- whether the document has the key of the value under the path
-abbrev pub has_key_of : Tree → List (List ℕ) → List Field → Bool
-has_key_of v path d = is_leaf_key (value (canon v)) path d
 
 -- the indexes on `_id`, on a and on b, made in this order
 abbrev pub three_indexes : List IndexForm

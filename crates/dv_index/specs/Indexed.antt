@@ -6,11 +6,11 @@ use Rattle.std.specs.List.{filter}
 use Rattle.std.specs.Option.{option_map}
 use Rattle.std.specs.Coded.{Coded, coded_ℕ, coded_list, coded×, code_by}
 use Rattle.std.specs.Str.{bytes_eq}
-use Rattle.dv_bson.specs.Tree.{Field}
-use Rattle.dv_bson.specs.TreeCode.{coded_tree}
+use Rattle.dv_value.specs.Tree.{Field}
+use Rattle.dv_value.specs.TreeCode.{coded_tree}
 use Rattle.dv_match.specs.Filter.{Condition, Members}
-use Rattle.dv_index.specs.Choice.{chosen}
-use Rattle.dv_index.specs.Index.{IndexForm, coded_form, id_form}
+use Rattle.dv_keyed.specs.Choice.{chosen}
+use Rattle.dv_keyed.specs.Index.{IndexForm, coded_form, id_form}
 use Rattle.dv_index.specs.Search.{covered}
 
 pub record IndexedTree : Type 0 where

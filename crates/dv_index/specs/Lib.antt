@@ -1,14 +1,6 @@
-pub mod Keys
-pub mod Pairs
-pub mod Ids
-pub mod Index
 pub mod Through
-pub mod Choice
-pub mod View
-pub mod Ends
 pub mod Search
-pub mod Ahead
-pub mod Interval
+pub mod View
 pub mod Indexed
 pub mod Change
 pub mod Unique

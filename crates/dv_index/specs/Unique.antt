@@ -3,12 +3,12 @@
 -- Missing Field"); that a whole array is a key beside its elements is this server's own.
 use Rattle.std.specs.Prelude.{ℕ, ◌&&◌, ◌||◌, not, Bool, true, false, List, [], ◌∷◌}
 use Rattle.std.specs.List.{list_any}
-use Rattle.dv_bson.specs.Tree.{Field}
+use Rattle.dv_value.specs.Tree.{Field}
 use Rattle.dv_order.specs.Order.{canon}
 use Rattle.dv_order.specs.Key.{value}
 use Rattle.dv_path.specs.LeafKeys.{is_leaf_key, leaf_values}
 use Rattle.dv_coll.specs.Collection.{has_key, id_key, replaced}
-use Rattle.dv_index.specs.Index.{IndexForm}
+use Rattle.dv_keyed.specs.Index.{IndexForm}
 
 -- whether two documents share a key under a path
 unfoldable pub share_key : List (List ℕ) → List Field → List Field → Bool

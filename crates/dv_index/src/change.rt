@@ -1,22 +1,21 @@
 //! Changes of one document of a collection, and of the indexes with it.
 
-ghost use Rattle.std.specs.Prelude.{◌≡◌, IfOk, IsErrOf, OnErr, OnOk, map, filter, not, if◌then◌else◌};
+ghost use Rattle.std.specs.Prelude.{◌≡◌, IfOk, IsErrOf, OnErr, OnOk, map, if◌then◌else◌};
 ghost use Rattle.std.specs.List.{AllByRecursion};
 ghost use Rattle.std.specs.Option.{option_map};
 ghost use Rattle.dv_coll.specs.Collection.{HasId, found, id_key};
 ghost use Rattle.dv_order.specs.Key.{KeyTree, key_order};
 ghost use Rattle.std.specs.Ordering.{is_eq};
 ghost use Rattle.dv_index.specs.Change.{HasIdFirst, IsChangeOf, IsFresh, IsTaken, changed_id, document_after, documents_after};
-ghost use Rattle.dv_index.specs.Index.{form_of};
-ghost use Rattle.dv_index.specs.Keys.{has_key};
+ghost use Rattle.dv_keyed.specs.Index.{form_of};
+ghost use Rattle.dv_keyed.specs.Keys.{has_key};
 ghost use Rattle.dv_index.specs.Search.{IsIndexOf, is_key_under};
 
-use crate::indexes::Index;
-use crate::keys::{Keys, keys_of, keys_without};
-use dv_bson::{Document, NoMemory};
+use dv_candidates::Path;
 use dv_coll::{Collection, InsertFault, laws};
+use dv_keyed::{Index, Keys, Moved, keys_of, keys_without};
 use dv_order::{Key, key_of};
-use dv_path::Path;
+use dv_value::{Document, NoMemory};
 use std::alloc::Global;
 
 /// What becomes of one document.
@@ -28,14 +27,6 @@ pub(crate) enum Change<'k> {
     Replace(Document),
     /// The one under the key of an `_id` goes.
     Remove(&'k Key),
-}
-
-/// The keys under a path of a document as it was and as it will be, neither having keys where there is none.
-#[derive(Debug, Drop)]
-pub(crate) struct Moved {
-    pub(crate) id: Key,
-    pub(crate) old: Keys,
-    pub(crate) new: Keys,
 }
 
 /// Changes one document, and with it the indexes: first the keys that it gains are added to one index after the other,

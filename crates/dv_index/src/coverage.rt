@@ -1,22 +1,17 @@
 //! How many documents a plan covers.
 
-ghost use Rattle.std.specs.Prelude.{◌≡◌, map, IfOk, Some, count_by};
-ghost use Rattle.dv_bson.specs.View.{tree};
-ghost use Rattle.dv_match.specs.Match as matching;
-ghost use Rattle.dv_path.specs.View.{seen};
+ghost use Rattle.std.specs.Prelude.{◌≡◌, map, IfOk, count_by};
 ghost use Rattle.dv_index.specs.Change.{AreIndexesOf, IsIndexAt};
-ghost use Rattle.dv_index.specs.Search.{is_within, has_within};
+ghost use Rattle.dv_keyed.specs.Within.{has_within};
 ghost use Rattle.dv_index.specs.Search as defined;
-ghost use Rattle.dv_index.specs.View.{bounds_seen, plan_seen};
+ghost use Rattle.dv_keyed.specs.View.{bounds_seen, plan_seen};
 
-use crate::indexes::{Index, Indexes};
-use crate::plan::{Bounds, Plan};
+use crate::indexes::Indexes;
 use crate::search::candidates;
-use dv_bson::{Document, NoMemory, Value};
+use dv_candidates::Path;
 use dv_coll::Collection;
-use dv_match::Range;
-use dv_order::{compare, same_class};
-use dv_path::{Candidate, Path, any_leaf};
+use dv_keyed::{Bounds, Index, Plan, is_covered};
+use dv_value::{Document, NoMemory};
 use std::alloc::Global;
 
 /// How many documents a plan covers: those that have a leaf in its bounds, Missing counting as null, and for a scan all.
@@ -61,49 +56,4 @@ fn count_within(documents: &[&Document], path: &Path, bounds: Bounds<'_>) -> usi
         .iter()
         .filter(|document| is_covered(document, path, bounds))
         .count()
-}
-
-/// Whether the document has a leaf in the bounds.
-#[tactic(auto, unfolding(crate::specs::Search::has_within))]
-fn is_covered(document: &Document, path: &Path, bounds: Bounds<'_>) -> bool
-    ensures { result ≡ has_within (bounds_seen bounds.entry) path.now document.now }
-{
-    any_leaf(
-        document,
-        path,
-        |candidate: Candidate<'_>| -> bool
-            ensures { result ≡ is_within (bounds_seen bounds.entry) (seen candidate.entry) }
-        { is_in(candidate, bounds) },
-    )
-}
-
-fn is_in(candidate: Candidate<'_>, bounds: Bounds<'_>) -> bool
-    ensures { result ≡ is_within (bounds_seen bounds.entry) (seen candidate.entry) }
-{
-    match candidate {
-        Candidate::Found(value) => is_value_in(value, bounds),
-        Candidate::Missing => is_value_in(&Value::Null, bounds),
-    }
-}
-
-fn is_value_in(value: &Value, bounds: Bounds<'_>) -> bool
-    ensures { result ≡ is_within (bounds_seen bounds.entry) (Some (tree value.now)) }
-{
-    match bounds {
-        Bounds::Equal(wanted) => compare(value, wanted).is_eq(),
-        Bounds::Among(choices) => choices.contains(value),
-        Bounds::Within(range, bound) => same_class(value, bound) && stands(value, range, bound),
-    }
-}
-
-fn stands(value: &Value, range: Range, bound: &Value) -> bool
-    ensures { result ≡ matching.stands range (tree bound.now) (tree value.now) }
-{
-    let order = compare(value, bound);
-    match range {
-        Range::Above => order.is_gt(),
-        Range::AtLeast => order.is_ge(),
-        Range::Below => order.is_lt(),
-        Range::AtMost => order.is_le(),
-    }
 }

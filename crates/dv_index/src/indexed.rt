@@ -4,15 +4,16 @@ ghost use Rattle.std.specs.Prelude.{◌≡◌, ◌↔◌, ◌++◌, ◌∷◌, [
 ghost use Rattle.std.specs.List.{AllByRecursion, list_any};
 ghost use Rattle.std.specs.Option.{option_map};
 ghost use Rattle.std.specs.Str.{bytes_eq};
-ghost use Rattle.dv_bson.specs.Names.{has_zero};
-ghost use Rattle.dv_bson.specs.Tree.{Field};
+ghost use Rattle.dv_value.specs.Names.{has_zero};
+ghost use Rattle.dv_value.specs.Tree.{Field};
 ghost use Rattle.dv_coll.specs.Collection.{AreStanding, HasId, IsAscending, found, id_key, inserted, removed, replaced, with_field_changed_in};
 ghost use Rattle.dv_match.specs.Match.{matches};
 ghost use Rattle.dv_path.specs.Parts.{part};
-ghost use Rattle.dv_index.specs.Ahead.{is_ahead};
+ghost use Rattle.dv_keyed.specs.Ahead.{is_ahead};
 ghost use Rattle.dv_index.specs.Change.{AreIndexesOf, IsChangeOf, IsTaken, documents_after};
-ghost use Rattle.dv_index.specs.Index.{form_of, id_form};
-ghost use Rattle.dv_index.specs.View.{afters, befores, form_of_new, plan_seen};
+ghost use Rattle.dv_keyed.specs.Index.{form_of, id_form};
+ghost use Rattle.dv_keyed.specs.View.{form_of_new, plan_seen};
+ghost use Rattle.dv_index.specs.View.{afters, befores};
 ghost use Rattle.dv_index.specs.Indexed.{empty_indexed, is_dropped, with_documents, with_indexes, without_index};
 ghost use Rattle.dv_index.specs.Unique.{are_broken};
 ghost use Rattle.dv_index.specs.Indexed as defined;
@@ -21,16 +22,16 @@ ghost use Rattle.dv_index.specs.Unique as uniqueness;
 use crate::ahead::{Ahead, candidates_ahead, index_on};
 use crate::change::{Change, key_of_id};
 use crate::coverage::covered;
-use crate::indexes::{Index, Indexes, NewIndex};
+use crate::indexes::Indexes;
 use crate::making::indexes_over;
-use crate::plan::{Plan, Planner};
 use crate::search::{all_matching, run, run_first};
 use crate::unique::{Replacing, clashes, replacing_clashes};
-use dv_bson::{Document, FieldChange, NoMemory};
 use dv_coll::{Collection, InsertFault, Iter, laws};
+use dv_keyed::{Index, NewIndex, Plan, Planner};
 use dv_match::Filter;
 use dv_order::Key;
 use dv_path::SortPart;
+use dv_value::{Document, FieldChange, NoMemory};
 use std::alloc::{AllocError, Global};
 use std::marker::Model;
 
@@ -52,7 +53,7 @@ pub struct IndexedCollection {
 impl Model for IndexedCollection {
     ghost use Rattle.std.specs.Prelude as prelude;
     ghost use Rattle.dv_index.specs.Change.{AreIndexesOf};
-    ghost use Rattle.dv_index.specs.Index.{form_of};
+    ghost use Rattle.dv_keyed.specs.Index.{form_of};
     ghost use Rattle.dv_index.specs.Indexed.{IndexedTree, coded_indexed};
 
     ghost Value = { IndexedTree };
@@ -296,7 +297,7 @@ impl IndexedCollection {
     pub fn find(&self, filter: &Filter) -> Result<Vec<&Document>, NoMemory>
         ensures { IfOk result (λ found. map (λ d. d.now) found.items ≡ kept (λ d. matches filter.now d) self.now.documents) }
     {
-        let plan = Planner::choose(filter, &self.indexes);
+        let plan = Planner::choose(filter, self.indexes.as_slice());
         run(self.alloc, &plan, filter, &self.documents, &self.indexes)
     }
 
@@ -313,7 +314,7 @@ impl IndexedCollection {
     ) -> Result<Option<Ahead<'_>>, NoMemory>
         ensures { IfOk result (λ found. IfSome found (λ ahead. kept (is_ahead (part by.now) ahead.bar.now) (map (λ d. d.now) ahead.documents.items) ≡ kept (is_ahead (part by.now) ahead.bar.now) (kept (λ d. matches filter.now d) self.now.documents))) }
     {
-        let Plan::Scan = Planner::choose(filter, &self.indexes) else {
+        let Plan::Scan = Planner::choose(filter, self.indexes.as_slice()) else {
             return Ok(None);
         };
         let Some(index) = index_on(&self.indexes, &by.path) else {
@@ -337,7 +338,7 @@ impl IndexedCollection {
     pub fn find_first(&self, filter: &Filter, most: usize) -> Result<Vec<&Document>, NoMemory>
         ensures { IfOk result (λ found. map (λ d. d.now) found.items ≡ take most (kept (λ d. matches filter.now d) self.now.documents)) }
     {
-        let plan = Planner::choose(filter, &self.indexes);
+        let plan = Planner::choose(filter, self.indexes.as_slice());
         run_first(
             self.alloc,
             &plan,
@@ -353,7 +354,7 @@ impl IndexedCollection {
         ensures index { IfOk result (λ explanation. option_map (λ name. name.now) explanation.index ≡ defined.index_chosen filter.now self.now.indexes) }
         ensures documents { IfOk result (λ explanation. explanation.documents ≡ defined.documents_covered filter.now self.now) }
     {
-        let plan = Planner::choose(filter, &self.indexes);
+        let plan = Planner::choose(filter, self.indexes.as_slice());
         Ok(Explanation {
             index: name_of(&plan, &self.indexes),
             documents: covered(self.alloc, &plan, &self.documents, &self.indexes)?,

@@ -1,55 +1,35 @@
 //! What holds of indexes and of the finds that they answer, each the contract of a function that does nothing.
 
-ghost use Rattle.std.specs.Prelude.{◌≡◌, ◌↔◌, ◌≤◌, ◌||◌, ◌++◌, ◌∷◌, [], ℕ, pos, Bool, false, true, codes, filter as kept, length, slice_get, List, IsSome, None, Ok, Some};
+ghost use Rattle.std.specs.Prelude.{◌≡◌, ◌≤◌, ◌||◌, ◌++◌, ◌∷◌, [], ℕ, Bool, false, codes, filter as kept, length, List, IsSome, None, Ok, Some};
 ghost use Rattle.std.specs.List.{list_any};
-ghost use Rattle.std.specs.Ordering.{is_eq};
 ghost use Rattle.std.specs.Str.{bytes_eq};
-ghost use Rattle.dv_bson.specs.Tree.{Field, Tree, int64, null};
+ghost use Rattle.dv_value.specs.Tree.{Field, null};
 ghost use Rattle.dv_coll.specs.Collection.{IsAscending, found, id_key, inserted, removed, replaced};
-ghost use Rattle.dv_bson.specs.Short.{doc, int, list, one};
-ghost use Rattle.dv_match.specs.Filter.{Condition, Members};
+ghost use Rattle.dv_value.specs.Short.{doc, int, list, one};
+ghost use Rattle.dv_match.specs.Filter.{Members};
 ghost use Rattle.dv_match.specs.Match.{matches};
-ghost use Rattle.dv_order.specs.Key.{KeyTree, key_order, value};
-ghost use Rattle.dv_order.specs.Order.{canon};
-ghost use Rattle.dv_path.specs.LeafKeys.{is_leaf_key};
-ghost use Rattle.dv_index.specs.Choice.{chosen};
-ghost use Rattle.dv_index.specs.Examples.{covered_by, has_key_of, index_for, three_indexes};
-ghost use Rattle.dv_index.specs.Index.{IndexForm, IndexTree, id_form};
+ghost use Rattle.dv_order.specs.Key.{KeyTree};
+ghost use Rattle.dv_keyed.specs.Choice.{chosen};
+ghost use Rattle.dv_index.specs.Examples.{covered_by, index_for, three_indexes};
+ghost use Rattle.dv_keyed.specs.Index.{IndexForm, IndexTree, id_form};
 ghost use Rattle.dv_index.specs.Indexed.{IndexedTree, documents_covered, without_index};
-ghost use Rattle.dv_index.specs.Interval.{is_in_all};
-ghost use Rattle.dv_index.specs.Pairs.{has_pair};
-ghost use Rattle.dv_index.specs.Search.{IsIndexOf, covers, has_within};
+ghost use Rattle.dv_keyed.specs.Pairs.{has_pair};
+ghost use Rattle.dv_keyed.specs.Within.{has_within};
+ghost use Rattle.dv_index.specs.Search.{IsIndexOf};
 ghost use Rattle.dv_index.specs.Unique.{are_broken, clashes};
 
-/// A filter is answered by an index that is there, and what matches it has a leaf in the bounds: by no index is a document
-/// missed.
-#[tactic(auto, using(crate::proofs::Sound::planned))]
-pub fn what_matches_is_in_the_bounds()
-    ensures { (filter : Members) (paths : List (List (List ℕ))) (place : ℕ) (bounds : Condition) → chosen filter paths ≡ Some (place, bounds) → (path : List (List ℕ)) × (slice_get paths place ≡ Some path) × ((d : List Field) → matches filter d ≡ true → has_within bounds path d ≡ true) }
-{}
+pub use dv_keyed::laws::{
+    an_only_key_is_in_all_bounds, keys_are_in_the_bounds_of_their_values, keys_by_example,
+    leaves_are_found_by_keys, what_matches_is_in_the_bounds,
+};
 
 /// A find covers all documents that match, and no more than there are.
-#[tactic(auto, using(crate::proofs::Counted::at_least, crate::proofs::Counted::at_most))]
+#[tactic(auto, using(crate::proofs::Counted::at_most))]
 pub fn a_find_covers_what_it_finds()
     ensures at_least { (filter : Members) (c : IndexedTree) → length (kept (matches filter) c.documents) ≤ documents_covered filter c }
     ensures at_most { (filter : Members) (c : IndexedTree) → documents_covered filter c ≤ length c.documents }
-{}
-
-/// What matches is tried: where a document that matches a filter has only one key under a path, this one is in all bounds that
-/// the filter's top conjunction sets under the path.
-pub fn an_only_key_is_in_all_bounds()
-    ensures { (filter : Members) (path : List (List ℕ)) (d : List Field) (v : Tree) → ((l : KeyTree) → is_leaf_key l path d ≡ true → is_eq (key_order l (value (canon v))) ≡ true) → matches filter d ≡ true → is_in_all (value (canon v)) path filter ≡ true }
 {
-    dv_order::laws::keys_stand_as_their_values();
-    dv_order::laws::equal_is_same_but_for_widths();
-}
-
-/// A document has a leaf in the bounds exactly where it has a key in them.
-pub fn leaves_are_found_by_keys()
-    ensures { (bounds : Condition) (path : List (List ℕ)) (d : List Field) → (has_within bounds path d ≡ true) ↔ ((v : Tree) × (covers bounds (value (canon v)) ≡ true) × (is_leaf_key (value (canon v)) path d ≡ true)) }
-{
-    dv_order::laws::keys_stand_as_their_values();
-    dv_order::laws::equal_is_same_but_for_widths();
+    what_matches_is_in_the_bounds();
 }
 
 /// What an index has is known by its path and by the documents alone: one that was kept through changes has the pairs of one
@@ -101,24 +81,8 @@ pub fn indexes_break_one_by_one()
     ensures { (xs ys : List IndexForm) (ds : List (List Field)) → are_broken (xs ++ ys) ds ≡ (are_broken xs ds || are_broken ys ds) }
 {}
 
-/// The keys of a document: those of what a path leads to, an array being one beside its elements, and null for what is
-/// missing.
-#[tactic(auto, unfolding(dv_path::specs::Path::index_of, dv_path::specs::Candidates::whole, dv_path::specs::Candidates::leaves, dv_path::specs::LeafKeys::is_leaf_key, dv_path::specs::LeafKeys::leaf_values))]
-pub fn keys_by_example()
-    ensures missing { has_key_of null (codes "a" ∷ []) [] ≡ true }
-    ensures null_itself { has_key_of null (codes "a" ∷ []) (one (codes "a") null) ≡ true }
-    ensures an_empty_array { has_key_of (list []) (codes "a" ∷ []) (one (codes "a") (list [])) ≡ true }
-    ensures no_null_in_an_empty_array { has_key_of null (codes "a" ∷ []) (one (codes "a") (list [])) ≡ false }
-    ensures an_element { has_key_of (int 2) (codes "a" ∷ []) (one (codes "a") (list (int 1 ∷ int 2 ∷ []))) ≡ true }
-    ensures the_array { has_key_of (list (int 1 ∷ int 2 ∷ [])) (codes "a" ∷ []) (one (codes "a") (list (int 1 ∷ int 2 ∷ []))) ≡ true }
-    ensures no_element_of_an_element { has_key_of (int 1) (codes "a" ∷ []) (one (codes "a") (list (list (int 1 ∷ []) ∷ []))) ≡ false }
-    ensures another_width { has_key_of (int64 (pos 2)) (codes "a" ∷ []) (one (codes "a") (int 2)) ≡ true }
-    ensures missing_in_one_of_several { has_key_of null (codes "a" ∷ codes "b" ∷ []) (one (codes "a") (list (doc (one (codes "b") (int 1)) ∷ doc [] ∷ []))) ≡ true }
-    ensures nothing_under_a_number_in_an_array { has_key_of null (codes "a" ∷ codes "b" ∷ []) (one (codes "a") (list (int 5 ∷ []))) ≡ false }
-{}
-
 /// Which of three indexes answers a filter: an equality goes before a range, and else the index that was made first.
-#[tactic(auto, unfolding(dv_match::specs::Parsing::filter_in, dv_match::specs::Parsing::filters_in, dv_match::specs::Parsing::each_filter, dv_match::specs::Parsing::filter_of, dv_match::specs::Parsing::conditions_in, dv_match::specs::Parsing::operators_in, dv_match::specs::Parsing::member_named, dv_match::specs::Parsing::operator_named, dv_path::specs::Path::path_of, crate::specs::Choice::chosen, crate::specs::Choice::first_in, crate::specs::Choice::first_in_member, crate::specs::Choice::first_in_all))]
+#[tactic(auto, unfolding(dv_match::specs::Parsing::filter_in, dv_match::specs::Parsing::filters_in, dv_match::specs::Parsing::each_filter, dv_match::specs::Parsing::filter_of, dv_match::specs::Parsing::conditions_in, dv_match::specs::Parsing::operators_in, dv_match::specs::Parsing::member_named, dv_match::specs::Parsing::operator_named, dv_candidates::specs::Path::path_of, dv_keyed::specs::Choice::chosen, dv_keyed::specs::Choice::first_in, dv_keyed::specs::Choice::first_in_member, dv_keyed::specs::Choice::first_in_all))]
 pub fn plans_by_example()
     ensures equality_before_range { index_for ((codes "a", doc (one (codes "$gt") (int 1))) ∷ (codes "b", int 1) ∷ []) ≡ Ok (Some (codes "b_1")) }
     ensures made_first { index_for ((codes "b", int 1) ∷ (codes "a", int 1) ∷ []) ≡ Ok (Some (codes "a_1")) }
@@ -132,7 +96,7 @@ pub fn plans_by_example()
 {}
 
 /// Three documents with an array, 4 and 1 as `a`: the first bound alone covers, a document once whatever its elements.
-#[tactic(auto, unfolding(dv_match::specs::Parsing::filter_in, dv_match::specs::Parsing::filter_of, dv_match::specs::Parsing::conditions_in, dv_match::specs::Parsing::operators_in, dv_match::specs::Parsing::member_named, dv_match::specs::Parsing::operator_named, dv_path::specs::Path::path_of, dv_path::specs::Path::index_of, dv_path::specs::Candidates::whole, dv_path::specs::Candidates::leaves, crate::specs::Choice::chosen, crate::specs::Choice::first_in, crate::specs::Choice::first_in_member, crate::specs::Choice::first_in_all, crate::specs::Search::covered, crate::specs::Search::has_within))]
+#[tactic(auto, unfolding(dv_match::specs::Parsing::filter_in, dv_match::specs::Parsing::filter_of, dv_match::specs::Parsing::conditions_in, dv_match::specs::Parsing::operators_in, dv_match::specs::Parsing::member_named, dv_match::specs::Parsing::operator_named, dv_candidates::specs::Path::path_of, dv_candidates::specs::Path::index_of, dv_candidates::specs::Candidates::whole, dv_candidates::specs::Candidates::leaves, dv_keyed::specs::Choice::chosen, dv_keyed::specs::Choice::first_in, dv_keyed::specs::Choice::first_in_member, dv_keyed::specs::Choice::first_in_all, crate::specs::Search::covered, dv_keyed::specs::Within::has_within))]
 pub fn covered_by_example()
     ensures first_bound { covered_by three_indexes (one (codes "a") (doc ((codes "$gt", int 1) ∷ (codes "$lt", int 3) ∷ []))) ≡ Ok 2 }
     ensures other_bound_first { covered_by three_indexes (one (codes "a") (doc ((codes "$lt", int 3) ∷ (codes "$gt", int 4) ∷ []))) ≡ Ok 2 }

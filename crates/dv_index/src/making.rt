@@ -6,19 +6,17 @@ ghost use Rattle.dv_coll.specs.Collection.{HasId, found, id_key};
 ghost use Rattle.std.specs.Ordering.{is_eq};
 ghost use Rattle.dv_order.specs.Key.{KeyTree, key_order};
 ghost use Rattle.dv_path.specs.LeafKeys.{is_leaf_key};
-ghost use Rattle.dv_index.specs.Index.{form_of};
-ghost use Rattle.dv_index.specs.View.{form_of_new};
-ghost use Rattle.dv_index.specs.Pairs.{has_pair, is_under_another};
+ghost use Rattle.dv_keyed.specs.Index.{form_of};
+ghost use Rattle.dv_keyed.specs.View.{form_of_new};
+ghost use Rattle.dv_keyed.specs.Pairs.{has_pair, is_under_another};
 ghost use Rattle.dv_index.specs.Search.{IsIndexOf, is_key_under};
 ghost use Rattle.dv_index.specs.Unique.{are_apart, are_broken, is_broken};
 
 use crate::change::key_of_id;
-use crate::indexes::{Index, NewIndex};
-use crate::keys::keys_of;
-use crate::multi_index::MultiIndex;
-use dv_bson::Document;
+use dv_candidates::Path;
 use dv_coll::{Collection, InsertFault};
-use dv_path::Path;
+use dv_keyed::{Index, MultiIndex, NewIndex, keys_of};
+use dv_value::Document;
 use std::alloc::Global;
 
 /// Indexes over all documents, in the order in which they are wanted. Refused with `Duplicate` where one is unique and two

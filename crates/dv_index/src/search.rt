@@ -1,33 +1,28 @@
 //! The documents that a plan finds.
 
 ghost use Rattle.std.specs.Prelude.{◌≡◌, ◌++◌, Bool, true, List as Sequence, map, take, filter as kept, IfOk, OnOk};
-ghost use Rattle.dv_bson.specs.Tree.{Field};
+ghost use Rattle.dv_value.specs.Tree.{Field};
 ghost use Rattle.dv_match.specs.Match.{matches};
-ghost use Rattle.dv_index.specs.Choice.{chosen};
+ghost use Rattle.dv_keyed.specs.Choice.{chosen};
 ghost use Rattle.std.specs.List.Sorted.{IsStrictlySortedBy};
 ghost use Rattle.std.specs.Ordering.{is_eq};
 ghost use Rattle.dv_coll.specs.Collection.{id_key};
-ghost use Rattle.dv_bson.specs.View.{tree};
-ghost use Rattle.dv_order.specs.Key.{KeyTree, key_order, value as key_of_tree};
-ghost use Rattle.dv_order.specs.Order.{canon};
+ghost use Rattle.dv_value.specs.View.{tree};
+ghost use Rattle.dv_order.specs.Key.{key_order};
 ghost use Rattle.dv_path.specs.LeafKeys.{is_key_of, is_some_key};
-ghost use Rattle.dv_index.specs.Pairs.{IsOnlyKey, has_pair};
 ghost use Rattle.dv_index.specs.Change.{AreIndexesOf, IsIndexAt};
-ghost use Rattle.dv_index.specs.Index.{id_form};
-ghost use Rattle.dv_index.specs.Interval.{is_in_all};
-ghost use Rattle.dv_index.specs.Keys.{has_key};
-ghost use Rattle.dv_index.specs.Search.{IsIndexOf, covers, has_within};
-ghost use Rattle.dv_index.specs.View.{bounds_seen, plan_seen};
+ghost use Rattle.dv_keyed.specs.Index.{id_form};
+ghost use Rattle.dv_keyed.specs.Keys.{has_key};
+ghost use Rattle.dv_keyed.specs.Within.{has_within};
+ghost use Rattle.dv_index.specs.Search.{IsIndexOf};
+ghost use Rattle.dv_keyed.specs.View.{bounds_seen, plan_seen};
 
-use crate::bounds::ends_within;
-use crate::indexes::{Index, Indexes};
-use crate::interval::Interval;
-use crate::plan::{Bounds, Plan};
-use crate::within::ids_within;
-use dv_bson::{Document, List, NoMemory, Value};
+use crate::indexes::Indexes;
 use dv_coll::Collection;
+use dv_keyed::{Bounds, Index, Plan, ids_tried, ids_within, in_order, keys_of_each, laws, lent};
 use dv_match::Filter;
-use dv_order::{Key, key_of, laws};
+use dv_order::{Key, key_of};
+use dv_value::{Document, List, NoMemory, Value};
 use std::alloc::Global;
 
 /// The documents that match the filter, in the order of their `_id`s. By an index only those are looked at that stand under the
@@ -62,6 +57,7 @@ pub(crate) fn run_first<'c>(
     requires planned { plan_seen plan.now ≡ chosen filter.now (map (λ i. i.path) indexes.now) }
     ensures { IfOk result (λ found. map (λ d. d.now) found.items ≡ take most (kept (λ d. matches filter.now d) collection.now)) }
 {
+    laws::what_matches_is_in_the_bounds();
     if let Plan::Index { place, bounds } = *plan {
         if let Some(index) = indexes.get(place) {
             let found = tried(alloc, place, index, bounds, filter, collection)?;
@@ -154,55 +150,12 @@ fn tried_by_key<'c>(
     requires within { (d : Sequence Field) → matches filter.now d ≡ true → has_within (bounds_seen bounds) index.now.path d ≡ true }
     ensures { IfOk result (λ found. kept (matches filter.now) (map (λ d. d.now) found.items) ≡ kept (matches filter.now) collection.now) }
 {
-    laws::keys_stand_as_their_values();
-    laws::equal_is_same_but_for_widths();
+    laws::leaves_are_found_by_keys();
+    laws::an_only_key_is_in_all_bounds();
     // The documents ascend by their `_id`s.
     let _ = collection.len();
     let ids = ids_tried(alloc, index, bounds, filter)?;
     documents_of(alloc, ids, collection)
-}
-
-/// The `_id`s' keys of the pairs whose keys are in the bounds; an `_id` that has only one key may be left out, unless this is
-/// in all ranges that the filter sets. Of the two ways to find them the one that looks at fewer.
-fn ids_tried<'i>(
-    alloc: Global,
-    index: &'i Index,
-    bounds: Bounds<'_>,
-    filter: &Filter,
-) -> Result<Vec<&'i Key>, NoMemory>
-    ensures { IfOk result (λ ids. (k i : KeyTree) → covers (bounds_seen bounds.entry) k ≡ true → has_pair k i index.now.pairs ≡ true → (IsOnlyKey k i index.now.pairs → is_in_all k index.now.path filter.now ≡ true) → has_key i (map (λ l. l.now) ids.items) ≡ true) }
-{
-    let pairs = index.pairs();
-    if let Bounds::Within(range, value) = bounds {
-        let mut ids = ids_in_all(alloc, index, filter)?;
-        let (low, high) = ends_within(alloc, range, value)?;
-        if pairs.has_more(low, high, ids.len()) {
-            pairs.add_several(&mut ids)?;
-            return Ok(ids);
-        }
-    }
-    ids_within(alloc, pairs.as_pairs(), bounds)
-}
-
-/// The `_id`s' keys of the pairs whose keys are in all ranges that the filter sets.
-fn ids_in_all<'i>(
-    alloc: Global,
-    index: &'i Index,
-    filter: &Filter,
-) -> Result<Vec<&'i Key>, NoMemory>
-    ensures { IfOk result (λ ids. (k i : KeyTree) → is_in_all k index.now.path filter.now ≡ true → has_pair k i index.now.pairs ≡ true → has_key i (map (λ l. l.now) ids.items) ≡ true) }
-{
-    let ends = Interval::of(alloc, index.path(), filter)?;
-    if !ends.is_forward() {
-        return Ok(Vec::new(alloc));
-    }
-    let Interval { low, high } = ends;
-    let mut ids = Vec::new(alloc);
-    index
-        .pairs()
-        .as_pairs()
-        .add_ids_between(low, high, &mut ids)?;
-    Ok(ids)
 }
 
 /// The documents among which are all that have a leaf in the bounds of the index at a place, in the order of their `_id`s.
@@ -231,8 +184,7 @@ fn candidates_by_id<'c>(
 ) -> Result<Vec<&'c Document>, NoMemory>
     ensures { IfOk result (λ found. (test : Sequence Field → Bool) → ((d : Sequence Field) → test d ≡ true → has_within (bounds_seen bounds.entry) id_form.path d ≡ true) → kept test (map (λ d. d.now) found.items) ≡ kept test collection.now) }
 {
-    // A key stands to a bound as its value does.
-    laws::keys_stand_as_their_values();
+    laws::keys_are_in_the_bounds_of_their_values();
     // Each document has an `_id`.
     let _ = collection.len();
     match bounds {
@@ -269,23 +221,6 @@ fn with_ids<'c>(
     documents_of(alloc, ids, collection)
 }
 
-/// The keys of the values. Fails where memory is wanting.
-pub(crate) fn keys_of_each(alloc: Global, values: &[Value]) -> Result<Vec<Key>, NoMemory>
-    ensures { IfOk result (λ keys. keys.items ≡ map (λ v. key_of_tree (canon (tree v))) values.now) }
-{
-    let mut keys = Vec::with_capacity(alloc, values.len())?;
-    'values: for value in values {
-        keys.push(key_of(value)?)?;
-    }
-    Ok(keys)
-}
-
-pub(crate) fn lent(alloc: Global, keys: &[Key]) -> Result<Vec<&Key>, NoMemory>
-    ensures { IfOk result (λ lent. map (λ k. k.now) lent.items ≡ keys.now) }
-{
-    keys.iter().collect(alloc)
-}
-
 fn all_of(alloc: Global, collection: &Collection) -> Result<Vec<&Document>, NoMemory>
     ensures { IfOk result (λ found. map (λ d. d.now) found.items ≡ collection.now) }
 {
@@ -302,7 +237,7 @@ fn candidates_by_key<'c>(
     requires { IsIndexOf index.now collection.now }
     ensures { IfOk result (λ found. (test : Sequence Field → Bool) → ((d : Sequence Field) → test d ≡ true → has_within (bounds_seen bounds.entry) index.now.path d ≡ true) → kept test (map (λ d. d.now) found.items) ≡ kept test collection.now) }
 {
-    laws::keys_stand_as_their_values();
+    laws::leaves_are_found_by_keys();
     // The documents ascend by their `_id`s.
     let _ = collection.len();
     let ids = ids_within(alloc, index.pairs().as_pairs(), bounds)?;
@@ -356,15 +291,4 @@ fn add_document<'c>(
         }
         None => Ok(()),
     }
-}
-
-/// The keys in their order, and of equal ones one. Those of one index key stand in order already, so there are few runs to
-/// merge. Fails where memory is wanting.
-pub(crate) fn in_order(mut keys: Vec<&Key>) -> Result<Vec<&Key>, NoMemory>
-    ensures ascending { IfOk result (λ ordered. IsStrictlySortedBy key_order (map (λ k. k.now) ordered.items)) }
-    ensures same { IfOk result (λ ordered. (k : KeyTree) → has_key k (map (λ l. l.now) ordered.items) ≡ has_key k (map (λ l. l.now) keys.entry.items)) }
-{
-    keys.sort()?;
-    keys.dedup();
-    Ok(keys)
 }

@@ -1,26 +1,22 @@
 //! Whether documents can stand among others, for unique indexes: alone, or put one after the other in place of others.
 
-ghost use Rattle.std.specs.Prelude.{◌≡◌, ◌∷◌, ◌++◌, ◌||◌, ◌&&◌, [], true, not, map, IfOk, OnOk};
+ghost use Rattle.std.specs.Prelude.{◌≡◌, ◌∷◌, ◌&&◌, [], true, map, IfOk};
 ghost use Rattle.std.specs.List.{AllByRecursion};
-ghost use Rattle.std.specs.Ordering.{is_eq};
 ghost use Rattle.dv_coll.specs.Collection.{AreStanding, HasId, id_key};
-ghost use Rattle.dv_order.specs.Key.{KeyTree, key_order};
+ghost use Rattle.dv_order.specs.Key.{KeyTree};
 ghost use Rattle.dv_path.specs.LeafKeys.{is_leaf_key};
 ghost use Rattle.dv_index.specs.Change.{UniqueAreIndexesOf};
-ghost use Rattle.dv_index.specs.Index.{form_of};
-ghost use Rattle.dv_index.specs.Keys.{has_key};
-ghost use Rattle.dv_index.specs.Pairs.{has_pair, is_under_another, pairs_without};
+ghost use Rattle.dv_keyed.specs.Index.{form_of};
+ghost use Rattle.dv_keyed.specs.Keys.{has_key};
 ghost use Rattle.dv_index.specs.Search.{IsIndexOf};
 ghost use Rattle.dv_index.specs.View.{afters, befores};
 ghost use Rattle.dv_index.specs.Unique as defined;
 
-use crate::change::{Moved, key_of_id};
-use crate::indexes::Index;
-use crate::keys::{keys_of, keys_without};
-use crate::pairs::Pairs;
-use dv_bson::{Document, NoMemory};
+use crate::change::key_of_id;
+use dv_candidates::Path;
 use dv_coll::{Collection, laws};
-use dv_path::Path;
+use dv_keyed::{Index, Moved, Trial, keys_of};
+use dv_value::{Document, NoMemory};
 use std::alloc::Global;
 
 /// A document that is there, and the one that comes in its place, under an equal `_id`.
@@ -154,44 +150,4 @@ fn keys_moved(alloc: Global, path: &Path, replacing: &Replacing<'_>) -> Result<M
     let old = keys_of(alloc, path, replacing.before)?;
     let new = keys_of(alloc, path, replacing.after)?;
     Ok(Moved { id, old, new })
-}
-
-/// What an index would be after some documents are replaced: without the pairs that are gone, and with those that have come.
-#[derive(Debug, Drop)]
-struct Trial {
-    gone: Pairs,
-    come: Pairs,
-}
-
-impl Trial {
-    fn new(alloc: Global) -> Self
-        ensures gone { result.gone ≡ [] }
-        ensures come { result.come ≡ [] }
-    {
-        Trial {
-            gone: Pairs::new(alloc),
-            come: Pairs::new(alloc),
-        }
-    }
-
-    /// Whether one of the new keys would stand under another `_id`. Takes no memory.
-    fn clashes(&self, index: &Index, moved: &Moved) -> bool
-        ensures { result ≡ is_under_another (λ k. has_key k moved.now.new) moved.now.id (pairs_without self.now.gone index.now.pairs ++ self.now.come) }
-    {
-        let held = index.pairs().as_pairs();
-        held.clash_without(&self.gone, &moved.new, &moved.id)
-            || self.come.clash(&moved.new, &moved.id)
-    }
-
-    /// Puts the new keys in place of the old ones; keys that stay are in neither set. Where memory is wanting, it is left with
-    /// some of them.
-    fn exchange(&mut self, alloc: Global, moved: &Moved) -> Result<(), NoMemory>
-        ensures gone { OnOk result ((k i : KeyTree) → has_pair k i self.new.gone ≡ (has_pair k i self.old.gone || ((has_key k moved.now.old && not (has_key k moved.now.new)) && is_eq (key_order i moved.now.id)))) }
-        ensures come { OnOk result ((k i : KeyTree) → has_pair k i self.new.come ≡ (has_pair k i self.old.come || ((has_key k moved.now.new && not (has_key k moved.now.old)) && is_eq (key_order i moved.now.id)))) }
-    {
-        let lost = keys_without(alloc, &moved.old, &moved.new)?;
-        let gained = keys_without(alloc, &moved.new, &moved.old)?;
-        self.gone.add_each(lost.as_slice(), &moved.id)?;
-        self.come.add_each(gained.as_slice(), &moved.id)
-    }
 }

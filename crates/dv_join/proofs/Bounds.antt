@@ -5,7 +5,7 @@ use Rattle.std.proofs.lemmas.List.{length-append, length-map}
 use Rattle.std.proofs.lemmas.Map.Entries.{option_filter}
 use Rattle.std.specs.Option.{option_map}
 use Rattle.std.specs.Ordering.{is_eq}
-use Rattle.dv_bson.specs.Tree.{Field}
+use Rattle.dv_value.specs.Tree.{Field}
 use Rattle.dv_gather.specs.declared.lookup.Lookup.{Lookup}
 use Rattle.dv_gather.specs.Joining.{is_joined}
 use Rattle.dv_gather.specs.Lookups.{joined_row, looked_up}

@@ -11,7 +11,7 @@ use Rattle.std.specs.List.Sorted.{IsStrictlySortedBy}
 use Rattle.std.specs.Map.{lookup}
 use Rattle.std.specs.Option.{unwrap_or}
 use Rattle.std.specs.Ordering.{is_eq}
-use Rattle.dv_bson.specs.Tree.{Field}
+use Rattle.dv_value.specs.Tree.{Field}
 use Rattle.dv_order.specs.Key.{KeyTree, key_order}
 use Rattle.dv_order.specs.KeyLaws.{key_order_total}
 use Rattle.dv_change.specs.declared.change.Change.{Change}

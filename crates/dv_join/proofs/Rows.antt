@@ -6,7 +6,7 @@ use Rattle.std.specs.List.{AllByRecursion}
 use Rattle.std.specs.Cmp.{Equal-is}
 use Rattle.std.specs.Map.{keys_of}
 use Rattle.std.specs.Ordering.{is_eq}
-use Rattle.dv_bson.specs.Tree.{Field}
+use Rattle.dv_value.specs.Tree.{Field}
 use Rattle.dv_change.specs.declared.change.Change.{Change}
 use Rattle.dv_change.specs.Changes.{IsExactChange, IsPositioned, Positioned, at, forget, position_changed, row_in, with_change}
 use Rattle.dv_change.specs.DiffLaws.{at-changed, at-filter, exact-place, or_else, positioned-changed, positioned-filter}

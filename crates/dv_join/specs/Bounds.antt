@@ -1,6 +1,6 @@
 -- What the bounds on a look-up's changes count.
 use Rattle.std.specs.Prelude.{ℕ, Bool, ◌||◌, List, filter, length, Option}
-use Rattle.dv_bson.specs.Tree.{Field}
+use Rattle.dv_value.specs.Tree.{Field}
 use Rattle.dv_gather.specs.declared.lookup.Lookup.{Lookup}
 use Rattle.dv_gather.specs.Joining.{is_joined}
 use Rattle.dv_change.specs.Changes.{Positioned}

@@ -3,7 +3,7 @@ use Rattle.std.specs.Prelude.{◌≡◌, Bool, cond, List, [], Option, Some, Non
 use Rattle.std.specs.BTreeMap.{get}
 use Rattle.std.specs.List.{list_any}
 use Rattle.std.specs.Option.{unwrap_or}
-use Rattle.dv_bson.specs.Tree.{Field}
+use Rattle.dv_value.specs.Tree.{Field}
 use Rattle.dv_order.specs.Key.{KeyTree, key_order}
 use Rattle.dv_change.specs.Changes.{Positioned}
 use Rattle.dv_change.specs.Ordered.{gone, put}

@@ -1,6 +1,6 @@
 -- A look-up kept by changes of both its sides: what it has taken in, and what it makes.
 use Rattle.std.specs.Prelude.{Bool, false, List, [], ◌∷◌, Option, None, Some}
-use Rattle.dv_bson.specs.Tree.{Field}
+use Rattle.dv_value.specs.Tree.{Field}
 use Rattle.dv_order.specs.Key.{KeyTree}
 use Rattle.dv_path.specs.LeafKeys.{is_some_key, leaf_values}
 use Rattle.dv_gather.specs.declared.lookup.Lookup.{Lookup}

@@ -3,15 +3,15 @@
 ghost use Rattle.std.specs.Prelude.{◌≡◌, ◌||◌, [], Bool, List, cond, filter, IfOk, OnOk};
 ghost use Rattle.std.specs.BTreeSet.{contains};
 ghost use Rattle.std.specs.Ordering.{is_eq};
-ghost use Rattle.dv_bson.specs.Tree.{Field};
+ghost use Rattle.dv_value.specs.Tree.{Field};
 ghost use Rattle.dv_change.specs.Changes.{IsPositioned, Positioned};
 ghost use Rattle.dv_join.specs.Indexed.{IsJoinIndexOf, has_any, moved_in_index, row_set, under};
 ghost use Rattle.dv_order.specs.Key.{KeyTree, key_order};
 
 use crate::joining::with_all;
-use dv_bson::{Document, NoMemory};
 use dv_change::{Ordered, Pos};
 use dv_order::Key;
+use dv_value::{Document, NoMemory};
 use std::alloc::Global;
 use std::collections::{BTreeMap, BTreeSet};
 

@@ -11,9 +11,9 @@ ghost use Rattle.dv_join.specs.Placed.{looked_up_at};
 ghost use Rattle.dv_join.specs.Turning.{has_foreign};
 
 use crate::index::Index;
-use dv_bson::{Document, NoMemory};
 use dv_change::{Ordered, Pos};
 use dv_gather::Lookup;
+use dv_value::{Document, NoMemory};
 use std::alloc::Global;
 
 /// Each of the rows with the documents that it is joined with, which are found in the index. Fails where memory is wanting.

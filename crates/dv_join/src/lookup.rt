@@ -11,10 +11,10 @@ ghost use Rattle.dv_order.specs.Key.{KeyTree, key_order};
 
 use crate::index::Index;
 use crate::joining::{alone_at, joined_rows};
-use dv_bson::{Document, NoMemory};
 use dv_change::{Change, Input, Ordered, Pos, Taken, Ticks, Turn, hand_on, take_in};
 use dv_gather::Lookup;
 use dv_order::Key;
+use dv_value::{Document, NoMemory};
 use std::alloc::Global;
 use std::collections::{BTreeMap, BTreeSet};
 

@@ -1,11 +1,11 @@
 -- A candidate that is an array.
 use Rattle.std.proofs.Common.{Bor, ◌≡◌, ◌∙◌, ap, Some, List}
-use Rattle.dv_bson.specs.declared.value.Value.{Value}
-use Rattle.dv_bson.specs.Tree.{Tree, array, elements_of}
-use Rattle.dv_bson.specs.View.{tree}
-use Rattle.dv_path.specs.declared.candidate.Candidate as memory
-use Rattle.dv_path.specs.declared.candidate.Candidate.TheVariants.{Found}
-use Rattle.dv_path.specs.View.{seen}
+use Rattle.dv_value.specs.declared.value.Value.{Value}
+use Rattle.dv_value.specs.Tree.{Tree, array, elements_of}
+use Rattle.dv_value.specs.View.{tree}
+use Rattle.dv_candidates.specs.declared.candidate.Candidate as memory
+use Rattle.dv_candidates.specs.declared.candidate.Candidate.TheVariants.{Found}
+use Rattle.dv_candidates.specs.View.{seen}
 use Rattle.dv_match.specs.Match.{has_size, elements_in}
 use Rattle.dv_match.proofs.Items.{elements_again}
 use Rattle.std.specs.Prelude.{ℕ, length, ◌==◌}

@@ -8,9 +8,9 @@ use Rattle.std.specs.declared.cmp.Ordering.{Ordering}
 use Rattle.std.specs.declared.cmp.Ordering.TheVariants.{Less, Equal, Greater}
 use Rattle.std.proofs.lemmas.List.MinMax.{ranks_by}
 use Rattle.std.proofs.lemmas.List.Sorted.{searchable_from_sorted, list_any-IsPermutation}
-use Rattle.dv_bson.specs.Tree.{Tree}
-use Rattle.dv_bson.specs.View.{tree}
-use Rattle.dv_bson.specs.declared.value.Value.{Value}
+use Rattle.dv_value.specs.Tree.{Tree}
+use Rattle.dv_value.specs.View.{tree}
+use Rattle.dv_value.specs.declared.value.Value.{Value}
 use Rattle.dv_order.specs.Order.{order}
 use Rattle.dv_order.specs.TotalOrder.{order_total}
 use Rattle.dv_match.specs.Choices.{value_stands_before, AreChoicesInOrder}

@@ -4,13 +4,13 @@ use Rattle.std.specs.Option.{option_map}
 use Rattle.std.proofs.lemmas.List.{map-append}
 use Rattle.std.proofs.lemmas.Option.{slice_get_read}
 use Rattle.dv_match.specs.declared.fault.FilterFault.TheVariants.{NoMemory}
-use Rattle.dv_bson.specs.Tree.{Tree, array, Field, fields_of, elements_of}
-use Rattle.dv_bson.specs.View.{tree}
-use Rattle.dv_bson.specs.declared.value.Value.{Value}
+use Rattle.dv_value.specs.Tree.{Tree, array, Field, fields_of, elements_of}
+use Rattle.dv_value.specs.View.{tree}
+use Rattle.dv_value.specs.declared.value.Value.{Value}
 use Rattle.dv_match.specs.declared.fault.FilterFault.{FilterFault}
 use Rattle.dv_match.specs.Filter.{Member, Members, members_of, more_members, filters_of, more_filters, Condition, conditions_of, more_conditions}
 use Rattle.dv_match.specs.Parsing.{Gives, member_named, filter_in, filter_of, filters_in, each_filter, conditions_in, operators_in, operator_named, condition_by, negated_in, test_in}
-use Rattle.dv_bson.specs.Results.{◌>>=◌}
+use Rattle.dv_value.specs.Results.{◌>>=◌}
 
 abbrev pub collected : {X Y : Type 0} → (X → Result Y FilterFault) → List X → Result (List Y) FilterFault
 collected f [] = Ok []

@@ -1,7 +1,7 @@
 -- The first name of a document.
 use Rattle.std.proofs.Common.{◌≡◌, ap, sym, List, [], ◌∷◌, ℕ, Some, None, slice_get, false, ◌&&◌, not, refl}
-use Rattle.dv_bson.specs.Tree.{Tree, Field, fields_of}
-use Rattle.dv_bson.specs.Names.{begins_with_dollar}
+use Rattle.dv_value.specs.Tree.{Tree, Field, fields_of}
+use Rattle.dv_value.specs.Names.{begins_with_dollar}
 use Rattle.dv_match.specs.Parsing.{takes_filters, lists_operators, lists_conditions}
 
 pub first-operator : (fs : List Field) (name : List ℕ) (v : Tree) → Some (name, v) ≡ slice_get fs 0 → lists_operators (fields_of fs) ≡ begins_with_dollar name

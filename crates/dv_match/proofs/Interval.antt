@@ -1,9 +1,9 @@
 -- Where no array stands a path leads to one candidate.
 use Rattle.std.proofs.Common.{◌≡◌, ◌∙◌, ap, refl, ℕ, true, ◌&&◌, List, [], ◌∷◌, ◌++◌, Some, None}
 use Rattle.std.specs.List.{flat_map}
-use Rattle.dv_bson.specs.Tree.{Tree, document, array, Field, fields_of, list_of_fields}
-use Rattle.dv_bson.specs.Names.{value_under}
-use Rattle.dv_path.specs.Candidates.{Candidate, candidates, whole, leaves, with_elements}
+use Rattle.dv_value.specs.Tree.{Tree, document, array, Field, fields_of, list_of_fields}
+use Rattle.dv_value.specs.Names.{value_under}
+use Rattle.dv_candidates.specs.Candidates.{Candidate, candidates, whole, leaves, with_elements}
 use Rattle.dv_match.specs.declared.range.Range.{Range}
 use Rattle.dv_match.specs.Filter.{in_range, no_conditions, more_conditions}
 use Rattle.dv_match.specs.Match.{is_in_range, meets_all}

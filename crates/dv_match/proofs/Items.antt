@@ -1,9 +1,9 @@
 -- What some or every item of a list is, where a loop has come to one of them.
 use Rattle.std.proofs.Common.{◌≡◌, ℕ, zero, suc, ◌<◌, ◌≤◌, List, [], ◌∷◌, length, map, take, take_all, get_or, refl, ap, sym, ◌∙◌, arith, Bool, true, false, ◌||◌, ◌&&◌}
 use Rattle.std.specs.List.{list_any, list_all}
-use Rattle.dv_bson.specs.declared.value.Value.{Value}
-use Rattle.dv_bson.specs.View.{tree}
-use Rattle.dv_bson.specs.Tree.{Tree, Field, elements_of, list_of_elements, fields_of, list_of_fields}
+use Rattle.dv_value.specs.declared.value.Value.{Value}
+use Rattle.dv_value.specs.View.{tree}
+use Rattle.dv_value.specs.Tree.{Tree, Field, elements_of, list_of_elements, fields_of, list_of_fields}
 
 pub or-true : (a : Bool) → a || true ≡ true
 or-true true = refl

@@ -1,14 +1,14 @@
 -- A filter's parts, one after the other.
 use Rattle.std.proofs.Common.{◌≡◌, ◌∙◌, ℕ, zero, suc, ◌<◌, ◌≤◌, get_or, length, arith, List, [], ◌∷◌, map, refl, ap, ◌||◌, ◌&&◌}
 use Rattle.std.specs.List.{list_any, list_all}
-use Rattle.dv_bson.specs.Tree.{Field}
-use Rattle.dv_path.specs.Candidates.{Candidate}
+use Rattle.dv_value.specs.Tree.{Field}
+use Rattle.dv_candidates.specs.Candidates.{Candidate}
 use Rattle.dv_match.specs.declared.form.Member as memory
 use Rattle.dv_match.specs.declared.form.Condition as conditions
 use Rattle.dv_match.specs.declared.form.Test as tests
 use Rattle.dv_match.specs.declared.form.Test.TheVariants as kinds
-use Rattle.dv_bson.specs.declared.value.Value.{Value}
-use Rattle.dv_bson.specs.View.{tree}
+use Rattle.dv_value.specs.declared.value.Value.{Value}
+use Rattle.dv_value.specs.View.{tree}
 use Rattle.dv_match.proofs.Items.{fields_again}
 use Rattle.dv_match.specs.Filter.{member_weight, members_weight, filters_weight, condition_weight, conditions_weight, Members, members_of, filters_of, conditions_of}
 use Rattle.dv_match.specs.Match.{matches, matches_member, matches_all, matches_any, meets, meets_all, passes}

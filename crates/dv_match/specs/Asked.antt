@@ -1,8 +1,8 @@
 -- Where conditions are asked: of what a path leads to in a document, or of an element by itself.
 use Rattle.std.specs.Prelude.{List, [], ◌∷◌, Some}
-use Rattle.dv_bson.specs.View.{tree}
-use Rattle.dv_path.specs.Candidates.{Candidate, whole, leaves, with_elements}
-use Rattle.dv_path.specs.View.{seen}
+use Rattle.dv_value.specs.View.{tree}
+use Rattle.dv_candidates.specs.Candidates.{Candidate, whole, leaves, with_elements}
+use Rattle.dv_candidates.specs.View.{seen}
 use Rattle.dv_match.specs.declared.place.Place.{Place}
 use Rattle.dv_match.specs.declared.place.Place.TheVariants.{Path, Sole, Element}
 

@@ -1,6 +1,6 @@
 -- Filters as parsed (MongoDB manual, "Query and Projection Operators"). Which operators there are is this server's own.
 use Rattle.std.specs.Prelude.{ℕ, suc, ◌+◌, Bool, List, [], ◌∷◌}
-use Rattle.dv_bson.specs.Tree.{Tree}
+use Rattle.dv_value.specs.Tree.{Tree}
 use Rattle.dv_match.specs.declared.range.Range.{Range}
 
 -- the members of a filter, the filters of a list, what a path has to meet, and what an element has to meet

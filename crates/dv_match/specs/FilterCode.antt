@@ -2,8 +2,8 @@
 use Rattle.std.specs.Prelude.{◌≡◌, ℕ, List, refl}
 use Rattle.std.proofs.Common.{ap, ap₂}
 use base.Stored.{Gv, gnum, gcons, gnil, Coded, coded_ℕ, coded_bool, coded_list}
-use Rattle.dv_bson.specs.TreeCode.{coded_tree}
-use Rattle.dv_bson.specs.Tree.{Tree}
+use Rattle.dv_value.specs.TreeCode.{coded_tree}
+use Rattle.dv_value.specs.Tree.{Tree}
 use Rattle.dv_match.specs.declared.range.Range.{Range}
 use Rattle.dv_match.specs.declared.range.Range.TheVariants.{Above, AtLeast, Below, AtMost}
 use Rattle.dv_match.specs.Filter.{Member, all_of, any_of, none_of, at_path, Members, no_members, more_members, Filters, no_filters, more_filters, Condition, equal, unequal, in_range, among, not_among, unmet, contains, exists, sized, has_element, Conditions, no_conditions, more_conditions, Test, by_operators, by_filter}

@@ -3,9 +3,9 @@
 use Rattle.std.specs.Prelude.{ℕ, ◌==◌, ◌&&◌, ◌||◌, not, Bool, true, false, List, [], ◌∷◌, length, Some, is_some}
 use Rattle.std.specs.List.{list_any, list_all}
 use Rattle.std.specs.Ordering.{is_eq, is_gt, is_ge, is_lt, is_le}
-use Rattle.dv_bson.specs.Tree.{Tree, document, array, Field, list_of_fields, list_of_elements}
+use Rattle.dv_value.specs.Tree.{Tree, document, array, Field, list_of_fields, list_of_elements}
 use Rattle.dv_order.specs.Order.{class, order}
-use Rattle.dv_path.specs.Candidates.{Candidate, or_null, whole, leaves}
+use Rattle.dv_candidates.specs.Candidates.{Candidate, or_null, whole, leaves}
 use Rattle.dv_match.specs.declared.range.Range.{Range}
 use Rattle.dv_match.specs.declared.range.Range.TheVariants.{Above, AtLeast, Below, AtMost}
 use Rattle.dv_match.specs.Filter.{Member, all_of, any_of, none_of, at_path, Members, no_members, more_members, Filters, no_filters, more_filters, Condition, equal, unequal, in_range, among, not_among, unmet, contains, exists, sized, has_element, Conditions, no_conditions, more_conditions, Test, by_operators, by_filter}

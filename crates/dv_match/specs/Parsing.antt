@@ -3,10 +3,10 @@
 use Rattle.std.specs.Prelude.{◌≡◌, ◌⊎◌, ℕ, ℤ, pos, negsuc, Bool, true, false, ◌||◌, ◌&&◌, not, List, Option, Some, None, Result, Ok, Err, codes, ◌==◌, if◌then◌else◌}
 use Rattle.std.specs.List.{list_any}
 use Rattle.std.specs.Str.{bytes_eq}
-use Rattle.dv_bson.specs.Results.{◌>>=◌}
-use Rattle.dv_bson.specs.Names.{begins_with_dollar}
-use Rattle.dv_bson.specs.Tree.{Tree, int32, int64, boolean, document, array, Fields, no_fields, field, Elements, no_elements, element, list_of_elements}
-use Rattle.dv_path.specs.Path.{path_of}
+use Rattle.dv_value.specs.Results.{◌>>=◌}
+use Rattle.dv_value.specs.Names.{begins_with_dollar}
+use Rattle.dv_value.specs.Tree.{Tree, int32, int64, boolean, document, array, Fields, no_fields, field, Elements, no_elements, element, list_of_elements}
+use Rattle.dv_candidates.specs.Path.{path_of}
 use Rattle.dv_match.specs.declared.range.Range.TheVariants.{Above, AtLeast, Below, AtMost}
 use Rattle.dv_match.specs.declared.fault.FilterFault.{FilterFault}
 use Rattle.dv_match.specs.declared.fault.FilterFault.TheVariants.{UnknownOperator, BadOperand, EmptyList, BadPath, NoMemory}

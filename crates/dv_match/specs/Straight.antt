@@ -1,8 +1,8 @@
 -- Paths that lead through documents alone.
 use Rattle.std.specs.Prelude.{ℕ, Bool, true, false, List, [], ◌∷◌, Some, None}
-use Rattle.dv_bson.specs.Tree.{document, array, list_of_fields}
-use Rattle.dv_bson.specs.Names.{value_under}
-use Rattle.dv_path.specs.Candidates.{Candidate}
+use Rattle.dv_value.specs.Tree.{document, array, list_of_fields}
+use Rattle.dv_value.specs.Names.{value_under}
+use Rattle.dv_candidates.specs.Candidates.{Candidate}
 
 -- whether no array stands on the way of a path from a candidate on, nor at its end
 abbrev pub meets_no_array : List (List ℕ) → Candidate → Bool

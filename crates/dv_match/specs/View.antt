@@ -1,5 +1,5 @@
 -- What the parts of a filter in memory stand for.
-use Rattle.dv_bson.specs.View.{tree}
+use Rattle.dv_value.specs.View.{tree}
 use Rattle.dv_match.specs.declared.form.Member.{Member}
 use Rattle.dv_match.specs.declared.form.Member.TheVariants.{And, Or, Nor, At}
 use Rattle.dv_match.specs.declared.form.Condition.{Condition}

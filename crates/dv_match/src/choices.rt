@@ -3,11 +3,11 @@
 ghost use Rattle.std.specs.Prelude.{◌≡◌, IfOk};
 ghost use Rattle.std.specs.List.{list_any};
 ghost use Rattle.std.specs.Ordering.{is_eq};
-ghost use Rattle.dv_bson.specs.View.{tree};
+ghost use Rattle.dv_value.specs.View.{tree};
 ghost use Rattle.dv_order.specs.Order.{order};
 
-use dv_bson::{List, NoMemory, Value};
 use dv_order::compare;
+use dv_value::{List, NoMemory, Value};
 use std::marker::Model;
 
 /// The values of `$in` or `$nin`, in written order. Beside them stands a copy in the order of values, among which a value
@@ -21,8 +21,8 @@ pub struct Choices {
 impl Model for Choices {
     ghost use Rattle.std.specs.Prelude as prelude;
     ghost use Rattle.std.specs.Coded.{coded_list};
-    ghost use Rattle.dv_bson.specs.Tree.{Tree};
-    ghost use Rattle.dv_bson.specs.TreeCode.{coded_tree};
+    ghost use Rattle.dv_value.specs.Tree.{Tree};
+    ghost use Rattle.dv_value.specs.TreeCode.{coded_tree};
     ghost use Rattle.dv_match.specs.Choices.{AreChoicesInOrder};
 
     ghost Value = { prelude.List Tree };

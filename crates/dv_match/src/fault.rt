@@ -3,7 +3,7 @@
 ghost use Rattle.std.specs.Prelude.{◌≡◌};
 ghost use Rattle.dv_match.specs.declared.fault.FilterFault.TheVariants.{NoMemory};
 
-use dv_path::PathFault;
+use dv_candidates::PathFault;
 use std::alloc::{AllocError, AllocFailed};
 use std::error::Error;
 use std::fmt;

@@ -6,8 +6,8 @@ ghost use Rattle.dv_match.specs.View.{member, condition};
 
 use crate::choices::Choices;
 use crate::range::Range;
-use dv_bson::{List, NoMemory, Value};
-use dv_path::Path;
+use dv_candidates::Path;
+use dv_value::{List, NoMemory, Value};
 use std::marker::Model;
 
 /// What a document has to be in order to match a filter.

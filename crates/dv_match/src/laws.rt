@@ -1,12 +1,12 @@
 //! What holds of filters and of the documents that match them, each the contract of a function that does nothing.
 
 ghost use Rattle.std.specs.Prelude.{◌≡◌, ◌&&◌, ℕ, not, true, false, List, [], ◌∷◌, codes, Ok, Err, Some};
-ghost use Rattle.dv_bson.specs.Tree.{Tree, Field, boolean, document, fields_of, null};
+ghost use Rattle.dv_value.specs.Tree.{Tree, Field, boolean, document, fields_of, null};
 ghost use Rattle.dv_match.specs.declared.fault.FilterFault.TheVariants.{BadPath, EmptyList, UnknownOperator};
 ghost use Rattle.dv_match.specs.Parsing.{filter_in};
-ghost use Rattle.dv_path.specs.Candidates.{Candidate, whole, leaves};
+ghost use Rattle.dv_candidates.specs.Candidates.{Candidate, whole, leaves};
 ghost use Rattle.dv_match.specs.Examples.{answer};
-ghost use Rattle.dv_bson.specs.Short.{one, doc, list, int};
+ghost use Rattle.dv_value.specs.Short.{one, doc, list, int};
 ghost use Rattle.dv_match.specs.declared.range.Range.{Range};
 ghost use Rattle.dv_match.specs.Filter.{Members, no_members, more_members, none_of, no_filters, more_filters, Conditions, equal, unequal, among, not_among, unmet, in_range, no_conditions, more_conditions};
 ghost use Rattle.dv_match.specs.Match.{is_in_range, matches, matches_member, meets, meets_all};
@@ -57,7 +57,7 @@ pub fn bounds_on_an_array()
 {}
 
 /// Filters over three documents: an array of documents, a document, and an array of a number.
-#[tactic(auto, unfolding(crate::specs::Parsing::filter_in, crate::specs::Parsing::filters_in, crate::specs::Parsing::each_filter, crate::specs::Parsing::filter_of, crate::specs::Parsing::conditions_in, crate::specs::Parsing::operators_in, crate::specs::Parsing::negated_in, crate::specs::Parsing::test_in, crate::specs::Parsing::member_named, crate::specs::Parsing::operator_named, crate::specs::Match::matches, crate::specs::Match::matches_member, crate::specs::Match::meets_all, crate::specs::Match::meets, crate::specs::Match::passes, dv_path::specs::Path::path_of, dv_path::specs::Path::index_of, dv_path::specs::Candidates::whole, dv_path::specs::Candidates::leaves))]
+#[tactic(auto, unfolding(crate::specs::Parsing::filter_in, crate::specs::Parsing::filters_in, crate::specs::Parsing::each_filter, crate::specs::Parsing::filter_of, crate::specs::Parsing::conditions_in, crate::specs::Parsing::operators_in, crate::specs::Parsing::negated_in, crate::specs::Parsing::test_in, crate::specs::Parsing::member_named, crate::specs::Parsing::operator_named, crate::specs::Match::matches, crate::specs::Match::matches_member, crate::specs::Match::meets_all, crate::specs::Match::meets, crate::specs::Match::passes, dv_candidates::specs::Path::path_of, dv_candidates::specs::Path::index_of, dv_candidates::specs::Candidates::whole, dv_candidates::specs::Candidates::leaves))]
 pub fn worked_examples()
     ensures some_element_first { answer (one (codes "a.b") (int 2)) (one (codes "a") (list ((doc ((codes "b", int 1) ∷ [])) ∷ (doc ((codes "b", int 2) ∷ [])) ∷ []))) ≡ Ok true }
     ensures some_element_second { answer (one (codes "a.b") (int 2)) (one (codes "a") (doc ((codes "b", int 2) ∷ []))) ≡ Ok true }
@@ -93,7 +93,7 @@ pub fn worked_examples()
 {}
 
 /// A missing field counts as null, an empty array doesn't.
-#[tactic(auto, unfolding(crate::specs::Parsing::filter_in, crate::specs::Parsing::filters_in, crate::specs::Parsing::each_filter, crate::specs::Parsing::filter_of, crate::specs::Parsing::conditions_in, crate::specs::Parsing::operators_in, crate::specs::Parsing::negated_in, crate::specs::Parsing::test_in, crate::specs::Parsing::member_named, crate::specs::Parsing::operator_named, crate::specs::Match::matches, crate::specs::Match::matches_member, crate::specs::Match::meets_all, crate::specs::Match::meets, crate::specs::Match::passes, dv_path::specs::Path::path_of, dv_path::specs::Path::index_of, dv_path::specs::Candidates::whole, dv_path::specs::Candidates::leaves))]
+#[tactic(auto, unfolding(crate::specs::Parsing::filter_in, crate::specs::Parsing::filters_in, crate::specs::Parsing::each_filter, crate::specs::Parsing::filter_of, crate::specs::Parsing::conditions_in, crate::specs::Parsing::operators_in, crate::specs::Parsing::negated_in, crate::specs::Parsing::test_in, crate::specs::Parsing::member_named, crate::specs::Parsing::operator_named, crate::specs::Match::matches, crate::specs::Match::matches_member, crate::specs::Match::meets_all, crate::specs::Match::meets, crate::specs::Match::passes, dv_candidates::specs::Path::path_of, dv_candidates::specs::Path::index_of, dv_candidates::specs::Candidates::whole, dv_candidates::specs::Candidates::leaves))]
 pub fn null_examples()
     ensures missing { answer (one (codes "a") null) [] ≡ Ok true }
     ensures null_itself { answer (one (codes "a") null) (one (codes "a") null) ≡ Ok true }

@@ -1,15 +1,15 @@
 //! What is asked of one candidate.
 
 ghost use Rattle.std.specs.Prelude.{◌≡◌, is_some};
-ghost use Rattle.dv_bson.specs.View.{tree};
-ghost use Rattle.dv_path.specs.View.{seen};
+ghost use Rattle.dv_value.specs.View.{tree};
+ghost use Rattle.dv_candidates.specs.View.{seen};
 ghost use Rattle.dv_match.specs.Match as defined;
 
 use crate::choices::Choices;
 use crate::range::Range;
-use dv_bson::Value;
+use dv_candidates::Candidate;
 use dv_order::{compare, same_class};
-use dv_path::Candidate;
+use dv_value::Value;
 
 /// Whether the candidate compares equal to the value.
 pub(crate) fn is_equal(candidate: Candidate<'_>, value: &Value) -> bool

@@ -2,8 +2,8 @@
 
 ghost use Rattle.std.specs.Prelude.{◌≡◌, is_some};
 ghost use Rattle.std.specs.List.{list_any};
-ghost use Rattle.dv_bson.specs.View.{tree};
-ghost use Rattle.dv_path.specs.View.{seen};
+ghost use Rattle.dv_value.specs.View.{tree};
+ghost use Rattle.dv_candidates.specs.View.{seen};
 ghost use Rattle.dv_match.specs.Asked.{wholes, parts};
 ghost use Rattle.dv_match.specs.Match as defined;
 ghost use Rattle.dv_match.specs.View.{member, condition, test};
@@ -13,8 +13,8 @@ use crate::form::{Condition, Conditions, Filter, Filters, Member, Test};
 use crate::leaf::{has_size, is_among, is_equal, is_found, is_in_range};
 use crate::place::{Place, any_candidate, any_part};
 use crate::range::Range;
-use dv_bson::{Document, List, Value};
-use dv_path::Candidate;
+use dv_candidates::Candidate;
+use dv_value::{Document, List, Value};
 
 impl Filter {
     /// Whether the document matches: all the filter's members match. Takes no memory, and stops as soon as the answer is

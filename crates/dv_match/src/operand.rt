@@ -1,8 +1,8 @@
 //! The operands of conditions.
 
 ghost use Rattle.std.specs.Prelude.{◌≡◌};
-ghost use Rattle.dv_bson.specs.Tree.{fields_of};
-ghost use Rattle.dv_bson.specs.View.{tree};
+ghost use Rattle.dv_value.specs.Tree.{fields_of};
+ghost use Rattle.dv_value.specs.View.{tree};
 ghost use Rattle.std.specs.List.{list_any};
 ghost use Rattle.dv_match.specs.Parsing as defined;
 ghost use Rattle.dv_match.specs.Parsing.{Gives};
@@ -10,7 +10,7 @@ ghost use Rattle.dv_match.specs.Parsing.{Gives};
 use crate::choices::Choices;
 use crate::fault::FilterFault;
 use crate::operator::takes_filters;
-use dv_bson::{Document, List, Value, begins_with_dollar};
+use dv_value::{Document, List, Value, begins_with_dollar};
 
 /// Whether the document is an operator list: its first name begins with a dollar sign.
 pub(crate) fn lists_operators(document: &Document) -> bool

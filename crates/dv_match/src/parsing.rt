@@ -1,9 +1,9 @@
 //! Filters from documents.
 
 ghost use Rattle.std.specs.Prelude.{◌≡◌};
-ghost use Rattle.dv_bson.specs.Tree.{document as doc, fields_of, elements_of};
-ghost use Rattle.dv_bson.specs.View.{tree};
-ghost use Rattle.dv_path.specs.Path.{path_of};
+ghost use Rattle.dv_value.specs.Tree.{document as doc, fields_of, elements_of};
+ghost use Rattle.dv_value.specs.View.{tree};
+ghost use Rattle.dv_candidates.specs.Path.{path_of};
 ghost use Rattle.dv_match.specs.Parsing as defined;
 ghost use Rattle.dv_match.specs.Parsing.{Gives};
 ghost use Rattle.dv_match.specs.View.{member, condition, test};
@@ -15,8 +15,8 @@ use crate::operand::{
 };
 use crate::operator::{Operator, operator_named};
 use crate::range::Range;
-use dv_bson::{Document, List, Value, begins_with_dollar};
-use dv_path::Path;
+use dv_candidates::Path;
+use dv_value::{Document, List, Value, begins_with_dollar};
 use std::alloc::Global;
 
 impl Filter {

@@ -2,14 +2,14 @@
 
 ghost use Rattle.std.specs.Prelude.{◌≡◌, Bool};
 ghost use Rattle.std.specs.List.{list_any};
-ghost use Rattle.dv_path.specs.Candidates.{whole, leaves};
-ghost use Rattle.dv_path.specs.Candidates as candidates;
-ghost use Rattle.dv_path.specs.Fold.{Answers};
-ghost use Rattle.dv_path.specs.View.{seen};
+ghost use Rattle.dv_candidates.specs.Candidates.{whole, leaves};
+ghost use Rattle.dv_candidates.specs.Candidates as candidates;
+ghost use Rattle.dv_candidates.specs.Fold.{Answers};
+ghost use Rattle.dv_candidates.specs.View.{seen};
 ghost use Rattle.dv_match.specs.Asked.{wholes, parts};
 
-use dv_bson::{Document, Value};
-use dv_path::{Candidate, Path, any_leaf, any_whole, any_with_elements, sole_candidate};
+use dv_candidates::{Candidate, Path, any_leaf, any_whole, any_with_elements, sole_candidate};
+use dv_value::{Document, Value};
 
 /// What conditions are asked of.
 #[derive(Clone, Copy)]

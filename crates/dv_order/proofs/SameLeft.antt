@@ -4,7 +4,7 @@ use Rattle.std.proofs.Common.{ap, sym, ◌∙◌, arith}
 use Rattle.std.specs.Cmp.Lexicographic.{pointwise}
 use Rattle.std.specs.Str.{bytes_eq}
 use Rattle.std.proofs.lemmas.Bool.Decides.{nat_tests}
-use Rattle.dv_bson.specs.Tree.{Tree, Field, fields_of, elements_of}
+use Rattle.dv_value.specs.Tree.{Tree, Field, fields_of, elements_of}
 use Rattle.dv_order.specs.Same.{is_same, same_fields, same_elements}
 
 -- us and vs are what is left of xs and ys after as many items of each, and f answers of them what it answers of these

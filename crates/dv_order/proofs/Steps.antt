@@ -8,7 +8,7 @@ use Rattle.std.specs.declared.cmp.Ordering.TheVariants.{Less, Equal, Greater}
 use Rattle.std.specs.Ordering.{ordering_then, nat_cmp, is_ne}
 use Rattle.std.specs.Cmp.{nat_cmp_is}
 use Rattle.std.specs.Cmp.Lexicographic.{slice_cmp}
-use Rattle.dv_bson.specs.Tree.{Tree, Field, fields_of, elements_of}
+use Rattle.dv_value.specs.Tree.{Tree, Field, fields_of, elements_of}
 use Rattle.dv_order.specs.Order.{class, field_order, fields_order, elements_order, order}
 use Rattle.dv_order.specs.TotalOrder.{then_assoc}
 

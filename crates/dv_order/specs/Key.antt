@@ -4,8 +4,8 @@ use Rattle.std.specs.declared.cmp.Ordering.{Ordering}
 use Rattle.std.specs.Ordering.{nat_cmp}
 use Rattle.std.proofs.Common.{ap}
 use base.Stored.{Gv, gnum, gcons, Coded}
-use Rattle.dv_bson.specs.Tree.{Tree, Field}
-use Rattle.dv_bson.specs.TreeCode.{coded_tree}
+use Rattle.dv_value.specs.Tree.{Tree, Field}
+use Rattle.dv_value.specs.TreeCode.{coded_tree}
 use Rattle.dv_order.specs.Order.{canon, class, order}
 
 -- a key: that of a value, or one that no value has

@@ -4,7 +4,7 @@ use Rattle.std.proofs.Common.{subst}
 use Rattle.std.specs.declared.cmp.Ordering.{Ordering}
 use Rattle.std.specs.Ordering.{nat_cmp, is_ne, on, then_cmp}
 use Rattle.std.specs.Cmp.{IsTotalOrder, nat_cmp_total, on_total, then_total}
-use Rattle.dv_bson.specs.Tree.{Tree, int32}
+use Rattle.dv_value.specs.Tree.{Tree, int32}
 use Rattle.dv_order.specs.Order.{class, order}
 use Rattle.dv_order.specs.Key.{KeyTree, no_element, value, key_class, key_order}
 use Rattle.dv_order.specs.TotalOrder.{order_total, unequal_decides, classes_first}

@@ -2,7 +2,7 @@
 use Rattle.std.specs.Prelude.{◌≡◌, Option}
 use Rattle.std.proofs.Common.{sym, ◌∙◌}
 use Rattle.std.specs.declared.cmp.Ordering.TheVariants.{Equal}
-use Rattle.dv_bson.specs.Tree.{Tree}
+use Rattle.dv_value.specs.Tree.{Tree}
 use Rattle.dv_order.specs.Key.{KeyTree, key_at, key_order}
 use Rattle.dv_order.specs.SameOrder.{same_key}
 

@@ -1,7 +1,7 @@
 -- The value that a key in memory is made of.
 use Rattle.std.specs.Prelude.{Option, None, Some}
-use Rattle.dv_bson.specs.Tree.{Tree}
-use Rattle.dv_bson.specs.View.{tree}
+use Rattle.dv_value.specs.Tree.{Tree}
+use Rattle.dv_value.specs.View.{tree}
 use Rattle.dv_order.specs.Key.{first_value}
 use Rattle.dv_order.specs.declared.key.Source.{Source}
 use Rattle.dv_order.specs.declared.key.Source.TheVariants.{NoElement, Element, First}

@@ -8,7 +8,7 @@ use Rattle.std.specs.Ordering.{ordering_then, nat_cmp, int_cmp, bool_cmp, is_ne,
 use Rattle.std.specs.Cmp.{IsTotalOrder, nat_cmp_total, int_cmp_total, bool_cmp_total, on_total, then_total}
 use Rattle.std.specs.Cmp.Derive.Recursive.{limit_total}
 use Rattle.std.specs.Cmp.Lexicographic.{slice_cmp, lists_total, nat_list_cmp_total}
-use Rattle.dv_bson.specs.Tree.{Tree, int32, int64, string, document, array, boolean, binary, object_id, date, null, timestamp, min_key, max_key, Fields, no_fields, field, Elements, no_elements, element, Field, list_of_fields, list_of_elements, weight, fields_weight, elements_weight}
+use Rattle.dv_value.specs.Tree.{Tree, int32, int64, string, document, array, boolean, binary, object_id, date, null, timestamp, min_key, max_key, Fields, no_fields, field, Elements, no_elements, element, Field, list_of_fields, list_of_elements, weight, fields_weight, elements_weight}
 use Rattle.dv_order.specs.Order.{class, fields_order, elements_order, order}
 
 -- what a value is compared by within its class, and something fixed for the others

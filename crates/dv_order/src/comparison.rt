@@ -1,11 +1,11 @@
 //! The order of two values.
 
 ghost use Rattle.std.specs.Prelude.{◌≡◌, ◌==◌};
-ghost use Rattle.dv_bson.specs.Tree.{binary, fields_of, elements_of};
-ghost use Rattle.dv_bson.specs.View.{tree};
+ghost use Rattle.dv_value.specs.Tree.{binary, fields_of, elements_of};
+ghost use Rattle.dv_value.specs.View.{tree};
 ghost use Rattle.dv_order.specs.Order.{class, field_order, fields_order, elements_order, order};
 
-use dv_bson::{Document, List, Value};
+use dv_value::{Document, List, Value};
 use std::cmp::Ordering;
 
 /// Whether `a` stands before `b` (`Less`), beside it (`Equal`) or after it (`Greater`).

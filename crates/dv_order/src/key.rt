@@ -6,15 +6,15 @@ ghost use Rattle.std.specs.Map.{set_value};
 ghost use Rattle.std.specs.Cmp.{eq_by_cmp_equiv, partial_equiv_from_equiv, partial_order_from_total};
 ghost use Rattle.std.specs.Option.{option_map};
 ghost use Rattle.std.specs.Ordering.{as_partial_cmp, eq_by_cmp};
-ghost use Rattle.dv_bson.specs.Tree.{int64};
-ghost use Rattle.dv_bson.specs.View.{tree};
+ghost use Rattle.dv_value.specs.Tree.{int64};
+ghost use Rattle.dv_value.specs.View.{tree};
 ghost use Rattle.dv_order.specs.Order.{canon};
 ghost use Rattle.dv_order.specs.Key.{first_value, key_at, key_class, key_order, no_element, value as key_of_tree};
 ghost use Rattle.dv_order.specs.KeyLaws.{key_order_total};
 ghost use Rattle.dv_order.specs.OwnKeys.{IsOwn};
 
 use crate::comparison::{class_of, compare};
-use dv_bson::{Document, NoMemory, Value};
+use dv_value::{Document, NoMemory, Value};
 use std::cmp::Ordering;
 use std::collections::BTreeMap;
 use std::marker::Model;

@@ -3,9 +3,9 @@
 ghost use Rattle.std.specs.Prelude.{◌≡◌, ◌↔◌, ◌<◌, ℕ, ℤ, pos, negsuc, Bool, false, true, List, [], ◌∷◌, Option, codes};
 ghost use Rattle.std.specs.declared.cmp.Ordering.TheVariants.{Less, Equal};
 ghost use Rattle.std.specs.Ordering.{ordering_reverse, is_ne};
-ghost use Rattle.dv_bson.specs.Tree.{Tree, int32, int64, string, document, array, boolean, binary, object_id, date, null, timestamp, min_key, max_key, fields_of, Fields, Elements, elements_of};
+ghost use Rattle.dv_value.specs.Tree.{Tree, int32, int64, string, document, array, boolean, binary, object_id, date, null, timestamp, min_key, max_key, fields_of, Fields, Elements, elements_of};
 ghost use Rattle.dv_order.specs.Order.{canon, class, order, below};
-ghost use Rattle.dv_bson.specs.Tree.{Field};
+ghost use Rattle.dv_value.specs.Tree.{Field};
 ghost use Rattle.dv_order.specs.Key.{key_at, key_order, no_element, value};
 ghost use Rattle.dv_order.specs.Same.{is_same, same_fields};
 

@@ -1,11 +1,11 @@
 //! Values that are spelled alike.
 
 ghost use Rattle.std.specs.Prelude.{◌≡◌};
-ghost use Rattle.dv_bson.specs.Tree.{fields_of, elements_of};
-ghost use Rattle.dv_bson.specs.View.{tree};
+ghost use Rattle.dv_value.specs.Tree.{fields_of, elements_of};
+ghost use Rattle.dv_value.specs.View.{tree};
 ghost use Rattle.dv_order.specs.Same as defined;
 
-use dv_bson::{Document, List, Value};
+use dv_value::{Document, List, Value};
 
 /// Whether two values are the same: of one type and with the same content, the width of integers and the order of fields
 /// included. Takes no memory, and time at most linear in the smaller of the two.

@@ -7,14 +7,14 @@ use Rattle.std.specs.declared.cmp.Ordering.{Ordering}
 use Rattle.std.specs.declared.cmp.Ordering.TheVariants.{Less, Equal, Greater}
 use Rattle.std.proofs.lemmas.Bool.{or_cases, or_left, or_right, or_from, or_parts}
 use Rattle.std.proofs.lemmas.List.MinMax.{ranks_by, IsStrictWeakOrder-flip}
-use Rattle.dv_bson.specs.Tree.{Tree, array, null, list_of_elements}
+use Rattle.dv_value.specs.Tree.{Tree, array, null, list_of_elements}
 use Rattle.dv_order.specs.Order.{canon, order}
 use Rattle.dv_order.specs.Key.{KeyTree, no_element, value, key_order, key_at}
 use Rattle.dv_order.specs.KeyLaws.{key_order_total}
 use Rattle.dv_path.specs.declared.direction.Direction.{Direction}
 use Rattle.dv_path.specs.declared.direction.Direction.TheVariants.{Ascending, Descending}
-use Rattle.dv_path.specs.Candidates.{Candidate}
-use Rattle.dv_path.specs.Fold.{Takes, FoldsOver, PassesOne}
+use Rattle.dv_candidates.specs.Candidates.{Candidate}
+use Rattle.dv_candidates.specs.Fold.{Takes, FoldsOver, PassesOne}
 use Rattle.dv_path.specs.SortKey.{array_keys, keys_of, stands_first, earliest, earlier_with}
 use Rattle.dv_path.specs.GatheredKeys.{any-flat_map}
 

@@ -1,10 +1,10 @@
 -- Fields and elements changed by taking a value out and putting another back.
 use Rattle.std.proofs.Common.{◌≡◌, ◌∙◌, ℕ, zero, suc, ◌<◌, Bool, true, false, List, [], ◌∷◌, ◌++◌, length, Some, None, slice_get, Result, Ok, Err, refl, ap, sym, arith, option_and_then, if◌then◌else◌}
 use Rattle.std.specs.Str.{bytes_eq}
-use Rattle.dv_bson.specs.Tree.{Tree, Field, null, document, fields_of}
-use Rattle.dv_bson.specs.Names.{value_under, has_name, with_value_under, without}
-use Rattle.dv_path.specs.declared.fault.PathFault.{PathFault}
-use Rattle.dv_path.specs.Candidates.{Candidate}
+use Rattle.dv_value.specs.Tree.{Tree, Field, null, document, fields_of}
+use Rattle.dv_value.specs.Names.{value_under, has_name, with_value_under, without}
+use Rattle.dv_candidates.specs.declared.fault.PathFault.{PathFault}
+use Rattle.dv_candidates.specs.Candidates.{Candidate}
 use Rattle.dv_path.specs.Placing.{field_with, with_field, with_element, result_map, put_field, put_behind}
 use Rattle.dv_path.specs.Removing.{changed_at, remove_field}
 use Rattle.dv_path.proofs.Fielded.{field-missing}

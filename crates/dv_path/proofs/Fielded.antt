@@ -2,9 +2,9 @@
 use Rattle.std.proofs.Common.{◌≡◌, ◌∙◌, ℕ, zero, suc, Bool, true, false, List, [], ◌∷◌, ◌++◌, Some, None, slice_get, refl, ap, sym, if◌then◌else◌}
 use Rattle.std.specs.Str.{bytes_eq}
 use Rattle.std.proofs.lemmas.Slice.Eq.{bytes_eq-Decides}
-use Rattle.dv_bson.specs.Tree.{Tree, Field}
-use Rattle.dv_bson.specs.Names.{value_under}
-use Rattle.dv_path.specs.Candidates.{Candidate}
+use Rattle.dv_value.specs.Tree.{Tree, Field}
+use Rattle.dv_value.specs.Names.{value_under}
+use Rattle.dv_candidates.specs.Candidates.{Candidate}
 use Rattle.dv_path.specs.Placing.{field_with, with_field, with_element}
 use Rattle.dv_path.specs.Removing.{changed_at}
 

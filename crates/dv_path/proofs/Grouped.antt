@@ -1,24 +1,24 @@
 -- What paths take away one after the other, and in groups.
 use Rattle.std.proofs.Common.{◌≡◌, ◌∙◌, ap, sym, refl, subst, ℕ, zero, suc, ◌+◌, ◌<◌, ◌≤◌, List, [], ◌∷◌, ◌++◌, length, Option, Some, None, inl, inr, option_and_then, append_assoc, append-nil, true, false, map, drop, get_or, arith}
 use Rattle.std.specs.Option.{unwrap_or}
-use Rattle.dv_bson.specs.Tree.{Tree, document, array, null, Field, fields_of, elements_of}
-use Rattle.dv_bson.specs.Names.{value_under}
-use Rattle.dv_bson.specs.Removing.{without_each}
-use Rattle.dv_bson.specs.View.{tree}
-use Rattle.dv_bson.specs.declared.value.Value.{Value}
+use Rattle.dv_value.specs.Tree.{Tree, document, array, null, Field, fields_of, elements_of}
+use Rattle.dv_value.specs.Names.{value_under}
+use Rattle.dv_value.specs.Removing.{without_each}
+use Rattle.dv_value.specs.View.{tree}
+use Rattle.dv_value.specs.declared.value.Value.{Value}
 use Rattle.dv_path.specs.Apart.{AreApart, IsApartFrom, AreAllApart, remove_each, fields_alone, leading_further}
-use Rattle.dv_path.specs.Candidates.{Candidate}
+use Rattle.dv_candidates.specs.Candidates.{Candidate}
 use Rattle.std.proofs.lemmas.List.{drop_more}
 use Rattle.dv_path.specs.GroupView.{group}
 use Rattle.dv_path.specs.declared.grouping.Group as memory
 use Rattle.dv_path.specs.Groups.{Group, begun, ungrouped, AreFilled, AreSome, AreLong, HasGroup, IsGrouping, with_component, begins_with_none, left_of_each, remove_each_element, with_groups, elements_with_groups}
-use Rattle.dv_path.specs.Path.{index_of}
+use Rattle.dv_candidates.specs.Path.{index_of}
 use Rattle.dv_path.specs.Placing.{with_field}
 use Rattle.dv_path.specs.Removing.{changed_at, remove_field, remove_element, left_behind, remove}
 use Rattle.dv_path.proofs.Fielded.{field-missing, field-again}
 use Rattle.dv_path.proofs.Parting.{left_of, field-left, field-twice, stays}
 use Rattle.dv_path.proofs.Together.{fields-first}
-use Rattle.dv_path.proofs.Walks.{list_of_fields_of, list_of_elements_of}
+use Rattle.dv_path.proofs.Items.{list_of_fields_of, list_of_elements_of}
 
 -- ---- one field, again and again
 

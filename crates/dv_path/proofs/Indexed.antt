@@ -4,7 +4,7 @@ use Rattle.std.specs.Char.{is_ascii_digit}
 use Rattle.std.specs.List.{list_all}
 use Rattle.std.proofs.lemmas.Bool.{and_parts}
 use Rattle.std.proofs.lemmas.Bool.Decides.{nat_tests}
-use Rattle.dv_path.specs.Path.{is_whole_number, number_behind, index_of}
+use Rattle.dv_candidates.specs.Path.{is_whole_number, number_behind, index_of}
 
 is-digit : (b : ℕ) → is_ascii_digit b ≡ true → (48 ≤ b) × (b ≤ 57)
 is-digit b h = (grind (arith, nat_tests, h), grind (arith, nat_tests, h))

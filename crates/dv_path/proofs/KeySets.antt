@@ -1,17 +1,21 @@
 -- The keys that a candidate gives, as they are put into a set.
-use Rattle.std.proofs.Common.{◌≡◌, ◌∙◌, ◌||◌, ◌++◌, refl, ap, sym, Bool, true, false, cond, List, [], ◌∷◌, map, Some, None}
+use Rattle.std.proofs.Common.{◌≡◌, ◌∙◌, ◌||◌, ◌++◌, ℕ, zero, suc, ◌+◌, ◌<◌, refl, ap, sym, Bool, true, false, cond, List, [], ◌∷◌, map, take, length, get_or, Some, None, Result, Ok, Err, OnErr}
 use Rattle.std.proofs.Math.Bool.{or-false, or_assoc}
 use Rattle.std.proofs.lemmas.List.{map-append}
+use Rattle.std.proofs.lemmas.List.Folds.{list_any-append}
 use Rattle.std.specs.Cmp.{eq_by_cmp_equiv}
 use Rattle.std.specs.List.{flat_map}
 use Rattle.std.specs.Option.{unwrap_or}
 use Rattle.std.specs.Ordering.{is_eq}
-use Rattle.dv_bson.specs.Tree.{Tree, array, list_of_elements}
+use Rattle.dv_value.specs.Tree.{Tree, array, list_of_elements}
+use Rattle.dv_value.specs.View.{tree}
+use Rattle.dv_value.specs.declared.value.Value.{Value}
 use Rattle.dv_order.specs.Order.{canon}
 use Rattle.dv_order.specs.Key.{KeyTree, value, key_order}
 use Rattle.dv_order.specs.KeyLaws.{key_order_total}
-use Rattle.dv_path.specs.Candidates.{Candidate, array_in, or_null, with_elements}
+use Rattle.dv_candidates.specs.Candidates.{Candidate, array_in, or_null, with_elements}
 use Rattle.dv_path.specs.LeafKeys.{is_key_of, is_some_key}
+use Rattle.dv_path.proofs.Gathered.{take_one_more}
 
 pub map-flat_map : {X Y Z : Type 0} (f : Y → Z) (g : X → List Y) (xs : List X) → map f (flat_map g xs) ≡ flat_map (λ x. map f (g x)) xs
 map-flat_map f g [] = refl
@@ -46,3 +50,24 @@ module _ (k : KeyTree) (c : Candidate) (was mid : Bool) (one : mid ≡ was || is
   pub without-list : None ≡ array_in c → mid ≡ was || is_some_key k (map or_null (with_elements c))
   without-list is =
       one ∙ ap (λ b. was || b) (sym (or-false (is_key_of k (or_null c))) ∙ ap (λ o. is_key_of k (or_null c) || is_some_key k (unwrap_or o [])) is ∙ sym (leaves-of k c))
+
+-- the keys of values that a loop adds, one more of them
+pub keys-more : (k : KeyTree) (was : Bool) (xs : List Value) (i : ℕ) (x : Value) → i < length xs → x ≡ get_or xs i x → (was || is_some_key k (map tree (take i xs))) || is_key_of k (tree x) ≡ was || is_some_key k (map tree (take (i + 1) xs))
+keys-more k was xs i x within is =
+    let before = is_some_key k (map tree (take i xs)) in
+    let more : is_some_key k (map tree (take (i + 1) xs)) ≡ before || is_key_of k (tree x) =
+    ap (λ ys. is_some_key k (map tree ys)) (take_one_more xs i x within is) ∙ ap (is_some_key k) (map-append tree (take i xs) (x ∷ []))
+    ∙ list_any-append (is_key_of k) (map tree (take i xs)) (tree x ∷ []) ∙ ap (λ b. before || b) (or-false (is_key_of k (tree x))) in
+    or_assoc was before (is_key_of k (tree x)) ∙ ap (λ b. was || b) (sym more)
+
+pub seen-first : (i : ℕ) (xs : List Value) (vs : List Tree) → map tree xs ≡ vs → map tree (take i xs) ≡ take i vs
+seen-first i xs vs seen = first i xs ∙ ap (take i) seen
+  where
+    first : (i : ℕ) (xs : List Value) → map tree (take i xs) ≡ take i (map tree xs)
+    first zero xs = refl
+    first (suc i) [] = refl
+    first (suc i) (x ∷ xs) = ap (λ ys. tree x ∷ ys) (first i xs)
+
+pub on-err : {T E P : Type 0} (r : Result T E) → P → OnErr r P
+on-err (Ok x) p = tt
+on-err (Err e) p = p

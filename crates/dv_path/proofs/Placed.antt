@@ -1,19 +1,19 @@
 -- What is put, and what is taken away, component by component.
 use Rattle.std.proofs.Common.{◌≡◌, ◌∙◌, ℕ, zero, suc, ◌<◌, Bool, true, false, ◌||◌, nat_lt, nat_le, List, [], ◌∷◌, ◌++◌, length, get_or, drop, Option, Some, None, slice_get, Result, Ok, Err, refl, ap, sym, subst, arith, append-nil, option_and_then, if◌then◌else◌}
 use Rattle.std.specs.Option.{unwrap_or}
-use Rattle.dv_bson.specs.Tree.{Tree, document, array, null, Field, Fields, no_fields, field, fields_of, list_of_fields, Elements, no_elements, element, elements_of, list_of_elements}
-use Rattle.dv_bson.specs.Names.{value_under}
-use Rattle.dv_path.specs.declared.fault.PathFault.{PathFault}
-use Rattle.dv_path.specs.declared.fault.PathFault.TheVariants.{NotViable, IndexTooLarge}
+use Rattle.dv_value.specs.Tree.{Tree, document, array, null, Field, Fields, no_fields, field, fields_of, list_of_fields, Elements, no_elements, element, elements_of, list_of_elements}
+use Rattle.dv_value.specs.Names.{value_under}
+use Rattle.dv_candidates.specs.declared.fault.PathFault.{PathFault}
+use Rattle.dv_candidates.specs.declared.fault.PathFault.TheVariants.{NotViable, IndexTooLarge}
 use Rattle.std.proofs.lemmas.Bool.{lt-ltb}
-use Rattle.dv_path.specs.Candidates.{Candidate, candidates, whole}
+use Rattle.dv_candidates.specs.Candidates.{Candidate, candidates, whole}
 use Rattle.dv_path.specs.Expression.{expression, expr}
-use Rattle.dv_path.specs.Ways.{HasNoArray}
-use Rattle.dv_path.specs.Path.{index_of}
+use Rattle.dv_candidates.specs.Ways.{HasNoArray}
+use Rattle.dv_candidates.specs.Path.{index_of}
 use Rattle.dv_path.specs.Slots.{Slot, taken, free, blocked, slot_of, element_slot, next_slot, slot_behind, slot}
 use Rattle.dv_path.specs.Placing.{field_with, put, put_behind, put_element, put_field, result_map, with_element, with_field}
 use Rattle.dv_path.specs.Removing.{changed_at, remove_field, remove_element, left_behind, remove}
-use Rattle.dv_path.proofs.Walks.{list_of_fields_of, list_of_elements_of}
+use Rattle.dv_path.proofs.Items.{list_of_fields_of, list_of_elements_of}
 use Rattle.std.specs.Str.{bytes_eq}
 use Rattle.dv_path.proofs.Fielded.{differ, field-other, field-at, field-missing, field-again, element-at, changed-missing, changed-same}
 

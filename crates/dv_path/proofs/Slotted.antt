@@ -2,14 +2,14 @@
 use Rattle.std.proofs.Common.{◌≡◌, ◌∙◌, ℕ, suc, ◌+◌, ◌<◌, ◌≤◌, List, [], ◌∷◌, length, drop, drop_of_length-le, get_or, refl, ap, sym, arith, add-one}
 use Rattle.std.proofs.Math.Seq.{drop-cons}
 use denote.Ref.{Bor}
-use Rattle.dv_bson.specs.declared.value.Value.{Value}
-use Rattle.dv_bson.specs.Tree.{Tree, Field}
-use Rattle.dv_bson.specs.Names.{value_under}
+use Rattle.dv_value.specs.declared.value.Value.{Value}
+use Rattle.dv_value.specs.Tree.{Tree, Field}
+use Rattle.dv_value.specs.Names.{value_under}
 use Rattle.dv_path.specs.Slots.{Slot, taken, slot_of, next_slot, slot_behind, slot}
 use Rattle.dv_path.specs.declared.slot.Slot as memory
 use Rattle.dv_path.specs.declared.slot.Slot.TheVariants.{Taken, Free, Blocked}
-use Rattle.dv_path.specs.View.{slot_seen}
-use Rattle.dv_path.proofs.Walks.{list_of_fields_of}
+use Rattle.dv_path.specs.SlotView.{slot_seen}
+use Rattle.dv_path.proofs.Items.{list_of_fields_of}
 
 pub slot-first : (names : List (List ℕ)) (fs : List Field) (name : List ℕ) → 0 < length names → name ≡ get_or names 0 name → slot_behind (drop 1 names) (slot_of (value_under name fs)) ≡ slot fs names
 unfolding slot

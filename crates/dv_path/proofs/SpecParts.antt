@@ -1,7 +1,7 @@
 -- Reading a sort, field by field.
 use Rattle.std.proofs.Common.{◌≡◌, ℕ, ◌+◌, ◌≤◌, List, [], ◌∷◌, ◌++◌, length, drop, drop_of_length-le, Option, Some, None, slice_get, option_and_then, refl, ap, sym, ◌∙◌, append_assoc, append-nil}
 use Rattle.std.specs.Option.{option_map}
-use Rattle.dv_bson.specs.Tree.{Field}
+use Rattle.dv_value.specs.Tree.{Field}
 use Rattle.dv_path.specs.SortSpec.{Part, part_of, parts_of}
 use Rattle.dv_path.proofs.Items.{drop_at}
 

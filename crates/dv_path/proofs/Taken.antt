@@ -2,7 +2,7 @@
 use Rattle.std.proofs.Common.{◌≡◌, ◌∙◌, ap, sym, refl, ℕ, Bool, true, false, List, [], ◌∷◌, if◌then◌else◌}
 use Rattle.std.specs.Bool.{⊤}
 use Rattle.std.specs.List.{filter}
-use Rattle.dv_bson.specs.Tree.{Tree, Field}
+use Rattle.dv_value.specs.Tree.{Tree, Field}
 use Rattle.dv_path.specs.Apart.{IsApartFrom, AreAllApart, remove_each, is_taken, leads_to_value}
 use Rattle.dv_path.specs.Removing.{remove}
 use Rattle.dv_path.specs.Slots.{Slot, taken, slot}

@@ -4,11 +4,11 @@ use Rattle.std.specs.Str.{bytes_eq}
 use Rattle.std.proofs.lemmas.List.{drop_more, map-append}
 use Rattle.std.specs.List.{filter}
 use Rattle.std.proofs.lemmas.Slice.Eq.{bytes_eq-Decides}
-use Rattle.dv_bson.specs.Tree.{Field}
-use Rattle.dv_bson.specs.Names.{value_under, without}
-use Rattle.dv_bson.specs.Removing.{without_each}
+use Rattle.dv_value.specs.Tree.{Field}
+use Rattle.dv_value.specs.Names.{value_under, without}
+use Rattle.dv_value.specs.Removing.{without_each}
 use Rattle.dv_path.specs.Apart.{AreApart, IsApartFrom, AreAllApart, remove_each, fields_alone, leading_further, field_alone, leads_to_value}
-use Rattle.dv_path.specs.Candidates.{Candidate}
+use Rattle.dv_candidates.specs.Candidates.{Candidate}
 use Rattle.dv_path.specs.Placing.{field_with, with_field}
 use Rattle.dv_path.specs.Removing.{remove_field, left_behind, remove}
 use Rattle.dv_path.proofs.Fielded.{field-other, differ}

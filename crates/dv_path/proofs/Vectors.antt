@@ -2,15 +2,15 @@
 use Rattle.std.proofs.Common.{◌≡◌, ◌∙◌, ℕ, zero, suc, ◌+◌, ◌<◌, ◌≤◌, ◌||◌, nat_lt, nat_le, Bool, true, false, List, [], ◌∷◌, ◌++◌, length, map, Option, Some, None, slice_get, slice_set, Result, Ok, Err, refl, ap, sym, subst, arith, ◌⊎◌, inl, inr, if◌then◌else◌}
 use Rattle.std.proofs.lemmas.Bool.Decides.{nat_tests}
 use Rattle.std.proofs.lemmas.List.{length-map, map-append, length-append}
-use Rattle.dv_bson.specs.declared.value.Value.{Value}
-use Rattle.dv_bson.specs.Tree.{Tree, null}
-use Rattle.dv_bson.specs.View.{tree}
-use Rattle.dv_path.specs.declared.fault.PathFault.{PathFault}
-use Rattle.dv_path.specs.declared.fault.PathFault.TheVariants.{IndexTooLarge, NoMemory}
-use Rattle.dv_path.specs.Candidates.{Candidate}
+use Rattle.dv_value.specs.declared.value.Value.{Value}
+use Rattle.dv_value.specs.Tree.{Tree, null}
+use Rattle.dv_value.specs.View.{tree}
+use Rattle.dv_candidates.specs.declared.fault.PathFault.{PathFault}
+use Rattle.dv_candidates.specs.declared.fault.PathFault.TheVariants.{IndexTooLarge, NoMemory}
+use Rattle.dv_candidates.specs.Candidates.{Candidate}
 use Rattle.dv_path.specs.Placing.{result_map, with_element, put_element, Gives}
 use Rattle.dv_path.specs.Removing.{remove_element}
-use Rattle.dv_path.proofs.Asked.{none-past}
+use Rattle.dv_path.proofs.Items.{none-past}
 use Rattle.dv_path.proofs.Fielded.{changed-missing}
 use Rattle.dv_path.proofs.Placed.{element-taken}
 use Rattle.dv_path.proofs.Exchanged.{null-before, element-last, element-twice, changed-there}

@@ -1,6 +1,6 @@
 -- Paths of which none begins or equals another, and what all of them take away.
 use Rattle.std.specs.Prelude.{◌≡◌, ◌≢◌, ◌⊎◌, ⊤, ℕ, List, [], ◌∷◌, Option, Some, None, Bool, true, false}
-use Rattle.dv_bson.specs.Tree.{Field}
+use Rattle.dv_value.specs.Tree.{Field}
 use Rattle.dv_path.specs.Removing.{remove}
 use Rattle.dv_path.specs.Slots.{Slot, taken, slot}
 

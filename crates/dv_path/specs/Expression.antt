@@ -1,9 +1,9 @@
 -- What a path gives where an expression names it.
 use Rattle.std.specs.Prelude.{ℕ, List, [], ◌∷◌, Some, None, option_and_then}
 use Rattle.std.specs.List.{filter_map}
-use Rattle.dv_bson.specs.Tree.{Tree, document, array, Field, fields_of, list_of_fields, elements_of, list_of_elements}
-use Rattle.dv_bson.specs.Names.{value_under}
-use Rattle.dv_path.specs.Candidates.{Candidate}
+use Rattle.dv_value.specs.Tree.{Tree, document, array, Field, fields_of, list_of_fields, elements_of, list_of_elements}
+use Rattle.dv_value.specs.Names.{value_under}
+use Rattle.dv_candidates.specs.Candidates.{Candidate}
 
 -- a document is entered by a component, and what it has there gives the rest; anything else gives Missing
 abbrev pub component_entered : (Tree → Candidate) → List ℕ → Tree → Candidate

@@ -6,8 +6,8 @@ use Rattle.std.specs.BTreeSet.{BTreeSet, contains}
 use Rattle.std.specs.List.{list_any, flat_map, FoldsTo}
 use Rattle.std.specs.Ordering.{is_eq}
 use Rattle.dv_order.specs.Key.{KeyTree, key_order}
-use Rattle.dv_path.specs.Candidates.{Candidate}
-use Rattle.dv_path.specs.Fold.{Takes, FoldsOver, PassesOne}
+use Rattle.dv_candidates.specs.Candidates.{Candidate}
+use Rattle.dv_candidates.specs.Fold.{Takes, FoldsOver, PassesOne}
 
 -- a test of some item behind each of a list
 pub any-flat_map : {X Y : Type 0} (test : Y → Bool) (f : X → List Y) (xs : List X) → list_any test (flat_map f xs) ≡ list_any (λ x. list_any test (f x)) xs

@@ -1,8 +1,8 @@
 -- Paths in groups of those that begin with one component, and what they take away of values.
 use Rattle.std.specs.Prelude.{◌≡◌, ◌≢◌, ⊤, ℕ, List, [], ◌∷◌, ◌++◌, Some, Bool, true, false}
 use Rattle.std.specs.Option.{unwrap_or}
-use Rattle.dv_bson.specs.Tree.{Tree, null, Field}
-use Rattle.dv_path.specs.Path.{index_of}
+use Rattle.dv_value.specs.Tree.{Tree, null, Field}
+use Rattle.dv_candidates.specs.Path.{index_of}
 use Rattle.dv_path.specs.Removing.{left_behind, remove_element, remove_field}
 
 -- a component, and what follows it in each of some paths

@@ -3,10 +3,10 @@
 use Rattle.std.specs.Prelude.{ℕ, Bool, List, map}
 use Rattle.std.specs.List.{list_any}
 use Rattle.std.specs.Ordering.{is_eq}
-use Rattle.dv_bson.specs.Tree.{Tree, Field}
+use Rattle.dv_value.specs.Tree.{Tree, Field}
 use Rattle.dv_order.specs.Order.{canon}
 use Rattle.dv_order.specs.Key.{KeyTree, value, key_order}
-use Rattle.dv_path.specs.Candidates.{leaves, or_null}
+use Rattle.dv_candidates.specs.Candidates.{leaves, or_null}
 
 -- whether k is the key of a value
 abbrev pub is_key_of : KeyTree → Tree → Bool

@@ -1,10 +1,9 @@
-pub mod Path
+pub use Rattle.dv_candidates.specs.Path
+pub use Rattle.dv_candidates.specs.Candidates
+pub use Rattle.dv_candidates.specs.View
+pub use Rattle.dv_candidates.specs.Fold
+pub use Rattle.dv_candidates.specs.Ways
 pub mod Names
-pub mod Candidates
-pub mod View
-pub mod Fold
-pub mod Fault
-pub mod Places
 pub mod LeafKeys
 pub mod GatheredKeys
 pub mod SortKey
@@ -12,9 +11,9 @@ pub mod SortSpec
 pub mod Parts
 pub mod Expression
 pub mod Slots
+pub mod SlotView
 pub mod Placing
 pub mod Removing
-pub mod Ways
 pub mod Apart
 pub mod Groups
 pub mod GroupView

@@ -1,8 +1,8 @@
 -- Names that a path can't lead to: a dot in one would part it, and a dollar sign in front of one says that it is an operator.
 use Rattle.std.specs.Prelude.{ℕ, false, ◌||◌, Bool, List, ◌==◌}
 use Rattle.std.specs.List.{list_any}
-use Rattle.dv_bson.specs.Tree.{Tree, document, array, Fields, no_fields, field, Elements, no_elements, element, Field, fields_of}
-use Rattle.dv_bson.specs.Names.{begins_with_dollar}
+use Rattle.dv_value.specs.Tree.{Tree, document, array, Fields, no_fields, field, Elements, no_elements, element, Field, fields_of}
+use Rattle.dv_value.specs.Names.{begins_with_dollar}
 
 -- a dot is 46
 abbrev pub has_dot : List ℕ → Bool

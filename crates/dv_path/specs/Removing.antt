@@ -2,10 +2,10 @@
 -- element of an array becomes null, so that the others keep their places.
 use Rattle.std.specs.Prelude.{ℕ, zero, suc, List, [], ◌∷◌, Option, Some, None, option_and_then}
 use Rattle.std.specs.Option.{unwrap_or}
-use Rattle.dv_bson.specs.Tree.{Tree, document, array, null, Field, fields_of, list_of_fields, elements_of, list_of_elements}
-use Rattle.dv_bson.specs.Names.{value_under}
-use Rattle.dv_path.specs.Candidates.{Candidate}
-use Rattle.dv_path.specs.Path.{index_of}
+use Rattle.dv_value.specs.Tree.{Tree, document, array, null, Field, fields_of, list_of_fields, elements_of, list_of_elements}
+use Rattle.dv_value.specs.Names.{value_under}
+use Rattle.dv_candidates.specs.Candidates.{Candidate}
+use Rattle.dv_candidates.specs.Path.{index_of}
 use Rattle.dv_path.specs.Placing.{with_field}
 
 -- the elements with the one at a place changed, where there is one

@@ -1,9 +1,9 @@
 -- What stands where a path leads in a document, as an update meets it: one place at most, since arrays are entered by whole
 -- numbers alone. That is this server's own; fields are entered as MongoDB's dot notation does it.
 use Rattle.std.specs.Prelude.{ℕ, List, [], ◌∷◌, Option, Some, None, slice_get}
-use Rattle.dv_bson.specs.Tree.{Tree, document, array, Field, fields_of, list_of_fields, list_of_elements}
-use Rattle.dv_bson.specs.Names.{value_under}
-use Rattle.dv_path.specs.Path.{index_of}
+use Rattle.dv_value.specs.Tree.{Tree, document, array, Field, fields_of, list_of_fields, list_of_elements}
+use Rattle.dv_value.specs.Names.{value_under}
+use Rattle.dv_candidates.specs.Path.{index_of}
 
 -- a value; nothing, where one may come; or nothing that can be changed
 pub data Slot : Type 0 where

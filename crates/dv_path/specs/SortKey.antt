@@ -2,11 +2,11 @@
 use Rattle.std.specs.Prelude.{ℕ, Bool, List, [], ◌∷◌, map, Option, Some, None, if◌then◌else◌}
 use Rattle.std.specs.List.{flat_map, best_of}
 use Rattle.std.specs.Ordering.{is_lt}
-use Rattle.dv_bson.specs.Tree.{Tree, array, null, Field, list_of_elements}
+use Rattle.dv_value.specs.Tree.{Tree, array, null, Field, list_of_elements}
 use Rattle.dv_order.specs.Key.{KeyTree, key_order, key_at}
 use Rattle.dv_path.specs.declared.direction.Direction.{Direction}
 use Rattle.dv_path.specs.declared.direction.Direction.TheVariants.{Ascending, Descending}
-use Rattle.dv_path.specs.Candidates.{Candidate, whole}
+use Rattle.dv_candidates.specs.Candidates.{Candidate, whole}
 
 -- the keys of an array: those of its elements, or the one that no value has where it is empty
 abbrev pub array_keys : List Tree → List KeyTree

@@ -1,10 +1,10 @@
 -- Sorts: paths, each with a direction.
 use Rattle.std.specs.Prelude.{ℕ, ℤ, pos, negsuc, ◌&&◌, nat_le, List, [], ◌∷◌, length, Option, Some, None, if◌then◌else◌, option_and_then}
 use Rattle.std.specs.Ordering.{int_eq}
-use Rattle.dv_bson.specs.Tree.{Tree, int32, int64, Field}
+use Rattle.dv_value.specs.Tree.{Tree, int32, int64, Field}
 use Rattle.dv_path.specs.declared.direction.Direction.{Direction}
 use Rattle.dv_path.specs.declared.direction.Direction.TheVariants.{Ascending, Descending}
-use Rattle.dv_path.specs.Path.{path_of}
+use Rattle.dv_candidates.specs.Path.{path_of}
 
 -- a path and a direction
 abbrev pub Part : Type 0

@@ -1,10 +1,10 @@
 //! Directions of sorting.
 
 ghost use Rattle.std.specs.Prelude.{◌≡◌};
-ghost use Rattle.dv_bson.specs.View.{tree};
+ghost use Rattle.dv_value.specs.View.{tree};
 ghost use Rattle.dv_path.specs.SortSpec.{direction_of, direction_of_number};
 
-use dv_bson::Value;
+use dv_value::Value;
 
 /// Which end of the order comes first.
 #[derive(Clone, Copy, Debug, PartialEq, Eq)]

@@ -2,13 +2,13 @@
 
 ghost use Rattle.std.specs.Prelude.{◌≡◌, ◌<◌, Some, length, map, slice_get, IfOk, OnOk};
 ghost use Rattle.std.specs.Option.{option_map};
-ghost use Rattle.dv_bson.specs.Names.{value_under, with_value_under, without};
-ghost use Rattle.dv_bson.specs.Tree.{null};
-ghost use Rattle.dv_bson.specs.View.{tree};
+ghost use Rattle.dv_value.specs.Names.{value_under, with_value_under, without};
+ghost use Rattle.dv_value.specs.Tree.{null};
+ghost use Rattle.dv_value.specs.View.{tree};
 ghost use Rattle.dv_path.specs.Placing.{with_element};
 
-use crate::component::Component;
-use dv_bson::{Document, NoMemory, Value};
+use dv_candidates::Component;
+use dv_value::{Document, NoMemory, Value};
 use std::mem::replace;
 
 /// Takes out the value under the component's name, if there is one; null stands for it until another is put back.

@@ -3,15 +3,13 @@
 ghost use Rattle.std.specs.Prelude.{◌≡◌, IfOk, option_and_then};
 ghost use Rattle.std.specs.List.{filter_map};
 ghost use Rattle.std.specs.Option.{option_map};
-ghost use Rattle.dv_bson.specs.Names.{value_under};
-ghost use Rattle.dv_bson.specs.View.{tree};
+ghost use Rattle.dv_value.specs.Names.{value_under};
+ghost use Rattle.dv_value.specs.View.{tree};
 ghost use Rattle.dv_path.specs.Expression.{component_entered, expr};
 ghost use Rattle.dv_path.specs.Expression as expressions;
 
-use crate::component::Component;
-use crate::path::Path;
-use crate::walk::behind;
-use dv_bson::{Document, List, NoMemory, Value};
+use dv_candidates::{Component, Path, behind};
+use dv_value::{Document, List, NoMemory, Value};
 use std::alloc::Global;
 
 /// The value of the path in the document, as an expression means it; `None` where it is missing.
@@ -45,19 +43,30 @@ fn enter(
     }
 }
 
-/// The value of what is left of the path.
+/// The value of what is left of the path: documents, of which thousands may stand in one another, are entered in a loop.
 #[cycle(expression)]
 fn within(alloc: Global, value: &Value, path: &[Component]) -> Result<Option<Value>, NoMemory>
     ensures { IfOk result (λ found. option_map tree found ≡ expressions.expression path.now (tree value.now)) }
 {
-    let Some((component, rest)) = path.split_first() else {
-        return Ok(Some(value.try_clone()?));
-    };
-    match value {
-        Value::Doc(document) => enter(alloc, document, component, rest),
-        Value::Array(list) => Ok(Some(Value::Array(of_elements(alloc, list, component, rest)?))),
-        _ => Ok(None),
+    let mut there = value;
+    let mut left = path;
+    'documents: while let Some((component, rest)) = left.split_first() {
+        match there {
+            Value::Doc(document) => {
+                let Some(entered) = document.get(component.as_str()) else {
+                    return Ok(None);
+                };
+                there = entered;
+                left = rest;
+            }
+            Value::Array(list) => {
+                let found = of_elements(alloc, list, component, rest)?;
+                return Ok(Some(Value::Array(found)));
+            }
+            _ => return Ok(None),
+        }
     }
+    Ok(Some(there.try_clone()?))
 }
 
 /// What the elements that are documents give.

@@ -4,8 +4,8 @@ ghost use Rattle.std.specs.Prelude.{◌≡◌, ◌++◌, ◌∷◌, [], map, IfO
 ghost use Rattle.dv_path.specs.GroupView.{group as seen};
 ghost use Rattle.dv_path.specs.Groups.{AreFilled, HasGroup, IsGrouping, ungrouped};
 
-use crate::component::Component;
-use dv_bson::NoMemory;
+use dv_candidates::Component;
+use dv_value::NoMemory;
 use std::alloc::Global;
 
 /// Paths that begin with one component: that one, and what follows in each.

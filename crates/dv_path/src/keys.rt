@@ -1,20 +1,18 @@
 //! The keys of a document under a path.
 
-ghost use Rattle.std.specs.Prelude.{◌≡◌, ◌||◌, IfOk, OnOk, map};
+ghost use Rattle.std.specs.Prelude.{◌≡◌, ◌||◌, ℕ, IfOk, OnErr, OnOk, map, take};
 ghost use Rattle.std.specs.BTreeSet.{contains};
 ghost use Rattle.std.specs.Option.{option_map};
 ghost use Rattle.dv_order.specs.Key.{KeyTree, key_order, value};
 ghost use Rattle.dv_order.specs.Order.{canon};
-ghost use Rattle.dv_path.specs.Candidates.{or_null, with_elements};
-ghost use Rattle.dv_path.specs.Candidates as candidates;
+ghost use Rattle.dv_candidates.specs.Candidates.{or_null, with_elements};
+ghost use Rattle.dv_candidates.specs.Candidates as candidates;
 ghost use Rattle.dv_path.specs.LeafKeys.{is_key_of, is_leaf_key, is_some_key};
-ghost use Rattle.dv_path.specs.View.{seen};
+ghost use Rattle.dv_candidates.specs.View.{seen};
 
-use crate::candidate::Candidate;
-use crate::path::Path;
-use crate::walk::fold_whole;
-use dv_bson::{Document, List, NoMemory, Value};
+use dv_candidates::{Candidate, Path, fold_whole};
 use dv_order::{Key, key_of};
+use dv_value::{Document, List, NoMemory, Value};
 use std::alloc::Global;
 use std::collections::BTreeSet;
 
@@ -42,9 +40,10 @@ fn with_leaves(mut keys: BTreeSet<Key>, candidate: Candidate<'_>) -> Result<BTre
     Ok(keys)
 }
 
-/// Adds the keys of the list's values to a set. Where memory is wanting, some of them are added.
+/// Adds the keys of the list's values to a set. Where memory is wanting, those of the first values are added, or none.
 pub fn add_element_keys(keys: &mut BTreeSet<Key>, list: &List) -> Result<(), NoMemory>
-    ensures { OnOk result ((k : KeyTree) → contains key_order keys.new k ≡ (contains key_order keys.old k || is_some_key k list.now)) }
+    ensures ok { OnOk result ((k : KeyTree) → contains key_order keys.new k ≡ (contains key_order keys.old k || is_some_key k list.now)) }
+    ensures part { OnErr result ((n : ℕ) × ((k : KeyTree) → contains key_order keys.new k ≡ (contains key_order keys.old k || is_some_key k (take n list.now)))) }
 {
     for element in list.as_slice() {
         add_key(keys, Candidate::Found(element))?;
@@ -54,7 +53,8 @@ pub fn add_element_keys(keys: &mut BTreeSet<Key>, list: &List) -> Result<(), NoM
 
 /// Adds the candidate's key to a set. Where memory is wanting, nothing changes.
 pub fn add_key(keys: &mut BTreeSet<Key>, candidate: Candidate<'_>) -> Result<(), NoMemory>
-    ensures { OnOk result ((k : KeyTree) → contains key_order keys.new k ≡ (contains key_order keys.old k || is_key_of k (or_null (seen candidate.entry)))) }
+    ensures ok { OnOk result ((k : KeyTree) → contains key_order keys.new k ≡ (contains key_order keys.old k || is_key_of k (or_null (seen candidate.entry)))) }
+    ensures err { OnErr result ((k : KeyTree) → contains key_order keys.new k ≡ contains key_order keys.old k) }
 {
     let _ = keys.insert(candidate_key(candidate)?)?;
     Ok(())

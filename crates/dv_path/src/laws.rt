@@ -1,12 +1,12 @@
 //! What holds of paths, each the contract of a function that does nothing.
 
 ghost use Rattle.std.specs.Prelude.{◌≡◌, ◌≢◌, ℕ, List, [], ◌∷◌, Some, None, Ok, Err, codes};
-ghost use Rattle.dv_bson.specs.Names.{value_under};
-ghost use Rattle.dv_bson.specs.Tree.{Tree, document, Field, fields_of, null};
+ghost use Rattle.dv_value.specs.Names.{value_under};
+ghost use Rattle.dv_value.specs.Tree.{Tree, document, Field, fields_of, null};
 ghost use Rattle.dv_path.specs.Apart.{AreApart};
-ghost use Rattle.dv_path.specs.Candidates.{whole, leaves};
-ghost use Rattle.dv_path.specs.declared.fault.PathFault.TheVariants.{NotViable, IndexTooLarge};
-ghost use Rattle.dv_bson.specs.Short.{int, one, doc, list};
+ghost use Rattle.dv_candidates.specs.Candidates.{whole};
+ghost use Rattle.dv_candidates.specs.declared.fault.PathFault.TheVariants.{NotViable, IndexTooLarge};
+ghost use Rattle.dv_value.specs.Short.{int, one, doc, list};
 ghost use Rattle.dv_order.specs.Key.{key_at};
 ghost use Rattle.dv_path.specs.declared.direction.Direction.TheVariants.{Ascending, Descending};
 ghost use Rattle.dv_path.specs.Expression.{expr};
@@ -14,8 +14,8 @@ ghost use Rattle.dv_path.specs.SortKey.{sort_key};
 ghost use Rattle.dv_path.specs.Placing.{put, result_map};
 ghost use Rattle.dv_path.specs.Removing.{remove};
 ghost use Rattle.dv_path.specs.Slots.{slot, taken, blocked};
-ghost use Rattle.dv_path.specs.Path.{path_of, index_of};
-ghost use Rattle.dv_path.specs.Ways.{HasNoArray};
+ghost use Rattle.dv_candidates.specs.Path.{index_of};
+ghost use Rattle.dv_candidates.specs.Ways.{HasNoArray};
 
 /// What was put stands where its path leads.
 #[tactic(auto, using(crate::proofs::Placed::slot_put, crate::proofs::Placed::whole_put))]
@@ -63,34 +63,14 @@ pub fn expressions_find_what_filters_do()
     ensures { (fields : List Field) (path : List (List ℕ)) → HasNoArray path (Some (document (fields_of fields))) → whole fields path ≡ expr fields path ∷ [] }
 {}
 
-/// What is a path, and what is a place in an array: at most ten digits, without a 0 in front.
-#[tactic(auto, unfolding(crate::specs::Path::path_of, crate::specs::Path::index_of))]
-pub fn examples_of_paths()
-    ensures two_components { path_of (codes "a.b") ≡ Some (codes "a" ∷ codes "b" ∷ []) }
-    ensures nothing_behind_a_dot { path_of (codes "a.") ≡ None }
-    ensures a_zero_byte { path_of (97 ∷ 0 ∷ []) ≡ None }
-    ensures nought { index_of (codes "0") ≡ Some 0 }
-    ensures ten_digits { index_of (codes "9876543210") ≡ Some 9876543210 }
-    ensures eleven_digits { index_of (codes "10000000000") ≡ None }
-{}
-
-/// What paths find in arrays of documents, and what counts as null.
-#[tactic(auto, unfolding(crate::specs::Path::index_of, crate::specs::Candidates::whole, crate::specs::Candidates::leaves, crate::specs::Expression::expr))]
-pub fn examples_of_finding()
-    ensures each_is_entered { whole (one (codes "a") (list (doc (one (codes "b") (int 1)) ∷ doc (one (codes "b") (int 2)) ∷ []))) (codes "a" ∷ codes "b" ∷ []) ≡ Some (int 1) ∷ Some (int 2) ∷ [] }
-    ensures one_is_picked { whole (one (codes "a") (list (doc (one (codes "b") (int 1)) ∷ doc (one (codes "b") (int 2)) ∷ []))) (codes "a" ∷ codes "0" ∷ codes "b" ∷ []) ≡ Some (int 1) ∷ None ∷ None ∷ [] }
-    ensures a_number_gives_nothing { whole (one (codes "a") (list (int 5 ∷ []))) (codes "a" ∷ codes "b" ∷ []) ≡ [] }
-    ensures a_missing_field { leaves [] (codes "a" ∷ []) ≡ None ∷ [] }
-    ensures an_empty_array { leaves (one (codes "a") (list [])) (codes "a" ∷ []) ≡ Some (list []) ∷ [] }
-    ensures an_array_of_null { leaves (one (codes "a") (list (null ∷ []))) (codes "a" ∷ []) ≡ Some (list (null ∷ [])) ∷ Some null ∷ [] }
-    ensures an_array_in_an_array { whole (one (codes "a") (list (list (doc (one (codes "b") (int 1)) ∷ []) ∷ []))) (codes "a" ∷ codes "b" ∷ []) ≡ [] }
-    ensures through_a_number { whole (one (codes "a") (int 5)) (codes "a" ∷ codes "b" ∷ []) ≡ None ∷ [] }
-    ensures an_array_as_a_leaf { leaves (one (codes "a") (list (list (int 1 ∷ []) ∷ []))) (codes "a" ∷ []) ≡ Some (list (list (int 1 ∷ []) ∷ [])) ∷ Some (list (int 1 ∷ [])) ∷ [] }
-    ensures an_expression { expr (one (codes "a") (list (doc ((codes "b", int 1) ∷ (codes "c", int 2) ∷ []) ∷ int 7 ∷ list (doc (one (codes "b") (int 3)) ∷ []) ∷ []))) (codes "a" ∷ codes "b" ∷ []) ≡ Some (list (int 1 ∷ [])) }
+/// What an expression finds in an array: what its documents give.
+#[tactic(auto, unfolding(crate::specs::Expression::expr))]
+pub fn example_of_an_expression()
+    ensures { expr (one (codes "a") (list (doc ((codes "b", int 1) ∷ (codes "c", int 2) ∷ []) ∷ int 7 ∷ list (doc (one (codes "b") (int 3)) ∷ []) ∷ []))) (codes "a" ∷ codes "b" ∷ []) ≡ Some (list (int 1 ∷ [])) }
 {}
 
 /// What is put where: new fields last, documents for what is missing, nulls beyond an array's end.
-#[tactic(auto, unfolding(crate::specs::Path::index_of, crate::specs::Placing::put))]
+#[tactic(auto, unfolding(dv_candidates::specs::Path::index_of, crate::specs::Placing::put))]
 pub fn examples_of_putting()
     ensures in_its_place { put ((codes "a", int 1) ∷ (codes "b", int 2) ∷ []) (codes "a" ∷ []) (int 3) ≡ Ok ((codes "a", int 3) ∷ (codes "b", int 2) ∷ []) }
     ensures a_new_field { put (one (codes "_id") (int 1)) (codes "b" ∷ []) (int 3) ≡ Ok ((codes "_id", int 1) ∷ (codes "b", int 3) ∷ []) }
@@ -103,7 +83,7 @@ pub fn examples_of_putting()
 {}
 
 /// What is taken away: a field, or an element, for which null stands.
-#[tactic(auto, unfolding(crate::specs::Path::index_of, crate::specs::Removing::remove))]
+#[tactic(auto, unfolding(dv_candidates::specs::Path::index_of, crate::specs::Removing::remove))]
 pub fn examples_of_removing()
     ensures a_field { remove ((codes "a", int 1) ∷ (codes "b", int 2) ∷ []) (codes "a" ∷ []) ≡ one (codes "b") (int 2) }
     ensures an_element { remove (one (codes "a") (list (int 1 ∷ int 2 ∷ int 3 ∷ []))) (codes "a" ∷ codes "1" ∷ []) ≡ one (codes "a") (list (int 1 ∷ null ∷ int 3 ∷ [])) }
@@ -115,7 +95,7 @@ pub fn examples_of_removing()
 {}
 
 /// Documents in order of `a`: an empty array first, then a missing field, an array by its least or its greatest.
-#[tactic(auto, unfolding(crate::specs::Path::index_of, crate::specs::Candidates::whole, crate::specs::SortKey::sort_key))]
+#[tactic(auto, unfolding(dv_candidates::specs::Path::index_of, dv_candidates::specs::Candidates::whole, crate::specs::SortKey::sort_key))]
 pub fn examples_of_sort_keys()
     ensures the_least { sort_key (one (codes "a") (list (int 3 ∷ int 1 ∷ []))) (codes "a" ∷ []) Ascending ≡ key_at (Some (int 1)) }
     ensures the_greatest { sort_key (one (codes "a") (list (int 3 ∷ int 1 ∷ []))) (codes "a" ∷ []) Descending ≡ key_at (Some (int 3)) }

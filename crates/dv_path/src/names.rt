@@ -2,12 +2,12 @@
 
 ghost use Rattle.std.specs.Prelude.{◌≡◌};
 ghost use Rattle.std.specs.List.{list_any};
-ghost use Rattle.dv_bson.specs.Names as names;
-ghost use Rattle.dv_bson.specs.Tree.{fields_of, elements_of};
-ghost use Rattle.dv_bson.specs.View.{tree};
+ghost use Rattle.dv_value.specs.Names as names;
+ghost use Rattle.dv_value.specs.Tree.{fields_of, elements_of};
+ghost use Rattle.dv_value.specs.View.{tree};
 ghost use Rattle.dv_path.specs.Names as defined;
 
-use dv_bson::{Document, List, Value, begins_with_dollar};
+use dv_value::{Document, List, Value, begins_with_dollar};
 
 /// Whether a name begins with a dollar sign at the top level, or holds a dot at any level. Takes no memory.
 pub fn has_bad_name(document: &Document) -> bool

@@ -1,19 +1,16 @@
 //! Putting a value where a path leads.
 
 ghost use Rattle.std.specs.Prelude.{◌≡◌, ◌≤◌, ◌++◌, ◌∷◌, [], Some, Err, length, map, false, IfOk, OnOk};
-ghost use Rattle.dv_bson.specs.Names.{has_name};
-ghost use Rattle.dv_bson.specs.View.{tree};
-ghost use Rattle.dv_path.specs.declared.fault.PathFault.{PathFault};
-ghost use Rattle.dv_path.specs.Path.{index_of};
+ghost use Rattle.dv_value.specs.Names.{has_name};
+ghost use Rattle.dv_value.specs.View.{tree};
+ghost use Rattle.dv_candidates.specs.declared.fault.PathFault.{PathFault};
+ghost use Rattle.dv_candidates.specs.Path.{index_of};
 ghost use Rattle.dv_path.specs.Placing.{Gives, put, put_behind, put_element, put_field, with_element, with_field};
 
-use crate::component::Component;
 use crate::exchange::{put_element_back, put_field_back, take_element, take_field};
-use crate::fault::PathFault;
-use crate::path::Path;
 use crate::refusing::refusal;
-use crate::walk::behind;
-use dv_bson::{BsonFault, Document, List, NoMemory, Value};
+use dv_candidates::{Component, Path, PathFault, behind};
+use dv_value::{BsonFault, Document, List, NoMemory, Value};
 use std::alloc::{AllocError, Global};
 
 /// The greatest place beyond the end of an array at which a value is put.

@@ -2,17 +2,14 @@
 
 ghost use Rattle.std.specs.Prelude.{◌≡◌, Some};
 ghost use Rattle.std.specs.Result.{result_err};
-ghost use Rattle.dv_bson.specs.Tree.{Tree};
-ghost use Rattle.dv_bson.specs.View.{tree};
-ghost use Rattle.dv_path.specs.Path.{index_of};
+ghost use Rattle.dv_value.specs.Tree.{Tree};
+ghost use Rattle.dv_value.specs.View.{tree};
+ghost use Rattle.dv_candidates.specs.Path.{index_of};
 ghost use Rattle.dv_path.specs.Placing.{put, put_behind, put_element};
 
-use crate::component::Component;
-use crate::fault::PathFault;
-use crate::path::Path;
 use crate::placing::MOST_BEYOND;
-use crate::walk::behind;
-use dv_bson::{Document, List, Value};
+use dv_candidates::{Component, Path, PathFault, behind};
+use dv_value::{Document, List, Value};
 
 /// Why no value can be put where the path leads, if none can: which value it would be is no matter. Takes no memory.
 pub(crate) fn refusal(document: &Document, path: &Path) -> Option<PathFault>

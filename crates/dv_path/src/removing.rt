@@ -2,16 +2,14 @@
 
 ghost use Rattle.std.specs.Prelude.{◌≡◌, IfOk};
 ghost use Rattle.std.specs.Option.{option_map};
-ghost use Rattle.dv_bson.specs.View.{tree};
-ghost use Rattle.dv_path.specs.Path.{index_of};
+ghost use Rattle.dv_value.specs.View.{tree};
+ghost use Rattle.dv_candidates.specs.Path.{index_of};
 ghost use Rattle.dv_path.specs.Removing.{remove, remove_field, remove_element, left_behind};
 
-use crate::component::Component;
 use crate::exchange::{drop_field, put_element_back, put_field_back, take_element, take_field};
-use crate::path::Path;
 use crate::slot::{Slot, slot_at};
-use crate::walk::behind;
-use dv_bson::{Document, List, NoMemory, Value};
+use dv_candidates::{Component, Path, behind};
+use dv_value::{Document, List, NoMemory, Value};
 
 /// The document without what stands where the path leads: a field is taken away, an element of an array becomes null.
 ///

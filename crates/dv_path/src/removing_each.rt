@@ -3,21 +3,20 @@
 ghost use Rattle.std.specs.Prelude.{◌≡◌, Some, map, IfOk, OnOk};
 ghost use Rattle.std.specs.List.{filter};
 ghost use Rattle.std.specs.Option.{option_map};
-ghost use Rattle.dv_bson.specs.Removing.{without_each};
-ghost use Rattle.dv_bson.specs.View.{tree};
+ghost use Rattle.dv_value.specs.Removing.{without_each};
+ghost use Rattle.dv_value.specs.View.{tree};
 ghost use Rattle.dv_path.specs.Apart as apart;
 ghost use Rattle.dv_path.specs.Apart.{AreAllApart, field_alone, fields_alone, leading_further};
 ghost use Rattle.dv_path.specs.GroupView.{group as seen};
 ghost use Rattle.dv_path.specs.Groups.{begins_with_none, left_of_each, remove_each_element};
-ghost use Rattle.dv_path.specs.Path.{index_of};
+ghost use Rattle.dv_candidates.specs.Path.{index_of};
 ghost use Rattle.dv_path.specs.Removing.{remove_element, remove_field};
 
-use crate::component::Component;
 use crate::exchange::{put_element_back, put_field_back, take_element, take_field};
 use crate::grouping::{Group, grouped};
-use crate::path::Path;
 use crate::slot::{Slot, slot_at};
-use dv_bson::{Document, List, NoMemory, Value};
+use dv_candidates::{Component, Path};
+use dv_value::{Document, List, NoMemory, Value};
 use std::alloc::Global;
 
 /// The document without what stands where each of the paths leads, of which none begins or equals another one: a field is

@@ -1,15 +1,13 @@
 //! What an update finds where its path leads.
 
 ghost use Rattle.std.specs.Prelude.{◌≡◌};
-ghost use Rattle.dv_bson.specs.Names.{value_under};
-ghost use Rattle.dv_path.specs.Path.{index_of};
+ghost use Rattle.dv_value.specs.Names.{value_under};
+ghost use Rattle.dv_candidates.specs.Path.{index_of};
 ghost use Rattle.dv_path.specs.Slots.{slot, slot_of, next_slot, element_slot};
-ghost use Rattle.dv_path.specs.View.{slot_seen};
+ghost use Rattle.dv_path.specs.SlotView.{slot_seen};
 
-use crate::component::Component;
-use crate::path::Path;
-use crate::walk::behind;
-use dv_bson::{Document, List, Value};
+use dv_candidates::{Component, Path, behind};
+use dv_value::{Document, List, Value};
 
 /// What stands in a document where a value would be put.
 #[derive(Clone, Copy, Debug)]

@@ -2,14 +2,13 @@
 
 ghost use Rattle.std.specs.Prelude.{◌≡◌, map, IfOk};
 ghost use Rattle.std.specs.Option.{option_map};
-ghost use Rattle.dv_bson.specs.View.{tree};
+ghost use Rattle.dv_value.specs.View.{tree};
 ghost use Rattle.dv_path.specs.Parts.{part};
 ghost use Rattle.dv_path.specs.SortSpec.{part_of, parts_of, sort_spec_of};
 
 use crate::direction::Direction;
-use crate::fault::PathFault;
-use crate::path::Path;
-use dv_bson::{Document, NoMemory, Value};
+use dv_candidates::{Path, PathFault};
+use dv_value::{Document, NoMemory, Value};
 use std::alloc::{AllocError, Global};
 use std::marker::Model;
 

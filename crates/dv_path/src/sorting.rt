@@ -3,14 +3,12 @@
 ghost use Rattle.std.specs.Prelude.{◌≡◌, ◌++◌, Option, Some, None, fold, map, IfOk};
 ghost use Rattle.dv_path.specs.SortKey.{keys_of, array_keys, earlier_with};
 ghost use Rattle.dv_path.specs.SortKey as sorting;
-ghost use Rattle.dv_path.specs.View.{seen};
+ghost use Rattle.dv_candidates.specs.View.{seen};
 
-use crate::candidate::Candidate;
 use crate::direction::Direction;
-use crate::path::Path;
-use crate::walk::fold_whole;
-use dv_bson::{Document, List, NoMemory, Value};
+use dv_candidates::{Candidate, Path, fold_whole};
 use dv_order::{Key, key_of, laws};
+use dv_value::{Document, List, NoMemory, Value};
 
 /// The key by which the path sorts the document: ascending the least, descending the greatest of its candidates' keys.
 ///

@@ -1,11 +1,11 @@
 -- Pipelines parsed.
 use Rattle.std.proofs.Common.{◌≡◌, ◌∙◌, ap, List, ◌<◌, ◌≤◌, take, map, length, Result, Ok, Err, arith, nat_le, true, false, if◌then◌else◌}
 use Rattle.std.proofs.lemmas.List.{take-map, length-map}
-use Rattle.dv_bson.specs.Tree.{Tree}
+use Rattle.dv_value.specs.Tree.{Tree}
 use Rattle.dv_row.specs.declared.fault.PipelineFault.{PipelineFault}
 use Rattle.dv_row.specs.declared.fault.PipelineFault.TheVariants.{TooMany}
 use Rattle.dv_pipe.specs.declared.stage.Stage.{Stage}
-use Rattle.dv_bson.specs.Results.{◌>>=◌, each}
+use Rattle.dv_value.specs.Results.{◌>>=◌, each}
 use Rattle.dv_pipe.specs.StageParsing.{stage_of, pipeline_of}
 use Rattle.dv_pipe.proofs.Items.{take-past}
 

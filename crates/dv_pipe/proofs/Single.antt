@@ -1,6 +1,6 @@
 -- Documents of one field.
 use Rattle.std.proofs.Common.{◌≡◌, ap, sym, refl, List, [], ◌∷◌, ℕ, Some, None, slice_get, length, Err}
-use Rattle.dv_bson.specs.Tree.{Tree, Field, document, fields_of, list_of_fields}
+use Rattle.dv_value.specs.Tree.{Tree, Field, document, fields_of, list_of_fields}
 use Rattle.dv_row.specs.declared.fault.PipelineFault.TheVariants.{BadSpec}
 use Rattle.dv_pipe.specs.StageParsing.{stage_of, stage_named}
 

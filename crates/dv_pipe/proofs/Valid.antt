@@ -4,15 +4,15 @@ use Rattle.std.specs.Bool.{⊤}
 use Rattle.std.specs.List.{AllByRecursion, flat_map}
 use Rattle.std.specs.Result.{IfOk}
 use Rattle.std.specs.Str.{bytes_eq}
-use Rattle.dv_bson.specs.Spelling.{IsValue, AreFields, AreElements}
-use Rattle.dv_bson.specs.Tree.{Tree, document, no_fields, field, fields_of, elements_of}
+use Rattle.dv_value.specs.Spelling.{IsValue, AreFields, AreElements}
+use Rattle.dv_value.specs.Tree.{Tree, document, no_fields, field, fields_of, elements_of}
 use Rattle.dv_match.specs.Match.{matches}
 use Rattle.dv_row.specs.declared.fault.PipelineFault.{PipelineFault}
 use Rattle.dv_row.specs.declared.fault.PipelineFault.TheVariants.{UnknownStage, TooMany}
 use Rattle.dv_row.specs.declared.project.Project as projects
 use Rattle.dv_row.specs.declared.unwind.Unwind as unwinds
 use Rattle.dv_row.specs.Parsing.{unwind_in}
-use Rattle.dv_bson.specs.Results.{each}
+use Rattle.dv_value.specs.Results.{each}
 use Rattle.dv_row.specs.Projecting.{projected}
 use Rattle.dv_row.specs.ProjectParsing.{project_in}
 use Rattle.dv_row.specs.Row.{Row}

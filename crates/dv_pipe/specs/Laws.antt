@@ -1,7 +1,7 @@
 -- Words of the laws.
 use Rattle.std.specs.Prelude.{ℕ, Bool, true, false, List, Some, None, ⊤}
-use Rattle.dv_bson.specs.Tree.{array, null}
-use Rattle.dv_path.specs.Candidates.{Candidate}
+use Rattle.dv_value.specs.Tree.{array, null}
+use Rattle.dv_candidates.specs.Candidates.{Candidate}
 use Rattle.dv_match.specs.Filter.{Members, all_of, no_members, more_members, no_filters, more_filters}
 use Rattle.dv_pipe.specs.Sources.{Row}
 use Rattle.dv_row.specs.Unwinding.{reached}

@@ -2,18 +2,18 @@
 -- stages there are, and which fault is told, is this server's own.
 use Rattle.std.specs.Prelude.{ℕ, ℤ, pos, negsuc, ◌==◌, nat_le, Option, Some, None, List, length, take, Result, Ok, Err, codes, if◌then◌else◌}
 use Rattle.std.specs.Str.{bytes_eq}
-use Rattle.dv_bson.specs.Tree.{Tree, int32, int64, document, no_fields, field, list_of_fields}
+use Rattle.dv_value.specs.Tree.{Tree, int32, int64, document, no_fields, field, list_of_fields}
 use Rattle.dv_path.specs.SortSpec.{Part, sort_spec_of}
 use Rattle.dv_match.specs.Filter.{Members}
 use Rattle.dv_match.specs.Parsing.{filter_in}
 use Rattle.dv_match.specs.declared.fault.FilterFault.{FilterFault}
+use Rattle.dv_match.specs.declared.fault.FilterFault.TheVariants as filters
 use Rattle.dv_row.specs.declared.fault.PipelineFault.{PipelineFault}
-use Rattle.dv_row.specs.declared.fault.PipelineFault.TheVariants.{UnknownStage, BadSpec, TooMany}
+use Rattle.dv_row.specs.declared.fault.PipelineFault.TheVariants.{UnknownStage, BadSpec, Filter, TooMany, NoMemory}
 use Rattle.dv_pipe.specs.declared.stage.Stage.{Stage}
 use Rattle.dv_pipe.specs.declared.stage.Stage.TheVariants as stages
-use Rattle.dv_row.specs.Fault.{pipeline_fault_of_filter}
 use Rattle.dv_row.specs.Parsing.{unwind_in}
-use Rattle.dv_bson.specs.Results.{◌>>=◌, each}
+use Rattle.dv_value.specs.Results.{◌>>=◌, each}
 use Rattle.dv_row.specs.ProjectParsing.{project_in}
 use Rattle.dv_gather.specs.GroupParsing.{group_in}
 use Rattle.dv_gather.specs.Lookups.{lookup_in}
@@ -27,6 +27,11 @@ abbrev pub count_in : Tree → Result ℕ PipelineFault
 count_in (int32 n) = from_one n
 count_in (int64 n) = from_one n
 count_in v = Err BadSpec
+
+-- a filter's fault: want of memory stays what it is
+abbrev pub pipeline_fault_of_filter : FilterFault → PipelineFault
+pipeline_fault_of_filter filters.NoMemory = NoMemory
+pipeline_fault_of_filter e = Filter
 
 -- a filter's form, or that there is none
 abbrev pub of_parsed : Result Members FilterFault → Result Members PipelineFault

@@ -7,7 +7,7 @@ ghost use Rattle.dv_pipe.specs.Stages as defined;
 use crate::pipeline::Pipeline;
 use crate::run::Run;
 use crate::sources::Sources;
-use dv_bson::{Document, NoMemory};
+use dv_value::{Document, NoMemory};
 use std::alloc::Global;
 
 /// The rows of the pipeline over the documents of `source`. A row that a stage passes on as it is shares its memory with

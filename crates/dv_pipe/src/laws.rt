@@ -2,8 +2,8 @@
 
 ghost use Rattle.std.specs.Prelude.{◌≡◌, ◌++◌, ℕ, List, true, false, filter, min, Ok};
 ghost use Rattle.std.specs.List.{AllByRecursion};
-ghost use Rattle.dv_bson.specs.Spelling.{AreFields, AreElements};
-ghost use Rattle.dv_bson.specs.Tree.{Tree, elements_of, fields_of};
+ghost use Rattle.dv_value.specs.Spelling.{AreFields, AreElements};
+ghost use Rattle.dv_value.specs.Tree.{Tree, elements_of, fields_of};
 ghost use Rattle.dv_match.specs.Filter.{Members};
 ghost use Rattle.dv_row.specs.declared.unwind.Unwind.{Unwind};
 ghost use Rattle.dv_pipe.specs.Laws.{both, HasNoArrayOnWay, has_value};

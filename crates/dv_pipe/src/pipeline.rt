@@ -2,16 +2,16 @@
 
 ghost use Rattle.std.specs.Prelude.{◌≡◌, ◌≤◌, length, map, IfOk};
 ghost use Rattle.std.specs.List.{list_any};
-ghost use Rattle.dv_bson.specs.View.{tree};
+ghost use Rattle.dv_value.specs.View.{tree};
 ghost use Rattle.dv_row.specs.Parsing.{Gives};
-ghost use Rattle.dv_bson.specs.Results.{each};
+ghost use Rattle.dv_value.specs.Results.{each};
 ghost use Rattle.dv_pipe.specs.StageParsing.{stage_of, pipeline_of};
 ghost use Rattle.dv_pipe.specs.Stages.{is_source_named, is_read, looked_into};
 
 use crate::namespace::is_beside;
 use crate::stage::Stage;
-use dv_bson::{NoMemory, Value};
 use dv_row::PipelineFault;
+use dv_value::{NoMemory, Value};
 use std::alloc::Global;
 use std::marker::Model;
 

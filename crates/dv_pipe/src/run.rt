@@ -10,10 +10,10 @@ ghost use Rattle.dv_pipe.specs.Stages as defined;
 use crate::sources::Sources;
 use crate::stage::Stage;
 use crate::step::{Step, Work, push_row};
-use dv_bson::{Document, NoMemory};
 use dv_gather::{Group, Join, Lookup};
 use dv_path::SortSpec;
 use dv_sort::{Sorter, laws};
+use dv_value::{Document, NoMemory};
 use std::alloc::Global;
 
 /// What becomes of rows behind steps.

@@ -5,7 +5,7 @@ ghost use Rattle.dv_pipe.specs.Sources.{rows_under, rows_referred};
 ghost use Rattle.dv_pipe.specs.Stages as stages;
 
 use crate::namespace::is_beside;
-use dv_bson::{Document, NoMemory, Str};
+use dv_value::{Document, NoMemory, Str};
 use std::alloc::Global;
 use std::marker::Model;
 
@@ -26,7 +26,7 @@ pub struct Sources<'a> {
 impl<'a> Model for Sources<'a> {
     ghost use Rattle.std.specs.Prelude.{List, map};
     ghost use Rattle.std.specs.Coded.{coded_list, coded×, coded_ℕ};
-    ghost use Rattle.dv_bson.specs.TreeCode.{coded_tree};
+    ghost use Rattle.dv_value.specs.TreeCode.{coded_tree};
     ghost use Rattle.dv_pipe.specs.Sources as defined;
 
     ghost Value = { List defined.Source };

@@ -2,16 +2,16 @@
 
 ghost use Rattle.std.specs.Prelude.{◌≡◌, IfOk};
 ghost use Rattle.std.specs.Option.{option_map};
-ghost use Rattle.dv_bson.specs.View.{tree};
+ghost use Rattle.dv_value.specs.View.{tree};
 ghost use Rattle.dv_row.specs.Parsing.{Gives};
 ghost use Rattle.dv_pipe.specs.StageParsing as defined;
 ghost use Rattle.dv_pipe.specs.Stages.{from_of};
 
-use dv_bson::{NoMemory, Value};
 use dv_gather::{Group, Lookup};
-use dv_match::Filter;
+use dv_match::{Filter, FilterFault};
 use dv_path::SortSpec;
 use dv_row::{PipelineFault, Project, Unwind};
+use dv_value::{NoMemory, Value};
 use std::alloc::Global;
 
 /// What makes other rows of rows.
@@ -99,8 +99,21 @@ fn filter_of(alloc: Global, value: &Value) -> Result<Filter, PipelineFault>
     ensures { Gives (λ filter. filter) result (defined.filter_form (tree value.now)) }
 {
     match value {
-        Value::Doc(document) => Ok(Filter::parse(alloc, document)?),
+        Value::Doc(document) => match Filter::parse(alloc, document) {
+            Ok(filter) => Ok(filter),
+            Err(fault) => Err(of_filter(fault)),
+        },
         _ => Err(PipelineFault::BadSpec),
+    }
+}
+
+/// What a filter's fault is in a pipeline: want of memory stays what it is.
+fn of_filter(fault: FilterFault) -> PipelineFault
+    ensures { result ≡ defined.pipeline_fault_of_filter fault }
+{
+    match fault {
+        FilterFault::NoMemory => PipelineFault::NoMemory,
+        _ => PipelineFault::Filter,
     }
 }
 

@@ -4,10 +4,10 @@ ghost use Rattle.std.specs.Prelude.{◌≡◌, ◌++◌, OnOk};
 ghost use Rattle.std.specs.List.{flat_map};
 ghost use Rattle.dv_pipe.specs.Parts.{passed, rows_of_work, rows_of_step};
 
-use dv_bson::{Document, NoMemory};
 use dv_gather::Join;
 use dv_match::Filter;
 use dv_row::{Project, Unwind};
+use dv_value::{Document, NoMemory};
 use std::alloc::Global;
 use std::cell::Cell;
 

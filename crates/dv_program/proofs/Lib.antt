@@ -1,8 +1,3 @@
-mod Files
-mod Lines
-mod Loads
-mod Numbers
-mod Pairs
 mod Pieces
 mod Replies
 mod Scheduled

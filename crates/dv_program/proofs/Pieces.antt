@@ -9,8 +9,8 @@ use Rattle.dv_wire.specs.Schedule.{World}
 use Rattle.dv_program.specs.Pieces.{StopsIn, TakesPiece}
 use Rattle.dv_program.specs.Script.{DoesLine, DoesLines, HasNoLf, IsBad, OpenSessions, is_lf}
 use Rattle.dv_program.specs.Stops.{EndsAt}
-use Rattle.dv_program.specs.declared.script.ScriptFault.{ScriptFault}
-use Rattle.dv_program.specs.declared.script.ScriptFault.TheVariants.{BadLine, NoMemory}
+use Rattle.dv_words.specs.declared.fault.ScriptFault.{ScriptFault}
+use Rattle.dv_words.specs.declared.fault.ScriptFault.TheVariants.{BadLine, NoMemory}
 
 -- ---- the first line of bytes
 

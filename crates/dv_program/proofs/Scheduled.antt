@@ -6,10 +6,10 @@ use Rattle.dv_wire.specs.declared.events.Said.{Said}
 use Rattle.dv_wire.specs.declared.events.Said.TheVariants as said
 use Rattle.dv_wire.specs.Playing.{Plays}
 use Rattle.dv_wire.specs.Schedule.{Opens, World, conversation_of, unfinished_in}
-use Rattle.dv_program.specs.Events.{TellsEvents, WritesAll, events_of, opening, piece_of, schedule_of, session_of}
+use Rattle.dv_program.specs.Events.{TellsEvents, TellsLines, WritesAll, events_of, opening, piece_of, schedule_of, session_of}
 use Rattle.dv_program.specs.Script.{BringsFrom, DoesOneLine, DoesLines, EndsSession, Finds, OpenSessions}
-use Rattle.dv_program.specs.declared.said.Line.{Line}
-use Rattle.dv_program.specs.declared.said.Line.TheVariants.{Skip, Bytes, End}
+use Rattle.dv_words.specs.declared.said.Line.{Line}
+use Rattle.dv_words.specs.declared.said.Line.TheVariants.{Skip, Bytes, End}
 use Rattle.dv_program.specs.declared.sessions.Session.{Session}
 
 abbrev pub Joined : Type 0
@@ -79,9 +79,13 @@ module _ (joined : Joined) where
   line_plays old new (Bytes number bytes) text (session, mid, found, brought) = behind old mid new.hub number session (λ s. piece_of s bytes) text found (brings mid new number session bytes text brought)
   line_plays old new (End number) text (session, mid, found, ended) = behind old mid new.hub number session (λ s. events.End s.id ∷ []) text found (ends mid new number session text ended)
 
-  pub lines_play : (old new : OpenSessions) (lines : List (List ℕ)) (text : List ℕ) → (done : DoesLines old lines text new) → (all : List Said) × Plays old.hub (schedule_of old new lines text done) all new.hub
-  lines_play old new [] text (nothing, same) = ([], (refl, ap (λ (s : OpenSessions). s.hub) same))
+  pub lines_play : (old new : OpenSessions) (lines : List (List ℕ)) (text : List ℕ) → (done : DoesLines old lines text new)
+      → (all : List Said) × Plays old.hub (schedule_of old new lines text done) all new.hub × TellsLines old new lines text done all
+  lines_play old new [] text (nothing, same) = ([], (refl, ap (λ (s : OpenSessions). s.hub) same), (refl, nothing))
   lines_play old new (line ∷ lines) text (mid, first, others, (meant, is, does), rest, both) =
       let (one, plays, told) = line_plays old mid meant first does in
-      let (two, plays_rest) = lines_play mid new lines others rest in
-      (one ++ two, joined old.hub mid.hub new.hub (events_of old meant) (schedule_of mid new lines others rest) one two plays plays_rest)
+      let (two, plays_rest, told_rest) = lines_play mid new lines others rest in (
+        one ++ two,
+        joined old.hub mid.hub new.hub (events_of old meant) (schedule_of mid new lines others rest) one two plays plays_rest,
+        (one, two, refl, told, told_rest, both),
+      )

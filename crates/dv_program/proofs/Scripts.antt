@@ -8,14 +8,14 @@ use Rattle.std.specs.Prelude.{IfErr, OnOk, replicate}
 use Rattle.std.specs.List.{slice_split}
 use Rattle.dv_wire.specs.Schedule.{World}
 use Rattle.dv_wire.specs.Service.{AsksFew, most_reads}
-use Rattle.dv_wire.specs.Stream.{MoreBy, once_more}
+use Rattle.dv_streams.specs.Stream.{MoreBy, once_more}
 use Rattle.dv_program.specs.Pieces.{StopsIn, TakesPiece}
 use Rattle.dv_program.specs.Script.{DoesLine, DoesLines, HasNoLf, Runs, OpenSessions, no_sessions, is_lf, standing_of}
 use Rattle.dv_program.specs.Stops.{AsksForScript, DoesWhole, EndsAt, FailsWriting, OfScript, StopsScript, StopsBy, script_read_failed, script_write_failed}
-use Rattle.dv_program.specs.Streams.{failures_behind, failures_told}
-use Rattle.dv_program.specs.declared.script.ScriptFault.{ScriptFault}
+use Rattle.dv_streams.specs.Failures.{failures_behind, failures_told}
+use Rattle.dv_words.specs.declared.fault.ScriptFault.{ScriptFault}
 use Rattle.dv_program.specs.declared.sessions.Sessions as table
-use Rattle.dv_program.specs.declared.script.ScriptFault.TheVariants.{BadLine, Read, TooManyReads, Write, NoMemory, Sessions}
+use Rattle.dv_words.specs.declared.fault.ScriptFault.TheVariants.{BadLine, Read, TooManyReads, Write, NoMemory, Sessions}
 use Rattle.dv_program.proofs.Pieces.{DoesLines-append, NoLf, Takes-append, Takes-nothing, has_first, one_line}
 
 -- ---- all that a reader has

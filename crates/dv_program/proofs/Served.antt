@@ -1,13 +1,14 @@
 -- Connections that are served one after the other.
-use Rattle.std.proofs.Common.{◌≡◌, ℕ, ◌+◌, ◌<◌, ◌≤◌, List, [], ◌∷◌, ◌++◌, ◌∙◌, Option, Result, refl, sym, ap, subst, length, length-append, arith, append_assoc, append-nil}
+use Rattle.std.proofs.Common.{◌≡◌, ℕ, ◌+◌, ◌<◌, ◌≤◌, List, [], ◌∷◌, ◌++◌, ◌∙◌, Option, Some, None, Result, Ok, Err, refl, sym, ap, subst, length, length-append, arith, append_assoc, append-nil}
 use Rattle.std.proofs.KnownBytes.{Appends-nil, Appends-trans}
 use Rattle.std.specs.Io.KnownBytes.{Appends}
-use Rattle.dv_wire.specs.Schedule.{World}
-use Rattle.dv_wire.specs.Service.{ComesTo}
-use Rattle.dv_wire.specs.Stream.{MoreBy}
+use Rattle.dv_wire.specs.Schedule.{Run, World}
+use Rattle.dv_wire.specs.Service.{ComesTo, Serves}
+use Rattle.dv_streams.specs.Stream.{MoreBy}
 use Rattle.dv_wire.specs.declared.fault.RunFault.{RunFault}
+use Rattle.dv_wire.specs.declared.fault.RunFault.TheVariants.{Read, Write, TooManyReads, Hub}
 use Rattle.dv_wire.specs.declared.service.Done.{Done}
-use Rattle.dv_program.specs.Serve.{Accepts, Close, ClosesConnection, Come, Connection, Ended, HasSession, HasTakenNothing, Served, ServesEach, connection_line}
+use Rattle.dv_program.specs.Serve.{Accepts, Close, ClosesConnection, Come, Connection, Ended, HasSession, HasTaken, IsFresh, Served, ServesEach, connection_line}
 
 -- so many connections are served, and the writer has taken what is written of them, and handed it on
 pub record ServedSoFar (connections count : ℕ) (coming_old coming_now : Option (List (List ℕ))) (closed_old closed_now : Option (List Ended)) (old now : World) (taken_old taken_now : Option (List ℕ)) (flushes_old flushes_now : ℕ) : Type 0 where
@@ -103,6 +104,41 @@ module _ (connections count : ℕ) (coming_old coming_mid : Option (List (List �
 
 -- ---- a session
 
-pub session_had : (connection : Connection) (old new : World) (told : Result Done RunFault) → HasTakenNothing connection.before → ComesTo told old new connection.input connection.left connection.before connection.taken
-    → HasSession connection old told new
-session_had connection old new told fresh comes = record { fresh = fresh; comes = comes }
+-- what an output took that had taken nothing is what was given to it, where that is known
+took : (old new : World) (told : Result Done RunFault) (from to after : Option (List ℕ)) → ComesTo told old new from to (Some []) after
+    → (given : List ℕ) × (after ≡ Some given) × ComesTo told old new from to (Some []) (Some given)
+took old new (Ok done) from to None (run, serves, is, end) = absurd serves.appended
+took old new (Ok done) from to (Some given) comes = (given, refl, comes)
+took old new (Err Read) from to None (run, serves) = absurd serves.appended
+took old new (Err Read) from to (Some given) comes = (given, refl, comes)
+took old new (Err Write) from to None (run, unwritten, serves) = absurd serves.appended
+took old new (Err Write) from to (Some given) comes = (given, refl, comes)
+took old new (Err TooManyReads) from to None (run, serves, many) = absurd serves.appended
+took old new (Err TooManyReads) from to (Some given) comes = (given, refl, comes)
+took old new (Err (Hub fault)) from to None (refused, read, kept) = absurd kept
+took old new (Err (Hub fault)) from to (Some given) comes = (given, refl, comes)
+
+-- what is given to an output of which nothing is known
+abbrev served_from : (old new : World) (from to before after : Option (List ℕ)) (run : Run) (unwritten : List ℕ) → (serves : Serves old from to before after run unwritten new)
+    → Serves old from to (Some []) (Some serves.written) run unwritten new
+served_from old new from to before after run unwritten serves =
+    record { read = serves.read; session = serves.session; consumed = serves.consumed; written = serves.written; answers = serves.answers; appended = refl }
+
+unknown : (old new : World) (told : Result Done RunFault) (from to before after : Option (List ℕ)) → ComesTo told old new from to before after
+    → (given : List ℕ) × ComesTo told old new from to (Some []) (Some given)
+unknown old new (Ok done) from to before after (run, serves, is, end) = (serves.written, (run, served_from old new from to before after run [] serves, is, end))
+unknown old new (Err Read) from to before after (run, serves) = (serves.written, (run, served_from old new from to before after run [] serves))
+unknown old new (Err Write) from to before after (run, unwritten, serves) = (serves.written, (run, unwritten, served_from old new from to before after run unwritten serves))
+unknown old new (Err TooManyReads) from to before after (run, serves, many) = (serves.written, (run, served_from old new from to before after run [] serves, many))
+unknown old new (Err (Hub fault)) from to before after (refused, read, kept) = ([], (refused, read, refl))
+
+-- a connection has its session, and is closed
+pub session_had : (closed closed_new : Option (List Ended)) (old new : World) (told : Result Done RunFault) (input left before after : Option (List ℕ)) → IsFresh closed before
+    → ComesTo told old new input left before after → ClosesConnection closed left after closed_new
+    → (connection : Connection) × (connection.input ≡ input) × ClosesConnection closed connection.left connection.taken closed_new × HasSession connection old told new
+session_had None closed_new old new told input left before after fresh comes closes =
+    let (given, all) = unknown old new told input left before after comes in
+    (record { input = input; left = left; taken = None }, refl, tt, record { given = given; comes = all; taken = tt })
+session_had (Some closed) closed_new old new told input left before after fresh comes closes =
+    let (given, is, all) = took old new told input left after (subst (λ b. ComesTo told old new input left b after) fresh comes) in
+    (record { input = input; left = left; taken = after }, refl, closes, record { given = given; comes = all; taken = subst (λ (known : Option (List ℕ)). HasTaken known given) (sym is) refl })

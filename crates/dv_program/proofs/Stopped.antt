@@ -4,14 +4,14 @@ use Rattle.std.specs.Prelude.{IfErr, slice_get}
 use Rattle.dv_wire.specs.Schedule.{World, Opens}
 use Rattle.dv_wire.specs.declared.fault.HubFault.{HubFault}
 use Rattle.dv_wire.specs.declared.fault.HubFault.TheVariants as hub
-use Rattle.dv_program.specs.Line.{IsLine}
+use Rattle.dv_words.specs.Line.{IsLine}
 use Rattle.dv_program.specs.Output.{AreReplies, first_length}
 use Rattle.dv_program.specs.Script.{DoesOneLine, OpenSessions, open_fault}
 use Rattle.dv_program.specs.Stops.{EndsAt, OpensNone, StopsLine, number_in, script_read_failed, script_write_failed}
-use Rattle.dv_program.specs.Streams.{failures_told}
-use Rattle.dv_program.specs.declared.said.Line.{Line}
-use Rattle.dv_program.specs.declared.script.ScriptFault.{ScriptFault}
-use Rattle.dv_program.specs.declared.script.ScriptFault.TheVariants.{BadLine, Read, TooManyReads, Write, NoMemory, Sessions}
+use Rattle.dv_streams.specs.Failures.{failures_told}
+use Rattle.dv_words.specs.declared.said.Line.{Line}
+use Rattle.dv_words.specs.declared.fault.ScriptFault.{ScriptFault}
+use Rattle.dv_words.specs.declared.fault.ScriptFault.TheVariants.{BadLine, Read, TooManyReads, Write, NoMemory, Sessions}
 use Rattle.dv_program.proofs.Replies.{fewer_behind, one_more_reply}
 
 -- ---- sessions that aren't opened

@@ -6,8 +6,8 @@ use Rattle.dv_wire.specs.declared.events.Said.{Said}
 use Rattle.dv_wire.specs.declared.events.Said.TheVariants as said
 use Rattle.dv_program.specs.Output.{AreReplies, end_line, fed_text}
 use Rattle.dv_program.specs.Script.{DoesLines, OpenSessions}
-use Rattle.dv_program.specs.declared.said.Line.{Line}
-use Rattle.dv_program.specs.declared.said.Line.TheVariants.{Skip, Bytes, End}
+use Rattle.dv_words.specs.declared.said.Line.{Line}
+use Rattle.dv_words.specs.declared.said.Line.TheVariants.{Skip, Bytes, End}
 use Rattle.dv_program.specs.declared.sessions.Session.{Session}
 
 -- a session is opened where none stands under a line's number
@@ -50,3 +50,9 @@ abbrev pub TellsEvents : Line → List Said → List ℕ → Type 0
 TellsEvents Skip all text = text ≡ []
 TellsEvents (Bytes number bytes) all text = WritesAll number all text
 TellsEvents (End number) all text = WritesAll number all text
+
+-- what a script writes of what is said of its lines' events, in the lines' order
+abbrev pub TellsLines : (old new : OpenSessions) (lines : List (List ℕ)) (text : List ℕ) → DoesLines old lines text new → List Said → Type 0
+TellsLines old new [] text done all = (all ≡ []) × (text ≡ [])
+TellsLines old new (line ∷ lines) text (mid, first, others, does, behind, both) all =
+    (one : List Said) × (two : List Said) × (all ≡ one ++ two) × TellsEvents does.0 one first × TellsLines mid new lines others behind two × (text ≡ first ++ others)

@@ -1,46 +1,11 @@
--- Why the program ends, by why a part of it did.
-use Rattle.std.specs.Prelude.{◌≡◌, ℕ, ℤ, pos, List, codes}
-use Rattle.std.specs.declared.alloc.Global.{Global}
-use Rattle.std.specs.declared.string.String.{String}
+-- Why the program ends, by why a session or serving did.
 use Rattle.dv_wire.specs.declared.fault.HubFault.TheVariants as hub
 use Rattle.dv_wire.specs.declared.fault.RunFault.{RunFault}
 use Rattle.dv_wire.specs.declared.fault.RunFault.TheVariants as run
-use Rattle.dv_program.specs.declared.check.CheckFault.{CheckFault}
-use Rattle.dv_program.specs.declared.check.CheckFault.TheVariants as check
-use Rattle.dv_program.specs.declared.fault.DocdFault.{DocdFault}
-use Rattle.dv_program.specs.declared.fault.DocdFault.TheVariants.{CannotRead, TooLarge, Document, Refused, Serve, Read, Write, NoMemory, Sessions}
-use Rattle.dv_program.specs.declared.load.LoadFault.{LoadFault}
-use Rattle.dv_program.specs.declared.load.LoadFault.TheVariants as load
+use Rattle.dv_words.specs.declared.fault.DocdFault.{DocdFault}
+use Rattle.dv_words.specs.declared.fault.DocdFault.TheVariants.{Serve, Read, Write, NoMemory, Sessions}
 use Rattle.dv_program.specs.declared.serve.ServeFault.{ServeFault}
 use Rattle.dv_program.specs.declared.serve.ServeFault.TheVariants as serve
-
--- why a file is not `ok`
-abbrev pub fault_of_check : String Global → CheckFault → DocdFault
-fault_of_check file check.Read = CannotRead file
-fault_of_check file check.Write = Write
-fault_of_check file (check.Document number at fault) = Document file number at fault
-fault_of_check file check.TooLarge = TooLarge file
-fault_of_check file check.NoMemory = NoMemory
-
--- a text is the name of the code with which a document is refused
-pub record NamesCode (number : ℤ) (text : List ℕ) : Type 0 where
-  pub bad_value : number ≡ pos 2 → text ≡ codes "BadValue"
-  pub too_large : number ≡ pos 901 → text ≡ codes "TooLarge"
-  pub on_view : number ≡ pos 902 → text ≡ codes "OnView"
-  pub duplicate : number ≡ pos 11000 → text ≡ codes "DuplicateKey"
-
--- a file's document of this number and at this place is refused, and the text names the code
-abbrev pub TellsRefused : String Global → ℕ → ℕ → ℤ → DocdFault → Type 0
-TellsRefused file number at code (Refused told n a why) = (told ≡ file) × (n ≡ number) × (a ≡ at) × NamesCode code why.now
-TellsRefused file number at code fault = ⊥
-
--- why a file is not loaded
-abbrev pub TellsLoad : String Global → LoadFault → DocdFault → Type 0
-TellsLoad file load.Read told = told ≡ CannotRead file
-TellsLoad file load.TooLarge told = told ≡ TooLarge file
-TellsLoad file (load.Document number at fault) told = told ≡ Document file number at fault
-TellsLoad file (load.Refused number at code) told = TellsRefused file number at code told
-TellsLoad file load.NoMemory told = told ≡ NoMemory
 
 -- why the one session of standard input ends
 abbrev pub fault_of_run : RunFault → DocdFault

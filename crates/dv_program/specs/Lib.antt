@@ -1,14 +1,8 @@
-pub mod Check
 pub mod Events
 pub mod Faults
-pub mod File
-pub mod Line
-pub mod Load
+pub mod Listen
 pub mod Output
 pub mod Pieces
-pub mod Reading
 pub mod Script
 pub mod Serve
 pub mod Stops
-pub mod Streams
-pub mod Words

@@ -4,8 +4,8 @@ use Rattle.std.specs.Fmt.{decimal}
 use Rattle.std.specs.Int.{w32, from_le_bytes}
 use Rattle.std.specs.List.{flat_map}
 use Rattle.hex.specs.Hex.{encode_lower}
-use Rattle.dv_wire.specs.Fault.{close_number}
-use Rattle.dv_wire.specs.declared.fault.CloseFault.{CloseFault}
+use Rattle.dv_message.specs.Fault.{close_number}
+use Rattle.dv_message.specs.declared.fault.CloseFault.{CloseFault}
 use Rattle.dv_wire.specs.declared.hub.Fed.{Fed}
 use Rattle.dv_wire.specs.declared.hub.Fed.TheVariants as fed
 

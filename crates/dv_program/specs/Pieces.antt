@@ -4,7 +4,7 @@ use Rattle.std.specs.List.{slice_split}
 use Rattle.dv_wire.specs.Schedule.{World}
 use Rattle.dv_program.specs.Script.{DoesLines, OpenSessions, is_lf}
 use Rattle.dv_program.specs.Stops.{EndsAt}
-use Rattle.dv_program.specs.declared.script.ScriptFault.{ScriptFault}
+use Rattle.dv_words.specs.declared.fault.ScriptFault.{ScriptFault}
 
 -- Behind a line's first bytes come these. The lines that end in them are done, whatever comes after, and what stands behind the last
 -- LF is kept.

@@ -6,12 +6,12 @@ use Rattle.dv_wire.specs.declared.hub.Fed.TheVariants as fed
 use Rattle.dv_wire.specs.declared.fault.HubFault.{HubFault}
 use Rattle.dv_wire.specs.declared.fault.HubFault.TheVariants as hub_faults
 use Rattle.dv_wire.specs.Schedule.{World, Opens, Feeds, unfinished_in, conversation_of, end}
-use Rattle.dv_program.specs.Line.{IsLine}
+use Rattle.dv_words.specs.Line.{IsLine}
 use Rattle.dv_program.specs.Output.{AreReplies, end_line, fed_text}
-use Rattle.dv_program.specs.declared.said.Line.{Line}
-use Rattle.dv_program.specs.declared.said.Line.TheVariants.{Skip, Bytes, End}
-use Rattle.dv_program.specs.declared.script.ScriptFault.{ScriptFault}
-use Rattle.dv_program.specs.declared.script.ScriptFault.TheVariants as script_faults
+use Rattle.dv_words.specs.declared.said.Line.{Line}
+use Rattle.dv_words.specs.declared.said.Line.TheVariants.{Skip, Bytes, End}
+use Rattle.dv_words.specs.declared.fault.ScriptFault.{ScriptFault}
+use Rattle.dv_words.specs.declared.fault.ScriptFault.TheVariants as script_faults
 use Rattle.dv_program.specs.declared.sessions.Session.{Session}
 use Rattle.dv_program.specs.declared.sessions.Sessions.{Sessions}
 

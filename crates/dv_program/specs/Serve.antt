@@ -1,10 +1,10 @@
 -- Serving connections, one after the other.
 use Rattle.std.specs.Prelude.{◌≡◌, ℕ, ◌+◌, List, [], ◌∷◌, ◌++◌, length, codes, Bool, true, false, Option, Some, None, Result, Ok, Err, ⊤, IfSome}
 use Rattle.std.specs.Fmt.{decimal}
-use Rattle.dv_wire.specs.Fault.{close_number}
+use Rattle.dv_message.specs.Fault.{close_number}
 use Rattle.dv_wire.specs.Schedule.{World}
 use Rattle.dv_wire.specs.Service.{ComesTo}
-use Rattle.dv_wire.specs.declared.fault.CloseFault.{CloseFault}
+use Rattle.dv_message.specs.declared.fault.CloseFault.{CloseFault}
 use Rattle.dv_wire.specs.declared.fault.RunFault.{RunFault}
 use Rattle.dv_wire.specs.declared.service.Done.{Done}
 use Rattle.dv_program.specs.declared.serve.ServeFault.{ServeFault}
@@ -29,12 +29,11 @@ pub record Ended : Type 0 where
   pub left : Option (List ℕ)
   pub taken : Option (List ℕ)
 
--- A connection: the bytes that its input had when it came, and those that were left when it was closed; what its output had taken
--- when it came, and when it was closed. Each is given where it is known.
+-- A connection: the bytes that its input had when it came, and those that were left when it was closed; and what its output had
+-- taken then. Each is given where it is known.
 pub record Connection : Type 0 where
   pub input : Option (List ℕ)
   pub left : Option (List ℕ)
-  pub before : Option (List ℕ)
   pub taken : Option (List ℕ)
 
 -- the next connection comes, and these are its bytes, where they are known
@@ -43,9 +42,14 @@ Accepts None known new = ⊤
 Accepts (Some []) known new = ⊥
 Accepts (Some (bytes ∷ others)) known new = (known ≡ Some bytes) × (new ≡ Some others)
 
--- an output has taken nothing yet
-abbrev pub HasTakenNothing : Option (List ℕ) → Type 0
-HasTakenNothing taken = IfSome taken (λ bytes. bytes ≡ [])
+-- an output has taken these bytes, where that is known
+abbrev pub HasTaken : Option (List ℕ) → List ℕ → Type 0
+HasTaken taken bytes = IfSome taken (λ known. known ≡ bytes)
+
+-- an output has taken nothing yet; and that is known, where it is known what the outputs of closed connections took
+abbrev pub IsFresh : Option (List Ended) → Option (List ℕ) → Type 0
+IsFresh None taken = HasTaken taken []
+IsFresh (Some closed) taken = taken ≡ Some []
 
 -- a connection is closed behind those that were: this was left of its input, and this was taken by its output
 abbrev pub ClosesConnection : Option (List Ended) → Option (List ℕ) → Option (List ℕ) → Option (List Ended) → Type 0
@@ -62,10 +66,12 @@ abbrev pub Close : Option (List Ended) → List Connection → Option (List Ende
 Close old [] new = new ≡ old
 Close old (next ∷ others) new = (mid : Option (List Ended)) × ClosesConnection old next.left next.taken mid × Close mid others new
 
--- A connection has its session: this is told of it, and what its output took are the answers to what was read of its input.
+-- A connection has its session: this is told of it, these bytes of its answers were given to its output, from the first on, and
+-- these are what the output took, where that is known.
 pub record HasSession (connection : Connection) (old : World) (told : Result Done RunFault) (new : World) : Type 0 where
-  pub fresh : HasTakenNothing connection.before
-  pub comes : ComesTo told old new connection.input connection.left connection.before connection.taken
+  pub given : List ℕ
+  pub comes : ComesTo told old new connection.input connection.left (Some []) (Some given)
+  pub taken : HasTaken connection.taken given
 
 -- connections have their sessions one after the other, and a line is written of each, the first of them with this number
 abbrev pub ServesEach : ℕ → List Connection → World → List ℕ → World → Type 0

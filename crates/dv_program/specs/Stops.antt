@@ -4,14 +4,14 @@ use Rattle.std.specs.Io.KnownBytes.{Appends, Consumes}
 use Rattle.std.specs.List.{slice_split}
 use Rattle.dv_wire.specs.Schedule.{World, Opens}
 use Rattle.dv_wire.specs.Service.{AsksFew, most_reads}
-use Rattle.dv_wire.specs.Stream.{MoreBy, once_more}
+use Rattle.dv_streams.specs.Stream.{MoreBy, once_more}
 use Rattle.dv_wire.specs.declared.fault.HubFault.TheVariants.{TooManySessions}
-use Rattle.dv_program.specs.Line.{IsLine}
+use Rattle.dv_words.specs.Line.{IsLine}
 use Rattle.dv_program.specs.Script.{DoesOneLine, DoesLine, DoesLines, IsBad, Runs, OpenSessions, is_lf}
-use Rattle.dv_program.specs.declared.said.Line.{Line}
-use Rattle.dv_program.specs.declared.said.Line.TheVariants.{Skip, Bytes, End}
-use Rattle.dv_program.specs.declared.script.ScriptFault.{ScriptFault}
-use Rattle.dv_program.specs.declared.script.ScriptFault.TheVariants.{BadLine, Read, TooManyReads, Write, NoMemory, Sessions}
+use Rattle.dv_words.specs.declared.said.Line.{Line}
+use Rattle.dv_words.specs.declared.said.Line.TheVariants.{Skip, Bytes, End}
+use Rattle.dv_words.specs.declared.fault.ScriptFault.{ScriptFault}
+use Rattle.dv_words.specs.declared.fault.ScriptFault.TheVariants.{BadLine, Read, TooManyReads, Write, NoMemory, Sessions}
 
 -- ---- at a line
 

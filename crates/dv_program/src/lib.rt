@@ -2,17 +2,20 @@
 //! program's words and why it ends. It stands in a library, so that what tests and edits try of it isn't the whole program.
 #![tactic(auto)]
 
-pub mod check;
-pub mod fault;
-mod file;
+mod ending;
 pub mod laws;
-pub mod line;
-pub mod load;
+pub mod listen;
 mod output;
 pub mod program;
-pub mod said;
 pub mod script;
 pub mod serve;
 mod sessions;
-pub mod streams;
-pub mod words;
+
+pub use dv_files::check;
+pub use dv_streams as streams;
+pub use dv_words::{fault, line, said, words};
+
+pub mod load {
+    pub use dv_files::fault::LoadFault;
+    pub use dv_load::load_file;
+}

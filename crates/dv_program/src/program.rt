@@ -1,22 +1,27 @@
 //! What the program does by its words, on the system's streams, files and ports.
 
-use crate::fault::DocdFault;
-use crate::load::load_file;
+use crate::ending::{of_close, of_run};
+use crate::listen::{Telling, listen_on};
+use crate::script;
 use crate::serve::{Port, serve_on};
-use crate::streams::{CountedReader, CountedWriter, TextOut};
-use crate::words::{Job, Load};
-use crate::{check, script, words};
+use dv_host::HostFault;
+use dv_load::{check_file, loaded};
+use dv_streams::{CountedReader, CountedWriter, TextOut};
 use dv_wire::{Hub, Store};
-use std::io::{BufWriter, ErrorKind};
+use dv_words::fault::DocdFault;
+use dv_words::words;
+use dv_words::words::Job;
+use std::io::{BufWriter, ErrorKind, IsTerminal};
 use std::net::{Ipv4Addr, Net, SocketAddr, SocketAddrV4, TcpListener, TcpStream};
 use std::rt::{Env, Files};
-use std::{env, fs, io};
+use std::{env, io};
 
 /// Does what the program's words ask for, on its standard streams, its files and its ports. The fault is why it ends without
 /// having done all.
-pub fn docd<R>(rt: &R) -> Result<(), DocdFault>
+pub fn docd<R, E>(rt: &R, standard_error: &E) -> Result<(), DocdFault>
 where
     R: Env + Files + Input + Print + Net<Listener = TcpListener, Stream = TcpStream> + AllocGlobal,
+    E: Eprint + IsTerminal,
 {
     let alloc = rt.alloc();
     let words = env::args(rt).map_err(|error| match error.kind() {
@@ -26,7 +31,7 @@ where
     let words: Vec<String> = words.collect(alloc)?;
     match words::words(alloc, words.as_slice())? {
         Job::Run { hex, loads } => {
-            let mut hub = Hub::new(alloc, loaded(rt, loads)?);
+            let mut hub = Hub::new(alloc, loaded(rt, standard_error, loads)?);
             if hex {
                 run_script(rt, &mut hub)
             } else {
@@ -35,6 +40,14 @@ where
         }
         Job::Check { file } => check_file(rt, file),
         Job::Serve { port, connections } => serve_port(rt, port, connections),
+        Job::Listen {
+            port,
+            connections,
+            loads,
+        } => {
+            let mut hub = Hub::new(alloc, loaded(rt, standard_error, loads)?);
+            listen_at(rt, &mut hub, port, connections)
+        }
     }
 }
 
@@ -55,8 +68,11 @@ fn run_script<R: Input + Print + AllocGlobal>(rt: &R, hub: &mut Hub) -> Result<(
 fn run_session<R: Input + Print + AllocGlobal>(rt: &R, hub: &mut Hub) -> Result<(), DocdFault> {
     let mut reader = CountedReader::of(rt.reader());
     let mut writer = CountedWriter::of(io::writer(rt));
-    match dv_wire::run(rt.alloc(), hub, &mut reader, &mut writer)?.closing {
-        Some(fault) => Err(DocdFault::from(fault)),
+    match dv_wire::run(rt.alloc(), hub, &mut reader, &mut writer)
+        .map_err(of_run)?
+        .closing
+    {
+        Some(fault) => Err(of_close(fault)),
         None => Ok(()),
     }
 }
@@ -84,30 +100,31 @@ where
     Ok(())
 }
 
-// A store with the documents of these files.
-fn loaded<R: Files + AllocGlobal>(rt: &R, loads: Vec<Load>) -> Result<Store, DocdFault> {
+// Serves connections, many of them at once, at a port of this machine's own network: so many, or for good.
+fn listen_at<R: Print + Net + AllocGlobal>(
+    rt: &R,
+    hub: &mut Hub,
+    port: u16,
+    connections: Option<u32>,
+) -> Result<(), DocdFault> {
     let alloc = rt.alloc();
-    let mut store = Store::new(alloc);
-    for Load { namespace, file } in loads {
-        let mut reader = match fs::open(rt, &file) {
-            Ok(reader) => CountedReader::of(reader),
-            Err(_) => return Err(DocdFault::CannotRead { file }),
-        };
-        load_file(alloc, &mut store, &namespace, &mut reader).map_err(|fault| DocdFault::of_load(
-            file, fault,
-        ))?;
-    }
-    Ok(store)
-}
-
-// Tells how many documents a file holds.
-fn check_file<R: Files + Print + AllocGlobal>(rt: &R, file: String) -> Result<(), DocdFault> {
-    let alloc = rt.alloc();
+    let outside = dv_net::Port::bind(rt, alloc, port).map_err(|_| DocdFault::Serve)?;
     let writer = BufWriter::new(alloc, io::writer(rt)).map_err(|_| DocdFault::NoMemory)?;
     let mut writer = CountedWriter::of(writer);
-    let mut reader = match fs::open(rt, &file) {
-        Ok(reader) => CountedReader::of(reader),
-        Err(_) => return Err(DocdFault::CannotRead { file }),
+    write!(writer, "serving 127.0.0.1:{port}\n").map_err(|_| DocdFault::Write)?;
+    writer.flush().map_err(|_| DocdFault::Write)?;
+    let mut outside = Telling::of(outside, writer);
+    let connections = match connections {
+        Some(connections) => connections as u64,
+        None => u64::MAX,
     };
-    check::check(alloc, &mut reader, &mut writer).map_err(|fault| DocdFault::of_check(file, fault))
+    let told = listen_on(alloc, hub, &mut outside, connections);
+    if outside.has_failed() {
+        return Err(DocdFault::Write);
+    }
+    match told {
+        Ok(()) => Ok(()),
+        Err(HostFault::NoMemory) => Err(DocdFault::NoMemory),
+        Err(HostFault::Wait | HostFault::Turns) => Err(DocdFault::Serve),
+    }
 }

@@ -2,68 +2,22 @@
 
 ghost use Rattle.std.specs.Prelude.{◌≡◌, ◌<◌, ◌+◌, ◌^◌, ◌↔◌, ◌⊎◌, ◌++◌, ◌∷◌, ℕ, List, [], length, replicate, string_bytes, suc, IfErr, IfOk, IfSome, IsTrue, MatchOption, OnOk};
 ghost use Rattle.std.specs.Io.KnownBytes.{Appends, Keeps};
-ghost use Rattle.dv_program.specs.Script.{DoesOneLine, DoesLine, Finds, HasNoLf, Runs, OpenSessions, no_sessions, standing_of};
+ghost use Rattle.dv_program.specs.Script.{DoesOneLine, DoesLine, Finds, HasNoLf, Runs, OpenSessions, no_sessions, open_fault, standing_of};
 ghost use Rattle.dv_program.specs.Stops.{AsksForScript, EndsAt, FailsWriting, OfScript, OpensNone, StopsBy, StopsLine, script_read_failed, script_write_failed};
-ghost use Rattle.dv_program.specs.Streams.{failures_behind, failures_told};
+ghost use Rattle.dv_streams.specs.Failures.{failures_behind, failures_told};
 ghost use Rattle.dv_program.specs.Pieces.{StopsIn, TakesPiece};
 
-use crate::line::{LONGEST_LINE, line};
 use crate::output::{end_text, fed_text};
-use crate::said::{Line, LineFault};
 use crate::sessions::{Session, Sessions};
-use crate::streams::{TextOut, piece};
-use dv_wire::{ByteIn, Fed, Hub, HubFault, give_all};
-use std::alloc::{AllocError, Global};
-use thiserror::Error;
+use dv_streams::{ByteIn, TextOut, give_all, piece};
+use dv_wire::{Fed, Hub, HubFault};
+pub use dv_words::fault::ScriptFault;
+use dv_words::line::{LONGEST_LINE, line};
+use dv_words::said::{Line, LineFault};
+use std::alloc::Global;
 
 /// The most reads that a script takes.
 const MOST_READS: u64 = 4_294_967_296;
-
-/// Why a script ends before its last line.
-#[derive(Clone, Copy, Debug, PartialEq, Eq, Error)]
-pub enum ScriptFault {
-    /// A line has no form, or is too long. Lines count from 1, those that are skipped too.
-    #[error("line {line}: bad line")]
-    BadLine { line: u64 },
-    /// The reader failed.
-    #[error("read failed")]
-    Read,
-    /// The script didn't end within 4,294,967,296 reads.
-    #[error("read failed")]
-    TooManyReads,
-    /// The writer failed.
-    #[error("write failed")]
-    Write,
-    /// Memory is wanting.
-    #[error("no memory")]
-    NoMemory,
-    /// The hub opens no session.
-    #[error("too many sessions")]
-    Sessions,
-}
-
-impl From<AllocError> for ScriptFault {
-    ghost use Rattle.dv_program.specs.declared.script.ScriptFault.TheVariants.{NoMemory};
-
-    ghost from_gives = { λ _ e. e ≡ NoMemory };
-
-    fn from(_e: AllocError) -> ScriptFault {
-        ScriptFault::NoMemory
-    }
-}
-
-impl From<HubFault> for ScriptFault {
-    ghost use Rattle.dv_program.specs.Script.{open_fault};
-
-    ghost from_gives = { λ fault e. e ≡ open_fault fault };
-
-    fn from(fault: HubFault) -> ScriptFault {
-        match fault {
-            HubFault::TooManySessions => ScriptFault::Sessions,
-            HubFault::NoMemory => ScriptFault::NoMemory,
-        }
-    }
-}
 
 /// Reads a script to its end and does each line as it comes. A number's session is opened at the number's first line,
 /// and anew after its end. Each reply is written as the number, a space and the reply's bytes in lower case; a session
@@ -287,6 +241,7 @@ impl Progress {
     }
 
     // The session of a number, which is opened if it isn't open.
+    #[tactic(auto, using(crate::proofs::Stopped::opens_none))]
     fn session(&mut self, hub: &mut Hub, number: u32) -> Result<Session, ScriptFault>
         requires { number < 1000 }
         ensures kept { self.new ≡ record self.old { sessions = self.new.sessions } }
@@ -297,12 +252,26 @@ impl Progress {
         if let Some(session) = self.sessions.get(number) {
             return Ok(session);
         }
+        let id = match hub.open() {
+            Ok(id) => id,
+            Err(fault) => return Err(unopened(fault)),
+        };
         let session = Session {
-            id: hub.open()?,
+            id,
             is_closed: false,
         };
         self.sessions.set(number, Some(session));
         Ok(session)
+    }
+}
+
+// Why a script ends that opens no session.
+fn unopened(fault: HubFault) -> ScriptFault
+    ensures { result ≡ open_fault fault }
+{
+    match fault {
+        HubFault::TooManySessions => ScriptFault::Sessions,
+        HubFault::NoMemory => ScriptFault::NoMemory,
     }
 }
 

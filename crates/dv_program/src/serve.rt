@@ -2,12 +2,12 @@
 
 ghost use Rattle.std.specs.Prelude.{◌≡◌, ◌<◌, ◌+◌, ℕ, List, Err, IfErr, IfOk, OnErr, OnOk};
 ghost use Rattle.std.specs.Io.KnownBytes.{Appends};
-ghost use Rattle.dv_wire.specs.Stream.{MoreBy};
+ghost use Rattle.dv_streams.specs.Stream.{MoreBy};
 ghost use Rattle.dv_program.specs.Serve.{Accepts, ClosesConnection, Connection, HasSession, Served, accept_failed, connection_line, serve_write_failed};
-ghost use Rattle.dv_program.specs.Streams.{failures_behind, failures_told};
+ghost use Rattle.dv_streams.specs.Failures.{failures_behind, failures_told};
 
-use crate::streams::{CountedReader, CountedWriter, TextOut, counted};
-use dv_wire::{ByteIn, ByteOut, Done, Failed, Hub, RunFault, run};
+use dv_streams::{ByteIn, ByteOut, CountedReader, CountedWriter, Failed, TextOut, counted};
+use dv_wire::{Done, Hub, RunFault, run};
 use std::alloc::Global;
 use std::io;
 use std::net::{TcpListener, TcpStream};
@@ -24,8 +24,8 @@ pub enum ServeFault {
 /// What connections come from.
 pub trait Listener {
     ghost use Rattle.std.specs.Prelude.{◌≡◌, ℕ, List, Option, IfOk, OnErr};
-    ghost use Rattle.dv_program.specs.Serve.{Accepts, ClosesConnection, Ended, HasTakenNothing};
-    ghost use Rattle.dv_program.specs.Streams.{failures_behind};
+    ghost use Rattle.dv_program.specs.Serve.{Accepts, ClosesConnection, Ended, IsFresh};
+    ghost use Rattle.dv_streams.specs.Failures.{failures_behind};
 
     /// Where a connection's bytes come from.
     type Input: ByteIn + Drop;
@@ -46,7 +46,7 @@ pub trait Listener {
     /// Waits for the next connection.
     fn accept(&mut self) -> Result<(Self::Input, Self::Output), Failed>
         ensures next { IfOk result (λ connection. Accepts (coming self.old) (Self.Input.remaining connection.0) (coming self.new)) }
-        ensures fresh { IfOk result (λ connection. HasTakenNothing (Self.Output.contents connection.1)) }
+        ensures fresh { IfOk result (λ connection. IsFresh (closed self.old) (Self.Output.contents connection.1)) }
         ensures kept { OnErr result (coming self.new ≡ coming self.old) }
         ensures closed { closed self.new ≡ closed self.old }
         ensures failures { failures self.new ≡ failures_behind result (failures self.old) };
@@ -143,7 +143,6 @@ pub fn serve_on<L: Listener, W: TextOut>(
 }
 
 // Has the session of the next connection, and closes it.
-#[tactic(auto, using(crate::proofs::Served::session_had))]
 fn serve_next<L: Listener>(
     alloc: Global,
     hub: &mut Hub,

@@ -2,8 +2,8 @@
 
 ghost use Rattle.std.specs.Prelude.{◌≡◌, ◌<◌, None, replicate, slice_get, slice_set};
 
-use crate::line::NUMBERS;
 use dv_wire::SessionId;
+use dv_words::line::NUMBERS;
 
 /// How many places the table has: one for each number.
 const PLACES: usize = NUMBERS as usize;

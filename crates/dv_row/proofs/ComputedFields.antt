@@ -4,9 +4,9 @@ use Rattle.std.specs.List.{list_any, AllByRecursion, cons_option}
 use Rattle.std.specs.Option.{option_map}
 use Rattle.std.specs.Str.{bytes_eq}
 use Rattle.std.proofs.lemmas.Slice.Eq.{bytes_eq-Decides}
-use Rattle.dv_bson.specs.Tree.{Tree, Field}
-use Rattle.dv_bson.specs.Names.{has_name, bare, AreNamed}
-use Rattle.dv_path.specs.Candidates.{Candidate}
+use Rattle.dv_value.specs.Tree.{Tree, Field}
+use Rattle.dv_value.specs.Names.{has_name, bare, AreNamed}
+use Rattle.dv_candidates.specs.Candidates.{Candidate}
 use Rattle.dv_row.specs.declared.project.Project.TheVariants.{Include}
 use Rattle.dv_row.specs.Expressions.{Expression, nothing, computed_of, with_field_behind, value_of, with_computed}
 use Rattle.dv_row.specs.Projecting.{paths_behind, left_of_value, row_left, projected}

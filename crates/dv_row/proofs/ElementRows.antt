@@ -1,9 +1,9 @@
 -- The rows of an $unwind by what putting a value at a path, or taking one away, makes of a row.
 use Rattle.std.proofs.Common.{◌≡◌, ◌≢◌, ◌∙◌, ap, sym, refl, ℕ, Bool, true, false, List, [], ◌∷◌, map, Some, None, option_and_then, Ok, ◌⊎◌, inl, inr, if◌then◌else◌}
 use Rattle.std.specs.Str.{bytes_eq}
-use Rattle.dv_bson.specs.Tree.{Tree, int32, int64, string, document, array, boolean, binary, object_id, date, null, timestamp, min_key, max_key, Fields, Field, fields_of, list_of_fields, Elements, no_elements, element, list_of_elements}
-use Rattle.dv_bson.specs.Names.{value_under, with_value_under, without}
-use Rattle.dv_path.specs.Candidates.{Candidate}
+use Rattle.dv_value.specs.Tree.{Tree, int32, int64, string, document, array, boolean, binary, object_id, date, null, timestamp, min_key, max_key, Fields, Field, fields_of, list_of_fields, Elements, no_elements, element, list_of_elements}
+use Rattle.dv_value.specs.Names.{value_under, with_value_under, without}
+use Rattle.dv_candidates.specs.Candidates.{Candidate}
 use Rattle.dv_path.specs.Placing as placing
 use Rattle.dv_path.specs.Placing.{put, put_behind, result_map}
 use Rattle.dv_path.specs.Removing.{remove, left_behind}
@@ -11,6 +11,7 @@ use Rattle.dv_row.specs.Parsing.{unwinding}
 use Rattle.dv_row.specs.Row.{Row}
 use Rattle.dv_row.specs.Unwinding.{in_document, reached, changed_under, set_through, unwound_rows, unwound}
 use Rattle.dv_row.specs.declared.unwind.Unwind.{Unwind}
+use Rattle.dv_row.proofs.Unwound.{gone-through}
 
 -- ---- one value put, or taken away
 
@@ -26,23 +27,6 @@ exchanged name v w (f ∷ fs) there = go (bytes_eq name f.0) there (exchanged na
 taken-away : (name : List ℕ) (fs : List Field) → placing.with_field name None fs ≡ without name fs
 taken-away name [] = refl
 taken-away name (f ∷ fs) = ap (λ l. if bytes_eq name f.0 then fs else f ∷ l) (taken-away name fs)
-
--- what a path goes through is a document
-gone-through : (look : List Field → Candidate) (c : Candidate) (w : Tree) → in_document look c ≡ Some w → (inner : Fields) × (c ≡ Some (document inner)) × (look (list_of_fields inner) ≡ Some w)
-gone-through look (Some (document inner)) w there = (inner, refl, there)
-gone-through look None w there = absurd cc
-gone-through look (Some (int32 n)) w there = absurd cc
-gone-through look (Some (int64 n)) w there = absurd cc
-gone-through look (Some (string s)) w there = absurd cc
-gone-through look (Some (array vs)) w there = absurd cc
-gone-through look (Some (boolean b)) w there = absurd cc
-gone-through look (Some (binary s bs)) w there = absurd cc
-gone-through look (Some (object_id id)) w there = absurd cc
-gone-through look (Some (date n)) w there = absurd cc
-gone-through look (Some null) w there = absurd cc
-gone-through look (Some (timestamp n)) w there = absurd cc
-gone-through look (Some min_key) w there = absurd cc
-gone-through look (Some max_key) w there = absurd cc
 
 set-put : (path : List (List ℕ)) (v w : Tree) (fs : List Field) → reached path fs ≡ Some w → put fs path v ≡ Ok (set_through path (Some v) fs)
 unfolding put

@@ -7,11 +7,11 @@ use Rattle.std.proofs.lemmas.List.Elements.{filter-append}
 use Rattle.std.proofs.lemmas.List.Folds.{list_any-append}
 use Rattle.std.proofs.lemmas.List.Splits.{join_with_byte-slice_split, length-slice_split}
 use Rattle.std.proofs.lemmas.Slice.Eq.{bytes_eq-Decides}
-use Rattle.dv_bson.specs.Names.{has_name, has_zero}
-use Rattle.dv_bson.specs.Tree.{Tree, document, Field, fields_of}
-use Rattle.dv_path.specs.Candidates.{Candidate}
+use Rattle.dv_value.specs.Names.{has_name, has_zero}
+use Rattle.dv_value.specs.Tree.{Tree, document, Field, fields_of}
+use Rattle.dv_candidates.specs.Candidates.{Candidate}
 use Rattle.dv_path.specs.Names.{has_dot}
-use Rattle.dv_path.specs.Path.{path_of}
+use Rattle.dv_candidates.specs.Path.{path_of}
 use Rattle.dv_row.specs.declared.fault.PipelineFault.{PipelineFault}
 use Rattle.dv_row.specs.declared.fault.PipelineFault.TheVariants.{Conflict}
 use Rattle.dv_row.specs.declared.project.Project.{Project}
@@ -19,7 +19,7 @@ use Rattle.dv_row.specs.declared.project.Project.TheVariants.{Include, Exclude}
 use Rattle.dv_row.specs.Conflicts.{IsMemberTaken}
 use Rattle.dv_row.specs.ExpressionParsing.{expression_in, switch_in}
 use Rattle.dv_row.specs.Expressions.{Expression, computed_of, with_computed, with_field_behind, value_of}
-use Rattle.dv_bson.specs.Results.{◌>>=◌}
+use Rattle.dv_value.specs.Results.{◌>>=◌}
 use Rattle.dv_row.specs.Projecting.{row_left, projected}
 use Rattle.dv_row.specs.ProjectParsing.{AskedMembers, conflicts_with_asked, excludes, includes, is_below_id, is_id_path, members_in, nothing_asked, one_begins, project_form, project_in, with_computation, with_excluded, with_id_path, with_included, with_member, with_named, with_path, with_switch}
 use Rattle.dv_row.specs.Row.{Row}

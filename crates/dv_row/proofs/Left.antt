@@ -3,9 +3,9 @@ use Rattle.std.proofs.Common.{◌≡◌, ◌∙◌, ap, sym, refl, Bool, true, f
 use Rattle.std.specs.Str.{bytes_eq}
 use Rattle.std.proofs.lemmas.Slice.Eq.{bytes_eq-Decides}
 use Rattle.std.proofs.lemmas.Bool.Decides.{same_from_decides}
-use Rattle.dv_bson.specs.Tree.{Tree, Field, Fields, fields_of, list_of_fields, no_fields, field, Elements, no_elements, element, elements_of, list_of_elements}
-use Rattle.dv_bson.specs.Names.{has_name, has_zero, AreNamed}
-use Rattle.dv_path.specs.Candidates.{Candidate}
+use Rattle.dv_value.specs.Tree.{Tree, Field, Fields, fields_of, list_of_fields, no_fields, field, Elements, no_elements, element, elements_of, list_of_elements}
+use Rattle.dv_value.specs.Names.{has_name, has_zero, AreNamed}
+use Rattle.dv_candidates.specs.Candidates.{Candidate}
 use Rattle.dv_row.specs.Expressions.{with_field_behind}
 use Rattle.dv_row.specs.Projecting.{paths_behind, with_left, with_element_left, left_of_value, left_inside, fields_left, elements_left, row_left}
 use Rattle.dv_row.proofs.Items.{take-here}

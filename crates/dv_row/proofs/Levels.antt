@@ -4,8 +4,8 @@ use Rattle.std.specs.List.{list_any}
 use Rattle.std.specs.Str.{bytes_eq}
 use Rattle.std.proofs.lemmas.Bool.{or_parts}
 use Rattle.std.proofs.lemmas.Slice.Eq.{bytes_eq-Decides}
-use Rattle.dv_bson.specs.Names.{has_name}
-use Rattle.dv_bson.specs.Tree.{Tree, document, Field, fields_of}
+use Rattle.dv_value.specs.Names.{has_name}
+use Rattle.dv_value.specs.Tree.{Tree, document, Field, fields_of}
 use Rattle.dv_row.specs.declared.project.Project.TheVariants.{Include, Exclude}
 use Rattle.dv_row.specs.Expressions.{nothing, with_computed}
 use Rattle.dv_row.specs.Projecting.{paths_behind, if_it, left_of_value, left_inside, fields_left, row_left, projected}

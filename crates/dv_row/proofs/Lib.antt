@@ -8,11 +8,13 @@ pub mod Items
 pub mod Left
 pub mod Levels
 pub mod Members
+pub mod OnWay
 pub mod Ordered
 pub mod Same
 pub mod ShownFields
 pub mod Sound
 pub mod Standing
 pub mod Taken
+pub mod Turning
 pub mod Unwound
 pub mod Worked

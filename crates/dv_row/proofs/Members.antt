@@ -1,18 +1,18 @@
 -- The members of a $project, and documents of expressions, one after the other.
 use Rattle.std.proofs.Common.{◌≡◌, ◌∙◌, ap, sym, refl, Bool, true, false, ◌&&◌, List, [], ◌∷◌, ℕ, length, Some, None, Result, Ok, Err, codes, ap₂, ◌++◌, ◌⊎◌, inl, inr, if◌then◌else◌}
 use Rattle.std.specs.Str.{bytes_eq}
-use Rattle.dv_bson.specs.Tree.{Field, document, fields_of}
-use Rattle.dv_bson.specs.Names.{value_under}
-use Rattle.dv_path.specs.Path.{path_of}
-use Rattle.dv_path.specs.declared.fault.PathFault.{PathFault}
-use Rattle.dv_path.specs.declared.fault.PathFault.TheVariants as paths
+use Rattle.dv_value.specs.Tree.{Field, document, fields_of}
+use Rattle.dv_value.specs.Names.{value_under}
+use Rattle.dv_candidates.specs.Path.{path_of}
+use Rattle.dv_candidates.specs.declared.fault.PathFault.{PathFault}
+use Rattle.dv_candidates.specs.declared.fault.PathFault.TheVariants as paths
 use Rattle.dv_row.specs.declared.fault.PipelineFault.{PipelineFault}
 use Rattle.dv_row.specs.declared.fault.PipelineFault.TheVariants.{NoMemory}
 use Rattle.dv_row.specs.declared.project.Project.TheVariants.{Include, Exclude}
 use Rattle.dv_row.specs.Fault.{pipeline_fault_of_path}
 use Rattle.dv_row.proofs.Unwound.{list-of-fields_of}
 use Rattle.dv_row.specs.Expressions.{Expression, Computed, computed, computed_of}
-use Rattle.dv_bson.specs.Results.{◌>>=◌, each}
+use Rattle.dv_value.specs.Results.{◌>>=◌, each}
 use Rattle.dv_row.specs.ExpressionParsing.{literal_in, under_name, expression_in, computed_in}
 use Rattle.dv_row.specs.ProjectParsing.{one_begins, AskedMembers, nothing_asked, members_in, conflicts_with_asked, includes, with_id_path, project_form, project_in}
 

@@ -2,8 +2,8 @@
 use Rattle.std.proofs.Common.{◌≡◌, ◌∙◌, ap, ap₂, sym, refl, Bool, true, false, ◌&&◌, ◌||◌, List, [], ◌∷◌, ℕ, Some, if◌then◌else◌}
 use Rattle.std.specs.List.{list_any}
 use Rattle.std.specs.Str.{bytes_eq}
-use Rattle.dv_bson.specs.Tree.{Tree, document, array, Fields, no_fields, field, Elements, no_elements, element, fields_of, list_of_fields}
-use Rattle.dv_path.specs.Candidates.{Candidate}
+use Rattle.dv_value.specs.Tree.{Tree, document, array, Fields, no_fields, field, Elements, no_elements, element, fields_of, list_of_fields}
+use Rattle.dv_candidates.specs.Candidates.{Candidate}
 use Rattle.dv_row.specs.Projecting.{paths_behind, ends, if_it, with_left, with_element_left, left_at, left_inside, fields_left, elements_left, row_left}
 use Rattle.dv_row.specs.Row.{Row}
 use Rattle.dv_row.specs.Ways.{AreSame}

@@ -3,8 +3,8 @@ use Rattle.std.proofs.Common.{◌≡◌, ◌∙◌, ap, refl, ℕ, Bool, true, f
 use Rattle.std.specs.List.{list_any}
 use Rattle.std.specs.Option.{is_some}
 use Rattle.std.specs.Str.{bytes_eq}
-use Rattle.dv_bson.specs.Tree.{Tree, document, array, Fields, Field, fields_of, list_of_fields}
-use Rattle.dv_path.specs.Candidates.{Candidate}
+use Rattle.dv_value.specs.Tree.{Tree, document, array, Fields, Field, fields_of, list_of_fields}
+use Rattle.dv_candidates.specs.Candidates.{Candidate}
 use Rattle.dv_row.specs.declared.project.Project.TheVariants.{Include, Exclude}
 use Rattle.dv_row.specs.Expressions.{nothing, with_computed}
 use Rattle.dv_row.specs.Projecting.{paths_behind, ends, if_it, with_left, left_at, left_inside, fields_left, left_of_value, row_left, projected}

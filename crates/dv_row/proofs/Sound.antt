@@ -1,8 +1,8 @@
 -- What comes of valid rows by what was read from valid values.
 use Rattle.std.proofs.Common.{◌≡◌, Bool, Ok}
 use Rattle.std.specs.Option.{IfSome}
-use Rattle.dv_bson.specs.Spelling.{IsValue}
-use Rattle.dv_bson.specs.Tree.{Tree}
+use Rattle.dv_value.specs.Spelling.{IsValue}
+use Rattle.dv_value.specs.Tree.{Tree}
 use Rattle.dv_row.specs.declared.project.Project.{Project}
 use Rattle.dv_row.specs.ExpressionParsing.{expression_in}
 use Rattle.dv_row.specs.Expressions.{Expression, value_of}

@@ -1,15 +1,15 @@
 -- The members of a $project that are taken one after the other, while their paths may still conflict.
 use Rattle.std.proofs.Common.{◌≡◌, ◌∙◌, ◌≤◌, ap, sym, refl, Bool, true, false, ◌||◌, ◌&&◌, ◌==◌, not, List, [], ◌∷◌, ◌++◌, ℕ, ◌+◌, drop, length, Some, None, slice_get, Ok, Err, ◌⊎◌, inl, inr, if◌then◌else◌, cond}
 use Rattle.std.specs.List.{list_any, list_all, slice_split, onto_first}
-use Rattle.dv_bson.specs.Tree.{Tree, Field}
-use Rattle.dv_path.specs.Path.{is_component, path_of}
+use Rattle.dv_value.specs.Tree.{Tree, Field}
+use Rattle.dv_candidates.specs.Path.{is_component, path_of}
 use Rattle.dv_row.specs.declared.fault.PipelineFault.{PipelineFault}
 use Rattle.dv_row.specs.declared.fault.PipelineFault.TheVariants.{BadSpec, Conflict, NoMemory}
 use Rattle.dv_row.specs.Conflicts.{paths_conflict, IsMemberTaken}
 use Rattle.dv_row.specs.Expressions.{Expression}
 use Rattle.dv_path.specs.Names.{has_dot}
 use Rattle.dv_row.specs.ExpressionParsing.{expression_in}
-use Rattle.dv_bson.specs.Results.{◌>>=◌}
+use Rattle.dv_value.specs.Results.{◌>>=◌}
 use Rattle.dv_row.specs.ProjectParsing.{AskedMembers, is_id_path, is_below_id, one_begins, conflicts_with_asked, unless_conflict, with_included, with_excluded, with_computation, excludes, includes, with_path, with_expression, with_switch, with_member, members_in, nothing_asked}
 use Rattle.dv_row.proofs.Conflicting.{any-pushed, conflict-pushed}
 use Rattle.dv_row.proofs.Items.{drop-found, drop-past}

@@ -1,21 +1,18 @@
 -- Paths through documents, component by component.
 use Rattle.std.proofs.Common.{◌≡◌, ◌∙◌, ap, sym, refl, List, [], ◌∷◌, ℕ, Some, None, map}
-use Rattle.dv_bson.specs.Tree.{Tree, Field, fields_of, list_of_fields, elements_of, list_of_elements}
-use Rattle.dv_bson.specs.View.{tree}
-use Rattle.dv_bson.specs.declared.value.Value.{Value}
+use Rattle.dv_value.specs.Tree.{Tree, int32, int64, string, document, array, boolean, binary, object_id, date, null, timestamp, min_key, max_key, Fields, Field, fields_of, list_of_fields, elements_of, list_of_elements}
+use Rattle.dv_value.specs.View.{tree}
+use Rattle.dv_value.specs.declared.value.Value.{Value}
 use Rattle.dv_row.specs.declared.unwind.Unwind.{Unwind}
-use Rattle.dv_bson.specs.Names.{value_under}
-use Rattle.dv_path.specs.Candidates.{Candidate}
-use Rattle.dv_row.specs.Unwinding.{in_document, reached, set_under, changed_under, set_through, preserved, rows_of_elements}
+use Rattle.dv_value.specs.Names.{value_under}
+use Rattle.dv_candidates.specs.Candidates.{Candidate}
+use Rattle.dv_row.specs.Unwinding.{in_document, reached, set_through, preserved, rows_of_elements}
 
 pub list-of-fields_of : (fs : List Field) → list_of_fields (fields_of fs) ≡ fs
 list-of-fields_of [] = refl
 list-of-fields_of (f ∷ fs) = ap (λ l. f ∷ l) (list-of-fields_of fs)
 
 module _ (name : List ℕ) (d : List Field) where
-  pub reached-one : (rest : List (List ℕ)) → rest ≡ [] → reached (name ∷ rest) d ≡ value_under name d
-  reached-one rest e = ap (λ r. reached (name ∷ r) d) e
-
   pub reached-none : (rest : List (List ℕ)) → value_under name d ≡ None → reached (name ∷ rest) d ≡ None
   reached-none [] e = e
   reached-none (next ∷ names) e = ap (in_document (reached (next ∷ names))) e
@@ -24,12 +21,22 @@ module _ (name : List ℕ) (d : List Field) where
   reached-more [] v some e = absurd (some refl)
   reached-more (next ∷ names) v some e = ap (in_document (reached (next ∷ names))) e
 
-  pub set-one : (rest : List (List ℕ)) (v : Candidate) → rest ≡ [] → set_through (name ∷ rest) v d ≡ set_under name v d
-  set-one rest v e = ap (λ r. set_through (name ∷ r) v d) e
-
-  pub set-more : (rest : List (List ℕ)) (v found : Candidate) → (rest ≡ [] → ⊥) → value_under name d ≡ found → set_through (name ∷ rest) v d ≡ changed_under name (set_through rest v) found d
-  set-more [] v found some e = absurd (some refl)
-  set-more (next ∷ names) v found some e = ap (λ f. changed_under name (set_through (next ∷ names) v) f d) e
+-- what a path goes through is a document
+pub gone-through : (look : List Field → Candidate) (c : Candidate) (w : Tree) → in_document look c ≡ Some w → (inner : Fields) × (c ≡ Some (document inner)) × (look (list_of_fields inner) ≡ Some w)
+gone-through look (Some (document inner)) w there = (inner, refl, there)
+gone-through look None w there = absurd cc
+gone-through look (Some (int32 n)) w there = absurd cc
+gone-through look (Some (int64 n)) w there = absurd cc
+gone-through look (Some (string s)) w there = absurd cc
+gone-through look (Some (array vs)) w there = absurd cc
+gone-through look (Some (boolean b)) w there = absurd cc
+gone-through look (Some (binary s bs)) w there = absurd cc
+gone-through look (Some (object_id id)) w there = absurd cc
+gone-through look (Some (date n)) w there = absurd cc
+gone-through look (Some null) w there = absurd cc
+gone-through look (Some (timestamp n)) w there = absurd cc
+gone-through look (Some min_key) w there = absurd cc
+gone-through look (Some max_key) w there = absurd cc
 
 -- rows of elements, of which there are some
 pub rows-of_some : (u : Unwind) (d : List Field) (es : List Value) (vs : List Tree) → map tree es ≡ vs → (es ≡ [] → ⊥) → rows_of_elements u d (elements_of vs) ≡ map (λ v. set_through u.path (Some (tree v)) d) es

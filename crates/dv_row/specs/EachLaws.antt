@@ -4,7 +4,7 @@ use Rattle.std.proofs.lemmas.Option.{slice_get_read}
 use Rattle.dv_row.specs.declared.fault.PipelineFault.{PipelineFault}
 use Rattle.dv_row.specs.declared.fault.PipelineFault.TheVariants.{NoMemory}
 use Rattle.dv_row.specs.Parsing.{Gives}
-use Rattle.dv_bson.specs.Results.{◌>>=◌, each}
+use Rattle.dv_value.specs.Results.{◌>>=◌, each}
 
 pub drop-here : {X : Type 0} (xs : List X) (i : ℕ) (x : X) → slice_get xs i ≡ Some x → drop i xs ≡ x ∷ drop (suc i) xs
 drop-here [] i x e = absurd cc

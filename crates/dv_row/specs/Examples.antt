@@ -1,9 +1,9 @@
 -- Worked examples of stages of one row, as they are written.
 use Rattle.std.specs.Prelude.{List, Result, Ok}
-use Rattle.dv_bson.specs.Tree.{Field}
+use Rattle.dv_value.specs.Tree.{Field}
 use Rattle.dv_row.specs.declared.fault.PipelineFault.{PipelineFault}
-use Rattle.dv_bson.specs.Results.{◌>>=◌}
-use Rattle.dv_bson.specs.Short.{doc}
+use Rattle.dv_value.specs.Results.{◌>>=◌}
+use Rattle.dv_value.specs.Short.{doc}
 use Rattle.dv_row.specs.Projecting.{projected}
 use Rattle.dv_row.specs.ProjectParsing.{project_in}
 use Rattle.dv_row.specs.Row.{Row}

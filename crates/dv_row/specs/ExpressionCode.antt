@@ -2,7 +2,7 @@
 use Rattle.std.specs.Prelude.{◌≡◌, ℕ, List, refl}
 use Rattle.std.proofs.Common.{ap, ap₂, ◌∙◌}
 use base.Stored.{Gv, gnum, gcons, gnil, Coded, coded_ℕ, coded_list}
-use Rattle.dv_bson.specs.TreeCode.{coded_tree}
+use Rattle.dv_value.specs.TreeCode.{coded_tree}
 use Rattle.dv_row.specs.Expressions.{Expression, at_path, constant, made, Computed, nothing, computed}
 
 abbrev coded_name : Coded (List ℕ)

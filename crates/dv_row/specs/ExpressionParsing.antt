@@ -1,16 +1,20 @@
 -- Expressions from values: the form, or the first fault in written order (MongoDB manual, "Aggregation Expressions"). That numbers
 -- and booleans don't stand for themselves in a $project, and which fault is told, is this server's own.
-use Rattle.std.specs.Prelude.{ℕ, ◌||◌, Bool, true, false, List, Option, Some, None, Result, Ok, Err, codes, if◌then◌else◌}
+use Rattle.std.specs.Prelude.{ℕ, ℤ, pos, negsuc, ◌==◌, ◌||◌, not, Bool, true, false, List, Option, Some, None, Result, Ok, Err, codes, if◌then◌else◌}
 use Rattle.std.specs.Str.{bytes_eq}
-use Rattle.dv_bson.specs.Tree.{Tree, int32, int64, string, boolean, document, array, Fields, no_fields, field}
-use Rattle.dv_bson.specs.Names.{begins_with_dollar}
-use Rattle.dv_match.specs.Parsing.{is_not_zero}
+use Rattle.dv_value.specs.Tree.{Tree, int32, int64, string, boolean, document, array, Fields, no_fields, field}
+use Rattle.dv_value.specs.Names.{begins_with_dollar}
 use Rattle.dv_path.specs.Names.{has_dot}
 use Rattle.dv_row.specs.declared.fault.PipelineFault.{PipelineFault}
 use Rattle.dv_row.specs.declared.fault.PipelineFault.TheVariants.{BadSpec}
 use Rattle.dv_row.specs.Expressions.{Expression, at_path, constant, made, Computed, nothing, computed}
 use Rattle.dv_row.specs.Parsing.{path_in}
-use Rattle.dv_bson.specs.Results.{◌>>=◌}
+use Rattle.dv_value.specs.Results.{◌>>=◌}
+
+-- a number switches on where it isn't 0
+abbrev pub is_not_zero : ℤ → Bool
+is_not_zero (pos n) = not (n == 0)
+is_not_zero (negsuc n) = true
 
 -- what a number or a boolean switches on or off
 abbrev pub switch_in : Tree → Option Bool

@@ -1,6 +1,6 @@
 -- What an expression in memory stands for.
 use Rattle.std.specs.Prelude.{ℕ, List}
-use Rattle.dv_bson.specs.View.{tree}
+use Rattle.dv_value.specs.View.{tree}
 use Rattle.dv_row.specs.declared.expr.Expr.{Expr}
 use Rattle.dv_row.specs.declared.expr.Expr.TheVariants.{Path, Constant, Document}
 use Rattle.dv_row.specs.declared.expr.ComputedField.{ComputedField}

@@ -1,9 +1,9 @@
 -- Expressions (MongoDB manual, "Aggregation Expressions"): the value of a path, a value that stands for itself, and documents of
 -- expressions. That there are no others is this server's own.
 use Rattle.std.specs.Prelude.{ℕ, suc, ◌+◌, ◌||◌, List, [], ◌∷◌, ◌++◌, Some, None, if◌then◌else◌}
-use Rattle.dv_bson.specs.Tree.{Tree, document, fields_of, Field}
-use Rattle.dv_bson.specs.Names.{has_name, has_zero}
-use Rattle.dv_path.specs.Candidates.{Candidate}
+use Rattle.dv_value.specs.Tree.{Tree, document, fields_of, Field}
+use Rattle.dv_value.specs.Names.{has_name, has_zero}
+use Rattle.dv_candidates.specs.Candidates.{Candidate}
 use Rattle.dv_path.specs.Expression.{expr}
 
 mutual

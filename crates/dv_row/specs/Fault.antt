@@ -1,9 +1,7 @@
--- The faults of pipelines as text and as numbers, and what the faults of a filter and of a path are in a pipeline.
+-- The faults of pipelines as text and as numbers, and what the faults of a path are in a pipeline.
 use Rattle.std.specs.Prelude.{ℕ, List, codes}
-use Rattle.dv_path.specs.declared.fault.PathFault.{PathFault}
-use Rattle.dv_path.specs.declared.fault.PathFault.TheVariants as paths
-use Rattle.dv_match.specs.declared.fault.FilterFault.{FilterFault}
-use Rattle.dv_match.specs.declared.fault.FilterFault.TheVariants as filters
+use Rattle.dv_candidates.specs.declared.fault.PathFault.{PathFault}
+use Rattle.dv_candidates.specs.declared.fault.PathFault.TheVariants as paths
 use Rattle.dv_row.specs.declared.fault.PipelineFault.{PipelineFault}
 use Rattle.dv_row.specs.declared.fault.PipelineFault.TheVariants.{UnknownStage, BadSpec, Filter, Conflict, TooMany, NoMemory}
 
@@ -24,10 +22,6 @@ pipeline_fault_number TooMany = 5
 pipeline_fault_number NoMemory = 6
 
 -- want of memory stays what it is
-abbrev pub pipeline_fault_of_filter : FilterFault → PipelineFault
-pipeline_fault_of_filter filters.NoMemory = NoMemory
-pipeline_fault_of_filter e = Filter
-
 abbrev pub pipeline_fault_of_path : PathFault → PipelineFault
 pipeline_fault_of_path paths.NoMemory = NoMemory
 pipeline_fault_of_path e = BadSpec

@@ -1,5 +1,6 @@
 pub mod AskedView
 pub mod Conflicts
+pub mod Crossings
 pub mod EachLaws
 pub mod Examples
 pub mod Expressions
@@ -14,6 +15,7 @@ pub mod ProjectParsing
 pub mod Row
 pub mod RowValueView
 pub mod Shown
+pub mod Turns
 pub mod Unwinding
 pub mod Valid
 pub mod ValidRows

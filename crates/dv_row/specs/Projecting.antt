@@ -3,8 +3,8 @@
 use Rattle.std.specs.Prelude.{ℕ, Bool, true, false, not, List, [], ◌∷◌, Some, None, if◌then◌else◌}
 use Rattle.std.specs.List.{list_any}
 use Rattle.std.specs.Str.{bytes_eq}
-use Rattle.dv_bson.specs.Tree.{Tree, document, array, Fields, no_fields, field, Elements, no_elements, element, fields_of, list_of_fields}
-use Rattle.dv_path.specs.Candidates.{Candidate}
+use Rattle.dv_value.specs.Tree.{Tree, document, array, Fields, no_fields, field, Elements, no_elements, element, fields_of, list_of_fields}
+use Rattle.dv_candidates.specs.Candidates.{Candidate}
 use Rattle.dv_row.specs.declared.project.Project.{Project}
 use Rattle.dv_row.specs.declared.project.Project.TheVariants.{Include, Exclude}
 use Rattle.dv_row.specs.Expressions.{with_computed}

@@ -1,6 +1,6 @@
 -- Rows, which stages make others of.
 use Rattle.std.specs.Prelude.{List}
-use Rattle.dv_bson.specs.Tree.{Field}
+use Rattle.dv_value.specs.Tree.{Field}
 
 -- a row is a document: the list of its fields
 abbrev pub Row : Type 0

@@ -1,6 +1,6 @@
 -- What a row's value in memory stands for.
-use Rattle.dv_bson.specs.Tree.{Tree}
-use Rattle.dv_bson.specs.View.{tree}
+use Rattle.dv_value.specs.Tree.{Tree}
+use Rattle.dv_value.specs.View.{tree}
 use Rattle.dv_row.specs.declared.row_value.RowValue.{RowValue}
 use Rattle.dv_row.specs.declared.row_value.RowValue.TheVariants.{Lent, Made}
 

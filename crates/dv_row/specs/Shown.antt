@@ -3,8 +3,8 @@ use Rattle.std.specs.Prelude.{◌≡◌, ℕ, Bool, true, false, List, [], ◌�
 use Rattle.std.specs.List.{AllByRecursion, list_any, filter_map}
 use Rattle.std.specs.Option.{option_map}
 use Rattle.std.specs.Str.{bytes_eq}
-use Rattle.dv_bson.specs.Names.{has_name}
-use Rattle.dv_bson.specs.Tree.{Tree, document, array, Field, fields_of}
+use Rattle.dv_value.specs.Names.{has_name}
+use Rattle.dv_value.specs.Tree.{Tree, document, array, Field, fields_of}
 use Rattle.dv_row.specs.Expressions.{Expression, value_of}
 use Rattle.dv_row.specs.Row.{Row}
 

@@ -1,9 +1,9 @@
 -- What $unwind makes of a row (MongoDB manual, "$unwind (aggregation)"). That its path goes through documents only is this
 -- server's own.
 use Rattle.std.specs.Prelude.{ℕ, Bool, List, [], ◌∷◌, map, Some, None, if◌then◌else◌}
-use Rattle.dv_bson.specs.Tree.{document, array, null, Elements, no_elements, Field, fields_of, list_of_fields, list_of_elements}
-use Rattle.dv_bson.specs.Names.{value_under, with_value_under, without}
-use Rattle.dv_path.specs.Candidates.{Candidate}
+use Rattle.dv_value.specs.Tree.{document, array, null, Elements, no_elements, Field, fields_of, list_of_fields, list_of_elements}
+use Rattle.dv_value.specs.Names.{value_under, with_value_under, without}
+use Rattle.dv_candidates.specs.Candidates.{Candidate}
 use Rattle.dv_row.specs.Row.{Row}
 use Rattle.dv_row.specs.declared.unwind.Unwind.{Unwind}
 

@@ -7,10 +7,10 @@ use Rattle.std.specs.List.{AllByRecursion, filter_map}
 use Rattle.std.specs.Option.{IfSome, option_and_then}
 use Rattle.std.specs.Result.{IfOk}
 use Rattle.std.specs.Str.{IsUtf8, bytes_eq}
-use Rattle.dv_bson.specs.Names.{begins_with_dollar, has_name, has_zero, value_under, with_value_under, without}
-use Rattle.dv_bson.specs.Spelling.{IsValue, AreFields, AreElements}
-use Rattle.dv_bson.specs.Tree.{Tree, string, document, array, Fields, no_fields, field, Field, fields_of, list_of_fields, Elements, no_elements, element, elements_of, list_of_elements}
-use Rattle.dv_path.specs.Candidates.{Candidate}
+use Rattle.dv_value.specs.Names.{begins_with_dollar, has_name, has_zero, value_under, with_value_under, without}
+use Rattle.dv_value.specs.Spelling.{IsValue, AreFields, AreElements}
+use Rattle.dv_value.specs.Tree.{Tree, string, document, array, Fields, no_fields, field, Field, fields_of, list_of_fields, Elements, no_elements, element, elements_of, list_of_elements}
+use Rattle.dv_candidates.specs.Candidates.{Candidate}
 use Rattle.dv_path.specs.Expression as paths
 use Rattle.dv_row.specs.declared.fault.PipelineFault.{PipelineFault}
 use Rattle.dv_row.specs.declared.fault.PipelineFault.TheVariants.{BadSpec}
@@ -20,7 +20,7 @@ use Rattle.dv_row.specs.Expressions.{Expression, at_path, constant, made, Comput
 use Rattle.dv_path.specs.Names.{has_dot}
 use Rattle.dv_row.specs.ExpressionParsing.{switch_in, literal_in, text_expression, literal_or_made, under_name, constant_or_fault, constant_in, expression_in, computed_in}
 use Rattle.dv_row.specs.Parsing.{path_in}
-use Rattle.dv_bson.specs.Results.{◌>>=◌, each}
+use Rattle.dv_value.specs.Results.{◌>>=◌, each}
 use Rattle.dv_row.specs.Row.{Row}
 
 abbrev pub AreValues : List Tree → Type 0

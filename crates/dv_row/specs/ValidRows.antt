@@ -4,11 +4,11 @@ use Rattle.std.specs.List.{AllByRecursion, list_any}
 use Rattle.std.specs.Option.{IfSome}
 use Rattle.std.specs.Result.{IfOk}
 use Rattle.std.specs.Str.{IsUtf8, bytes_eq}
-use Rattle.dv_bson.specs.Names.{has_name, value_under}
-use Rattle.dv_bson.specs.Spelling.{IsValue, AreFields, AreElements}
-use Rattle.dv_bson.specs.Tree.{Tree, document, array, null, Fields, no_fields, field, Field, fields_of, list_of_fields, Elements, no_elements, element, list_of_elements}
-use Rattle.dv_path.specs.Candidates.{Candidate}
-use Rattle.dv_path.specs.Path.{path_of}
+use Rattle.dv_value.specs.Names.{has_name, value_under}
+use Rattle.dv_value.specs.Spelling.{IsValue, AreFields, AreElements}
+use Rattle.dv_value.specs.Tree.{Tree, document, array, null, Fields, no_fields, field, Field, fields_of, list_of_fields, Elements, no_elements, element, list_of_elements}
+use Rattle.dv_candidates.specs.Candidates.{Candidate}
+use Rattle.dv_candidates.specs.Path.{path_of}
 use Rattle.dv_row.specs.declared.fault.PipelineFault.TheVariants.{BadSpec, Conflict}
 use Rattle.dv_row.specs.declared.project.Project.{Project}
 use Rattle.dv_row.specs.declared.project.Project.TheVariants.{Include, Exclude}
@@ -16,7 +16,7 @@ use Rattle.dv_row.specs.declared.unwind.Unwind.{Unwind}
 use Rattle.dv_row.specs.Expressions.{Expression, computed_of}
 use Rattle.dv_path.specs.Names.{has_dot}
 use Rattle.dv_row.specs.ExpressionParsing.{switch_in, expression_in}
-use Rattle.dv_bson.specs.Results.{◌>>=◌}
+use Rattle.dv_value.specs.Results.{◌>>=◌}
 use Rattle.dv_row.specs.ProjectParsing.{AskedMembers, is_id_path, is_below_id, conflicts_with_asked, unless_conflict, with_included, with_excluded, with_computation, excludes, includes, with_path, with_expression, with_switch, with_named, with_member, members_in, nothing_asked, project_form, project_in}
 use Rattle.dv_row.specs.Projecting.{paths_behind, ends, if_it, with_left, with_element_left, left_at, left_inside, fields_left, elements_left, row_left, projected}
 use Rattle.dv_row.specs.Row.{Row}

@@ -2,8 +2,8 @@
 
 ghost use Rattle.std.specs.Prelude.{◌≡◌, ◌∷◌, [], true, false, map, Some, None, Ok, OnOk, OnErr, if◌then◌else◌};
 ghost use Rattle.std.specs.List.{list_any};
-ghost use Rattle.dv_bson.specs.View.{tree};
-ghost use Rattle.dv_path.specs.Path.{path_of};
+ghost use Rattle.dv_value.specs.View.{tree};
+ghost use Rattle.dv_candidates.specs.Path.{path_of};
 ghost use Rattle.dv_row.specs.AskedView.{asked as seen};
 ghost use Rattle.dv_row.specs.Conflicts.{TakesMember, paths_conflict as list_conflicts};
 ghost use Rattle.dv_row.specs.ExpressionView.{expression_seen, named};
@@ -17,8 +17,9 @@ use crate::fault::PipelineFault;
 use crate::paths::Paths;
 use crate::project::Project;
 use crate::switch::switch_of;
-use dv_bson::{Document, NoMemory, Str, Value};
-use dv_path::{Component, Path, has_dot};
+use dv_candidates::{Component, Path};
+use dv_path::has_dot;
+use dv_value::{Document, NoMemory, Str, Value};
 use std::alloc::Global;
 
 /// What the members ask: the paths that are included, those that are excluded, the fields that are computed.

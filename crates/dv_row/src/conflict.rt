@@ -6,7 +6,7 @@ ghost use Rattle.dv_row.specs.ProjectParsing.{one_begins as seen_begins};
 ghost use Rattle.dv_row.specs.Ways.{Ascend};
 
 use crate::ways::sort;
-use dv_path::{Component, Path};
+use dv_candidates::{Component, Path};
 
 /// Whether one of the paths begins another one, or equals it. Costs comparisons of n log n for n paths: in order, a path
 /// that begins others begins the next one.

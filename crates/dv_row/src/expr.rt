@@ -2,15 +2,16 @@
 
 ghost use Rattle.std.specs.Prelude.{◌≡◌, ◌++◌, [], map, IfOk, OnOk, OnErr};
 ghost use Rattle.std.specs.Option.{option_map};
-ghost use Rattle.dv_bson.specs.Tree.{fields_of};
-ghost use Rattle.dv_bson.specs.View.{tree};
+ghost use Rattle.dv_value.specs.Tree.{fields_of};
+ghost use Rattle.dv_value.specs.View.{tree};
 ghost use Rattle.dv_row.specs.Expressions as defined;
 ghost use Rattle.dv_row.specs.ExpressionView.{expression_seen, named};
 ghost use Rattle.dv_row.specs.RowValueView.{row_value};
 
 use crate::row_value::{RowValue, made, path_value};
-use dv_bson::{BsonFault, Document, NoMemory, Str, Value};
-use dv_path::{Path, expr_value};
+use dv_candidates::Path;
+use dv_path::expr_value;
+use dv_value::{BsonFault, Document, NoMemory, Str, Value};
 use std::alloc::{AllocError, Global};
 use std::marker::Model;
 

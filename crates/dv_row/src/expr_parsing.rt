@@ -2,8 +2,8 @@
 
 ghost use Rattle.std.specs.Prelude.{◌≡◌, true};
 ghost use Rattle.std.specs.Option.{option_map};
-ghost use Rattle.dv_bson.specs.Tree.{string, fields_of};
-ghost use Rattle.dv_bson.specs.View.{tree};
+ghost use Rattle.dv_value.specs.Tree.{string, fields_of};
+ghost use Rattle.dv_value.specs.View.{tree};
 ghost use Rattle.dv_row.specs.ExpressionView.{expression_seen, named};
 ghost use Rattle.dv_row.specs.Parsing.{Gives};
 ghost use Rattle.dv_row.specs.ExpressionParsing as defined;
@@ -12,8 +12,8 @@ use crate::expr::{Computed, ComputedField, Expr};
 use crate::fault::PipelineFault;
 use crate::field_path::field_path;
 use crate::switch::switch_of;
-use dv_bson::{Document, Str, Value, begins_with_dollar};
 use dv_path::has_dot;
+use dv_value::{Document, Str, Value, begins_with_dollar};
 use std::alloc::Global;
 
 impl Expr {

@@ -3,8 +3,7 @@
 ghost use Rattle.std.specs.Prelude.{◌≡◌};
 ghost use Rattle.dv_row.specs.declared.fault.PipelineFault.TheVariants.{NoMemory};
 
-use dv_match::FilterFault;
-use dv_path::PathFault;
+use dv_candidates::PathFault;
 use std::alloc::{AllocError, AllocFailed};
 use std::error::Error;
 use std::fmt;
@@ -77,19 +76,6 @@ impl<T: Drop> From<AllocFailed<T>> for PipelineFault {
 
     fn from(_e: AllocFailed<T>) -> PipelineFault {
         PipelineFault::NoMemory
-    }
-}
-
-impl From<FilterFault> for PipelineFault {
-    ghost use Rattle.dv_row.specs.Fault.{pipeline_fault_of_filter};
-
-    ghost from_gives = { λ fault e. e ≡ pipeline_fault_of_filter fault };
-
-    fn from(fault: FilterFault) -> PipelineFault {
-        match fault {
-            FilterFault::NoMemory => PipelineFault::NoMemory,
-            _ => PipelineFault::Filter,
-        }
     }
 }
 

@@ -7,8 +7,8 @@ ghost use Rattle.dv_row.specs.Parsing as defined;
 ghost use Rattle.dv_row.specs.Parsing.{Gives, path_in};
 
 use crate::fault::PipelineFault;
-use dv_bson::begins_with_dollar;
-use dv_path::Path;
+use dv_candidates::Path;
+use dv_value::begins_with_dollar;
 use std::alloc::Global;
 
 /// The path behind a dollar sign. Refused with `BadSpec` where there is none, or where another dollar sign follows, and with

@@ -4,14 +4,14 @@ ghost use Rattle.std.specs.Prelude.{◌≡◌, ◌≢◌, ◌⊎◌, ℕ, Bool, 
 ghost use Rattle.std.specs.List.{AllByRecursion, list_any};
 ghost use Rattle.std.specs.Option.{IfSome};
 ghost use Rattle.std.specs.Str.{bytes_eq};
-ghost use Rattle.dv_bson.specs.Names.{AreNamed, bare, has_name};
-ghost use Rattle.dv_bson.specs.Spelling.{IsValue};
-ghost use Rattle.dv_bson.specs.Tree.{Tree, array, document, null, Elements, no_elements, element, list_of_elements, Field, fields_of};
+ghost use Rattle.dv_value.specs.Names.{AreNamed, bare, has_name};
+ghost use Rattle.dv_value.specs.Spelling.{IsValue};
+ghost use Rattle.dv_value.specs.Tree.{Tree, array, document, null, Elements, no_elements, element, list_of_elements, Field, fields_of};
 ghost use Rattle.dv_path.specs.Placing.{put};
 ghost use Rattle.dv_path.specs.Removing.{remove};
 ghost use Rattle.dv_row.specs.declared.fault.PipelineFault.TheVariants.{BadSpec};
 ghost use Rattle.dv_row.specs.Examples.{shown};
-ghost use Rattle.dv_bson.specs.Short.{int, long, text, doc, list};
+ghost use Rattle.dv_value.specs.Short.{int, long, text, doc, list};
 ghost use Rattle.dv_row.specs.declared.project.Project as projects;
 ghost use Rattle.dv_row.specs.declared.project.Project.TheVariants.{Exclude, Include};
 ghost use Rattle.dv_row.specs.declared.unwind.Unwind as unwinds;

@@ -8,11 +8,13 @@ mod expr_parsing;
 mod fault;
 mod field_path;
 pub mod laws;
+mod level;
 mod paths;
 mod project;
 mod row_value;
 mod switch;
 mod unwind;
+mod way;
 mod ways;
 
 pub use expr::{Computed, ComputedField, Expr, copy_beside, push_field, row_beside};

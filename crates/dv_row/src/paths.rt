@@ -4,8 +4,8 @@ ghost use Rattle.std.specs.Prelude.{◌≡◌, IfOk};
 ghost use Rattle.dv_row.specs.Ways.{AreSame};
 
 use crate::ways::{Ways, sort};
-use dv_bson::NoMemory;
-use dv_path::Path;
+use dv_candidates::Path;
+use dv_value::NoMemory;
 use std::marker::Model;
 
 /// Paths in written order. Beside them stands a copy in the order of their components, among which those that lead through

@@ -2,14 +2,17 @@
 
 ghost use Rattle.std.specs.Prelude.{◌≡◌, not, IfOk};
 ghost use Rattle.std.specs.Option.{option_map};
-ghost use Rattle.dv_bson.specs.Tree.{fields_of, elements_of, list_of_elements};
-ghost use Rattle.dv_bson.specs.View.{tree};
+ghost use Rattle.dv_value.specs.Tree.{fields_of, elements_of, list_of_elements};
+ghost use Rattle.dv_value.specs.View.{tree};
+ghost use Rattle.dv_value.specs.Names.{AreNamed};
 ghost use Rattle.dv_row.specs.Projecting as defined;
+ghost use Rattle.dv_row.specs.Turns.{IsTurn};
 
-use crate::expr::{Computed, push_field, row_beside};
+use crate::expr::{Computed, push_field};
+use crate::level::{Level, Turn, led_into};
 use crate::paths::Paths;
 use crate::ways::Ways;
-use dv_bson::{Document, List, NoMemory, Value};
+use dv_value::{Document, List, NoMemory, Value};
 use std::alloc::Global;
 
 /// What is shown of a row.
@@ -76,35 +79,74 @@ fn row_left(
     document_left(alloc, keeps, &paths.ways(), row, before)
 }
 
-/// What is left of a document. One that was made before it lends its names.
+/// What is left of a document. One that was made before it lends its names. Those around the document that is gone through
+/// wait in a list: it takes no stack for each level of them.
 #[cycle(left)]
-fn document_left(
+fn document_left<'a>(
     alloc: Global,
     keeps: bool,
-    ways: &Ways<'_>,
-    document: &Document,
+    ways: &Ways<'a>,
+    document: &'a Document,
     before: Option<&Document>,
 ) -> Result<Document, NoMemory>
     ensures { IfOk result (λ left. left ≡ defined.row_left keeps ways.now document.now) }
 {
-    let mut left = row_beside(alloc, before)?;
-    'fields: for place in 0..document.len() {
-        let Some((name, value)) = document.entry(place) else {
-            break;
-        };
-        let kept = value_left(alloc, keeps, &ways.behind(name), value)?;
+    let mut level = Level::of(alloc, ways.same(), document, before)?;
+    let mut around = Vec::new(alloc);
+    'turns: loop {
+        match go_on(alloc, keeps, level)? {
+            Turn::Entered(outer, inner) => {
+                around.push(outer)?;
+                level = inner;
+            }
+            Turn::Ended(left) => {
+                let Some(outer) = around.pop() else {
+                    return Ok(left);
+                };
+                level = outer.with_inner(left)?;
+            }
+        }
+    }
+}
+
+/// Goes on in a document, to one in it that ways lead into or to its end.
+#[cycle(left)]
+fn go_on<'a>(alloc: Global, keeps: bool, level: Level<'a>) -> Result<Turn<'a>, NoMemory>
+    ensures named { AreNamed level.entry.document.now }
+    ensures turn { IfOk result (IsTurn keeps level.entry) }
+{
+    let Level {
+        ways,
+        document,
+        place: next,
+        mut left,
+    } = level;
+    'fields: for place in next..document.len() {
+        let (name, value) = document.field(place);
+        let behind = ways.behind(name);
+        if let Some(inner) = led_into(&behind, value) {
+            let inner = Level::of(alloc, behind, inner, None)?;
+            let outer = Level {
+                ways,
+                document,
+                place,
+                left,
+            };
+            return Ok(Turn::Entered(outer, inner));
+        }
+        let kept = value_left(alloc, keeps, &behind, value)?;
         push_field(&mut left, name, kept)?;
     }
-    Ok(left)
+    Ok(Turn::Ended(left))
 }
 
 /// What is left of a value at which the ways stand.
 #[cycle(left)]
-fn value_left(
+fn value_left<'a>(
     alloc: Global,
     keeps: bool,
-    ways: &Ways<'_>,
-    value: &Value,
+    ways: &Ways<'a>,
+    value: &'a Value,
 ) -> Result<Option<Value>, NoMemory>
     ensures { IfOk result (λ kept. option_map tree kept ≡ defined.left_of_value keeps ways.now (tree value.now)) }
 {
@@ -120,11 +162,11 @@ fn value_left(
 /// What is left of a value at which no way ends.
 #[cycle(left)]
 #[tactic(auto, unfolding(crate::specs::Projecting::left_inside))]
-fn left_inside(
+fn left_inside<'a>(
     alloc: Global,
     keeps: bool,
-    ways: &Ways<'_>,
-    value: &Value,
+    ways: &Ways<'a>,
+    value: &'a Value,
 ) -> Result<Option<Value>, NoMemory>
     ensures { IfOk result (λ kept. option_map tree kept ≡ defined.left_inside keeps ways.now (tree value.now)) }
 {
@@ -143,7 +185,12 @@ fn left_inside(
 
 /// What is left of an array's elements.
 #[cycle(left)]
-fn list_left(alloc: Global, keeps: bool, ways: &Ways<'_>, list: &List) -> Result<List, NoMemory>
+fn list_left<'a>(
+    alloc: Global,
+    keeps: bool,
+    ways: &Ways<'a>,
+    list: &'a List,
+) -> Result<List, NoMemory>
     ensures { IfOk result (λ left. left ≡ list_of_elements (defined.elements_left keeps ways.now (elements_of list.now))) }
 {
     let mut left = Vec::new(alloc);

@@ -1,13 +1,15 @@
 //! Values that stand in a row, or were made for it.
 
 ghost use Rattle.std.specs.Prelude.{◌≡◌, IfOk, IfSome};
-ghost use Rattle.std.specs.Option.{option_map};
-ghost use Rattle.dv_bson.specs.View.{tree};
+ghost use Rattle.std.specs.Option.{option_flatten, option_map};
+ghost use Rattle.dv_value.specs.View.{tree};
 ghost use Rattle.dv_path.specs.Expression as defined;
 ghost use Rattle.dv_row.specs.RowValueView.{row_value};
+ghost use Rattle.dv_row.specs.Unwinding.{reached};
 
-use dv_bson::{Document, NoMemory, Value};
-use dv_path::{Component, Path, expr_value};
+use dv_candidates::{Component, Path};
+use dv_path::expr_value;
+use dv_value::{Document, NoMemory, Value};
 use std::alloc::Global;
 
 /// The value of an expression over a row.
@@ -67,23 +69,25 @@ pub(crate) fn made<'a>(value: Option<Value>) -> Result<Option<RowValue<'a>>, NoM
 }
 
 /// The value of the path in the document, as an expression means it, if one stands there; `None` where an array is on the
-/// path's way, from whose elements one is made. It goes as deep as documents nest.
-#[tactic(auto, unfolding(dv_path::specs::Expression::expr))]
-fn standing<'a>(document: &'a Document, path: &[Component]) -> Option<Option<&'a Value>>
-    ensures { IfSome result (λ found. option_map (λ value. tree value.now) found ≡ defined.expr document.now path.now) }
+/// path's way, from whose elements one is made.
+pub(crate) fn standing<'a>(document: &'a Document, path: &[Component]) -> Option<Option<&'a Value>>
+    ensures expression { IfSome result (λ found. option_map (λ value. tree value.now) found ≡ defined.expr document.now path.now) }
+    // Where an array is on the way, the path doesn't go through documents only.
+    ensures reached { option_map (λ value. tree value.now) (option_flatten result) ≡ reached path.now document.now }
 {
-    let Some((component, rest)) = path.split_first() else {
+    let Some((last, way)) = path.split_last() else {
         return None;
     };
-    let Some(value) = document.get(component.as_str()) else {
-        return Some(None);
-    };
-    if rest.is_empty() {
-        return Some(Some(value));
+    let mut inner = document;
+    'components: for component in way {
+        let Some(value) = inner.get(component.as_str()) else {
+            return Some(None);
+        };
+        match value {
+            Value::Doc(next) => inner = next,
+            Value::Array(_) => return None,
+            _ => return Some(None),
+        }
     }
-    match value {
-        Value::Doc(inner) => standing(inner, rest),
-        Value::Array(_) => None,
-        _ => Some(None),
-    }
+    Some(inner.get(last.as_str()))
 }

@@ -1,10 +1,10 @@
 //! What switches a field on or off.
 
 ghost use Rattle.std.specs.Prelude.{◌≡◌};
-ghost use Rattle.dv_bson.specs.View.{tree};
+ghost use Rattle.dv_value.specs.View.{tree};
 ghost use Rattle.dv_row.specs.ExpressionParsing as defined;
 
-use dv_bson::Value;
+use dv_value::Value;
 
 /// Whether a number, of which 0 is false, or a boolean switches on or off; `None` of any other value.
 pub(crate) fn switch_of(value: &Value) -> Option<bool>

@@ -1,9 +1,8 @@
 //! `$unwind`.
 
-ghost use Rattle.std.specs.Prelude.{◌≡◌, ◌≢◌, ◌++◌, ◌∷◌, [], map, IfOk, OnOk};
-ghost use Rattle.std.specs.Option.{option_map};
-ghost use Rattle.dv_bson.specs.View.{tree};
-ghost use Rattle.dv_bson.specs.Tree.{elements_of};
+ghost use Rattle.std.specs.Prelude.{◌≡◌, ◌++◌, Some, IfOk, OnOk};
+ghost use Rattle.dv_value.specs.View.{tree};
+ghost use Rattle.dv_value.specs.Tree.{array, elements_of};
 ghost use Rattle.std.specs.List.{list_all};
 ghost use Rattle.dv_row.specs.Parsing as parsing;
 ghost use Rattle.dv_row.specs.Parsing.{Gives};
@@ -11,8 +10,10 @@ ghost use Rattle.dv_row.specs.Unwinding as defined;
 
 use crate::fault::PipelineFault;
 use crate::field_path::field_path;
-use dv_bson::{Document, List, NoMemory, Value};
-use dv_path::{Component, Path};
+use crate::row_value::standing;
+use crate::way::Way;
+use dv_candidates::Path;
+use dv_value::{Document, List, NoMemory, Value};
 use std::alloc::Global;
 
 /// A row for each element of the array that the path leads to, with the element in its place; another value counts as one
@@ -74,7 +75,7 @@ impl Unwind {
     pub fn push_rows(&self, row: &Document, rows: &mut Vec<Document>) -> Result<(), NoMemory>
         ensures { OnOk result (rows.new.items ≡ rows.old.items ++ defined.unwound self.now row.now) }
     {
-        let Some(value) = reached(row, self.path.components()) else {
+        let Some(value) = standing(row, self.path.components()).flatten() else {
             return self.preserve(row.try_clone()?, rows);
         };
         match value {
@@ -97,23 +98,24 @@ impl Unwind {
         Ok(())
     }
 
-    /// Puts a row for each element behind others, and for none the row without the array.
+    /// Puts a row for each element of the array behind others, and for none the row without the array.
     fn push_elements(
         &self,
         row: &Document,
         list: &List,
         rows: &mut Vec<Document>,
     ) -> Result<(), NoMemory>
+        requires { defined.reached self.now.path row.now ≡ Some (array (elements_of list.now)) }
         ensures { OnOk result (rows.new.items ≡ rows.old.items ++ defined.rows_of_elements self.now row.now (elements_of list.now)) }
     {
-        let path = self.path.components();
+        let way = Way::of(*rows.allocator(), row, &self.path)?;
         let elements = list.as_slice();
         if elements.is_empty() {
-            return self.preserve(set_at(row, path, None)?, rows);
+            return self.preserve(way.with(None)?, rows);
         }
         'elements: for element in elements {
             let element = element.try_clone()?;
-            rows.push(set_at(row, path, Some(element))?)?;
+            rows.push(way.with(Some(element))?)?;
         }
         Ok(())
     }
@@ -147,63 +149,4 @@ fn is_option(name: &str) -> bool
     ensures { result ≡ parsing.is_option_name name.now }
 {
     name == "path" || name == "preserveNullAndEmptyArrays"
-}
-
-/// What the path leads to through documents. It goes as deep as documents nest.
-fn reached<'a>(document: &'a Document, path: &[Component]) -> Option<&'a Value>
-    ensures { option_map (λ value. tree value.now) result ≡ defined.reached path.now document.now }
-{
-    let Some((component, rest)) = path.split_first() else {
-        return None;
-    };
-    let Some(value) = document.get(component.as_str()) else {
-        return None;
-    };
-    if rest.is_empty() {
-        return Some(value);
-    }
-    match value {
-        Value::Doc(inner) => reached(inner, rest),
-        _ => None,
-    }
-}
-
-/// The document with the value in place of the one that the path leads to through documents, or without that one. It goes
-/// as deep as documents nest, and shares what it doesn't change.
-fn set_at(
-    document: &Document,
-    path: &[Component],
-    value: Option<Value>,
-) -> Result<Document, NoMemory>
-    ensures { IfOk result (λ set. set ≡ defined.set_through path.now (option_map tree value) document.now) }
-{
-    let Some((component, rest)) = path.split_first() else {
-        return document.try_clone();
-    };
-    let name = component.as_str();
-    if rest.is_empty() {
-        return set_under(document, name, value);
-    }
-    let Some(found) = document.get(name) else {
-        return document.try_clone();
-    };
-    match found {
-        Value::Doc(inner) => {
-            let inner = set_at(inner, rest, value)?;
-            set_under(document, name, Some(Value::Doc(inner)))
-        }
-        _ => document.try_clone(),
-    }
-}
-
-/// The document with the value in place of the one under the name, or without that one.
-fn set_under(document: &Document, name: &str, value: Option<Value>) -> Result<Document, NoMemory>
-    ensures { IfOk result (λ set. set ≡ defined.set_under name.now (option_map tree value) document.now) }
-{
-    let mut set = document.try_clone()?;
-    match value {
-        Some(value) => set.put(name, value)?,
-        None => set.remove(name)?,
-    };
-    Ok(set)
 }

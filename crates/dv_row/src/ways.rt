@@ -1,13 +1,13 @@
 //! Ways that paths lead below some of their components.
 
-ghost use Rattle.std.specs.Prelude.{◌≡◌, ◌==◌, drop, length};
+ghost use Rattle.std.specs.Prelude.{◌≡◌, ◌==◌, ◌&&◌, not, drop, length};
 ghost use Rattle.std.specs.List.{list_any};
 ghost use Rattle.std.specs.List.Sorted.{IsPermutation};
 ghost use Rattle.std.specs.Ordering.{is_lt, is_le};
 ghost use Rattle.dv_row.specs.Projecting as defined;
 ghost use Rattle.dv_row.specs.Ways.{Ascend, way_beside as seen_beside, name_order, way_order};
 
-use dv_path::{Component, Path};
+use dv_candidates::{Component, Path};
 use std::cmp::Ordering;
 use std::marker::Model;
 
@@ -46,6 +46,16 @@ impl<'a> Ways<'a> {
         self.paths.is_empty()
     }
 
+    /// The same ways.
+    pub(crate) fn same(&self) -> Ways<'a>
+        ensures { result ≡ self.now }
+    {
+        Ways {
+            paths: self.paths,
+            depth: self.depth,
+        }
+    }
+
     /// Whether a way ends. One that does stands first.
     pub(crate) fn any_ends(&self) -> bool
         ensures { result ≡ list_any defined.ends self.now }
@@ -54,6 +64,13 @@ impl<'a> Ways<'a> {
             Some(path) => path.components().len() <= self.depth,
             None => false,
         }
+    }
+
+    /// Whether there is one, and none ends.
+    pub(crate) fn lead_on(&self) -> bool
+        ensures { result ≡ (not (length self.now == 0) && not (list_any defined.ends self.now)) }
+    {
+        !self.is_empty() && !self.any_ends()
     }
 
     /// What is left of the ways that lead through a field of the name. Costs comparisons logarithmic in the number of ways.

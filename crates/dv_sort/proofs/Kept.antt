@@ -4,7 +4,7 @@ use Rattle.std.specs.List.Sorted.{IsSortedBy, IsStableBy}
 use Rattle.std.specs.Ordering.{is_lt}
 use Rattle.std.proofs.lemmas.List.{take-map, take-take, map-append}
 use Rattle.std.proofs.lemmas.List.Elements.{recursion_from_All}
-use Rattle.dv_bson.specs.Tree.{Field}
+use Rattle.dv_value.specs.Tree.{Field}
 use Rattle.dv_path.specs.SortSpec.{Part}
 use Rattle.dv_sort.specs.declared.row.Row.{Row}
 use Rattle.dv_sort.specs.Sorting.{stands_before, stable, front}

@@ -5,7 +5,7 @@ use Rattle.std.specs.Ordering.{MatchOrdering, nat_cmp, is_lt, on, then_cmp, orde
 use Rattle.std.specs.declared.cmp.Ordering.{Ordering}
 use Rattle.std.specs.declared.cmp.Ordering.TheVariants.{Less, Equal, Greater}
 use Rattle.std.proofs.lemmas.List.MinMax.{ranks_by}
-use Rattle.dv_bson.specs.Tree.{Field}
+use Rattle.dv_value.specs.Tree.{Field}
 use Rattle.dv_order.specs.Key.{KeyTree, no_element}
 use Rattle.dv_order.specs.KeyLaws.{key_order_total}
 use Rattle.dv_path.specs.declared.direction.Direction.{Direction}

@@ -1,7 +1,7 @@
 -- The laws of sorting, over documents.
 use Rattle.std.proofs.Common.{◌≡◌, ◌∙◌, ap, sym, refl, ℕ, zero, suc, min, List, [], ◌∷◌, take, arith, Some}
 use Rattle.std.specs.List.Sorted.{IsPermutation, IsSortedBy, IsStableBy}
-use Rattle.dv_bson.specs.Tree.{Field}
+use Rattle.dv_value.specs.Tree.{Field}
 use Rattle.dv_path.specs.SortSpec.{Part}
 use Rattle.dv_sort.specs.Sorting.{stands_before, stable, front}
 use Rattle.dv_sort.proofs.Insertion.{Above, Up, ordered-permutes, ordered-stable, sorted-up, up-ordered, ordered-up, only-order}

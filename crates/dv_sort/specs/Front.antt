@@ -1,8 +1,8 @@
 -- The front of documents in the order of a sort, as documents come one by one.
 use Rattle.std.specs.Prelude.{◌≡◌, ℕ, Bool, true, false, List, [], Option, refl}
 use Rattle.std.specs.Coded.{Coded, code_by, coded×, coded_list, coded_ℕ, coded_bool, coded_option}
-use Rattle.dv_bson.specs.Tree.{Field}
-use Rattle.dv_bson.specs.TreeCode.{coded_tree}
+use Rattle.dv_value.specs.Tree.{Field}
+use Rattle.dv_value.specs.TreeCode.{coded_tree}
 use Rattle.dv_path.specs.declared.direction.Direction.{Direction}
 use Rattle.dv_path.specs.declared.direction.Direction.TheVariants.{Ascending, Descending}
 use Rattle.dv_path.specs.SortSpec.{Part}

@@ -1,7 +1,7 @@
 -- Documents in the order of a sort (MongoDB manual, "cursor.sort()", "$sort (aggregation)"). That documents which the paths
 -- don't tell apart keep their order is this server's own.
 use Rattle.std.specs.Prelude.{ℕ, Bool, true, false, List, [], ◌∷◌, fold, take, Option, Some, None, if◌then◌else◌}
-use Rattle.dv_bson.specs.Tree.{Field}
+use Rattle.dv_value.specs.Tree.{Field}
 use Rattle.dv_path.specs.SortKey.{sort_key, stands_first}
 use Rattle.dv_path.specs.SortSpec.{Part}
 

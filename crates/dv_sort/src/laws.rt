@@ -2,7 +2,7 @@
 
 ghost use Rattle.std.specs.Prelude.{◌≡◌, ℕ, List, [], ◌∷◌, ◌++◌, Option, Some, take, min};
 ghost use Rattle.std.specs.List.Sorted.{IsPermutation, IsSortedBy, IsStableBy};
-ghost use Rattle.dv_bson.specs.Tree.{Field};
+ghost use Rattle.dv_value.specs.Tree.{Field};
 ghost use Rattle.dv_path.specs.SortSpec.{Part};
 ghost use Rattle.dv_sort.specs.Front.{with_row, front_of};
 ghost use Rattle.dv_sort.specs.Sorting.{stands_before, stable, front};

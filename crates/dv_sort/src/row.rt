@@ -6,9 +6,9 @@ ghost use Rattle.dv_sort.specs.Keys.{AreKeyed, documents};
 ghost use Rattle.dv_sort.specs.Sorting.{stable};
 
 use crate::order::order_of;
-use dv_bson::{Document, NoMemory};
 use dv_order::Key;
 use dv_path::{SortSpec, sort_key};
+use dv_value::{Document, NoMemory};
 use std::alloc::Global;
 
 /// A document with the keys that it is sorted by.

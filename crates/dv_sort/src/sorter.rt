@@ -9,9 +9,9 @@ ghost use Rattle.dv_sort.specs.Sorting.{front, stable};
 
 use crate::order::order_of;
 use crate::row::{Row, documents_of, row_keys, sort_rows};
-use dv_bson::{Document, NoMemory};
 use dv_order::Key;
 use dv_path::SortSpec;
+use dv_value::{Document, NoMemory};
 use std::alloc::Global;
 use std::marker::Model;
 

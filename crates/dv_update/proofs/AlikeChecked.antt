@@ -2,8 +2,8 @@
 use Rattle.std.proofs.Common.{◌≡◌, ◌∙◌, ap, sym, refl, List, [], ◌∷◌, ℕ, suc, ◌<◌, ◌≤◌, Bool, true, false, not, nat_lt, length, Option, Some, None, Result, Ok, Err, arith, if◌then◌else◌}
 use Rattle.std.specs.Option.{option_map}
 use Rattle.std.proofs.lemmas.Bool.Decides.{nat_tests}
-use Rattle.dv_bson.specs.Spelling.{payload, levels, spelling}
-use Rattle.dv_bson.specs.Tree.{Tree, document, Field, fields_of, list_of_fields}
+use Rattle.dv_value.specs.Spelling.{payload, levels, spelling}
+use Rattle.dv_value.specs.Tree.{Tree, document, Field, fields_of, list_of_fields}
 use Rattle.dv_order.specs.Same.{both_same, is_same}
 use Rattle.dv_order.specs.SameLaws.{same-is}
 use Rattle.dv_update.specs.Apply.{leading_id, is_id, checked, document_limit, level_limit}

@@ -4,10 +4,10 @@ use Rattle.std.specs.Option.{option_map}
 use Rattle.std.specs.Int.{w32, to_le_bytes}
 use Rattle.std.proofs.Math.ListN.{replicate}
 use Rattle.std.proofs.lemmas.List.{length-replicate}
-use Rattle.dv_bson.specs.Spelling.{payload, fields_spelling, elements_spelling, element_spelling, framed, kind_of, levels, fields_levels, elements_levels}
-use Rattle.dv_bson.specs.Tree.{Tree, document, array, Fields, no_fields, field, fields_of, list_of_fields, Elements, no_elements, element, elements_of, list_of_elements}
-use Rattle.dv_bson.specs.Names.{value_under}
-use Rattle.dv_path.specs.Path.{index_of}
+use Rattle.dv_value.specs.Spelling.{payload, fields_spelling, elements_spelling, element_spelling, framed, kind_of, levels, fields_levels, elements_levels}
+use Rattle.dv_value.specs.Tree.{Tree, document, array, Fields, no_fields, field, fields_of, list_of_fields, Elements, no_elements, element, elements_of, list_of_elements}
+use Rattle.dv_value.specs.Names.{value_under}
+use Rattle.dv_candidates.specs.Path.{index_of}
 use Rattle.dv_path.specs.Slots.{Slot, taken, free, blocked, slot_of, element_slot, next_slot, slot_behind}
 use Rattle.dv_update.specs.StandIn.{in_one_piece, down_to, fields_down_to}
 use Rattle.dv_update.proofs.DownTo.{Path, below, value-marked, element-there, fields-opened, elements-opened}

@@ -1,13 +1,13 @@
 -- Edits of documents that are alike down to a level.
 use Rattle.std.proofs.Common.{◌≡◌, ◌∙◌, ap, ap₂, sym, refl, subst, List, [], ◌∷◌, ◌++◌, ℕ, zero, suc, ◌-◌, ◌<◌, ◌≤◌, map, Bool, true, false, length, Option, Result, Ok, Err, arith}
-use Rattle.dv_bson.specs.Names.{value_under}
-use Rattle.dv_bson.specs.Spelling.{levels}
-use Rattle.dv_bson.specs.Tree.{Tree, document, array, Field, Elements, elements_of, list_of_elements}
+use Rattle.dv_value.specs.Names.{value_under}
+use Rattle.dv_value.specs.Spelling.{levels}
+use Rattle.dv_value.specs.Tree.{Tree, document, array, Field, Elements, elements_of, list_of_elements}
 use Rattle.dv_path.specs.Placing.{result_map, put_field, put_behind, put}
-use Rattle.dv_path.specs.declared.fault.PathFault.{PathFault}
+use Rattle.dv_candidates.specs.declared.fault.PathFault.{PathFault}
 use Rattle.dv_path.specs.Slots.{Slot, taken, free, blocked, slot_of, slot_behind, slot}
 use Rattle.dv_update.specs.Apply.{told, set_at, increased, appended, left, pull_from, edit_at}
-use Rattle.dv_bson.specs.Results.{◌>>=◌}
+use Rattle.dv_value.specs.Results.{◌>>=◌}
 use Rattle.dv_update.specs.Removals.{is_removal}
 use Rattle.dv_update.specs.StandIn.{in_one_piece, down_to, fields_down_to, Alike, most_levels, IsShallow, PullsShallow}
 use Rattle.dv_update.specs.Update.{Operation, assign, take_away, increase, append, pull, Pulled}

@@ -1,10 +1,10 @@
 -- An array with one value more, behind its elements.
-use Rattle.std.proofs.Common.{◌≡◌, ◌∙◌, ap, refl, ℕ, suc, ◌+◌, ◌<◌, ◌≤◌, Bool, true, false, ◌&&◌, List, [], ◌∷◌, ◌++◌, length, decimal, map, get_or, sym, arith}
+use Rattle.std.proofs.Common.{◌≡◌, ◌∙◌, ap, refl, ℕ, suc, ◌+◌, ◌<◌, ◌≤◌, Bool, true, false, ◌&&◌, List, [], ◌∷◌, ◌++◌, length, decimal, map, max, get_or, sym, arith}
 use Rattle.std.proofs.lemmas.Fmt.{length-decimal-le}
-use Rattle.dv_bson.specs.Spelling.{payload, elements_spelling, levels, elements_levels}
-use Rattle.dv_bson.specs.Tree.{Tree, array, Elements, no_elements, element, elements_of, list_of_elements}
-use Rattle.dv_bson.specs.View.{tree}
-use Rattle.dv_bson.specs.declared.value.Value.{Value}
+use Rattle.dv_value.specs.Spelling.{payload, elements_spelling, levels, elements_levels}
+use Rattle.dv_value.specs.Tree.{Tree, array, Elements, no_elements, element, elements_of, list_of_elements}
+use Rattle.dv_value.specs.View.{tree}
+use Rattle.dv_value.specs.declared.value.Value.{Value}
 use Rattle.dv_order.specs.Same.{is_same}
 use Rattle.dv_update.proofs.AlikeDown.{length-array, length-item, no-items}
 
@@ -33,12 +33,12 @@ module _ (v : Tree) where
       let short : length (decimal place) ≤ 6 = length-decimal-le 6 place (omega arith) few (omega (arith, few)) in
       omega (arith, length-array ws, length-array (behind ws), items-behind 0 place short ws (omega arith))
 
-  levels-in : levels v ≡ 0 → (ws : Elements) → elements_levels (behind ws) ≤ elements_levels ws
-  levels-in flat no_elements = omega (arith, flat)
-  levels-in flat (element w ws) = omega (arith, levels-in flat ws)
+  levels-in : (ws : Elements) → elements_levels (behind ws) ≤ max (levels v) (elements_levels ws)
+  levels-in no_elements = omega arith
+  levels-in (element w ws) = omega (arith, levels-in ws)
 
-  pub levels-behind : levels v ≡ 0 → (ws : Elements) → levels (array (behind ws)) ≤ levels (array ws)
-  levels-behind flat ws = omega (arith, levels-in flat ws)
+  pub levels-behind : (ws : Elements) → levels (array (behind ws)) ≤ max (suc (levels v)) (levels (array ws))
+  levels-behind ws = omega (arith, levels-in ws)
 
   and-false : (b : Bool) → (b && false) ≡ false
   and-false true = refl

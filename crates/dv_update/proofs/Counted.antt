@@ -5,16 +5,16 @@ use Rattle.std.specs.Str.{bytes_eq}
 use Rattle.std.specs.declared.cmp.Ordering.TheVariants.{Less}
 use Rattle.std.proofs.lemmas.Bool.Decides.{nat_tests}
 use Rattle.std.proofs.lemmas.Option.{slice_get_within}
-use Rattle.dv_bson.specs.Tree.{Tree, array, null, document, Field, fields_of, list_of_elements}
-use Rattle.dv_path.specs.Path.{index_of}
+use Rattle.dv_value.specs.Tree.{Tree, array, null, document, Field, fields_of, list_of_elements}
+use Rattle.dv_candidates.specs.Path.{index_of}
 use Rattle.dv_path.specs.Placing.{put}
 use Rattle.dv_path.specs.Slots.{Slot, taken, free, blocked, slot_of, element_slot, next_slot, slot_behind, slot}
-use Rattle.dv_path.specs.declared.fault.PathFault.{PathFault}
+use Rattle.dv_candidates.specs.declared.fault.PathFault.{PathFault}
 use Rattle.dv_update.specs.Apply.{Path, told, set_at, increased, appended, pull_from, edit_at, edited}
 use Rattle.dv_update.specs.Collected.{Steps}
 use Rattle.dv_update.specs.Filling.{Fill, fill_of, before, fills, array_of, place_of, least, leads_into_same, least_size}
 use Rattle.dv_update.specs.Parsing.{conflicts, has_conflict}
-use Rattle.dv_bson.specs.Results.{◌>>=◌}
+use Rattle.dv_value.specs.Results.{◌>>=◌}
 use Rattle.dv_update.specs.PathOrder.{path_order, begins}
 use Rattle.dv_update.specs.Removals.{is_removal, other_edits}
 use Rattle.dv_update.specs.StandIn.{new_value}

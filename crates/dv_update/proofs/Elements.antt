@@ -1,8 +1,8 @@
 -- How many bytes elements have at least.
 use Rattle.std.proofs.Common.{◌≡◌, ap, ℕ, zero, suc, ◌+◌, ◌-◌, ◌/◌, ◌%◌, ◌^◌, ◌≤◌, ◌<◌, ◌⊎◌, inl, inr, min, List, [], ◌∷◌, ◌++◌, length, length-append, decimal, arith}
 use Rattle.std.proofs.lemmas.Fmt.{decimal_by_steps}
-use Rattle.dv_bson.specs.Spelling.{payload}
-use Rattle.dv_bson.specs.Tree.{Tree, array, Elements, elements_of, list_of_elements}
+use Rattle.dv_value.specs.Spelling.{payload}
+use Rattle.dv_value.specs.Tree.{Tree, array, Elements, elements_of, list_of_elements}
 use Rattle.dv_update.specs.Filling.{elements_least, least}
 use Rattle.dv_update.proofs.AlikeDown.{length-array, length-item}
 use Rattle.dv_update.proofs.PutThere.{elements-again}

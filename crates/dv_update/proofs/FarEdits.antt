@@ -3,14 +3,14 @@ use Rattle.std.proofs.Common.{◌≡◌, ◌∙◌, ap, ap₂, sym, refl, List, 
 use Rattle.std.specs.Str.{bytes_eq}
 use Rattle.std.proofs.Math.ListN.{replicate}
 use Rattle.std.proofs.lemmas.Slice.Eq.{bytes_eq-Decides}
-use Rattle.dv_bson.specs.Spelling.{payload}
-use Rattle.dv_bson.specs.Tree.{Tree, document, array, binary, Field, fields_of, elements_of}
+use Rattle.dv_value.specs.Spelling.{payload}
+use Rattle.dv_value.specs.Tree.{Tree, document, array, binary, Field, fields_of, elements_of}
 use Rattle.dv_path.specs.Placing.{put_behind, put}
-use Rattle.dv_path.specs.declared.fault.PathFault.{PathFault}
-use Rattle.dv_path.specs.declared.fault.PathFault.TheVariants.{NotViable}
+use Rattle.dv_candidates.specs.declared.fault.PathFault.{PathFault}
+use Rattle.dv_candidates.specs.declared.fault.PathFault.TheVariants.{NotViable}
 use Rattle.dv_path.specs.Slots.{Slot, taken, free, blocked, slot_of, next_slot, slot_behind, slot}
 use Rattle.dv_update.specs.Apply.{told, set_at, number_tree, increased, appended, pull_from, edit_at}
-use Rattle.dv_bson.specs.Results.{◌>>=◌}
+use Rattle.dv_value.specs.Results.{◌>>=◌}
 use Rattle.dv_update.specs.PathOrder.{begins}
 use Rattle.dv_update.specs.Removals.{is_removal}
 use Rattle.dv_update.specs.StandIn.{in_one_piece, down_to, Alike, most_levels, names_length, IsLastWay, parting, IsLast, new_value}

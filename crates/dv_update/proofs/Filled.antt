@@ -3,12 +3,12 @@ use Rattle.std.proofs.Common.{◌≡◌, ◌∙◌, ap, sym, refl, ℕ, ◌-◌,
 use Rattle.std.proofs.Math.Seq.{take-append_seam}
 use Rattle.std.specs.Option.{option_map, unwrap_or}
 use Rattle.std.proofs.lemmas.Bool.Decides.{nat_tests}
-use Rattle.dv_bson.specs.declared.value.Value.{Value}
-use Rattle.dv_bson.specs.declared.value.Value.TheVariants as values
-use Rattle.dv_bson.specs.Names.{value_under}
-use Rattle.dv_bson.specs.Tree.{Tree, document, array, Field, fields_of, list_of_fields, Elements, elements_of, list_of_elements}
-use Rattle.dv_bson.specs.View.{tree}
-use Rattle.dv_path.specs.Path.{index_of}
+use Rattle.dv_value.specs.declared.value.Value.{Value}
+use Rattle.dv_value.specs.declared.value.Value.TheVariants as values
+use Rattle.dv_value.specs.Names.{value_under}
+use Rattle.dv_value.specs.Tree.{Tree, document, array, Field, fields_of, list_of_fields, Elements, elements_of, list_of_elements}
+use Rattle.dv_value.specs.View.{tree}
+use Rattle.dv_candidates.specs.Path.{index_of}
 use Rattle.dv_path.specs.Slots.{Slot, taken, slot_of, next_slot, slot_behind, slot}
 use Rattle.dv_order.specs.SameLaws.{and-left, and-right}
 use Rattle.dv_update.specs.Apply.{Path}

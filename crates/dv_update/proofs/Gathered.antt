@@ -1,12 +1,12 @@
 -- Edits that are parsed one after the other.
 use Rattle.std.proofs.Common.{◌≡◌, ◌∙◌, ap, sym, refl, List, [], ◌∷◌, ◌++◌, ℕ, ◌+◌, ◌≤◌, length, drop, Some, slice_get, Result, Ok, Err, append_assoc, append-nil, drop_of_length-le, ◌⊎◌, inl, inr}
-use Rattle.dv_bson.specs.Tree.{Field}
+use Rattle.dv_value.specs.Tree.{Field}
 use Rattle.dv_update.specs.declared.fault.UpdateFault.{UpdateFault}
 use Rattle.dv_update.specs.declared.fault.UpdateFault.TheVariants.{NoMemory}
 use Rattle.dv_update.specs.declared.operator.Operator.{Operator}
 use Rattle.dv_update.specs.Collected.{behind}
 use Rattle.dv_update.specs.Parsing.{Gives, operator_named, edit_by, edits_by, edits_under, edits_in}
-use Rattle.dv_bson.specs.Results.{◌>>=◌}
+use Rattle.dv_value.specs.Results.{◌>>=◌}
 use Rattle.dv_update.specs.Update.{Edit}
 use Rattle.dv_update.proofs.Items.{drop_at}
 

@@ -4,9 +4,9 @@ use Rattle.std.specs.Bool.{⊤}
 use Rattle.std.specs.List.{list_any, AllByRecursion}
 use Rattle.std.specs.Str.{bytes_eq}
 use Rattle.std.proofs.lemmas.Slice.Eq.{bytes_eq-Decides}
-use Rattle.dv_bson.specs.Names.{value_under}
-use Rattle.dv_bson.specs.Results.{◌>>=◌}
-use Rattle.dv_bson.specs.Tree.{Tree, null, Field}
+use Rattle.dv_value.specs.Names.{value_under}
+use Rattle.dv_value.specs.Results.{◌>>=◌}
+use Rattle.dv_value.specs.Tree.{Tree, null, Field}
 use Rattle.dv_order.specs.Same.{both_same, is_same}
 use Rattle.dv_order.specs.SameLaws.{and-left, and-right, same-is}
 use Rattle.dv_path.specs.Placing.{put}

@@ -3,16 +3,16 @@ use Rattle.std.proofs.Common.{◌≡◌, ◌∙◌, ap, sym, refl, List, [], ◌
 use Rattle.std.proofs.lemmas.List.{drop_more}
 use Rattle.std.proofs.lemmas.Option.{slice_get_within, slice_get_read, slice_get-map, get_or_from_slice_get}
 use Rattle.std.specs.Str.{bytes_eq}
-use Rattle.dv_bson.specs.Tree.{no_fields, field, Tree, Field, fields_of, list_of_fields, elements_of, list_of_elements}
-use Rattle.dv_bson.specs.View.{tree}
-use Rattle.dv_bson.specs.declared.value.Value.{Value}
+use Rattle.dv_value.specs.Tree.{no_fields, field, Tree, Field, fields_of, list_of_fields, elements_of, list_of_elements}
+use Rattle.dv_value.specs.View.{tree}
+use Rattle.dv_value.specs.declared.value.Value.{Value}
 use Rattle.dv_update.specs.Collected.{last_begins}
 use Rattle.dv_update.specs.PathOrder.{begins}
 use Rattle.dv_update.specs.Parsing.{each_alone, members}
 use Rattle.dv_update.specs.View.{edit}
 use Rattle.dv_update.specs.declared.fault.UpdateFault.TheVariants.{UnknownOperator}
 use Rattle.dv_update.specs.declared.form.Edit.{Edit}
-use Rattle.dv_bson.specs.Names.{begins_with_dollar}
+use Rattle.dv_value.specs.Names.{begins_with_dollar}
 use Rattle.dv_match.specs.Parsing.{lists_operators}
 
 pub elements_again : (vs : List Tree) → list_of_elements (elements_of vs) ≡ vs

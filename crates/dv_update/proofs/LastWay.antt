@@ -6,12 +6,12 @@ use Rattle.std.specs.Str.{bytes_eq}
 use Rattle.std.specs.declared.cmp.Ordering.{Ordering}
 use Rattle.std.specs.declared.cmp.Ordering.TheVariants.{Less, Equal, Greater}
 use Rattle.std.proofs.lemmas.Slice.Eq.{bytes_eq-Decides}
-use Rattle.dv_bson.specs.Names.{value_under}
-use Rattle.dv_bson.specs.Spelling.{payload, fields_spelling, framed}
-use Rattle.dv_bson.specs.Tree.{Tree, document, array, Field, no_fields, fields_of, list_of_fields, elements_of, list_of_elements}
-use Rattle.dv_path.specs.Path.{index_of}
+use Rattle.dv_value.specs.Names.{value_under}
+use Rattle.dv_value.specs.Spelling.{payload, fields_spelling, framed}
+use Rattle.dv_value.specs.Tree.{Tree, document, array, Field, no_fields, fields_of, list_of_fields, elements_of, list_of_elements}
+use Rattle.dv_candidates.specs.Path.{index_of}
 use Rattle.dv_path.specs.Placing.{result_map, with_field, with_element, put_field, put_element, put_behind, put}
-use Rattle.dv_path.specs.declared.fault.PathFault.TheVariants.{IndexTooLarge}
+use Rattle.dv_candidates.specs.declared.fault.PathFault.TheVariants.{IndexTooLarge}
 use Rattle.dv_path.specs.Slots.{taken, free, blocked, slot_of, element_slot, slot_behind, slot}
 use Rattle.dv_update.specs.PathOrder.{component_order}
 use Rattle.dv_update.specs.PathOrderLaws.{component_order_total}

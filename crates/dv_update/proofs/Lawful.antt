@@ -6,12 +6,12 @@ use Rattle.std.specs.declared.cmp.Ordering.{Ordering}
 use Rattle.std.specs.declared.cmp.Ordering.TheVariants.{Less, Equal, Greater}
 use Rattle.std.proofs.lemmas.Bool.Decides.{nat_tests}
 use Rattle.std.proofs.lemmas.Slice.Eq.{bytes_eq-Decides}
-use Rattle.dv_bson.specs.Spelling.{Fits, spelling, levels}
-use Rattle.dv_bson.specs.Tree.{Tree, Field, fields_of, list_of_fields, document}
+use Rattle.dv_value.specs.Spelling.{Fits, spelling, levels}
+use Rattle.dv_value.specs.Tree.{Tree, Field, fields_of, list_of_fields, document}
 use Rattle.dv_path.specs.Slots.{slot, taken}
 use Rattle.dv_update.specs.Apply.{Path, told, set_at, is_id, leading_id, checked, changed, applied, document_limit, level_limit}
 use Rattle.dv_update.specs.Parsing.{conflicts, has_conflict, placed, sorted, in_order}
-use Rattle.dv_bson.specs.Results.{◌>>=◌}
+use Rattle.dv_value.specs.Results.{◌>>=◌}
 use Rattle.dv_update.specs.PathOrder.{path_order, begins}
 use Rattle.dv_update.specs.PathOrderLaws.{path_order_total}
 use Rattle.dv_order.specs.Same.{is_same, same_fields, both_same}

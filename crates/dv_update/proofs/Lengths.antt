@@ -1,8 +1,8 @@
 -- How long the values are that are no documents or arrays.
 use Rattle.std.proofs.Common.{◌≡◌, ℕ, ℤ, ◌+◌, Bool, List, [], ◌∷◌, ◌++◌, length, length-append, refl, arith}
 use Rattle.std.specs.Int.{w32, w64, to_le_bytes, cast_unsigned}
-use Rattle.dv_bson.specs.Tree.{int32, int64, string, boolean, binary, object_id, date, null, timestamp, min_key, max_key}
-use Rattle.dv_bson.specs.Spelling.{counted, tagged, payload}
+use Rattle.dv_value.specs.Tree.{int32, int64, string, boolean, binary, object_id, date, null, timestamp, min_key, max_key}
+use Rattle.dv_value.specs.Spelling.{counted, tagged, payload}
 
 narrow : (n : ℕ) → length (to_le_bytes w32 n) ≡ 4
 narrow n = refl

@@ -1,9 +1,9 @@
 -- What edits leave as it is, and elements that are taken out.
 use Rattle.std.proofs.Common.{◌≡◌, ◌∙◌, ap, sym, refl, List, [], ◌∷◌, ◌++◌, ℕ, zero, suc, ◌<◌, ◌≤◌, length, map, drop, get_or, Bool, true, false, ◌||◌, Ok, arith, drop_of_length-le, append-nil}
 use Rattle.std.specs.List.{list_any}
-use Rattle.dv_bson.specs.Tree.{Tree, Field, elements_of, array}
-use Rattle.dv_bson.specs.View.{tree}
-use Rattle.dv_bson.specs.declared.value.Value.{Value}
+use Rattle.dv_value.specs.Tree.{Tree, Field, elements_of, array}
+use Rattle.dv_value.specs.View.{tree}
+use Rattle.dv_value.specs.declared.value.Value.{Value}
 use Rattle.dv_path.specs.Slots.{slot, taken}
 use Rattle.dv_update.specs.Apply.{Path, told, set_at, is_pulled, left}
 use Rattle.dv_order.specs.Same.{is_same}

@@ -12,13 +12,13 @@ use Rattle.std.specs.declared.cmp.Ordering.TheVariants.{Less, Equal, Greater}
 use Rattle.std.proofs.lemmas.Bool.Decides.{nat_tests}
 use Rattle.std.proofs.lemmas.Option.{slice_get_within}
 use Rattle.std.proofs.lemmas.Slice.Eq.{bytes_eq-Decides}
-use Rattle.dv_bson.specs.Names.{value_under}
-use Rattle.dv_bson.specs.Tree.{Tree, document, array, Field, Fields, fields_of, list_of_fields, Elements, elements_of, list_of_elements}
-use Rattle.dv_path.specs.Path.{index_of}
+use Rattle.dv_value.specs.Names.{value_under}
+use Rattle.dv_value.specs.Tree.{Tree, document, array, Field, Fields, fields_of, list_of_fields, Elements, elements_of, list_of_elements}
+use Rattle.dv_candidates.specs.Path.{index_of}
 use Rattle.dv_path.specs.Placing.{result_map, with_field, with_element, put_field, put_element, put_behind, put}
 use Rattle.dv_path.specs.Slots.{Slot, free, blocked, slot_of, element_slot, slot_behind, slot}
-use Rattle.dv_path.specs.declared.fault.PathFault.{PathFault}
-use Rattle.dv_path.specs.declared.fault.PathFault.TheVariants.{NotViable, IndexTooLarge}
+use Rattle.dv_candidates.specs.declared.fault.PathFault.{PathFault}
+use Rattle.dv_candidates.specs.declared.fault.PathFault.TheVariants.{NotViable, IndexTooLarge}
 use Rattle.dv_update.specs.Apply.{Path}
 use Rattle.dv_update.specs.Filling.{beyond, beyond_array, beyond_element}
 use Rattle.dv_update.specs.PathOrder.{component_order, path_order, begins}

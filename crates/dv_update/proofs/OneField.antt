@@ -3,11 +3,11 @@ use Rattle.std.proofs.Common.{◌≡◌, ◌∙◌, ap, ap₂, sym, refl, List, 
 use Rattle.std.specs.Str.{bytes_eq}
 use Rattle.std.proofs.lemmas.Bool.Decides.{nat_tests}
 use Rattle.std.proofs.lemmas.Slice.Eq.{bytes_eq-Decides}
-use Rattle.dv_bson.specs.FieldChange.{with_value_set, with_found_pushed, with_value_pushed}
-use Rattle.dv_bson.specs.Names.{has_name, value_under, with_value_under}
-use Rattle.dv_bson.specs.Results.{◌>>=◌}
-use Rattle.dv_bson.specs.Spelling.{payload, spelling, levels, fields_levels}
-use Rattle.dv_bson.specs.Tree.{Tree, document, array, Field, fields_of, Elements, elements_of, list_of_elements}
+use Rattle.dv_value.specs.FieldChange.{with_value_set, with_found_pushed, with_value_pushed}
+use Rattle.dv_value.specs.Names.{has_name, value_under, with_value_under}
+use Rattle.dv_value.specs.Results.{◌>>=◌}
+use Rattle.dv_value.specs.Spelling.{payload, spelling, levels, fields_levels}
+use Rattle.dv_value.specs.Tree.{Tree, document, array, Field, fields_of, Elements, elements_of, list_of_elements}
 use Rattle.dv_order.specs.Same.{both_same, is_same, same_fields}
 use Rattle.dv_order.specs.SameLaws.{same-itself, fields-itself}
 use Rattle.dv_path.specs.Placing.{with_field, put}
@@ -22,7 +22,7 @@ use Rattle.dv_update.proofs.Behind.{length-behind, levels-behind, other-behind}
 use Rattle.dv_update.proofs.Items.{fields_again}
 use Rattle.dv_update.proofs.Lawful.{same_documents}
 
--- what dv_bson's law says of spellings
+-- what dv_value's law says of spellings
 abbrev pub FieldAdds : Type 0
 FieldAdds = (f : Field) (fields : List Field) → length (spelling (f ∷ fields)) ≡ length (payload f.1) + length f.0 + 2 + length (spelling fields)
 
@@ -33,12 +33,12 @@ and-between false = refl
 itself : (s : List ℕ) → bytes_eq s s ≡ true
 itself s = (bytes_eq-Decides s s).1 refl
 
--- ---- fields that begin with the same `_id`, are longer by no more than so much, and no deeper
+-- ---- fields that begin with the same `_id`, are longer by no more than so much, and not too deep
 
 record Grown (d e : List Field) (more : ℕ) : Type 0 where
   id : leading_id e ≡ leading_id d
   size : length (spelling e) ≤ length (spelling d) + more
-  depth : fields_levels (fields_of e) ≤ fields_levels (fields_of d)
+  depth : levels (document (fields_of e)) ≤ 100
 
 both-same : (o : Option Tree) → both_same o o ≡ true
 both-same None = refl
@@ -47,13 +47,12 @@ both-same (Some w) = same-itself w
 passes : (old new : List Field) (a b c : Bool) → a ≡ true → b ≡ false → c ≡ false → (if not a then Err IdChanged else if b then Err TooLarge else if c then Err TooDeep else Ok new) ≡ (let r : Result (List Field) UpdateFault = Ok new in r)
 passes old new a b c p q r = rw (p, q, r) refl
 
-is-checked : (d e : List Field) (more : ℕ) → Grown d e more → length (spelling d) + more ≤ 16777216 → levels (document (fields_of d)) ≤ 100 → checked d e ≡ Ok e
-is-checked d e more grown small shallow =
+is-checked : (d e : List Field) (more : ℕ) → Grown d e more → length (spelling d) + more ≤ 16777216 → checked d e ≡ Ok e
+is-checked d e more grown small =
     let small-new : length (spelling e) ≤ 16777216 = omega (arith, grown.size, small) in
-    let shallow-new : levels (document (fields_of e)) ≤ 100 = omega (arith, grown.depth, shallow) in
     let id : both_same (leading_id d) (leading_id e) ≡ true = ap (both_same (leading_id d)) grown.id ∙ both-same (leading_id d) in
     let size : nat_lt document_limit (length (spelling e)) ≡ false = grind (arith, nat_tests, small-new) in
-    let depth : nat_lt level_limit (levels (document (fields_of e))) ≡ false = grind (arith, nat_tests, shallow-new) in
+    let depth : nat_lt level_limit (levels (document (fields_of e))) ≡ false = grind (arith, nat_tests, grown.depth) in
     passes d e _ _ _ id size depth
 
 module _ (name : List ℕ) where
@@ -102,16 +101,16 @@ module _ (name : List ℕ) where
         by true rest = omega (arith, adds (f.0, v) fs, adds f fs)
         by false rest = omega (arith, adds f (with_field name (Some v) fs), adds f fs, rest)
 
-    levels-within : levels v ≡ 0 → (d : List Field) → fields_levels (fields_of (with_field name (Some v) d)) ≤ fields_levels (fields_of d)
-    levels-within flat [] = omega (arith, flat)
-    levels-within flat (f ∷ fs) = by (bytes_eq name f.0) (levels-within flat fs)
+    levels-within : (d : List Field) → fields_levels (fields_of (with_field name (Some v) d)) ≤ max (levels v) (fields_levels (fields_of d))
+    levels-within [] = omega arith
+    levels-within (f ∷ fs) = by (bytes_eq name f.0) (levels-within fs)
       where
-        by : (b : Bool) → fields_levels (fields_of (with_field name (Some v) fs)) ≤ fields_levels (fields_of fs)
-            → fields_levels (fields_of (if b then (f.0, v) ∷ fs else f ∷ with_field name (Some v) fs)) ≤ max (levels f.1) (fields_levels (fields_of fs))
-        by true rest = omega (arith, flat)
+        by : (b : Bool) → fields_levels (fields_of (with_field name (Some v) fs)) ≤ max (levels v) (fields_levels (fields_of fs))
+            → fields_levels (fields_of (if b then (f.0, v) ∷ fs else f ∷ with_field name (Some v) fs)) ≤ max (levels v) (max (levels f.1) (fields_levels (fields_of fs)))
+        by true rest = omega arith
         by false rest = omega (arith, rest)
 
-    -- in place of a value that isn't much shorter, or less deep
+    -- in place of a value that isn't much shorter
     length-exchanged : FieldAdds → (w : Tree) (more : ℕ) → length (payload v) ≤ length (payload w) + more → (d : List Field) → value_under name d ≡ Some w → length (spelling (with_field name (Some v) d)) ≤ length (spelling d) + more
     length-exchanged adds w more longer [] here = absurd cc
     length-exchanged adds w more longer (f ∷ fs) here = by (bytes_eq name f.0) here (length-exchanged adds w more longer fs)
@@ -122,17 +121,6 @@ module _ (name : List ℕ) where
             let same : f.1 ≡ w = cc in
             omega (arith, adds (f.0, v) fs, adds f fs, longer, ap (λ x. length (payload x)) same)
         by false e rest = omega (arith, adds f (with_field name (Some v) fs), adds f fs, rest e)
-
-    levels-exchanged : (w : Tree) → levels v ≤ levels w → (d : List Field) → value_under name d ≡ Some w → fields_levels (fields_of (with_field name (Some v) d)) ≤ fields_levels (fields_of d)
-    levels-exchanged w deeper [] here = absurd cc
-    levels-exchanged w deeper (f ∷ fs) here = by (bytes_eq name f.0) here (levels-exchanged w deeper fs)
-      where
-        by : (b : Bool) → (if b then Some f.1 else value_under name fs) ≡ Some w → (value_under name fs ≡ Some w → fields_levels (fields_of (with_field name (Some v) fs)) ≤ fields_levels (fields_of fs))
-            → fields_levels (fields_of (if b then (f.0, v) ∷ fs else f ∷ with_field name (Some v) fs)) ≤ max (levels f.1) (fields_levels (fields_of fs))
-        by true e rest =
-            let same : f.1 ≡ w = cc in
-            omega (arith, deeper, ap levels same)
-        by false e rest = omega (arith, rest e)
 
     -- ---- whether they stay
 
@@ -145,6 +133,16 @@ module _ (name : List ℕ) where
         by true rest = ap₂ (λ p q. (p && is_same f.1 v) && q) (itself f.0) (fields-itself (fields_of fs)) ∙ and-between (is_same f.1 v)
         by false rest = ap₂ (λ p q. (p && q) && same_fields (fields_of fs) (fields_of (with_field name (Some v) fs))) (itself f.0) (same-itself f.1) ∙ rest
 
+  levels-under : (w : Tree) (d : List Field) → value_under name d ≡ Some w → levels w ≤ fields_levels (fields_of d)
+  levels-under w [] here = absurd cc
+  levels-under w (f ∷ fs) here = by (bytes_eq name f.0) here (levels-under w fs)
+    where
+      by : (b : Bool) → (if b then Some f.1 else value_under name fs) ≡ Some w → (value_under name fs ≡ Some w → levels w ≤ fields_levels (fields_of fs)) → levels w ≤ max (levels f.1) (fields_levels (fields_of fs))
+      by true e rest =
+          let same : f.1 ≡ w = cc in
+          omega (arith, ap levels same)
+      by false e rest = omega (arith, rest e)
+
   slot-one : (d : List Field) → slot d (name ∷ []) ≡ slot_of (value_under name d)
   unfolding slot
   slot-one d = ap (λ fs. slot_of (value_under name fs)) (fields_again d)
@@ -152,33 +150,33 @@ module _ (name : List ℕ) where
   -- ---- as code meets it
 
   module _ (other : bytes_eq name (codes "_id") ≡ false) (adds : FieldAdds) (d : List Field) (v : Tree) where
-    set-so : HasRoom d (2 + length name) v → applied_under name (assign v) d ≡ Ok (with_field name (Some v) d)
+    set-so : HasRoom d (2 + length name) 1 v → applied_under name (assign v) d ≡ Ok (with_field name (Some v) d)
     set-so room =
         let grown : Grown d (with_field name (Some v) d) (length (payload v) + (2 + length name)) = record {
           id = leading-kept v other d;
           size = length-within v adds d;
-          depth = levels-within v room.flat d;
+          depth = omega (arith, room.inside, room.depth, levels-within v d);
         } in
-        ap (λ r. r >>= checked d) (putting v d) ∙ is-checked d (with_field name (Some v) d) _ grown room.size room.depth
+        ap (λ r. r >>= checked d) (putting v d) ∙ is-checked d (with_field name (Some v) d) _ grown room.size
 
-    pub sets_field : HasRoom d (2 + length name) v → applied_under name (assign v) d ≡ Ok (with_value_set name v d)
+    pub sets_field : HasRoom d (2 + length name) 1 v → applied_under name (assign v) d ≡ Ok (with_value_set name v d)
     sets_field room = set-so room ∙ ap Ok (set-alike v d)
 
-    pub keeps_field : HasRoom d (2 + length name) v → true ≡ both_same (value_under name d) (Some v) → applied_under name (assign v) d ≡ Ok d
+    pub keeps_field : HasRoom d (2 + length name) 1 v → true ≡ both_same (value_under name d) (Some v) → applied_under name (assign v) d ≡ Ok d
     keeps_field room same = set-so room ∙ ap Ok (sym ((same_documents d (with_field name (Some v) d)).0 (stays-as v d ∙ sym same)))
 
-    pub pushes_value : (ws : Elements) → Some (array ws) ≡ value_under name d → length (list_of_elements ws) < 1000000 → HasRoom d 8 v → applied_under name (append (v ∷ [])) d ≡ Ok (with_value_pushed name v d)
+    pub pushes_value : (ws : Elements) → Some (array ws) ≡ value_under name d → length (list_of_elements ws) < 1000000 → HasRoom d 8 2 v → applied_under name (append (v ∷ [])) d ≡ Ok (with_value_pushed name v d)
     pushes_value ws here few room =
         let w = array (elements_of (list_of_elements ws ++ v ∷ [])) in
         let grown : Grown d (with_field name (Some w) d) (length (payload v) + 8) = record {
           id = leading-kept w other d;
           size = length-exchanged w adds (array ws) _ (length-behind v ws few) d (sym here);
-          depth = levels-exchanged w (array ws) (levels-behind v room.flat ws) d (sym here);
+          depth = omega (arith, room.inside, room.depth, levels-within w d, levels-behind v ws, levels-under (array ws) d (sym here));
         } in
         let slot-here : slot d (name ∷ []) ≡ taken (array ws) = slot-one d ∙ ap slot_of (sym here) in
         ap (λ s. (appended (v ∷ []) s >>= λ x. set_at (name ∷ []) x d) >>= checked d) slot-here
         ∙ ap (λ r. r >>= checked d) (putting w d)
-        ∙ is-checked d (with_field name (Some w) d) _ grown room.size room.depth
+        ∙ is-checked d (with_field name (Some w) d) _ grown room.size
         ∙ ap Ok (there-alike w (array ws) d (sym here) ∙ ap (λ o. with_found_pushed o name v d) here)
 
   pub differs_set : (d : List Field) (v : Tree) → false ≡ both_same (value_under name d) (Some v) → false ≡ same_fields (fields_of d) (fields_of (with_value_set name v d))

@@ -3,15 +3,15 @@ use Rattle.std.proofs.Common.{◌≡◌, ◌∙◌, ap, sym, refl, subst, ℕ, z
 use Rattle.std.specs.Str.{bytes_eq}
 use Rattle.std.specs.Option.{unwrap_or}
 use Rattle.std.proofs.lemmas.Slice.Eq.{bytes_eq-Decides}
-use Rattle.dv_bson.specs.Names.{value_under}
-use Rattle.dv_bson.specs.Spelling.{payload, spelling, elements_spelling}
-use Rattle.dv_bson.specs.Tree.{Tree, document, array, null, boolean, Field, fields_of, list_of_fields, Elements, elements_of, list_of_elements}
-use Rattle.dv_path.specs.Path.{index_of}
+use Rattle.dv_value.specs.Names.{value_under}
+use Rattle.dv_value.specs.Spelling.{payload, spelling, elements_spelling}
+use Rattle.dv_value.specs.Tree.{Tree, document, array, null, boolean, Field, fields_of, list_of_fields, Elements, elements_of, list_of_elements}
+use Rattle.dv_candidates.specs.Path.{index_of}
 use Rattle.dv_path.specs.Placing.{result_map, field_with, with_field, with_element, put_field, put_element, put_behind, put}
 use Rattle.dv_path.specs.Removing.{changed_at, remove_element, left_behind, remove}
 use Rattle.dv_path.specs.Slots.{Slot, taken, slot_of, element_slot, slot_behind, slot}
-use Rattle.dv_path.specs.declared.fault.PathFault.{PathFault}
-use Rattle.dv_path.specs.declared.fault.PathFault.TheVariants.{IndexTooLarge}
+use Rattle.dv_candidates.specs.declared.fault.PathFault.{PathFault}
+use Rattle.dv_candidates.specs.declared.fault.PathFault.TheVariants.{IndexTooLarge}
 use Rattle.dv_update.specs.Apply.{Path}
 use Rattle.dv_update.specs.PathOrder.{begins}
 use Rattle.dv_update.proofs.AlikeDown.{length-document, length-array, length-field, length-item}

@@ -3,8 +3,8 @@ use Rattle.std.proofs.Common.{◌≡◌, ◌∙◌, ap, sym, refl, List, [], ◌
 use Rattle.std.specs.List.{list_any}
 use Rattle.std.specs.Str.{bytes_eq}
 use Rattle.std.proofs.lemmas.Slice.Eq.{bytes_eq-Decides}
-use Rattle.dv_bson.specs.Tree.{Tree, array, Field}
-use Rattle.dv_path.specs.declared.fault.PathFault.{PathFault}
+use Rattle.dv_value.specs.Tree.{Tree, array, Field}
+use Rattle.dv_candidates.specs.declared.fault.PathFault.{PathFault}
 use Rattle.dv_path.specs.Apart.{AreApart, IsApartFrom, AreAllApart, remove_each}
 use Rattle.dv_path.specs.Placing.{put, result_map}
 use Rattle.dv_path.specs.Removing.{remove}
@@ -12,7 +12,7 @@ use Rattle.dv_path.specs.Slots.{Slot, taken, free, blocked, slot}
 use Rattle.dv_update.specs.declared.fault.UpdateFault.{UpdateFault}
 use Rattle.dv_update.specs.Apply.{Path, told, set_at, increased, appended, pull_from, edit_at, edited}
 use Rattle.dv_update.specs.Parsing.{conflicts, has_conflict}
-use Rattle.dv_bson.specs.Results.{◌>>=◌}
+use Rattle.dv_value.specs.Results.{◌>>=◌}
 use Rattle.dv_update.specs.PathOrder.{begins}
 use Rattle.dv_update.specs.Removals.{is_removal, removals, other_edits}
 use Rattle.dv_update.specs.Update.{Operation, assign, take_away, increase, append, pull, Pulled, Edit}

@@ -2,8 +2,8 @@
 use Rattle.std.proofs.Common.{◌≡◌, ◌∙◌, ap, ap₂, sym, refl, List, [], ◌∷◌, ◌++◌, ℕ, Bool, true, false, ◌||◌, not, Option, Some, None, append_assoc, append-nil, arith, codes, subst, if◌then◌else◌}
 use Rattle.std.specs.Str.{bytes_eq}
 use Rattle.std.proofs.lemmas.Slice.Eq.{bytes_eq-Decides}
-use Rattle.dv_bson.specs.Names.{has_name, has_zero, AreNamed}
-use Rattle.dv_bson.specs.Tree.{Tree, Field}
+use Rattle.dv_value.specs.Names.{has_name, has_zero, AreNamed}
+use Rattle.dv_value.specs.Tree.{Tree, Field}
 use Rattle.dv_update.specs.Apply.{is_id, others, with_id}
 
 pub bytes-back : (s t : List ℕ) → bytes_eq s t ≡ bytes_eq t s

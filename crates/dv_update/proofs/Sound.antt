@@ -9,21 +9,21 @@ use Rattle.std.specs.Ordering.{is_gt}
 use Rattle.std.specs.Prelude.{FitsSigned}
 use Rattle.std.specs.Result.{IfOk}
 use Rattle.std.specs.Str.{IsUtf8, bytes_eq}
-use Rattle.dv_bson.specs.Names.{begins_with_dollar, has_zero, value_under}
-use Rattle.dv_bson.specs.Spelling.{IsValue, AreFields, spelling, levels}
-use Rattle.dv_bson.specs.Tree.{Tree, int32, int64, document, array, Fields, no_fields, field, Field, fields_of, list_of_fields, elements_of, list_of_elements}
+use Rattle.dv_value.specs.Names.{begins_with_dollar, has_zero, value_under}
+use Rattle.dv_value.specs.Spelling.{IsValue, AreFields, spelling, levels}
+use Rattle.dv_value.specs.Tree.{Tree, int32, int64, document, array, Fields, no_fields, field, Field, fields_of, list_of_fields, elements_of, list_of_elements}
 use Rattle.dv_match.specs.Filter.{Test}
 use Rattle.dv_match.specs.Parsing.{lists_operators, test_in}
 use Rattle.dv_match.specs.declared.fault.FilterFault.{FilterFault}
-use Rattle.dv_path.specs.Path.{is_component, path_of}
+use Rattle.dv_candidates.specs.Path.{is_component, path_of}
 use Rattle.dv_path.specs.Placing.{put}
 use Rattle.dv_path.specs.Slots.{Slot, taken, free, blocked, slot}
-use Rattle.dv_path.specs.declared.fault.PathFault.{PathFault}
+use Rattle.dv_candidates.specs.declared.fault.PathFault.{PathFault}
 use Rattle.dv_update.specs.Apply.{Path, told, set_at, integer, is_narrow, number_tree, sum_as, increased, appended, is_pulled, left, pull_from, edit_at, edited, chosen, leading_id, checked, changed, applied, document_limit, level_limit}
-use Rattle.dv_bson.specs.Widths.{fits_32, fits_64}
+use Rattle.dv_value.specs.Widths.{fits_32, fits_64}
 use Rattle.dv_path.specs.Names.{has_bad_name}
 use Rattle.dv_update.specs.Parsing.{operator_named, number_to_add, members, each_alone, values_to_push, condition, values_to_pull, operation_by, plain, edit_by, edits_by, edits_under, edits_in, has_conflict, placed, sorted, in_order, replacement_of, update_of}
-use Rattle.dv_bson.specs.Results.{◌>>=◌}
+use Rattle.dv_value.specs.Results.{◌>>=◌}
 use Rattle.dv_update.specs.PathOrder.{path_order}
 use Rattle.dv_order.specs.Same.{both_same}
 use Rattle.dv_update.specs.Update.{Operation, assign, take_away, increase, append, pull, Pulled, Edit, Update, replacement, operators}

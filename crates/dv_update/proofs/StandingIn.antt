@@ -1,14 +1,14 @@
 -- What edits make of what stands in for a document.
 use Rattle.std.proofs.Common.{◌≡◌, ◌≢◌, ◌∙◌, ap, sym, refl, List, [], ℕ, ◌+◌, ◌-◌, ◌<◌, ◌≤◌, true, false, length, length-drop, drop, Option, Some, None, Result, Ok, Err, ◌⊎◌, inl, inr, arith, is_some}
-use Rattle.dv_bson.specs.Spelling.{payload, levels}
-use Rattle.dv_bson.specs.Tree.{Tree, document, null, Field, fields_of}
+use Rattle.dv_value.specs.Spelling.{payload, levels}
+use Rattle.dv_value.specs.Tree.{Tree, document, null, Field, fields_of}
 use Rattle.dv_path.specs.Placing.{put}
-use Rattle.dv_path.specs.declared.fault.PathFault.{PathFault}
-use Rattle.dv_path.specs.declared.fault.PathFault.TheVariants as paths
+use Rattle.dv_candidates.specs.declared.fault.PathFault.{PathFault}
+use Rattle.dv_candidates.specs.declared.fault.PathFault.TheVariants as paths
 use Rattle.dv_path.specs.Slots.{slot, slot_behind, free, blocked}
 use Rattle.dv_update.specs.Apply.{Path, told, set_at, edit_at, checked}
 use Rattle.dv_update.specs.OtherFaults.{of_path}
-use Rattle.dv_bson.specs.Results.{◌>>=◌}
+use Rattle.dv_value.specs.Results.{◌>>=◌}
 use Rattle.dv_update.specs.PathOrder.{begins}
 use Rattle.dv_update.specs.Removals.{is_removal}
 use Rattle.dv_update.specs.StandIn.{in_one_piece, Alike, PullsShallow, IsLast, names_length, new_value, parting}

@@ -6,15 +6,15 @@ use Rattle.std.specs.List.{AllByRecursion}
 use Rattle.std.specs.Option.{IfSome, unwrap_or, option_and_then}
 use Rattle.std.specs.Result.{IfOk}
 use Rattle.std.specs.Str.{IsUtf8, bytes_eq}
-use Rattle.dv_bson.specs.Names.{has_name, has_zero, value_under}
-use Rattle.dv_bson.specs.Spelling.{IsValue, AreFields, AreElements}
-use Rattle.dv_bson.specs.Tree.{Tree, document, array, null, Fields, no_fields, field, Field, fields_of, list_of_fields, Elements, no_elements, element, elements_of, list_of_elements}
-use Rattle.dv_path.specs.Path.{index_of}
+use Rattle.dv_value.specs.Names.{has_name, has_zero, value_under}
+use Rattle.dv_value.specs.Spelling.{IsValue, AreFields, AreElements}
+use Rattle.dv_value.specs.Tree.{Tree, document, array, null, Fields, no_fields, field, Field, fields_of, list_of_fields, Elements, no_elements, element, elements_of, list_of_elements}
+use Rattle.dv_candidates.specs.Path.{index_of}
 use Rattle.dv_path.specs.Placing.{result_map, field_with, with_field, with_element, put_field, put_element, put_behind, put}
 use Rattle.dv_path.specs.Removing.{changed_at, remove_field, remove_element, left_behind, remove}
 use Rattle.dv_path.specs.Slots.{Slot, taken, free, blocked, slot_of, element_slot, next_slot, slot_behind, slot}
-use Rattle.dv_path.specs.declared.fault.PathFault.{PathFault}
-use Rattle.dv_path.specs.declared.fault.PathFault.TheVariants.{IndexTooLarge}
+use Rattle.dv_candidates.specs.declared.fault.PathFault.{PathFault}
+use Rattle.dv_candidates.specs.declared.fault.PathFault.TheVariants.{IndexTooLarge}
 use Rattle.dv_update.specs.Apply.{is_id, others, with_id}
 use Rattle.dv_update.proofs.Items.{fields_again}
 use Rattle.dv_update.proofs.Replacing.{bytes-back, or-false, or-none-first, or-none-second, has_name-others, no-id}

@@ -4,11 +4,11 @@ use Rattle.std.specs.Prelude.{ℕ, ℤ, ◌+ℤ◌, nat_lt, ◌&&◌, not, Bool,
 use Rattle.std.specs.List.{filter}
 use Rattle.std.specs.Ordering.{is_eq}
 use Rattle.std.specs.Str.{bytes_eq}
-use Rattle.dv_bson.specs.Tree.{Tree, int32, int64, document, array, Field, fields_of, elements_of, list_of_elements}
-use Rattle.dv_bson.specs.Names.{value_under}
-use Rattle.dv_bson.specs.Spelling.{spelling, levels}
+use Rattle.dv_value.specs.Tree.{Tree, int32, int64, document, array, Field, fields_of, elements_of, list_of_elements}
+use Rattle.dv_value.specs.Names.{value_under}
+use Rattle.dv_value.specs.Spelling.{spelling, levels}
 use Rattle.dv_order.specs.Order.{order}
-use Rattle.dv_path.specs.declared.fault.PathFault.{PathFault}
+use Rattle.dv_candidates.specs.declared.fault.PathFault.{PathFault}
 use Rattle.dv_path.specs.Placing as placing
 use Rattle.dv_path.specs.Removing.{remove}
 use Rattle.dv_path.specs.Slots.{Slot, taken, free, blocked, slot}
@@ -18,8 +18,8 @@ use Rattle.dv_update.specs.declared.number.Number.TheVariants.{Int32, Int64}
 use Rattle.dv_update.specs.declared.fault.UpdateFault.{UpdateFault}
 use Rattle.dv_update.specs.declared.fault.UpdateFault.TheVariants.{NotViable, NotNumber, Overflow, NotArray, IdChanged, TooLarge, TooDeep}
 use Rattle.dv_update.specs.OtherFaults.{of_path}
-use Rattle.dv_bson.specs.Results.{◌>>=◌}
-use Rattle.dv_bson.specs.Widths.{fits_32, fits_64}
+use Rattle.dv_value.specs.Results.{◌>>=◌}
+use Rattle.dv_value.specs.Widths.{fits_32, fits_64}
 use Rattle.dv_order.specs.Same.{both_same}
 use Rattle.dv_update.specs.Update.{Operation, assign, take_away, increase, append, pull, Pulled, equal_to, passing, Edit, Update, replacement, operators}
 

@@ -1,11 +1,11 @@
 -- Worked examples: what an update makes of a document, both as they are written.
 use Rattle.std.specs.Prelude.{ℕ, List, [], ◌∷◌, Result, codes}
-use Rattle.dv_bson.specs.Tree.{Tree, Field}
+use Rattle.dv_value.specs.Tree.{Tree, Field}
 use Rattle.dv_update.specs.declared.fault.UpdateFault.{UpdateFault}
 use Rattle.dv_update.specs.Apply.{applied}
 use Rattle.dv_update.specs.Parsing.{update_of}
-use Rattle.dv_bson.specs.Results.{◌>>=◌}
-use Rattle.dv_bson.specs.Short.{int, long, doc, list}
+use Rattle.dv_value.specs.Results.{◌>>=◌}
+use Rattle.dv_value.specs.Short.{int, long, doc, list}
 
 -- an update with one operator of one path
 abbrev pub one_edit : List ℕ → List ℕ → Tree → List Field

@@ -1,6 +1,6 @@
 -- The fault of an update one of whose paths, or conditions, is none, or where a path leads to no place for a value.
-use Rattle.dv_path.specs.declared.fault.PathFault.{PathFault}
-use Rattle.dv_path.specs.declared.fault.PathFault.TheVariants as paths
+use Rattle.dv_candidates.specs.declared.fault.PathFault.{PathFault}
+use Rattle.dv_candidates.specs.declared.fault.PathFault.TheVariants as paths
 use Rattle.dv_match.specs.declared.fault.FilterFault.{FilterFault}
 use Rattle.dv_match.specs.declared.fault.FilterFault.TheVariants as filters
 use Rattle.dv_update.specs.declared.fault.UpdateFault.{UpdateFault}

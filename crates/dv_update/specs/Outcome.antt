@@ -1,10 +1,10 @@
 -- What an update changes in a document, told by one field where that is all.
 use Rattle.std.specs.Prelude.{◌≡◌, ℕ, ◌+◌, ◌≤◌, Bool, true, false, List, [], ◌∷◌, length, Option, Some, None, Result, Ok, Err, codes, if◌then◌else◌}
 use Rattle.std.specs.Str.{bytes_eq}
-use Rattle.dv_bson.specs.FieldChange.{with_field_changed}
-use Rattle.dv_bson.specs.Results.{◌>>=◌}
-use Rattle.dv_bson.specs.Spelling.{levels, payload, spelling}
-use Rattle.dv_bson.specs.Tree.{Tree, document, Field, fields_of}
+use Rattle.dv_value.specs.FieldChange.{with_field_changed}
+use Rattle.dv_value.specs.Results.{◌>>=◌}
+use Rattle.dv_value.specs.Spelling.{levels, payload, spelling}
+use Rattle.dv_value.specs.Tree.{Tree, document, Field, fields_of}
 use Rattle.dv_path.specs.Slots.{Slot}
 use Rattle.dv_update.specs.Apply.{Path, checked, edit_at, increased}
 use Rattle.dv_order.specs.Same.{same_fields}
@@ -65,8 +65,8 @@ value_by (assign v) s = Ok v
 value_by (increase n) s = increased n s
 value_by o s = Err NotViable
 
--- the document stays within the limits with a value more, in which no document or array is, and so many bytes around it
-pub record HasRoom (d : List Field) (around : ℕ) (v : Tree) : Type 0 where
+-- the document stays within the limits with a value more, and so many bytes and levels around it
+pub record HasRoom (d : List Field) (around above : ℕ) (v : Tree) : Type 0 where
   pub size : length (spelling d) + (length (payload v) + around) ≤ 16777216
-  pub flat : levels v ≡ 0
+  pub inside : levels v + above ≤ 100
   pub depth : levels (document (fields_of d)) ≤ 100

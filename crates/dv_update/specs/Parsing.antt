@@ -4,11 +4,11 @@ use Rattle.std.specs.Prelude.{◌≡◌, ◌⊎◌, ℕ, Bool, false, ◌||◌, 
 use Rattle.std.specs.List.{list_any}
 use Rattle.std.specs.Str.{bytes_eq}
 use Rattle.std.specs.Ordering.{is_gt}
-use Rattle.dv_bson.specs.Results.{◌>>=◌}
-use Rattle.dv_bson.specs.Names.{begins_with_dollar}
-use Rattle.dv_bson.specs.Tree.{Tree, int32, int64, document, array, Fields, no_fields, field, Field, fields_of, list_of_fields, list_of_elements}
+use Rattle.dv_value.specs.Results.{◌>>=◌}
+use Rattle.dv_value.specs.Names.{begins_with_dollar}
+use Rattle.dv_value.specs.Tree.{Tree, int32, int64, document, array, Fields, no_fields, field, Field, fields_of, list_of_fields, list_of_elements}
 use Rattle.dv_path.specs.Names.{has_bad_name}
-use Rattle.dv_path.specs.Path.{path_of}
+use Rattle.dv_candidates.specs.Path.{path_of}
 use Rattle.dv_match.specs.Filter.{Test}
 use Rattle.dv_match.specs.Parsing.{lists_operators, test_in}
 use Rattle.dv_match.specs.declared.fault.FilterFault.{FilterFault}

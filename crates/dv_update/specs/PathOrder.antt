@@ -6,7 +6,7 @@ use Rattle.std.specs.Ordering.{nat_cmp, bool_cmp, ordering_then}
 use Rattle.std.specs.Cmp.Lexicographic.{slice_cmp}
 use Rattle.std.specs.Option.{unwrap_or}
 use Rattle.std.specs.Str.{bytes_eq}
-use Rattle.dv_path.specs.Path.{index_of}
+use Rattle.dv_candidates.specs.Path.{index_of}
 
 -- a component that is no whole number
 abbrev pub is_name : List ℕ → Bool

@@ -1,10 +1,10 @@
 -- Edits of which some take something away.
 use Rattle.std.specs.Prelude.{ℕ, Bool, true, false, List, [], ◌∷◌, Result, Ok, if◌then◌else◌}
-use Rattle.dv_bson.specs.Tree.{Field}
+use Rattle.dv_value.specs.Tree.{Field}
 use Rattle.dv_path.specs.Apart.{remove_each}
 use Rattle.dv_update.specs.declared.fault.UpdateFault.{UpdateFault}
 use Rattle.dv_update.specs.Apply.{edited}
-use Rattle.dv_bson.specs.Results.{◌>>=◌}
+use Rattle.dv_value.specs.Results.{◌>>=◌}
 use Rattle.dv_update.specs.Update.{Operation, take_away, Edit}
 
 abbrev pub is_removal : Operation → Bool

@@ -4,8 +4,8 @@ use Rattle.std.specs.List.{AllByRecursion}
 use Rattle.std.specs.declared.cmp.Ordering.{Ordering}
 use Rattle.std.specs.declared.cmp.Ordering.TheVariants.{Less, Equal, Greater}
 use Rattle.std.proofs.Math.ListN.{replicate}
-use Rattle.dv_bson.specs.Spelling.{payload, levels}
-use Rattle.dv_bson.specs.Tree.{Tree, document, array, binary, Field, fields_of, list_of_fields, Elements, elements_of, list_of_elements}
+use Rattle.dv_value.specs.Spelling.{payload, levels}
+use Rattle.dv_value.specs.Tree.{Tree, document, array, binary, Field, fields_of, list_of_fields, Elements, elements_of, list_of_elements}
 use Rattle.dv_path.specs.Slots.{Slot, slot, taken}
 use Rattle.dv_update.specs.Apply.{number_tree}
 use Rattle.dv_update.specs.PathOrder.{component_order}

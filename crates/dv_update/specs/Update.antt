@@ -1,6 +1,6 @@
 -- Updates as parsed (MongoDB manual, "Update Operators"). Which operators there are is this server's own.
 use Rattle.std.specs.Prelude.{ℕ, List}
-use Rattle.dv_bson.specs.Tree.{Tree, Field}
+use Rattle.dv_value.specs.Tree.{Tree, Field}
 use Rattle.dv_match.specs.Filter.{Test}
 use Rattle.dv_update.specs.declared.number.Number.{Number}
 

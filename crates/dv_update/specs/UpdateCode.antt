@@ -3,8 +3,8 @@ use Rattle.std.specs.Prelude.{◌≡◌, List, refl}
 use Rattle.std.proofs.Common.{ap}
 use Rattle.std.specs.Coded.{coded×}
 use base.Stored.{Gv, gnum, gcons, gnil, Coded, coded_ℕ, coded_ℤ, coded_list}
-use Rattle.dv_bson.specs.TreeCode.{coded_tree}
-use Rattle.dv_bson.specs.Tree.{Tree}
+use Rattle.dv_value.specs.TreeCode.{coded_tree}
+use Rattle.dv_value.specs.Tree.{Tree}
 use Rattle.dv_match.specs.FilterCode.{code_test, code_test_inj}
 use Rattle.dv_update.specs.declared.number.Number.{Number}
 use Rattle.dv_update.specs.declared.number.Number.TheVariants.{Int32, Int64}

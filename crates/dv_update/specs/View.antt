@@ -1,6 +1,6 @@
 -- What the parts of an update in memory stand for.
 use Rattle.std.specs.Prelude.{ℕ, List}
-use Rattle.dv_bson.specs.View.{tree}
+use Rattle.dv_value.specs.View.{tree}
 use Rattle.dv_match.specs.View.{test}
 use Rattle.dv_update.specs.declared.form.Operation.{Operation}
 use Rattle.dv_update.specs.declared.form.Operation.TheVariants.{Set, Unset, Inc, Push, Pull}

@@ -2,9 +2,9 @@
 
 ghost use Rattle.std.specs.Prelude.{◌≡◌, [], nat_lt, ◌⊎◌, Err, length, codes, IfErr, IfOk};
 ghost use Rattle.std.specs.Option.{option_map};
-ghost use Rattle.dv_bson.specs.Names.{value_under};
-ghost use Rattle.dv_bson.specs.Spelling.{spelling};
-ghost use Rattle.dv_bson.specs.View.{tree};
+ghost use Rattle.dv_value.specs.Names.{value_under};
+ghost use Rattle.dv_value.specs.Spelling.{spelling};
+ghost use Rattle.dv_value.specs.View.{tree};
 ghost use Rattle.dv_update.specs.Apply as defined;
 ghost use Rattle.dv_update.specs.Parsing.{Gives};
 ghost use Rattle.dv_order.specs.Same.{both_same};
@@ -16,8 +16,8 @@ use crate::fault::UpdateFault;
 use crate::filling::refuse_too_large;
 use crate::form::Update;
 use crate::stand_in::edited_or_alike;
-use dv_bson::{Document, NoMemory, Value, fits, size};
 use dv_order::is_same;
+use dv_value::{Document, NoMemory, Value, fits, size};
 use std::alloc::Global;
 
 /// The name of the field that a stored document begins with.

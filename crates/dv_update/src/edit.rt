@@ -2,8 +2,8 @@
 
 ghost use Rattle.std.specs.Prelude.{◌≡◌, ◌++◌, true, IfOk};
 ghost use Rattle.std.specs.List.{list_any};
-ghost use Rattle.dv_bson.specs.View.{tree};
-ghost use Rattle.dv_path.specs.View.{slot_seen};
+ghost use Rattle.dv_value.specs.View.{tree};
+ghost use Rattle.dv_path.specs.SlotView.{slot_seen};
 ghost use Rattle.dv_update.specs.Apply as defined;
 ghost use Rattle.dv_update.specs.Parsing.{Gives};
 ghost use Rattle.dv_update.specs.View.{operation, pulled as which};
@@ -11,9 +11,10 @@ ghost use Rattle.dv_update.specs.View.{operation, pulled as which};
 use crate::fault::UpdateFault;
 use crate::form::{Edit, Operation, Pulled};
 use crate::number::Number;
-use dv_bson::{Document, List, NoMemory, Value};
+use dv_candidates::Path;
 use dv_order::{compare, is_same};
-use dv_path::{Path, Slot, put_at, remove_at, slot_at};
+use dv_path::{Slot, put_at, remove_at, slot_at};
+use dv_value::{Document, List, NoMemory, Value};
 use std::alloc::Global;
 
 impl Edit {

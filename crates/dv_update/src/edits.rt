@@ -10,8 +10,9 @@ use crate::fault::UpdateFault;
 use crate::form::{Edit, Edits, Operation};
 use crate::laws;
 use crate::order::are_apart;
-use dv_bson::{Document, NoMemory};
-use dv_path::{Path, remove_each};
+use dv_candidates::Path;
+use dv_path::remove_each;
+use dv_value::{Document, NoMemory};
 use std::alloc::Global;
 
 /// The edits made one after the other.

@@ -7,8 +7,8 @@ ghost use Rattle.dv_update.specs.StandIn as defined;
 
 use crate::form::Edit;
 use crate::order::{begins, compare_components};
-use dv_bson::NoMemory;
-use dv_path::{Component, Path, PathFault};
+use dv_candidates::{Component, Path, PathFault};
+use dv_value::NoMemory;
 use std::alloc::{AllocError, Global};
 use std::cmp::Ordering;
 

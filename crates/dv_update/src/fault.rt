@@ -3,8 +3,8 @@
 ghost use Rattle.std.specs.Prelude.{◌≡◌};
 ghost use Rattle.dv_update.specs.declared.fault.UpdateFault.TheVariants.{NoMemory};
 
+use dv_candidates::PathFault;
 use dv_match::FilterFault;
-use dv_path::PathFault;
 use std::alloc::{AllocError, AllocFailed};
 use std::error::Error;
 use std::fmt;

@@ -9,8 +9,8 @@ ghost use Rattle.std.specs.Prelude as prelude;
 ghost use Rattle.std.specs.Prelude.{◌≡◌, ◌≤◌, ◌⊎◌, ◌∷◌, Some, Err, map, true, IfErr, IfOk, IsTrue};
 ghost use Rattle.std.specs.List.{list_any};
 ghost use Rattle.std.specs.Option.{option_map};
-ghost use Rattle.dv_bson.specs.Tree.{array, document as whole_document, elements_of, fields_of};
-ghost use Rattle.dv_bson.specs.View.{tree};
+ghost use Rattle.dv_value.specs.Tree.{array, document as whole_document, elements_of, fields_of};
+ghost use Rattle.dv_value.specs.View.{tree};
 ghost use Rattle.dv_update.specs.Apply as defined;
 ghost use Rattle.dv_update.specs.Filling as filling;
 ghost use Rattle.dv_update.specs.Filling.{IsTooLarge, IsUnfilled, Made, Unfilled, Unfills, judged};
@@ -28,8 +28,9 @@ use crate::fault::UpdateFault;
 use crate::form::{Edit, Edits};
 use crate::laws;
 use crate::order::{are_apart, is_beginning};
-use dv_bson::{Document, List, NoMemory, Value};
-use dv_path::{Component, Path, remove_each};
+use dv_candidates::{Component, Path};
+use dv_path::remove_each;
+use dv_value::{Document, List, NoMemory, Value};
 use std::alloc::Global;
 
 /// How many nulls are few enough to be made.

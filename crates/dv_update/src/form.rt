@@ -4,9 +4,9 @@ ghost use Rattle.std.specs.Prelude.{◌≡◌, map, IfOk};
 ghost use Rattle.dv_update.specs.View.{edit};
 
 use crate::number::Number;
-use dv_bson::{Document, List, NoMemory, Value};
+use dv_candidates::Path;
 use dv_match::Test;
-use dv_path::Path;
+use dv_value::{Document, List, NoMemory, Value};
 use std::marker::Model;
 
 /// What is done to a document.

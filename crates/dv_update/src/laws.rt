@@ -3,12 +3,12 @@
 ghost use Rattle.std.specs.Prelude.{◌≡◌, ◌↔◌, ◌<◌, ◌≤◌, true, false, ℕ, List, [], ◌∷◌, ◌++◌, length, Ok, Err, codes};
 ghost use Rattle.std.specs.Ordering.{ordering_reverse};
 ghost use Rattle.std.specs.declared.cmp.Ordering.TheVariants.{Less, Equal};
-ghost use Rattle.dv_bson.specs.Spelling.{AreFields, Fits, levels, spelling};
-ghost use Rattle.dv_bson.specs.Tree.{Tree, Field, document, fields_of, null};
+ghost use Rattle.dv_value.specs.Spelling.{AreFields, Fits, levels, spelling};
+ghost use Rattle.dv_value.specs.Tree.{Tree, Field, document, fields_of, null};
 ghost use Rattle.dv_path.specs.Slots.{slot, taken};
 ghost use Rattle.dv_update.specs.Apply.{Path, applied, changed, edited, leading_id, set_at};
 ghost use Rattle.dv_update.specs.Examples.{one_edit, outcome, start, with_a};
-ghost use Rattle.dv_bson.specs.Short.{doc, int, list, long};
+ghost use Rattle.dv_value.specs.Short.{doc, int, list, long};
 ghost use Rattle.dv_update.specs.Parsing.{conflicts, has_conflict, in_order, update_of};
 ghost use Rattle.dv_update.specs.PathOrder.{path_order};
 ghost use Rattle.dv_path.specs.Apart.{remove_each};
@@ -87,7 +87,7 @@ pub fn sameness_is_equality()
 {}
 
 /// Updates of a document with an array.
-#[tactic(auto, unfolding(crate::specs::Parsing::operator_named, dv_path::specs::Path::path_of, dv_path::specs::Path::index_of, dv_path::specs::Placing::put, dv_path::specs::Removing::remove, dv_path::specs::Slots::slot, dv_bson::specs::Spelling::payload, dv_bson::specs::Spelling::framed, dv_bson::specs::Spelling::counted, dv_bson::specs::Spelling::element_spelling))]
+#[tactic(auto, unfolding(crate::specs::Parsing::operator_named, dv_candidates::specs::Path::path_of, dv_candidates::specs::Path::index_of, dv_path::specs::Placing::put, dv_path::specs::Removing::remove, dv_path::specs::Slots::slot, dv_value::specs::Spelling::payload, dv_value::specs::Spelling::framed, dv_value::specs::Spelling::counted, dv_value::specs::Spelling::element_spelling))]
 pub fn array_examples()
     ensures pull { outcome (one_edit (codes "$pull") (codes "a") (int 2)) start ≡ Ok (with_a (int 1 ∷ int 3 ∷ [])) }
     ensures push_each { outcome (one_edit (codes "$push") (codes "a") (doc ((codes "$each", list (int 4 ∷ int 5 ∷ [])) ∷ []))) start ≡ Ok (with_a (int 1 ∷ int 2 ∷ long 2 ∷ int 3 ∷ int 4 ∷ int 5 ∷ [])) }
@@ -106,13 +106,13 @@ pub fn array_examples()
 {}
 
 /// An element of an array is taken out where it passes a condition.
-#[tactic(auto, unfolding(crate::specs::Parsing::operator_named, dv_match::specs::Parsing::test_in, dv_match::specs::Parsing::operators_in, dv_match::specs::Parsing::operator_named, dv_match::specs::Match::passes, dv_match::specs::Match::meets_all, dv_match::specs::Match::meets, dv_path::specs::Path::path_of, dv_path::specs::Path::index_of, dv_path::specs::Placing::put, dv_path::specs::Slots::slot, dv_bson::specs::Spelling::payload, dv_bson::specs::Spelling::framed, dv_bson::specs::Spelling::counted, dv_bson::specs::Spelling::element_spelling))]
+#[tactic(auto, unfolding(crate::specs::Parsing::operator_named, dv_match::specs::Parsing::test_in, dv_match::specs::Parsing::operators_in, dv_match::specs::Parsing::operator_named, dv_match::specs::Match::passes, dv_match::specs::Match::meets_all, dv_match::specs::Match::meets, dv_candidates::specs::Path::path_of, dv_candidates::specs::Path::index_of, dv_path::specs::Placing::put, dv_path::specs::Slots::slot, dv_value::specs::Spelling::payload, dv_value::specs::Spelling::framed, dv_value::specs::Spelling::counted, dv_value::specs::Spelling::element_spelling))]
 pub fn condition_example()
     ensures { outcome (one_edit (codes "$pull") (codes "a") (doc ((codes "$gte", int 2) ∷ []))) start ≡ Ok (with_a (int 1 ∷ [])) }
 {}
 
 /// Sums at the ends of the widths, and what is no number.
-#[tactic(auto, unfolding(crate::specs::Parsing::operator_named, dv_path::specs::Path::path_of, dv_path::specs::Path::index_of, dv_path::specs::Placing::put, dv_path::specs::Slots::slot, dv_bson::specs::Spelling::payload, dv_bson::specs::Spelling::framed, dv_bson::specs::Spelling::counted, dv_bson::specs::Spelling::element_spelling))]
+#[tactic(auto, unfolding(crate::specs::Parsing::operator_named, dv_candidates::specs::Path::path_of, dv_candidates::specs::Path::index_of, dv_path::specs::Placing::put, dv_path::specs::Slots::slot, dv_value::specs::Spelling::payload, dv_value::specs::Spelling::framed, dv_value::specs::Spelling::counted, dv_value::specs::Spelling::element_spelling))]
 pub fn sum_examples()
     ensures widened { outcome (one_edit (codes "$inc") (codes "v") (int 1)) ((codes "_id", int 1) ∷ (codes "v", int 2147483647) ∷ []) ≡ Ok ((codes "_id", int 1) ∷ (codes "v", long 2147483648) ∷ []) }
     ensures narrow { outcome (one_edit (codes "$inc") (codes "v") (int 1)) ((codes "_id", int 1) ∷ (codes "v", int 2147483646) ∷ []) ≡ Ok ((codes "_id", int 1) ∷ (codes "v", int 2147483647) ∷ []) }
@@ -121,14 +121,14 @@ pub fn sum_examples()
 {}
 
 /// Paths are taken in their order, and nulls pad an array.
-#[tactic(auto, unfolding(crate::specs::Parsing::operator_named, dv_path::specs::Path::path_of, dv_path::specs::Path::index_of, dv_path::specs::Placing::put, dv_path::specs::Slots::slot, dv_bson::specs::Spelling::payload, dv_bson::specs::Spelling::framed, dv_bson::specs::Spelling::counted, dv_bson::specs::Spelling::element_spelling))]
+#[tactic(auto, unfolding(crate::specs::Parsing::operator_named, dv_candidates::specs::Path::path_of, dv_candidates::specs::Path::index_of, dv_path::specs::Placing::put, dv_path::specs::Slots::slot, dv_value::specs::Spelling::payload, dv_value::specs::Spelling::framed, dv_value::specs::Spelling::counted, dv_value::specs::Spelling::element_spelling))]
 pub fn order_examples()
     ensures in_order { outcome ((codes "$set", doc ((codes "x.10", int 1) ∷ (codes "x.2", int 2) ∷ (codes "b", int 3) ∷ [])) ∷ []) ((codes "_id", int 1) ∷ []) ≡ Ok ((codes "_id", int 1) ∷ (codes "b", int 3) ∷ (codes "x", doc ((codes "2", int 2) ∷ (codes "10", int 1) ∷ [])) ∷ []) }
     ensures padded { outcome (one_edit (codes "$set") (codes "x.3") (int 1)) ((codes "_id", int 1) ∷ (codes "x", list (int 0 ∷ [])) ∷ []) ≡ Ok ((codes "_id", int 1) ∷ (codes "x", list (int 0 ∷ null ∷ null ∷ int 1 ∷ [])) ∷ []) }
 {}
 
 /// What is no update.
-#[tactic(auto, unfolding(crate::specs::Parsing::operator_named, dv_path::specs::Path::path_of, dv_path::specs::Path::index_of, dv_match::specs::Parsing::test_in, dv_match::specs::Parsing::operators_in, dv_match::specs::Parsing::operator_named))]
+#[tactic(auto, unfolding(crate::specs::Parsing::operator_named, dv_candidates::specs::Path::path_of, dv_candidates::specs::Path::index_of, dv_match::specs::Parsing::test_in, dv_match::specs::Parsing::operators_in, dv_match::specs::Parsing::operator_named))]
 pub fn fault_examples()
     ensures no_operator { outcome ((codes "$add", doc []) ∷ []) start ≡ Err UnknownOperator }
     ensures a_field_among_operators { outcome ((codes "$set", doc []) ∷ (codes "b", int 1) ∷ []) start ≡ Err UnknownOperator }

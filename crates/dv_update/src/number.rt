@@ -1,13 +1,13 @@
 //! The operands of `$inc`.
 
 ghost use Rattle.std.specs.Prelude.{◌≡◌};
-ghost use Rattle.dv_bson.specs.View.{tree};
-ghost use Rattle.dv_bson.specs.Widths as widths;
+ghost use Rattle.dv_value.specs.View.{tree};
+ghost use Rattle.dv_value.specs.Widths as widths;
 ghost use Rattle.dv_update.specs.Apply as defined;
 ghost use Rattle.dv_update.specs.Parsing.{Gives};
 
 use crate::fault::UpdateFault;
-use dv_bson::Value;
+use dv_value::Value;
 
 /// An integer of one of the two widths.
 #[derive(Clone, Copy, Debug, PartialEq, Eq)]

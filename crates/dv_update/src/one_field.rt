@@ -3,11 +3,11 @@
 ghost use Rattle.std.specs.Prelude.{◌≡◌, ◌∷◌, [], false, codes, IfOk, IfSome, Ok, Some};
 ghost use Rattle.std.specs.Option.{option_map};
 ghost use Rattle.std.specs.Str.{bytes_eq};
-ghost use Rattle.dv_bson.specs.Names.{value_under};
-ghost use Rattle.dv_bson.specs.View.{tree};
+ghost use Rattle.dv_value.specs.Names.{value_under};
+ghost use Rattle.dv_value.specs.View.{tree};
 ghost use Rattle.dv_order.specs.Same.{both_same};
 ghost use Rattle.dv_path.specs.Slots.{slot_of};
-ghost use Rattle.dv_path.specs.View.{slot_seen};
+ghost use Rattle.dv_path.specs.SlotView.{slot_seen};
 ghost use Rattle.dv_update.specs.Outcome as defined;
 ghost use Rattle.dv_update.specs.Update.{append, assign};
 ghost use Rattle.dv_update.specs.View.{operation};
@@ -15,10 +15,10 @@ ghost use Rattle.dv_update.specs.View.{operation};
 use crate::edit::increased;
 use crate::form::Operation;
 use crate::outcome::Outcome;
-use crate::room::{has_room, longest};
-use dv_bson::{Document, FieldChange, List, NoMemory, Value, laws};
+use crate::room::has_room;
 use dv_order::is_same;
 use dv_path::Slot;
+use dv_value::{Document, FieldChange, List, NoMemory, Value, laws};
 
 /// What stands around the name of a field: its type byte and a zero byte.
 const AROUND_NAME: usize = 2;
@@ -29,9 +29,15 @@ const MANY: usize = 1_000_000;
 /// What stands around an element then: its type byte, the digits and a zero byte.
 const AROUND_ELEMENT: usize = 8;
 
+/// The levels around a field's value: the document.
+const ABOVE_FIELD: u32 = 1;
+
+/// The levels around an element: the array and the document.
+const ABOVE_ELEMENT: u32 = 2;
+
 impl Operation {
-    /// What the operator makes of a document under a name other than `_id`, where it changes that field alone by a value that
-    /// is no document or array, and the document surely has room for it. Fails where memory is wanting.
+    /// What the operator makes of a document under a name other than `_id`, where it changes that field alone and the document
+    /// surely has room for it. Fails where memory is wanting.
     pub(crate) fn outcome_under(
         &self,
         document: &Document,
@@ -56,7 +62,7 @@ impl Operation {
         ensures { IfOk result (λ found. IfSome found (λ value. defined.value_by (operation self.now) (slot_of (option_map (λ there. tree there.now) there.entry)) ≡ Ok (tree value))) }
     {
         match self {
-            Operation::Set(value) if longest(value).is_some() => Ok(Some(value.try_clone()?)),
+            Operation::Set(value) => Ok(Some(value.try_clone()?)),
             Operation::Inc(number) => match increased(*number, slot_holding(there)) {
                 Ok(value) => Ok(Some(value)),
                 Err(_) => Ok(None),
@@ -83,7 +89,7 @@ fn set_under(document: &Document, name: &str, value: Value) -> Option<Outcome>
     ensures same { IfSome result (λ outcome. defined.stays outcome ≡ defined.stays_so name.now document.now outcome) }
 {
     laws::what_a_field_adds();
-    if !has_room(document, AROUND_NAME + name.len(), &value) {
+    if !has_room(document, AROUND_NAME + name.len(), ABOVE_FIELD, &value) {
         return None;
     }
     if stands_under(document, name, &value) {
@@ -116,7 +122,7 @@ fn pushed_under(document: &Document, name: &str, values: &List) -> Result<Option
     let Some(Value::Array(list)) = document.get(name) else {
         return Ok(None);
     };
-    if list.as_slice().len() >= MANY || !has_room(document, AROUND_ELEMENT, value) {
+    if list.as_slice().len() >= MANY || !has_room(document, AROUND_ELEMENT, ABOVE_ELEMENT, value) {
         return Ok(None);
     }
     let pushed = value.try_clone()?;

@@ -1,8 +1,8 @@
 //! The operands of operators.
 
 ghost use Rattle.std.specs.Prelude.{◌≡◌};
-ghost use Rattle.dv_bson.specs.Tree.{document as doc, fields_of};
-ghost use Rattle.dv_bson.specs.View.{tree};
+ghost use Rattle.dv_value.specs.Tree.{document as doc, fields_of};
+ghost use Rattle.dv_value.specs.View.{tree};
 ghost use Rattle.dv_update.specs.Parsing as defined;
 ghost use Rattle.dv_update.specs.Parsing.{Gives};
 ghost use Rattle.dv_update.specs.View.{operation};
@@ -12,8 +12,8 @@ use crate::form::{Operation, Pulled};
 use crate::number::Number;
 use crate::operator::Operator;
 use crate::parsing::lists_operators;
-use dv_bson::{Document, List, Value};
 use dv_match::Test;
+use dv_value::{Document, List, Value};
 use std::alloc::Global;
 
 /// What an operator does with this operand.

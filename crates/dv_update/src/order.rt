@@ -17,7 +17,7 @@ ghost use Rattle.dv_update.specs.declared.fault.UpdateFault.TheVariants.{Conflic
 
 use crate::fault::UpdateFault;
 use crate::form::{Edit, Edits, Operation};
-use dv_path::{Component, Path};
+use dv_candidates::{Component, Path};
 use std::alloc::Global;
 use std::cmp::Ordering;
 use std::collections::BTreeMap;

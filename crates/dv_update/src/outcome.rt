@@ -3,8 +3,8 @@
 ghost use Rattle.std.specs.Prelude.{◌≡◌, ℕ, List, false, codes, IfOk, IfSome, Ok};
 ghost use Rattle.std.specs.Option.{option_map};
 ghost use Rattle.std.specs.Str.{bytes_eq};
-ghost use Rattle.dv_bson.specs.Names.{has_zero};
-ghost use Rattle.dv_bson.specs.Tree.{Field};
+ghost use Rattle.dv_value.specs.Names.{has_zero};
+ghost use Rattle.dv_value.specs.Tree.{Field};
 ghost use Rattle.dv_update.specs.Apply.{applied};
 ghost use Rattle.dv_update.specs.Outcome as defined;
 ghost use Rattle.dv_update.specs.Parsing.{Gives};
@@ -14,8 +14,8 @@ ghost use Rattle.dv_update.specs.View.{operation};
 use crate::apply::ID;
 use crate::fault::UpdateFault;
 use crate::form::{Operation, Update};
-use dv_bson::{Document, FieldChange, NoMemory};
 use dv_order::same_documents;
+use dv_value::{Document, FieldChange, NoMemory};
 use std::alloc::Global;
 
 /// What an update makes of a document.
@@ -67,8 +67,8 @@ impl Update {
     }
 
     /// What the update makes of the document, which stays as it is: what `apply` makes of it, and refused as there. Where one
-    /// value that is no document or array comes under the sole name, or behind the array's elements there, and surely has room,
-    /// nothing else is copied: `Field` tells that alone. `Same` is told exactly where the document stays as it is spelled.
+    /// value is put under the sole name, or at the end of the array there, and surely has room, nothing else is copied: that is
+    /// answered as a `Field`. The answer is `Same` exactly where the document stays as it is spelled.
     pub fn outcome(&self, alloc: Global, document: &Document) -> Result<Outcome, UpdateFault>
         ensures applied { Gives (λ outcome. defined.outcome_seen (defined.sole_name (update self.now)) document.now outcome) result (applied (update self.now) document.now) }
         ensures same { IfOk result (λ outcome. defined.stays outcome ≡ defined.stays_so (defined.sole_name (update self.now)) document.now outcome) }

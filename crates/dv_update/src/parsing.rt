@@ -2,12 +2,12 @@
 
 ghost use Rattle.std.specs.Prelude.{◌≡◌, Err, true, false, map};
 ghost use Rattle.std.specs.List.{list_any};
-ghost use Rattle.dv_bson.specs.Names.{begins_with_dollar};
-ghost use Rattle.dv_bson.specs.Tree.{fields_of};
-ghost use Rattle.dv_bson.specs.View.{tree};
+ghost use Rattle.dv_value.specs.Names.{begins_with_dollar};
+ghost use Rattle.dv_value.specs.Tree.{fields_of};
+ghost use Rattle.dv_value.specs.View.{tree};
 ghost use Rattle.dv_match.specs.Parsing as filters;
 ghost use Rattle.dv_path.specs.Names as names;
-ghost use Rattle.dv_path.specs.Path.{path_of};
+ghost use Rattle.dv_candidates.specs.Path.{path_of};
 ghost use Rattle.dv_update.specs.Collected.{behind};
 ghost use Rattle.dv_update.specs.Parsing as defined;
 ghost use Rattle.dv_update.specs.Parsing.{Gives};
@@ -20,8 +20,9 @@ use crate::form::{Edit, Update};
 use crate::operand::operation_of;
 use crate::operator::{Operator, operator_named};
 use crate::order::in_order;
-use dv_bson::{Document, Value, begins_with_dollar};
-use dv_path::{Path, has_bad_name};
+use dv_candidates::Path;
+use dv_path::has_bad_name;
+use dv_value::{Document, Value, begins_with_dollar};
 use std::alloc::Global;
 
 impl Update {

@@ -2,14 +2,14 @@
 
 ghost use Rattle.std.specs.Prelude.{◌≡◌, ◌+◌, ◌-◌, ◌≤◌, ◌*◌, false, [], ◌∷◌, length, IfOk, IfSome, IsTrue};
 ghost use Rattle.std.proofs.Math.ListN.{replicate};
-ghost use Rattle.dv_bson.specs.Names.{has_name, has_zero};
-ghost use Rattle.dv_bson.specs.Spelling.{levels, payload, spelling};
-ghost use Rattle.dv_bson.specs.Tree.{binary};
-ghost use Rattle.dv_bson.specs.View.{tree};
+ghost use Rattle.dv_value.specs.Names.{has_name, has_zero};
+ghost use Rattle.dv_value.specs.Spelling.{levels, payload, spelling};
+ghost use Rattle.dv_value.specs.Tree.{binary};
+ghost use Rattle.dv_value.specs.View.{tree};
 ghost use Rattle.dv_update.specs.StandIn as defined;
 
-use dv_bson::{Bytes, Document, NoMemory, Value, fits, laws, size};
-use dv_path::Component;
+use dv_candidates::Component;
+use dv_value::{Bytes, Document, NoMemory, Value, laws};
 use std::alloc::Global;
 
 /// What stands around the bytes of a binary, and around the fields of a document.
@@ -93,26 +93,6 @@ fn with_name(size: usize, name: &str) -> Option<usize>
     ensures { IfSome result (λ more. more ≡ size + 7 + length name.now) }
 {
     size.checked_add(AROUND)?.checked_add(name.len())
-}
-
-/// How many bytes a value has, behind its name, where a document can be so long. Fails where memory is wanting.
-pub(crate) fn value_size(alloc: Global, value: &Value) -> Result<Option<usize>, NoMemory>
-    ensures { IfOk result (λ found. IfSome found (λ size. size ≡ length (payload (tree value.now)))) }
-{
-    laws::what_a_field_adds();
-    let alone = alone(alloc, value)?;
-    match size(&alone) {
-        Some(size) => Ok(Some(size as usize - AROUND)),
-        None => Ok(None),
-    }
-}
-
-/// Whether a value surely has at most 100 levels. Fails where memory is wanting.
-pub(crate) fn is_shallow(alloc: Global, value: &Value) -> Result<bool, NoMemory>
-    ensures { IfOk result (λ shallow. IsTrue shallow → levels (tree value.now) ≤ 100) }
-{
-    let alone = alone(alloc, value)?;
-    Ok(fits(&alone))
 }
 
 /// A document with the value under an empty name. Fails where memory is wanting.

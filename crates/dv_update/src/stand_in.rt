@@ -6,9 +6,9 @@
 
 ghost use Rattle.std.specs.Prelude.{◌≡◌, is_some, ◌≢◌, [], ◌+◌, ◌-◌, Some, ◌<◌, ◌≤◌, List, map, length, true, false, IfOk, IfSome, IsTrue};
 ghost use Rattle.std.specs.Option.{option_map};
-ghost use Rattle.dv_bson.specs.Spelling.{payload};
-ghost use Rattle.dv_bson.specs.Tree.{Field};
-ghost use Rattle.dv_bson.specs.View.{tree};
+ghost use Rattle.dv_value.specs.Spelling.{payload};
+ghost use Rattle.dv_value.specs.Tree.{Field};
+ghost use Rattle.dv_value.specs.View.{tree};
 ghost use Rattle.dv_path.specs.Slots.{slot, free, blocked};
 ghost use Rattle.dv_update.specs.Apply as defined;
 ghost use Rattle.dv_update.specs.Parsing.{Gives, has_conflict};
@@ -24,9 +24,10 @@ use crate::fault::UpdateFault;
 use crate::form::{Edit, Edits, Operation};
 use crate::laws;
 use crate::order::{are_apart, begins};
-use crate::pieces::{FRAME, is_shallow, names_size, piece, value_size};
-use dv_bson::{Document, NoMemory, Value, fits};
-use dv_path::{Component, Path, Slot, put_at, remove_each, slot_at};
+use crate::pieces::{FRAME, names_size, piece};
+use dv_candidates::{Component, Path};
+use dv_path::{Slot, put_at, remove_each, slot_at};
+use dv_value::{Document, MAX_LEVELS, NoMemory, Value, fits, value_size, value_within};
 use std::alloc::Global;
 
 /// A document in which what is too deep is in one piece.
@@ -133,7 +134,7 @@ fn with_near<'a>(
     requires near { length edit.now.path ≤ 1000 }
     ensures { (made : List Field) → Alike made document → Becomes result (defined.edit_at edit.now.path (operation edit.now.operation) made) }
 {
-    if !pulls_shallow(alloc, &document, edit)? {
+    if !pulls_shallow(&document, edit) {
         return Ok(None);
     }
     let document = edit.make(alloc, document)?;
@@ -219,7 +220,7 @@ fn with_first<'a>(
 {
     dv_path::laws::what_was_put_is_there();
     let rest = further(&edit.path);
-    let Some(size) = size_with(alloc, 0, rest, &value)? else {
+    let Some(size) = size_with(0, rest, &value) else {
         return Ok(None);
     };
     let piece = piece(alloc, size)?;
@@ -257,7 +258,7 @@ fn with_next<'a>(
             last: Some(last),
         }));
     };
-    let Some(size) = size_behind(alloc, last.size, parting, &value)? else {
+    let Some(size) = size_behind(last.size, parting, &value) else {
         return Ok(None);
     };
     let piece = piece(alloc, size)?;
@@ -284,54 +285,34 @@ fn put(
     Ok(put_at(alloc, document, path, value)?)
 }
 
-/// So many bytes, and those of documents one in another under these names with the value innermost. Fails where memory is
-/// wanting.
-fn size_with(
-    alloc: Global,
-    before: usize,
-    names: &[Component],
-    value: &Value,
-) -> Result<Option<usize>, NoMemory>
-    ensures { IfOk result (λ found. IfSome found (λ size. size ≡ before + names_length names.now + length (payload (tree value.now)))) }
+/// So many bytes, and those of documents one in another under these names with the value innermost.
+fn size_with(before: usize, names: &[Component], value: &Value) -> Option<usize>
+    ensures { IfSome result (λ size. size ≡ before + names_length names.now + length (payload (tree value.now))) }
 {
-    let Some(inside) = value_size(alloc, value)? else {
-        return Ok(None);
-    };
-    let Some(around) = names_size(names) else {
-        return Ok(None);
-    };
-    match before.checked_add(around) {
-        Some(size) => Ok(size.checked_add(inside)),
-        None => Ok(None),
-    }
+    let inside = value_size(value)?;
+    let around = names_size(names)?;
+    before.checked_add(around)?.checked_add(inside)
 }
 
 /// The same, where the first of the names is a field of a document that is there.
-fn size_behind(
-    alloc: Global,
-    before: usize,
-    names: &[Component],
-    value: &Value,
-) -> Result<Option<usize>, NoMemory>
-    ensures { IfOk result (λ found. IfSome found (λ size. size + 5 ≡ before + names_length names.now + length (payload (tree value.now)))) }
+fn size_behind(before: usize, names: &[Component], value: &Value) -> Option<usize>
+    ensures { IfSome result (λ size. size + 5 ≡ before + names_length names.now + length (payload (tree value.now))) }
 {
-    match size_with(alloc, before, names, value)? {
-        Some(size) => Ok(size.checked_sub(FRAME)),
-        None => Ok(None),
-    }
+    size_with(before, names, value)?.checked_sub(FRAME)
 }
 
-/// Whether no element is taken out of an array that may hold what is in one piece. Fails where memory is wanting.
-fn pulls_shallow(alloc: Global, document: &Document, edit: &Edit) -> Result<bool, NoMemory>
-    ensures { IfOk result (λ shallow. IsTrue shallow → PullsShallow (1000 - length edit.now.path) (operation edit.now.operation) (slot document.now edit.now.path)) }
+/// Whether no element is taken out of an array that may hold what is in one piece.
+fn pulls_shallow(document: &Document, edit: &Edit) -> bool
+    ensures { IsTrue result → PullsShallow (1000 - length edit.now.path) (operation edit.now.operation) (slot document.now edit.now.path) }
 {
     if !matches!(edit.operation, Operation::Pull(_)) {
-        return Ok(true);
+        return true;
     }
     match slot_at(document, &edit.path) {
-        Slot::Taken(there) if edit.path.components().len() < 900 => is_shallow(alloc, there),
-        Slot::Taken(_) => Ok(false),
-        _ => Ok(true),
+        Slot::Taken(there) => {
+            edit.path.components().len() < 900 && value_within(there, MAX_LEVELS)
+        }
+        _ => true,
     }
 }
 

@@ -1,4 +1,4 @@
--- Where nothing is stale or made anew, what stands at positions is what stands over the lists.
+-- Where nothing is stale, what stands at positions is what stands over the lists.
 use Rattle.std.proofs.Common.{◌≡◌, ◌≤◌, ℕ, Bool, true, false, List, [], ◌∷◌, map, fold, ap, subst, ◌∙◌, arith}
 use Rattle.std.specs.Prelude.{⊤}
 use Rattle.std.specs.Bool.{if◌then◌else◌}
@@ -10,7 +10,7 @@ use Rattle.dv_pipe.specs.Stages.{Lists, evaluated}
 use Rattle.dv_pipe.specs.declared.stage.Stage.{Stage}
 use Rattle.dv_views.specs.Forms.{is_name_among, names_read, outs_of, places_over, rows_over, with_places, with_rows}
 use Rattle.dv_views.specs.Placed.{ListPlaces, lookups_of, list_places}
-use Rattle.dv_views.specs.Views.{AreKept, AreOverLive, AreRight, AreRightOver, IsRight, ViewMark, live, anew, stale, View, Views, distance, distances_of, view_form, no_distance, reads, taken_from, with_distance}
+use Rattle.dv_views.specs.Views.{AreKept, AreOverLive, AreRight, AreRightOver, IsRight, ViewMark, live, stale, View, Views, distance, distances_of, view_form, no_distance, reads, taken_from, with_distance}
 use Rattle.dv_views.proofs.Made.{forgotten}
 use Rattle.dv_views.proofs.Right.{itself, or-left, read_among}
 use Rattle.dv_views.proofs.Scratch.{even_outs, one_length}
@@ -23,7 +23,6 @@ FromScratch = (stages : List Stage) (source : List ℕ) (places : ListPlaces) (l
 -- what a live view has taken in of its source stands in order
 abbrev pub TakesInOrder : ViewMark → Type 0
 TakesInOrder (live kept) = IsPositioned kept.taken.left
-TakesInOrder (anew rows) = ⊤
 TakesInOrder stale = ⊤
 
 -- positions of one length, with the rows that stand in a list
@@ -41,7 +40,6 @@ module _ (scratch : FromScratch) where
           even_outs stages (map places (lookups_of stages source)) (places source) are own.0,
           scratch stages source places lists are own.0 (λ name among. (agreed name (let near : distances name ≤ 0 = read name among in omega arith)).1),
         )
-    made-agrees (anew rows) stages source right ordered read is = absurd (omega arith)
     made-agrees stale stages source right ordered read is = absurd (omega arith)
 
     with-agrees : (v : View) → IsRight places lists v → TakesInOrder v.mark → ((name : List ℕ) → reads v name ≡ true → distances name ≤ distance v.mark) → (name : List ℕ) → with_distance v distances name ≡ 0 → Agrees (with_places (view_form v) places name) (with_rows (view_form v) lists name)

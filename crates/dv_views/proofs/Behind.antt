@@ -18,7 +18,7 @@ use Rattle.dv_views.specs.Forms.{ViewForm, is_name_among, names_read, with_place
 use Rattle.dv_views.specs.Placed.{ListPlaces, lookups_of, list_places, positioned}
 use Rattle.dv_views.specs.Seen.{IsWellKept}
 use Rattle.dv_views.specs.Turned.{AreTakenBy, HaveTaken, IsTakenBy, IsTurned, Telling, kept_after, kept_behind}
-use Rattle.dv_views.specs.Views.{AreKept, AreOverLive, AreRight, AreRightOver, IsRight, Kept, ViewMark, live, anew, stale, View, Views, distance, view_form, is_stale, no_distance, taken_from, mark_ticks, with_distance}
+use Rattle.dv_views.specs.Views.{AreKept, AreOverLive, AreRight, AreRightOver, IsRight, Kept, ViewMark, live, stale, View, Views, distance, view_form, is_stale, no_distance, taken_from, mark_ticks, with_distance}
 use Rattle.dv_views.proofs.Agree.{Agrees, FromScratch}
 use Rattle.dv_views.proofs.Made.{forgotten}
 use Rattle.dv_views.proofs.Right.{UnreadDoesNotMatter, itself, neither, or-left, or-right}
@@ -154,7 +154,7 @@ module _ (told now : Told) (distances : List ℕ → ℕ) (places : ListPlaces) 
         ∙ ap (λ (k : ViewMark). raised (mark_ticks k) (work_by stages (arrivals stages source now) (taken_from stages source places))) (sym t.1)
 
     turned-told : IsTurned stages (arrivals stages source told) m n o → distance n ≡ 0 → o ≡ Some (handed_by stages (arrivals stages source now) (taken_from stages source places))
-    turned-told (inl is) zero = absurd (let e : 2 ≡ 0 = sym (ap distance is) ∙ zero in omega arith)
+    turned-told (inl is) zero = absurd (let e : 1 ≡ 0 = sym (ap distance is) ∙ zero in omega arith)
     turned-told (inr t) zero =
         let was = subst (λ (k : ViewMark). AreKept k (taken_from stages source places) (evaluated stages source lists)) t.1 right in
         let same = same-arrivals stages source (over (ap is_stale t.2.kept)) in
@@ -241,7 +241,6 @@ counted_after namespace c lists before after right taken =
 
 not-stale : (m n : ViewMark) → (is_stale m ≡ true → is_stale n ≡ true) → is_stale n ≡ false → is_stale m ≡ false
 not-stale (live kept) n stays has = refl
-not-stale (anew rows) n stays has = refl
 not-stale stale n stays has = absurd (let e : false ≡ true = sym has ∙ stays refl in cc)
 
 pub counted_more : (s t : Share) (v w u : View) → HasCountedShare s v w → HasCountedShare t w u → HasCountedShare (shares_together s t) v u

@@ -9,7 +9,7 @@ use Rattle.std.specs.List.Sorted.{IsStrictlySortedBy}
 use Rattle.std.specs.Map.{keys_of}
 use Rattle.std.specs.Prelude.{pos}
 use Rattle.std.specs.declared.cmp.Ordering.TheVariants.{Less}
-use Rattle.dv_bson.specs.Tree.{int64}
+use Rattle.dv_value.specs.Tree.{int64}
 use Rattle.dv_order.specs.Key.{key_order}
 use Rattle.dv_order.specs.OwnKeys.{IsOwn}
 use Rattle.dv_coll.specs.Collection.{IsAscending, id_key}
@@ -71,6 +71,14 @@ pub whatever : {T E : Type 0} {P : Type 0} (r : Result T E) → P → IfOk r (λ
 whatever (Ok x) holds = holds
 whatever (Err e) holds = tt
 
+pub ok_then : {T E : Type 0} {P Q : T → Type 0} (r : Result T E) → IfOk r P → ((x : T) → P x → Q x) → IfOk r Q
+ok_then (Ok x) holds more = more x holds
+ok_then (Err e) holds more = tt
+
+pub ok_both : {T E : Type 0} {P Q R : T → Type 0} (r : Result T E) → IfOk r P → IfOk r Q → ((x : T) → P x → Q x → R x) → IfOk r R
+ok_both (Ok x) p q more = more x p q
+ok_both (Err e) p q more = tt
+
 module _ (older : Views) (lists : Lists) where
   pub view_placed : (name : List ℕ) (v : View) → view_under name older ≡ Some v → IsLive v.mark → IsPositioned (outs_of_mark v.stages v.mark) → IsPlacedUnder older lists name
   view_placed name v is lives are = subst (λ (o : Option View). IsLiveView o × IsPositioned (outs_of_view o (lists name))) (sym is) (lives, are)
@@ -111,18 +119,3 @@ module _ (older : Views) (lists : Lists) where
           ticks,
           (own.0, all-live (lookups_of stages source) placed),
         )
-
--- ---- rows that are made anew
-
-module _ (f : Lists) where
-  pub under_names : (names : List (List ℕ)) (name : List ℕ) → is_name_among name names ≡ true → rows_under name (map (λ n. (n, f n)) names) ≡ f name
-  under_names [] name among = absurd cc
-  under_names (n ∷ names) name among = by (bytes_eq name n) refl among (under_names names name)
-    where
-      by : (b : Bool) → bytes_eq name n ≡ b → b || is_name_among name names ≡ true → (is_name_among name names ≡ true → rows_under name (map (λ m. (m, f m)) names) ≡ f name) → (if b then f n else rows_under name (map (λ m. (m, f m)) names)) ≡ f name
-      by true is among rest = ap f (sym ((bytes_eq-Decides name n).0 is))
-      by false is among rest = rest among
-
-pub anew_is : UnreadDoesNotMatter → (stages : List Stage) (source : List ℕ) (f : Lists) (sources : List Source) → sources ≡ map (λ n. (n, f n)) (names_read stages source) → evaluated stages source (lists_of sources) ≡ evaluated stages source f
-anew_is unread stages source f sources is =
-    unread stages source (lists_of sources) f (λ name read. ap (rows_under name) is ∙ under_names f (names_read stages source) name (sym (read_among stages source name) ∙ read))

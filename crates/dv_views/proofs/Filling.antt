@@ -6,17 +6,19 @@ use Rattle.std.specs.List.Sorted.{IsStrictlySortedBy}
 use Rattle.std.specs.Map.{keys_of}
 use Rattle.std.specs.Ordering.{match_ordering, ordering_reverse}
 use Rattle.std.specs.declared.cmp.Ordering.TheVariants.{Less, Greater}
-use Rattle.dv_bson.specs.Tree.{Field}
+use Rattle.dv_value.specs.Tree.{Field}
 use Rattle.dv_change.specs.declared.change.Change.{Change}
 use Rattle.dv_change.specs.declared.change.Change.TheVariants.{Put}
 use Rattle.dv_change.specs.declared.input.Input.TheVariants.{Left, Named}
-use Rattle.dv_change.specs.Changes.{IsPositioned, Positioned, with_change}
+use Rattle.dv_change.specs.Changes.{IsPositioned, Positioned, with_change, with_changes}
 use Rattle.dv_change.specs.Inputs.{input_changed_at}
 use Rattle.dv_change.specs.PositionLaws.{pos_order_total}
 use Rattle.dv_change.specs.Positions.{PosTree, pos_order}
-use Rattle.dv_views.specs.Filled.{lists_in_turn, rows_filled}
+use Rattle.dv_views.specs.Filled.{lists_in_turn, puts_of, rows_filled}
+use Rattle.dv_views.specs.Flow.{taken_after}
 use Rattle.dv_views.specs.Placed.{ListPlaces}
 use Rattle.dv_views.specs.Turning.{empty_lists}
+use Rattle.dv_views.specs.Views.{Taken}
 
 -- ---- one list among others
 
@@ -71,7 +73,25 @@ left-filled (e ∷ es) rows named = left-filled es (put_in rows e) named
 pub source_filled : (es : Positioned) (named : List Positioned) → IsPositioned es → rows_filled Left (record { left = []; named = named }) es ≡ record { left = es; named = named }
 source_filled es named are = left-filled es [] named ∙ ap (λ (rows : Positioned). record { left = rows; named = named }) (filled [] es are.ascending)
 
+-- the rows come to what was there
+pub puts_filled : (es : Positioned) (t : Taken) → rows_filled Left t es ≡ record { left = with_changes t.left (puts_of es); named = t.named }
+puts_filled [] t = refl
+puts_filled (e ∷ es) t = puts_filled es (taken_after Left (Put e.0 e.1) t)
+
+-- put in where nothing is, they are all
+pub puts_lead : (es : Positioned) → IsPositioned es → with_changes [] (puts_of es) ≡ es
+puts_lead es are = ap (λ (t : Taken). t.left) (sym (puts_filled es (record { left = []; named = [] })) ∙ source_filled es [] are)
+
 -- ---- the other lists
+
+list-left : (i : ℕ) (es : Positioned) (t : Taken) → (rows_filled (Named i) t es).left ≡ t.left
+list-left i [] t = refl
+list-left i (e ∷ es) t = list-left i es (taken_after (Named i) (Put e.0 e.1) t)
+
+-- the source stays as it is
+pub lists_left : (i : ℕ) (names : List (List ℕ)) (places : ListPlaces) (t : Taken) → (lists_in_turn i names places t).left ≡ t.left
+lists_left i [] places t = refl
+lists_left i (name ∷ names) places t = lists_left (suc i) names places (rows_filled (Named i) t (places name)) ∙ list-left i (places name) t
 
 list-filled : (i : ℕ) (es left rows : Positioned) (front back : List Positioned) → i ≡ length front
     → rows_filled (Named i) (record { left = left; named = front ++ rows ∷ back }) es ≡ record { left = left; named = front ++ fold put_in rows es ∷ back }

@@ -8,12 +8,12 @@ use Rattle.dv_change.specs.Changes.{IsPositioned}
 use Rattle.dv_pipe.specs.Stages.{Lists, evaluated}
 use Rattle.dv_pipe.specs.declared.stage.Stage.{Stage}
 use Rattle.dv_views.specs.Forms.{ViewForm, is_name_among, names_read, places_over, rows_over, with_places, with_rows}
-use Rattle.dv_views.specs.Ground.{IsBuilt, IsLive, IsLiveView, outs_below, outs_of_mark, outs_of_view, rows_below, rows_of_mark, rows_of_view}
-use Rattle.dv_views.specs.Made.{AreAlike, IsNoStale}
+use Rattle.dv_views.specs.Ground.{IsBuilt, IsLive, IsLiveView, outs_below, outs_of_mark, outs_of_view}
+use Rattle.dv_views.specs.Made.{AreAlike}
 use Rattle.dv_views.specs.Placed.{ListPlaces, list_places, positioned}
 use Rattle.dv_views.specs.Seen.{IsWellKept}
 use Rattle.dv_views.specs.Turned.{turned_rows}
-use Rattle.dv_views.specs.Views.{AreKept, AreNamedApart, AreOverLive, AreRight, AreRightOver, IsJustMade, IsRight, ViewMark, Taken, View, Views, anew, distance, distances_of, view_form, is_stale, live, no_distance, reads, stale, taken_from, view_under, with_distance}
+use Rattle.dv_views.specs.Views.{AreKept, AreNamedApart, AreOverLive, AreRight, AreRightOver, IsJustMade, IsRight, ViewMark, Taken, View, Views, distance, distances_of, view_form, is_stale, live, no_distance, reads, stale, taken_from, view_under, with_distance}
 use Rattle.dv_views.proofs.Agree.{FromScratch, TakesInOrder, agree}
 use Rattle.dv_views.proofs.Right.{UnreadDoesNotMatter, itself, or-left, read_among, same_taken}
 use Rattle.dv_views.proofs.Shown.{IsShownAt, distance_at, distance_named, no_view, shown_at}
@@ -34,7 +34,6 @@ in_order (v ∷ vs) kept = (by v.mark kept.0, in_order vs kept.1)
   where
     by : (m : ViewMark) → IsWellKept v.stages m → TakesInOrder m
     by (live k) well = well.1
-    by (anew rows) well = tt
     by stale well = tt
 
 -- ---- what stands under a name that is read
@@ -52,26 +51,14 @@ module _ (scratch : FromScratch) (unread : UnreadDoesNotMatter) (lists others : 
     where
       by : (m : ViewMark) → IsShownAt m v.stages (places name) (rows name) → IsLive m → outs_of_mark v.stages m ≡ places name
       by (live k) shown lives = sym shown.0
-      by (anew r) shown lives = absurd lives
       by stale shown lives = absurd lives
 
-  own-rows : (name : List ℕ) (o : Option View) → view_under name older ≡ o → others name ≡ lists name → IsNoStale o → rows_of_view o (others name) ≡ rows name
-  own-rows name None is alike fresh = alike ∙ sym (no_view name (list_places lists) lists older is).1
-  own-rows name (Some v) is alike fresh = by v.mark (shown_at name (list_places lists) lists older v apart right is) fresh
-    where
-      by : (m : ViewMark) → IsShownAt m v.stages (places name) (rows name) → is_stale m ≡ false → rows_of_mark m ≡ rows name
-      by (live k) shown fresh = shown.1
-      by (anew r) shown fresh = shown
-      by stale shown fresh = absurd cc
-
-  module _ (stages : List Stage) (source : List ℕ) (alike : AreAlike (names_read stages source) others lists) (over : AreOverLive no_distance older) (kept : AllByRecursion (λ v. IsWellKept v.stages v.mark) older)
-      (fresh : AllByRecursion (λ n. IsNoStale (view_under n older)) (names_read stages source)) where
+  module _ (stages : List Stage) (source : List ℕ) (alike : AreAlike (names_read stages source) others lists) (over : AreOverLive no_distance older) (kept : AllByRecursion (λ v. IsWellKept v.stages v.mark) older) where
     near : AllByRecursion (λ n. IsLiveView (view_under n older)) (names_read stages source) → (name : List ℕ) → is_name_among name (names_read stages source) ≡ true → distances_of older name ≡ 0
     near lives name among = distance_at name older apart ∙ by (view_under name older) (each_among (λ n. IsLiveView (view_under n older)) (names_read stages source) name lives among)
       where
         at : (m : ViewMark) → IsLive m → distance m ≡ 0
         at (live k) lives = refl
-        at (anew r) lives = absurd lives
         at stale lives = absurd lives
 
         by : (o : Option View) → IsLiveView o → distance_named o ≡ 0
@@ -89,49 +76,32 @@ module _ (scratch : FromScratch) (unread : UnreadDoesNotMatter) (lists others : 
           built.1 ∙ ap (turned_rows stages) taken
               ∙ scratch stages source places rows (subst (λ (t : Taken). IsPositioned t.left) taken built.2) own.0 (λ name among. (agree scratch lists older over right (in_order older kept) name (near built.4 name among)).1),
         )
-    right_built (anew r) built =
-        built ∙ unread stages source (rows_below older others) rows (λ name read.
-        let among = sym (read_among stages source name) ∙ read in
-        own-rows name (view_under name older) refl (alike name among) (each_among (λ n. IsNoStale (view_under n older)) (names_read stages source) name fresh among))
     right_built stale built = absurd built
 
 -- ---- how far from being live
 
-module _ (older : Views) (apart : AreNamedApart older) (lists : Lists) (stages : List Stage) (source : List ℕ) (fresh : AllByRecursion (λ n. IsNoStale (view_under n older)) (names_read stages source)) where
+module _ (older : Views) (apart : AreNamedApart older) (lists : Lists) (stages : List Stage) (source : List ℕ) where
   pub over_built : (mark : ViewMark) → IsBuilt stages source older lists mark → (name : List ℕ) → is_name_among name (names_read stages source) ≡ true → distances_of older name ≤ distance mark
   over_built mark built name among = subst (λ (n : ℕ). n ≤ distance mark) (sym (distance_at name older apart)) (by mark built (view_under name older) refl)
     where
       at-live : (m : ViewMark) → IsLive m → distance m ≤ 0
       at-live (live k) lives = omega arith
-      at-live (anew r) lives = absurd lives
       at-live stale lives = absurd lives
 
       of-live : (o : Option View) → IsLiveView o → distance_named o ≤ 0
       of-live None lives = omega arith
       of-live (Some v) lives = at-live v.mark lives
 
-      at-fresh : (m : ViewMark) → is_stale m ≡ false → distance m ≤ 1
-      at-fresh (live k) fresh = omega arith
-      at-fresh (anew r) fresh = omega arith
-      at-fresh stale fresh = absurd cc
-
-      of-fresh : (o : Option View) → IsNoStale o → distance_named o ≤ 1
-      of-fresh None fresh = omega arith
-      of-fresh (Some v) fresh = at-fresh v.mark fresh
-
       by : (m : ViewMark) → IsBuilt stages source older lists m → (o : Option View) → view_under name older ≡ o → distance_named o ≤ distance m
       by (live k) built o is = of-live o (subst (λ (p : Option View). IsLiveView p) is (each_among (λ n. IsLiveView (view_under n older)) (names_read stages source) name built.4 among))
-      by (anew r) built o is = of-fresh o (subst (λ (p : Option View). IsNoStale p) is (each_among (λ n. IsNoStale (view_under n older)) (names_read stages source) name fresh among))
       by stale built o is = absurd built
 
 pub fresh_built : (stages : List Stage) (source : List ℕ) (older : Views) (lists : Lists) (mark : ViewMark) → IsBuilt stages source older lists mark → IsJustMade mark
 fresh_built stages source older lists (live k) built = record { live = refl; ticks = built.3 }
-fresh_built stages source older lists (anew r) built = record { live = refl; ticks = refl }
 fresh_built stages source older lists stale built = absurd built
 
 pub well_built : (stages : List Stage) (source : List ℕ) (older : Views) (lists : Lists) (mark : ViewMark) → IsBuilt stages source older lists mark → IsWellKept stages mark
 well_built stages source older lists (live k) built = (built.1, built.2)
-well_built stages source older lists (anew r) built = tt
 well_built stages source older lists stale built = absurd built
 
 -- ---- a view behind the others
@@ -160,14 +130,12 @@ over_lower near far (v ∷ vs) below over = (
     by true name below = omega arith
     by false name below = below
 
-at-most : (m : ViewMark) → distance m ≤ 2
+at-most : (m : ViewMark) → distance m ≤ 1
 at-most (live k) = omega arith
-at-most (anew r) = omega arith
 at-most stale = omega arith
 
-farthest : (m : ViewMark) → is_stale m ≡ true → distance m ≡ 2
+farthest : (m : ViewMark) → is_stale m ≡ true → distance m ≡ 1
 farthest (live k) is = absurd cc
-farthest (anew r) is = absurd cc
 farthest stale is = refl
 
 module _ (w : View) where

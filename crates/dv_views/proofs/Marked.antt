@@ -1,5 +1,6 @@
 -- Views in memory of which some of the first have taken in a change.
 use Rattle.std.proofs.Common.{◌≡◌, ◌≤◌, ◌<◌, ◌+◌, ◌||◌, ◌++◌, drop, get_or, ℕ, zero, suc, Bool, true, false, List, [], ◌∷◌, map, take, fold, length, Option, Some, None, slice_get, refl, ap, sym, subst, ◌∙◌, arith, inl, inr}
+use Rattle.std.specs.Prelude.{Result, Ok, Err, IfErr, IfOk}
 use Rattle.std.specs.List.{AllByRecursion, IsDistinct, list_any}
 use Rattle.std.specs.Map.{values_of}
 use Rattle.std.specs.Str.{bytes_eq}
@@ -17,7 +18,7 @@ use Rattle.dv_views.specs.Older.{Entries, told_before, told_else, told_found, to
 use Rattle.dv_views.specs.Passing.{IsTakenAt}
 use Rattle.dv_views.specs.Seen.{IsWellKept, view_seen, entry_view, telling}
 use Rattle.dv_views.specs.Turned.{AreTakenBy, HaveTaken, IsTakenBy}
-use Rattle.dv_views.specs.Views.{AreNamedApart, ViewMark, View, Views, anew, distance, distances_of, live, no_distance, stale, view_under, with_distance}
+use Rattle.dv_views.specs.Views.{AreNamedApart, ViewMark, View, Views, distance, distances_of, live, no_distance, stale, view_under, with_distance}
 use Rattle.dv_pipe.specs.declared.stage.Stage.{Stage}
 use Rattle.dv_views.proofs.Before.{found_is_before}
 use Rattle.dv_views.proofs.Joining.{each_among}
@@ -29,7 +30,6 @@ use Rattle.dv_views.proofs.WellKept.{AreWellKept}
 
 near : (m : ViewMark) → IsLive m → distance m ≡ 0
 near (live k) is = refl
-near (anew rows) is = absurd is
 near stale is = absurd is
 
 nearest : (o : Option View) → IsLiveView o → distance_named o ≡ 0
@@ -281,6 +281,18 @@ module _ {Y : Type 0} where
           (subst (λ (fs : Entries Y). AllByRecursion (λ name. IsLiveView (view_under name (views fs))) (names_read stages source)) (take_written n es a) lives)) in
           turned_on namespace changes n es (set_value_at (set_value_at es n a) n b) old b there (written_twice n es a b) before after told apart turned live_ones (sym (reached ∙ ap (is_reached old.stages old.source) found-is)) kept
           (is ∙ ap (λ (x : Body). record x { mark = live (kept_seen after); told = Some told }) was)
+
+      left_at : (a b : Body) → true ≡ is_reached old.stages old.source (told_found namespace changes n es) → a ≡ record old { mark = stale; told = Some [] } → b ≡ a → IsTakenAt namespace changes n es (set_value_at (set_value_at es n a) n b)
+      left_at a b reached was same =
+          made_stale namespace changes n es (set_value_at (set_value_at es n a) n b) old b there (written_twice n es a b) (sym (reached ∙ ap (is_reached old.stages old.source) found-is)) (same ∙ was)
+
+      -- it is put back where all went well, and else stays stale
+      pub settled_at : {P E : Type 0} (r : Result P E) (rows : P → Live Turner) (told : P → List Change) (a b : Body) (before : Live Turner) (stages : List Stage) (source : List ℕ) → true ≡ is_reached old.stages old.source (told_found namespace changes n es) → a ≡ record old { mark = stale; told = Some [] }
+          → stages ≡ a.stages → source ≡ a.source → old.mark ≡ live (kept_seen before) → IfOk r (λ p. Turns stages (arrivals stages source (told_found namespace changes n (set_value_at es n a))) before [] (rows p) (told p))
+          → IfOk r (λ _. AllByRecursion (λ name. IsLiveView (view_under name (views_before n (set_value_at es n a)))) (names_read stages source)) → IfOk r (λ p. b ≡ record a { mark = live (kept_seen (rows p)); told = Some (told p) }) → IfErr r (λ _. b ≡ a)
+          → IsTakenAt namespace changes n es (set_value_at (set_value_at es n a) n b)
+      settled_at (Ok p) rows told a b before stages source reached was same_stages same_source kept turns lives is same = turned_at a b before (rows p) (told p) stages source reached was same_stages same_source kept turns lives is
+      settled_at (Err e) rows told a b before stages source reached was same_stages same_source kept turns lives is same = left_at a b reached was same
 
 pub length_views : {Y : Type 0} (es : Entries Y) → length (views es) ≡ length es
 length_views [] = refl

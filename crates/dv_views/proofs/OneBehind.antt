@@ -15,7 +15,7 @@ use Rattle.dv_views.specs.Forms.{AreFounded, ViewForm, is_name_among, names_read
 use Rattle.dv_views.specs.Placed.{ListPlaces, lookups_of}
 use Rattle.dv_views.specs.Seen.{IsWellKept}
 use Rattle.dv_views.specs.Turned.{AreTakenBy, HaveTaken, IsTakenBy, IsTurned, Telling, kept_after, kept_behind, turned_rows}
-use Rattle.dv_views.specs.Views.{AreKept, AreNamedApart, AreOverLive, IsRight, Kept, ViewMark, Taken, live, anew, stale, View, Views, distance, view_form, is_stale, no_distance, reads, taken_from, with_distance}
+use Rattle.dv_views.specs.Views.{AreKept, AreNamedApart, AreOverLive, IsRight, Kept, ViewMark, Taken, live, stale, View, Views, distance, view_form, is_stale, no_distance, reads, taken_from, with_distance}
 use Rattle.dv_views.proofs.Agree.{Agrees, FromScratch, TakesInOrder, agree_over}
 use Rattle.dv_views.proofs.Filling.{changed_mid, longer}
 use Rattle.dv_views.proofs.Right.{UnreadDoesNotMatter, itself, neither, or-left, or-right, read_among, same_outs, same_taken}
@@ -40,14 +40,12 @@ unreached_read stages source told name away read = nothing-told (names_read stag
 
 -- ---- how far views are from being live
 
-near : (m : ViewMark) (n : ℕ) → n ≤ 2 → (is_stale m ≡ false → n ≡ 0) → n ≤ distance m
+near : (m : ViewMark) (n : ℕ) → n ≤ 1 → (is_stale m ≡ false → n ≡ 0) → n ≤ distance m
 near (live kept) n most zero = let e : n ≡ 0 = zero refl in omega arith
-near (anew rows) n most zero = let e : n ≡ 0 = zero refl in omega arith
 near stale n most zero = most
 
-at-most : (m : ViewMark) → distance m ≤ 2
+at-most : (m : ViewMark) → distance m ≤ 1
 at-most (live kept) = omega arith
-at-most (anew rows) = omega arith
 at-most stale = omega arith
 
 module _ (told : Told) (distances others : List ℕ → ℕ) (v : View) (w : Telling) (taken : IsTakenBy told others v w) where
@@ -65,14 +63,14 @@ module _ (told : Told) (distances others : List ℕ → ℕ) (v : View) (w : Tel
       by true none = ap (λ (x : View). distance x.mark) (taken.unread (silent none))
       by false none = same name none
 
-  with-most : ((name : List ℕ) → others name ≤ 2) → (name : List ℕ) → with_distance w.view others name ≤ 2
+  with-most : ((name : List ℕ) → others name ≤ 1) → (name : List ℕ) → with_distance w.view others name ≤ 1
   with-most most name = by (bytes_eq name w.view.name)
     where
-      by : (b : Bool) → (if b then distance w.view.mark else others name) ≤ 2
+      by : (b : Bool) → (if b then distance w.view.mark else others name) ≤ 1
       by true = at-most w.view.mark
       by false = most name
 
-  over-one : ((name : List ℕ) → told name ≡ None → others name ≡ distances name) → ((name : List ℕ) → others name ≤ 2) → ((name : List ℕ) → reads v name ≡ true → distances name ≤ distance v.mark)
+  over-one : ((name : List ℕ) → told name ≡ None → others name ≡ distances name) → ((name : List ℕ) → others name ≤ 1) → ((name : List ℕ) → reads v name ≡ true → distances name ≤ distance v.mark)
       → (name : List ℕ) → reads w.view name ≡ true → others name ≤ distance w.view.mark
   over-one same most over name read = by (is_reached v.stages v.source told) refl (sym (reads-alike name) ∙ read)
     where
@@ -84,7 +82,7 @@ module _ (told : Told) (distances others : List ℕ → ℕ) (v : View) (w : Tel
           let h : distances name ≤ distance v.mark = over name read in
           omega arith
 
-over-from : (told : Told) (distances others : List ℕ → ℕ) (before : Views) (after : List Telling) → ((name : List ℕ) → told name ≡ None → others name ≡ distances name) → ((name : List ℕ) → others name ≤ 2)
+over-from : (told : Told) (distances others : List ℕ → ℕ) (before : Views) (after : List Telling) → ((name : List ℕ) → told name ≡ None → others name ≡ distances name) → ((name : List ℕ) → others name ≤ 1)
     → AreOverLive distances before → AreTakenBy told others before after → AreOverLive others (map (λ t. t.view) after)
 over-from told distances others [] [] same most over taken = tt
 over-from told distances others [] (w ∷ ws) same most over taken = absurd taken
@@ -194,7 +192,6 @@ alike-kept v w form well = subst (λ (f : ViewForm). IsWellKept f.stages w.mark)
 
 takes_in_order : (stages : List Stage) (m : ViewMark) → IsWellKept stages m → TakesInOrder m
 takes_in_order stages (live kept) well = well.1
-takes_in_order stages (anew rows) well = tt
 takes_in_order stages stale well = tt
 
 module _ (scratch : FromScratch) (unread : UnreadDoesNotMatter) (told : Told) (distances : List ℕ → ℕ) (places others : ListPlaces) (lists rows : Lists)
@@ -232,7 +229,6 @@ module _ (scratch : FromScratch) (unread : UnreadDoesNotMatter) (told : Told) (d
     right.0 ∙ same_taken source places others stages (unread-places stages source away (λ name read. no-more (distances name) (over name read))),
     right.1 ∙ unread-rows stages source away,
   )
-  unread-right (anew shown) stages source away over right = right ∙ unread-rows stages source away
   unread-right stale stages source away over right = tt
 
   module _ (stages : List Stage) (source : List ℕ) (m n : ViewMark) (o : Option (List Change)) (over : is_stale n ≡ false → (name : List ℕ) → is_name_among name (names_read stages source) ≡ true → distances name ≡ 0)
@@ -245,7 +241,7 @@ module _ (scratch : FromScratch) (unread : UnreadDoesNotMatter) (told : Told) (d
         (turned-right stages source t.0 was.0 (over (ap is_stale t.2.kept)) (subst (λ (k : ViewMark). IsWellKept stages k) t.2.kept well))
 
     kept-leads : IsTurned stages (arrivals stages source told) m n o → distance n ≡ 0 → Leads o (outs_of stages source places) (outs_of stages source others)
-    kept-leads (inl is) zero = absurd (let e : 2 ≡ 0 = sym (ap distance is) ∙ zero in omega arith)
+    kept-leads (inl is) zero = absurd (let e : 1 ≡ 0 = sym (ap distance is) ∙ zero in omega arith)
     kept-leads (inr t) zero =
         let was = subst (λ (k : ViewMark). AreKept k (taken_from stages source places) (evaluated stages source lists)) t.1 right in
         let taken = turned-taken stages source t.0 was.0 (over (ap is_stale t.2.kept)) in

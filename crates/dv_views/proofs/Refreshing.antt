@@ -131,7 +131,7 @@ module _ (names : List (List ℕ)) where
 
 -- the registry with it stays sound, and right
 module _ (names : List (List ℕ)) (mark : ViewMark) (v : View) (stale : is_stale v.mark ≡ true) (listed : is_name_among v.name names ≡ true) (n : ℕ) (vs : Views) (there : slice_get vs n ≡ Some v) (sound : IsSoundRegistry vs)
-    (closed : IsClosed names (map view_form vs)) (fresh : AllByRecursion (λ u. is_name_among u.name names ≡ true → is_stale u.mark ≡ false) (take n vs)) (lists : Lists) (built : IsBuilt v.stages v.source (take n vs) lists mark) where
+    (closed : IsClosed names (map view_form vs)) (lists : Lists) (built : IsBuilt v.stages v.source (take n vs) lists mark) where
   abbrev some : AllByRecursion (λ name. is_name_among name names ≡ true) (names_read v.stages v.source)
   some = reads_listed names n vs v closed there listed
 
@@ -145,7 +145,7 @@ module _ (names : List (List ℕ)) (mark : ViewMark) (v : View) (stale : is_stal
         apart = apart_by_forms vs now (forms_set (keeping v mark) n vs in_place) sound.apart;
         kept = kept_set (keeping v mark) n vs in_place sound.kept (well_built v.stages v.source (take n vs) lists mark built);
         live = over_set (keeping v mark) n no_distance vs in_place sound.live (λ name read.
-            over_built (take n vs) (apart_take n vs sound.apart) lists v.stages v.source (fresh_reads names (take n vs) (names_read v.stages v.source) fresh some) mark built name
+            over_built (take n vs) (apart_take n vs sound.apart) lists v.stages v.source mark built name
             (sym (read_among v.stages v.source name) ∙ read));
         founded = subst AreFounded (sym (forms_set (keeping v mark) n vs in_place)) sound.founded;
       }
@@ -154,7 +154,7 @@ module _ (names : List (List ℕ)) (mark : ViewMark) (v : View) (stale : is_stal
   right_refreshed scratch unread others alike right =
       right_set (keeping v mark) n (list_places others) others vs (replaces mark v stale n vs there) right
       (right_built scratch unread others lists (take n vs) (apart_take n vs sound.apart) (right_take n (list_places others) others vs right) v.stages v.source (alike_reads names lists others (names_read v.stages v.source) alike some)
-      (over_take n no_distance vs sound.live) (all_take (λ u. IsWellKept u.stages u.mark) n vs sound.kept) (fresh_reads names (take n vs) (names_read v.stages v.source) fresh some) mark built)
+      (over_take n no_distance vs sound.live) (all_take (λ u. IsWellKept u.stages u.mark) n vs sound.kept) mark built)
 
 -- ---- a view behind the others
 
@@ -176,18 +176,18 @@ kept-last : (vs : Views) (w : View) → AllByRecursion (λ v. IsWellKept v.stage
 kept-last [] w kept own = (own, tt)
 kept-last (v ∷ vs) w kept own = (kept.0, kept-last vs w kept.1 own)
 
-module _ (vs : Views) (w : View) (sound : IsSoundRegistry vs) (lists : Lists) (built : IsBuilt w.stages w.source vs lists w.mark) (fresh : AllByRecursion (λ name. IsNoStale (view_under name vs)) (names_read w.stages w.source)) where
+module _ (vs : Views) (w : View) (sound : IsSoundRegistry vs) (lists : Lists) (built : IsBuilt w.stages w.source vs lists w.mark) where
   pub sound_last : AreNamedApart (vs ++ w ∷ []) → is_read_by (map view_form vs) w.name ≡ false → is_read w.stages w.source w.name ≡ false → IsSoundRegistry (vs ++ w ∷ [])
   sound_last apart unread own = record {
     apart = apart;
     kept = kept-last vs w sound.kept (well_built w.stages w.source vs lists w.mark built);
-    live = over_append no_distance vs w sound.live (λ name read. over_built vs sound.apart lists w.stages w.source fresh w.mark built name (sym (read_among w.stages w.source name) ∙ read));
+    live = over_append no_distance vs w sound.live (λ name read. over_built vs sound.apart lists w.stages w.source w.mark built name (sym (read_among w.stages w.source name) ∙ read));
     founded = subst AreFounded (sym (forms-last vs w)) (founded-last (map view_form vs) (view_form w) sound.founded unread own);
   }
 
   pub right_last : FromScratch → UnreadDoesNotMatter → (others : Lists) → AreAlike (names_read w.stages w.source) lists others → AreRight others vs → AreRight others (vs ++ w ∷ [])
   right_last scratch unread others alike right =
-      right_append (list_places others) others vs w right (right_built scratch unread others lists vs sound.apart right w.stages w.source alike sound.live sound.kept fresh w.mark built)
+      right_append (list_places others) others vs w right (right_built scratch unread others lists vs sound.apart right w.stages w.source alike sound.live sound.kept w.mark built)
 
 -- ---- views made anew one after the other
 
@@ -302,14 +302,14 @@ module _ (vs : Views) (name source : List ℕ) (stages : List Stage) (mark : Vie
   pub is_added : IsAdded name source stages vs (vs ++ new_view ∷ [])
   is_added = record { view = new_view; form = refl; fresh = fresh_built stages source vs lists mark built; last = refl }
 
-  module _ (sound : IsSoundRegistry vs) (fresh : AllByRecursion (λ n. IsNoStale (view_under n vs)) (names_read stages source)) where
+  module _ (sound : IsSoundRegistry vs) where
     pub sound_added : AreNamedApart (vs ++ new_view ∷ []) → is_read_by (map view_form vs) name || is_read stages source name ≡ false → IsSoundRegistry (vs ++ new_view ∷ [])
     sound_added apart unread =
         let both = neither (is_read_by (map view_form vs) name) (is_read stages source name) unread in
-        sound_last vs new_view sound lists built fresh apart both.0 both.1
+        sound_last vs new_view sound lists built apart both.0 both.1
 
     pub right_added : FromScratch → UnreadDoesNotMatter → (others : Lists) → AreAlike (names_read stages source) lists others → AreRight others vs → AreRight others (vs ++ new_view ∷ [])
-    right_added scratch unread others alike right = right_last vs new_view sound lists built fresh scratch unread others alike right
+    right_added scratch unread others alike right = right_last vs new_view sound lists built scratch unread others alike right
 
 -- a refusal
 module _ (T : Type 0) where

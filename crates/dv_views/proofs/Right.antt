@@ -11,7 +11,7 @@ use Rattle.dv_pipe.specs.Stages.{Lists, evaluated, is_source_named, is_read, loo
 use Rattle.dv_pipe.specs.declared.stage.Stage.{Stage}
 use Rattle.dv_views.specs.Forms.{ViewForm, is_name_among, names_read, outs_of, places_over, rows_over, with_places, with_rows}
 use Rattle.dv_views.specs.Placed.{ListPlaces, forms, lookups_of, list_places, positioned, names_with}
-use Rattle.dv_views.specs.Views.{AreKept, AreRight, AreRightOver, IsRight, ViewMark, Taken, live, anew, stale, View, Views, view_form, reads, reads_name, taken_from, views_without}
+use Rattle.dv_views.specs.Views.{AreKept, AreRight, AreRightOver, IsRight, ViewMark, Taken, live, stale, View, Views, view_form, reads, reads_name, taken_from, views_without}
 
 -- what dv_pipe's law says of pipelines
 abbrev pub UnreadDoesNotMatter : Type 0
@@ -82,7 +82,6 @@ same_form places lists v w form mark right =
 
 pub kept_same : (m : ViewMark) (t u : Taken) (rows others : List Row) → t ≡ u → rows ≡ others → AreKept m t rows → AreKept m u others
 kept_same (live kept) t u rows others taken same h = (h.0 ∙ taken, h.1 ∙ same)
-kept_same (anew shown) t u rows others taken same h = h ∙ same
 kept_same stale t u rows others taken same h = tt
 
 -- the same stands under a name in both

@@ -155,7 +155,7 @@ positioned-after : StayPositioned → (input : Input) (c : Change) (rows : Posit
 positioned-after stay Left c rows exact are = stay rows (c ∷ []) are (exact, tt)
 positioned-after stay (Named i) c rows exact are = are
 
-abbrev left_in : Live Turner → Positioned
+abbrev pub left_in : Live Turner → Positioned
 left_in live = left_of live.chain live.rows.entries
 
 -- rows that are kept are those that the stages make of what was taken in
@@ -228,6 +228,29 @@ module _ (stay : StayPositioned) (stages : List Stage) (before after : Live Turn
         ∙ sym (leads_now (left_in before) sound.taken)
         ∙ entries_are stages after sound_after;
   }
+
+-- ---- rows of the source, where none of it was taken in
+
+module _ (stages : List Stage) (before after : Live Turner) (rows : Positioned) (sound : IsSoundLive stages before) (are : IsPositioned rows) (formed : forms_in after.chain ≡ forms_in before.chain) (took : HaveTaken after.chain after.rows.entries rows) where
+  filled-left : left_in after ≡ rows
+  filled-left = left-is after.chain after.rows.entries rows took
+
+  filled-named : named_of after.chain ≡ named_of before.chain
+  filled-named = sym (turners-lists after.chain) ∙ ap lists_of formed ∙ turners-lists before.chain
+
+  pub sound_filled : IsSoundLive stages after
+  sound_filled = record {
+    forms = formed ∙ sound.forms ∙ ap (forms stages) (sym filled-named);
+    taken = subst (HaveTaken after.chain after.rows.entries) (sym filled-left) took;
+    positioned = subst (λ (es : Positioned). IsPositioned es) (sym filled-left) are;
+    count = ap length filled-named ∙ sound.count;
+  }
+
+  pub taken_filled : (kept_seen after).taken ≡ record { left = rows; named = (kept_seen before).taken.named }
+  taken_filled = λ i. record { left = filled-left i; named = filled-named i }
+
+pub none_taken : (live : Live Turner) (rows : Positioned) → HaveTaken live.chain live.rows.entries rows → rows ≡ [] → HaveTaken live.chain live.rows.entries []
+none_taken live rows taken none = subst (HaveTaken live.chain live.rows.entries) none taken
 
 -- ---- the same of what a call answers
 

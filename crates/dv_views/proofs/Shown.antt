@@ -13,7 +13,7 @@ use Rattle.dv_pipe.specs.declared.stage.Stage.{Stage}
 use Rattle.dv_views.specs.Flow.{outs_made}
 use Rattle.dv_views.specs.Forms.{ViewForm, outs_of, places_over, rows_over, with_places, with_rows}
 use Rattle.dv_views.specs.Placed.{ListPlaces, list_places}
-use Rattle.dv_views.specs.Views.{AreKept, AreNamedApart, AreRight, AreRightOver, ViewMark, live, anew, stale, View, Views, distance, distances_of, view_form, is_view_named, kept_rows, no_distance, rows_shown, taken_from, view_under, with_distance}
+use Rattle.dv_views.specs.Views.{AreKept, AreNamedApart, AreRight, AreRightOver, ViewMark, live, stale, View, Views, distance, distances_of, view_form, is_view_named, kept_rows, no_distance, rows_shown, taken_from, view_under, with_distance}
 use Rattle.dv_views.proofs.Right.{neither}
 
 -- ---- what later views leave
@@ -56,12 +56,10 @@ others_apart v vs apart = apart.1
 -- a live view has what its stages make of what it has taken in, at these positions, and one that isn't stale has these rows
 abbrev pub IsShownAt : ViewMark → List Stage → Positioned → List Row → Type 0
 IsShownAt (live kept) stages outs rows = (outs ≡ outs_made stages kept.taken) × (kept.rows ≡ rows)
-IsShownAt (anew shown) stages outs rows = shown ≡ rows
 IsShownAt stale stages outs rows = ⊤
 
 shown-kept : (m : ViewMark) (stages : List Stage) (source : List ℕ) (places : ListPlaces) (outs : Positioned) (lists rows : List Row) → AreKept m (taken_from stages source places) lists → outs ≡ outs_of stages source places → rows ≡ lists → IsShownAt m stages outs rows
 shown-kept (live kept) stages source places outs lists rows right made is = (made ∙ sym (ap (outs_made stages) right.0), right.1 ∙ sym is)
-shown-kept (anew shown) stages source places outs lists rows right made is = right ∙ sym is
 shown-kept stale stages source places outs lists rows right made is = tt
 
 pub shown_at : (name : List ℕ) (places : ListPlaces) (lists : Lists) (vs : Views) (v : View) → AreNamedApart vs → AreRightOver places lists vs → view_under name vs ≡ Some v
@@ -133,7 +131,6 @@ distance_at name vs apart = distance-over vs no_distance name apart ∙ distance
 
 mark-shown : (m : ViewMark) (stages : List Stage) (outs : Positioned) (rows shown : List Row) → IsShownAt m stages outs rows → kept_rows m ≡ Some shown → shown ≡ rows
 mark-shown (live kept) stages outs rows shown right is = (let same : shown ≡ kept.rows = cc in same) ∙ right.1
-mark-shown (anew kept) stages outs rows shown right is = (let same : shown ≡ kept = cc in same) ∙ right
 mark-shown stale stages outs rows shown right is = absurd cc
 
 pub right_shown : (name : List ℕ) (lists : Lists) (views : Views) (rows : List Row) → AreNamedApart views → AreRight lists views → rows_shown name views ≡ Some rows → rows ≡ rows_over (map view_form views) lists name

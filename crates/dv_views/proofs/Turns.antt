@@ -6,7 +6,7 @@ use Rattle.std.specs.Map.{remove_entry, values_of}
 use Rattle.std.specs.Ordering.{is_eq, match_ordering}
 use Rattle.std.specs.declared.cmp.Ordering.{Ordering}
 use Rattle.std.specs.declared.cmp.Ordering.TheVariants.{Less, Equal, Greater}
-use Rattle.dv_bson.specs.Tree.{Tree}
+use Rattle.dv_value.specs.Tree.{Tree}
 use Rattle.dv_order.specs.Key.{key_at, key_order}
 use Rattle.dv_coll.specs.Collection.{HasId, id_key}
 use Rattle.dv_change.specs.declared.change.Change.{Change}

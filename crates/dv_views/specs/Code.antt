@@ -1,7 +1,7 @@
 -- Views as ghost values, one to one: so a proof can tell two of them apart.
 use Rattle.std.specs.Prelude.{◌≡◌, ℕ, List, Option, Some, None, refl}
 use Rattle.std.specs.Coded.{Coded, coded_ℕ, coded_list, coded_option, coded×, code_by}
-use Rattle.dv_bson.specs.TreeCode.{coded_tree}
+use Rattle.dv_value.specs.TreeCode.{coded_tree}
 use Rattle.dv_pipe.specs.Sources.{Row}
 use Rattle.dv_pipe.specs.contracts.pipeline.Pipeline as pipelines
 use Rattle.dv_pipe.specs.declared.stage.Stage.{Stage}
@@ -11,7 +11,7 @@ use Rattle.dv_change.specs.declared.change.Change.TheVariants.{Gone, Put}
 use Rattle.dv_change.specs.Changes.{Positioned, position_changed, row_in}
 use Rattle.dv_change.specs.Positions.{PosTree}
 use Rattle.dv_views.specs.Body.{Body}
-use Rattle.dv_views.specs.Views.{Kept, ViewMark, Taken, View, Views, anew, live, stale}
+use Rattle.dv_views.specs.Views.{Kept, ViewMark, Taken, View, Views, live, stale}
 
 abbrev pub coded_name : Coded (List ℕ)
 coded_name = coded_list coded_ℕ
@@ -29,25 +29,21 @@ coded_taken = code_by (Positioned × List Positioned) (coded× coded_positioned 
 abbrev pub coded_kept : Coded Kept
 coded_kept = code_by (Taken × (List Row × ℕ)) (coded× coded_taken (coded× coded_view_rows coded_ℕ)) (λ k. (k.taken, (k.rows, k.ticks))) (λ p. record { taken = p.0; rows = p.1.0; ticks = p.1.1 }) (λ _. refl)
 
--- rows that were made anew, or what is kept
-abbrev pub mark_of : Option (List Row) × Option Kept → ViewMark
-mark_of (None, None) = stale
-mark_of (None, Some kept) = live kept
-mark_of (Some rows, None) = anew rows
-mark_of (Some rows, Some kept) = stale
+-- what is kept, if anything is
+abbrev pub mark_of : Option Kept → ViewMark
+mark_of None = stale
+mark_of (Some kept) = live kept
 
-abbrev pub mark_parts : ViewMark → Option (List Row) × Option Kept
-mark_parts (live kept) = (None, Some kept)
-mark_parts (anew rows) = (Some rows, None)
-mark_parts stale = (None, None)
+abbrev pub mark_parts : ViewMark → Option Kept
+mark_parts (live kept) = Some kept
+mark_parts stale = None
 
 pub mark-back : (m : ViewMark) → mark_of (mark_parts m) ≡ m
 mark-back (live kept) = refl
-mark-back (anew rows) = refl
 mark-back stale = refl
 
 abbrev pub coded_view_mark : Coded ViewMark
-coded_view_mark = code_by (Option (List Row) × Option Kept) (coded× (coded_option coded_view_rows) (coded_option coded_kept)) mark_parts mark_of mark-back
+coded_view_mark = code_by (Option Kept) (coded_option coded_kept) mark_parts mark_of mark-back
 
 abbrev change_of : PosTree × Option Row → Change
 change_of (pos, None) = Gone pos

@@ -4,28 +4,15 @@ use Rattle.std.specs.List.{AllByRecursion}
 use Rattle.dv_change.specs.Changes.{IsPositioned, Positioned}
 use Rattle.dv_pipe.specs.declared.stage.Stage.{Stage}
 use Rattle.dv_pipe.specs.Sources.{Row}
-use Rattle.dv_pipe.specs.Stages.{Lists, evaluated}
+use Rattle.dv_pipe.specs.Stages.{Lists}
 use Rattle.dv_views.specs.Flow.{outs_made}
 use Rattle.dv_views.specs.Forms.{names_read}
 use Rattle.dv_views.specs.Placed.{ListPlaces, positioned}
 use Rattle.dv_views.specs.Turned.{turned_rows}
-use Rattle.dv_views.specs.Views.{ViewMark, View, Views, anew, live, stale, taken_from, view_under}
-
-abbrev pub rows_of_mark : ViewMark → List Row
-rows_of_mark (live kept) = kept.rows
-rows_of_mark (anew rows) = rows
-rows_of_mark stale = []
-
-abbrev pub rows_of_view : Option View → List Row → List Row
-rows_of_view None documents = documents
-rows_of_view (Some v) documents = rows_of_mark v.mark
-
-abbrev pub rows_below : Views → Lists → Lists
-rows_below older lists name = rows_of_view (view_under name older) (lists name)
+use Rattle.dv_views.specs.Views.{ViewMark, View, Views, live, stale, taken_from, view_under}
 
 abbrev pub outs_of_mark : List Stage → ViewMark → Positioned
 outs_of_mark stages (live kept) = outs_made stages kept.taken
-outs_of_mark stages (anew rows) = []
 outs_of_mark stages stale = []
 
 abbrev pub outs_of_view : Option View → List Row → Positioned
@@ -37,7 +24,6 @@ outs_below older lists name = outs_of_view (view_under name older) (lists name)
 
 abbrev pub IsLive : ViewMark → Type 0
 IsLive (live kept) = ⊤
-IsLive (anew rows) = ⊥
 IsLive stale = ⊥
 
 -- no view, or a live one
@@ -54,5 +40,4 @@ abbrev pub IsBuilt : List Stage → List ℕ → Views → Lists → ViewMark �
 IsBuilt stages source older lists (live kept) =
     (kept.taken ≡ taken_from stages source (outs_below older lists)) × (kept.rows ≡ turned_rows stages kept.taken) × IsPositioned kept.taken.left × (kept.ticks ≡ 0)
     × AllByRecursion (λ name. IsLiveView (view_under name older)) (names_read stages source)
-IsBuilt stages source older lists (anew rows) = rows ≡ evaluated stages source (rows_below older lists)
 IsBuilt stages source older lists stale = ⊥

@@ -17,7 +17,6 @@ pub mod Ground
 pub mod Passing
 pub mod Filled
 pub mod Keeping
-pub mod RowsView
 pub mod Seen
 pub mod MarkView
 pub mod Inside

@@ -8,7 +8,7 @@ use Rattle.dv_pipe.specs.declared.stage.Stage.{Stage}
 use Rattle.dv_views.specs.Body.{Body}
 use Rattle.dv_views.specs.Turned.{Telling, turned_rows}
 use Rattle.dv_views.specs.Forms.{AreFounded, heights}
-use Rattle.dv_views.specs.Views.{AreNamedApart, AreOverLive, ViewMark, View, Views, anew, view_form, live, no_distance, stale}
+use Rattle.dv_views.specs.Views.{AreNamedApart, AreOverLive, ViewMark, View, Views, view_form, live, no_distance, stale}
 
 -- the view of an entry
 abbrev pub view_seen : List ℕ → Body → View
@@ -23,7 +23,6 @@ telling e = record { view = entry_view e; told = e.1.told }
 -- the rows that are kept are those that the stages make of what was taken in, and that stands at exact positions, in their order
 abbrev pub IsWellKept : List Stage → ViewMark → Type 0
 IsWellKept stages (live kept) = (kept.rows ≡ turned_rows stages kept.taken) × IsPositioned kept.taken.left
-IsWellKept stages (anew rows) = ⊤
 IsWellKept stages stale = ⊤
 
 -- views, each under a name of its own, that keep what their stages make; what each reads is older, and no farther from being live

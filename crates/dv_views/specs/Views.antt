@@ -27,11 +27,10 @@ pub record Kept : Type 0 where
   pub rows : List Row
   pub ticks : ℕ
 
--- a view is live: its rows are kept by changes; or it has its rows, made anew, until what it reads changes, and has counted nothing; or it
--- is stale and has nothing, where memory was wanting, or a `$push` held too many rows
+-- a view is live: its rows are kept by changes; or it is stale and has nothing, where memory was wanting for it or for one that it
+-- reads
 pub data ViewMark : Type 0 where
   live : Kept → ViewMark
-  anew : List Row → ViewMark
   stale : ViewMark
 
 pub record View : Type 0 where
@@ -54,10 +53,9 @@ taken_from stages source places = record { left = places source; named = map pla
 -- what is kept, if anything is, are these rows, made of what was taken in
 abbrev pub AreKept : ViewMark → Taken → List Row → Type 0
 AreKept (live kept) taken rows = (kept.taken ≡ taken) × (kept.rows ≡ rows)
-AreKept (anew shown) taken rows = shown ≡ rows
 AreKept stale taken rows = ⊤
 
--- a view that isn't stale has the rows of its pipeline from scratch, and a live one has taken in what it reads as it stands
+-- a live view has the rows of its pipeline from scratch, and has taken in what it reads as it stands
 abbrev pub IsRight : ListPlaces → Lists → View → Type 0
 IsRight places lists v = AreKept v.mark (taken_from v.stages v.source places) (evaluated v.stages v.source lists)
 
@@ -89,7 +87,6 @@ views_without name views = filter (λ v. not (is_view_named name v)) views
 -- the rows that a mark shows
 abbrev pub kept_rows : ViewMark → Option (List Row)
 kept_rows (live kept) = Some kept.rows
-kept_rows (anew rows) = Some rows
 kept_rows stale = None
 
 -- the rows that the view of this name keeps
@@ -99,24 +96,20 @@ rows_shown name views = option_and_then (λ v. kept_rows v.mark) (view_under nam
 -- how many rows a mark shows; none where it is stale
 abbrev pub mark_rows : ViewMark → ℕ
 mark_rows (live kept) = length kept.rows
-mark_rows (anew rows) = length rows
 mark_rows stale = 0
 
 -- whether a mark has its rows
 abbrev pub state_of_mark : ViewMark → ViewState
 state_of_mark (live kept) = states.Live
-state_of_mark (anew rows) = states.Live
 state_of_mark stale = states.Stale
 
 abbrev pub is_stale : ViewMark → Bool
 is_stale (live kept) = false
-is_stale (anew rows) = false
 is_stale stale = true
 
 -- the count of the work that the changes of a view took since it was made; 0 where it is stale
 abbrev pub mark_ticks : ViewMark → ℕ
 mark_ticks (live kept) = kept.ticks
-mark_ticks (anew rows) = 0
 mark_ticks stale = 0
 
 -- ---- what views read
@@ -128,17 +121,15 @@ reads v namespace = is_read v.stages v.source namespace
 abbrev pub reads_name : Views → List ℕ → Bool
 reads_name views namespace = list_any (λ v. reads v namespace) views
 
--- how far a view is from being live: one whose rows were made anew is 1, and a stale one 2
+-- how far a view is from being live: a stale one is 1
 abbrev pub distance : ViewMark → ℕ
 distance (live kept) = 0
-distance (anew rows) = 1
-distance stale = 2
+distance stale = 1
 
 abbrev pub with_distance : View → (List ℕ → ℕ) → List ℕ → ℕ
 with_distance v distances name = if bytes_eq name v.name then distance v.mark else distances name
 
--- what each view reads is no farther from being live than itself: so a live view reads live ones alone, and one that isn't stale reads none
--- that is; what is no view is at 0
+-- what each view reads is no farther from being live than itself: so a live view reads live ones alone; what is no view is at 0
 abbrev pub AreOverLive : (List ℕ → ℕ) → Views → Type 0
 AreOverLive distances [] = ⊤
 AreOverLive distances (v ∷ views) = ((name : List ℕ) → reads v name ≡ true → distances name ≤ distance v.mark) × AreOverLive (with_distance v distances) views
@@ -161,7 +152,7 @@ IsRefusedFor None result = IfErr result (λ fault. fault ≡ NoMemory)
 abbrev pub AreInOrder : List Row → Type 0
 AreInOrder documents = IsAscending documents × AllByRecursion HasId documents
 
--- a mark of a view that was just made: it has its rows, and has counted nothing
+-- a mark of a view that was just made: it is live, and has counted nothing
 pub record IsJustMade (mark : ViewMark) : Type 0 where
   pub live : is_stale mark ≡ false
   pub ticks : mark_ticks mark ≡ 0
@@ -172,7 +163,7 @@ pub record IsMadeAnew (before after : View) : Type 0 where
   pub form : view_form after ≡ view_form before
   pub fresh : IsJustMade after.mark
 
--- of views, stale ones of some names are made anew, and the others are as they were
+-- of views, stale ones of some names are made and the others are as they were
 abbrev pub IsPartlyRefreshed : List (List ℕ) → View → View → Type 0
 IsPartlyRefreshed names before after = (after ≡ before) ⊎ ((is_name_among before.name names ≡ true) × IsMadeAnew before after)
 

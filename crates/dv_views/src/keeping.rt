@@ -2,14 +2,15 @@
 
 ghost use Rattle.std.specs.Prelude.{◌≡◌, ◌∷◌, [], length, map, IfOk};
 ghost use Rattle.std.specs.Option.{option_map};
+ghost use Rattle.dv_change.specs.Changes.{IsPositioned, with_changes};
 ghost use Rattle.dv_change.specs.Inputs.{HasInput};
 ghost use Rattle.dv_views.specs.Flow.{arriving};
 ghost use Rattle.dv_views.specs.Keeping.{IsSoundLive, Turns, kept_seen};
 
 use crate::turner::Turner;
-use dv_bson::NoMemory;
 use dv_change::{Change, Input, Live};
 use dv_pipe::Pipeline;
+use dv_value::NoMemory;
 
 /// Takes in what is told to an input, one change after the other, where anything is, and tells what changes of the rows behind
 /// what is in `told`. Fails where memory is wanting; then the rows are dropped.
@@ -64,4 +65,20 @@ pub(crate) fn taken_in(
     change.is_exact();
     dv_change::laws::changes_keep_rows_in_order();
     live.take(input, change.try_clone()?, told)
+}
+
+/// Takes in rows of the source, where none of it was taken in. Counts nothing. Fails where memory is wanting; then the rows are
+/// dropped.
+pub(crate) fn filled_left(
+    live: Live<Turner>,
+    pipeline: &Pipeline,
+    puts: Vec<Change>,
+) -> Result<Live<Turner>, NoMemory>
+    requires sound { IsSoundLive pipeline.now live }
+    requires empty { (kept_seen live).taken.left ≡ [] }
+    requires positioned { IsPositioned (with_changes [] puts.items) }
+    ensures sound { IfOk result (λ after. IsSoundLive pipeline.now after) }
+    ensures taken { IfOk result (λ after. (kept_seen after).taken ≡ record { left = with_changes [] puts.items; named = (kept_seen live).taken.named }) }
+{
+    live.fill(puts)
 }

@@ -13,12 +13,13 @@ ghost use Rattle.dv_pipe.specs.Sources.{Row};
 ghost use Rattle.dv_pipe.specs.Stages.{Lists, evaluated};
 ghost use Rattle.dv_pipe.specs.declared.stage.Stage.{Stage};
 ghost use Rattle.dv_views.specs.Changed.{AreMade, AreMadeInTurn, documents_changed};
+ghost use Rattle.dv_views.specs.Fault.{view_fault_number};
 ghost use Rattle.dv_views.specs.Examples.{over_lists, seven_views};
 ghost use Rattle.dv_views.specs.Flow.{nothing, shares};
 ghost use Rattle.dv_views.specs.Forms.{ViewForm, fault_of_new, height_over, heights, is_name_among, is_read_by, names_read, needed, outs_of, rows_over};
 ghost use Rattle.dv_views.specs.Placed.{ListPlaces, own_position};
 ghost use Rattle.dv_views.specs.Views.{AreNamedApart, AreRight, Views, view_form, reads_name, rows_shown, views_without};
-ghost use Rattle.dv_views.specs.declared.fault.ViewFault.TheVariants.{Exists, LimitReached, ReadByView};
+ghost use Rattle.dv_views.specs.declared.fault.ViewFault.TheVariants.{Exists, LimitReached, NoMemory, ReadByView};
 
 /// A document that is put at its own position stands in place of the one that has an equal `_id`, where there is one,
 /// and else it comes in its place.
@@ -115,6 +116,12 @@ pub fn refusals_by_example()
     ensures on_view { fault_of_new (over_lists (codes "v") (codes "c") ∷ []) (codes "w") (codes "v") [] ≡ None }
     ensures eighth { fault_of_new seven_views (codes "8") (codes "7") [] ≡ None }
     ensures ninth { fault_of_new (seven_views ++ over_lists (codes "8") (codes "7") ∷ []) (codes "9") (codes "8") [] ≡ Some LimitReached }
+    ensures read_before_limit { fault_of_new (seven_views ++ over_lists (codes "8") (codes "7") ∷ []) (codes "c") (codes "8") [] ≡ Some ReadByView }
+{}
+
+/// The faults of a new view have these numbers.
+pub fn faults_have_their_numbers()
+    ensures { (view_fault_number Exists ≡ 1) × (view_fault_number ReadByView ≡ 2) × (view_fault_number LimitReached ≡ 4) × (view_fault_number NoMemory ≡ 5) }
 {}
 
 /// The thousandth view isn't one too many, and the next is.

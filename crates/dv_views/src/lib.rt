@@ -1,5 +1,5 @@
 //! Views: pipelines under names of their own, over collections and over older views, each with rows that are kept by changes of what
-//! it reads, or, where these can't be kept so, made anew, until that changes.
+//! it reads.
 #![tactic(auto)]
 
 mod fault;

@@ -8,8 +8,8 @@ ghost use Rattle.dv_views.specs.Forms.{is_name_among, names_read};
 ghost use Rattle.dv_views.specs.Placed as defined;
 
 use crate::view::View;
-use dv_bson::{NoMemory, Str};
 use dv_pipe::Pipeline;
+use dv_value::{NoMemory, Str};
 use std::alloc::Global;
 
 /// The namespaces that the stages of the pipeline over `source` look into, in their order. Fails where memory is wanting.

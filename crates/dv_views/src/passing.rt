@@ -13,6 +13,7 @@ ghost use Rattle.dv_views.specs.Keeping.{IsSoundLive, Turns, kept_seen, lists_of
 ghost use Rattle.dv_views.specs.Older.{told_found, views_before};
 ghost use Rattle.dv_views.specs.Passing.{IsTakenAt};
 ghost use Rattle.dv_views.specs.Placed as defined;
+ghost use Rattle.dv_views.specs.declared.passing.Left.TheVariants.{NoMemory};
 ghost use Rattle.dv_views.specs.Seen.{entry_view};
 ghost use Rattle.dv_views.specs.Views.{AreNamedApart, view_under};
 
@@ -20,11 +21,28 @@ use crate::keeping::taken_in_told;
 use crate::older::older;
 use crate::turner::Turner;
 use crate::view::View;
-use dv_bson::{NoMemory, Str};
 use dv_change::{Change, Input, Live};
 use dv_pipe::Pipeline;
+use dv_value::{NoMemory, Str};
 use indexmap::IndexMap;
 use std::alloc::{AllocError, Global};
+
+/// Why a view is left stale by a change.
+#[derive(Debug, Drop)]
+pub(crate) enum Left {
+    /// Memory was wanting.
+    NoMemory,
+    /// A view that it reads is stale.
+    StaleBelow,
+}
+
+impl From<AllocError> for Left {
+    ghost from_gives = { λ _ left. left ≡ NoMemory };
+
+    fn from(_refused: AllocError) -> Left {
+        Left::NoMemory
+    }
+}
 
 /// A change of what stands under a namespace, as it comes to the view at a place: views, of which those before the place tell
 /// what it makes of their rows.
@@ -90,7 +108,7 @@ impl<'a> Passing<'a> {
     }
 
     /// Takes in what comes to the source and to each list that a stage looks into, and tells what changes of the rows. Fails
-    /// where memory is wanting, and where a view that is read isn't live any more; then the rows are dropped.
+    /// where memory is wanting, and where a view that is read is stale; then the rows are dropped.
     fn turned(
         &self,
         alloc: Global,
@@ -98,14 +116,14 @@ impl<'a> Passing<'a> {
         pipeline: &Pipeline,
         source: &str,
         lookups: &[Str],
-    ) -> Result<(Live<Turner>, Vec<Change>), NoMemory>
+    ) -> Result<(Live<Turner>, Vec<Change>), Left>
         requires sound { IsSoundLive pipeline.now live }
         requires lookups { lookups.now ≡ defined.lookups_of pipeline.now source.now }
         ensures turns { IfOk result (λ r. Turns pipeline.now (arrivals pipeline.now source.now (told_found self.now.namespace.now self.now.changes.now self.now.place self.now.views.now.entries)) live [] r.0 r.1.items) }
         ensures live { IfOk result (λ _. AllByRecursion (λ name. IsLiveView (view_under name (views_before self.now.place self.now.views.now.entries))) (names_read pipeline.now source.now)) }
     {
         if !self.is_live(source) || !self.are_live(lookups) {
-            return Err(AllocError);
+            return Err(Left::StaleBelow);
         }
         let mut told = Vec::new(alloc);
         let come = self.told(source);
@@ -136,7 +154,7 @@ impl<'a> Passing<'a> {
 }
 
 /// Hands a change on to the view at a place: it takes it in where it comes to what the view reads, and tells what it makes of
-/// its rows. A view that finds no memory, or of which one that it reads isn't live any more, drops what it keeps and is stale.
+/// its rows. A view that finds no memory, or of which one that it reads is stale, drops what it keeps and is stale.
 pub(crate) fn take_at(
     alloc: Global,
     views: &mut IndexMap<String, View>,
@@ -163,9 +181,7 @@ pub(crate) fn take_at(
     };
     let view = &views[place];
     let turned = passing.turned(alloc, live, view.pipeline(), view.source(), view.lookups());
-    if let Ok((live, told)) = turned {
-        views[place].put_back(live, told);
-    }
+    views[place].settle(turned);
 }
 
 /// Whether the change comes to what the view at a place reads.

@@ -6,9 +6,9 @@ ghost use Rattle.dv_change.specs.declared.position.Part.TheVariants.{Up};
 ghost use Rattle.dv_coll.specs.Collection.{HasId, id_key};
 ghost use Rattle.dv_views.specs.Placed.{own_position};
 
-use dv_bson::{Document, NoMemory};
 use dv_change::{Change, Part, Pos};
 use dv_order::{Key, key_of};
+use dv_value::{Document, NoMemory};
 use std::alloc::Global;
 
 /// The document, which is shared and begins with its `_id`, put at its own position. Fails where memory is wanting.

@@ -18,14 +18,14 @@ ghost use Rattle.dv_views.specs.Views.{AreInOrder, AreNamedApart, ArePartlyRefre
 use crate::fault::ViewFault;
 use crate::laws;
 use crate::lookups::{is_listed, lookups_of, names_read, push_names_read};
-use crate::making::{Ground, mark_over};
+use crate::making::{Ground, made};
 use crate::passing::take_at;
 use crate::rows::Rows;
 use crate::state::ViewState;
 use crate::view::View;
-use dv_bson::{NoMemory, Str};
 use dv_change::Change;
 use dv_pipe::{Pipeline, Sources};
+use dv_value::{NoMemory, Str};
 use indexmap::IndexMap;
 use std::alloc::Global;
 use std::marker::Model;
@@ -134,7 +134,7 @@ impl Registry {
 
     /// The count of the work that changes of what it reads took since the view of this name was made: for each stage, 1 for
     /// each change that came to it, and 1 for each that it handed on. It stays at 9,223,372,036,854,775,807, and is 0 where the
-    /// view is stale, or its rows are made anew. None where there is no such view. Takes no memory.
+    /// view is stale. None where there is no such view. Takes no memory.
     pub fn ticks(&self, name: &str) -> Option<u64>
         ensures { result ≡ option_map (λ v. mark_ticks v.mark) (view_under name.now self.now) }
     {
@@ -250,9 +250,9 @@ impl Registry {
             place: self.views.len(),
             sources,
         };
-        let mark = mark_over(self.alloc, &ground, &pipeline, source, &lookups)?;
+        let rows = made(self.alloc, &ground, &pipeline, source, &lookups)?;
         let source = Str::of(String::from_str(self.alloc, source)?);
-        let view = View::new(source, pipeline, lookups, height, mark);
+        let view = View::new(source, pipeline, lookups, height, rows);
         let name = String::from_str(self.alloc, name)?;
         self.views.insert(name, view)?;
         Ok(())
@@ -271,8 +271,8 @@ impl Registry {
     /// Carries changes that were made to the documents under the namespace on to the views that stand over it: each change
     /// goes to each view in creation order before the next one, and there to the source first and then to each list that a
     /// stage looks into; what changes of a view's rows goes to the views that read it, one change after the other. A view
-    /// counts the work that this takes. One that finds no memory drops what it keeps and is stale, which takes none. So is
-    /// one whose rows were made anew, one with a `$push` over a group of more than 256 rows, and each that reads a stale one.
+    /// counts the work that this takes. One that finds no memory drops what it keeps and is stale, which takes none; so is each
+    /// that reads a stale one.
     pub fn apply(&mut self, namespace: &str, changes: &[Change])
         ensures forms { map view_form self.new ≡ map view_form self.old }
         ensures right { (lists : Lists) → AreMade changes.now (lists namespace.now) → AreRight lists self.old → AreRight (with_changed namespace.now changes.now lists) self.new }
@@ -352,7 +352,7 @@ impl Registry {
             place,
             sources,
         };
-        let mark = mark_over(
+        let rows = made(
             self.alloc,
             &ground,
             view.pipeline(),
@@ -360,7 +360,7 @@ impl Registry {
             view.lookups(),
         )?;
         let view = &mut self.views[place];
-        view.keep(mark);
+        view.keep(rows);
         Ok(())
     }
 

@@ -5,25 +5,15 @@ ghost use Rattle.std.specs.Iterator.{YieldsFirstRef, item_count};
 ghost use Rattle.dv_change.specs.Changes.{forget};
 
 use crate::turner::Turner;
-use dv_bson::Document;
 use dv_change::{Live, Pos};
+use dv_value::Document;
 use std::collections::btree_map::Values;
 use std::marker::Model;
-use std::slice;
-
-/// Where the rows of a view stand.
-#[derive(Debug, Drop)]
-enum Origin<'a> {
-    /// Where they are kept by changes.
-    Kept(Values<'a, Pos, Document>),
-    /// Where they were made anew.
-    Made(slice::Iter<'a, Document>),
-}
 
 /// Rows of a view that are still to come, in order.
 #[derive(Debug, Drop)]
 pub struct Rows<'a> {
-    origin: Origin<'a>,
+    rows: Values<'a, Pos, Document>,
 }
 
 impl<'a> Model for Rows<'a> {
@@ -35,9 +25,7 @@ impl<'a> Model for Rows<'a> {
 
     ghost coded = { coded_view_rows };
 
-    ghost use Rattle.dv_views.specs.RowsView.{rows_in_order};
-
-    ghost view = { λ r. rows_in_order r.origin };
+    ghost view = { λ r. r.rows };
 }
 
 impl<'a> Rows<'a> {
@@ -45,18 +33,7 @@ impl<'a> Rows<'a> {
     pub(crate) fn of_kept(live: &'a Live<Turner>) -> Self
         ensures { result ≡ forget live.now.rows.entries }
     {
-        Rows {
-            origin: Origin::Kept(live.rows()),
-        }
-    }
-
-    /// These rows.
-    pub(crate) fn of_made(rows: &'a [Document]) -> Self
-        ensures { result ≡ rows.now }
-    {
-        Rows {
-            origin: Origin::Made(rows.iter()),
-        }
+        Rows { rows: live.rows() }
     }
 }
 
@@ -68,9 +45,6 @@ impl<'a> Iterator for Rows<'a> {
     ghost remaining = { item_count (λ r. r) };
 
     fn next(&mut self) -> Option<&'a Document> {
-        match &mut self.origin {
-            Origin::Kept(rows) => rows.next(),
-            Origin::Made(rows) => rows.next(),
-        }
+        self.rows.next()
     }
 }

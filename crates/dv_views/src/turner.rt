@@ -3,12 +3,12 @@
 ghost use Rattle.std.specs.Prelude.{IfOk};
 ghost use Rattle.dv_views.specs.Turning.{AreFresh, IsFreshTurner, IsSoundTurner, turner_empty, turner_even, turner_left, turner_makes, turner_ordered, turner_others, turner_positioned};
 
-use dv_bson::NoMemory;
 use dv_change::{Change, Input, Ticks, Turn};
 use dv_flow::{LimitTurn, MatchTurn, ProjectTurn, SimpleTurn, SortTurn, UnwindTurn};
 use dv_group::GroupTurn;
 use dv_join::LookupTurn;
 use dv_pipe::Stage;
+use dv_value::NoMemory;
 use std::alloc::Global;
 
 /// A stage of any kind, kept by changes, so that all can stand in one chain.
@@ -58,6 +58,14 @@ impl Turn for Turner {
             Turner::Simple(turn) => turn.change(input, change, ticks, out),
             Turner::Group(turn) => turn.change(input, change, ticks, out),
             Turner::Lookup(turn) => turn.change(input, change, ticks, out),
+        }
+    }
+
+    fn fill(&mut self, changes: Vec<Change>) -> Result<Vec<Change>, NoMemory> {
+        match self {
+            Turner::Simple(turn) => turn.fill(changes),
+            Turner::Group(turn) => turn.fill(changes),
+            Turner::Lookup(turn) => turn.fill(changes),
         }
     }
 }

@@ -1,19 +1,18 @@
 //! Views in memory.
 
-ghost use Rattle.std.specs.Prelude.{◌≡◌, ◌≢◌, [], Some, None, List, IfSome, false, true};
+ghost use Rattle.std.specs.Prelude.{◌≡◌, ◌≢◌, [], Some, None, List, IfErr, IfOk, IfSome, false, is_none, true};
 ghost use Rattle.std.specs.Option.{option_map};
 ghost use Rattle.dv_pipe.specs.Stages.{is_read};
 ghost use Rattle.dv_views.specs.Keeping.{IsSoundLive, kept_seen};
-ghost use Rattle.dv_views.specs.MarkView.{IsSoundMark, mark_seen};
 ghost use Rattle.dv_views.specs.Placed as defined;
 ghost use Rattle.dv_views.specs.Views.{is_stale, kept_rows, live, mark_rows, stale, state_of_mark, mark_ticks};
 
 use crate::rows::Rows;
 use crate::state::ViewState;
 use crate::turner::Turner;
-use dv_bson::{Document, Str};
 use dv_change::{Change, Live};
 use dv_pipe::Pipeline;
+use dv_value::Str;
 use std::fmt;
 use std::marker::Model;
 use std::mem::replace;
@@ -37,8 +36,6 @@ pub(crate) struct View {
 pub(crate) enum Mark {
     /// Its rows, kept by changes.
     Live(Live<Turner>),
-    /// Its rows, made anew, until what it reads changes.
-    Made(Vec<Document>),
     /// Nothing, since its rows have to be made anew.
     Stale,
 }
@@ -47,7 +44,6 @@ impl fmt::Debug for Mark {
     fn fmt<W: fmt::Write>(&self, f: &mut fmt::Formatter<W>) -> fmt::Result {
         match self {
             Mark::Live(live) => write!(f, "Live({})", live.len()),
-            Mark::Made(made) => write!(f, "Made({})", made.len()),
             Mark::Stale => write!(f, "Stale"),
         }
     }
@@ -69,24 +65,24 @@ impl Model for View {
 }
 
 impl View {
-    /// A view at this height that keeps this.
+    /// A view at this height that keeps these rows.
     pub(crate) fn new(
         source: Str,
         pipeline: Pipeline,
         lookups: Vec<Str>,
         height: usize,
-        mark: Mark,
+        rows: Live<Turner>,
     ) -> Self
         requires lookups { lookups.items ≡ defined.lookups_of pipeline source }
-        requires sound { IsSoundMark pipeline mark }
-        ensures { result ≡ record { source = source; stages = pipeline; height = height; mark = mark_seen mark; told = None } }
+        requires sound { IsSoundLive pipeline rows }
+        ensures { result ≡ record { source = source; stages = pipeline; height = height; mark = live (kept_seen rows); told = None } }
     {
         View {
             source,
             pipeline,
             lookups,
             height,
-            mark,
+            mark: Mark::Live(rows),
             told: None,
         }
     }
@@ -131,7 +127,7 @@ impl View {
         ensures { result ≡ state_of_mark self.now.mark }
     {
         match self.mark {
-            Mark::Live(_) | Mark::Made(_) => ViewState::Live,
+            Mark::Live(_) => ViewState::Live,
             Mark::Stale => ViewState::Stale,
         }
     }
@@ -149,7 +145,6 @@ impl View {
     {
         match &self.mark {
             Mark::Live(live) => Some(Rows::of_kept(live)),
-            Mark::Made(made) => Some(Rows::of_made(made.as_slice())),
             Mark::Stale => None,
         }
     }
@@ -160,7 +155,6 @@ impl View {
     {
         match &self.mark {
             Mark::Live(live) => live.len(),
-            Mark::Made(made) => made.len(),
             Mark::Stale => 0,
         }
     }
@@ -171,7 +165,7 @@ impl View {
     {
         match &self.mark {
             Mark::Live(live) => live.ticks(),
-            Mark::Made(_) | Mark::Stale => 0,
+            Mark::Stale => 0,
         }
     }
 
@@ -179,10 +173,11 @@ impl View {
     pub(crate) fn live(&self) -> Option<&Live<Turner>>
         ensures kept { IfSome result (λ rows. self.now.mark ≡ live (kept_seen rows.now)) }
         ensures sound { IfSome result (λ rows. IsSoundLive self.now.stages rows.now) }
+        ensures none { is_none result ≡ is_stale self.now.mark }
     {
         match &self.mark {
             Mark::Live(live) => Some(live),
-            Mark::Made(_) | Mark::Stale => None,
+            Mark::Stale => None,
         }
     }
 
@@ -214,24 +209,27 @@ impl View {
         self.told = Some(nothing);
         match replace(&mut self.mark, Mark::Stale) {
             Mark::Live(live) => Some(live),
-            Mark::Made(_) | Mark::Stale => None,
+            Mark::Stale => None,
         }
     }
 
-    /// Puts back the rows behind a change, and what is told of it.
-    pub(crate) fn put_back(&mut self, rows: Live<Turner>, told: Vec<Change>)
-        requires { IsSoundLive self.old.stages rows }
-        ensures { self.new ≡ record self.old { mark = live (kept_seen rows); told = Some told.items } }
+    /// Puts back the rows behind a change, and what is told of it, where all went well.
+    pub(crate) fn settle<E: Drop>(&mut self, turned: Result<(Live<Turner>, Vec<Change>), E>)
+        requires { IfOk turned (λ r. IsSoundLive self.old.stages r.0) }
+        ensures live { IfOk turned (λ r. self.new ≡ record self.old { mark = live (kept_seen r.0); told = Some r.1.items }) }
+        ensures left { IfErr turned (λ _. self.new ≡ self.old) }
     {
-        self.mark = Mark::Live(rows);
-        self.told = Some(told);
+        if let Ok((rows, told)) = turned {
+            self.mark = Mark::Live(rows);
+            self.told = Some(told);
+        }
     }
 
-    /// Keeps this from now on.
-    pub(crate) fn keep(&mut self, mark: Mark)
-        requires { IsSoundMark self.old.stages mark }
-        ensures { self.new ≡ record self.old { mark = mark_seen mark } }
+    /// Keeps these rows from now on.
+    pub(crate) fn keep(&mut self, rows: Live<Turner>)
+        requires { IsSoundLive self.old.stages rows }
+        ensures { self.new ≡ record self.old { mark = live (kept_seen rows) } }
     {
-        self.mark = mark;
+        self.mark = Mark::Live(rows);
     }
 }

@@ -2,7 +2,7 @@
 use Rattle.std.proofs.Common.{◌≡◌, ◌≤◌, ℕ, zero, suc, ◌⊎◌, Bool, true, false, List, [], ◌∷◌, ◌++◌, length, map, take, Option, Some, None, Ok, Err, MatchOption, refl, sym, ap, ap₂, subst, ◌∙◌, inl, inr, if◌then◌else◌, lt-ltb, le-ltb}
 use Rattle.std.specs.List.{AllByRecursion, concat}
 use Rattle.std.proofs.lemmas.Bool.{and_from, and_left, and_right}
-use Rattle.dv_bson.specs.Tree.{Field}
+use Rattle.dv_value.specs.Tree.{Field}
 use Rattle.dv_command.specs.declared.command.Command.{Command}
 use Rattle.dv_core.specs.State.{State}
 use Rattle.dv_core.specs.Step.{counted_step, end_session}
@@ -12,12 +12,12 @@ use Rattle.dv_wire.specs.declared.events.Event.{Event}
 use Rattle.dv_wire.specs.declared.events.Event.TheVariants as events
 use Rattle.dv_wire.specs.declared.events.Said.{Said}
 use Rattle.dv_wire.specs.declared.events.Said.TheVariants as said
-use Rattle.dv_wire.specs.declared.fault.CloseFault.TheVariants.{NoMemory}
+use Rattle.dv_message.specs.declared.fault.CloseFault.TheVariants.{NoMemory}
 use Rattle.dv_wire.specs.declared.fault.HubFault.TheVariants as hub_faults
 use Rattle.dv_wire.specs.declared.hub.Fed.{Fed}
 use Rattle.dv_wire.specs.declared.hub.Fed.TheVariants as fed
-use Rattle.dv_wire.specs.Commands.{command_of}
-use Rattle.dv_wire.specs.Message.{Conversation, Message, Split, closed, reading, split}
+use Rattle.dv_message.specs.Commands.{command_of}
+use Rattle.dv_message.specs.Message.{Conversation, Message, Split, closed, reading, split}
 use Rattle.dv_wire.specs.Order.{Happening, Moment, OfCommands, Played, comes, heard, is_room, moments_heard, order, plain_event, plain_fed, plain_play, with_next}
 use Rattle.dv_wire.specs.Playing.{HappensBy, PlaysBy}
 use Rattle.dv_wire.specs.Schedule.{CarriesOutBy, HearsBy, Run, SessionSteps, TakesBy, World, bytes_of, bytes_to, conversation_of, end, fed_of, number_limit, plain_messages, plain_run, reply_bytes, session_limit, silence, takes_all, takes_some, with_conversation, world_behind}

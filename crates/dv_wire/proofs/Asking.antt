@@ -1,6 +1,6 @@
 -- How often a reader was asked.
 use Rattle.std.proofs.Common.{ℕ, ◌+◌, ◌^◌, ◌<◌, ◌≤◌, arith}
-use Rattle.dv_wire.specs.Stream.{MoreBy}
+use Rattle.dv_streams.specs.Stream.{MoreBy}
 use Rattle.dv_wire.specs.Service.{AsksFew, most_reads}
 
 pub no_more : (count : ℕ) → MoreBy 0 count count

@@ -5,17 +5,17 @@ use Rattle.std.proofs.lemmas.List.{append-nil, take-append-le, take_min}
 use Rattle.std.specs.Prelude.{⊤}
 use Rattle.std.specs.List.{concat}
 use Rattle.std.proofs.lemmas.List.Folds.{concat-append}
-use Rattle.dv_wire.specs.declared.fault.CloseFault.{CloseFault}
-use Rattle.dv_wire.specs.declared.fault.CloseFault.TheVariants.{NoMemory}
+use Rattle.dv_message.specs.declared.fault.CloseFault.{CloseFault}
+use Rattle.dv_message.specs.declared.fault.CloseFault.TheVariants.{NoMemory}
 use Rattle.dv_wire.specs.declared.hub.Fed.{Fed}
 use Rattle.dv_wire.specs.declared.hub.Fed.TheVariants.{Unknown}
 use Rattle.dv_core.specs.State.{State}
 use Rattle.dv_core.specs.Step.{MemoryStep}
-use Rattle.dv_wire.specs.Message.{Message, Conversation, reading, closed, Split, split, continuation}
+use Rattle.dv_message.specs.Message.{Message, Conversation, reading, closed, Split, split, continuation}
 use Rattle.dv_wire.specs.Schedule.{Run, in_front, silence, CarriesOutMessages, TakesSplit, takes_all, takes_some, Hears, fed_of, World, conversation_of, with_conversation, world_behind, plain_run, bytes_of, Feeds, FeedsAll, stream_of}
 use Rattle.dv_wire.specs.View.{GoesOn}
 use Rattle.dv_wire.proofs.Runs.{in_front-silence, carries_then, carries_to, carries_cases, carries_all, carries_shut, stops_so, Divides}
-use Rattle.dv_wire.proofs.Growth.{split_continues}
+use Rattle.dv_wire.proofs.Fronts.{GoOn}
 use Rattle.dv_wire.proofs.Replies.{IsAllowed, allows_any, plain_carries}
 use Rattle.dv_wire.proofs.Worlds.{conversation_of-with}
 
@@ -135,29 +135,30 @@ record HearsTwo (session : ℕ) (old : State) (before : Conversation) (piece mor
   second : Hears session one.state one.conversation more two
   both : run ≡ in_front one.answers two
 
-cut_at : (kept piece more : List ℕ) → split (kept ++ (piece ++ more)) ≡ continuation (split (kept ++ piece)) more
-cut_at kept piece more = ap split (sym (append_assoc kept piece more)) ∙ split_continues (kept ++ piece) more
+module _ (go_on : GoOn) where
+  cut_at : (kept piece more : List ℕ) → split (kept ++ (piece ++ more)) ≡ continuation (split (kept ++ piece)) more
+  cut_at kept piece more = ap split (sym (append_assoc kept piece more)) ∙ go_on (kept ++ piece) more
 
-hears_two : (session : ℕ) (old : State) (before : Conversation) (piece more : List ℕ) (run : Run) → Hears session old before (piece ++ more) run → HearsTwo session old before piece more run
-hears_two session old (closed fault) piece more run hears =
-    record { one = silence old (closed fault); two = silence old (closed fault); first = refl; second = refl; both = hears }
-hears_two session old (reading kept) piece more run hears =
-    let s = split (kept ++ piece) in
-    let two = two_of session old more run s.messages s.conversation (subst (λ (t : Split). TakesSplit session old t run) (cut_at kept piece more) hears) in
-    record { one = two.one; two = two.two; first = two.before; second = two.behind; both = two.both }
+  hears_two : (session : ℕ) (old : State) (before : Conversation) (piece more : List ℕ) (run : Run) → Hears session old before (piece ++ more) run → HearsTwo session old before piece more run
+  hears_two session old (closed fault) piece more run hears =
+      record { one = silence old (closed fault); two = silence old (closed fault); first = refl; second = refl; both = hears }
+  hears_two session old (reading kept) piece more run hears =
+      let s = split (kept ++ piece) in
+      let two = two_of session old more run s.messages s.conversation (subst (λ (t : Split). TakesSplit session old t run) (cut_at kept piece more) hears) in
+      record { one = two.one; two = two.two; first = two.before; second = two.behind; both = two.both }
 
-hears_one : (session : ℕ) (old : State) (before : Conversation) (piece more : List ℕ) (run : Run) → HearsTwo session old before piece more run → Hears session old before (piece ++ more) run
-hears_one session old (closed fault) piece more run two =
-    let nothing = subst (λ (r : Run). Hears session r.state r.conversation more two.two) two.first two.second in
-    two.both ∙ ap (λ (r : Run). in_front r.answers two.two) two.first ∙ nothing
-hears_one session old (reading kept) piece more run two =
-    let taken = one_of session old more (split (kept ++ piece)) two.one two.two two.first two.second in
-    subst (λ (t : Split). TakesSplit session old t run) (sym (cut_at kept piece more)) (subst (λ (r : Run). TakesSplit session old (continuation (split (kept ++ piece)) more) r) (sym two.both) taken)
+  hears_one : (session : ℕ) (old : State) (before : Conversation) (piece more : List ℕ) (run : Run) → HearsTwo session old before piece more run → Hears session old before (piece ++ more) run
+  hears_one session old (closed fault) piece more run two =
+      let nothing = subst (λ (r : Run). Hears session r.state r.conversation more two.two) two.first two.second in
+      two.both ∙ ap (λ (r : Run). in_front r.answers two.two) two.first ∙ nothing
+  hears_one session old (reading kept) piece more run two =
+      let taken = one_of session old more (split (kept ++ piece)) two.one two.two two.first two.second in
+      subst (λ (t : Split). TakesSplit session old t run) (sym (cut_at kept piece more)) (subst (λ (r : Run). TakesSplit session old (continuation (split (kept ++ piece)) more) r) (sym two.both) taken)
 
-pub hears_joined : (session : ℕ) (old : State) (before : Conversation) (piece more : List ℕ) (one two : Run) → Hears session old before piece one → Hears session one.state one.conversation more two
-    → Hears session old before (piece ++ more) (in_front one.answers two)
-hears_joined session old before piece more one two first second =
-    hears_one session old before piece more (in_front one.answers two) (record { one = one; two = two; first = first; second = second; both = refl })
+  pub hears_joined : (session : ℕ) (old : State) (before : Conversation) (piece more : List ℕ) (one two : Run) → Hears session old before piece one → Hears session one.state one.conversation more two
+      → Hears session old before (piece ++ more) (in_front one.answers two)
+  hears_joined session old before piece more one two first second =
+      hears_one session old before piece more (in_front one.answers two) (record { one = one; two = two; first = first; second = second; both = refl })
 
 -- ---- the world
 
@@ -170,69 +171,70 @@ pub world_twice : (old : World) (session : ℕ) (one two : Run) → world_behind
 world_twice old session one two =
     ap (λ (ss : List (ℕ × Conversation)). record { state = two.state; next = old.next; sessions = ss }) (is_last session old.sessions one.conversation two.conversation)
 
-feeds_two : (old new : World) (session : ℕ) (piece more bytes : List ℕ) (answer : Fed) (here : Option Conversation) → conversation_of session old.sessions ≡ here
-    → Feeds old session (piece ++ more) bytes answer new → FeedsAll old session piece (more ∷ []) bytes answer new
-feeds_two old new session piece more bytes answer None e feeds =
-    let (answers, is, nothing) = rw e at feeds in
-    ([], [], old, Unknown, is ∙ ap concat nothing.0, ([], refl, rw e (refl, refl, refl)), ([], refl, rw e (refl, nothing.1, nothing.2)))
-feeds_two old new session piece more bytes answer (Some before) e feeds =
-    let (answers, is, (run, hears, are, told, world)) = rw e at feeds in
-    let two = hears_two session old.state before piece more run hears in
-    let between : conversation_of session (world_behind session two.one old).sessions ≡ Some two.one.conversation = conversation_of-with session old.sessions before two.one.conversation e in
-    let same = ap (λ (r : Run). r.conversation) two.both in (
-      bytes_of two.one,
-      bytes_of two.two,
-      world_behind session two.one old,
-      fed_of two.one.conversation,
-      is ∙ ap concat are ∙ ap bytes_of two.both ∙ concat-append two.one.answers two.two.answers,
-      (two.one.answers, refl, rw e (two.one, two.first, refl, refl, refl)),
-      (two.two.answers, refl, rw between (two.two, two.second, refl, told ∙ ap fed_of same, world ∙ ap (λ (r : Run). world_behind session r old) two.both ∙ sym (world_twice old session two.one two.two))),
-    )
-
 parts_same : (bytes first others one two : List ℕ) → bytes ≡ first ++ others → first ≡ one → others ≡ two → bytes ≡ one ++ two
 parts_same bytes first others one two both same_one same_two = cc
 
-feeds_so : (old new : World) (session : ℕ) (before : Conversation) (piece more bytes : List ℕ) (answer : Fed) (one two : Run) → conversation_of session old.sessions ≡ Some before
-    → Hears session old.state before piece one → Hears session one.state one.conversation more two → bytes ≡ bytes_of one ++ bytes_of two → answer ≡ fed_of two.conversation
-    → new ≡ world_behind session two (world_behind session one old) → Feeds old session (piece ++ more) bytes answer new
-feeds_so old new session before piece more bytes answer one two e first second are told world =
-    let both = in_front one.answers two in
-    (both.answers, are ∙ sym (concat-append one.answers two.answers), rw e (both, hears_joined session old.state before piece more one two first second, refl, told, world ∙ world_twice old session one two))
+module _ (go_on : GoOn) where
+  feeds_two : (old new : World) (session : ℕ) (piece more bytes : List ℕ) (answer : Fed) (here : Option Conversation) → conversation_of session old.sessions ≡ here
+      → Feeds old session (piece ++ more) bytes answer new → FeedsAll old session piece (more ∷ []) bytes answer new
+  feeds_two old new session piece more bytes answer None e feeds =
+      let (answers, is, nothing) = rw e at feeds in
+      ([], [], old, Unknown, is ∙ ap concat nothing.0, ([], refl, rw e (refl, refl, refl)), ([], refl, rw e (refl, nothing.1, nothing.2)))
+  feeds_two old new session piece more bytes answer (Some before) e feeds =
+      let (answers, is, (run, hears, are, told, world)) = rw e at feeds in
+      let two = hears_two go_on session old.state before piece more run hears in
+      let between : conversation_of session (world_behind session two.one old).sessions ≡ Some two.one.conversation = conversation_of-with session old.sessions before two.one.conversation e in
+      let same = ap (λ (r : Run). r.conversation) two.both in (
+        bytes_of two.one,
+        bytes_of two.two,
+        world_behind session two.one old,
+        fed_of two.one.conversation,
+        is ∙ ap concat are ∙ ap bytes_of two.both ∙ concat-append two.one.answers two.two.answers,
+        (two.one.answers, refl, rw e (two.one, two.first, refl, refl, refl)),
+        (two.two.answers, refl, rw between (two.two, two.second, refl, told ∙ ap fed_of same, world ∙ ap (λ (r : Run). world_behind session r old) two.both ∙ sym (world_twice old session two.one two.two))),
+      )
 
-feeds_one : (old new : World) (session : ℕ) (piece more bytes : List ℕ) (answer : Fed) (here : Option Conversation) → conversation_of session old.sessions ≡ here
-    → FeedsAll old session piece (more ∷ []) bytes answer new → Feeds old session (piece ++ more) bytes answer new
-feeds_one old new session piece more bytes answer None e (first, others, mid, told, both, before, behind) =
-    let (answers, is, one) = rw e at before in
-    let (more_answers, are, two) = rw (one.2, e) at behind in
-    ([], parts_same bytes first others [] [] both (is ∙ ap concat one.0) (are ∙ ap concat two.0), rw e (refl, two.1, two.2))
-feeds_one old new session piece more bytes answer (Some before) e (first, others, mid, told, both, feeds, behind) =
-    let (answers, is, (one, hears, are, told_one, world)) = rw e at feeds in
-    let between : conversation_of session (world_behind session one old).sessions ≡ Some one.conversation = conversation_of-with session old.sessions before one.conversation e in
-    let (more_answers, is_more, (two, hears_more, are_more, told_two, world_two)) = rw between at (subst (λ (w : World). Feeds w session more others answer new) world behind) in
-    feeds_so old new session before piece more bytes answer one two e hears hears_more (parts_same bytes first others (bytes_of one) (bytes_of two) both (is ∙ ap concat are) (is_more ∙ ap concat are_more)) told_two world_two
+  feeds_so : (old new : World) (session : ℕ) (before : Conversation) (piece more bytes : List ℕ) (answer : Fed) (one two : Run) → conversation_of session old.sessions ≡ Some before
+      → Hears session old.state before piece one → Hears session one.state one.conversation more two → bytes ≡ bytes_of one ++ bytes_of two → answer ≡ fed_of two.conversation
+      → new ≡ world_behind session two (world_behind session one old) → Feeds old session (piece ++ more) bytes answer new
+  feeds_so old new session before piece more bytes answer one two e first second are told world =
+      let both = in_front one.answers two in
+      (both.answers, are ∙ sym (concat-append one.answers two.answers), rw e (both, hears_joined go_on session old.state before piece more one two first second, refl, told, world ∙ world_twice old session one two))
 
--- ---- any number of pieces
+  feeds_one : (old new : World) (session : ℕ) (piece more bytes : List ℕ) (answer : Fed) (here : Option Conversation) → conversation_of session old.sessions ≡ here
+      → FeedsAll old session piece (more ∷ []) bytes answer new → Feeds old session (piece ++ more) bytes answer new
+  feeds_one old new session piece more bytes answer None e (first, others, mid, told, both, before, behind) =
+      let (answers, is, one) = rw e at before in
+      let (more_answers, are, two) = rw (one.2, e) at behind in
+      ([], parts_same bytes first others [] [] both (is ∙ ap concat one.0) (are ∙ ap concat two.0), rw e (refl, two.1, two.2))
+  feeds_one old new session piece more bytes answer (Some before) e (first, others, mid, told, both, feeds, behind) =
+      let (answers, is, (one, hears, are, told_one, world)) = rw e at feeds in
+      let between : conversation_of session (world_behind session one old).sessions ≡ Some one.conversation = conversation_of-with session old.sessions before one.conversation e in
+      let (more_answers, is_more, (two, hears_more, are_more, told_two, world_two)) = rw between at (subst (λ (w : World). Feeds w session more others answer new) world behind) in
+      feeds_so old new session before piece more bytes answer one two e hears hears_more (parts_same bytes first others (bytes_of one) (bytes_of two) both (is ∙ ap concat are) (is_more ∙ ap concat are_more)) told_two world_two
 
-pub feeds_joined : (old new : World) (session : ℕ) (piece : List ℕ) (pieces : List (List ℕ)) (bytes : List ℕ) (answer : Fed)
-    → FeedsAll old session piece pieces bytes answer new → Feeds old session (stream_of piece pieces) bytes answer new
-feeds_joined old new session piece [] bytes answer feeds = feeds
-feeds_joined old new session piece (next ∷ pieces) bytes answer (first, others, mid, told, both, feeds, behind) =
-    feeds_one old new session piece (stream_of next pieces) bytes answer (conversation_of session old.sessions) refl
-    (first, others, mid, told, both, feeds, feeds_joined mid new session next pieces others answer behind)
+  -- ---- any number of pieces
 
-pub feeds_all : (old new : World) (session : ℕ) (piece : List ℕ) (pieces : List (List ℕ)) (bytes : List ℕ) (answer : Fed)
-    → Feeds old session (stream_of piece pieces) bytes answer new → FeedsAll old session piece pieces bytes answer new
-feeds_all old new session piece [] bytes answer feeds = feeds
-feeds_all old new session piece (next ∷ pieces) bytes answer feeds =
-    let (first, others, mid, told, both, before, behind) = feeds_two old new session piece (stream_of next pieces) bytes answer (conversation_of session old.sessions) refl feeds in
-    (first, others, mid, told, both, before, feeds_all mid new session next pieces others answer behind)
+  pub feeds_joined : (old new : World) (session : ℕ) (piece : List ℕ) (pieces : List (List ℕ)) (bytes : List ℕ) (answer : Fed)
+      → FeedsAll old session piece pieces bytes answer new → Feeds old session (stream_of piece pieces) bytes answer new
+  feeds_joined old new session piece [] bytes answer feeds = feeds
+  feeds_joined old new session piece (next ∷ pieces) bytes answer (first, others, mid, told, both, feeds, behind) =
+      feeds_one old new session piece (stream_of next pieces) bytes answer (conversation_of session old.sessions) refl
+      (first, others, mid, told, both, feeds, feeds_joined mid new session next pieces others answer behind)
 
--- the plain run, however its bytes are cut
-pub plain_feeds : IsAllowed → (world : World) (session : ℕ) (kept piece : List ℕ) (pieces : List (List ℕ)) → conversation_of session world.sessions ≡ Some (reading kept) →
-    let run = plain_run session world.state (split (kept ++ stream_of piece pieces)) in
-    FeedsAll world session piece pieces (bytes_of run) (fed_of run.conversation) (world_behind session run world)
-plain_feeds allowed world session kept piece pieces there =
-    let stream = split (kept ++ stream_of piece pieces) in
-    let run = plain_run session world.state stream in
-    feeds_all world (world_behind session run world) session piece pieces (bytes_of run) (fed_of run.conversation)
-    (run.answers, refl, rw there (run, takes_all (plain_carries MemoryStep (λ state. ⊤) (allows_any allowed) session world.state stream.messages stream.conversation tt), refl, refl, refl))
+  pub feeds_all : (old new : World) (session : ℕ) (piece : List ℕ) (pieces : List (List ℕ)) (bytes : List ℕ) (answer : Fed)
+      → Feeds old session (stream_of piece pieces) bytes answer new → FeedsAll old session piece pieces bytes answer new
+  feeds_all old new session piece [] bytes answer feeds = feeds
+  feeds_all old new session piece (next ∷ pieces) bytes answer feeds =
+      let (first, others, mid, told, both, before, behind) = feeds_two old new session piece (stream_of next pieces) bytes answer (conversation_of session old.sessions) refl feeds in
+      (first, others, mid, told, both, before, feeds_all mid new session next pieces others answer behind)
+
+  -- the plain run, however its bytes are cut
+  pub plain_feeds : IsAllowed → (world : World) (session : ℕ) (kept piece : List ℕ) (pieces : List (List ℕ)) → conversation_of session world.sessions ≡ Some (reading kept) →
+      let run = plain_run session world.state (split (kept ++ stream_of piece pieces)) in
+      FeedsAll world session piece pieces (bytes_of run) (fed_of run.conversation) (world_behind session run world)
+  plain_feeds allowed world session kept piece pieces there =
+      let stream = split (kept ++ stream_of piece pieces) in
+      let run = plain_run session world.state stream in
+      feeds_all world (world_behind session run world) session piece pieces (bytes_of run) (fed_of run.conversation)
+      (run.answers, refl, rw there (run, takes_all (plain_carries MemoryStep (λ state. ⊤) (allows_any allowed) session world.state stream.messages stream.conversation tt), refl, refl, refl))

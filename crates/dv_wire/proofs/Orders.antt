@@ -5,8 +5,8 @@ use Rattle.dv_core.specs.State.{State}
 use Rattle.dv_core.specs.Step.{counted_step, end_session}
 use Rattle.dv_wire.specs.declared.events.Event.{Event}
 use Rattle.dv_wire.specs.declared.events.Event.TheVariants as events
-use Rattle.dv_wire.specs.Message.{Message, Conversation, reading, closed, Split, split}
-use Rattle.dv_wire.specs.Commands.{command_of}
+use Rattle.dv_message.specs.Message.{Message, Conversation, reading, closed, Split, split}
+use Rattle.dv_message.specs.Commands.{command_of}
 use Rattle.dv_wire.specs.Schedule.{SessionSteps, World, silence, conversation_of, number_limit, plain_messages, plain_run, reply_bytes, bytes_of, session_limit, takes_all, with_conversation, world_behind}
 use Rattle.dv_wire.specs.Playing.{Happens, HappensBy, PlaysBy}
 use Rattle.dv_wire.specs.Order.{Moment, opens, comes, ends, is_room, heard, moments_heard, order, state_left, replies_behind, plain_fed, plain_event, plain_play, answers}

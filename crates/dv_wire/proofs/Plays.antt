@@ -6,12 +6,13 @@ use Rattle.dv_wire.specs.declared.events.Said.{Said}
 use Rattle.dv_wire.specs.declared.events.Said.TheVariants as said
 use Rattle.dv_wire.specs.declared.hub.Fed.{Fed}
 use Rattle.dv_wire.specs.declared.hub.SessionId.{SessionId}
-use Rattle.dv_wire.specs.Message.{reading}
+use Rattle.dv_message.specs.Message.{reading}
 use Rattle.dv_wire.specs.Schedule.{Run, World, FeedsAll, bytes_of, conversation_of, fed_of, unfinished_in, world_behind}
 use Rattle.dv_wire.specs.Service.{IsSession}
 use Rattle.dv_wire.specs.Sound.{IsNumbered}
 use Rattle.dv_wire.proofs.Worlds.{conversation_of-with, opened_there}
 use Rattle.dv_wire.specs.Playing.{Happens, Plays, ComesInTwo}
+use Rattle.dv_wire.proofs.Fronts.{GoOn}
 use Rattle.dv_wire.proofs.Cuts.{feeds_joined, feeds_all}
 
 pub taken : (events : List Event) (i : ℕ) (item : Event) → i < length events → item ≡ get_or events i item → take (i + 1) events ≡ take i events ++ item ∷ []
@@ -41,7 +42,7 @@ plays_more old mid new events all event last plays happens = plays_joined old mi
 
 -- ---- a piece as two
 
-module _ (session : SessionId) (piece more : List ℕ) (after : List Event) (told : Fed) (behind : List Said) where
+module _ (go_on : GoOn) (session : SessionId) (piece more : List ℕ) (after : List Event) (told : Fed) (behind : List Said) where
   pub in_two : (old new : World) (before : List Event) (answers : List Said) (bytes : List ℕ) → length before ≡ length answers
       → Plays old (before ++ events.Piece session (piece ++ more) ∷ after) (answers ++ said.Fed told bytes ∷ behind) new
       → ComesInTwo old before session piece more after answers told bytes behind new
@@ -49,7 +50,7 @@ module _ (session : SessionId) (piece more : List ℕ) (after : List Event) (tol
       let whole : said.Fed told bytes ≡ first = cc in
       let all : behind ≡ others = cc in
       let feeds = subst (λ (s : Said). Happens old (events.Piece session (piece ++ more)) s mid) (sym whole) here in
-      let (one, two, between, told_first, both, feeds_first, feeds_second) = feeds_all old mid session.number piece (more ∷ []) bytes told feeds in (
+      let (one, two, between, told_first, both, feeds_first, feeds_second) = feeds_all go_on old mid session.number piece (more ∷ []) bytes told feeds in (
         one,
         two,
         told_first,
@@ -81,7 +82,7 @@ module _ (session : SessionId) (piece more : List ℕ) (after : List Event) (tol
       let behind_is : behind ≡ others' = cc in
       let feeds : FeedsAll old session.number piece (more ∷ []) bytes told mid' =
       (one, two, mid, told_first, both, subst (λ (s : Said). Happens old (events.Piece session piece) s mid) (sym first_is) here, subst (λ (s : Said). Happens mid (events.Piece session more) s mid') (sym second_is) here') in
-      (said.Fed told bytes, behind, mid', refl, feeds_joined old mid' session.number piece (more ∷ []) bytes told feeds, subst (λ (ss : List Said). Plays mid' after ss new) (sym behind_is) rest)
+      (said.Fed told bytes, behind, mid', refl, feeds_joined go_on old mid' session.number piece (more ∷ []) bytes told feeds, subst (λ (ss : List Said). Plays mid' after ss new) (sym behind_is) rest)
   as_one old new [] (answer ∷ answers) bytes same plays = absurd (omega arith)
   as_one old new (event ∷ before) [] bytes same plays = absurd (omega arith)
   as_one old new (event ∷ before) (answer ∷ answers) bytes same (one, two, told_first, both, (first, others, mid, is, here, rest)) =

@@ -1,11 +1,11 @@
 -- A whole session: it was opened, and has ended.
 use Rattle.std.proofs.Common.{◌≡◌, ℕ, List, [], length, Option, Some, Ok, Err, refl, ap, ◌∙◌}
-use Rattle.dv_wire.specs.declared.fault.CloseFault.{CloseFault}
+use Rattle.dv_message.specs.declared.fault.CloseFault.{CloseFault}
 use Rattle.dv_wire.specs.declared.fault.RunFault.{RunFault}
 use Rattle.dv_wire.specs.declared.fault.RunFault.TheVariants.{Read, Write, TooManyReads, Hub}
 use Rattle.dv_wire.specs.declared.hub.SessionId.{SessionId}
 use Rattle.dv_wire.specs.declared.session.Counts.{Counts}
-use Rattle.dv_wire.specs.Message.{reading}
+use Rattle.dv_message.specs.Message.{reading}
 use Rattle.dv_wire.specs.Schedule.{Run, World, Opens, conversation_of, end, unfinished_in}
 use Rattle.dv_wire.specs.Service.{ComesTo, Serves, closing_of, done_of, reply_count}
 use Rattle.dv_wire.specs.View.{Talks, TalksTo}

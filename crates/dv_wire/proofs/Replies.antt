@@ -1,9 +1,8 @@
--- The bytes of a reply, and what carrying out one message answers.
-use Rattle.std.proofs.Common.{true, ◌≡◌, ℕ, ◌+◌, ◌-◌, ◌<◌, ◌⊎◌, List, [], ◌∷◌, ◌++◌, length, take, drop, Some, Result, Ok, Err, refl, sym, ap, ◌∙◌, append_assoc, arith, inl, inr}
+-- What carrying out one message answers.
+use Rattle.std.proofs.Common.{true, ◌≡◌, ℕ, ◌<◌, ◌⊎◌, List, [], ◌∷◌, ◌++◌, length, Some, Result, Ok, Err, refl, sym, ap, ◌∙◌, arith, inl, inr}
 use Rattle.std.specs.Prelude.{⊤}
-use Rattle.std.specs.Int.{w32, to_le_bytes}
-use Rattle.std.proofs.lemmas.List.{append-nil, take_at, drop_at, drop-drop, length-append}
-use Rattle.dv_bson.specs.declared.fault.BsonFault.TheVariants as bson
+use Rattle.std.proofs.lemmas.List.{append-nil}
+use Rattle.dv_value.specs.declared.fault.BsonFault.TheVariants as bson
 use Rattle.dv_catalog.specs.Marks.{Marks}
 use Rattle.dv_command.specs.Asked.{Asked, asked_by}
 use Rattle.dv_command.specs.declared.command.Command.{Command}
@@ -14,42 +13,14 @@ use Rattle.dv_core.specs.Marks.{AreMarkedForWant}
 use Rattle.dv_core.specs.declared.outcome.Outcome.{Outcome}
 use Rattle.dv_core.specs.declared.outcome.Outcome.TheVariants.{Reply, Wanting, NoReply}
 use Rattle.dv_core.specs.State.{State, standing}
-use Rattle.dv_wire.specs.declared.fault.CloseFault.TheVariants.{NoMemory}
-use Rattle.dv_wire.specs.Message.{Message, message_spelling, Conversation, reading, closed}
+use Rattle.dv_message.specs.declared.fault.CloseFault.TheVariants.{NoMemory}
+use Rattle.dv_message.specs.Message.{Message, message_spelling, Conversation, reading, closed}
 use Rattle.dv_core.specs.Step.{Answer, MemoryStep, TellsOfWant, answered, counted_step, end_session, step}
 use Rattle.dv_wire.specs.Schedule.{Run, in_front, silence, unanswered, bytes_to, CarriesOutMessages, CarriesOutBy, SessionSteps, plain_messages}
-use Rattle.dv_wire.specs.Commands.{command_of}
+use Rattle.dv_message.specs.Commands.{command_of}
 use Rattle.dv_wire.specs.declared.session.Counts.{Counts}
-use Rattle.dv_wire.specs.View.{Answered, Counted, GoesOn, unmeasured}
+use Rattle.dv_wire.specs.View.{Answered, Counted, GoesOn}
 use Rattle.dv_wire.proofs.Runs.{follows_shut, follows_on, follows_cases}
-
--- ---- bytes
-
--- the rest stands behind the header
-pub behind_header : (old header body : List ℕ) (response_to : ℕ) → header ≡ unmeasured response_to (0 ∷ []) → (old ++ header) ++ body ≡ old ++ unmeasured response_to (0 ∷ body)
-behind_header old header body response_to is_header = ap (λ (h : List ℕ). (old ++ h) ++ body) is_header ∙ append_assoc old (unmeasured response_to (0 ∷ [])) body
-
-pub unmeasured-length : (old all body : List ℕ) (response_to : ℕ) → all ≡ old ++ unmeasured response_to (0 ∷ body) → length all ≡ length old + (length body + 21)
-unmeasured-length old all body response_to is_all = omega (arith, ap length is_all, length-append old (unmeasured response_to (0 ∷ body)))
-
--- the length is put in behind what was there
-measure : (old body : List ℕ) (response_to : ℕ) →
-    let all = old ++ unmeasured response_to (0 ∷ body) in
-    take (length old) all ++ (to_le_bytes w32 (length all - length old) ++ drop (length old + 4) all) ≡ old ++ message_spelling 0 response_to 0 (0 ∷ body)
-unfolding message_spelling
-measure old body response_to =
-    let whole : List ℕ = unmeasured response_to (0 ∷ body) in
-    let long : length (old ++ whole) - length old ≡ length (0 ∷ body) + 20 = omega (arith, length-append old whole) in
-    let behind : drop (length old + 4) (old ++ whole) ≡ drop 4 whole = sym (drop-drop 4 (length old) (old ++ whole)) ∙ ap (drop 4) (drop_at old whole (length old) refl) in
-    rw (take_at old whole (length old) refl, long, behind) refl
-
--- the same, as a vector's length and its items say it
-pub put_in : (old body all put : List ℕ) (response_to start len : ℕ) → all ≡ old ++ unmeasured response_to (0 ∷ body) → start ≡ length old → len ≡ length all
-    → put ≡ take start all ++ (to_le_bytes w32 (length all - start) ++ drop (start + 4) all) → length put ≡ length all
-    → take len (put ++ drop (length put) all) ≡ old ++ message_spelling 0 response_to 0 (0 ∷ body)
-put_in old body all put response_to start len is_all is_start is_len is_put same =
-    let whole : put ≡ old ++ message_spelling 0 response_to 0 (0 ∷ body) = is_put ∙ rw (is_start, is_all) (measure old body response_to) in
-    take_at put (drop (length put) all) len (same ∙ sym is_len) ∙ whole
 
 -- a message has bytes
 pub message_spelling-some : (request_id response_to flags : ℕ) (sections : List ℕ) → 0 < length (message_spelling request_id response_to flags sections)

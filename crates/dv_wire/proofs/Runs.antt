@@ -1,10 +1,10 @@
 -- Messages carried out in order: one list, and then another.
 use Rattle.std.proofs.Common.{◌≡◌, ℕ, ◌⊎◌, List, [], ◌∷◌, ◌++◌, Option, Some, None, refl, sym, ap, subst, ◌∙◌, append_assoc, inl, inr}
 use Rattle.std.proofs.lemmas.List.{append-nil}
-use Rattle.dv_wire.specs.declared.fault.CloseFault.{CloseFault}
-use Rattle.dv_wire.specs.declared.fault.CloseFault.TheVariants.{NoMemory}
+use Rattle.dv_message.specs.declared.fault.CloseFault.{CloseFault}
+use Rattle.dv_message.specs.declared.fault.CloseFault.TheVariants.{NoMemory}
 use Rattle.dv_core.specs.State.{State}
-use Rattle.dv_wire.specs.Message.{Message, Conversation, reading, closed}
+use Rattle.dv_message.specs.Message.{Message, Conversation, reading, closed}
 use Rattle.dv_wire.specs.Schedule.{Run, in_front, silence, unanswered, bytes_to, Follows, CarriesOutMessages}
 use Rattle.dv_wire.specs.View.{GoesOn}
 

@@ -10,11 +10,11 @@ use Rattle.std.proofs.lemmas.Cmp.{ranked}
 use Rattle.std.proofs.lemmas.List.{map-append}
 use Rattle.dv_wire.specs.declared.session.Conversation.{Conversation as ConversationSeen}
 use Rattle.dv_wire.specs.declared.session.Session.{Session}
-use Rattle.dv_wire.specs.declared.shapes.Shapes.{Shapes}
+use Rattle.dv_message.specs.declared.shapes.Shapes.{Shapes}
 use Rattle.dv_wire.specs.declared.hub.Fed.{Fed}
 use Rattle.dv_wire.specs.declared.hub.Fed.TheVariants.{Unknown}
 use Rattle.dv_core.specs.State.{State}
-use Rattle.dv_wire.specs.Message.{Conversation, reading}
+use Rattle.dv_message.specs.Message.{Conversation, reading}
 use Rattle.dv_wire.specs.Schedule.{Run, World, conversation_of, with_conversation, sessions_but, fed_of, Hears, Comes}
 use Rattle.dv_wire.specs.Sound.{AreNumbered}
 use Rattle.dv_wire.specs.View.{conversation_seen, session_seen}

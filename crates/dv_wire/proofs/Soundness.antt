@@ -1,31 +1,27 @@
 -- Worlds stay sound, by the law of each step.
-use Rattle.std.proofs.Common.{◌≡◌, ℕ, zero, suc, ◌+◌, ◌<◌, ◌≤◌, eqb, List, [], ◌∷◌, ◌++◌, length, take, drop, Option, Some, None, Result, Ok, Err, refl, sym, subst, arith, lit≤, inl, inr}
-use Rattle.std.specs.Int.{w32, to_le_bytes}
+use Rattle.std.proofs.Common.{◌≡◌, ℕ, zero, suc, ◌+◌, ◌<◌, ◌≤◌, eqb, List, [], ◌∷◌, ◌++◌, length, get_or, take, Option, Some, None, Result, Ok, Err, refl, sym, subst, arith, lit≤, inl, inr}
 use Rattle.std.specs.List.{AllByRecursion}
 use Rattle.std.proofs.lemmas.Bool.{cases_Bool}
-use Rattle.dv_bson.specs.declared.fault.BsonFault.{BsonFault}
-use Rattle.dv_bson.specs.Tree.{Field}
-use Rattle.dv_bson.specs.Spelling.{Spells, Fits, IsBytes, payload, fields_spelling, framed}
+use Rattle.dv_value.specs.declared.fault.BsonFault.{BsonFault}
+use Rattle.dv_value.specs.Tree.{Field}
+use Rattle.dv_value.specs.Spelling.{Spells, Fits, IsBytes, payload, fields_spelling, framed}
 use Rattle.dv_bson.specs.Reading.{document_at}
-use Rattle.dv_bson.specs.Results.{◌>>=◌}
+use Rattle.dv_value.specs.Results.{◌>>=◌}
 use Rattle.dv_command.specs.declared.command.Command.{Command}
 use Rattle.dv_core.specs.declared.outcome.Outcome.{Outcome}
 use Rattle.dv_core.specs.State.{State}
 use Rattle.dv_core.specs.Step.{MemoryStep, end_session}
 use Rattle.dv_core.specs.Sound.{IsSoundDocument, IsSound, IsSoundCommand}
-use Rattle.dv_wire.specs.declared.fault.CloseFault.TheVariants.{NoMemory}
+use Rattle.dv_message.specs.declared.fault.CloseFault.TheVariants.{NoMemory}
 use Rattle.dv_wire.specs.declared.hub.Fed.{Fed}
 use Rattle.dv_wire.specs.declared.hub.SessionId.{SessionId}
-use Rattle.dv_wire.specs.Sections.{Section, body, named, sized, row_spelling, section_spelling, sections_spelling, number_after}
-use Rattle.dv_wire.specs.Commands.{fields_in, each_read, Brought, brought_body, brought_list, brought_by, body_among, lists_among, read_in, command_from, command_of}
-use Rattle.dv_wire.specs.Message.{Message, StreamFront, unfinished, closing, whole, stream_front, Conversation, reading, closed, Split, split}
+use Rattle.dv_message.specs.Bytes.{BringsBytes, BringBytes, KeepsBytes, IsByteSplit}
+use Rattle.dv_message.specs.Sections.{Section, body, named}
+use Rattle.dv_message.specs.Commands.{fields_in, each_read, Brought, brought_body, brought_list, brought_by, body_among, lists_among, read_in, command_from, command_of}
+use Rattle.dv_message.specs.Message.{Message, Conversation, reading, closed, Split, split}
 use Rattle.dv_wire.specs.Schedule.{Run, World, world_of, conversation_of, with_conversation, sessions_but, bytes_to, CarriesOutMessages, TakesSplit, takes_all, takes_some, Hears, Opens, Feeds, end}
-use Rattle.dv_wire.specs.Sound.{KeepsBytes, IsSoundWorld}
-use Rattle.dv_wire.proofs.Fronts.{front_shows}
-use Rattle.dv_wire.proofs.Bytes.{IsBytes-take, IsBytes-drop, IsBytes-front, IsBytes-behind, IsBytes-append}
-use Rattle.dv_wire.proofs.Together.{sections_spelled}
-use Rattle.dv_wire.proofs.Reading.{reads_more}
-use Rattle.dv_wire.proofs.Streams.{following_shorter, split_unfinished, split_closing, split_whole}
+use Rattle.dv_wire.specs.Sound.{IsSoundWorld}
+use Rattle.dv_wire.proofs.Fronts as laws
 use Rattle.dv_wire.proofs.Runs.{follows_cases}
 
 -- ---- reading
@@ -43,58 +39,13 @@ spelled_sound reads bytes document count h e = let read = reads bytes document c
 
 -- ---- what messages bring
 
-abbrev BringsBytes : Section → Type 0
-BringsBytes (body document) = IsBytes document
-BringsBytes (named name documents) = AllByRecursion IsBytes documents
+cons_bytes : (b : ℕ) (bytes : List ℕ) → b < 256 → IsBytes bytes → (i : ℕ) → get_or (b ∷ bytes) i 0 < 256
+cons_bytes b bytes lt h zero = lt
+cons_bytes b bytes lt h (suc i) = h i
 
-documents_bytes : (documents : List (List ℕ)) → IsBytes (row_spelling documents) → AllByRecursion IsBytes documents
-documents_bytes [] h = tt
-documents_bytes (d ∷ ds) h = (IsBytes-front d (row_spelling ds) h, documents_bytes ds (IsBytes-behind d (row_spelling ds) h))
-
-behind_size : (bytes : List ℕ) → IsBytes (sized bytes) → IsBytes bytes
-unfolding sized
-behind_size bytes h = IsBytes-behind (to_le_bytes w32 (length bytes + 4)) bytes h
-
-section_bytes : (section : Section) → IsBytes (section_spelling section) → BringsBytes section
-section_bytes (body document) h = λ i. h (suc i)
-section_bytes (named name documents) h =
-    let content : IsBytes (0 ∷ row_spelling documents) = IsBytes-behind name (0 ∷ row_spelling documents) (behind_size (name ++ 0 ∷ row_spelling documents) (λ i. h (suc i))) in
-    documents_bytes documents (λ i. content (suc i))
-
-sections_bytes : (sections : List Section) → IsBytes (sections_spelling sections) → AllByRecursion BringsBytes sections
-sections_bytes [] h = tt
-sections_bytes (section ∷ sections) h =
-    (section_bytes section (IsBytes-front (section_spelling section) (sections_spelling sections) h), sections_bytes sections (IsBytes-behind (section_spelling section) (sections_spelling sections) h))
-
-message_bytes : (bytes : List ℕ) (message : Message) (following : List ℕ) → IsBytes bytes → stream_front bytes ≡ whole message following → AllByRecursion BringsBytes message.sections × IsBytes following
-message_bytes bytes message following h e =
-    let f = front_shows bytes message following e in
-    let n = number_after 0 bytes in
-    let fits = IsBytes-drop 20 (take n bytes) (IsBytes-take n bytes h) in
-    let spelled = sections_spelled (drop 20 (take n bytes)) message.sections fits f.sections_are in (
-      sections_bytes message.sections (subst IsBytes spelled.0 fits),
-      subst IsBytes f.following_is (IsBytes-drop n bytes h),
-    )
-
-abbrev BringBytes : List Message → Type 0
-BringBytes messages = AllByRecursion (λ m. AllByRecursion BringsBytes m.sections) messages
-
-record IsByteSplit (s : Split) : Type 0 where
-  bring : BringBytes s.messages
-  keeps : KeepsBytes s.conversation
-
-split_bytes_within : (steps : ℕ) (bytes : List ℕ) → length bytes < steps → (f : StreamFront) → stream_front bytes ≡ f → IsBytes bytes → IsByteSplit (split bytes)
-split_bytes_within zero bytes lt f e h = absurd (omega arith)
-split_bytes_within (suc steps) bytes lt unfinished e h = subst IsByteSplit (sym (split_unfinished bytes e)) (record { bring = tt; keeps = h })
-split_bytes_within (suc steps) bytes lt (closing fault) e h = subst IsByteSplit (sym (split_closing bytes fault e)) (record { bring = tt; keeps = tt })
-split_bytes_within (suc steps) bytes lt (whole message following) e h =
-    let shorter = following_shorter bytes message following e in
-    let parts = message_bytes bytes message following h e in
-    let others = split_bytes_within steps following (omega arith) (stream_front following) refl parts.1 in
-    subst IsByteSplit (sym (split_whole bytes message following e)) (record { bring = (parts.0, others.bring); keeps = others.keeps })
-
-split_bytes : (bytes : List ℕ) → IsBytes bytes → IsByteSplit (split bytes)
-split_bytes bytes h = split_bytes_within (suc (length bytes)) bytes (omega arith) (stream_front bytes) refl h
+both_bytes : (kept piece : List ℕ) → IsBytes kept → IsBytes piece → IsBytes (kept ++ piece)
+both_bytes [] piece h k = k
+both_bytes (b ∷ kept) piece h k = cons_bytes b (kept ++ piece) (h 0) (both_bytes kept piece (λ i. h (suc i)) k)
 
 BringBytes-take : (n : ℕ) (messages : List Message) → BringBytes messages → BringBytes (take n messages)
 BringBytes-take zero messages h = tt
@@ -128,14 +79,21 @@ lists_sound [] all = tt
 lists_sound (brought_body fields ∷ others) all = lists_sound others all.1
 lists_sound (brought_list name documents ∷ others) all = (all.0, lists_sound others all.1)
 
+-- the first is read, and the others
+first_read : {A : Type 0} (x : Result A BsonFault) (xs : Result (List A) BsonFault) (all : List A) → (x >>= λ y. xs >>= λ ys. Ok (y ∷ ys)) ≡ Ok all
+    → (y : A) × (ys : List A) × (x ≡ Ok y) × (xs ≡ Ok ys) × (y ∷ ys ≡ all)
+first_read (Err e) xs all both = absurd cc
+first_read (Ok y) (Err e) all both = absurd cc
+first_read (Ok y) (Ok ys) all both = (y, ys, refl, refl, cc)
+
 -- what holds of each that is read
 each_sound : {A B : Type 0} (P : A → Type 0) (Q : B → Type 0) (f : A → Result B BsonFault) → ((x : A) (y : B) → P x → f x ≡ Ok y → Q y) → (xs : List A) (ys : List B) → AllByRecursion P xs → each_read f xs ≡ Ok ys → AllByRecursion Q ys
 each_sound P Q f sound [] ys all e = let none : [] ≡ ys = cc in subst (AllByRecursion Q) none tt
 each_sound P Q f sound (x ∷ xs) ys all e =
-    let r = reads_more f x xs ys e in
-    subst (AllByRecursion Q) r.both (sound x r.first all.0 r.first_is, each_sound P Q f sound xs r.others all.1 r.others_are)
+    let (first, others, is, are, both) = first_read (f x) (each_read f xs) ys e in
+    subst (AllByRecursion Q) both (sound x first all.0 is, each_sound P Q f sound xs others all.1 are)
 
-module _ (reads : ReadsSound) (stays : StaysSound) where
+module _ (bring : laws.BringBytes) (reads : ReadsSound) (stays : StaysSound) where
   fields_by : (bytes : List ℕ) (read : Result (List Field × ℕ) BsonFault) (fields : List Field) → IsBytes bytes → document_at bytes ≡ read → (read >>= λ found. Ok found.0) ≡ Ok fields → IsSoundDocument fields
   fields_by bytes (Ok (found, count)) fields h is e = let same : found ≡ fields = cc in subst IsSoundDocument same (reads bytes found count h is)
   fields_by bytes (Err fault) fields h is e = absurd cc
@@ -167,13 +125,13 @@ module _ (reads : ReadsSound) (stays : StaysSound) where
 
   carries_sound : (session : ℕ) (old : State) (messages : List Message) (conversation : Conversation) (run : Run) → IsSound old → BringBytes messages → KeepsBytes conversation
       → CarriesOutMessages session old messages conversation run → IsSoundRun run
-  carries_sound session old [] conversation run sound bring keeps h = subst IsSoundRun (sym h) (record { state = sound; keeps = keeps })
-  carries_sound session old (message ∷ messages) conversation run sound bring keeps (outcome, mid, steps, follows) =
-      let behind = stays old mid session (command_of message) outcome (command_sound message.sections bring.0) sound steps in
+  carries_sound session old [] conversation run sound bytes keeps h = subst IsSoundRun (sym h) (record { state = sound; keeps = keeps })
+  carries_sound session old (message ∷ messages) conversation run sound bytes keeps (outcome, mid, steps, follows) =
+      let behind = stays old mid session (command_of message) outcome (command_sound message.sections bytes.0) sound steps in
       elim (follows_cases (bytes_to message outcome) mid (CarriesOutMessages session mid messages conversation) run follows) [
         | inl shut ↦ subst IsSoundRun (sym shut) (record { state = behind; keeps = tt })
         | inr a ↦
-            let others = carries_sound session mid messages conversation a.others behind bring.1 keeps a.behind in
+            let others = carries_sound session mid messages conversation a.others behind bytes.1 keeps a.behind in
             subst IsSoundRun (sym a.both) (record { state = others.state; keeps = others.keeps })
       ]
 
@@ -183,7 +141,7 @@ module _ (reads : ReadsSound) (stays : StaysSound) where
       carries_sound session old (take count s.messages) (closed NoMemory) run sound (BringBytes-take count s.messages bytes.bring) tt carried
 
   hears_sound : (session : ℕ) (old : State) (before : Conversation) (piece : List ℕ) (run : Run) → IsSound old → KeepsBytes before → IsBytes piece → Hears session old before piece run → IsSoundRun run
-  hears_sound session old (reading kept) piece run sound keeps h hears = takes_sound session old (split (kept ++ piece)) run sound (split_bytes (kept ++ piece) (IsBytes-append kept piece keeps h)) hears
+  hears_sound session old (reading kept) piece run sound keeps h hears = takes_sound session old (split (kept ++ piece)) run sound (bring (kept ++ piece) (both_bytes kept piece keeps h)) hears
   hears_sound session old (closed fault) piece run sound keeps h hears = subst IsSoundRun (sym hears) (record { state = sound; keeps = tt })
 
 -- ---- worlds
@@ -227,12 +185,12 @@ EndsSound = (session : ℕ) (state : State) → IsSound state → IsSound (end_s
 pub ended_sound : EndsSound → (old : World) (session : ℕ) → IsSoundWorld old → IsSoundWorld (end session old)
 ended_sound ends old session sound = record { state = ends session old.state sound.state; keeping = KeepBytes-but session old.sessions sound.keeping }
 
-module _ (stays : StaysSound) (reads : ReadsSound) (old new : World) (session : ℕ) (piece bytes : List ℕ) (answer : Fed) where
+module _ (bring : laws.BringBytes) (stays : StaysSound) (reads : ReadsSound) (old new : World) (session : ℕ) (piece bytes : List ℕ) (answer : Fed) where
   fed_sound_by : (here : Option Conversation) → conversation_of session old.sessions ≡ here → IsSoundWorld old → IsBytes piece → Feeds old session piece bytes answer new → IsSoundWorld new
   fed_sound_by None e sound h feeds = let (answers, is, nothing) = rw e at feeds in subst IsSoundWorld (sym nothing.2) sound
   fed_sound_by (Some before) e sound h feeds =
       let (answers, is, (run, hears, are, told, world)) = rw e at feeds in
-      let behind = hears_sound reads stays session old.state before piece run sound.state (conversation_keeps session old.sessions before sound.keeping e) h hears in
+      let behind = hears_sound bring reads stays session old.state before piece run sound.state (conversation_keeps session old.sessions before sound.keeping e) h hears in
       subst IsSoundWorld (sym world) (record { state = behind.state; keeping = KeepBytes-with session run.conversation old.sessions sound.keeping behind.keeps })
 
   pub fed_sound : IsSoundWorld old → IsBytes piece → Feeds old session piece bytes answer new → IsSoundWorld new

@@ -1,6 +1,6 @@
 -- Only viewStats looks at how views stand: another step is the same, however they do.
 use Rattle.std.proofs.Common.{◌≡◌, ℕ, Bool, true, false, List, [], Result, Ok, Err, refl, if◌then◌else◌}
-use Rattle.dv_bson.specs.Tree.{Field}
+use Rattle.dv_value.specs.Tree.{Field}
 use Rattle.dv_catalog.specs.Marks.{Marks}
 use Rattle.dv_catalog.specs.State.{is_view}
 use Rattle.dv_catalog.specs.State as stored
@@ -9,7 +9,7 @@ use Rattle.dv_command.specs.Asked.{Asked, asked_by, aggregate, create, create_in
 use Rattle.dv_command.specs.Asked as asking
 use Rattle.dv_command.specs.Replies.{drop_reply, reply_of}
 use Rattle.dv_command.specs.declared.command.Command.{Command}
-use Rattle.dv_bson.specs.Results.{◌>>=◌}
+use Rattle.dv_value.specs.Results.{◌>>=◌}
 use Rattle.dv_fields.specs.declared.refusal.Refusal.{Refusal}
 use Rattle.dv_fields.specs.declared.refusal.Refusal.TheVariants.{OnView}
 use Rattle.dv_core.specs.Find.{reply_to_find, reply_to_aggregate}

@@ -1,67 +1,22 @@
 -- Streams, message by message.
-use Rattle.std.proofs.Common.{◌≡◌, ℕ, zero, suc, ◌-◌, ◌<◌, ◌⊎◌, Result, Err, List, [], ◌∷◌, ◌++◌, length, take, drop, refl, sym, ap, subst, ◌∙◌, append_assoc, arith, inl, inr}
-use Rattle.std.proofs.lemmas.List.{append-nil, length-append, length-drop, take-append-drop, take_at, drop_at}
-use Rattle.dv_wire.specs.declared.fault.CloseFault.{CloseFault}
-use Rattle.dv_wire.specs.declared.fault.CloseFault.TheVariants.{NoMemory}
+use Rattle.std.proofs.Common.{◌≡◌, ℕ, ◌-◌, ◌⊎◌, Result, Err, List, [], ◌∷◌, ◌++◌, length, take, drop, refl, sym, ap, subst, ◌∙◌, append_assoc, arith, inl, inr}
+use Rattle.std.proofs.lemmas.List.{append-nil, length-append, take_at, drop_at}
+use Rattle.dv_message.specs.declared.fault.CloseFault.{CloseFault}
+use Rattle.dv_message.specs.declared.fault.CloseFault.TheVariants.{NoMemory}
+use Rattle.dv_message.specs.declared.front.Front.TheVariants.{Closing}
 use Rattle.dv_core.specs.State.{State}
-use Rattle.dv_wire.specs.Sections.{number_after}
-use Rattle.dv_wire.specs.Message.{Message, StreamFront, unfinished, closing, whole, stream_front, Conversation, reading, closed, Split, split_behind, split_from, split_within, split}
+use Rattle.dv_message.specs.Message.{Message, unfinished, closing, whole, stream_front, Conversation, reading, closed, Split, split_behind, split}
 use Rattle.std.specs.List.{concat}
 use Rattle.dv_wire.specs.Schedule.{Run, in_front, CarriesOutMessages, TakesSplit, takes_all, takes_some}
 use Rattle.dv_wire.specs.declared.session.Counts.{Counts}
-use Rattle.dv_wire.specs.declared.front.Front as code
-use Rattle.dv_wire.specs.declared.front.Front.TheVariants.{Closing}
-use Rattle.dv_wire.specs.View.{front_seen, Answered, Counted, GoesOn, Carries}
-use Rattle.dv_wire.proofs.Fronts.{front_shows}
+use Rattle.dv_wire.specs.View.{Answered, Counted, GoesOn, Carries}
+use Rattle.dv_wire.proofs.Fronts.{FollowMessages, SplitByFronts, split_unfinished, split_closing, split_whole}
 use Rattle.dv_wire.proofs.Counting.{answered_more, Counted-append, Counted-none}
 use Rattle.dv_wire.proofs.Runs.{carries_then, carries_to, carries_cases}
-
--- ---- what the code sees at a front
-
--- the front, unless memory was wanting to look at its sections
-pub seen_is : (seen : code.Front) (shown : StreamFront) → (front_seen seen ≡ shown) ⊎ (seen ≡ Closing NoMemory) → (seen ≡ Closing NoMemory → ⊥) → shown ≡ front_seen seen
-seen_is seen shown (inl e) other = sym e
-seen_is seen shown (inr want) other = absurd (other want)
-
--- ---- splitting
-
-pub following_shorter : (bytes : List ℕ) (message : Message) (following : List ℕ) → stream_front bytes ≡ whole message following → length following < length bytes
-following_shorter bytes message following e =
-    let f = front_shows bytes message following e in
-    omega (arith, ap length f.following_is, f.all, f.least, length-drop {A = ℕ})
-
-same_from : (bytes : List ℕ) (f : StreamFront) (F G : List ℕ → Split) → ((message : Message) (following : List ℕ) → f ≡ whole message following → F following ≡ G following) → split_from bytes f F ≡ split_from bytes f G
-same_from bytes unfinished F G same = refl
-same_from bytes (closing fault) F G same = refl
-same_from bytes (whole message following) F G same = ap (split_behind message) (same message following refl)
-
--- more steps than there are bytes give the same
-same_steps : (m n : ℕ) (bytes : List ℕ) → length bytes < m → length bytes < n → split_within m bytes ≡ split_within n bytes
-unfolding split_within
-same_steps zero n bytes lt lt' = absurd (omega arith)
-same_steps (suc m) zero bytes lt lt' = absurd (omega arith)
-same_steps (suc m) (suc n) bytes lt lt' =
-    same_from bytes (stream_front bytes) (split_within m) (split_within n) (λ message following e.
-    let shorter = following_shorter bytes message following e in same_steps m n following (omega arith) (omega arith))
-
-pub split_step : (bytes : List ℕ) → split bytes ≡ split_from bytes (stream_front bytes) split
-unfolding split split_within
-split_step bytes =
-    same_from bytes (stream_front bytes) (split_within (length bytes)) split (λ message following e.
-    let shorter = following_shorter bytes message following e in same_steps (length bytes) (suc (length following)) following (omega arith) (omega arith))
 
 -- messages, and how what follows them splits
 abbrev pub split_before : List Message → Split → Split
 split_before messages others = record { messages = messages ++ others.messages; conversation = others.conversation }
-
-pub split_unfinished : (bytes : List ℕ) → stream_front bytes ≡ unfinished → split bytes ≡ record { messages = []; conversation = reading bytes }
-split_unfinished bytes e = split_step bytes ∙ rw e refl
-
-pub split_closing : (bytes : List ℕ) (fault : CloseFault) → stream_front bytes ≡ closing fault → split bytes ≡ record { messages = []; conversation = closed fault }
-split_closing bytes fault e = split_step bytes ∙ rw e refl
-
-pub split_whole : (bytes : List ℕ) (message : Message) (following : List ℕ) → stream_front bytes ≡ whole message following → split bytes ≡ split_behind message (split following)
-split_whole bytes message following e = split_step bytes ∙ rw e refl
 
 -- ---- as far as a loop has come
 
@@ -80,24 +35,23 @@ pub begins : (session : ℕ) (old : State) (stream out : List ℕ) (counts : Cou
 begins session old stream out counts =
     record { messages = []; answers = []; taken = []; answered = sym (append-nil out); counted = Counted-none counts; carried = refl; splits = refl; parts = refl }
 
-module _ (session : ℕ) (old mid : State) (stream here out_before out_now : List ℕ) (before now : Counts) (progress : Progress session old mid stream here out_before out_now before now) where
-  pub goes_on : (new : State) (message : Message) (following out_after : List ℕ) (after : Counts) → stream_front here ≡ whole message following
+module _ (by_front : SplitByFronts) (session : ℕ) (old mid : State) (stream here out_before out_now : List ℕ) (before now : Counts) (progress : Progress session old mid stream here out_before out_now before now) where
+  pub goes_on : FollowMessages → (new : State) (message : Message) (following out_after : List ℕ) (after : Counts) → stream_front here ≡ whole message following
       → Answered out_now out_after now after (λ answers. GoesOn session mid (message ∷ []) answers new) → Progress session old new stream following out_before out_after before after
-  goes_on new message following out_after after shown one =
-      let f = front_shows here message following shown in
+  goes_on follow new message following out_after after shown one =
+      let (taken, parts, shorter) = follow here message following shown in
       let step : split stream ≡ split_before (progress.messages ++ message ∷ []) (split following) =
-      progress.splits ∙ ap (split_before progress.messages) (split_whole here message following shown)
+      progress.splits ∙ ap (split_before progress.messages) (split_whole by_front here message following shown)
       ∙ ap (λ (ms : List Message). record { messages = ms; conversation = (split following).conversation }) (sym (append_assoc progress.messages (message ∷ []) (split following).messages)) in
       record {
         messages = progress.messages ++ message ∷ [];
         answers = progress.answers ++ one.0;
-        taken = progress.taken ++ take (number_after 0 here) here;
+        taken = progress.taken ++ taken;
         answered = answered_more out_before out_now out_after progress.answers one.0 progress.answered one.1;
         counted = Counted-append progress.answers one.0 before now after progress.counted one.2;
         carried = carries_then session old mid progress.messages (message ∷ []) progress.answers (reading []) (record { answers = one.0; state = new; conversation = reading [] }) progress.carried one.3;
         splits = step;
-        parts = progress.parts ∙ ap (λ (x : List ℕ). progress.taken ++ x) (sym (take-append-drop (number_after 0 here) here) ∙ ap (λ (x : List ℕ). take (number_after 0 here) here ++ x) f.following_is)
-            ∙ sym (append_assoc progress.taken (take (number_after 0 here) here) following);
+        parts = progress.parts ∙ ap (λ (x : List ℕ). progress.taken ++ x) parts ∙ sym (append_assoc progress.taken taken following);
       }
 
   left_is : drop (length stream - length here) stream ≡ here
@@ -116,11 +70,11 @@ module _ (session : ℕ) (old mid : State) (stream here out_before out_now : Lis
 
   pub at_unfinished : stream_front here ≡ unfinished
       → Answered out_before out_now before now (λ answers. TakesSplit session old (split stream) (record { answers = answers; state = mid; conversation = reading (drop (length stream - length here) stream) }))
-  at_unfinished shown = (progress.answers, progress.answered, progress.counted, rw left_is (whole_run (reading here) (split_unfinished here shown)))
+  at_unfinished shown = (progress.answers, progress.answered, progress.counted, rw left_is (whole_run (reading here) (split_unfinished by_front here shown)))
 
   pub at_closing : (fault : CloseFault) → stream_front here ≡ closing fault
       → Answered out_before out_now before now (λ answers. TakesSplit session old (split stream) (record { answers = answers; state = mid; conversation = closed fault }))
-  at_closing fault shown = (progress.answers, progress.answered, progress.counted, whole_run (closed fault) (split_closing here fault shown))
+  at_closing fault shown = (progress.answers, progress.answered, progress.counted, whole_run (closed fault) (split_closing by_front here fault shown))
 
   -- memory is wanting to look at the next message
   pub at_want : Answered out_before out_now before now (λ answers. TakesSplit session old (split stream) (record { answers = answers; state = mid; conversation = closed NoMemory }))
@@ -159,7 +113,7 @@ module _ (session : ℕ) (old mid : State) (stream here out_before out_now : Lis
       → Answered out_now out_after now after (λ answers. Carries session mid message answers new failed)
       → Answered out_before out_after before after (λ answers. TakesSplit session old (split stream) (record { answers = answers; state = new; conversation = closed NoMemory }))
   at_failure {A = A} new message following out_after after failed error shown is_error one =
-      let splits : split stream ≡ split_before progress.messages (split_behind message (split following)) = progress.splits ∙ ap (split_before progress.messages) (split_whole here message following shown) in (
+      let splits : split stream ≡ split_before progress.messages (split_behind message (split following)) = progress.splits ∙ ap (split_before progress.messages) (split_whole by_front here message following shown) in (
         progress.answers ++ one.0,
         answered_more out_before out_now out_after progress.answers one.0 progress.answered one.1,
         Counted-append progress.answers one.0 before now after progress.counted one.2,

@@ -8,18 +8,18 @@ use Rattle.std.specs.Io.KnownBytes.{Appends, Consumes, IsAtEnd, Keeps}
 use Rattle.std.proofs.KnownBytes.{Appends-nil, Appends-trans, Consumes-kept, Consumes-nil, Consumes-trans}
 use Rattle.std.proofs.lemmas.List.{append-nil, length-append, length-take, length-take-le}
 use Rattle.std.proofs.lemmas.List.Folds.{concat-append}
-use Rattle.dv_wire.specs.declared.fault.CloseFault.{CloseFault}
+use Rattle.dv_message.specs.declared.fault.CloseFault.{CloseFault}
 use Rattle.dv_wire.specs.declared.hub.Fed.{Fed}
 use Rattle.dv_wire.specs.declared.session.Counts.{Counts}
 use Rattle.dv_core.specs.State.{State}
-use Rattle.dv_wire.specs.Message.{Message, StreamFront, unfinished, closing, whole, stream_front, Conversation, reading, closed, Split, split}
+use Rattle.dv_message.specs.Message.{Message, Conversation, reading, closed, Split, split, split_within, stream_front}
 use Rattle.dv_wire.specs.Schedule.{Run, World, in_front, silence, bytes_of, bytes_to, CarriesOutMessages, TakesSplit, takes_all, takes_some, Hears, Comes, conversation_of, fed_of, world_behind}
 use Rattle.dv_wire.specs.Service.{closing_of, reply_count}
 use Rattle.dv_wire.specs.declared.fault.RunFault.TheVariants.{Read, Write, TooManyReads}
 use Rattle.dv_wire.specs.View.{Counted, Talks, TalksTo, closing_fed}
 use Rattle.dv_wire.proofs.Counting.{reply_count-append, reply_count-le}
 use Rattle.dv_wire.proofs.Runs.{follows_cases}
-use Rattle.dv_wire.proofs.Streams.{following_shorter, split_unfinished, split_closing, split_whole}
+use Rattle.dv_wire.proofs.Fronts.{AreFew, GoOn}
 use Rattle.dv_wire.proofs.Worlds.{conversation_of-with, with-same}
 use Rattle.dv_wire.proofs.Cuts.{hears_joined, world_twice}
 
@@ -33,24 +33,13 @@ carried_few session old (message ∷ messages) conversation run (outcome, mid, s
       | inr a ↦ omega (arith, ap (λ (r : Run). length r.answers) a.both, carried_few session mid messages conversation a.others a.behind)
     ]
 
-split_few : (steps : ℕ) (bytes : List ℕ) → length bytes < steps → (f : StreamFront) → stream_front bytes ≡ f → length (split bytes).messages ≤ length bytes
-split_few zero bytes lt f e = absurd (omega arith)
-split_few (suc steps) bytes lt unfinished e = omega (arith, ap (λ (s : Split). length s.messages) (split_unfinished bytes e))
-split_few (suc steps) bytes lt (closing fault) e = omega (arith, ap (λ (s : Split). length s.messages) (split_closing bytes fault e))
-split_few (suc steps) bytes lt (whole message following) e =
-    let shorter = following_shorter bytes message following e in
-    let others = split_few steps following (omega arith) (stream_front following) refl in
-    omega (arith, ap (λ (s : Split). length s.messages) (split_whole bytes message following e), shorter, others)
-
 takes_few : (session : ℕ) (old : State) (s : Split) (run : Run) → TakesSplit session old s run → length run.answers ≤ length s.messages
 takes_few session old s run (takes_all carried) = carried_few session old s.messages s.conversation run carried
 takes_few session old s run (takes_some count carried) =
     omega (arith, carried_few session old (take count s.messages) (closed _) run carried, length-take count s.messages)
 
-hears_few : (session : ℕ) (old : State) (bytes : List ℕ) (run : Run) → Hears session old (reading []) bytes run → length run.answers ≤ length bytes
-hears_few session old bytes run hears =
-    let messages = takes_few session old (split bytes) run hears in
-    omega (arith, messages, split_few (suc (length bytes)) bytes (omega arith) (stream_front bytes) refl)
+hears_few : AreFew → (session : ℕ) (old : State) (bytes : List ℕ) (run : Run) → Hears session old (reading []) bytes run → length run.answers ≤ length bytes
+hears_few few session old bytes run hears = omega (arith, takes_few session old (split bytes) run hears, few bytes)
 
 -- ---- what was read so far
 
@@ -72,12 +61,12 @@ pub record Talking (session : ℕ) (old : World) (from to before after : Option 
   pub goes_on : closing_of run.conversation ≡ None
   pub written : Appends before after (bytes_of run)
 
-no_front : stream_front [] ≡ unfinished
-unfolding stream_front
-no_front = refl
+no_message : split [] ≡ record { messages = []; conversation = reading [] }
+unfolding split split_within stream_front
+no_message = refl
 
 nothing_heard : (session : ℕ) (state : State) → Hears session state (reading []) [] (silence state (reading []))
-nothing_heard session state = subst (λ (s : Split). TakesSplit session state s (silence state (reading []))) (sym (split_unfinished [] no_front)) (takes_all refl)
+nothing_heard session state = subst (λ (s : Split). TakesSplit session state s (silence state (reading []))) (sym no_message) (takes_all refl)
 
 pub begins : (session : ℕ) (old : World) (from before : Option (List ℕ)) (counts : Counts) → conversation_of session old.sessions ≡ Some (reading []) → counts.messages ≡ 0 → counts.replies ≡ 0
     → Talking session old from from before before old counts 0
@@ -118,7 +107,7 @@ closing_same : (c : Conversation) → closing_fed (fed_of c) ≡ closing_of c
 closing_same (reading kept) = refl
 closing_same (closed fault) = refl
 
-module _ (session : ℕ) (old : World) (there : conversation_of session old.sessions ≡ Some (reading [])) where
+module _ (go_on : GoOn) (few_messages : AreFew) (session : ℕ) (old : World) (there : conversation_of session old.sessions ≡ Some (reading [])) where
   -- what a piece that is read comes to
   pub record Said (from to before after : Option (List ℕ)) (new : World) (counts : Counts) (reads : ℕ) (answers : List (List ℕ)) (told : Fed) : Type 0 where
     pub first : Run
@@ -137,9 +126,9 @@ module _ (session : ℕ) (old : World) (there : conversation_of session old.sess
         let stands : conversation_of session (world_behind session run old).sessions ≡ Some run.conversation = conversation_of-with session old.sessions (reading []) run.conversation there in
         let (two, hears, are, tells, world) = rw stands at (subst (λ (w : World). Comes w session piece answers told new) spoken.behind comes) in
         let joint = in_front run.answers two in
-        let heard = hears_joined session old.state (reading []) spoken.read piece run two spoken.heard hears in
+        let heard = hears_joined go_on session old.state (reading []) spoken.read piece run two spoken.heard hears in
         let size = length-append spoken.read piece in
-        let all = hears_few session old.state (spoken.read ++ piece) joint heard in
+        let all = hears_few few_messages session old.state (spoken.read ++ piece) joint heard in
         let sum = length-append run.answers two.answers in
         let same_length = ap (λ (xs : List (List ℕ)). length xs) are in
         let same_count = ap reply_count are in

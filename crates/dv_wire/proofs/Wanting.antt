@@ -1,7 +1,7 @@
 -- What is answered where memory is wanting tells of it.
 use Rattle.std.proofs.Common.{◌≡◌, ℕ, ◌⊎◌, Bool, true, false, List, [], ◌∷◌, ◌++◌, map, Result, Ok, Err, sym, ap, ◌∙◌, append_assoc, inl, inr, if◌then◌else◌}
 use Rattle.std.specs.List.{concat}
-use Rattle.dv_bson.specs.Tree.{Tree, Field}
+use Rattle.dv_value.specs.Tree.{Tree, Field}
 use Rattle.dv_catalog.specs.Marks.{Marks}
 use Rattle.dv_command.specs.Asked as asking
 use Rattle.dv_command.specs.Asked.{Asked, asked_by}
@@ -14,7 +14,7 @@ use Rattle.dv_core.specs.Statements.{IsCutWrite, WriteCounts, Written, nothing_w
 use Rattle.dv_core.specs.Step.{Answer, Cut, Wants}
 use Rattle.dv_core.specs.Writes.{reply_by, write_by}
 use Rattle.dv_fields.specs.declared.refusal.Refusal.{Refusal}
-use Rattle.dv_wire.specs.Message.{Message}
+use Rattle.dv_message.specs.Message.{Message}
 use Rattle.dv_wire.specs.Schedule.{reply_bytes}
 use Rattle.dv_wire.specs.Wants.{HoldsWant, IsReplyOfWant, sent, with_cut}
 

@@ -1,4 +1,4 @@
--- The worked examples, computed.
+-- The worked examples of sessions, computed.
 use Rattle.std.proofs.Common.{◌≡◌, ℕ, Bool, true, false, ltb, List, [], ◌∷◌, ◌++◌, Result, Ok, Err, refl, ap, ◌∙◌, arith, lit<, inl, inr}
 use Rattle.std.specs.Prelude.{pos, codes}
 use Rattle.std.specs.List.{list_all}
@@ -6,47 +6,26 @@ use Rattle.std.specs.Str.{is_utf8, IsAscii}
 use Rattle.std.proofs.lemmas.Bool.{ltb-true, and_parts}
 use Rattle.std.proofs.lemmas.Str.{is_utf8-from_IsUtf8, IsUtf8-from_ascii}
 use Rattle.std.proofs.lemmas.Str.Ascii.{IsAscii-nil, IsAscii-cons}
-use Rattle.dv_bson.specs.declared.fault.BsonFault.{BsonFault}
-use Rattle.dv_bson.specs.Tree.{int32, Field}
-use Rattle.dv_bson.specs.Spelling.{framed, element_spelling, payload}
+use Rattle.dv_value.specs.declared.fault.BsonFault.{BsonFault}
+use Rattle.dv_value.specs.Tree.{int32, Field}
+use Rattle.dv_value.specs.Spelling.{framed, element_spelling, payload}
 use Rattle.dv_bson.specs.Reading.{document_at, count_at, body_at, Inside, fields_at, kind_at, kind_of_byte, name_at, cut_at_zero, value_at, text_at}
-use Rattle.dv_bson.specs.Results.{◌>>=◌}
+use Rattle.dv_value.specs.Results.{◌>>=◌}
 use Rattle.dv_command.specs.Asked.{asked_by}
 use Rattle.dv_command.specs.declared.command.Command.{Command}
 use Rattle.dv_fields.specs.declared.refusal.Refusal.TheVariants.{WantOfMemory}
 use Rattle.dv_core.specs.declared.outcome.Outcome.TheVariants.{NoReply}
 use Rattle.dv_core.specs.State.{State}
 use Rattle.dv_core.specs.Step.{Answer, answered, counted_step}
-use Rattle.dv_wire.specs.Sections.{body, named, sized, is_section, are_sections, row_within, each_in, section_frame, section_at, sections_in}
-use Rattle.dv_wire.specs.Message.{Message, Conversation, reading, stream_front, split_within, split, message_spelling}
-use Rattle.dv_wire.specs.Commands.{brought_body, body_among, lists_among, command_from, command_of}
+use Rattle.dv_message.specs.Sections.{row_within, each_in, section_frame, section_at, sections_in}
+use Rattle.dv_message.specs.Message.{Message, Conversation, reading, stream_front, split_within, split, message_spelling}
+use Rattle.dv_message.specs.Commands.{brought_body, body_among, lists_among, command_from, command_of}
 use Rattle.dv_wire.specs.Schedule.{reply_bytes, in_front, silence, plain_behind, plain_messages, plain_run}
 use Rattle.dv_wire.proofs.Replies.{unmarked}
-use Rattle.dv_wire.proofs.Together.{sections_found, sections_refused}
-use Rattle.dv_wire.specs.Examples.{Are, AreNone, empty_document, nothing_under, asks, ping_document, ping_fields, ok, ping_message, pong, HeaderExamples, SectionExamples, SessionExamples, WantOverBytes}
+use Rattle.dv_message.specs.Examples.{asks, empty_document}
+use Rattle.dv_wire.specs.Examples.{ping_document, ping_fields, ok, ping_message, pong, SessionExamples, WantOverBytes}
 
-pub headers : HeaderExamples
-unfolding split split_within stream_front sections_in each_in row_within section_at section_frame
-headers = record {
-  shown_later = refl;
-  too_short = refl;
-  shortest = refl;
-  longest = refl;
-  too_long = refl;
-  length_first = refl;
-  code_later = refl;
-  code_below = refl;
-  code_right = refl;
-  code_above = refl;
-  flags_later = refl;
-  bit_0 = refl;
-  bit_1 = refl;
-  bit_2 = refl;
-  bit_15 = refl;
-  bit_16 = refl;
-  bits_above = refl;
-  checksum_first = refl;
-}
+-- ---- a ping, from its bytes
 
 is_ascii_text : (bytes : List ℕ) → list_all (λ b. ltb b 128) bytes ≡ true → IsAscii bytes
 is_ascii_text [] all = IsAscii-nil
@@ -55,58 +34,6 @@ is_ascii_text (b ∷ bytes) all = let parts = and_parts (ltb b 128) (list_all (�
 -- text below 128 is UTF-8
 is_text : (bytes : List ℕ) → list_all (λ b. ltb b 128) bytes ≡ true → is_utf8 bytes ≡ true
 is_text bytes all = is_utf8-from_IsUtf8 bytes (IsUtf8-from_ascii bytes (is_ascii_text bytes all))
-
-d_text : is_utf8 (100 ∷ []) ≡ true
-d_text = is_text (100 ∷ []) refl
-
-e_text : is_utf8 (101 ∷ []) ≡ true
-e_text = is_text (101 ∷ []) refl
-
-two_documents_found : Are (0 ∷ (empty_document ++ 1 ∷ 16 ∷ 0 ∷ 0 ∷ 0 ∷ 100 ∷ 0 ∷ (empty_document ++ empty_document))) (body empty_document ∷ named (100 ∷ []) (empty_document ∷ empty_document ∷ []) ∷ [])
-unfolding sized
-two_documents_found =
-    let are : are_sections (body empty_document ∷ named (100 ∷ []) (empty_document ∷ empty_document ∷ []) ∷ []) ≡ true = rw d_text refl in
-    sections_found (body empty_document ∷ named (100 ∷ []) (empty_document ∷ empty_document ∷ []) ∷ []) are (lit< tt)
-
-two_names_found : Are (nothing_under 100 ++ nothing_under 101 ++ 0 ∷ empty_document) (named (100 ∷ []) [] ∷ named (101 ∷ []) [] ∷ body empty_document ∷ [])
-unfolding sized
-two_names_found =
-    let are : are_sections (named (100 ∷ []) [] ∷ named (101 ∷ []) [] ∷ body empty_document ∷ []) ≡ true = rw (d_text, e_text) refl in
-    sections_found (named (100 ∷ []) [] ∷ named (101 ∷ []) [] ∷ body empty_document ∷ []) are (lit< tt)
-
-one_name_refused : AreNone (nothing_under 100 ++ nothing_under 100 ++ 0 ∷ empty_document)
-unfolding sized
-one_name_refused =
-    let all : list_all is_section (named (100 ∷ []) [] ∷ named (100 ∷ []) [] ∷ body empty_document ∷ []) ≡ true = rw d_text refl in
-    sections_refused (named (100 ∷ []) [] ∷ named (100 ∷ []) [] ∷ body empty_document ∷ []) all refl (lit< tt)
-
-pub sections : SectionExamples
-unfolding split split_within stream_front sections_in each_in row_within section_at section_frame cut_at_zero
-sections = record {
-  shown_later = refl;
-  kind_2 = refl;
-  kind_0 = refl;
-  in_front = rw d_text refl;
-  behind = rw d_text refl;
-  two_documents = two_documents_found;
-  two_names = two_names_found;
-  one_name_twice = one_name_refused;
-  no_body = rw d_text refl;
-  size_too_small = refl;
-  size_too_large = refl;
-  name_without_end = refl;
-  document_too_long = refl;
-  two_bodies = refl;
-  too_short = refl;
-  too_long = refl;
-  least_document = refl;
-  no_document = refl;
-  unreadable = refl;
-  two = refl;
-  fault_behind = refl;
-}
-
--- ---- a ping, from its bytes
 
 read_name : name_at false [] (112 ∷ 105 ∷ 110 ∷ 103 ∷ 0 ∷ 1 ∷ 0 ∷ 0 ∷ 0 ∷ 2 ∷ 36 ∷ 100 ∷ 98 ∷ 0 ∷ 2 ∷ 0 ∷ 0 ∷ 0 ∷ 116 ∷ 0 ∷ []) ≡ Ok (codes "ping", 1 ∷ 0 ∷ 0 ∷ 0 ∷ 2 ∷ 36 ∷ 100 ∷ 98 ∷ 0 ∷ 2 ∷ 0 ∷ 0 ∷ 0 ∷ 116 ∷ 0 ∷ [])
 unfolding name_at cut_at_zero

@@ -2,14 +2,14 @@
 use Rattle.std.proofs.Common.{◌≡◌, ℕ, suc, ◌≤◌, ◌<◌, eqb, List, [], ◌∷◌, ◌++◌, Option, Some, None, Result, Ok, Err, refl, sym, ap, subst, ◌∙◌, arith, inl, inr}
 use Rattle.std.proofs.lemmas.Bool.{cases_Bool, eq-eqb, ne_eqb, eqb-true}
 use Rattle.std.specs.List.{concat}
-use Rattle.dv_wire.specs.declared.fault.CloseFault.{CloseFault}
+use Rattle.dv_message.specs.declared.fault.CloseFault.{CloseFault}
 use Rattle.dv_wire.specs.declared.fault.HubFault.{HubFault}
 use Rattle.dv_wire.specs.declared.fault.HubFault.TheVariants.{TooManySessions, NoMemory}
 use Rattle.dv_wire.specs.declared.hub.SessionId.{SessionId}
 use Rattle.dv_wire.specs.declared.hub.Fed.{Fed}
 use Rattle.dv_wire.specs.declared.hub.Fed.TheVariants as fed
 use Rattle.dv_core.specs.State.{State}
-use Rattle.dv_wire.specs.Message.{Conversation, reading, closed}
+use Rattle.dv_message.specs.Message.{Conversation, reading, closed}
 use Rattle.dv_wire.specs.Schedule.{World, conversation_of, with_conversation, sessions_but, Opens, Feeds, end}
 use Rattle.dv_wire.specs.Sound.{AreNumbered, IsNumbered}
 
@@ -143,6 +143,9 @@ module _ (old new : World) where
         → ((state : State) (now : Conversation) → P (record { state = state; next = old.next; sessions = with_conversation session now old.sessions })) → P new
     fed_by P None e feeds before behind = let (answers, is, nothing) = rw e at feeds in subst P (sym nothing.2) before
     fed_by P (Some c) e feeds before behind = let (answers, is, (run, hears, are, told, world)) = rw e at feeds in subst P (sym world) (behind run.state run.conversation)
+
+    pub fed_numbers : Feeds old session piece bytes answer new → new.next ≡ old.next
+    fed_numbers feeds = fed_by (λ (w : World). w.next ≡ old.next) (conversation_of session old.sessions) refl feeds refl (λ state now. refl)
 
     pub fed_numbered : IsNumbered old → Feeds old session piece bytes answer new → IsNumbered new × (new.next ≡ old.next)
     fed_numbered numbered feeds =

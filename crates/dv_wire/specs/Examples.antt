@@ -1,122 +1,15 @@
--- Worked examples of messages and sessions: what closes a session, at each limit and on both sides of it.
+-- Worked examples of sessions: how they are opened and end, and what is answered to a message.
 use Rattle.std.specs.Prelude.{◌≡◌, ◌<◌, ℕ, suc, length, Bool, true, false, List, [], ◌∷◌, ◌++◌, Some, None, Ok, Err, pos, codes}
-use Rattle.dv_bson.specs.Tree.{string, int32, Field}
-use Rattle.dv_wire.specs.declared.fault.CloseFault.{CloseFault}
-use Rattle.dv_wire.specs.declared.fault.CloseFault.TheVariants.{BadLength, BadOpCode, BadFlag, Checksum, BadSection, NoMemory}
+use Rattle.dv_value.specs.Tree.{string, int32, Field}
+use Rattle.dv_message.specs.declared.fault.CloseFault.TheVariants.{BadLength, NoMemory}
+use Rattle.dv_message.specs.Message.{Conversation, reading, closed, split}
+use Rattle.dv_message.specs.Examples.{asks, empty_document, op_msg_header}
 use Rattle.dv_wire.specs.declared.fault.HubFault.TheVariants.{TooManySessions}
 use Rattle.dv_wire.specs.declared.hub.SessionId.{SessionId}
 use Rattle.dv_core.specs.declared.outcome.Outcome.TheVariants.{Reply, Wanting, NoReply}
 use Rattle.dv_core.specs.State.{State}
 use Rattle.dv_core.specs.Step.{end_session}
-use Rattle.dv_wire.specs.Sections.{Section, body, named, sections_in}
-use Rattle.dv_wire.specs.Message.{Message, Conversation, reading, closed, split}
 use Rattle.dv_wire.specs.Schedule.{World, Opens, reply_bytes, bytes_to, CarriesOutMessages, plain_run, unanswered, unfinished_in, end}
-
--- ---- words for them
-
--- the bytes bring these messages, and then their session stands so
-abbrev pub BringsMessages : List ℕ → List Message → Conversation → Type 0
-BringsMessages bytes messages conversation = split bytes ≡ record { messages = messages; conversation = conversation }
-
--- they are less than a message, and are kept
-abbrev pub IsKeptUnread : List ℕ → Type 0
-IsKeptUnread bytes = BringsMessages bytes [] (reading bytes)
-
--- their session is closed
-abbrev pub ClosesSession : List ℕ → CloseFault → Type 0
-ClosesSession bytes fault = BringsMessages bytes [] (closed fault)
-
--- a header: messageLength, requestID 7, responseTo 0, and opCode in two bytes
-abbrev pub header : ℕ → List ℕ → List ℕ
-header size code = size ∷ 0 ∷ 0 ∷ 0 ∷ 7 ∷ 0 ∷ 0 ∷ 0 ∷ 0 ∷ 0 ∷ 0 ∷ 0 ∷ (code ++ 0 ∷ 0 ∷ [])
-
--- a header of OP_MSG, 2013
-abbrev pub op_msg_header : ℕ → List ℕ
-op_msg_header size = header size (0xdd ∷ 0x07 ∷ [])
-
--- a message of 26 bytes with these flags, and without any
-abbrev pub flagged : List ℕ → List ℕ
-flagged flags = op_msg_header 26 ++ flags ++ 0 ∷ 5 ∷ 0 ∷ 0 ∷ 0 ∷ 0 ∷ []
-
--- a message without flags, with these sections, which are short
-abbrev pub sectioned : ℕ → List ℕ → List ℕ
-sectioned size sections = op_msg_header size ++ 0 ∷ 0 ∷ 0 ∷ 0 ∷ sections
-
-abbrev pub empty_document : List ℕ
-empty_document = 5 ∷ 0 ∷ 0 ∷ 0 ∷ 0 ∷ []
-
--- what such a message asks
-abbrev pub asks : Bool → List ℕ → Message
-asks more_to_come document = record { request_id = 7; more_to_come = more_to_come; sections = body document ∷ [] }
-
--- the bytes are these sections, or none
-abbrev pub Are : List ℕ → List Section → Type 0
-Are bytes sections = sections_in bytes ≡ Some sections
-
-abbrev pub AreNone : List ℕ → Type 0
-AreNone bytes = sections_in bytes ≡ None
-
--- a section of no document, under a name of one byte
-abbrev pub nothing_under : ℕ → List ℕ
-nothing_under name = 1 ∷ 6 ∷ 0 ∷ 0 ∷ 0 ∷ name ∷ 0 ∷ []
-
--- ---- messages
-
-pub record HeaderExamples : Type 0 where
-  -- the length is shown by the fourth byte
-  pub shown_later : IsKeptUnread (25 ∷ 0 ∷ 0 ∷ [])
-  pub too_short : ClosesSession (25 ∷ 0 ∷ 0 ∷ 0 ∷ []) BadLength
-  pub shortest : IsKeptUnread (26 ∷ 0 ∷ 0 ∷ 0 ∷ [])
-  pub longest : IsKeptUnread (0x00 ∷ 0x6c ∷ 0xdc ∷ 0x02 ∷ [])
-  pub too_long : ClosesSession (0x01 ∷ 0x6c ∷ 0xdc ∷ 0x02 ∷ []) BadLength
-  -- the length first
-  pub length_first : ClosesSession (header 25 (0xdc ∷ 0x07 ∷ [])) BadLength
-  -- the code by the sixteenth
-  pub code_later : IsKeptUnread (26 ∷ 0 ∷ 0 ∷ 0 ∷ 7 ∷ 0 ∷ 0 ∷ 0 ∷ 0 ∷ 0 ∷ 0 ∷ 0 ∷ 0xdc ∷ 0x07 ∷ 0 ∷ [])
-  pub code_below : ClosesSession (header 26 (0xdc ∷ 0x07 ∷ [])) BadOpCode
-  pub code_right : IsKeptUnread (op_msg_header 26)
-  pub code_above : ClosesSession (header 26 (0xde ∷ 0x07 ∷ [])) BadOpCode
-  -- the flags by the twentieth
-  pub flags_later : IsKeptUnread (op_msg_header 26 ++ 1 ∷ 0 ∷ 0 ∷ [])
-  pub bit_0 : ClosesSession (op_msg_header 26 ++ 1 ∷ 0 ∷ 0 ∷ 0 ∷ []) Checksum
-  pub bit_1 : BringsMessages (flagged (2 ∷ 0 ∷ 0 ∷ 0 ∷ [])) (asks true empty_document ∷ []) (reading [])
-  pub bit_2 : ClosesSession (op_msg_header 26 ++ 4 ∷ 0 ∷ 0 ∷ 0 ∷ []) BadFlag
-  pub bit_15 : ClosesSession (op_msg_header 26 ++ 0 ∷ 0x80 ∷ 0 ∷ 0 ∷ []) BadFlag
-  pub bit_16 : BringsMessages (flagged (0 ∷ 0 ∷ 1 ∷ 0 ∷ [])) (asks false empty_document ∷ []) (reading [])
-  pub bits_above : BringsMessages (flagged (0 ∷ 0 ∷ 0xff ∷ 0xff ∷ [])) (asks false empty_document ∷ []) (reading [])
-  pub checksum_first : ClosesSession (op_msg_header 26 ++ 5 ∷ 0 ∷ 0 ∷ 0 ∷ []) Checksum
-
-pub record SectionExamples : Type 0 where
-  -- the sections are shown by the last byte
-  pub shown_later : IsKeptUnread (sectioned 26 (2 ∷ 5 ∷ 0 ∷ 0 ∷ 0 ∷ []))
-  pub kind_2 : ClosesSession (sectioned 26 (2 ∷ 5 ∷ 0 ∷ 0 ∷ 0 ∷ 0 ∷ [])) BadSection
-  pub kind_0 : BringsMessages (sectioned 26 (0 ∷ empty_document)) (asks false empty_document ∷ []) (reading [])
-  -- documents under a name, in front of the body and behind it
-  pub in_front : Are (nothing_under 100 ++ 0 ∷ empty_document) (named (100 ∷ []) [] ∷ body empty_document ∷ [])
-  pub behind : Are (0 ∷ (empty_document ++ nothing_under 100)) (body empty_document ∷ named (100 ∷ []) [] ∷ [])
-  pub two_documents : Are (0 ∷ (empty_document ++ 1 ∷ 16 ∷ 0 ∷ 0 ∷ 0 ∷ 100 ∷ 0 ∷ (empty_document ++ empty_document)))
-      (body empty_document ∷ named (100 ∷ []) (empty_document ∷ empty_document ∷ []) ∷ [])
-  pub two_names : Are (nothing_under 100 ++ nothing_under 101 ++ 0 ∷ empty_document) (named (100 ∷ []) [] ∷ named (101 ∷ []) [] ∷ body empty_document ∷ [])
-  pub one_name_twice : AreNone (nothing_under 100 ++ nothing_under 100 ++ 0 ∷ empty_document)
-  pub no_body : AreNone (nothing_under 100)
-  -- a size counts itself, and leads to the message's end at most; a name ends within it, and so does each document
-  pub size_too_small : AreNone (0 ∷ (empty_document ++ 1 ∷ 4 ∷ 0 ∷ 0 ∷ 0 ∷ 100 ∷ 0 ∷ []))
-  pub size_too_large : AreNone (0 ∷ (empty_document ++ 1 ∷ 7 ∷ 0 ∷ 0 ∷ 0 ∷ 100 ∷ 0 ∷ []))
-  pub name_without_end : AreNone (0 ∷ (empty_document ++ 1 ∷ 6 ∷ 0 ∷ 0 ∷ 0 ∷ 100 ∷ 100 ∷ []))
-  pub document_too_long : AreNone (0 ∷ (empty_document ++ 1 ∷ 11 ∷ 0 ∷ 0 ∷ 0 ∷ 100 ∷ 0 ∷ 6 ∷ 0 ∷ 0 ∷ 0 ∷ 0 ∷ []))
-  pub two_bodies : ClosesSession (sectioned 32 (0 ∷ 5 ∷ 0 ∷ 0 ∷ 0 ∷ 0 ∷ 0 ∷ empty_document)) BadSection
-  -- a document's length is that of the body, and 5 at least
-  pub too_short : ClosesSession (sectioned 26 (0 ∷ 4 ∷ 0 ∷ 0 ∷ 0 ∷ 0 ∷ [])) BadSection
-  pub too_long : ClosesSession (sectioned 26 (0 ∷ 6 ∷ 0 ∷ 0 ∷ 0 ∷ 0 ∷ [])) BadSection
-  pub least_document : Are (0 ∷ empty_document) (body empty_document ∷ [])
-  pub no_document : AreNone (0 ∷ 4 ∷ 0 ∷ 0 ∷ 0 ∷ [])
-  -- what is in it is for the command to say
-  pub unreadable : BringsMessages (sectioned 26 (0 ∷ 5 ∷ 0 ∷ 0 ∷ 0 ∷ 9 ∷ [])) (asks false (5 ∷ 0 ∷ 0 ∷ 0 ∷ 9 ∷ []) ∷ []) (reading [])
-  -- behind a message comes the next, or a fault that closes the session behind it
-  pub two : BringsMessages (sectioned 26 (0 ∷ empty_document) ++ flagged (2 ∷ 0 ∷ 0 ∷ 0 ∷ []) ++ 26 ∷ []) (asks false empty_document ∷ asks true empty_document ∷ []) (reading (26 ∷ []))
-  pub fault_behind : BringsMessages (sectioned 26 (0 ∷ empty_document) ++ 25 ∷ 0 ∷ 0 ∷ 0 ∷ []) (asks false empty_document ∷ []) (closed BadLength)
-
--- ---- sessions
 
 -- {ping: 1, $db: "t"}, its bytes, and a message with it and these flags
 abbrev pub ping_fields : List Field

@@ -10,8 +10,8 @@ use Rattle.dv_wire.specs.declared.events.Said.{Said}
 use Rattle.dv_wire.specs.declared.events.Said.TheVariants as said
 use Rattle.dv_wire.specs.declared.fault.HubFault.TheVariants.{TooManySessions}
 use Rattle.dv_wire.specs.declared.hub.Fed.TheVariants as fed
-use Rattle.dv_wire.specs.Message.{Message, Conversation, reading, closed, Split, split}
-use Rattle.dv_wire.specs.Commands.{command_of}
+use Rattle.dv_message.specs.Message.{Message, Conversation, reading, closed, Split, split}
+use Rattle.dv_message.specs.Commands.{command_of}
 use Rattle.dv_wire.specs.Schedule.{World, conversation_of, end, fed_of, number_limit, plain_run, reply_bytes, session_limit, sessions_but, unfinished_in, with_conversation, world_behind, bytes_of}
 
 -- ---- what takes effect, and when

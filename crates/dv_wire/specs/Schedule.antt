@@ -1,9 +1,9 @@
 -- Sessions, and what happens to them: one is opened, a piece of its bytes comes, it ends.
 use Rattle.std.specs.Prelude.{◌≡◌, ℕ, suc, ◌≤◌, ◌<◌, ◌^◌, ◌⊎◌, List, [], ◌∷◌, ◌++◌, length, take, Option, Some, None, Result, Ok, Err, MatchOption, ◌==◌, if◌then◌else◌}
 use Rattle.std.specs.List.{concat}
-use Rattle.dv_bson.specs.Tree.{Field}
-use Rattle.dv_bson.specs.Spelling.{spelling}
-use Rattle.dv_wire.specs.declared.fault.CloseFault.TheVariants.{NoMemory}
+use Rattle.dv_value.specs.Tree.{Field}
+use Rattle.dv_value.specs.Spelling.{spelling}
+use Rattle.dv_message.specs.declared.fault.CloseFault.TheVariants.{NoMemory}
 use Rattle.dv_wire.specs.declared.fault.HubFault.{HubFault}
 use Rattle.dv_wire.specs.declared.fault.HubFault.TheVariants as hub_faults
 use Rattle.dv_command.specs.declared.command.Command.{Command}
@@ -12,9 +12,9 @@ use Rattle.dv_core.specs.declared.outcome.Outcome.TheVariants.{Reply, Wanting, N
 use Rattle.dv_wire.specs.declared.hub.SessionId.{SessionId}
 use Rattle.dv_wire.specs.declared.hub.Fed.{Fed}
 use Rattle.dv_wire.specs.declared.hub.Fed.TheVariants as fed
-use Rattle.dv_wire.specs.Sections.{body, section_spelling}
-use Rattle.dv_wire.specs.Message.{Message, message_spelling, Conversation, reading, closed, Split, split}
-use Rattle.dv_wire.specs.Commands.{command_of}
+use Rattle.dv_message.specs.Sections.{body, section_spelling}
+use Rattle.dv_message.specs.Message.{Message, front_length, message_spelling, Conversation, reading, closed, Split, split}
+use Rattle.dv_message.specs.Commands.{command_of}
 use Rattle.dv_core.specs.State.{State}
 use Rattle.dv_core.specs.Step.{Answer, MemoryStep, counted_step, end_session}
 
@@ -197,6 +197,12 @@ abbrev pub unfinished_in : Option Conversation → ℕ
 unfinished_in None = 0
 unfinished_in (Some (closed fault)) = 0
 unfinished_in (Some (reading kept)) = length kept
+
+-- how many bytes of a session's next piece come up to the end of its next message; all where the session takes none
+abbrev pub whole_front : Option Conversation → List ℕ → ℕ
+whole_front None piece = length piece
+whole_front (Some (closed fault)) piece = length piece
+whole_front (Some (reading kept)) piece = front_length kept piece
 
 -- a session ends: its unfinished bytes are dropped, and its cursors end with it
 abbrev pub end : ℕ → World → World

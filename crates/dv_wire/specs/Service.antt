@@ -1,14 +1,14 @@
 -- A whole session over a reader and a writer.
 use Rattle.std.specs.Prelude.{◌≡◌, ◌≤◌, ◌^◌, ℕ, suc, List, [], ◌∷◌, ◌++◌, length, Option, Some, None, Result, Ok, Err}
 use Rattle.std.specs.Io.KnownBytes.{Appends, Consumes, IsAtEnd, Keeps}
-use Rattle.dv_wire.specs.declared.fault.CloseFault.{CloseFault}
+use Rattle.dv_message.specs.declared.fault.CloseFault.{CloseFault}
 use Rattle.dv_wire.specs.declared.fault.RunFault.{RunFault}
 use Rattle.dv_wire.specs.declared.fault.RunFault.TheVariants.{Read, Write, TooManyReads, Hub}
 use Rattle.dv_wire.specs.declared.hub.SessionId.{SessionId}
 use Rattle.dv_wire.specs.declared.service.Done.{Done}
-use Rattle.dv_wire.specs.Message.{Conversation, reading, closed}
+use Rattle.dv_message.specs.Message.{Conversation, reading, closed}
 use Rattle.dv_wire.specs.Schedule.{Run, World, Opens, Hears, bytes_of, end, unfinished_in, world_behind}
-use Rattle.dv_wire.specs.Stream.{MoreBy, once_more}
+use Rattle.dv_streams.specs.Stream.{MoreBy, once_more}
 
 -- A session is opened, these bytes come from it, this is what its messages come to, and it ends. However its bytes are cut, the
 -- same may happen, so they stand here as one piece.

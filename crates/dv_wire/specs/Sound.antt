@@ -1,9 +1,9 @@
 -- What holds of every world that is reached.
-use Rattle.std.specs.Prelude.{ℕ, suc, ◌≤◌, List, [], ◌∷◌, ⊤}
+use Rattle.std.specs.Prelude.{ℕ, suc, ◌≤◌, List, [], ◌∷◌}
 use Rattle.std.specs.List.{AllByRecursion}
-use Rattle.dv_bson.specs.Spelling.{IsBytes}
 use Rattle.dv_core.specs.Sound.{IsSound}
-use Rattle.dv_wire.specs.Message.{Conversation, reading, closed}
+use Rattle.dv_message.specs.Bytes.{KeepsBytes}
+use Rattle.dv_message.specs.Message.{Conversation}
 use Rattle.dv_wire.specs.Schedule.{World}
 
 -- the numbers ascend from the first one, and stand below the next
@@ -14,10 +14,6 @@ AreNumbered first (s ∷ ss) next = (first ≤ s.0) × AreNumbered (suc s.0) ss 
 -- sessions stand in the order in which they were opened
 abbrev pub IsNumbered : World → Type 0
 IsNumbered world = AreNumbered 0 world.sessions world.next
-
-abbrev pub KeepsBytes : Conversation → Type 0
-KeepsBytes (reading kept) = IsBytes kept
-KeepsBytes (closed fault) = ⊤
 
 -- its state is sound, and its sessions keep bytes
 pub record IsSoundWorld (world : World) : Type 0 where

@@ -1,38 +1,25 @@
--- What messages and sessions in memory stand for.
-use Rattle.std.specs.Prelude.{◌≡◌, ◌<◌, ◌≤◌, ◌+◌, ◌^◌, ℕ, List, [], ◌∷◌, ◌++◌, length, drop, map, Option, Some, None, Result, Ok, Err}
+-- What sessions in memory stand for.
+use Rattle.std.specs.Prelude.{◌≡◌, ◌<◌, ◌≤◌, ◌+◌, ◌^◌, ◌⊎◌, ℕ, List, [], ◌∷◌, ◌++◌, length, drop, map, Option, Some, None, Result, Ok, Err}
 use Rattle.std.specs.List.{concat}
 use Rattle.std.specs.Io.KnownBytes.{Consumes, IsAtEnd}
 use Rattle.std.specs.Io.KnownBytes.{Appends as KnownAppends}
-use Rattle.dv_bson.specs.Tree.{Field}
-use Rattle.dv_bson.specs.Spelling.{spelling}
-use Rattle.std.specs.Int.{w32, to_le_bytes}
-use Rattle.dv_wire.specs.declared.fault.CloseFault.{CloseFault}
-use Rattle.dv_wire.specs.declared.fault.CloseFault.TheVariants.{NoMemory}
+use Rattle.dv_value.specs.Tree.{Field}
+use Rattle.dv_value.specs.Spelling.{spelling}
+use Rattle.dv_message.specs.declared.fault.CloseFault.{CloseFault}
+use Rattle.dv_message.specs.declared.fault.CloseFault.TheVariants.{NoMemory}
 use Rattle.dv_wire.specs.declared.session.Conversation.{Conversation as ConversationSeen}
 use Rattle.dv_wire.specs.declared.session.Conversation.TheVariants.{Reading, Closed}
 use Rattle.dv_wire.specs.declared.session.Session.{Session}
 use Rattle.dv_wire.specs.declared.session.Counts.{Counts}
-use Rattle.dv_wire.specs.declared.front.Message as declared
-use Rattle.dv_wire.specs.declared.front.Front.{Front as FrontSeen}
-use Rattle.dv_wire.specs.declared.front.Front.TheVariants.{Unfinished, Closing, Whole}
-use Rattle.dv_wire.specs.Sections.{body, section_spelling}
-use Rattle.dv_wire.specs.SectionsView.{section_seen}
-use Rattle.dv_wire.specs.Message.{Message, message_spelling, op_msg, StreamFront, unfinished, closing, whole, Conversation, reading, closed}
+use Rattle.dv_message.specs.Sections.{body, section_spelling}
+use Rattle.dv_message.specs.Message.{Message, message_spelling, Conversation, reading, closed}
 use Rattle.dv_core.specs.State.{State}
-use Rattle.dv_wire.specs.Schedule.{CarriesOutMessages, Hears, Run, World, bytes_of, world_behind}
+use Rattle.dv_wire.specs.Schedule.{CarriesOutMessages, Comes, Hears, Run, World, bytes_of, world_behind}
 use Rattle.dv_wire.specs.Service.{closing_of, most_reads, reply_count}
 use Rattle.dv_wire.specs.declared.fault.RunFault.{RunFault}
 use Rattle.dv_wire.specs.declared.fault.RunFault.TheVariants.{Read, Write, TooManyReads, Hub}
 use Rattle.dv_wire.specs.declared.hub.Fed.{Fed}
 use Rattle.dv_wire.specs.declared.hub.Fed.TheVariants as fed
-
-abbrev pub message_seen : declared.Message → Message
-message_seen m = record { request_id = m.request_id; more_to_come = m.more_to_come; sections = map section_seen m.sections.items }
-
-abbrev pub front_seen : FrontSeen → StreamFront
-front_seen Unfinished = unfinished
-front_seen (Closing fault) = closing fault
-front_seen (Whole message rest) = whole (message_seen message) rest.now
 
 abbrev pub conversation_seen : ConversationSeen → Conversation
 conversation_seen (Reading kept) = reading kept.items
@@ -76,10 +63,6 @@ Counted before answers after =
 abbrev pub Answered : List ℕ → List ℕ → Counts → Counts → (List (List ℕ) → Type 0) → Type 0
 Answered old new before after AreAnswered = (answers : List (List ℕ)) × (new ≡ old ++ concat answers) × Counted before answers after × AreAnswered answers
 
--- a reply to a request, with a length of 0 in its header
-abbrev pub unmeasured : ℕ → List ℕ → List ℕ
-unmeasured response_to sections = to_le_bytes w32 0 ++ (to_le_bytes w32 0 ++ (to_le_bytes w32 response_to ++ (to_le_bytes w32 op_msg ++ (to_le_bytes w32 0 ++ sections))))
-
 -- ---- a whole session, while it is open
 
 -- the session takes what is read, and its answers are written, all but the last of them that are left unwritten
@@ -91,6 +74,24 @@ pub record Talks (session : ℕ) (old : World) (from to before after : Option (L
   pub written : List ℕ
   pub answers : bytes_of run ≡ written ++ unwritten
   pub appended : KnownAppends before after written
+
+-- the first of these bytes are written, and the others are left
+abbrev pub Writes : List ℕ → List ℕ → Option (List ℕ) → Option (List ℕ) → Type 0
+Writes bytes left before after = (written : List ℕ) × (bytes ≡ written ++ left) × KnownAppends before after written
+
+-- bytes of a session came, or there were none
+abbrev pub Came : World → ℕ → List ℕ → List (List ℕ) → Fed → World → Type 0
+Came old session bytes answers told new = ((bytes ≡ []) × (answers ≡ []) × (new ≡ old)) ⊎ Comes old session bytes answers told new
+
+-- what was read came from a session, and its answers are written, all but the last of them that are left
+abbrev pub AnswersAll : World → ℕ → List ℕ → Counts → Counts → Fed → List ℕ → World → Option (List ℕ) → Option (List ℕ) → Type 0
+AnswersAll old session read before_counts counts told left new before after =
+    (answers : List (List ℕ)) × Comes old session read answers told new × Counted before_counts answers counts × Writes (concat answers) left before after
+
+-- all that was read came, and is answered; or some answers are left where the writer failed
+abbrev pub AnswersRead : {E : Type 0} → Result Fed E → World → ℕ → List ℕ → Counts → Counts → World → Option (List ℕ) → Option (List ℕ) → Type 0
+AnswersRead (Ok told) old session read before_counts counts new before after = AnswersAll old session read before_counts counts told [] new before after
+AnswersRead (Err e) old session read before_counts counts new before after = (told : Fed) × (left : List ℕ) × AnswersAll old session read before_counts counts told left new before after
 
 -- what closes a session that was told of so
 abbrev pub closing_fed : Fed → Option CloseFault

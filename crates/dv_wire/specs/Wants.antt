@@ -1,17 +1,17 @@
 -- What tells of want of memory: a reply, the bytes of replies, and what is said of an event.
 use Rattle.std.specs.Prelude.{◌≡◌, ℕ, ◌⊎◌, List, [], ◌∷◌, ◌++◌, map, Err}
 use Rattle.std.specs.List.{concat}
-use Rattle.dv_bson.specs.Spelling.{spelling}
-use Rattle.dv_bson.specs.Tree.{Tree, Field}
+use Rattle.dv_value.specs.Spelling.{spelling}
+use Rattle.dv_value.specs.Tree.{Tree, Field}
 use Rattle.dv_command.specs.Replies.{cut_error, document_of, refusal_reply, update_reply, write_reply}
 use Rattle.dv_fields.specs.declared.refusal.Refusal.TheVariants.{WantOfMemory}
 use Rattle.dv_wire.specs.declared.events.Said.{Said}
 use Rattle.dv_wire.specs.declared.events.Said.TheVariants as said
-use Rattle.dv_wire.specs.declared.fault.CloseFault.TheVariants as close_faults
+use Rattle.dv_message.specs.declared.fault.CloseFault.TheVariants as close_faults
 use Rattle.dv_wire.specs.declared.fault.HubFault.TheVariants as hub_faults
 use Rattle.dv_wire.specs.declared.hub.Fed.TheVariants as fed
-use Rattle.dv_wire.specs.Message.{message_spelling}
-use Rattle.dv_wire.specs.Sections.{body, section_spelling}
+use Rattle.dv_message.specs.Message.{message_spelling}
+use Rattle.dv_message.specs.Sections.{body, section_spelling}
 
 -- errors, and behind them that of the statement at a place, which found no memory behind so many of its changes
 abbrev pub with_cut : List Tree → ℕ → ℕ → List Tree

@@ -2,11 +2,11 @@
 use Rattle.std.specs.Prelude.{◌≡◌, ℕ, ◌⊎◌, List, refl}
 use Rattle.std.proofs.Common.{inl, inr}
 use Rattle.std.specs.Coded.{Coded, code_by, coded×, coded⊎, coded_list, coded_ℕ}
-use Rattle.dv_wire.specs.declared.fault.CloseFault.{CloseFault}
-use Rattle.dv_wire.specs.contracts.fault.CloseFault as fault
+use Rattle.dv_message.specs.declared.fault.CloseFault.{CloseFault}
+use Rattle.dv_message.specs.contracts.fault.CloseFault as fault
 use Rattle.dv_core.specs.State.{State}
 use Rattle.dv_core.specs.StateCode.{coded_store_state}
-use Rattle.dv_wire.specs.Message.{Conversation, reading, closed}
+use Rattle.dv_message.specs.Message.{Conversation, reading, closed}
 use Rattle.dv_wire.specs.Schedule.{World}
 
 abbrev either : Conversation → List ℕ ⊎ CloseFault

@@ -2,7 +2,7 @@
 
 use crate::fault::HubFault;
 use crate::hub::{Fed, SessionId};
-use dv_bson::Bytes;
+use dv_value::Bytes;
 
 /// What happens to the sessions of a hub.
 #[derive(Debug, Drop)]

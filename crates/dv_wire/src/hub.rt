@@ -6,11 +6,11 @@ ghost use Rattle.dv_wire.specs.Sound.{AreNumbered};
 ghost use Rattle.dv_wire.specs.View.{session_seen};
 
 use crate::events::{Event, Said};
-use crate::fault::{CloseFault, HubFault};
+use crate::fault::HubFault;
 use crate::session::{Conversation, Counts, Session};
-use crate::shapes::Shapes;
-use dv_bson::{Bytes, NoMemory};
 use dv_core::Store;
+use dv_message::{CloseFault, Shapes};
+use dv_value::{Bytes, NoMemory};
 use std::alloc::Global;
 use std::marker::Model;
 
@@ -67,10 +67,10 @@ impl Model for Hub {
 }
 
 impl Hub {
-    ghost use Rattle.std.specs.Prelude.{◌++◌, [], List, OnErr, OnOk, Some};
+    ghost use Rattle.std.specs.Prelude.{◌<◌, ◌≤◌, ◌++◌, [], List, OnErr, OnOk, Some, length};
     ghost use Rattle.dv_core.specs.Step.{end_session};
-    ghost use Rattle.dv_wire.specs.Schedule.{world_of, conversation_of, Opens, Comes, Feeds, Appends, unfinished_in, end as end_of};
-    ghost use Rattle.dv_wire.specs.Message.{reading};
+    ghost use Rattle.dv_wire.specs.Schedule.{world_of, conversation_of, Opens, Comes, Feeds, Appends, unfinished_in, whole_front, end as end_of};
+    ghost use Rattle.dv_message.specs.Message.{reading};
     ghost use Rattle.dv_wire.specs.View.{Answered};
     ghost use Rattle.dv_wire.specs.Playing.{Happens, Plays};
     ghost use Rattle.dv_wire.specs.declared.events.Said as heard;
@@ -114,12 +114,28 @@ impl Hub {
     /// show it, and so does want of memory for the bytes, for a reply, or for a command whose reply moreToCome leaves
     /// out. A session that is closed takes no more.
     pub fn feed(&mut self, session: SessionId, piece: &[u8], out: &mut Vec<u8>) -> Fed
-        ensures { Appends out.old.items out.new.items (λ bytes. Feeds self.old session.number piece.now bytes result self.new) }
+        ensures fed { Appends out.old.items out.new.items (λ bytes. Feeds self.old session.number piece.now bytes result self.new) }
+        ensures numbers { self.new.next ≡ self.old.next }
     {
         self.feed_counted(session, piece, out, &mut Counts::none())
     }
 
-    /// The same, and counts the messages that are carried out and the replies.
+    /// How many bytes of a session's next piece come up to the end of its next message: so many bring one message at most,
+    /// so its reply can be sent before the next one is made. At least 1, and at most all of them: all where the message isn't
+    /// whole with the piece, or the session takes none.
+    pub fn whole_front(&self, session: SessionId, piece: &[u8]) -> usize
+        requires { 0 < length piece.now }
+        ensures front { result ≡ whole_front (conversation_of session.number self.now.sessions) piece.now }
+        ensures some { 0 < result }
+        ensures within { result ≤ length piece.now }
+    {
+        match place_of(&self.sessions, session.number) {
+            Some(place) => self.sessions[place].conversation.whole_front(piece),
+            None => piece.len(),
+        }
+    }
+
+    /// The same as `feed`, and counts the messages that are carried out and the replies.
     pub(crate) fn feed_counted(
         &mut self,
         session: SessionId,
@@ -134,6 +150,16 @@ impl Hub {
         };
         let session = &mut self.sessions[place];
         session.hear(self.alloc, &mut self.store, piece, out, counts)
+    }
+
+    /// How many bytes of an unfinished message a session keeps; none where it was never opened, has ended or is closed.
+    pub fn unfinished(&self, session: SessionId) -> usize
+        ensures { result ≡ unfinished_in (conversation_of session.number self.now.sessions) }
+    {
+        match place_of(&self.sessions, session.number) {
+            Some(place) => self.sessions[place].conversation.unfinished_len(),
+            None => 0,
+        }
     }
 
     /// Ends a session and its cursors, and answers how many bytes of an unfinished message are dropped with it. A

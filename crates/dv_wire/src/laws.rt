@@ -2,13 +2,15 @@
 
 ghost use Rattle.std.specs.Prelude.{◌≡◌, ◌≢◌, ◌↔◌, ℕ, suc, true, List, [], ◌∷◌, ◌++◌, Some, None, Result, Ok, Err, length};
 ghost use Rattle.std.specs.List.{AllByRecursion};
-ghost use Rattle.dv_bson.specs.Spelling.{IsBytes};
+ghost use Rattle.dv_value.specs.Spelling.{IsBytes};
 ghost use Rattle.dv_core.specs.Sound.{IsSound};
 ghost use Rattle.dv_core.specs.State.{State, standing};
 ghost use Rattle.dv_core.specs.Step.{step};
 ghost use Rattle.dv_wire.specs.Examples as examples;
+ghost use Rattle.dv_host.specs.Schedule.{Step, HappensBy, PlaysBy as PlaysBySteps, answers as answers_of};
+ghost use Rattle.dv_wire.specs.Hosted.{OpensAs, FeedsAs, EndsAs, events_of};
 ghost use Rattle.dv_wire.specs.Sound.{IsNumbered, IsSoundWorld};
-ghost use Rattle.dv_wire.specs.declared.fault.CloseFault.{CloseFault};
+ghost use Rattle.dv_message.specs.declared.fault.CloseFault.{CloseFault};
 ghost use Rattle.dv_wire.specs.declared.fault.HubFault.{HubFault};
 ghost use Rattle.dv_wire.specs.declared.hub.Fed.{Fed};
 ghost use Rattle.dv_wire.specs.declared.hub.Fed.TheVariants as fed;
@@ -17,32 +19,28 @@ ghost use Rattle.dv_wire.specs.declared.events.Event.{Event};
 ghost use Rattle.dv_wire.specs.declared.events.Event.TheVariants as events;
 ghost use Rattle.dv_wire.specs.declared.events.Said.{Said};
 ghost use Rattle.dv_wire.specs.declared.events.Said.TheVariants as said;
-ghost use Rattle.dv_wire.specs.Message as wire;
+ghost use Rattle.dv_message.specs.Message as wire;
 ghost use Rattle.dv_wire.specs.Order.{OfCommands, answers, order, plain_play, replies_behind, state_left};
 ghost use Rattle.dv_wire.specs.Playing.{ComesInTwo, Plays, PlaysBy};
-ghost use Rattle.dv_wire.specs.Commands.{command_of};
+ghost use Rattle.dv_message.specs.Commands.{command_of};
 ghost use Rattle.dv_wire.specs.Schedule.{Run, CarriesOutMessages, bytes_of, unanswered, World, world_of, conversation_of, Opens, Feeds, FeedsAll, end, fed_of, plain_run, stream_of, unfinished_in, world_behind};
 ghost use Rattle.dv_wire.specs.Service.{IsSession};
 ghost use Rattle.dv_wire.specs.Standing.{AreAllLive, AsksNoStats, LiveStep, world_standing};
 ghost use Rattle.dv_wire.specs.Wants.{SaysWant};
 
-/// A stream of which more comes splits as before, and then as its rest with what comes; behind a fault nothing does.
-pub fn splitting_goes_on()
-    ensures { (bytes more : List ℕ) → wire.split (bytes ++ more) ≡ wire.continuation (wire.split bytes) more }
-{}
-
-/// A message is split off exactly where its spelling begins the stream.
-pub fn messages_are_spelled()
-    ensures { (bytes following : List ℕ) (message : wire.Message) → IsBytes bytes
-        → (wire.stream_front bytes ≡ wire.whole message following) ↔ ((spelled : List ℕ) × wire.IsMessage message spelled × (bytes ≡ spelled ++ following)) }
-{}
+pub use dv_message::laws::{
+    bytes_bring_bytes, headers_by_example, messages_are_no_more_than_bytes, messages_are_spelled,
+    sections_by_example, splitting_goes_on, streams_split_by_their_fronts,
+};
 
 /// It doesn't matter how a session's bytes are cut: whatever the pieces are, and however many, they may do together what
 /// all their bytes as one piece may do, and nothing else.
 pub fn cuts_do_not_matter()
     ensures { (old new : World) (session : ℕ) (piece : List ℕ) (pieces : List (List ℕ)) (bytes : List ℕ) (answer : Fed)
         → Feeds old session (stream_of piece pieces) bytes answer new ↔ FeedsAll old session piece pieces bytes answer new }
-{}
+{
+    splitting_goes_on();
+}
 
 /// Wherever in a schedule a piece of a session's bytes is cut in two, the same may be answered, event by event, and the
 /// same world left: the whole piece may answer what its two parts may answer one behind the other, and what is told of the
@@ -51,7 +49,9 @@ pub fn a_piece_may_come_in_two()
     ensures { (old new : World) (before after : List Event) (session : SessionId) (piece more : List ℕ) (answers behind : List Said) (told : Fed) (bytes : List ℕ) → length before ≡ length answers
         → Plays old (before ++ events.Piece session (piece ++ more) ∷ after) (answers ++ said.Fed told bytes ∷ behind) new
         ↔ ComesInTwo old before session piece more after answers told bytes behind new }
-{}
+{
+    splitting_goes_on();
+}
 
 /// A schedule in two parts is a schedule: what may be said of the first, and behind it of the second, is what may be said of
 /// both as one, and nothing else. So the calls that a program makes one after the other are one play of all their events.
@@ -59,6 +59,13 @@ pub fn schedules_may_be_joined()
     ensures { (old new : World) (first second : List Event) (all : List Said)
         → Plays old (first ++ second) all new
         ↔ ((one : List Said) × (two : List Said) × (mid : World) × (all ≡ one ++ two) × Plays old first one mid × Plays mid second two new) }
+{}
+
+/// What is done to a hub's sessions for many connections at once, step by step, is a schedule of events, which answers the same
+/// to each session. So what holds of schedules holds of it.
+pub fn steps_are_a_schedule()
+    ensures { (old new : World) (steps : List Step) → PlaysBySteps (HappensBy OpensAs FeedsAs EndsAs) old steps new
+        → (all : List Said) × Plays old (events_of steps) all new × ((session : ℕ) → answers session (events_of steps) all ≡ answers_of session steps) }
 {}
 
 /// A whole session is a schedule: it is opened, its bytes come, and it ends. What is said of its bytes and of its end is
@@ -121,6 +128,7 @@ pub fn the_plain_run_is_allowed()
         → let run = plain_run session world.state (wire.split (kept ++ stream_of piece pieces)) in
         FeedsAll world session piece pieces (bytes_of run) (fed_of run.conversation) (world_behind session run world) }
 {
+    splitting_goes_on();
     dv_core::laws::the_counted_step_is_allowed();
 }
 
@@ -177,19 +185,10 @@ pub fn worlds_stay_sound()
     ensures fed { (old new : World) (session : ℕ) (piece bytes : List ℕ) (answer : Fed) → IsSoundWorld old → IsBytes piece → Feeds old session piece bytes answer new → IsSoundWorld new }
     ensures ended { (old : World) (session : ℕ) → IsSoundWorld old → IsSoundWorld (end session old) }
 {
+    bytes_bring_bytes();
     dv_bson::laws::what_is_read_is_spelled();
     dv_core::laws::states_stay_sound();
 }
-
-/// Where a message's length, code and flags close its session, by worked examples.
-pub fn headers_by_example()
-    ensures { examples.HeaderExamples }
-{}
-
-/// Which sections close a session, by worked examples.
-pub fn sections_by_example()
-    ensures { examples.SectionExamples }
-{}
 
 /// How sessions are opened and end, and what is answered to a message, by worked examples.
 pub fn sessions_by_example()

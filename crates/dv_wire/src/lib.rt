@@ -1,22 +1,18 @@
-//! OP_MSG messages in and out, and the sessions that they come from.
+//! The sessions that messages come from, and how they are served.
 #![tactic(auto)]
 
-mod commands;
 mod events;
 mod fault;
-mod front;
+mod hosted;
 mod hub;
 pub mod laws;
-mod reply;
-mod sections;
 mod service;
 mod session;
-mod shapes;
-mod stream;
 
 pub use dv_core::Store;
+pub use dv_message::CloseFault;
+pub use dv_streams::{ByteIn, ByteOut, Failed, give_all};
 pub use events::{Event, Said};
-pub use fault::{CloseFault, HubFault, RunFault};
+pub use fault::{HubFault, RunFault};
 pub use hub::{Fed, Hub, SessionId};
 pub use service::{Done, run};
-pub use stream::{ByteIn, ByteOut, Failed, give_all};

@@ -1,15 +1,17 @@
 //! A whole session over a reader and a writer.
 
-ghost use Rattle.std.specs.Prelude.{◌≡◌, [], length, IfOk, Some};
-ghost use Rattle.dv_wire.specs.Message.{reading};
+ghost use Rattle.std.specs.Prelude.{◌≡◌, ◌<◌, ℕ, true, List, [], length, IfOk, OnErr, OnOk, Some};
+ghost use Rattle.dv_message.specs.Message.{reading};
 ghost use Rattle.dv_wire.specs.Schedule.{conversation_of};
 ghost use Rattle.dv_wire.specs.Service.{AsksInRun, ComesTo, failures_read_in, failures_written_in};
-ghost use Rattle.dv_wire.specs.View.{TalksTo, closing_fed};
+ghost use Rattle.dv_streams.specs.Stream.{once_more};
+ghost use Rattle.dv_wire.specs.View.{AnswersRead, Came, Counted, TalksTo, Writes, closing_fed};
 
-use crate::fault::{CloseFault, RunFault};
+use crate::fault::RunFault;
 use crate::hub::{Fed, Hub, SessionId};
 use crate::session::{Counts, ROOM_KEPT};
-use crate::stream::{ByteIn, ByteOut, give_all};
+use dv_message::{CloseFault, laws};
+use dv_streams::{ByteIn, ByteOut, Failed, give_all};
 use std::alloc::{AllocError, Global};
 
 /// The most reads that a session takes.
@@ -17,6 +19,9 @@ const MOST_READS: u64 = 4_294_967_296;
 
 /// The most bytes that one read takes.
 const PIECE: usize = 65_536;
+
+/// How many bytes of replies are enough to be written before the next message is looked at.
+const ENOUGH: usize = 65_536;
 
 /// What is told of a session that ended.
 #[derive(Clone, Copy, Debug, PartialEq, Eq)]
@@ -32,13 +37,15 @@ pub struct Done {
 }
 
 /// Has a whole session: opens it, reads to the end of input in pieces of at most 65,536 bytes, feeds each to it, writes
-/// its replies, and ends it. What many messages ask in one read is answered by one write, if the writer takes that
-/// much; else the rest is given to it. At a closing fault it stops reading. Answers only there and at the end of input.
+/// its replies, and ends it. Many messages of one read are answered by one write, if the writer takes that much; else the
+/// rest is given to it. Replies are written as soon as they are 65,536 bytes or more, before the next message is carried
+/// out, so no more than one reply is held beside so many bytes. At a closing fault it stops reading. Answers only there
+/// and at the end of input.
 ///
 /// Fails with `Read` or `Write` where the reader or the writer does (one that takes 0 bytes has failed), with
 /// `TooManyReads` after 4,294,967,296 reads, and with `Hub` where no session is opened or memory is wanting for a
 /// piece; in the last case nothing is changed or read. The session has ended then too; what its messages changed
-/// stands.
+/// stands. What was read is carried out, be its replies written or not.
 pub fn run<R: ByteIn, W: ByteOut>(
     alloc: Global,
     hub: &mut Hub,
@@ -80,6 +87,8 @@ fn serve<R: ByteIn, W: ByteOut>(
     ensures writer { W.failures writer.new ≡ failures_written_in result (W.failures writer.old) }
     ensures reads { AsksInRun result (R.reads reader.old) (R.reads reader.new) }
 {
+    laws::splitting_goes_on();
+    laws::messages_are_no_more_than_bytes();
     let mut replies = Vec::new(alloc);
     let mut counts = Counts::none();
     'reads: for _ in 0..MOST_READS {
@@ -89,18 +98,86 @@ fn serve<R: ByteIn, W: ByteOut>(
         if count == 0 {
             return Ok((counts, None));
         }
-        let fed = hub.feed_counted(session, &piece[..count], &mut replies, &mut counts);
-        if give_all(writer, &replies).is_err() {
+        let read = &piece[..count];
+        let Ok(fed) = answer(hub, session, read, &mut replies, &mut counts, writer) else {
             return Err(RunFault::Write);
-        }
-        replies.clear();
-        replies.shrink_to(ROOM_KEPT);
+        };
         let closing = closing_in(fed);
         if closing.is_some() {
             return Ok((counts, closing));
         }
     }
     Err(RunFault::TooManyReads)
+}
+
+/// Feeds what was read to the session, message by message, and writes the replies. Answers what the session is then. Fails
+/// where the writer does; then the rest was carried out too.
+fn answer<W: ByteOut>(
+    hub: &mut Hub,
+    session: SessionId,
+    read: &[u8],
+    replies: &mut Vec<u8>,
+    counts: &mut Counts,
+    writer: &mut W,
+) -> Result<Fed, Failed>
+    requires some { 0 < length read.now }
+    requires none { replies.old.items ≡ [] }
+    ensures answered { AnswersRead result hub.old session.number read.now counts.old counts.new hub.new (W.contents writer.old) (W.contents writer.new) }
+    ensures none { OnOk result (replies.new.items ≡ []) }
+    ensures written { OnOk result (W.failures writer.new ≡ W.failures writer.old) }
+    ensures failed { OnErr result (W.failures writer.new ≡ once_more (W.failures writer.old)) }
+{
+    laws::splitting_goes_on();
+    let mut rest = read;
+    let mut fed = Fed::Open;
+    'messages: while !rest.is_empty() {
+        let (front, behind) = rest.split_at(hub.whole_front(session, rest));
+        fed = hub.feed_counted(session, front, replies, counts);
+        rest = behind;
+        if write_enough(writer, replies, rest.is_empty()).is_err() {
+            hear_out(hub, session, rest, replies, counts);
+            return Err(Failed);
+        }
+    }
+    Ok(fed)
+}
+
+/// Writes the replies and drops them where they are enough, or `all` are to be written.
+fn write_enough<W: ByteOut>(writer: &mut W, replies: &mut Vec<u8>, all: bool) -> Result<(), Failed>
+    ensures some { OnOk result (Writes replies.old.items replies.new.items (W.contents writer.old) (W.contents writer.new)) }
+    ensures all { OnOk result (all ≡ true → replies.new.items ≡ []) }
+    ensures part { OnErr result ((unwritten : List ℕ) × Writes replies.old.items unwritten (W.contents writer.old) (W.contents writer.new)) }
+    ensures written { OnOk result (W.failures writer.new ≡ W.failures writer.old) }
+    ensures failed { OnErr result (W.failures writer.new ≡ once_more (W.failures writer.old)) }
+{
+    if !all && replies.len() < ENOUGH {
+        return Ok(());
+    }
+    give_all(writer, replies)?;
+    replies.clear();
+    replies.shrink_to(ROOM_KEPT);
+    Ok(())
+}
+
+/// Feeds the others of the bytes that were read to the session, message by message, and drops the replies.
+fn hear_out(
+    hub: &mut Hub,
+    session: SessionId,
+    others: &[u8],
+    replies: &mut Vec<u8>,
+    counts: &mut Counts,
+)
+    ensures { (answers : List (List ℕ)) × (told : Fed) × Came hub.old session.number others.now answers told hub.new × Counted counts.old answers counts.new }
+{
+    laws::splitting_goes_on();
+    let mut rest = others;
+    'messages: while !rest.is_empty() {
+        replies.clear();
+        replies.shrink_to(ROOM_KEPT);
+        let (front, behind) = rest.split_at(hub.whole_front(session, rest));
+        hub.feed_counted(session, front, replies, counts);
+        rest = behind;
+    }
 }
 
 /// What closed the session of which this is told.

@@ -1,20 +1,19 @@
 //! One session: its bytes, and its messages one after the other.
 
 ghost use Rattle.std.specs.Prelude.{◌≡◌, ◌≤◌, ◌++◌, IfOk, length, drop, vec_len};
-ghost use Rattle.dv_wire.specs.Commands.{command_of};
+ghost use Rattle.dv_message.specs.Commands.{command_of};
 ghost use Rattle.dv_wire.specs.Schedule.{TakesSplit, bytes_to};
 ghost use Rattle.dv_core.specs.Step.{MemoryStep};
-ghost use Rattle.dv_wire.specs.Message.{split};
-ghost use Rattle.dv_wire.specs.View.{kept_or_closed, left_or_closed, message_seen, bytes_seen, Answered, Carries};
+ghost use Rattle.dv_message.specs.Message.{split};
+ghost use Rattle.dv_message.specs.View.{message_seen};
+ghost use Rattle.dv_wire.specs.View.{kept_or_closed, left_or_closed, bytes_seen, Answered, Carries};
 
-use crate::commands::command_in;
-use crate::fault::CloseFault;
-use crate::front::{Front, Message, front_of};
 use crate::hub::Fed;
-use crate::reply::append_reply;
-use crate::shapes::Shapes;
-use dv_bson::{Document, NoMemory};
 use dv_core::{Outcome, Store};
+use dv_message::{
+    CloseFault, Front, Message, Shapes, append_reply, command_in, front_length, front_of, laws,
+};
+use dv_value::{Document, NoMemory};
 use std::alloc::{AllocError, Global};
 
 /// The most room that is kept for bytes to come, once a session's messages are done and its replies written.
@@ -48,8 +47,8 @@ pub(crate) enum Conversation {
 }
 
 impl Conversation {
-    ghost use Rattle.std.specs.Prelude.{Some};
-    ghost use Rattle.dv_wire.specs.Schedule.{unfinished_in, fed_of};
+    ghost use Rattle.std.specs.Prelude.{◌<◌, Some};
+    ghost use Rattle.dv_wire.specs.Schedule.{unfinished_in, fed_of, whole_front};
     ghost use Rattle.dv_wire.specs.View.{conversation_seen};
 
     /// What is told of the session.
@@ -59,6 +58,17 @@ impl Conversation {
         match self {
             Conversation::Reading(_) => Fed::Open,
             Conversation::Closed(fault) => Fed::Closed(*fault),
+        }
+    }
+
+    /// How many bytes of the next piece come up to the end of the next message.
+    pub(crate) fn whole_front(&self, piece: &[u8]) -> usize
+        requires { 0 < length piece.now }
+        ensures { result ≡ whole_front (Some (conversation_seen self.now)) piece.now }
+    {
+        match self {
+            Conversation::Reading(kept) => front_length(kept, piece),
+            Conversation::Closed(_) => piece.len(),
         }
     }
 
@@ -163,6 +173,7 @@ fn carry_out_all(
     ensures taken { IfOk result (λ taken. taken ≤ length stream.now) }
     ensures carried { Answered out.old.items out.new.items counts.old counts.new (λ answers. TakesSplit session store.old (split stream.now) (record { answers = answers; state = store.new; conversation = left_or_closed result stream.now })) }
 {
+    laws::streams_split_by_their_fronts();
     let mut rest = stream;
     'messages: loop {
         match front_of(alloc, rest) {

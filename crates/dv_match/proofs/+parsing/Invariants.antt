@@ -1,6 +1,6 @@
 use Rattle.std.proofs.Common.{◌≡◌, ◌+◌, ◌-◌, ◌*◌, length, map, drop}
-use Rattle.dv_bson.specs.Tree.{weight, fields_of, fields_weight, elements_of, elements_weight}
-use Rattle.dv_bson.specs.View.{tree}
+use Rattle.dv_value.specs.Tree.{weight, fields_of, fields_weight, elements_of, elements_weight}
+use Rattle.dv_value.specs.View.{tree}
 use Rattle.dv_match.specs.View.{member, condition}
 use Rattle.dv_match.proofs.Collected.{collected, after, member_of_field, condition_of_field, filter_of_value}
 use Rattle.dv_match.proofs.+parsing.Given as goal

@@ -1,8 +1,8 @@
 use Rattle.std.proofs.Common.{◌≡◌, ◌∙◌, ◌≤◌, ◌++◌, ◌∷◌, [], ap, sym, subst, map, length, arith, Ok, Err, rules, List, ℕ, ◌+◌}
 use Rattle.std.proofs.lemmas.List.{map-append}
-use Rattle.dv_bson.specs.Tree.{Field}
-use Rattle.dv_bson.specs.View.{tree}
-use Rattle.dv_bson.specs.Weight.{field_weighs_less}
+use Rattle.dv_value.specs.Tree.{Field}
+use Rattle.dv_value.specs.View.{tree}
+use Rattle.dv_value.specs.Weight.{field_weighs_less}
 use Rattle.dv_row.specs.Expressions.{Expression}
 use Rattle.dv_row.specs.ExpressionView.{named}
 use Rattle.dv_row.specs.EachLaws.{IsParsedTo, parsed-next, parsed-refused, parsed-all, gives-fault}

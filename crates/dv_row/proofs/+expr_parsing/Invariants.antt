@@ -1,6 +1,6 @@
 use Rattle.std.proofs.Common.{◌+◌, ◌*◌, map}
-use Rattle.dv_bson.specs.Tree.{fields_of, fields_weight, weight}
-use Rattle.dv_bson.specs.View.{tree}
+use Rattle.dv_value.specs.Tree.{fields_of, fields_weight, weight}
+use Rattle.dv_value.specs.View.{tree}
 use Rattle.dv_row.specs.ExpressionView.{named}
 use Rattle.dv_row.specs.EachLaws.{IsParsedTo}
 use Rattle.dv_row.proofs.Members.{computed_field}

@@ -1,6 +1,6 @@
 use Rattle.std.proofs.Common.{map, false, true, sym, ◌∙◌, rules, arith}
 use Rattle.std.proofs.lemmas.Result.{err_from_is_err_and}
-use Rattle.dv_bson.specs.View.{tree}
+use Rattle.dv_value.specs.View.{tree}
 use Rattle.dv_bson.specs.Parts.{numbered}
 use Rattle.dv_bson.proofs.Shorter.{behind_name, frame_within}
 use Rattle.dv_bson.proofs.Fronts.{length_numbered}
@@ -80,7 +80,7 @@ document_of-returns-then-levels-eq0 t c = too_deep _ _ _ _ _ (omega arith)
 pub document_of-elements-init : goal.document_of-elements-init
 document_of-elements-init t c = record {
   read = rw c.in_ok-fields.ensures (starts c.args.levels false c.args.at c.args.elements.now c.args.last (omega arith));
-  in_range = c.requires;
+  in_range = c.requires.at;
 }
 
 pub document_of-returns-in_err-name : goal.document_of-returns-in_err-name
@@ -115,7 +115,7 @@ document_of-returns-in_err-closed t c =
 pub document_of-of-requires : goal.document_of-of-requires
 document_of-of-requires t c =
     let done = is_done _ _ _ _ _ _ _ (none_left _ (sym c.is_empty.ensures ∙ c.elements-test.false)) c.elements.invariant.read in
-    inside_measured c.args.levels c.args.at c.args.elements.now c.args.last c.elements.fields (λ i. omega (arith, c.type_inv.elements i)) (omega (arith, c.requires)) (sym done ∙ c.in_ok-closed.ensures c.elements.fields)
+    inside_measured c.args.levels c.args.at c.args.elements.now c.args.last c.elements.fields (λ i. omega (arith, c.type_inv.elements i)) c.requires.levels (omega (arith, c.requires.at)) (sym done ∙ c.in_ok-closed.ensures c.elements.fields)
 
 pub document_of-returns : goal.document_of-returns
 document_of-returns t c =
@@ -130,7 +130,7 @@ list_of-returns-then-levels-eq0 t c = too_deep _ _ _ _ _ (omega arith)
 pub list_of-elements-init : goal.list_of-elements-init
 list_of-elements-init t c = record {
   read = rw c.new-values.ensures.items (starts c.args.levels true c.args.at c.args.elements.now c.args.last (omega arith));
-  in_range = c.requires;
+  in_range = c.requires.at;
 }
 
 pub list_of-returns-in_err-value : goal.list_of-returns-in_err-value

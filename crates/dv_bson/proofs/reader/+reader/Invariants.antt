@@ -1,5 +1,5 @@
 use Rattle.std.proofs.Common.{◌≡◌, ◌*◌, ◌+◌, ◌-◌, ◌<◌, true, false, length, map}
-use Rattle.dv_bson.specs.View.{tree}
+use Rattle.dv_value.specs.View.{tree}
 use Rattle.dv_bson.specs.Reading.{fields_at, body_at}
 use Rattle.dv_bson.specs.Parts.{numbered}
 use Rattle.dv_bson.proofs.reader.+reader.Given as goal

@@ -1,5 +1,5 @@
 use Rattle.std.proofs.Common.{◌≡◌, true, false, refl, sym, ◌∙◌}
-use Rattle.dv_bson.specs.Names.{has_name}
+use Rattle.dv_value.specs.Names.{has_name}
 use Rattle.dv_bson.proofs.Fronts.{compared}
 use Rattle.dv_bson.proofs.reading.field_name_of.Goals as goal
 

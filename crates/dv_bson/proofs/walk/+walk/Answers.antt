@@ -1,6 +1,6 @@
 use Rattle.std.proofs.Common.{map, false, true, sym, ap, refl, ◌∙◌, [], ◌∷◌, ◌++◌, List, ℕ, rules, arith}
 use Rattle.std.proofs.lemmas.Result.{err_from_is_err_and}
-use Rattle.dv_bson.specs.Names.{bare}
+use Rattle.dv_value.specs.Names.{bare}
 use Rattle.dv_bson.proofs.Shorter.{behind_name, frame_within}
 use Rattle.dv_bson.proofs.Loop.{ends, is_done, starts, too_deep, some_left, none_left}
 use Rattle.dv_bson.proofs.Turns.{fails_kind, fails_name, fails_value, gives_field, gives_rest}

@@ -1,5 +1,5 @@
 use Rattle.std.proofs.Common.{◌≡◌, ◌*◌, ◌+◌, ◌-◌, ◌<◌, ◌≤◌, true, false, List, length, map}
-use Rattle.dv_bson.specs.Tree.{Field}
+use Rattle.dv_value.specs.Tree.{Field}
 use Rattle.dv_bson.specs.Reading.{fields_at, body_at}
 use Rattle.dv_bson.proofs.walk.+walk.Given as goal
 

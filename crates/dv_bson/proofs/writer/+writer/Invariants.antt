@@ -1,7 +1,7 @@
 use Rattle.std.proofs.Common.{◌+◌, ◌*◌, drop}
-use Rattle.dv_bson.specs.Tree.{weight, fields_of, fields_weight, elements_of, elements_weight}
-use Rattle.dv_bson.specs.Spelling.{fields_spelling, elements_spelling}
-use Rattle.dv_bson.specs.View.{tree}
+use Rattle.dv_value.specs.Tree.{weight, fields_of, fields_weight, elements_of, elements_weight}
+use Rattle.dv_value.specs.Spelling.{fields_spelling, elements_spelling}
+use Rattle.dv_value.specs.View.{tree}
 use Rattle.dv_bson.proofs.Written.{IsLeft}
 use Rattle.dv_bson.proofs.writer.+writer.Given as goal
 

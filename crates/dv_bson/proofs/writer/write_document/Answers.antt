@@ -1,5 +1,5 @@
 use Rattle.std.proofs.Common.{◌+◌, refl, arith}
-use Rattle.dv_bson.specs.Spelling.{spelling}
+use Rattle.dv_value.specs.Spelling.{spelling}
 use Rattle.dv_bson.proofs.Written.{appended}
 use Rattle.dv_bson.proofs.writer.write_document.Goals as goal
 

@@ -1,7 +1,7 @@
 use Rattle.std.proofs.Common.{◌≡◌, false, inl, codes, sym, ap, ◌∙◌, arith}
 use Rattle.std.specs.List.{list_any}
 use Rattle.std.specs.Str.{bytes_eq}
-use Rattle.dv_index.specs.Index.{id_form}
+use Rattle.dv_keyed.specs.Index.{id_form}
 use Rattle.dv_index.specs.Indexed.{is_dropped, with_indexes}
 use Rattle.dv_catalog.specs.IndexParts.{collection_so}
 use Rattle.dv_catalog.proofs.ByEntry.{all_stay, none_dropped}

@@ -1,5 +1,5 @@
 use Rattle.std.proofs.Common.{◌≡◌, ◌≤◌, ℕ, Bool, false, true, ◌&&◌, List, [], ◌∷◌, length, refl, sym, ap, arith}
-use Rattle.dv_index.specs.Choice.{same_path}
+use Rattle.dv_keyed.specs.Choice.{same_path}
 use Rattle.std.specs.Str.{bytes_eq}
 use Rattle.dv_catalog.proofs.indexing.is_id.Goals as goal
 

@@ -1,5 +1,5 @@
 use Rattle.std.proofs.Common.{List, drop, ap, ◌∙◌}
-use Rattle.dv_bson.specs.Tree.{Field}
+use Rattle.dv_value.specs.Tree.{Field}
 use Rattle.dv_catalog.specs.Scan as scans
 use Rattle.dv_catalog.proofs.Scanned.{window_enough}
 use Rattle.dv_catalog.proofs.scan.scan.Goals as goal

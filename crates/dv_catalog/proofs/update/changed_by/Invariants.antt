@@ -1,5 +1,5 @@
 use Rattle.std.proofs.Common.{◌≡◌, ◌++◌, drop, filter, map, Ok}
-use Rattle.dv_bson.specs.Results.{◌>>=◌}
+use Rattle.dv_value.specs.Results.{◌>>=◌}
 use Rattle.dv_pipe.specs.Sources.{rows_referred}
 use Rattle.dv_update.specs.Outcome.{sole_name}
 use Rattle.dv_update.specs.UpdateView as seen

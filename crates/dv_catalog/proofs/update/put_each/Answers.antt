@@ -1,6 +1,6 @@
 use Rattle.std.proofs.Common.{◌≡◌, List, ◌∷◌, arith, length, map, sym, ap, subst, ◌∙◌}
 use Rattle.std.specs.Vec.Iter.{into_iter_items}
-use Rattle.dv_bson.specs.Tree.{Field}
+use Rattle.dv_value.specs.Tree.{Field}
 use Rattle.dv_index.specs.Indexed.{IndexedTree, with_documents}
 use Rattle.dv_catalog.specs.declared.effect.Updated.{Updated}
 use Rattle.dv_catalog.specs.Changes.{put, with_put}

@@ -1,9 +1,9 @@
 use Rattle.std.proofs.Common.{◌≡◌, false, List, map, sym, ap, subst, ◌∙◌}
 use Rattle.std.proofs.lemmas.Result.{IfOk-weaker}
 use Rattle.std.specs.List.{AllByRecursion, list_any}
-use Rattle.dv_bson.specs.Tree.{Field}
+use Rattle.dv_value.specs.Tree.{Field}
 use Rattle.dv_coll.specs.Collection.{HasId}
-use Rattle.dv_index.specs.Index.{IndexForm}
+use Rattle.dv_keyed.specs.Index.{IndexForm}
 use Rattle.dv_index.specs.Unique.{replacing_clashes}
 use Rattle.dv_index.specs.View.{afters}
 use Rattle.dv_catalog.specs.Changes.{put}

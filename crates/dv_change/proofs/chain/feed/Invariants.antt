@@ -1,6 +1,7 @@
 -- What the turn has taken in with the changes to come is what it takes in of all.
-use Rattle.std.proofs.Common.{◌≡◌, ◌++◌, ◌+◌, length}
+use Rattle.std.proofs.Common.{◌≡◌, ◌≤◌, ◌++◌, ◌+◌, length}
 use Rattle.std.specs.Vec.Iter.{into_iter_items}
+use Rattle.dv_change.specs.Beginning.{BeginsWith}
 use Rattle.dv_change.specs.Changes.{with_changes}
 use Rattle.dv_change.specs.Raised.{raised}
 use Rattle.dv_change.specs.Work.{handed}
@@ -20,4 +21,6 @@ invariant-changes g l =
       left : with_changes now rest ≡ with_changes first all;
       out : l.out.items ++ handed f now rest ≡ l.fn.out.items ++ handed f first all;
       ticks : raised l.ticks (length rest + length (handed f now rest)) ≡ raised l.fn.ticks (length all + length (handed f first all));
+      begins : BeginsWith l.out.items l.fn.out.items;
+      no_fewer : l.fn.ticks ≤ l.ticks;
     }

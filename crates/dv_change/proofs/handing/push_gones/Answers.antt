@@ -4,7 +4,7 @@ use Rattle.dv_change.specs.Difference.{gones}
 use Rattle.dv_change.proofs.Fronts.{nothing}
 use Rattle.dv_change.proofs.handing.push_gones.Goals as goal
 
-pub returns-in_default : goal.returns-in_default
-returns-in_default c =
+pub returns-in_default-clause-out : goal.returns-in_default-clause-out
+returns-in_default-clause-out c =
     let none : slice_get c.args.old.now 0 ≡ None = search rules in
     sym (append-nil c.args.out.now.items) ∙ ap (λ es. c.args.out.now.items ++ gones es c.args.new.now) (sym (nothing c.args.old.now none))

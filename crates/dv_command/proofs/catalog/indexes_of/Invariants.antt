@@ -2,7 +2,7 @@
 use Rattle.std.proofs.Common.{◌≡◌, ◌++◌, Ok, map}
 use Rattle.dv_command.specs.Entries.{index_asked}
 use Rattle.dv_command.specs.View.{index_seen}
-use Rattle.dv_bson.specs.Results.{◌>>=◌, each}
+use Rattle.dv_value.specs.Results.{◌>>=◌, each}
 use Rattle.dv_command.proofs.catalog.indexes_of.Given as goal
 
 abbrev pub invariant-entries : goal.invariant-entries

@@ -1,7 +1,7 @@
 -- There are errors, so their field is added.
 use Rattle.std.proofs.Common.{◌≡◌, [], ◌∷◌, codes, map, rules}
-use Rattle.dv_bson.specs.Tree.{array, elements_of}
-use Rattle.dv_bson.specs.View.{tree}
+use Rattle.dv_value.specs.Tree.{array, elements_of}
+use Rattle.dv_value.specs.View.{tree}
 use Rattle.dv_command.specs.Replies.{errors_field}
 use Rattle.dv_command.proofs.Errors.{some_errors}
 use Rattle.dv_command.proofs.replies.add_errors.Goals as goal

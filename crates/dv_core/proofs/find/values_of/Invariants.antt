@@ -1,5 +1,5 @@
 use Rattle.std.proofs.Common.{◌≡◌, map}
-use Rattle.dv_bson.specs.View.{tree}
+use Rattle.dv_value.specs.View.{tree}
 use Rattle.dv_command.specs.Replies.{document_of}
 use Rattle.dv_core.proofs.find.values_of.Given as goal
 

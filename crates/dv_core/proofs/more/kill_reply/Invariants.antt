@@ -1,5 +1,5 @@
 use Rattle.std.proofs.Common.{◌≡◌, ◌++◌, drop, map}
-use Rattle.dv_bson.specs.View.{tree}
+use Rattle.dv_value.specs.View.{tree}
 use Rattle.dv_core.specs.More.{gone_ids, missing_ids}
 use Rattle.dv_core.proofs.more.kill_reply.Given as goal
 

@@ -1,5 +1,5 @@
 use Rattle.std.proofs.Common.{arith}
-use Rattle.dv_bson.specs.View.{tree}
+use Rattle.dv_value.specs.View.{tree}
 use Rattle.dv_core.proofs.Stored.{moved_within}
 use Rattle.dv_core.proofs.storable.storable.Goals as goal
 

@@ -1,5 +1,5 @@
 use Rattle.std.proofs.Common.{codes, drop}
-use Rattle.dv_bson.specs.View.{tree}
+use Rattle.dv_value.specs.View.{tree}
 use Rattle.dv_core.proofs.Stored.{IsCopied}
 use Rattle.dv_core.proofs.storable.with_id_moved.Given as goal
 

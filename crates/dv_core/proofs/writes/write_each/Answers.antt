@@ -1,5 +1,5 @@
 use Rattle.std.proofs.Common.{ap, arith, List, map, length, ◌∙◌, refl}
-use Rattle.dv_bson.specs.Tree.{Field}
+use Rattle.dv_value.specs.Tree.{Field}
 use Rattle.std.proofs.lemmas.Result.{err_from_is_err_and}
 use Rattle.std.specs.String.{string_bytes}
 use Rattle.dv_core.specs.Statements.{Written}

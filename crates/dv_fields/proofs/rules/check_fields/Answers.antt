@@ -1,6 +1,6 @@
 -- A field at fault is told, and one that isn't leaves it to those behind it.
 use Rattle.std.proofs.Common.{◌≡◌, arith, rules, sym, map, Err}
-use Rattle.dv_bson.specs.View.{tree}
+use Rattle.dv_value.specs.View.{tree}
 use Rattle.dv_fields.proofs.Lists.{slice_get_none}
 use Rattle.dv_fields.specs.Fields.{check_field}
 use Rattle.dv_fields.specs.View.{place_seen, rule_seen}

@@ -1,8 +1,8 @@
 -- what was read out of the values so far stands in front of what is read out of the others
 use Rattle.std.proofs.Common.{◌≡◌, ◌++◌, Ok, drop, map}
-use Rattle.dv_bson.specs.View.{tree}
+use Rattle.dv_value.specs.View.{tree}
 use Rattle.dv_fields.specs.Fields.{integer_in}
-use Rattle.dv_bson.specs.Results.{◌>>=◌, each}
+use Rattle.dv_value.specs.Results.{◌>>=◌, each}
 use Rattle.dv_fields.proofs.values.integers_of.Given as goal
 
 abbrev pub invariant-values : goal.invariant-values

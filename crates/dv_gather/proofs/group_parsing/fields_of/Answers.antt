@@ -1,7 +1,7 @@
 use Rattle.std.proofs.Common.{◌≡◌, ◌∙◌, ◌≤◌, ◌++◌, ◌∷◌, [], ap, sym, subst, map, length, arith, Err, rules, List, ◌+◌}
 use Rattle.std.proofs.lemmas.List.{map-append}
-use Rattle.dv_bson.specs.Tree.{Field}
-use Rattle.dv_bson.specs.View.{tree}
+use Rattle.dv_value.specs.Tree.{Field}
+use Rattle.dv_value.specs.View.{tree}
 use Rattle.dv_row.specs.EachLaws.{IsParsedTo, drop-found, none-there, parsed-next, parsed-refused, parsed-all, gives-fault}
 use Rattle.dv_gather.specs.Grouping.{Accumulation}
 use Rattle.dv_gather.specs.GroupParsing.{field_in}

@@ -1,7 +1,7 @@
 use Rattle.std.proofs.Common.{◌∙◌, ◌++◌, ◌∷◌, [], ap, sym, map, append-nil, List, ℕ}
 use Rattle.std.proofs.lemmas.List.{map-append}
-use Rattle.dv_bson.specs.Tree.{Field}
-use Rattle.dv_bson.specs.View.{tree}
+use Rattle.dv_value.specs.Tree.{Field}
+use Rattle.dv_value.specs.View.{tree}
 use Rattle.dv_gather.specs.Joining.{as_value}
 use Rattle.dv_gather.specs.KeySets.{referred}
 use Rattle.dv_gather.specs.Places.{items_at}

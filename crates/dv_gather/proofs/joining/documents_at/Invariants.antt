@@ -1,5 +1,5 @@
 use Rattle.std.proofs.Common.{◌≡◌, ◌++◌, map}
-use Rattle.dv_bson.specs.View.{tree}
+use Rattle.dv_value.specs.View.{tree}
 use Rattle.dv_gather.specs.Joining.{as_value}
 use Rattle.dv_gather.specs.KeySets.{referred}
 use Rattle.dv_gather.specs.Places.{items_at}

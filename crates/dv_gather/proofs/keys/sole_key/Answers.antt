@@ -1,5 +1,5 @@
-use Rattle.dv_path.specs.Candidates.{or_null}
-use Rattle.dv_path.specs.View.{seen}
+use Rattle.dv_candidates.specs.Candidates.{or_null}
+use Rattle.dv_candidates.specs.View.{seen}
 use Rattle.dv_gather.specs.Joining.{joined_by}
 use Rattle.dv_path.specs.LeafKeys.{leaf_values}
 use Rattle.dv_gather.proofs.Gathered.{joined-alone, found-alone, key-alone}

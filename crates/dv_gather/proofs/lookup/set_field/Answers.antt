@@ -1,6 +1,6 @@
 use Rattle.std.proofs.Common.{◌≡◌, ◌∙◌, ap, sym, Some}
 use Rattle.std.specs.Option.{option_map}
-use Rattle.dv_bson.specs.View.{tree}
+use Rattle.dv_value.specs.View.{tree}
 use Rattle.dv_row.specs.Expressions.{with_field_behind}
 use Rattle.dv_gather.specs.Lookups.{set_field}
 use Rattle.dv_gather.proofs.Placed.{set-behind}

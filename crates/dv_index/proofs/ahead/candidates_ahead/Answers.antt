@@ -1,9 +1,9 @@
 use Rattle.std.proofs.Common.{Bor, ◌∙◌, ap, filter, map}
 use Rattle.dv_order.specs.Key.{KeyTree}
 use Rattle.dv_path.specs.Parts.{part}
-use Rattle.dv_index.specs.Ahead.{is_ahead, leaf_sorted_by}
-use Rattle.dv_index.specs.Keys.{has_key}
-use Rattle.dv_index.specs.Pairs.{has_pair}
+use Rattle.dv_keyed.specs.Ahead.{is_ahead, leaf_sorted_by}
+use Rattle.dv_keyed.specs.Keys.{has_key}
+use Rattle.dv_keyed.specs.Pairs.{has_pair}
 use Rattle.dv_index.proofs.Foremost.{ahead-gathered}
 use Rattle.dv_index.proofs.ahead.candidates_ahead.Goals as goal
 

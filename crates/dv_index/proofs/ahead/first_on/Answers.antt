@@ -1,5 +1,5 @@
 use Rattle.std.proofs.Common.{◌∙◌, sym}
-use Rattle.dv_index.proofs.Sound.{one-path}
+use Rattle.dv_index.proofs.Foremost.{one-path}
 use Rattle.dv_index.proofs.ahead.first_on.Goals as goal
 
 pub returns-then-same_path-clause-path : goal.returns-then-same_path-clause-path

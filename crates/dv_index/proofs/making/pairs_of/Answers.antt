@@ -4,12 +4,11 @@ use Rattle.std.specs.Ordering.{is_eq}
 use Rattle.dv_coll.specs.Collection.{HasId, IsAscending, id_key}
 use Rattle.dv_order.specs.Key.{key_order}
 use Rattle.dv_path.specs.LeafKeys.{is_leaf_key}
-use Rattle.dv_bson.specs.Tree.{Field}
-use Rattle.dv_index.specs.Pairs.{has_pair, is_under_another}
+use Rattle.dv_value.specs.Tree.{Field}
+use Rattle.dv_keyed.specs.Pairs.{has_pair, is_under_another}
 use Rattle.dv_index.specs.Unique.{are_apart}
 use Rattle.dv_index.proofs.Built.{IsElsewhere, no-pair-yet, some-has, some-has-found, still-apart}
-use Rattle.dv_index.proofs.Lists.{or-assoc, or-false}
-use Rattle.dv_index.proofs.Noted.{and-true}
+use Rattle.dv_index.proofs.Lists.{and-true, or-assoc, or-false}
 use Rattle.dv_index.proofs.Picked.{tail-ascends}
 use Rattle.dv_index.proofs.Shared.{any-never}
 use Rattle.dv_index.proofs.Taken.{all-others, broken-by, has-some, still-apart-from}

@@ -1,5 +1,5 @@
 use Rattle.std.proofs.Common.{Bor, ◌∙◌, ◌++◌, List, map, ap, sym, append-nil}
-use Rattle.dv_bson.specs.Tree.{Field}
+use Rattle.dv_value.specs.Tree.{Field}
 use Rattle.dv_index.proofs.Picked.{as-list, one-more, under}
 use Rattle.dv_index.proofs.search.add_document.Goals as goal
 

@@ -2,8 +2,7 @@ use Rattle.std.proofs.Common.{◌∙◌, ◌++◌, map, ap, sym, filter, take_al
 use Rattle.std.specs.Ordering.{is_eq}
 use Rattle.dv_coll.specs.Collection.{id_key}
 use Rattle.dv_order.specs.Key.{key_order}
-use Rattle.dv_index.proofs.Ordered.{now}
-use Rattle.dv_index.proofs.Picked.{each, each-all, one-key-more}
+use Rattle.dv_index.proofs.Picked.{each, each-all, now, one-key-more}
 use Rattle.dv_index.proofs.search.documents_under.Goals as goal
 
 pub ids-preserved : goal.ids-preserved

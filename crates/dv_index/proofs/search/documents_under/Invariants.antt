@@ -1,7 +1,6 @@
 use Rattle.std.proofs.Common.{Bor, ◌≡◌, List, map, take}
-use Rattle.dv_bson.specs.Tree.{Field}
-use Rattle.dv_index.proofs.Ordered.{now}
-use Rattle.dv_index.proofs.Picked.{each}
+use Rattle.dv_value.specs.Tree.{Field}
+use Rattle.dv_index.proofs.Picked.{each, now}
 use Rattle.dv_index.proofs.search.documents_under.Given as goal
 
 abbrev pub invariant-ids : goal.invariant-ids

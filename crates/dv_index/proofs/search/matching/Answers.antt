@@ -1,6 +1,6 @@
 use Rattle.std.proofs.Common.{Bor, arith, ◌≤◌, ◌∙◌, Bool, filter as kept, length, sym}
 use Rattle.std.proofs.lemmas.List.{take_all}
-use Rattle.dv_bson.specs.declared.value.Document.{Document}
+use Rattle.dv_value.specs.declared.value.Document.{Document}
 use Rattle.dv_match.specs.Match.{matches}
 use Rattle.dv_index.proofs.Lists.{length-kept}
 use Rattle.dv_index.proofs.search.matching.Goals as goal

@@ -1,12 +1,12 @@
 use Rattle.std.proofs.Common.{Bor, ◌≡◌, ◌∙◌, List, ap, sym, map, take, Some, slice_get}
 use Rattle.std.proofs.lemmas.List.{take-map}
 use Rattle.std.proofs.lemmas.Result.{IfOk-weaker}
-use Rattle.dv_bson.specs.Tree.{Field}
+use Rattle.dv_value.specs.Tree.{Field}
 use Rattle.dv_match.specs.Match.{matches}
-use Rattle.dv_index.specs.View.{bounds_seen, plan_seen}
+use Rattle.dv_keyed.specs.View.{bounds_seen, plan_seen}
 use Rattle.dv_index.proofs.Lists.{map-kept}
 use Rattle.dv_index.proofs.Places.{index-at}
-use Rattle.dv_index.proofs.Sound.{chosen-within}
+use Rattle.dv_index.proofs.Gathered.{chosen-within}
 use Rattle.dv_index.proofs.search.run_first.Goals as goal
 
 pub tried-requires-clause-indexed : goal.tried-requires-clause-indexed
@@ -15,7 +15,7 @@ tried-requires-clause-indexed c = index-at c.args.indexes.now c.in-Index.place c
 pub tried-requires-clause-within : goal.tried-requires-clause-within
 tried-requires-clause-within c = λ d h.
     let there : slice_get c.args.indexes.now c.in-Index.place ≡ Some c.in-Some.index.now = sym c.in-Some.ensures.index in
-    chosen-within c.args.filter.now c.args.indexes.now c.in-Index.place (bounds_seen c.in-Index.bounds) c.in-Some.index.now d (sym c.requires.planned ∙ ap plan_seen c.in-Index.is) there h
+    chosen-within c.what_matches_is_in_the_bounds.ensures c.args.filter.now c.args.indexes.now c.in-Index.place (bounds_seen c.in-Index.bounds) c.in-Some.index.now d (sym c.requires.planned ∙ ap plan_seen c.in-Index.is) there h
 
 pub returns-in-Some : goal.returns-in-Some
 returns-in-Some c =

@@ -1,6 +1,6 @@
 use Rattle.std.proofs.Common.{Bor, ◌∙◌, ◌++◌, List, map, ap, filter}
 use Rattle.std.specs.Ordering.{is_eq}
-use Rattle.dv_bson.specs.Tree.{Field}
+use Rattle.dv_value.specs.Tree.{Field}
 use Rattle.dv_coll.specs.Collection.{id_key}
 use Rattle.dv_order.specs.Key.{KeyTree, key_order}
 use Rattle.dv_index.proofs.search.with_id.Goals as goal

@@ -1,7 +1,7 @@
 use Rattle.std.proofs.Common.{◌∙◌, ap, filter}
 use Rattle.std.proofs.lemmas.Result.{IfOk-weaker}
 use Rattle.dv_coll.specs.Collection.{id_key}
-use Rattle.dv_index.proofs.Ordered.{among-values}
+use Rattle.dv_index.proofs.Picked.{among-values}
 use Rattle.dv_index.proofs.search.with_ids.Goals as goal
 
 pub returns : goal.returns

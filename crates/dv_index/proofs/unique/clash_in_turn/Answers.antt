@@ -1,6 +1,6 @@
 use Rattle.std.proofs.Common.{◌+◌, ◌∷◌, ◌∙◌, [], drop, ap, subst, sym, ℕ, List}
 use Rattle.dv_path.specs.LeafKeys.{is_leaf_key}
-use Rattle.dv_index.specs.Index.{form_of}
+use Rattle.dv_keyed.specs.Index.{form_of}
 use Rattle.dv_index.specs.View.{afters, befores}
 use Rattle.dv_index.specs.Unique as defined
 use Rattle.dv_index.specs.declared.unique.Replacing.{Replacing}

@@ -1,5 +1,5 @@
 use Rattle.std.proofs.Common.{◌∷◌, [], drop}
-use Rattle.dv_index.specs.Index.{form_of}
+use Rattle.dv_keyed.specs.Index.{form_of}
 use Rattle.dv_index.specs.View.{afters, befores}
 use Rattle.dv_index.specs.Unique as defined
 use Rattle.dv_index.proofs.Tried.{InTurn}

@@ -1,7 +1,7 @@
 -- One document more is one less that is left.
 use Rattle.std.proofs.Common.{rules, ◌≡◌, ◌∙◌, ◌∷◌, ◌++◌, [], ap, append-nil, append_assoc, drop, slice_get, sym, List, None, Some, Bor}
 use Rattle.std.proofs.lemmas.List.{map-append}
-use Rattle.dv_bson.specs.Tree.{Field}
+use Rattle.dv_value.specs.Tree.{Field}
 use Rattle.dv_change.specs.Changes.{forget}
 use Rattle.dv_change.specs.Positions.{PosTree}
 use Rattle.dv_gather.specs.KeySets.{referred}

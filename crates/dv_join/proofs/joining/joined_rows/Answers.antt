@@ -1,6 +1,6 @@
 -- Rows in order that are put one after the other are these rows.
 use Rattle.std.proofs.Common.{rules, ◌≡◌, ◌∙◌, ◌∷◌, [], ap, drop, slice_get, sym, List, None, Some}
-use Rattle.dv_bson.specs.Tree.{Field}
+use Rattle.dv_value.specs.Tree.{Field}
 use Rattle.dv_change.specs.Changes.{forget}
 use Rattle.dv_change.specs.Ordered.{put}
 use Rattle.dv_change.specs.Positions.{PosTree}

@@ -1,6 +1,6 @@
 -- The first one is put first.
 use Rattle.std.proofs.Common.{rules, ◌≡◌, ap, drop, slice_get, sym, List, None, Some}
-use Rattle.dv_bson.specs.Tree.{Field}
+use Rattle.dv_value.specs.Tree.{Field}
 use Rattle.dv_change.specs.Ordered.{put}
 use Rattle.dv_change.specs.Positions.{PosTree}
 use Rattle.dv_join.specs.Listed as listed

@@ -1,5 +1,5 @@
 use Rattle.std.proofs.Common.{sym}
-use Rattle.dv_bson.specs.View.{tree}
+use Rattle.dv_value.specs.View.{tree}
 use Rattle.dv_match.specs.Parsing.{is_operator_list}
 use Rattle.dv_match.proofs.Items.{any-here, any-nowhere}
 use Rattle.dv_match.proofs.operand.any_operator_list.Goals as goal

@@ -1,6 +1,6 @@
 use Rattle.std.proofs.Common.{◌≡◌, false, take}
 use Rattle.std.specs.List.{list_any}
-use Rattle.dv_bson.specs.View.{tree}
+use Rattle.dv_value.specs.View.{tree}
 use Rattle.dv_match.specs.Parsing.{is_operator_list}
 use Rattle.dv_match.proofs.operand.any_operator_list.Given as goal
 

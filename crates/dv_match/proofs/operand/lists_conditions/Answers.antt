@@ -1,5 +1,5 @@
 use Rattle.std.proofs.Common.{◌∙◌, ◌&&◌, ap, sym, not}
-use Rattle.dv_bson.specs.View.{tree}
+use Rattle.dv_value.specs.View.{tree}
 use Rattle.dv_match.specs.Parsing.{takes_filters}
 use Rattle.dv_match.proofs.First.{first-condition, no-condition}
 use Rattle.dv_match.proofs.operand.lists_conditions.Goals as goal

@@ -1,5 +1,5 @@
 use Rattle.std.proofs.Common.{◌∙◌, sym}
-use Rattle.dv_bson.specs.View.{tree}
+use Rattle.dv_value.specs.View.{tree}
 use Rattle.dv_match.proofs.First.{first-operator, no-operator}
 use Rattle.dv_match.proofs.operand.lists_operators.Goals as goal
 

@@ -2,8 +2,8 @@
 use Rattle.std.proofs.Common.{arith, sym, ap, ◌∙◌, ◌≡◌, ◌⊎◌, length, drop, map, inl, inr, length-drop}
 use Rattle.std.proofs.lemmas.List.{length-map}
 use Rattle.std.specs.Ordering.{nat_cmp}
-use Rattle.dv_bson.specs.Tree.{fields_of, fields_weight, elements_of, elements_weight}
-use Rattle.dv_bson.specs.View.{tree}
+use Rattle.dv_value.specs.Tree.{fields_of, fields_weight, elements_of, elements_weight}
+use Rattle.dv_value.specs.View.{tree}
 use Rattle.dv_order.specs.Order.{order}
 use Rattle.dv_order.proofs.Steps.{IsLeft-all, IsLeft-more, decided, ended, drop_at, slice_get_none, fields_order-fields_of, elements_order-elements_of}
 use Rattle.dv_order.proofs.comparison.+compare.Goals as goal

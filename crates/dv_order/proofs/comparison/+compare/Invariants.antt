@@ -1,7 +1,7 @@
 -- A comparison goes down both values in step, so the weight of the first falls. Each step of a loop leaves what is after it.
 use Rattle.std.proofs.Common.{◌+◌, ◌*◌, ◌≤◌, drop, map}
-use Rattle.dv_bson.specs.Tree.{weight, fields_of, fields_weight, elements_of, elements_weight}
-use Rattle.dv_bson.specs.View.{tree}
+use Rattle.dv_value.specs.Tree.{weight, fields_of, fields_weight, elements_of, elements_weight}
+use Rattle.dv_value.specs.View.{tree}
 use Rattle.dv_order.specs.Order.{field_order, order}
 use Rattle.dv_order.proofs.Steps.{IsLeft}
 use Rattle.dv_order.proofs.comparison.+compare.Given as goal

@@ -2,8 +2,8 @@
 use Rattle.std.proofs.Common.{arith, sym, ap, ◌∙◌, ◌≡◌, ◌⊎◌, ◌==◌, length, drop, map, inl, inr, length-drop}
 use Rattle.std.proofs.lemmas.List.{length-map}
 use Rattle.std.specs.Str.{bytes_eq}
-use Rattle.dv_bson.specs.Tree.{fields_of, fields_weight}
-use Rattle.dv_bson.specs.View.{tree}
+use Rattle.dv_value.specs.Tree.{fields_of, fields_weight}
+use Rattle.dv_value.specs.View.{tree}
 use Rattle.dv_order.specs.Same.{is_same}
 use Rattle.dv_order.proofs.Steps.{drop_at, slice_get_none}
 use Rattle.dv_order.proofs.SameLeft.{same_field, same_fields-pointwise, same_elements-pointwise, same-ended, same-more, differs, and-true, and-first, and-second}

@@ -1,8 +1,8 @@
 -- Two values are gone through side by side, so the weight of the first falls.
 use Rattle.std.proofs.Common.{◌+◌, ◌*◌, ◌≤◌, drop, map}
 use Rattle.std.specs.Cmp.Lexicographic.{pointwise}
-use Rattle.dv_bson.specs.Tree.{weight, fields_of, fields_weight, elements_of, elements_weight}
-use Rattle.dv_bson.specs.View.{tree}
+use Rattle.dv_value.specs.Tree.{weight, fields_of, fields_weight, elements_of, elements_weight}
+use Rattle.dv_value.specs.View.{tree}
 use Rattle.dv_order.specs.Same.{is_same}
 use Rattle.dv_order.proofs.SameLeft.{IsLeft, same_field}
 use Rattle.dv_order.proofs.same.+same.Given as goal

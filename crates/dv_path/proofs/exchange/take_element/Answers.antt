@@ -1,5 +1,5 @@
 use Rattle.std.proofs.Common.{◌∙◌, ap, map}
-use Rattle.dv_bson.specs.View.{tree}
+use Rattle.dv_value.specs.View.{tree}
 use Rattle.dv_path.specs.Placing.{with_element}
 use Rattle.dv_path.proofs.Vectors.{map_set}
 use Rattle.dv_path.proofs.exchange.take_element.Goals as goal

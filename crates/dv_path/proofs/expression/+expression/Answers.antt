@@ -1,13 +1,13 @@
-use Rattle.std.proofs.Common.{◌≡◌, ◌∙◌, ◌++◌, ◌∷◌, [], Some, None, map, ap, sym, append-nil, option_and_then}
+use Rattle.std.proofs.Common.{◌≡◌, ◌∙◌, ◌++◌, ◌∷◌, [], Some, None, map, ap, sym, append-nil, option_and_then, length, arith}
 use Rattle.std.specs.List.{filter_map}
 use Rattle.std.specs.Option.{option_map}
 use Rattle.std.proofs.lemmas.List.{map-append}
-use Rattle.dv_bson.specs.Tree.{array, elements_of}
-use Rattle.dv_bson.specs.Names.{value_under}
-use Rattle.dv_bson.specs.View.{tree}
+use Rattle.dv_value.specs.Tree.{array, elements_of}
+use Rattle.dv_value.specs.Names.{value_under}
+use Rattle.dv_value.specs.View.{tree}
 use Rattle.dv_path.specs.Expression.{component_entered, expression}
-use Rattle.dv_path.proofs.Asked.{filter_more, filter-one}
-use Rattle.dv_path.proofs.Walks.{list_of_fields_of, list_of_elements_of}
+use Rattle.dv_path.proofs.Items.{list_of_fields_of}
+use Rattle.dv_path.proofs.Gathered.{filter_more, filter-one, expression-document, expression-array}
 use Rattle.dv_path.proofs.expression.+expression.Goals as goal
 use Rattle.dv_path.proofs.expression.+expression.Goals.{of_elements-in-Some+in_ok-push, of_elements-in_default}
 
@@ -31,16 +31,26 @@ of_elements-elements-preserved t c =
     ] in
     pushed ∙ ap (λ l. l ++ filter_map f (tree c.element-item.result ∷ [])) c.elements.invariant ∙ sym more
 
-pub within-returns-in-Doc : goal.within-returns-in-Doc
-within-returns-in-Doc t c =
+pub within-documents-preserved : goal.within-documents-preserved
+within-documents-preserved t c =
     let rest = c.in-Some.rest.now in
     let name = c.in-Some.component.now in
-    let here : expression c.args.path.now (tree c.args.value.now) ≡ option_and_then (expression rest) (value_under name c.in-Doc.document) = ap (λ p. expression p (tree c.args.value.now)) c.in-Some.ensures.cases.0 ∙ ap (λ w. expression (name ∷ rest) (tree w)) c.in-Doc.is ∙ ap (λ fs. option_and_then (expression rest) (value_under name fs)) (list_of_fields_of c.in-Doc.document) in
-    rw here c.enter.ensures
+    let d = c.in-Doc.document in
+    let gets : value_under name d ≡ Some (tree c.in-Some-get.entered.now) = ap (λ n. value_under n d) (sym c.as_str.ensures.name) ∙ sym c.in-Some-get.ensures in
+    record {
+      same = c.documents.invariant.same ∙ expression-document c.documents.left.now rest name c.documents.there.now c.in-Some.ensures.cases.0 d c.in-Doc.is ∙ ap (option_and_then (expression rest)) gets;
+      left = omega (arith, c.documents.invariant.left, ap length c.in-Some.ensures.cases.0);
+    }
 
-pub within-returns-in_ok-of_elements-in-Array : goal.within-returns-in_ok-of_elements-in-Array
-within-returns-in_ok-of_elements-in-Array t c =
+pub within-returns-in_default-get : goal.within-returns-in_default-get
+within-returns-in_default-get t c =
     let rest = c.in-Some.rest.now in
     let name = c.in-Some.component.now in
-    let here : expression c.args.path.now (tree c.args.value.now) ≡ Some (array (elements_of (filter_map (component_entered (expression rest) name) c.in-Array.list))) = ap (λ p. expression p (tree c.args.value.now)) c.in-Some.ensures.cases.0 ∙ ap (λ w. expression (name ∷ rest) (tree w)) c.in-Array.is ∙ ap (λ vs. Some (array (elements_of (filter_map (component_entered (expression rest) name) vs)))) (list_of_elements_of c.in-Array.list) in
-    ap (λ vs. Some (array (elements_of vs))) c.in_ok-of_elements-in-Array.ensures ∙ sym here
+    let d = c.in-Doc.document in
+    let gets : value_under name d ≡ None = ap (λ n. value_under n d) (sym c.as_str.ensures.name) ∙ sym c.in_default-get.ensures in
+    sym (c.documents.invariant.same ∙ expression-document c.documents.left.now rest name c.documents.there.now c.in-Some.ensures.cases.0 d c.in-Doc.is ∙ ap (option_and_then (expression rest)) gets)
+
+pub within-returns-in-Array : goal.within-returns-in-Array
+within-returns-in-Array t c =
+    let here = c.documents.invariant.same ∙ expression-array c.documents.left.now c.in-Some.rest.now c.in-Some.component.now c.documents.there.now c.in-Some.ensures.cases.0 c.in-Array.list c.in-Array.is in
+    ap (λ vs. Some (array (elements_of vs))) c.in_ok-found-in-Array.ensures ∙ sym here

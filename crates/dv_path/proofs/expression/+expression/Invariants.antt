@@ -1,6 +1,6 @@
-use Rattle.std.proofs.Common.{◌≡◌, ◌+◌, ◌*◌, length, map, take}
+use Rattle.std.proofs.Common.{◌≡◌, ◌≤◌, ◌+◌, ◌*◌, length, map, take}
 use Rattle.std.specs.List.{filter_map}
-use Rattle.dv_bson.specs.View.{tree}
+use Rattle.dv_value.specs.View.{tree}
 use Rattle.dv_path.specs.Expression.{component_entered, expression}
 use Rattle.dv_path.proofs.expression.+expression.Given as goal
 
@@ -18,3 +18,12 @@ decreases-of_element l = 4 * length l.rest.now + 2
 
 abbrev pub invariant-of_elements-elements : goal.invariant-of_elements-elements
 invariant-of_elements-elements l = map tree l.found.items ≡ filter_map (component_entered (expression l.rest) l.component) (map tree (take l.element-index l.element-items))
+
+abbrev pub invariant-within-documents : goal.invariant-within-documents
+invariant-within-documents l = record {
+  same : expression l.path (tree l.value) ≡ expression l.left (tree l.there);
+  left : length l.left ≤ length l.path;
+}
+
+abbrev pub decreases-within-documents : goal.decreases-within-documents
+decreases-within-documents l = length l.left

@@ -1,5 +1,6 @@
 use Rattle.std.proofs.Common.{◌∙◌, sym}
-use Rattle.dv_path.proofs.Asked.{positive, expr-first}
+use Rattle.dv_path.proofs.Items.{positive}
+use Rattle.dv_path.proofs.Gathered.{expr-first}
 use Rattle.dv_path.proofs.expression.expr_value.Goals as goal
 
 pub returns : goal.returns

@@ -1,9 +1,8 @@
 use Rattle.std.proofs.Common.{◌∙◌, ap, sym, Some}
-use Rattle.dv_bson.specs.Tree.{array, elements_of}
-use Rattle.dv_bson.specs.View.{tree}
-use Rattle.dv_path.specs.Candidates.{array_in}
-use Rattle.dv_path.proofs.Asked.{seen-at}
-use Rattle.dv_path.proofs.Walks.{list_of_elements_of}
+use Rattle.dv_value.specs.Tree.{array, elements_of}
+use Rattle.dv_value.specs.View.{tree}
+use Rattle.dv_candidates.specs.Candidates.{array_in}
+use Rattle.dv_path.proofs.Items.{seen-at, list_of_elements_of}
 use Rattle.dv_path.proofs.keys.array_in.Goals as goal
 
 pub returns-in-Array : goal.returns-in-Array

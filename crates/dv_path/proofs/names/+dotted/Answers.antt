@@ -1,5 +1,5 @@
 use Rattle.std.proofs.Common.{arith}
-use Rattle.dv_bson.specs.View.{tree}
+use Rattle.dv_value.specs.View.{tree}
 use Rattle.dv_path.proofs.Left.{are_elements_dotted-drop, are_fields_dotted-drop}
 use Rattle.dv_path.proofs.names.+dotted.Goals as goal
 use Rattle.dv_path.proofs.names.+dotted.Goals.{are_fields_dotted-then-has_dot-via-then-has_dot, are_fields_dotted-then-has_dot-via-else-has_dot+then-is_dotted}

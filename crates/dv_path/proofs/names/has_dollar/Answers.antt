@@ -1,5 +1,5 @@
 use Rattle.std.proofs.Common.{arith}
-use Rattle.dv_bson.specs.View.{tree}
+use Rattle.dv_value.specs.View.{tree}
 use Rattle.dv_path.proofs.Left.{has_dollar-drop}
 use Rattle.dv_path.proofs.names.has_dollar.Goals as goal
 

@@ -1,8 +1,8 @@
 -- No name so far begins with a dollar sign.
 use Rattle.std.proofs.Common.{◌≡◌, drop}
 use Rattle.std.specs.List.{list_any}
-use Rattle.dv_bson.specs.Tree.{Field}
-use Rattle.dv_bson.specs.Names.{begins_with_dollar}
+use Rattle.dv_value.specs.Tree.{Field}
+use Rattle.dv_value.specs.Names.{begins_with_dollar}
 use Rattle.dv_path.proofs.names.has_dollar.Given as goal
 
 abbrev pub invariant-fields : goal.invariant-fields

@@ -1,12 +1,12 @@
 use Rattle.std.proofs.Common.{◌≡◌, ◌∙◌, ◌≤◌, ◌++◌, ◌∷◌, [], length, Some, None, Ok, Err, map, ap, sym, rules, arith}
 use Rattle.std.proofs.lemmas.List.{length-map}
 use Rattle.std.specs.Option.{option_map}
-use Rattle.dv_bson.specs.Tree.{null, document, array, fields_of, elements_of}
-use Rattle.dv_bson.specs.Names.{value_under, has_name, with_value_under}
-use Rattle.dv_bson.specs.View.{tree}
-use Rattle.dv_path.specs.Path.{index_of}
+use Rattle.dv_value.specs.Tree.{null, document, array, fields_of, elements_of}
+use Rattle.dv_value.specs.Names.{value_under, has_name, with_value_under}
+use Rattle.dv_value.specs.View.{tree}
+use Rattle.dv_candidates.specs.Path.{index_of}
 use Rattle.dv_path.specs.Placing.{result_map, put_field, put_element, put_behind}
-use Rattle.dv_path.proofs.Walks.{list_of_fields_of, list_of_elements_of}
+use Rattle.dv_path.proofs.Items.{list_of_fields_of, list_of_elements_of}
 use Rattle.dv_path.proofs.Exchanged.{same-fields, nameless, put-new, put-there}
 use Rattle.dv_path.proofs.Vectors.{list-there, list-new, gives-refused}
 use Rattle.dv_path.proofs.placing.+placing.Goals as goal

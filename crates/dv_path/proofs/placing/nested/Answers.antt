@@ -1,6 +1,6 @@
 use Rattle.std.proofs.Common.{◌∙◌, ◌++◌, ◌∷◌, [], None, ap, sym}
-use Rattle.dv_bson.specs.Tree.{document, fields_of}
-use Rattle.dv_bson.specs.View.{tree}
+use Rattle.dv_value.specs.Tree.{document, fields_of}
+use Rattle.dv_value.specs.View.{tree}
 use Rattle.dv_path.specs.Placing.{put_behind}
 use Rattle.dv_path.proofs.Exchanged.{nested-one}
 use Rattle.dv_path.proofs.placing.nested.Goals as goal

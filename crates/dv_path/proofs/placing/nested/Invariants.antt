@@ -1,5 +1,5 @@
 use Rattle.std.proofs.Common.{◌≡◌, length, None}
-use Rattle.dv_bson.specs.View.{tree}
+use Rattle.dv_value.specs.View.{tree}
 use Rattle.dv_path.specs.Placing.{put_behind}
 use Rattle.dv_path.proofs.placing.nested.Given as goal
 

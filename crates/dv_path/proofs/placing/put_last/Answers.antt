@@ -1,8 +1,8 @@
 use Rattle.std.proofs.Common.{◌≡◌, ◌∙◌, ◌++◌, ◌∷◌, [], List, Some, None, ap, sym, subst, OnOk, if◌then◌else◌}
 use Rattle.std.specs.Option.{option_map}
-use Rattle.dv_bson.specs.Names.{has_name, with_value_under}
-use Rattle.dv_bson.specs.Tree.{Field}
-use Rattle.dv_bson.specs.View.{tree}
+use Rattle.dv_value.specs.Names.{has_name, with_value_under}
+use Rattle.dv_value.specs.Tree.{Field}
+use Rattle.dv_value.specs.View.{tree}
 use Rattle.dv_path.specs.Placing.{with_field}
 use Rattle.dv_path.proofs.Exchanged.{put-in-place, put-at-end, none-back, given-back}
 use Rattle.dv_path.proofs.placing.put_last.Goals as goal

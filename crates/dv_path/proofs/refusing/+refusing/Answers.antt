@@ -2,9 +2,9 @@ use Rattle.std.proofs.Common.{◌≡◌, ◌∙◌, ◌∷◌, None, Some, ap, s
 use Rattle.std.specs.Result.{result_err}
 use Rattle.std.proofs.lemmas.List.{length-map}
 use Rattle.std.proofs.lemmas.Option.{slice_get_past}
-use Rattle.dv_bson.specs.Names.{value_under}
-use Rattle.dv_bson.specs.View.{tree}
-use Rattle.dv_path.specs.Path.{index_of}
+use Rattle.dv_value.specs.Names.{value_under}
+use Rattle.dv_value.specs.View.{tree}
+use Rattle.dv_candidates.specs.Path.{index_of}
 use Rattle.dv_path.specs.Placing.{put_behind, put_element}
 use Rattle.dv_path.proofs.Refused.{missing, refused-missing, refused-in-document, refused-in-array, refused-near}
 use Rattle.dv_path.proofs.refusing.+refusing.Goals as goal

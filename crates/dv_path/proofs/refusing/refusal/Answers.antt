@@ -1,9 +1,9 @@
 use Rattle.std.proofs.Common.{◌≡◌, ◌∙◌, drop, None, Some, ap, sym}
 use Rattle.std.specs.Result.{result_err}
-use Rattle.dv_bson.specs.Names.{value_under}
-use Rattle.dv_bson.specs.View.{tree}
+use Rattle.dv_value.specs.Names.{value_under}
+use Rattle.dv_value.specs.View.{tree}
 use Rattle.dv_path.specs.Placing.{put, put_behind}
-use Rattle.dv_path.proofs.Asked.{positive}
+use Rattle.dv_path.proofs.Items.{positive}
 use Rattle.dv_path.proofs.Refused.{refused-first, refused-missing}
 use Rattle.dv_path.proofs.refusing.refusal.Goals as goal
 

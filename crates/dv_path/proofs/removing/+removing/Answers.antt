@@ -1,12 +1,12 @@
 use Rattle.std.proofs.Common.{◌≡◌, ◌∙◌, ◌≤◌, ◌∷◌, length, Some, None, map, ap, sym, arith}
 use Rattle.std.proofs.lemmas.List.{length-map}
 use Rattle.std.specs.Option.{option_map}
-use Rattle.dv_bson.specs.Tree.{null, document, array, fields_of, elements_of}
-use Rattle.dv_bson.specs.Names.{value_under, with_value_under, without}
-use Rattle.dv_bson.specs.View.{tree}
-use Rattle.dv_path.specs.Path.{index_of}
+use Rattle.dv_value.specs.Tree.{null, document, array, fields_of, elements_of}
+use Rattle.dv_value.specs.Names.{value_under, with_value_under, without}
+use Rattle.dv_value.specs.View.{tree}
+use Rattle.dv_candidates.specs.Path.{index_of}
 use Rattle.dv_path.specs.Removing.{remove_field, remove_element, left_behind}
-use Rattle.dv_path.proofs.Walks.{list_of_fields_of, list_of_elements_of}
+use Rattle.dv_path.proofs.Items.{list_of_fields_of, list_of_elements_of}
 use Rattle.dv_path.proofs.Exchanged.{left-missing, left-some, left-none}
 use Rattle.dv_path.proofs.Vectors.{remove-some, remove-none, remove-past}
 use Rattle.dv_path.proofs.removing.+removing.Goals as goal

@@ -1,5 +1,5 @@
 use Rattle.std.proofs.Common.{◌∙◌, sym}
-use Rattle.dv_path.proofs.Asked.{positive}
+use Rattle.dv_path.proofs.Items.{positive}
 use Rattle.dv_path.proofs.Placed.{remove-first, remove_nothing}
 use Rattle.dv_path.proofs.Slotted.{no-value}
 use Rattle.dv_path.proofs.removing.remove_at.Goals as goal

@@ -1,13 +1,13 @@
 use Rattle.std.proofs.Common.{◌≡◌, ◌∙◌, ◌+◌, ◌≤◌, Some, None, length, map, drop, drop_of_length-le, ap, sym, refl, subst, arith, ℕ, List}
 use Rattle.std.proofs.lemmas.List.{length-map}
 use Rattle.std.specs.Option.{option_map}
-use Rattle.dv_bson.specs.Tree.{Tree, null, document, array, fields_of, elements_of}
-use Rattle.dv_bson.specs.Names.{value_under, with_value_under}
-use Rattle.dv_bson.specs.View.{tree}
+use Rattle.dv_value.specs.Tree.{Tree, null, document, array, fields_of, elements_of}
+use Rattle.dv_value.specs.Names.{value_under, with_value_under}
+use Rattle.dv_value.specs.View.{tree}
 use Rattle.dv_path.specs.GroupView.{group}
 use Rattle.dv_path.specs.declared.grouping.Group.{Group}
 use Rattle.dv_path.specs.Groups.{left_of_each, remove_each_element, with_groups, elements_with_groups, IsGrouping}
-use Rattle.dv_path.specs.Path.{index_of}
+use Rattle.dv_candidates.specs.Path.{index_of}
 use Rattle.dv_path.specs.Removing.{remove_field, remove_element}
 use Rattle.dv_path.proofs.Exchanged.{left-missing, left-some}
 use Rattle.dv_path.proofs.Grouped.{open-in-document, done-in-document, open-in-array, done-in-array, open-apart, open-less, open-on, group-drop, inside-document, inside-array, inside-other, apart-some, apart-gone}

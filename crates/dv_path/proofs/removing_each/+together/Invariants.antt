@@ -1,6 +1,6 @@
 -- Each call has fewer components left than the one around it.
 use Rattle.std.proofs.Common.{◌≡◌, ◌+◌, ◌*◌, map, drop}
-use Rattle.dv_bson.specs.View.{tree}
+use Rattle.dv_value.specs.View.{tree}
 use Rattle.dv_path.specs.GroupView.{group}
 use Rattle.dv_path.specs.Groups.{with_groups, elements_with_groups}
 use Rattle.dv_path.proofs.Grouped.{total, AreOpen}

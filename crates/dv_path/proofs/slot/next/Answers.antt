@@ -1,10 +1,10 @@
 use Rattle.std.proofs.Common.{◌≡◌, ◌∙◌, ap, sym}
-use Rattle.dv_bson.specs.Names.{value_under}
-use Rattle.dv_bson.specs.View.{tree}
-use Rattle.dv_path.specs.Path.{index_of}
+use Rattle.dv_value.specs.Names.{value_under}
+use Rattle.dv_value.specs.View.{tree}
+use Rattle.dv_candidates.specs.Path.{index_of}
 use Rattle.dv_path.specs.Slots.{taken, slot_of, next_slot, element_slot}
-use Rattle.dv_path.specs.View.{slot_seen}
-use Rattle.dv_path.proofs.Walks.{list_of_fields_of, list_of_elements_of}
+use Rattle.dv_path.specs.SlotView.{slot_seen}
+use Rattle.dv_path.proofs.Items.{list_of_fields_of, list_of_elements_of}
 use Rattle.dv_path.proofs.slot.next.Goals as goal
 
 pub returns-in-Doc : goal.returns-in-Doc

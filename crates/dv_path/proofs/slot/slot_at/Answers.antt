@@ -1,7 +1,7 @@
 use Rattle.std.proofs.Common.{◌∙◌, drop, ap, sym, ◌+◌}
 use Rattle.dv_path.specs.Slots.{slot, slot_behind}
-use Rattle.dv_path.specs.View.{slot_seen}
-use Rattle.dv_path.proofs.Asked.{positive}
+use Rattle.dv_path.specs.SlotView.{slot_seen}
+use Rattle.dv_path.proofs.Items.{positive}
 use Rattle.dv_path.proofs.Slotted.{slot-first, slot-more, slot-end}
 use Rattle.dv_path.proofs.slot.slot_at.Goals as goal
 

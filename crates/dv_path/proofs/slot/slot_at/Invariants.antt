@@ -1,6 +1,6 @@
 use Rattle.std.proofs.Common.{◌≡◌, drop}
 use Rattle.dv_path.specs.Slots.{slot, slot_behind}
-use Rattle.dv_path.specs.View.{slot_seen}
+use Rattle.dv_path.specs.SlotView.{slot_seen}
 use Rattle.dv_path.proofs.slot.slot_at.Given as goal
 
 abbrev pub invariant-loop-component : goal.invariant-loop-component

@@ -1,7 +1,7 @@
 use Rattle.std.proofs.Common.{◌∙◌, ◌≤◌, length, ap, sym, arith}
 use Rattle.std.specs.Option.{option_map}
 use Rattle.std.proofs.lemmas.List.{map-append}
-use Rattle.dv_bson.specs.View.{tree}
+use Rattle.dv_value.specs.View.{tree}
 use Rattle.dv_path.specs.Parts.{part}
 use Rattle.dv_path.proofs.Items.{none_there}
 use Rattle.dv_path.proofs.SpecParts.{parts-none, parts-refused, parts-more, parts-all}

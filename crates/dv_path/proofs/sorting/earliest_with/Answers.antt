@@ -1,10 +1,9 @@
 use Rattle.std.proofs.Common.{◌≡◌, ◌∙◌, ap}
-use Rattle.dv_bson.specs.Tree.{array, elements_of}
-use Rattle.dv_bson.specs.View.{tree}
+use Rattle.dv_value.specs.Tree.{array, elements_of}
+use Rattle.dv_value.specs.View.{tree}
 use Rattle.dv_path.specs.SortKey.{keys_of, array_keys}
-use Rattle.dv_path.specs.View.{seen}
-use Rattle.dv_path.proofs.Asked.{seen-at}
-use Rattle.dv_path.proofs.Walks.{list_of_elements_of}
+use Rattle.dv_candidates.specs.View.{seen}
+use Rattle.dv_path.proofs.Items.{seen-at, list_of_elements_of}
 use Rattle.dv_path.proofs.sorting.earliest_with.Goals as goal
 
 pub returns-in-Array : goal.returns-in-Array

@@ -1,5 +1,5 @@
 use Rattle.std.proofs.Common.{◌≡◌, Some, fold, map, take}
-use Rattle.dv_bson.specs.View.{tree}
+use Rattle.dv_value.specs.View.{tree}
 use Rattle.dv_order.specs.Key.{key_at}
 use Rattle.dv_path.specs.SortKey.{earlier_with}
 use Rattle.dv_path.proofs.sorting.earliest_with_elements.Given as goal

@@ -1,7 +1,7 @@
 use Rattle.std.proofs.Common.{◌∙◌, ap, sym, rules}
 use Rattle.std.proofs.lemmas.Result.{IfOk-weaker}
-use Rattle.dv_path.specs.Candidates.{whole}
-use Rattle.dv_path.specs.View.{seen}
+use Rattle.dv_candidates.specs.Candidates.{whole}
+use Rattle.dv_candidates.specs.View.{seen}
 use Rattle.dv_path.specs.SortKey.{sort_key}
 use Rattle.dv_path.proofs.Earliest.{Laws, or_null, folded-key}
 use Rattle.dv_path.proofs.sorting.sort_key.Goals as goal

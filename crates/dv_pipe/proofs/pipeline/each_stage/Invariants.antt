@@ -1,4 +1,4 @@
-use Rattle.dv_bson.specs.View.{tree}
+use Rattle.dv_value.specs.View.{tree}
 use Rattle.dv_pipe.specs.StageParsing.{stage_of}
 use Rattle.dv_row.specs.EachLaws.{IsParsedTo}
 use Rattle.dv_pipe.proofs.pipeline.each_stage.Given as goal

@@ -1,5 +1,5 @@
 use Rattle.std.proofs.Common.{◌∙◌, ap, sym, inr}
-use Rattle.dv_bson.specs.View.{tree}
+use Rattle.dv_value.specs.View.{tree}
 use Rattle.dv_path.specs.SortSpec.{sort_spec_of}
 use Rattle.dv_pipe.specs.StageParsing.{sort_in, sort_or_fault}
 use Rattle.dv_pipe.proofs.Single.{list-of-fields_of}

@@ -1,5 +1,5 @@
 use Rattle.std.proofs.Common.{◌∙◌, ◌≤◌, ap, sym, length, arith, Ok, Err, if◌then◌else◌}
-use Rattle.dv_bson.specs.View.{tree}
+use Rattle.dv_value.specs.View.{tree}
 use Rattle.dv_row.specs.declared.fault.PipelineFault.TheVariants.{Conflict}
 use Rattle.dv_row.specs.AskedView.{asked}
 use Rattle.dv_row.proofs.Items.{none-there}

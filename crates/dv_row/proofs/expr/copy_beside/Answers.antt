@@ -1,5 +1,5 @@
 use Rattle.std.proofs.Common.{◌∙◌, ◌≤◌, ap, sym, Some, length, arith}
-use Rattle.dv_bson.specs.View.{tree}
+use Rattle.dv_value.specs.View.{tree}
 use Rattle.dv_row.specs.Expressions.{with_field_behind}
 use Rattle.dv_row.proofs.Items.{take-past, none-there}
 use Rattle.dv_row.proofs.Left.{copied-more}

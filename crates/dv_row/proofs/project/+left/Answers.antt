@@ -1,39 +1,86 @@
-use Rattle.std.proofs.Common.{◌≡◌, ◌∙◌, ◌≤◌, ◌++◌, ◌∷◌, [], ap, sym, map, Some, length, take, arith, append-nil}
+use Rattle.std.proofs.Common.{◌≡◌, ◌∙◌, ◌+◌, ◌-◌, ◌++◌, ◌∷◌, [], ap, sym, subst, map, Some, length, drop, take, arith, append-nil}
 use Rattle.std.proofs.lemmas.List.{map-append}
-use Rattle.std.specs.Option.{option_map}
-use Rattle.dv_bson.specs.Tree.{document, array, fields_of, elements_of, list_of_elements}
-use Rattle.dv_bson.specs.View.{tree}
-use Rattle.dv_bson.specs.Weight.{field_weighs_less, value_weighs_less}
+use Rattle.std.specs.Option.{option_map, option_to_list}
+use Rattle.dv_value.specs.Tree.{Field, document, array, fields_of, elements_of, list_of_elements}
+use Rattle.dv_value.specs.View.{tree}
+use Rattle.dv_value.specs.Weight.{value_weighs_less}
+use Rattle.dv_row.specs.declared.level.Level.{Level}
 use Rattle.dv_row.specs.Expressions.{with_field_behind}
-use Rattle.dv_row.specs.Projecting.{paths_behind, left_of_value, left_inside, fields_left, elements_left, row_left}
-use Rattle.dv_row.proofs.Items.{take-past, take-read, none-there}
-use Rattle.dv_row.proofs.Left.{row-left_more, fields-of_list, elements-of_list, single, elements-left_more}
+use Rattle.dv_row.specs.Projecting.{paths_behind, left_of_value, left_inside, fields_left, elements_left}
+use Rattle.dv_row.specs.Turns.{left_behind, IsFresh}
+use Rattle.dv_row.proofs.Items.{take-read}
+use Rattle.dv_row.proofs.Left.{fields-of_list, elements-of_list, single, elements-left_more}
+use Rattle.dv_row.proofs.Turning.{entered, going-first, going-in, going-out, gone, in-smaller, out-smaller, left-next, left-past, weighs-less, weighs-next}
 use Rattle.dv_row.proofs.project.+left.Goals as goal
-use Rattle.dv_row.proofs.project.+left.Goals.{document_left-else-fields-test, document_left-then-fields-test+in_default, list_left-in-Some+in_ok-push, list_left-in_default}
+use Rattle.dv_row.proofs.project.+left.Goals.{list_left-in-Some+in_ok-push, list_left-in_default}
 
-pub document_left-fields-init : goal.document_left-fields-init
-unfolding fields_left
-document_left-fields-init t c = c.in_ok-left.ensures
+pub document_left-turns-init : goal.document_left-turns-init
+document_left-turns-init t c =
+    going-first c.args.keeps c.args.ways.now c.args.document.now c.in_ok-level.level c.new-around.result.items (subst (λ ways. IsFresh ways c.args.document.now c.in_ok-level.level) c.same.ensures c.in_ok-level.ensures) c.new-around.ensures.items
 
-pub document_left-value_left-requires : goal.document_left-value_left-requires
-document_left-value_left-requires t c = (omega (arith, field_weighs_less c.args.document.now c.fields.place c.in-Some.name.now (tree c.in-Some.value.now) c.in-Some.ensures), tt)
+pub document_left-turns-smaller-in-Entered : goal.document_left-turns-smaller-in-Entered
+document_left-turns-smaller-in-Entered t c =
+    let turn = rw c.in-Entered.is at c.in_ok-outer.ensures.turn in
+    in-smaller c.args.keeps c.args.ways.now c.args.document.now c.turns.around.items c.turns.level c.turns.invariant c.in-Entered.outer c.in-Entered.inner turn c.push.new.self.items c.in_ok-push-in-Entered.ensures.items
 
-pub document_left-fields-preserved : goal.document_left-fields-preserved
-document_left-fields-preserved t c =
+pub document_left-turns-preserved-in-Entered : goal.document_left-turns-preserved-in-Entered
+document_left-turns-preserved-in-Entered t c =
+    let turn = rw c.in-Entered.is at c.in_ok-outer.ensures.turn in
+    going-in c.args.keeps c.args.ways.now c.args.document.now c.turns.around.items c.turns.level c.turns.invariant c.in-Entered.outer c.in-Entered.inner turn c.push.new.self.items c.in_ok-push-in-Entered.ensures.items c.go_on.ensures.named
+
+pub document_left-turns-smaller : goal.document_left-turns-smaller
+document_left-turns-smaller t c =
+    let ended = rw c.in-Ended.is at c.in_ok-outer.ensures.turn in
+    let next = c.in_ok-level-in-Ended.level in
+    out-smaller c.args.keeps c.args.ways.now c.args.document.now c.turns.around.items c.turns.level c.turns.invariant c.in-Ended.left ended c.in-Some.outer next c.pop.new.self.items c.in-Some.ensures.items c.in_ok-level-in-Ended.ensures.further
+
+pub document_left-turns-preserved : goal.document_left-turns-preserved
+document_left-turns-preserved t c =
+    let ended = rw c.in-Ended.is at c.in_ok-outer.ensures.turn in
+    let next = c.in_ok-level-in-Ended.level in
+    going-out c.args.keeps c.args.ways.now c.args.document.now c.turns.around.items c.turns.level c.turns.invariant c.in-Ended.left ended c.in-Some.outer next c.pop.new.self.items c.in-Some.ensures.items c.in_ok-level-in-Ended.ensures.further c.go_on.ensures.named (c.in_ok-level-in-Ended.ensures.left c.args.keeps)
+
+pub document_left-returns-in_default : goal.document_left-returns-in_default
+document_left-returns-in_default t c =
+    let ended = rw c.in-Ended.is at c.in_ok-outer.ensures.turn in
+    let none = rw c.in_default.is at c.pop.ensures.cases in
+    let around = c.turns.around.items in
+    let rest = c.pop.new.self.items in
+    let popped : around ≡ [] = c.pop.ensures.items ∙ ap (λ o. rest ++ option_to_list o) c.in_default.is ∙ append-nil rest ∙ c.pop.ensures.rest ∙ ap (λ n. take (n - 1) around) none.0 in
+    gone c.args.keeps c.args.ways.now c.args.document.now around c.turns.level c.turns.invariant c.in-Ended.left ended c.go_on.ensures.named popped
+
+pub go_on-returns-in-Some-clause-turn : goal.go_on-returns-in-Some-clause-turn
+go_on-returns-in-Some-clause-turn t c =
     let keeps = c.args.keeps in
-    let ways = c.args.ways.now in
-    let name = c.in-Some.name.now in
-    let v = tree c.in-Some.value.now in
-    c.in_ok-push_field.ensures.ok ∙ ap (λ k. with_field_behind name k c.fields.left) (c.in_ok-kept.ensures ∙ ap (λ ws. left_of_value keeps ws v) c.behind.ensures) ∙ ap (with_field_behind name (left_of_value keeps (paths_behind name ways) v)) c.fields.invariant ∙ row-left_more keeps ways c.args.document.now c.fields.place name v c.len-place-end.ensures.named c.in-Some.ensures
+    let inside = c.in-Some.inner.now in
+    let inner = c.in_ok-inner.inner in
+    let f : Field = (c.field.result.0.now, tree c.field.result.1.now) in
+    let outer : Level = record { ways = c.args.level.ways; document = c.args.level.document; place = c.fields.place; left = c.fields.left } in
+    let behind = c.behind-behind.ensures in
+    entered keeps c.args.level outer inner f (sym c.field.ensures) inside
+    (subst (λ ways. IsFresh ways inside inner) behind c.in_ok-inner.ensures) c.in-Some.ensures.document c.fields.invariant
+    (weighs-less c.args.level.document.now c.args.level.place c.fields.place c.fields.auto.place)
+    (subst (λ ways. left_of_value keeps ways f.1 ≡ left_inside keeps ways f.1) behind (c.in-Some.ensures.inside keeps))
 
-pub document_left-returns : goal.document_left-returns
-document_left-returns t c =
-    let past : length c.args.document.now ≤ c.fields.place =
-    elim c.fields-test.branch [
-      | document_left-else-fields-test w ↦ omega (arith, c.len-place-end.ensures.len)
-      | document_left-then-fields-test+in_default w ↦ none-there c.args.document.now c.fields.place (sym w.in_default.ensures)
-    ] in
-    c.fields.invariant ∙ ap (row_left c.args.keeps (c.args.ways.now)) (take-past c.args.document.now c.fields.place past)
+pub go_on-value_left-requires : goal.go_on-value_left-requires
+go_on-value_left-requires t c =
+    let d = c.args.level.document.now in
+    let f : Field = (c.field.result.0.now, tree c.field.result.1.now) in
+    (omega (arith, weighs-next d c.fields.place f (sym c.field.ensures), weighs-less d c.args.level.place c.fields.place c.fields.auto.place), tt)
+
+pub go_on-fields-preserved : goal.go_on-fields-preserved
+go_on-fields-preserved t c =
+    let keeps = c.args.keeps in
+    let ways = c.args.level.ways in
+    let d = c.args.level.document.now in
+    let f : Field = (c.field.result.0.now, tree c.field.result.1.now) in
+    let left = c.fields.left in
+    let pushed : c.push_field.new.document ≡ with_field_behind f.0 (left_of_value keeps (paths_behind f.0 ways) f.1) left = c.in_ok-push_field.ensures.ok ∙ ap (λ k. with_field_behind f.0 k left) (c.in_ok-kept.ensures ∙ ap (λ ws. left_of_value keeps ws f.1) c.behind-behind.ensures) in
+    c.fields.invariant ∙ left-next keeps ways d c.fields.place f left (sym c.field.ensures) ∙ ap (left_behind keeps ways (drop (c.fields.place + 1) d)) (sym pushed)
+
+pub go_on-returns-clause-turn : goal.go_on-returns-clause-turn
+go_on-returns-clause-turn t c =
+    c.fields.invariant ∙ left-past c.args.keeps c.args.level.ways c.args.level.document.now c.fields.place c.fields.left (omega (arith, c.len-place-end.ensures.len))
 
 pub left_inside-returns-in_ok-left-in-Doc : goal.left_inside-returns-in_ok-left-in-Doc
 unfolding left_inside

@@ -1,5 +1,5 @@
 use Rattle.std.proofs.Common.{◌∙◌, sym}
-use Rattle.dv_bson.specs.View.{tree}
+use Rattle.dv_value.specs.View.{tree}
 use Rattle.dv_row.specs.Parsing.{is_option}
 use Rattle.dv_row.proofs.Items.{all-but-here, all-more, all-none, none-of}
 use Rattle.dv_row.proofs.unwind.has_options.Goals as goal

@@ -1,7 +1,7 @@
 use Rattle.std.proofs.Common.{◌≡◌, ◌∙◌, ◌+◌, ◌++◌, ◌∷◌, [], List, ap, sym, refl, arith, drop, subst, codes, drop_of_length-le}
-use Rattle.dv_bson.specs.Names.{value_under}
-use Rattle.dv_bson.specs.Tree.{Field}
-use Rattle.dv_bson.specs.View.{tree}
+use Rattle.dv_value.specs.Names.{value_under}
+use Rattle.dv_value.specs.Tree.{Field}
+use Rattle.dv_value.specs.View.{tree}
 use Rattle.dv_update.specs.Apply.{chosen, is_id, with_id}
 use Rattle.dv_update.proofs.Items.{drop_at, drop-none}
 use Rattle.dv_update.proofs.Replacing.{IsReplaced, id_replaced, whole_name, fresh_name, field_replaced, id_passed, all_replaced, denied, affirmed}

@@ -1,6 +1,6 @@
 -- The fields so far, and what is left without `_id`, are the replacement.
 use Rattle.std.proofs.Common.{codes, drop}
-use Rattle.dv_bson.specs.Names.{value_under}
+use Rattle.dv_value.specs.Names.{value_under}
 use Rattle.dv_update.specs.Apply.{chosen}
 use Rattle.dv_update.proofs.Replacing.{IsReplaced}
 use Rattle.dv_update.proofs.apply.replaced.Given as goal

@@ -1,6 +1,6 @@
 -- The values so far stand behind the list.
 use Rattle.std.proofs.Common.{◌≡◌, ◌++◌, map, take}
-use Rattle.dv_bson.specs.View.{tree}
+use Rattle.dv_value.specs.View.{tree}
 use Rattle.dv_update.proofs.edit.joined.Given as goal
 
 abbrev pub invariant-values : goal.invariant-values

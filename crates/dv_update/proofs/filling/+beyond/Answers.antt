@@ -2,10 +2,10 @@ use Rattle.std.proofs.Common.{◌≡◌, ◌≤◌, ◌∙◌, ◌∷◌, length
 use Rattle.std.proofs.lemmas.List.{length-map}
 use Rattle.std.proofs.lemmas.Option.{slice_get-map, slice_get_past, slice_get_read}
 use Rattle.std.specs.Option.{option_map}
-use Rattle.dv_bson.specs.Names.{value_under}
-use Rattle.dv_bson.specs.Tree.{array, document, elements_of, fields_of}
-use Rattle.dv_bson.specs.View.{tree}
-use Rattle.dv_path.specs.Path.{index_of}
+use Rattle.dv_value.specs.Names.{value_under}
+use Rattle.dv_value.specs.Tree.{array, document, elements_of, fields_of}
+use Rattle.dv_value.specs.View.{tree}
+use Rattle.dv_candidates.specs.Path.{index_of}
 use Rattle.dv_update.specs.Filling.{beyond, beyond_array}
 use Rattle.dv_update.proofs.Filled.{plain-value, none-missing, in-document, in-array, at-element, at-end, too-far}
 use Rattle.dv_update.proofs.filling.+beyond.Goals as goal

@@ -1,9 +1,9 @@
 use Rattle.std.proofs.Common.{◌≡◌, ◌∙◌, ◌∷◌, [], ◌<◌, length, Some, Ok, ap, sym, arith}
 use Rattle.std.proofs.lemmas.List.{length-map}
-use Rattle.dv_bson.specs.FieldChange.{with_value_pushed}
-use Rattle.dv_bson.specs.Names.{value_under}
-use Rattle.dv_bson.specs.Tree.{array, elements_of, list_of_elements}
-use Rattle.dv_bson.specs.View.{tree}
+use Rattle.dv_value.specs.FieldChange.{with_value_pushed}
+use Rattle.dv_value.specs.Names.{value_under}
+use Rattle.dv_value.specs.Tree.{array, elements_of, list_of_elements}
+use Rattle.dv_value.specs.View.{tree}
 use Rattle.dv_update.specs.Outcome.{applied_under}
 use Rattle.dv_update.specs.Update.{append}
 use Rattle.dv_update.proofs.Behind.{one-value}

@@ -1,4 +1,4 @@
-use Rattle.dv_bson.specs.View.{tree}
+use Rattle.dv_value.specs.View.{tree}
 use Rattle.dv_update.proofs.OneField.{keeps_field, sets_field, differs_set, is_itself}
 use Rattle.dv_update.proofs.one_field.set_under.Goals as goal
 

@@ -1,5 +1,5 @@
 use Rattle.std.proofs.Common.{◌∙◌, inr, sym}
-use Rattle.dv_bson.specs.View.{tree}
+use Rattle.dv_value.specs.View.{tree}
 use Rattle.dv_update.proofs.Items.{each-one, each-other, each-many, each-none}
 use Rattle.dv_update.proofs.operand.members_of_each.Goals as goal
 use Rattle.dv_update.proofs.operand.members_of_each.Goals.{in_default-via-in-Some+then-len-eq1+else-eq, in_default-via-in-Some+else-len-eq1, in_default-via-in_default}

@@ -1,7 +1,7 @@
 use Rattle.std.proofs.Common.{◌≡◌, ◌∙◌, ap, ◌++◌, ◌∷◌, [], length, arith}
-use Rattle.dv_bson.specs.Spelling.{spelling}
-use Rattle.dv_bson.specs.Tree.{Field}
-use Rattle.dv_bson.specs.View.{tree}
+use Rattle.dv_value.specs.Spelling.{spelling}
+use Rattle.dv_value.specs.Tree.{Field}
+use Rattle.dv_value.specs.View.{tree}
 use Rattle.dv_update.proofs.pieces.twice.Goals as goal
 
 pub returns : goal.returns

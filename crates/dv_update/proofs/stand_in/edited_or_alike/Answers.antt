@@ -1,8 +1,8 @@
 use Rattle.std.proofs.Common.{◌≡◌, ◌≤◌, ◌∙◌, ap, ap₂, sym, map, rules}
-use Rattle.dv_bson.specs.Spelling.{levels}
-use Rattle.dv_bson.specs.Tree.{document, fields_of}
+use Rattle.dv_value.specs.Spelling.{levels}
+use Rattle.dv_value.specs.Tree.{document, fields_of}
 use Rattle.dv_update.specs.Apply.{checked, edited}
-use Rattle.dv_bson.specs.Results.{◌>>=◌}
+use Rattle.dv_value.specs.Results.{◌>>=◌}
 use Rattle.dv_update.specs.View.{edit}
 use Rattle.dv_update.proofs.StandingIn.{likewise_stands}
 use Rattle.dv_update.proofs.stand_in.edited_or_alike.Goals as goal

@@ -1,6 +1,6 @@
 -- What is left of the edits makes, of what the document stands in for, what all of them make.
 use Rattle.std.proofs.Common.{◌≡◌, List, map, drop}
-use Rattle.dv_bson.specs.Tree.{Field}
+use Rattle.dv_value.specs.Tree.{Field}
 use Rattle.dv_update.specs.Apply.{edited}
 use Rattle.dv_update.specs.Removals.{other_edits}
 use Rattle.dv_update.specs.Standing.{Stands}

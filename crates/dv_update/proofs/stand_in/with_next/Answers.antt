@@ -1,6 +1,6 @@
 use Rattle.std.proofs.Common.{◌≡◌, ◌∙◌, ap, sym, refl, ◌+◌, ℕ, length, drop, Some, None, Err, rules}
-use Rattle.dv_bson.specs.Spelling.{payload}
-use Rattle.dv_bson.specs.View.{tree}
+use Rattle.dv_value.specs.Spelling.{payload}
+use Rattle.dv_value.specs.View.{tree}
 use Rattle.dv_update.specs.Apply.{edit_at}
 use Rattle.dv_update.specs.StandIn.{names_length, new_value, parting}
 use Rattle.dv_update.specs.View.{operation}
@@ -24,8 +24,8 @@ returns-in_err-document c = λ made stands.
     let parts : parting last.rest.now (drop 1000 path) ≡ Some c.in-Some.parting.now = ap (parting last.rest.now) (sym c.further-rest.ensures) ∙ sym c.in-Some.ensures in
     let value = tree c.in-Some-2.value in
     let new : new_value o ≡ Some value = search (rules, c.in_ok-value.ensures) in
-    let size : ℕ = c.in-Some-3.size in
-    let sum : size + 5 ≡ last.size + names_length c.in-Some.parting.now + length (payload value) = search (rules, c.in_ok-size.ensures) in
+    let size : ℕ = c.in-Some-size_behind.size in
+    let sum : size + 5 ≡ last.size + names_length c.in-Some.parting.now + length (payload value) = search (rules, c.size_behind.ensures) in
     let fault = c.in_err-document.field-0.0 in
     let told : c.from_residual-in_err-document.result ≡ Err fault = search (rules, c.from_residual-in_err-document.ensures) in
     becomes_refused c.from_residual-in_err-document.result fault (edit_at path o made) told
@@ -39,7 +39,7 @@ returns c = λ made stands.
     let parts : parting last.rest.now (drop 1000 path) ≡ Some c.in-Some.parting.now = ap (parting last.rest.now) (sym c.further-rest.ensures) ∙ sym c.in-Some.ensures in
     let value = tree c.in-Some-2.value in
     let new : new_value o ≡ Some value = search (rules, c.in_ok-value.ensures) in
-    let size : ℕ = c.in-Some-3.size in
-    let sum : size + 5 ≡ last.size + names_length c.in-Some.parting.now + length (payload value) = search (rules, c.in_ok-size.ensures) in
+    let size : ℕ = c.in-Some-size_behind.size in
+    let sum : size + 5 ≡ last.size + names_length c.in-Some.parting.now + length (payload value) = search (rules, c.size_behind.ensures) in
     next_put c.what_was_put_is_there.ensures.there last.beginning path o value (stands.known.far, c.requires.begins) c.requires.far new size (tree c.in_ok-piece.piece) c.in_ok-piece.ensures.piece made c.args.document stands.alike last.rest.now c.in-Some.parting.now last.size stands.known parts sum
     c.in_ok-document.document (record { beginning = last.beginning; rest = c.further-rest.result; size = size }) refl c.further-rest.ensures refl c.in_ok-document.ensures

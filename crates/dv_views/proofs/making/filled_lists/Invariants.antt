@@ -5,8 +5,9 @@ use Rattle.dv_pipe.specs.Sources.{lists_of}
 use Rattle.dv_views.specs.Filled.{lists_in_turn}
 use Rattle.dv_views.specs.Ground.{IsPlacedUnder, outs_below}
 use Rattle.dv_views.specs.Keeping.{IsSoundLive, kept_seen}
+use Rattle.dv_views.specs.Made.{IsNoStale}
 use Rattle.dv_views.specs.Older.{views_before}
-use Rattle.dv_views.specs.Views.{AreInOrder}
+use Rattle.dv_views.specs.Views.{AreInOrder, view_under}
 use Rattle.dv_views.proofs.making.filled_lists.Given as goal
 
 abbrev pub invariant-lists : goal.invariant-lists
@@ -16,6 +17,7 @@ invariant-lists l =
     record {
       sound : IsSoundLive l.pipeline l.live;
       ordered : AllByRecursion (λ name. AreInOrder (lists name)) (drop l.place l.lookups);
+      live : AllByRecursion (λ name. IsNoStale (view_under name older)) (drop l.place l.lookups);
       taken : lists_in_turn l.place (drop l.place l.lookups) (outs_below older lists) (kept_seen l.live).taken ≡ lists_in_turn 0 l.lookups (outs_below older lists) (kept_seen l.fn.live).taken;
       placed : AllByRecursion (IsPlacedUnder older lists) (take l.place l.lookups);
     }

@@ -1,15 +1,18 @@
-use Rattle.std.proofs.Common.{ℕ, List, ap, length, subst, sym, ◌∙◌}
+use Rattle.std.proofs.Common.{◌≡◌, ℕ, List, [], ap, length, subst, sym, ◌∙◌}
 use Rattle.std.specs.List.{AllByRecursion}
+use Rattle.dv_change.specs.Changes.{IsPositioned, Positioned, with_changes}
 use Rattle.dv_change.specs.RowLaws.{positioned-none}
 use Rattle.dv_pipe.specs.Sources.{lists_of}
 use Rattle.dv_pipe.specs.declared.stage.Stage.{Stage}
 use Rattle.dv_views.specs.Filled.{lists_in_turn}
 use Rattle.dv_views.specs.Ground.{IsPlacedUnder, outs_below}
 use Rattle.dv_views.specs.Keeping.{kept_seen}
+use Rattle.dv_views.specs.Made.{IsNoStale}
 use Rattle.dv_views.specs.Older.{views_before}
 use Rattle.dv_views.specs.Turning.{AreFresh}
-use Rattle.dv_views.specs.Views.{AreInOrder}
+use Rattle.dv_views.specs.Views.{AreInOrder, Taken, view_under}
 use Rattle.dv_views.proofs.Building.{built}
+use Rattle.dv_views.proofs.Filling.{lists_left, puts_filled, puts_lead}
 use Rattle.dv_views.proofs.Rolling.{fresh_named, fresh_turners, left_fresh, lookups_count, sound_fresh}
 use Rattle.dv_views.proofs.making.made.Goals as goal
 
@@ -30,8 +33,32 @@ filled_lists-requires-clause-ordered c =
     let lists = lists_of c.args.ground.now.sources.now in
     subst (λ (names : List (List ℕ)). AllByRecursion (λ name. AreInOrder (lists name)) names) (sym c.requires.lookups) c.requires.read.1
 
-pub filled-requires-clause-ordered : goal.filled-requires-clause-ordered
-filled-requires-clause-ordered c = c.requires.read.0
+pub filled_lists-requires-clause-live : goal.filled_lists-requires-clause-live
+filled_lists-requires-clause-live c =
+    let older = views_before c.args.ground.now.place c.args.ground.now.views.now.entries in
+    subst (λ (names : List (List ℕ)). AllByRecursion (λ name. IsNoStale (view_under name older)) names) (sym c.requires.lookups) c.requires.live.1
+
+pub puts_under-requires-clause-ordered : goal.puts_under-requires-clause-ordered
+puts_under-requires-clause-ordered c = c.requires.read.0
+
+pub puts_under-requires-clause-live : goal.puts_under-requires-clause-live
+puts_under-requires-clause-live c = c.requires.live.0
+
+pub filled_left-requires-clause-empty : goal.filled_left-requires-clause-empty
+filled_left-requires-clause-empty c =
+    let stages = c.args.pipeline.now in
+    let lists = lists_of c.args.ground.now.sources.now in
+    let older = views_before c.args.ground.now.place c.args.ground.now.views.now.entries in
+    let live = c.new-fresh.result in
+    let fresh = subst (AreFresh stages) (sym c.new-fresh.ensures.turns) (subst (λ (ss : List Stage). AreFresh ss c.in_ok-turners.turners.items) c.stages.ensures c.in_ok-turners.ensures) in
+    ap (λ (t : Taken). t.left) c.in_ok-some.ensures.taken ∙ lists_left 0 c.args.lookups.now (outs_below older lists) (kept_seen live).taken ∙ left_fresh positioned-none stages live fresh c.new-fresh.ensures.taken
+
+pub filled_left-requires-clause-positioned : goal.filled_left-requires-clause-positioned
+filled_left-requires-clause-positioned c =
+    let lists = lists_of c.args.ground.now.sources.now in
+    let older = views_before c.args.ground.now.place c.args.ground.now.views.now.entries in
+    let are = c.in_ok-puts.ensures.placed.1 in
+    subst (λ (rows : Positioned). IsPositioned rows) (sym (ap (with_changes []) c.in_ok-puts.ensures.puts ∙ puts_lead (outs_below older lists c.args.source.now) are)) are
 
 pub returns-clause-built : goal.returns-clause-built
 returns-clause-built c =
@@ -42,7 +69,9 @@ returns-clause-built c =
     let live = c.new-fresh.result in
     let fresh = subst (AreFresh stages) (sym c.new-fresh.ensures.turns) (subst (λ (ss : List Stage). AreFresh ss c.in_ok-turners.turners.items) c.stages.ensures c.in_ok-turners.ensures) in
     let placed = subst (λ (names : List (List ℕ)). AllByRecursion (IsPlacedUnder older lists) names) c.requires.lookups c.in_ok-some.ensures.placed in
-    built older lists stages source placed c.in_ok-whole.ensures.placed (kept_seen live).taken (kept_seen c.in_ok-some.some).taken c.in_ok-whole.whole c.counted_anew.result
+    let some = (kept_seen c.in_ok-some.some).taken in
+    let none : some.left ≡ [] = ap (λ (t : Taken). t.left) c.in_ok-some.ensures.taken ∙ lists_left 0 c.args.lookups.now (outs_below older lists) (kept_seen live).taken ∙ left_fresh positioned-none stages live fresh c.new-fresh.ensures.taken in
+    built older lists stages source placed c.in_ok-puts.ensures.placed (kept_seen live).taken (kept_seen c.in_ok-some.some).taken c.in_ok-whole.whole c.counted_anew.result
     (λ i. record { left = left_fresh positioned-none stages live fresh c.new-fresh.ensures.taken i; named = fresh_named stages live.chain fresh i })
     (c.in_ok-some.ensures.taken ∙ ap (λ (names : List (List ℕ)). lists_in_turn 0 names (outs_below older lists) (kept_seen live).taken) c.requires.lookups)
-    c.in_ok-whole.ensures.taken c.in_ok-whole.ensures.sound c.counted_anew.ensures.chain c.counted_anew.ensures.rows c.counted_anew.ensures.ticks
+    (c.in_ok-whole.ensures.taken ∙ (λ i. record { left = with_changes (sym none i) (c.in_ok-puts.ensures.puts i); named = some.named }) ∙ sym (puts_filled (outs_below older lists source) some)) c.in_ok-whole.ensures.sound c.counted_anew.ensures.chain c.counted_anew.ensures.rows c.counted_anew.ensures.ticks

@@ -4,7 +4,9 @@ use Rattle.dv_pipe.specs.declared.stage.Stage.{Stage}
 use Rattle.dv_views.specs.Body.{Body}
 use Rattle.dv_views.specs.Keeping.{IsSoundLive, kept_seen}
 use Rattle.dv_views.specs.Views.{live}
-use Rattle.dv_views.proofs.Marked.{alone_at, read_written, stale_at, turned_at}
+use Rattle.std.specs.Prelude.{IfErr, IfOk}
+use Rattle.dv_views.proofs.Building.{ok_then}
+use Rattle.dv_views.proofs.Marked.{alone_at, read_written, settled_at, stale_at}
 use Rattle.dv_views.proofs.passing.take_at.Goals as goal
 
 pub returns-then-not-is_reached : goal.returns-then-not-is_reached
@@ -12,9 +14,6 @@ returns-then-not-is_reached c = alone_at c.args.namespace.now c.args.changes.now
 
 pub returns-in_default : goal.returns-in_default
 returns-in_default c = stale_at c.args.namespace.now c.args.changes.now c.args.place c.args.views.now.entries c.requires.apart c.index_mut-2.result.now c.index_mut-2.ensures.value c.take_out.new.self (sym c.if-not-is_reached.false ∙ c.is_reached.ensures c.index_mut-2.result.now c.index_mut-2.ensures.value) c.take_out.ensures.left
-
-pub returns-in_default-turned : goal.returns-in_default-turned
-returns-in_default-turned c = stale_at c.args.namespace.now c.args.changes.now c.args.place c.args.views.now.entries c.requires.apart c.index_mut-2.result.now c.index_mut-2.ensures.value c.take_out.new.self (sym c.if-not-is_reached.false ∙ c.is_reached.ensures c.index_mut-2.result.now c.index_mut-2.ensures.value) c.take_out.ensures.left
 
 pub index-view-requires : goal.index-view-requires
 index-view-requires c = subst (λ (n : ℕ). c.args.place < n) (sym (index_map_len-with_value_at c.args.views.now c.args.place c.take_out.new.self)) c.requires.place
@@ -26,16 +25,27 @@ turned-turned-requires-clause-sound c =
     let stages_are : c.pipeline.result.now ≡ c.index_mut-2.result.now.stages = c.pipeline.ensures ∙ ap (λ (b : Body). b.stages) view_is ∙ ap (λ (b : Body). b.stages) c.take_out.ensures.left in
     subst (λ (stages : List Stage). IsSoundLive stages c.in-Some.live) (sym stages_are) c.in-Some.ensures.sound
 
-pub index_mut-requires-in-Ok : goal.index_mut-requires-in-Ok
-index_mut-requires-in-Ok c = subst (λ (n : ℕ). c.args.place < n) (sym (index_map_len-with_value_at c.args.views.now c.args.place c.take_out.new.self)) c.requires.place
+pub index_mut-requires-3 : goal.index_mut-requires-3
+index_mut-requires-3 c = subst (λ (n : ℕ). c.args.place < n) (sym (index_map_len-with_value_at c.args.views.now c.args.place c.take_out.new.self)) c.requires.place
 
-pub returns-in-Ok : goal.returns-in-Ok
-returns-in-Ok c =
+pub settle-requires : goal.settle-requires
+settle-requires c =
     let view_is : c.index-view.result.now ≡ c.take_out.new.self =
     read_written c.args.place c.args.views.now.entries c.take_out.new.self c.index_mut-2.result.now c.index-view.result.now c.index_mut-2.ensures.value c.index-view.ensures in
-    let back : c.index_mut-in-Ok.result.now ≡ c.take_out.new.self =
-    read_written c.args.place c.args.views.now.entries c.take_out.new.self c.index_mut-2.result.now c.index_mut-in-Ok.result.now c.index_mut-2.ensures.value c.index_mut-in-Ok.ensures.value in
-    turned_at c.args.namespace.now c.args.changes.now c.args.place c.args.views.now.entries c.requires.apart c.index_mut-2.result.now c.index_mut-2.ensures.value c.take_out.new.self c.put_back.new.self c.in-Some.live c.in-Ok.live c.in-Ok.told.items
+    let back : c.index_mut-3.result.now ≡ c.take_out.new.self =
+    read_written c.args.place c.args.views.now.entries c.take_out.new.self c.index_mut-2.result.now c.index_mut-3.result.now c.index_mut-2.ensures.value c.index_mut-3.ensures.value in
+    let stages_are : c.pipeline.result.now ≡ c.index_mut-3.result.now.stages = c.pipeline.ensures ∙ ap (λ (b : Body). b.stages) (view_is ∙ sym back) in
+    subst (λ (stages : List Stage). IfOk c.turned-turned.result (λ r. IsSoundLive stages r.0)) stages_are (ok_then c.turned-turned.result c.turned-turned.ensures.turns (λ r turns. turns.sound))
+
+pub returns : goal.returns
+returns c =
+    let a = c.take_out.new.self in
+    let view_is : c.index-view.result.now ≡ a =
+    read_written c.args.place c.args.views.now.entries a c.index_mut-2.result.now c.index-view.result.now c.index_mut-2.ensures.value c.index-view.ensures in
+    let back : c.index_mut-3.result.now ≡ a =
+    read_written c.args.place c.args.views.now.entries a c.index_mut-2.result.now c.index_mut-3.result.now c.index_mut-2.ensures.value c.index_mut-3.ensures.value in
+    settled_at c.args.namespace.now c.args.changes.now c.args.place c.args.views.now.entries c.requires.apart c.index_mut-2.result.now c.index_mut-2.ensures.value c.turned-turned.result (λ r. r.0) (λ r. r.1.items) a c.settle.new.self c.in-Some.live
     c.pipeline.result.now c.source.result.now (sym c.if-not-is_reached.false ∙ c.is_reached.ensures c.index_mut-2.result.now c.index_mut-2.ensures.value) c.take_out.ensures.left
-    (c.pipeline.ensures ∙ ap (λ (b : Body). b.stages) view_is) (c.source.ensures ∙ ap (λ (b : Body). b.source) view_is) c.in-Some.ensures.kept c.in-Ok.ensures.turns c.in-Ok.ensures.live
-    (c.put_back.ensures ∙ ap (λ (b : Body). record b { mark = live (kept_seen c.in-Ok.live); told = Some c.in-Ok.told.items }) back)
+    (c.pipeline.ensures ∙ ap (λ (b : Body). b.stages) view_is) (c.source.ensures ∙ ap (λ (b : Body). b.source) view_is) c.in-Some.ensures.kept c.turned-turned.ensures.turns c.turned-turned.ensures.live
+    (subst (λ (x : Body). IfOk c.turned-turned.result (λ r. c.settle.new.self ≡ record x { mark = live (kept_seen r.0); told = Some r.1.items })) back c.settle.ensures.live)
+    (subst (λ (x : Body). IfErr c.turned-turned.result (λ _. c.settle.new.self ≡ x)) back c.settle.ensures.left)

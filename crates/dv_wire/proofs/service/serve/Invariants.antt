@@ -1,5 +1,5 @@
 use Rattle.std.proofs.Common.{◌≡◌, []}
-use Rattle.dv_wire.specs.Stream.{MoreBy}
+use Rattle.dv_streams.specs.Stream.{MoreBy}
 use Rattle.dv_wire.proofs.Talks.{Talking}
 use Rattle.dv_wire.proofs.service.serve.Given as goal
 

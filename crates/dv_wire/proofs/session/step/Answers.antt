@@ -1,5 +1,5 @@
-use Rattle.dv_wire.specs.Commands.{command_of}
-use Rattle.dv_wire.specs.View.{message_seen}
+use Rattle.dv_message.specs.Commands.{command_of}
+use Rattle.dv_message.specs.View.{message_seen}
 use Rattle.dv_wire.proofs.Replies.{steps_as}
 use Rattle.dv_wire.proofs.session.step.Goals as goal
 

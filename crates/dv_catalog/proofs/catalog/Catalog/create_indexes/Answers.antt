@@ -1,6 +1,6 @@
 use Rattle.std.proofs.Common.{◌≡◌, false, Result, inl, map, refl, sym, subst, ◌∙◌}
 use Rattle.dv_fields.specs.declared.refusal.Refusal.{Refusal}
-use Rattle.dv_index.specs.View.{form_of_new}
+use Rattle.dv_keyed.specs.View.{form_of_new}
 use Rattle.dv_views.specs.Views.{view_form}
 use Rattle.dv_catalog.specs.CatalogParts.{state_of}
 use Rattle.dv_catalog.specs.IndexMaking.{with_all}

@@ -1,5 +1,5 @@
 use Rattle.std.proofs.Common.{List, take, sym, ap, subst, ◌∙◌}
-use Rattle.dv_bson.specs.Tree.{Field}
+use Rattle.dv_value.specs.Tree.{Field}
 use Rattle.dv_catalog.specs.Changes.{Change, apply}
 use Rattle.dv_catalog.specs.EffectView.{ArePlaced, StandsFor, changes_seen}
 use Rattle.dv_catalog.specs.State.{Collection}

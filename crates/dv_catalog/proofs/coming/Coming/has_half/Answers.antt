@@ -6,7 +6,7 @@ use Rattle.dv_catalog.specs.ComingParts.{joined}
 use Rattle.dv_catalog.specs.IndexMaking.{is_alike}
 use Rattle.dv_catalog.proofs.ByEntry.{any_seen}
 use Rattle.dv_catalog.proofs.Found.{none_alike}
-use Rattle.dv_index.specs.View.{form_of_new}
+use Rattle.dv_keyed.specs.View.{form_of_new}
 use Rattle.dv_catalog.proofs.coming.Coming.has_half.Goals as goal
 
 pub returns-then-not-contains : goal.returns-then-not-contains

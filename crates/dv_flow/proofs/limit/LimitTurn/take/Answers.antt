@@ -33,6 +33,8 @@ returns-then-is_behind c =
       left = left;
       out = sym (ap (λ changes. c.args.out.now.items ++ changes) none ∙ append-nil c.args.out.now.items);
       ticks = c.add.ensures ∙ sym (ap (λ changes. raised c.args.ticks.now (1 + length changes)) none);
+      begins = search rules;
+      no_fewer = search rules;
     }
 
 pub returns : goal.returns
@@ -48,4 +50,6 @@ returns c =
       left = search rules;
       out = ok-one c.hand_on.result c.hand_on.ensures.out (λ out. out ∙ ap (λ changes. c.args.out.now.items ++ changes) same);
       ticks = ok-one c.hand_on.result c.hand_on.ensures.ticks (λ ticks. ticks ∙ ap (λ changes. raised c.args.ticks.now (1 + length changes)) same);
+      begins = c.hand_on.ensures.begins;
+      no_fewer = c.hand_on.ensures.no_fewer;
     }

@@ -1,5 +1,5 @@
 use Rattle.std.proofs.Common.{◌∙◌, ap}
-use Rattle.dv_bson.specs.View.{tree}
+use Rattle.dv_value.specs.View.{tree}
 use Rattle.dv_gather.specs.Lookups.{lookup_in, lookup_of}
 use Rattle.dv_gather.proofs.Gathered.{fields_again}
 use Rattle.dv_gather.proofs.lookup.Lookup.parse.Goals as goal

@@ -10,4 +10,4 @@ returns c =
     let fields = map accumulation c.fields.field-iterator.a.rest.now in
     let totals = map running_seen c.fields.field-iterator.b.rest.now in
     let over : (length fields ≡ 0) ⊎ (length totals ≡ 0) = elim c.in-None.ensures.steps [ inl w ↦ inl (length-map _ accumulation ∙ w.1.0) | inr w ↦ inr (length-map _ running_seen ∙ w.1.0) ] in
-    sym (told-ended fields c.args.self.now.members totals c.fields.row over) ∙ c.fields.invariant.2
+    sym (told-ended fields totals c.fields.row over) ∙ c.fields.invariant.2

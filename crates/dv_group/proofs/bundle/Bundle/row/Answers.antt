@@ -13,5 +13,5 @@ returns c =
     let totals = map running_seen c.args.self.now.totals.items in
     let key : c.push_field.new.document ≡ (codes "_id", key_in g c.in-Some.first.now) ∷ [] =
     c.in_ok-push_field.ensures.ok ∙ (λ i. with_field_behind (codes "_id") (Some ((c.in_ok-key.ensures ∙ c.in_ok-key_in.ensures) i)) (c.in_ok-row.ensures i)) in
-    ap Some (c.keep_size.ensures ∙ c.in_ok-push_fields.ensures ∙ (λ i. with_told (c.fields.ensures i) rows totals (key i)))
+    ap Some (c.keep_size.ensures ∙ c.in_ok-push_fields.ensures ∙ (λ i. with_told (c.fields.ensures i) totals (key i)))
     ∙ row-told g rows (c.in-Some.field-0-0.now, c.in-Some.first.now) totals c.requires.positioned (sym c.in-Some.ensures) c.requires.totals

@@ -1,6 +1,6 @@
 use Rattle.std.proofs.Common.{◌≡◌, ◌∙◌, Some, ap, sym}
 use Rattle.std.specs.Option.{option_map}
-use Rattle.dv_bson.specs.View.{tree}
+use Rattle.dv_value.specs.View.{tree}
 use Rattle.dv_row.specs.RowValueView.{row_value}
 use Rattle.dv_gather.specs.GroupView.{accumulation}
 use Rattle.dv_group.specs.Running.{field_value}

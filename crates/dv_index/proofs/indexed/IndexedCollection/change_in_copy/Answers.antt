@@ -1,5 +1,5 @@
 use Rattle.std.proofs.Common.{IsSome, ap, subst, ◌∙◌}
-use Rattle.dv_bson.specs.FieldChange.{with_field_changed}
+use Rattle.dv_value.specs.FieldChange.{with_field_changed}
 use Rattle.dv_coll.specs.Collection.{HasId, found, id_key}
 use Rattle.dv_index.specs.Indexed.{IndexedTree}
 use Rattle.dv_index.proofs.FieldChanged.{change_possible}

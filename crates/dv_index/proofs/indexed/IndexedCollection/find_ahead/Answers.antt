@@ -1,8 +1,8 @@
 use Rattle.std.proofs.Common.{Bor, ◌≡◌, ◌∙◌, List, ap, filter, map}
-use Rattle.dv_bson.specs.Tree.{Field}
+use Rattle.dv_value.specs.Tree.{Field}
 use Rattle.dv_match.specs.Match.{matches}
 use Rattle.dv_path.specs.Parts.{part}
-use Rattle.dv_index.specs.Ahead.{is_ahead}
+use Rattle.dv_keyed.specs.Ahead.{is_ahead}
 use Rattle.dv_index.specs.Indexed.{IndexedTree}
 use Rattle.dv_index.proofs.Foremost.{matching-same, some-is}
 use Rattle.dv_index.proofs.Lists.{map-kept}

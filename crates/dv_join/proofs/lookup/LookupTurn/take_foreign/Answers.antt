@@ -3,7 +3,7 @@ use Rattle.std.proofs.Common.{◌≡◌, ◌∙◌, ◌||◌, false, filter, sub
 use Rattle.dv_change.specs.Changes.{IsPositioned, Positioned, at, position_changed, row_in, with_change}
 use Rattle.dv_change.specs.Difference.{diff}
 use Rattle.dv_change.specs.DiffLaws.{positioned-changed, positioned-filter}
-use Rattle.dv_bson.specs.Tree.{Field}
+use Rattle.dv_value.specs.Tree.{Field}
 use Rattle.dv_join.specs.Indexed.{IsJoinIndexOf, has_any}
 use Rattle.dv_join.specs.Placed.{looked_up_at}
 use Rattle.dv_join.specs.Turning.{has_foreign, has_local, if_any}

@@ -1,7 +1,7 @@
 -- What it is made of is what it is the key of.
 use Rattle.std.proofs.Common.{sym}
 use Rattle.std.specs.Option.{option_map}
-use Rattle.dv_bson.specs.View.{tree}
+use Rattle.dv_value.specs.View.{tree}
 use Rattle.dv_order.proofs.key.Key.is_own.Goals as goal
 
 pub returns : goal.returns

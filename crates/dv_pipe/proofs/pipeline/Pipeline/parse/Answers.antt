@@ -1,5 +1,5 @@
 use Rattle.std.proofs.Common.{◌≡◌, Err, inr, rules}
-use Rattle.dv_bson.specs.View.{tree}
+use Rattle.dv_value.specs.View.{tree}
 use Rattle.dv_row.specs.EachLaws.{gives-fault}
 use Rattle.dv_pipe.proofs.Pipelines.{many-fault, many, few-fault, few-stages}
 use Rattle.dv_pipe.proofs.pipeline.Pipeline.parse.Goals as goal

@@ -1,9 +1,9 @@
 use Rattle.std.proofs.Common.{subst}
 use Rattle.std.specs.String.{string_bytes}
 use Rattle.std.proofs.lemmas.Result.{IfErr-weaker, IfOk-weaker}
-use Rattle.dv_program.specs.Line.{IsLine}
+use Rattle.dv_words.specs.Line.{IsLine}
 use Rattle.dv_program.specs.Script.{DoesOneLine, standing_of}
-use Rattle.dv_program.specs.declared.said.Line.TheVariants.{Bytes, End}
+use Rattle.dv_words.specs.declared.said.Line.TheVariants.{Bytes, End}
 use Rattle.dv_program.specs.Stops.{StopsLine}
 use Rattle.dv_program.proofs.Stopped.{ends_at, streams_still}
 use Rattle.dv_program.proofs.script.Progress.do_line.Goals as goal

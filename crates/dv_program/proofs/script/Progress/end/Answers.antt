@@ -3,7 +3,7 @@ use Rattle.std.proofs.lemmas.Result.{err_from_is_err_and}
 use Rattle.dv_wire.specs.Schedule.{conversation_of, unfinished_in}
 use Rattle.dv_program.specs.Output.{end_line}
 use Rattle.dv_program.specs.Script.{standing_of}
-use Rattle.dv_program.specs.declared.said.Line.TheVariants.{End}
+use Rattle.dv_words.specs.declared.said.Line.TheVariants.{End}
 use Rattle.dv_program.proofs.Stopped.{stops_unopened, stops_untold}
 use Rattle.dv_program.proofs.script.Progress.end.Goals as goal
 

@@ -3,7 +3,7 @@ use Rattle.std.specs.Prelude.{slice_set}
 use Rattle.std.proofs.lemmas.Result.{err_from_is_err_and}
 use Rattle.dv_program.specs.Output.{AreReplies, fed_text}
 use Rattle.dv_program.specs.Script.{is_closing, standing_of}
-use Rattle.dv_program.specs.declared.said.Line.TheVariants.{Bytes}
+use Rattle.dv_words.specs.declared.said.Line.TheVariants.{Bytes}
 use Rattle.dv_program.proofs.Replies.{not_closing}
 use Rattle.dv_program.proofs.Stopped.{are_replies, stops_unopened, stops_untold}
 use Rattle.dv_program.proofs.script.Progress.feed.Goals as goal
@@ -19,7 +19,7 @@ returns-then-session-clause-done c = (
 
 pub returns-clause-done : goal.returns-clause-done
 returns-clause-done c =
-    let answered = c.feed-fed.ensures in
+    let answered = c.feed-fed.ensures.fed in
     let lines = c.in_ok-fed_text.ensures in
     let told = c.feed-fed.result in
     let bytes : c.as_slice.result.now ≡ answered.0 = cc (c.as_slice.ensures.value, answered.1, c.new-replies.ensures.items) in
@@ -42,7 +42,7 @@ returns-in_err-session-clause-stopped c =
 pub returns-in_err-fed_text-clause-stopped : goal.returns-in_err-fed_text-clause-stopped
 returns-in_err-fed_text-clause-stopped c =
     let p = err_from_is_err_and c.from_residual-in_err-fed_text.result c.from_residual-in_err-fed_text.ensures.1 in
-    let answered = c.feed-fed.ensures in
+    let answered = c.feed-fed.ensures.fed in
     let told = c.feed-fed.result in
     let replies = are_replies answered.0 in
     let shut : c.match-matches.matches ≡ is_closing told = elim c.match-matches.branch [

@@ -2,7 +2,7 @@ use Rattle.std.proofs.Common.{◌≡◌, ◌∙◌, ◌++◌, ℕ, List, inr, re
 use Rattle.std.proofs.lemmas.Result.{err_from_is_err_and}
 use Rattle.std.specs.Io.KnownBytes.{Appends}
 use Rattle.dv_program.specs.Script.{DoesLine, standing_of}
-use Rattle.dv_program.specs.declared.script.ScriptFault.TheVariants.{Write}
+use Rattle.dv_words.specs.declared.fault.ScriptFault.TheVariants.{Write}
 use Rattle.dv_program.proofs.script.Progress.finish_line.Goals as goal
 
 pub returns-in_err-map_err-clause-stopped : goal.returns-in_err-map_err-clause-stopped

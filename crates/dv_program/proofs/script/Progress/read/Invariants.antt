@@ -1,5 +1,5 @@
 use Rattle.std.proofs.Common.{◌≡◌, length}
-use Rattle.dv_wire.specs.Stream.{MoreBy}
+use Rattle.dv_streams.specs.Stream.{MoreBy}
 use Rattle.dv_program.specs.Script.{standing_of}
 use Rattle.dv_program.proofs.Scripts.{ReadSoFar}
 use Rattle.dv_program.proofs.script.Progress.read.Given as goal

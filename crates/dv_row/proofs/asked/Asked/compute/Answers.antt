@@ -1,5 +1,5 @@
 use Rattle.std.proofs.Common.{◌∙◌, sym}
-use Rattle.dv_bson.specs.View.{tree}
+use Rattle.dv_value.specs.View.{tree}
 use Rattle.dv_row.specs.AskedView.{asked}
 use Rattle.dv_row.specs.ExpressionView.{expression_seen}
 use Rattle.dv_row.proofs.Taken.{computed-taken}

@@ -1,6 +1,6 @@
 use Rattle.std.proofs.Common.{◌≡◌, ◌∙◌, ap, Ok, Err, rules}
-use Rattle.dv_bson.specs.View.{tree}
-use Rattle.dv_bson.specs.Results.{◌>>=◌}
+use Rattle.dv_value.specs.View.{tree}
+use Rattle.dv_value.specs.Results.{◌>>=◌}
 use Rattle.dv_row.specs.ProjectParsing.{project_in, members_in, nothing_asked, project_form}
 use Rattle.dv_row.proofs.Items.{some-fields}
 use Rattle.dv_row.proofs.Members.{project-some}

@@ -1,5 +1,5 @@
 use Rattle.std.proofs.Common.{◌∙◌, ap}
-use Rattle.dv_bson.specs.View.{tree}
+use Rattle.dv_value.specs.View.{tree}
 use Rattle.dv_row.specs.Parsing.{unwind_in, unwind_of}
 use Rattle.dv_row.proofs.Unwound.{list-of-fields_of}
 use Rattle.dv_row.proofs.unwind.Unwind.parse.Goals as goal

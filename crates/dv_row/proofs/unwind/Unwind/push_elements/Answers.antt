@@ -1,5 +1,5 @@
 use Rattle.std.proofs.Common.{◌∙◌, ◌++◌, ap, sym, Some, map}
-use Rattle.dv_bson.specs.View.{tree}
+use Rattle.dv_value.specs.View.{tree}
 use Rattle.dv_row.specs.Unwinding.{set_through}
 use Rattle.dv_row.proofs.Items.{take-past, some-left}
 use Rattle.dv_row.proofs.Unwound.{rows-of_some}
@@ -10,4 +10,4 @@ returns c =
     let before = c.args.rows.now.items in
     let es = c.as_slice-elements.result.now in
     let row = c.args.row.now in
-    c.elements.invariant ∙ ap (λ l. before ++ map (λ v. set_through c.components-path.result.now (Some (tree v)) row) l) (take-past es c.elements.element-index c.elements-test.false) ∙ ap (λ p. before ++ map (λ v. set_through p (Some (tree v)) row) es) c.components-path.ensures.components ∙ ap (λ l. before ++ l) (sym (rows-of_some c.args.self.now row es c.args.list.now c.as_slice-elements.ensures (some-left es c.if-is_empty.ensures)))
+    c.elements.invariant ∙ ap (λ l. before ++ map (λ v. set_through c.args.self.now.path (Some (tree v)) row) l) (take-past es c.elements.element-index c.elements-test.false) ∙ ap (λ l. before ++ l) (sym (rows-of_some c.args.self.now row es c.args.list.now c.as_slice-elements.ensures (some-left es c.if-is_empty.ensures)))

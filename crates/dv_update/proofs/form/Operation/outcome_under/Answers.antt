@@ -1,6 +1,6 @@
 use Rattle.std.proofs.Common.{◌≡◌, ◌∙◌, Ok, ap, sym}
-use Rattle.dv_bson.specs.Names.{value_under}
-use Rattle.dv_bson.specs.View.{tree}
+use Rattle.dv_value.specs.Names.{value_under}
+use Rattle.dv_value.specs.View.{tree}
 use Rattle.dv_path.specs.Slots.{slot_of}
 use Rattle.dv_update.specs.Outcome.{value_by}
 use Rattle.dv_update.specs.View.{operation}

@@ -1,5 +1,5 @@
 use Rattle.std.proofs.Common.{◌∙◌, map}
-use Rattle.dv_bson.specs.View.{tree}
+use Rattle.dv_value.specs.View.{tree}
 use Rattle.dv_update.specs.View.{pulled}
 use Rattle.dv_update.proofs.Made.{left_end}
 use Rattle.dv_update.proofs.form.Pulled.left.Goals as goal

@@ -1,6 +1,6 @@
 -- The elements that stay so far, and those that are left.
 use Rattle.std.proofs.Common.{◌≡◌, ◌++◌, map, drop}
-use Rattle.dv_bson.specs.View.{tree}
+use Rattle.dv_value.specs.View.{tree}
 use Rattle.dv_update.specs.Apply.{left}
 use Rattle.dv_update.specs.View.{pulled}
 use Rattle.dv_update.proofs.form.Pulled.left.Given as goal

@@ -1,7 +1,7 @@
 -- No element so far is taken out.
 use Rattle.std.proofs.Common.{◌≡◌, map, drop}
 use Rattle.std.specs.List.{list_any}
-use Rattle.dv_bson.specs.View.{tree}
+use Rattle.dv_value.specs.View.{tree}
 use Rattle.dv_update.specs.Apply.{is_pulled}
 use Rattle.dv_update.specs.View.{pulled}
 use Rattle.dv_update.proofs.form.Pulled.takes_any.Given as goal

@@ -7,14 +7,14 @@ use Rattle.dv_pipe.specs.declared.stage.Stage.{Stage}
 use Rattle.dv_views.specs.Body.{Body}
 use Rattle.dv_views.specs.Forms.{IsClosed, ViewForm, heights, is_name_among, names_read}
 use Rattle.dv_views.specs.Ground.{IsBuilt}
-use Rattle.dv_views.specs.Made.{IsRefreshedAt}
-use Rattle.dv_views.specs.MarkView.{IsSoundMark, mark_seen}
+use Rattle.dv_views.specs.Made.{IsNoStale, IsRefreshedAt}
+use Rattle.dv_views.specs.Keeping.{IsSoundLive, kept_seen}
 use Rattle.dv_views.specs.Older.{views, views_before}
 use Rattle.dv_views.specs.Seen.{HaveHeights, IsSoundRegistry, view_seen}
-use Rattle.dv_views.specs.Views.{AreInOrder, AreRight, Views, view_form, is_stale}
+use Rattle.dv_views.specs.Views.{AreInOrder, AreRight, Views, view_form, view_under, is_stale, live}
 use Rattle.dv_views.proofs.Heights.{heights_written}
 use Rattle.dv_views.proofs.Joining.{fresh_built}
-use Rattle.dv_views.proofs.Refreshing.{forms_set, keeping, left_at, ordered_reads, reads_listed, refreshed_at, replaces, right_refreshed, same_there, sound_set, view_there, views_kept, views_take}
+use Rattle.dv_views.proofs.Refreshing.{forms_set, fresh_reads, keeping, left_at, ordered_reads, reads_listed, refreshed_at, replaces, right_refreshed, same_there, sound_set, view_there, views_kept, views_take}
 use Rattle.dv_views.proofs.registry.Registry.refresh_at.Goals as goal
 use Rattle.dv_views.proofs.registry.Registry.refresh_at.Goals.{then-not-is_stale-via-then-not-is_stale, then-not-is_stale-via-else-not-is_stale+then-not-is_listed}
 
@@ -31,8 +31,8 @@ returns-then-not-is_stale-clause-ok c =
       | then-not-is_stale-via-else-not-is_stale+then-not-is_listed w ↦ λ among. absurd (cc (sym among ∙ ap (λ (n : List ℕ). is_name_among n names) (sym w.as_str.ensures.value) ∙ sym w.is_listed.ensures ∙ w.if-not-is_listed.true))
     ])
 
-pub mark_over-requires-clause-read : goal.mark_over-requires-clause-read
-mark_over-requires-clause-read c =
+pub made-requires-clause-read : goal.made-requires-clause-read
+made-requires-clause-read c =
     let k = c.in-Some.name.now in
     let b = c.in-Some.view.now in
     let v = view_seen (string_bytes k) b in
@@ -44,10 +44,28 @@ mark_over-requires-clause-read c =
     (subst (λ (source : List ℕ). AllByRecursion (λ n. AreInOrder (lists n)) (names_read b.stages source)) (sym c.source.ensures)
     (ordered_reads names lists (names_read b.stages b.source) c.requires.read (reads_listed names c.args.place c.args.self.now v c.requires.closed there listed)))
 
+pub made-requires-clause-live : goal.made-requires-clause-live
+made-requires-clause-live c =
+    let es = c.self.inside.views.entries in
+    let k = c.in-Some.name.now in
+    let b = c.in-Some.view.now in
+    let v = view_seen (string_bytes k) b in
+    let n = c.args.place in
+    let names = c.args.names.now in
+    let older = views_before n es in
+    let there : slice_get c.args.self.now n ≡ Some v = subst (λ (vs : Views). slice_get vs n ≡ Some v) c.self.view_is (view_there n es k b (sym c.in-Some.ensures.entry)) in
+    let listed : is_name_among v.name names ≡ true = ap (λ (m : List ℕ). is_name_among m names) (sym c.as_str.ensures.value) ∙ sym c.is_listed.ensures ∙ c.if-not-is_listed.false in
+    let fresh : AllByRecursion (λ u. is_name_among u.name names ≡ true → is_stale u.mark ≡ false) older =
+    subst (λ (vs : Views). AllByRecursion (λ u. is_name_among u.name names ≡ true → is_stale u.mark ≡ false) vs) (sym (views_take n es))
+    (subst (λ (vs : Views). AllByRecursion (λ u. is_name_among u.name names ≡ true → is_stale u.mark ≡ false) (take n vs)) (sym c.self.view_is) c.requires.fresh) in
+    subst (λ (stages : List Stage). AllByRecursion (λ m. IsNoStale (view_under m older)) (names_read stages c.source.result.now)) (sym c.pipeline.ensures)
+    (subst (λ (source : List ℕ). AllByRecursion (λ m. IsNoStale (view_under m older)) (names_read b.stages source)) (sym c.source.ensures)
+    (fresh_reads names older (names_read b.stages b.source) fresh (reads_listed names n c.args.self.now v c.requires.closed there listed)))
+
 pub keep-requires : goal.keep-requires
 keep-requires c =
     let same = same_there c.args.place c.self.inside.views.entries c.in-Some.name.now c.in-Some.view.now c.index_mut-view.result.now (sym c.in-Some.ensures.entry) c.index_mut-view.ensures.value in
-    subst (λ (stages : List Stage). IsSoundMark stages c.in_ok-mark.mark) (c.pipeline.ensures ∙ sym (ap (λ (y : Body). y.stages) same)) c.in_ok-mark.ensures.sound
+    subst (λ (stages : List Stage). IsSoundLive stages c.in_ok-rows.rows) (c.pipeline.ensures ∙ sym (ap (λ (y : Body). y.stages) same)) c.in_ok-rows.ensures.sound
 
 pub invariant_of-self : goal.invariant_of-self
 invariant_of-self c =
@@ -58,7 +76,7 @@ invariant_of-self c =
     let n = c.args.place in
     let names = c.args.names.now in
     let lists = lists_of c.args.sources.now in
-    let mark = mark_seen c.in_ok-mark.mark in
+    let mark = live (kept_seen c.in_ok-rows.rows) in
     let there : slice_get (views es) n ≡ Some v = view_there n es k b (sym c.in-Some.ensures.entry) in
     let listed : is_name_among v.name names ≡ true = ap (λ (m : List ℕ). is_name_among m names) (sym c.as_str.ensures.value) ∙ sym c.is_listed.ensures ∙ c.if-not-is_listed.false in
     let stale : is_stale v.mark ≡ true = sym c.is_stale.ensures ∙ c.if-not-is_stale.false in
@@ -66,14 +84,13 @@ invariant_of-self c =
     let built : IsBuilt b.stages b.source (take n (views es)) lists mark =
     subst (λ (vs : Views). IsBuilt b.stages b.source vs lists mark) (views_take n es)
     (subst (λ (source : List ℕ). IsBuilt b.stages source (views_before n es) lists mark) c.source.ensures
-    (subst (λ (stages : List Stage). IsBuilt stages c.source.result.now (views_before n es) lists mark) c.pipeline.ensures c.in_ok-mark.ensures.built)) in
+    (subst (λ (stages : List Stage). IsBuilt stages c.source.result.now (views_before n es) lists mark) c.pipeline.ensures c.in_ok-rows.ensures.built)) in
     let kept = views_kept n es k b c.index_mut-view.result.now c.keep.new.self mark (sym c.in-Some.ensures.entry) same c.keep.ensures in
     let forms : map view_form (views (set_value_at es n c.keep.new.self)) ≡ map view_form (views es) = ap (map view_form) kept ∙ forms_set (keeping v mark) n (views es) (replaces mark v stale n (views es) there) in
     record {
       views =
           subst (λ (vs : Views). IsSoundRegistry vs) (sym kept)
-          (sound_set names mark v stale listed n (views es) there c.self.invariant.views (subst (λ (vs : Views). IsClosed names (map view_form vs)) (sym c.self.view_is) c.requires.closed)
-          (subst (λ (vs : Views). AllByRecursion (λ u. is_name_among u.name names ≡ true → is_stale u.mark ≡ false) (take n vs)) (sym c.self.view_is) c.requires.fresh) lists built);
+          (sound_set names mark v stale listed n (views es) there c.self.invariant.views (subst (λ (vs : Views). IsClosed names (map view_form vs)) (sym c.self.view_is) c.requires.closed) lists built);
       heights =
           subst (λ (fs : List ViewForm). HaveHeights (heights fs) (set_value_at es n c.keep.new.self)) (sym forms)
           (heights_written (heights (map view_form (views es))) n es c.index_mut-view.result.now c.keep.new.self c.index_mut-view.ensures.value (ap (λ (y : Body). y.height) c.keep.ensures) c.self.invariant.heights);
@@ -88,12 +105,12 @@ returns-clause-ok c =
     let n = c.args.place in
     let names = c.args.names.now in
     let lists = lists_of c.args.sources.now in
-    let mark = mark_seen c.in_ok-mark.mark in
+    let mark = live (kept_seen c.in_ok-rows.rows) in
     let there : slice_get (views es) n ≡ Some v = view_there n es k b (sym c.in-Some.ensures.entry) in
     let listed : is_name_among v.name names ≡ true = ap (λ (m : List ℕ). is_name_among m names) (sym c.as_str.ensures.value) ∙ sym c.is_listed.ensures ∙ c.if-not-is_listed.false in
     let stale : is_stale v.mark ≡ true = sym c.is_stale.ensures ∙ c.if-not-is_stale.false in
     let same = same_there n es k b c.index_mut-view.result.now (sym c.in-Some.ensures.entry) c.index_mut-view.ensures.value in
-    let fresh = fresh_built c.pipeline.result.now c.source.result.now (views_before n es) lists mark c.in_ok-mark.ensures.built in
+    let fresh = fresh_built c.pipeline.result.now c.source.result.now (views_before n es) lists mark c.in_ok-rows.ensures.built in
     subst (λ (vs : Views). IsRefreshedAt n names vs (views (set_value_at es n c.keep.new.self))) c.self.view_is
     (subst (λ (ws : Views). IsRefreshedAt n names (views es) ws) (sym (views_kept n es k b c.index_mut-view.result.now c.keep.new.self mark (sym c.in-Some.ensures.entry) same c.keep.ensures))
     (refreshed_at names mark v stale listed fresh n (views es) there))
@@ -107,7 +124,7 @@ returns-clause-right c = λ others alike right.
     let n = c.args.place in
     let names = c.args.names.now in
     let lists = lists_of c.args.sources.now in
-    let mark = mark_seen c.in_ok-mark.mark in
+    let mark = live (kept_seen c.in_ok-rows.rows) in
     let there : slice_get (views es) n ≡ Some v = view_there n es k b (sym c.in-Some.ensures.entry) in
     let listed : is_name_among v.name names ≡ true = ap (λ (m : List ℕ). is_name_among m names) (sym c.as_str.ensures.value) ∙ sym c.is_listed.ensures ∙ c.if-not-is_listed.false in
     let stale : is_stale v.mark ≡ true = sym c.is_stale.ensures ∙ c.if-not-is_stale.false in
@@ -115,8 +132,7 @@ returns-clause-right c = λ others alike right.
     let built : IsBuilt b.stages b.source (take n (views es)) lists mark =
     subst (λ (vs : Views). IsBuilt b.stages b.source vs lists mark) (views_take n es)
     (subst (λ (source : List ℕ). IsBuilt b.stages source (views_before n es) lists mark) c.source.ensures
-    (subst (λ (stages : List Stage). IsBuilt stages c.source.result.now (views_before n es) lists mark) c.pipeline.ensures c.in_ok-mark.ensures.built)) in
+    (subst (λ (stages : List Stage). IsBuilt stages c.source.result.now (views_before n es) lists mark) c.pipeline.ensures c.in_ok-rows.ensures.built)) in
     subst (λ (ws : Views). AreRight others ws) (sym (views_kept n es k b c.index_mut-view.result.now c.keep.new.self mark (sym c.in-Some.ensures.entry) same c.keep.ensures))
-    (right_refreshed names mark v stale listed n (views es) there c.self.invariant.views (subst (λ (vs : Views). IsClosed names (map view_form vs)) (sym c.self.view_is) c.requires.closed)
-    (subst (λ (vs : Views). AllByRecursion (λ u. is_name_among u.name names ≡ true → is_stale u.mark ≡ false) (take n vs)) (sym c.self.view_is) c.requires.fresh) lists built
+    (right_refreshed names mark v stale listed n (views es) there c.self.invariant.views (subst (λ (vs : Views). IsClosed names (map view_form vs)) (sym c.self.view_is) c.requires.closed) lists built
     c.kept_rows_are_those_from_scratch.ensures c.what_is_not_read_does_not_matter.ensures others alike (subst (AreRight others) (sym c.self.view_is) right))

@@ -1,5 +1,5 @@
 use Rattle.std.proofs.Common.{refl, ap}
-use Rattle.dv_wire.specs.Message.{reading}
+use Rattle.dv_message.specs.Message.{reading}
 use Rattle.dv_wire.proofs.Sessions.{numbered_more, opened_seen}
 use Rattle.dv_wire.proofs.hub.Hub.open.Goals as goal
 

@@ -1,7 +1,0 @@
-use Rattle.std.proofs.Common.{map, take}
-use Rattle.dv_bson.specs.Places.{IsNameIndexOf}
-use Rattle.dv_bson.specs.Names.{bare}
-use Rattle.dv_bson.proofs.name_list.all_indexed.Given as goal
-
-abbrev pub invariant-loop-place : goal.invariant-loop-place
-invariant-loop-place l = IsNameIndexOf (map bare (take l.place l.names)) l.index

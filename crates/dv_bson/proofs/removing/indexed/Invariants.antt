@@ -1,6 +1,0 @@
-use Rattle.std.proofs.Common.{map, take}
-use Rattle.dv_bson.specs.Removing.{HasEach}
-use Rattle.dv_bson.proofs.removing.indexed.Given as goal
-
-abbrev pub invariant-loop-place : goal.invariant-loop-place
-invariant-loop-place l = HasEach (map (λ n. n.now) (take l.place l.names)) l.index

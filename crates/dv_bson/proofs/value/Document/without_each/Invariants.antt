@@ -1,7 +1,0 @@
--- The fields so far, and what is left, are the document without those with the names.
-use Rattle.std.proofs.Common.{map, drop}
-use Rattle.dv_bson.proofs.Removed.{IsCopied}
-use Rattle.dv_bson.proofs.value.Document.without_each.Given as goal
-
-abbrev pub invariant-fields : goal.invariant-fields
-invariant-fields l = IsCopied (map (λ n. n.now) l.names) l.self l.left (drop l.place l.self)

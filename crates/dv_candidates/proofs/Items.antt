@@ -1,0 +1,46 @@
+-- Items that a loop or a call reads, as what is seen of them.
+use Rattle.std.proofs.Common.{◌≡◌, ℕ, zero, suc, ◌+◌, ◌≤◌, ◌<◌, List, [], ◌∷◌, length, map, drop, add-one, get_or, Option, Some, None, slice_get, refl, sym, ap, arith, Bool, true, false, if◌then◌else◌}
+use Rattle.std.specs.Str.{bytes_eq}
+use Rattle.std.proofs.lemmas.Option.{slice_get_read, slice_get-map}
+use Rattle.dv_value.specs.declared.value.Value.{Value}
+use Rattle.dv_value.specs.Tree.{Tree, document, weight, Field, fields_of, fields_weight, elements_of, elements_weight}
+use Rattle.dv_value.specs.Names.{value_under}
+use Rattle.dv_value.specs.View.{tree}
+use Rattle.dv_value.specs.Weight as weights
+use Rattle.dv_candidates.specs.Places.{IsDocument}
+
+-- the default doesn't matter within a list
+pub get_or_any : {X : Type 0} (xs : List X) (place : ℕ) (x d : X) → place < length xs → x ≡ get_or xs place x → x ≡ get_or xs place d
+get_or_any [] place x d within is = absurd (omega arith)
+get_or_any (y ∷ ys) zero x d within is = is
+get_or_any (y ∷ ys) (suc place) x d within is = get_or_any ys place x d (omega arith) is
+
+-- the item at a place, as what is seen of it
+pub slice_get_seen : {X Y : Type 0} (view : X → Y) (xs : List X) (ys : List Y) (place : ℕ) (x : X) → map view xs ≡ ys → place < length xs → x ≡ get_or xs place x → slice_get ys place ≡ Some (view x)
+slice_get_seen view xs ys place x seen within is =
+    let here : slice_get xs place ≡ Some x = slice_get_read xs (length xs) place x refl within is in
+    rw (← seen, slice_get-map view xs place, here) refl
+
+pub value_weighs_less_in : (values : List Value) (vs : List Tree) (place : ℕ) (value : Value) → map tree values ≡ vs → place < length values → value ≡ get_or values place value → weight (tree value) ≤ elements_weight (elements_of vs)
+value_weighs_less_in = weights.value_weighs_less
+
+under-weighs : (here : Bool) (f : Field) (fs : List Field) (rest : Option Tree) (value : Tree) → (rest ≡ Some value → weight value ≤ fields_weight (fields_of fs)) → (if here then Some f.1 else rest) ≡ Some value → weight value ≤ fields_weight (fields_of (f ∷ fs))
+under-weighs true f fs rest value later e =
+    let same : f.1 ≡ value = cc in
+    omega (arith, ap weight same)
+under-weighs false f fs rest value later e = omega (arith, later e)
+
+-- a value under a name weighs no more than the fields
+pub value_weighs_less : (name : List ℕ) (fs : List Field) (value : Tree) → value_under name fs ≡ Some value → weight value ≤ fields_weight (fields_of fs)
+value_weighs_less name [] value e = absurd cc
+value_weighs_less name (f ∷ fs) value e = under-weighs (bytes_eq name f.0) f fs (value_under name fs) value (value_weighs_less name fs value) e
+
+pub no_document : (v : Value) → ((d : _) → v ≡ Value.Doc d → ⊥) → IsDocument (tree v) → ⊥
+no_document (Value.Doc d) none h = none d refl
+no_document v none h = h
+
+pub a_document : (v : Value) (d : List Field) → v ≡ Value.Doc d → IsDocument (tree v)
+a_document v d e = rw e tt
+
+pub document_tree : (v : Value) (d : List Field) → v ≡ Value.Doc d → document (fields_of d) ≡ tree v
+document_tree v d e = ap tree (sym e)

@@ -1,0 +1,10 @@
+pub mod Asked
+pub mod Bits
+pub mod Folds
+pub mod Items
+pub mod Stands
+pub mod Parsing
+pub mod Reach
+pub mod WalkedArrays
+pub mod Walks
+pub mod Clear

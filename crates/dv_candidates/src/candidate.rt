@@ -1,0 +1,12 @@
+//! Candidates: where a path leads.
+
+use dv_value::Value;
+
+/// Where a path leads in a document.
+#[derive(Clone, Copy, Debug)]
+pub enum Candidate<'a> {
+    /// To a value.
+    Found(&'a Value),
+    /// To a place where nothing is.
+    Missing,
+}

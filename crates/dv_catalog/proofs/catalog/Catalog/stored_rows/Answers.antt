@@ -1,0 +1,12 @@
+use Rattle.std.proofs.Common.{◌∙◌, refl}
+use Rattle.dv_views.specs.Views.{view_under}
+use Rattle.dv_catalog.proofs.StatsTold.{stored_are}
+use Rattle.dv_catalog.proofs.catalog.Catalog.stored_rows.Goals as goal
+
+pub returns : goal.returns
+returns c =
+    let name = c.args.namespace.now in
+    let collections = c.self.inside.collections in
+    let vs = c.self.inside.views in
+    rw (← c.self.view_is)
+    (c.rows.ensures ∙ stored_are name collections vs (λ rows shown. c.shown_rows_are_right.ensures.shown collections name rows c.self.invariant.right shown) (view_under name vs) refl)

@@ -1,0 +1,8 @@
+-- connections that are served at once
+pub mod Channel
+pub mod Schedule
+pub mod Outside
+pub mod View
+pub mod Host
+-- words that only bodies need
+pub mod Stands

@@ -1,0 +1,93 @@
+//! A connection that never waits.
+
+ghost use Rattle.std.specs.Prelude.{◌≡◌, ◌≤◌, take, length};
+ghost use Rattle.dv_host.specs.Channel.{Gains};
+
+/// A connection, or what connections come from, failed.
+#[derive(Clone, Copy, Debug, PartialEq, Eq)]
+pub struct Failed;
+
+/// What a try to take bytes comes to.
+#[derive(Clone, Copy, Debug, PartialEq, Eq)]
+pub enum Taken {
+    /// So many came.
+    Bytes(usize),
+    /// No more will come.
+    End,
+    /// None is there now.
+    Later,
+}
+
+/// A connection that never waits.
+pub trait Channel {
+    ghost use Rattle.std.specs.Prelude.{◌≡◌, ◌≤◌, ◌<◌, ℕ, List, Option, length, take, IfOk, OnErr};
+    ghost use Rattle.std.specs.Io.KnownBytes.{Keeps};
+    ghost use Rattle.dv_host.specs.Channel.{Gains, Takes};
+
+    // The bytes that are still to come, where they are known.
+    ghost remaining: { Self → Option (List ℕ) };
+
+    // The bytes that it was given and has taken, where they are known. Whether they are known never changes.
+    ghost contents: { Self → Option (List ℕ) };
+
+    // Its number, which never changes.
+    ghost number: { Self → ℕ };
+
+    /// The number under which it is told to be ready.
+    fn number(&self) -> u64
+        ensures { result ≡ number self.now };
+
+    /// Puts the next bytes at the front of the piece. Fails where it can't tell; then no byte is lost.
+    fn take(&mut self, piece: &mut [u8]) -> Result<Taken, Failed>
+        requires { 0 < length piece.old }
+        ensures taken { IfOk result (λ taken. Takes taken (remaining self.old) (remaining self.new) piece.new) }
+        ensures kept { OnErr result (Keeps (remaining self.old) (remaining self.new)) }
+        ensures contents { contents self.new ≡ contents self.old }
+        ensures number { number self.new ≡ number self.old };
+
+    /// Takes some of the bytes, from the front, and answers how many: 0 where it takes none now.
+    fn give(&mut self, bytes: &[u8]) -> Result<usize, Failed>
+        requires { 0 < length bytes.now }
+        ensures few { IfOk result (λ count. count ≤ length bytes.now) }
+        ensures taken { IfOk result (λ count. Gains (contents self.old) (contents self.new) (take count bytes.now)) }
+        ensures kept { OnErr result (contents self.new ≡ contents self.old) }
+        ensures remaining { remaining self.new ≡ remaining self.old }
+        ensures number { number self.new ≡ number self.old };
+}
+
+/// How many bytes were given, and whether the connection then failed.
+#[derive(Clone, Copy)]
+pub(crate) struct Given {
+    pub(crate) count: usize,
+    pub(crate) failed: bool,
+}
+
+/// Gives the bytes in order, until all are taken or none is.
+pub(crate) fn give_on<C: Channel>(channel: &mut C, bytes: &[u8]) -> Given
+    ensures few { result.count ≤ length bytes.now }
+    ensures taken { Gains (C.contents channel.old) (C.contents channel.new) (take result.count bytes.now) }
+    ensures remaining { C.remaining channel.new ≡ C.remaining channel.old }
+{
+    let mut count = 0;
+    'gives: while count < bytes.len() {
+        match channel.give(&bytes[count..]) {
+            Ok(0) => {
+                return Given {
+                    count,
+                    failed: false,
+                };
+            }
+            Ok(more) => count += more,
+            Err(_) => {
+                return Given {
+                    count,
+                    failed: true,
+                };
+            }
+        }
+    }
+    Given {
+        count,
+        failed: false,
+    }
+}

@@ -1,0 +1,267 @@
+//! Many connections at once, in turns.
+
+ghost use Rattle.std.specs.Prelude.{◌≡◌, ◌≤◌, ◌<◌, ◌+◌, ◌↔◌, [], ℕ, length, sum_by, vec_len, IfOk, IfSome, IsTrue, slice_get, Some, OnOk, if◌then◌else◌};
+ghost use Rattle.dv_host.specs.Schedule.{HappensBy};
+ghost use Rattle.dv_host.specs.View.{seen_by};
+ghost use Rattle.dv_host.specs.Host.{Settles, SettlesIn};
+ghost use Rattle.dv_host.specs.Stands.{Stands};
+
+use crate::channel::Channel;
+use crate::link::{Fate, Link, Told};
+use crate::outside::Outside;
+use crate::sessions::Sessions;
+use crate::turn::SHARE;
+use std::alloc::{AllocError, Global};
+
+/// How many connections are open at most. Further ones wait.
+const LIMIT: usize = 1000;
+
+/// The most bytes that are taken of one connection at once.
+const PIECE: usize = 65_536;
+
+/// How many bytes of unfinished messages are kept in all, before no connection may have more than its share.
+const BUDGET: usize = 268_435_456;
+
+/// Why serving ends before all is served.
+#[derive(Clone, Copy, Debug, PartialEq, Eq)]
+pub enum HostFault {
+    /// It can't be told what is ready.
+    Wait,
+    /// Memory is wanting to begin.
+    NoMemory,
+    /// There were as many turns as may be.
+    Turns,
+}
+
+// Accepts a connection, where there is room and one waits, and opens its session. Answers whether one was accepted.
+fn greet<O: Outside, S: Sessions>(
+    alloc: Global,
+    sessions: &mut S,
+    outside: &mut O,
+    links: &mut Vec<Link<O::Channel>>,
+) -> bool
+    ensures { (first : _) (start : _) (count : _) → Stands (HappensBy S.opens S.feeds S.ends) S.next O.coming O.closed O.Channel.remaining O.Channel.contents first start count outside.old sessions.old links.old.items
+        → Stands (HappensBy S.opens S.feeds S.ends) S.next O.coming O.closed O.Channel.remaining O.Channel.contents first start (if result then count + 1 else count) outside.new sessions.new links.new.items }
+{
+    if links.len() >= LIMIT {
+        return false;
+    }
+    if links.reserve(1).is_err() {
+        return false;
+    }
+    let Ok(Some(channel)) = outside.accept() else {
+        return false;
+    };
+    match sessions.open() {
+        Some(session) => links.push_reserved(Link::new(alloc, channel.number(), session, channel)),
+        None => outside.close(channel, Fate::Failed),
+    }
+    true
+}
+
+// Accepts connections while there is room and some wait, at most so many, and answers how many.
+fn greet_all<O: Outside, S: Sessions>(
+    alloc: Global,
+    sessions: &mut S,
+    outside: &mut O,
+    links: &mut Vec<Link<O::Channel>>,
+    most: u64,
+) -> u64
+    ensures stands { (first : _) (start : _) (count : _) → Stands (HappensBy S.opens S.feeds S.ends) S.next O.coming O.closed O.Channel.remaining O.Channel.contents first start count outside.old sessions.old links.old.items
+        → Stands (HappensBy S.opens S.feeds S.ends) S.next O.coming O.closed O.Channel.remaining O.Channel.contents first start (count + result) outside.new sessions.new links.new.items }
+    ensures few { result ≤ most }
+{
+    let mut count = 0;
+    'greets: while count < most {
+        if !greet(alloc, sessions, outside, links) {
+            return count;
+        }
+        count += 1;
+    }
+    count
+}
+
+// The place of the connection with the number.
+fn place_of<C>(links: &[Link<C>], number: u64) -> Option<usize>
+    ensures { IfSome result (λ place. place < length links.now) }
+{
+    links.binary_search_by_key(&number, |link| link.number).ok()
+}
+
+// Whether all sessions together keep more of unfinished messages than may be.
+fn is_full<C>(links: &[Link<C>]) -> bool
+    ensures { IsTrue result ↔ (268435456 < sum_by (λ link. link.unfinished) links.now) }
+{
+    let mut kept: usize = 0;
+    'links: for link in links {
+        kept = kept.saturating_add(link.unfinished);
+    }
+    kept > BUDGET
+}
+
+// A turn of the connection at a place.
+fn turn_at<O: Outside, S: Sessions>(
+    sessions: &mut S,
+    outside: &O,
+    links: &mut Vec<Link<O::Channel>>,
+    place: usize,
+    piece: &mut [u8],
+) -> Told
+    requires there { place < vec_len links.old }
+    requires room { length piece.old ≡ 65536 }
+    ensures stands { (first : _) (start : _) (count : _) → Stands (HappensBy S.opens S.feeds S.ends) S.next O.coming O.closed O.Channel.remaining O.Channel.contents first start count outside.now sessions.old links.old.items
+        → Stands (HappensBy S.opens S.feeds S.ends) S.next O.coming O.closed O.Channel.remaining O.Channel.contents first start count outside.now sessions.new links.new.items }
+    ensures settles { (link : _) → slice_get links.new.items place ≡ Some link → SettlesIn result (seen_by O.Channel.remaining O.Channel.contents link) }
+    ensures len { vec_len links.new ≡ vec_len links.old }
+{
+    // Only where one keeps much the others are looked at.
+    let full = links[place].unfinished > SHARE && is_full(links);
+    links[place].turn(sessions, piece, full)
+}
+
+// Ends the session of the connection at a place, and closes it.
+fn finish<O: Outside, S: Sessions>(
+    sessions: &mut S,
+    outside: &mut O,
+    links: &mut Vec<Link<O::Channel>>,
+    place: usize,
+    fate: Fate,
+)
+    requires there { place < vec_len links.old }
+    requires settles { (link : _) → slice_get links.old.items place ≡ Some link → Settles fate (seen_by O.Channel.remaining O.Channel.contents link) }
+    ensures stands { (first : _) (start : _) (count : _) → Stands (HappensBy S.opens S.feeds S.ends) S.next O.coming O.closed O.Channel.remaining O.Channel.contents first start count outside.old sessions.old links.old.items
+        → Stands (HappensBy S.opens S.feeds S.ends) S.next O.coming O.closed O.Channel.remaining O.Channel.contents first start count outside.new sessions.new links.new.items }
+    ensures len { vec_len links.new + 1 ≡ vec_len links.old }
+{
+    let link = links.remove(place);
+    sessions.end(link.session);
+    outside.close(link.channel, fate);
+}
+
+// A turn of the connection with the number, where there is one; where it is over, it is closed.
+fn serve_one<O: Outside, S: Sessions>(
+    sessions: &mut S,
+    outside: &mut O,
+    links: &mut Vec<Link<O::Channel>>,
+    piece: &mut [u8],
+    number: u64,
+)
+    requires room { length piece.old ≡ 65536 }
+    ensures { (first : _) (start : _) (count : _) → Stands (HappensBy S.opens S.feeds S.ends) S.next O.coming O.closed O.Channel.remaining O.Channel.contents first start count outside.old sessions.old links.old.items
+        → Stands (HappensBy S.opens S.feeds S.ends) S.next O.coming O.closed O.Channel.remaining O.Channel.contents first start count outside.new sessions.new links.new.items }
+{
+    let Some(place) = place_of(links, number) else {
+        return;
+    };
+    match turn_at(sessions, outside, links, place, piece) {
+        Told::Waits => (),
+        Told::Again => outside.again(number),
+        Told::Over(fate) => finish(sessions, outside, links, place, fate),
+    }
+}
+
+// A turn of each of those that may be ready.
+fn serve_ready<O: Outside, S: Sessions>(
+    sessions: &mut S,
+    outside: &mut O,
+    links: &mut Vec<Link<O::Channel>>,
+    piece: &mut [u8],
+    ready: usize,
+)
+    requires room { length piece.old ≡ 65536 }
+    ensures { (first : _) (start : _) (count : _) → Stands (HappensBy S.opens S.feeds S.ends) S.next O.coming O.closed O.Channel.remaining O.Channel.contents first start count outside.old sessions.old links.old.items
+        → Stands (HappensBy S.opens S.feeds S.ends) S.next O.coming O.closed O.Channel.remaining O.Channel.contents first start count outside.new sessions.new links.new.items }
+{
+    'ready: for place in 0..ready {
+        let number = outside.ready(place);
+        serve_one(sessions, outside, links, piece, number);
+    }
+}
+
+// Ends all sessions, and closes all connections.
+fn finish_all<O: Outside, S: Sessions>(
+    sessions: &mut S,
+    outside: &mut O,
+    links: &mut Vec<Link<O::Channel>>,
+)
+    ensures stands { (first : _) (start : _) (count : _) → Stands (HappensBy S.opens S.feeds S.ends) S.next O.coming O.closed O.Channel.remaining O.Channel.contents first start count outside.old sessions.old links.old.items
+        → Stands (HappensBy S.opens S.feeds S.ends) S.next O.coming O.closed O.Channel.remaining O.Channel.contents first start count outside.new sessions.new links.new.items }
+    ensures none { links.new.items ≡ [] }
+{
+    'links: while !links.is_empty() {
+        let last = links.len() - 1;
+        finish(sessions, outside, links, last, Fate::Failed);
+    }
+}
+
+// Turns, until so many connections were accepted and closed.
+fn rounds<O: Outside, S: Sessions>(
+    alloc: Global,
+    sessions: &mut S,
+    outside: &mut O,
+    links: &mut Vec<Link<O::Channel>>,
+    piece: &mut [u8],
+    connections: u64,
+    turns: u64,
+) -> Result<(), HostFault>
+    requires room { length piece.old ≡ 65536 }
+    ensures { (first : _) (start : _) (count : _) → Stands (HappensBy S.opens S.feeds S.ends) S.next O.coming O.closed O.Channel.remaining O.Channel.contents first start count outside.old sessions.old links.old.items
+        → (more : _) × OnOk result (more ≡ connections) × Stands (HappensBy S.opens S.feeds S.ends) S.next O.coming O.closed O.Channel.remaining O.Channel.contents first start (count + more) outside.new sessions.new links.new.items }
+{
+    let mut left = connections;
+    'turns: for _ in 0..turns {
+        left -= greet_all(alloc, sessions, outside, links, left);
+        if left == 0 && links.is_empty() {
+            return Ok(());
+        }
+        let Ok(ready) = outside.wait() else {
+            return Err(HostFault::Wait);
+        };
+        serve_ready(sessions, outside, links, piece, ready);
+    }
+    Err(HostFault::Turns)
+}
+
+// Room for so many bytes. Apart, and of any size, so that no proof spells all of them out.
+fn room(alloc: Global, size: usize) -> Result<Vec<u8>, AllocError>
+    ensures { IfOk result (λ piece. length piece.items ≡ size) }
+{
+    vec![in alloc; 0u8; size]
+}
+
+/// Serves so many connections, many of them at once, each by a session of its own from its first byte to its last; `Ok` where all
+/// came and went. What happens to the sessions is a schedule of their pieces. It takes at most `turns` turns.
+///
+/// At most 1,000 connections are open; further ones wait. In a turn at most 65,536 bytes of one connection are taken, once it has
+/// taken all answers and all its bytes are fed. They are fed message by message while fewer than 65,536 bytes of answers are unsent;
+/// the others stay for its next turn. So a connection holds one reply, one unfinished message and a constant. Where all sessions
+/// together keep more than 268,435,456 bytes of unfinished messages, a connection that has more than 262,144 of them is closed as
+/// `Full` in place of its next piece; so is one where memory is wanting for a piece.
+///
+/// Fails with `NoMemory` where memory is wanting to begin, with `Wait` where it can't be told what is ready, and with `Turns` behind so many turns. Then
+/// the connections that were open are closed too, as `Failed`, and their sessions ended.
+pub fn host<O: Outside, S: Sessions>(
+    alloc: Global,
+    sessions: &mut S,
+    outside: &mut O,
+    connections: u64,
+    turns: u64,
+) -> Result<(), HostFault>
+    ensures { (count : _) × OnOk result (count ≡ connections) × Stands (HappensBy S.opens S.feeds S.ends) S.next O.coming O.closed O.Channel.remaining O.Channel.contents outside.old sessions.old count outside.new sessions.new [] }
+{
+    let Ok(mut piece) = room(alloc, PIECE) else {
+        return Err(HostFault::NoMemory);
+    };
+    let mut links = Vec::new(alloc);
+    let told = rounds(
+        alloc,
+        sessions,
+        outside,
+        &mut links,
+        &mut piece,
+        connections,
+        turns,
+    );
+    finish_all(sessions, outside, &mut links);
+    told
+}

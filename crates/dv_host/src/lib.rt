@@ -1,0 +1,16 @@
+//! Many connections at once, each a session of its own: on one thread, in turns, by what is ready. Whose sessions these are, and
+//! where the connections come from, is left open.
+#![tactic(auto)]
+
+mod channel;
+mod hosting;
+mod link;
+mod outside;
+mod sessions;
+mod turn;
+
+pub use channel::{Channel, Failed, Taken};
+pub use hosting::{HostFault, host};
+pub use link::Fate;
+pub use outside::Outside;
+pub use sessions::{Fed, Sessions};

@@ -1,0 +1,246 @@
+//! What a connection does in its turns.
+
+ghost use Rattle.std.specs.Prelude.{◌≡◌, ◌≤◌, ◌<◌, ◌+◌, ◌++◌, [], None, true, length, vec_capacity, vec_len, IfErr};
+ghost use Rattle.dv_host.specs.Schedule.{PlaysBy, HappensBy, closed_by};
+ghost use Rattle.dv_host.specs.View.{pending_of, seen_by, unsent_of};
+ghost use Rattle.dv_host.specs.Host.{Fills, Gives, Moves, SettlesIn};
+
+use crate::channel::{Channel, Taken, give_on};
+use crate::link::{Fate, Link, Told};
+use crate::sessions::{Fed, Sessions};
+use std::alloc::Global;
+
+/// So many bytes of answers are enough to be given before more is fed.
+const ENOUGH: usize = 65_536;
+
+/// The most room that is kept for answers to come.
+const ROOM_KEPT: usize = 4_096;
+
+/// How much of an unfinished message each connection may have kept, whatever the others keep.
+pub(crate) const SHARE: usize = 262_144;
+
+impl<C: Channel> Link<C> {
+    /// A connection whose session was just opened.
+    pub(crate) fn new(alloc: Global, number: u64, session: u32, channel: C) -> Self
+        ensures { seen_by C.remaining C.contents result ≡ record { session = session; left = C.remaining channel; taken = C.contents channel; unsent = []; pending = []; closing = None } }
+    {
+        Link {
+            number,
+            session,
+            channel,
+            out: Vec::new(alloc),
+            sent: 0,
+            rest: Vec::new(alloc),
+            heard: 0,
+            closing: None,
+            unfinished: 0,
+            full: false,
+        }
+    }
+
+    /// One turn: gives what is unsent. Where nothing is left of that it goes on with the bytes that it has, or takes a piece
+    /// where it has none, feeds them to the session message by message until enough is to be given, and gives. Where `full`, it
+    /// takes no more of a message of which the session keeps more than its share.
+    pub(crate) fn turn<S: Sessions>(
+        &mut self,
+        sessions: &mut S,
+        piece: &mut [u8],
+        full: bool,
+    ) -> Told
+        requires { length piece.old ≡ 65536 }
+        ensures moves { Moves (PlaysBy (HappensBy S.opens S.feeds S.ends)) sessions.old sessions.new (seen_by C.remaining C.contents self.old) (seen_by C.remaining C.contents self.new) }
+        ensures settles { SettlesIn result (seen_by C.remaining C.contents self.new) }
+        ensures next { S.next sessions.new ≡ S.next sessions.old }
+    {
+        let told = self.settle(Told::Again);
+        if told != Told::Again {
+            return told;
+        }
+        match self.fill(piece, full) {
+            Err(told) => told,
+            Ok(more) => {
+                self.hear(sessions);
+                let told = self.told_next(more);
+                self.settle(told)
+            }
+        }
+    }
+
+    // Gives what is unsent, and tells how the connection then stands: `more` where all is given and its session isn't closed.
+    fn settle(&mut self, more: Told) -> Told
+        requires { (fate : _) → more ≡ Told.Over fate → ⊥ }
+        ensures gives { Gives (seen_by C.remaining C.contents self.old) (seen_by C.remaining C.contents self.new) }
+        ensures settles { SettlesIn result (seen_by C.remaining C.contents self.new) }
+        ensures given { result ≡ Told.Again → unsent_of self.new ≡ [] }
+    {
+        if self.flush() {
+            return Told::Over(Fate::Failed);
+        }
+        if !self.is_given() {
+            return Told::Waits;
+        }
+        self.drop_given();
+        match self.closing {
+            Some(fault) => Told::Over(Fate::Closed(fault)),
+            None => more,
+        }
+    }
+
+    // Gives what is unsent, until all or none is taken, and answers whether the connection failed.
+    fn flush(&mut self) -> bool
+        ensures { Gives (seen_by C.remaining C.contents self.old) (seen_by C.remaining C.contents self.new) }
+    {
+        let given = give_on(&mut self.channel, &self.out[self.sent..]);
+        self.sent += given.count;
+        given.failed
+    }
+
+    // Whether all answers were taken.
+    fn is_given(&self) -> bool
+        ensures { result ≡ true → unsent_of self.now ≡ [] }
+    {
+        self.sent == self.out.len()
+    }
+
+    // Whether all bytes that came were fed.
+    fn is_heard(&self) -> bool
+        ensures { result ≡ true → pending_of self.now ≡ [] }
+    {
+        self.heard == self.rest.len()
+    }
+
+    // Takes a piece where all is fed. Answers whether more may be there; or how the connection stands where nothing came.
+    fn fill(&mut self, piece: &mut [u8], full: bool) -> Result<bool, Told>
+        requires room { length piece.old ≡ 65536 }
+        requires given { unsent_of self.old ≡ [] }
+        ensures fills { Fills (seen_by C.remaining C.contents self.old) (seen_by C.remaining C.contents self.new) }
+        ensures settles { IfErr result (λ told. SettlesIn told (seen_by C.remaining C.contents self.new)) }
+    {
+        if !self.drop_heard() {
+            return Ok(true);
+        }
+        if full && self.unfinished > SHARE {
+            return Err(Told::Over(Fate::Full));
+        }
+        if !self.make_room(piece.len()) {
+            return Err(Told::Over(Fate::Full));
+        }
+        match self.channel.take(piece) {
+            Err(_) => Err(Told::Over(Fate::Failed)),
+            Ok(Taken::End) => Err(Told::Over(Fate::Ended)),
+            Ok(Taken::Later) => {
+                self.drop_heard();
+                Err(Told::Waits)
+            }
+            Ok(Taken::Bytes(count)) => {
+                self.keep(&piece[..count]);
+                let more = self.full;
+                self.full = count == piece.len();
+                Ok(more || self.full)
+            }
+        }
+    }
+
+    // Makes room for so many bytes to come, and answers whether there is such.
+    fn make_room(&mut self, size: usize) -> bool
+        ensures same { seen_by C.remaining C.contents self.new ≡ seen_by C.remaining C.contents self.old }
+        ensures len { vec_len self.new.rest ≡ vec_len self.old.rest }
+        ensures room { result ≡ true → vec_len self.new.rest + size ≤ vec_capacity self.new.rest }
+    {
+        self.rest.reserve(size).is_ok()
+    }
+
+    // Puts bytes behind those that came.
+    fn keep(&mut self, bytes: &[u8])
+        requires room { vec_len self.old.rest + length bytes.now ≤ vec_capacity self.old.rest }
+        requires few { vec_len self.old.rest + length bytes.now ≤ 65536 }
+        ensures { seen_by C.remaining C.contents self.new ≡ record (seen_by C.remaining C.contents self.old) { pending = pending_of self.old ++ bytes.now } }
+    {
+        // There is room for them.
+        let _ = self.rest.extend_from_slice(bytes);
+    }
+
+    // Drops the answers, which were all given.
+    fn drop_given(&mut self)
+        requires { unsent_of self.old ≡ [] }
+        ensures { seen_by C.remaining C.contents self.new ≡ seen_by C.remaining C.contents self.old }
+    {
+        self.sent = 0;
+        self.out.clear();
+        self.out.shrink_to(ROOM_KEPT);
+    }
+
+    // Drops the bytes that were fed, and their room, where all were. Answers whether that was so.
+    fn drop_heard(&mut self) -> bool
+        ensures same { seen_by C.remaining C.contents self.new ≡ seen_by C.remaining C.contents self.old }
+        ensures heard { result ≡ true → vec_len self.new.rest ≡ 0 }
+    {
+        if !self.is_heard() {
+            return false;
+        }
+        self.heard = 0;
+        self.rest.clear();
+        self.rest.shrink_to(0);
+        true
+    }
+
+    // Feeds the bytes that came, message by message, until all are fed, the session is closed, or enough is to be given.
+    fn hear<S: Sessions>(&mut self, sessions: &mut S)
+        requires given { unsent_of self.old ≡ [] }
+        ensures moves { Moves (PlaysBy (HappensBy S.opens S.feeds S.ends)) sessions.old sessions.new (seen_by C.remaining C.contents self.old) (seen_by C.remaining C.contents self.new) }
+        ensures next { S.next sessions.new ≡ S.next sessions.old }
+    {
+        self.drop_given();
+        'messages: while self.has_more() {
+            self.hear_front(sessions);
+        }
+        self.drop_heard();
+        self.unfinished = sessions.unfinished(self.session);
+    }
+
+    // Whether some bytes are to be fed now.
+    fn has_more(&self) -> bool
+        ensures some { result ≡ true → 0 < length (pending_of self.now) }
+        ensures few { result ≡ true → length (unsent_of self.now) < 65536 }
+    {
+        self.closing.is_none()
+            && self.heard < self.rest.len()
+            && self.out.len() - self.sent < ENOUGH
+    }
+
+    // Feeds the bytes up to the end of the next message.
+    fn hear_front<S: Sessions>(&mut self, sessions: &mut S)
+        requires some { 0 < length (pending_of self.old) }
+        requires few { length (unsent_of self.old) < 65536 }
+        ensures moves { Moves (PlaysBy (HappensBy S.opens S.feeds S.ends)) sessions.old sessions.new (seen_by C.remaining C.contents self.old) (seen_by C.remaining C.contents self.new) }
+        ensures next { S.next sessions.new ≡ S.next sessions.old }
+        ensures less { length (pending_of self.new) < length (pending_of self.old) }
+    {
+        let rest = &self.rest[self.heard..];
+        let count = sessions.whole_front(self.session, rest);
+        let fed = sessions.feed(self.session, &rest[..count], &mut self.out);
+        self.heard += count;
+        self.closing = closing_by(fed, self.closing);
+    }
+
+    // What is told where all is given, of a connection that may have more bytes or none.
+    fn told_next(&self, more: bool) -> Told
+        ensures { (fate : _) → result ≡ Told.Over fate → ⊥ }
+    {
+        if more || !self.is_heard() {
+            Told::Again
+        } else {
+            Told::Waits
+        }
+    }
+}
+
+// The fault that closed a session, behind a piece of which this is told.
+fn closing_by(fed: Fed, before: Option<u8>) -> Option<u8>
+    ensures { result ≡ closed_by fed before }
+{
+    match fed {
+        Fed::Closed(fault) => Some(fault),
+        Fed::Open | Fed::Unknown => before,
+    }
+}

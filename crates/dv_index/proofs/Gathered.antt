@@ -1,0 +1,98 @@
+-- Documents whose `_id`s are gathered by their keys: among them are all that match a filter.
+use Rattle.std.proofs.Common.{◌≡◌, ◌∙◌, ◌↔◌, ℕ, List, [], ◌∷◌, map, refl, ap, sym, Bool, true, false, cond, ◌||◌, Some, filter, slice_get}
+use Rattle.std.specs.List.{AllByRecursion, flat_map, list_any}
+use Rattle.std.specs.Prelude.{codes}
+use Rattle.std.specs.Option.{option_map}
+use Rattle.std.specs.Str.{bytes_eq}
+use Rattle.std.specs.Ordering.{is_eq}
+use Rattle.std.proofs.lemmas.Slice.Eq.{bytes_eq-Decides}
+use Rattle.dv_value.specs.Names.{value_under}
+use Rattle.dv_value.specs.Tree.{Tree, Field, array, fields_of, list_of_fields}
+use Rattle.dv_order.specs.Order.{canon}
+use Rattle.dv_order.specs.Key.{KeyTree, value, key_order}
+use Rattle.dv_candidates.specs.Candidates.{Candidate, candidates, leaves, or_null, whole, with_elements}
+use Rattle.dv_path.specs.LeafKeys.{is_leaf_key}
+use Rattle.dv_match.specs.Filter.{Condition, Members}
+use Rattle.dv_match.specs.Match.{matches}
+use Rattle.dv_coll.specs.Collection.{HasId, IsAscending, IsNoArray, found, id_key}
+use Rattle.dv_keyed.specs.Choice.{chosen}
+use Rattle.dv_keyed.specs.Index.{IndexTree}
+use Rattle.dv_keyed.specs.Interval.{is_in_all}
+use Rattle.dv_keyed.specs.Pairs.{IsOnlyKey, has_pair}
+use Rattle.dv_keyed.specs.Within.{covers, has_within, is_within}
+use Rattle.dv_index.specs.Search.{IsIndexOf, is_key_under}
+use Rattle.dv_index.proofs.Lists.{or-false}
+use Rattle.dv_index.proofs.Picked.{all-found}
+use Rattle.dv_index.proofs.Places.{path-at, some-same}
+
+-- ---- what dv_keyed's laws say
+abbrev pub MatchesAreWithin : Type 0
+MatchesAreWithin = (filter : Members) (paths : List (List (List ℕ))) (place : ℕ) (bounds : Condition) → chosen filter paths ≡ Some (place, bounds) → (path : List (List ℕ)) × (slice_get paths place ≡ Some path) × ((d : List Field) → matches filter d ≡ true → has_within bounds path d ≡ true)
+
+abbrev pub OnlyKeysAreWithin : Type 0
+OnlyKeysAreWithin = (filter : Members) (path : List (List ℕ)) (d : List Field) (v : Tree) → ((l : KeyTree) → is_leaf_key l path d ≡ true → is_eq (key_order l (value (canon v))) ≡ true) → matches filter d ≡ true → is_in_all (value (canon v)) path filter ≡ true
+
+abbrev pub LeavesHaveKeys : Type 0
+LeavesHaveKeys = (bounds : Condition) (path : List (List ℕ)) (d : List Field) → (has_within bounds path d ≡ true) ↔ ((v : Tree) × (covers bounds (value (canon v)) ≡ true) × (is_leaf_key (value (canon v)) path d ≡ true))
+
+abbrev pub KeysAreWithin : Type 0
+KeysAreWithin = (bounds : Condition) (c : Candidate) → covers bounds (value (canon (or_null c))) ≡ is_within bounds c
+
+pub chosen-within : MatchesAreWithin → (ms : Members) (xs : List IndexTree) (place : ℕ) (c : Condition) (x : IndexTree) (d : List Field) → chosen ms (map (λ (i : IndexTree). i.path) xs) ≡ Some (place, c) → slice_get xs place ≡ Some x → matches ms d ≡ true → has_within c x.path d ≡ true
+chosen-within law ms xs place c x d e there h =
+    let plan = law ms (map (λ (i : IndexTree). i.path) xs) place c e in
+    let same : plan.0 ≡ x.path = some-same plan.0 x.path (sym plan.1 ∙ path-at xs place ∙ ap (option_map (λ (i : IndexTree). i.path)) there) in
+    ap (λ p. has_within c p d) (sym same) ∙ plan.2 d h
+
+-- ---- documents whose `_id`s are gathered
+pub narrowed : (among-ids : KeyTree → Bool) (test : List Field → Bool) (P : List Field → Type 0) → ((d : List Field) → P d → test d ≡ true → among-ids (id_key d) ≡ true) → (ds : List (List Field)) → AllByRecursion P ds → filter test (filter (λ d. among-ids (id_key d)) ds) ≡ filter test ds
+narrowed among-ids test P h [] all = refl
+narrowed among-ids test P h (d ∷ ds) all = at (among-ids (id_key d)) (test d) refl refl (narrowed among-ids test P h ds all.1)
+  where
+    at : (a b : Bool) → among-ids (id_key d) ≡ a → test d ≡ b → filter test (filter (λ d. among-ids (id_key d)) ds) ≡ filter test ds → filter test (cond a (d ∷ filter (λ d. among-ids (id_key d)) ds) (filter (λ d. among-ids (id_key d)) ds)) ≡ cond b (d ∷ filter test ds) (filter test ds)
+    at true true e f rest = ap (λ x. cond x (d ∷ filter test (filter (λ d. among-ids (id_key d)) ds)) (filter test (filter (λ d. among-ids (id_key d)) ds))) f ∙ ap (λ xs. d ∷ xs) rest
+    at true false e f rest = ap (λ x. cond x (d ∷ filter test (filter (λ d. among-ids (id_key d)) ds)) (filter test (filter (λ d. among-ids (id_key d)) ds))) f ∙ rest
+    at false true e f rest = absurd (let there = h d all.0 f in cc)
+    at false false e f rest = rest
+
+-- ---- the path `_id`
+no-elements : (v : Tree) → IsNoArray v → flat_map with_elements (Some v ∷ []) ≡ Some v ∷ []
+no-elements (array vs) h = absurd h
+no-elements v h = refl
+
+leaves-id : (f : Field) (fs : List Field) → HasId (f ∷ fs) → leaves (f ∷ fs) (codes "_id" ∷ []) ≡ Some f.1 ∷ []
+unfolding leaves whole
+leaves-id f fs h =
+    ap (λ b. flat_map with_elements (flat_map (candidates []) (cond b (Some f.1) (value_under (codes "_id") (list_of_fields (fields_of fs))) ∷ []))) ((bytes_eq-Decides (codes "_id") f.0).1 (sym h.0)) ∙ no-elements f.1 h.1
+
+-- ---- the keys of `_id`s that stand beside keys in the bounds are those of all documents that have a leaf there
+module _ (law : LeavesHaveKeys) (index : IndexTree) (c : Condition) (among-ids : KeyTree → Bool) (gathered : (k i : KeyTree) → covers c k ≡ true → has_pair k i index.pairs ≡ true → among-ids i ≡ true) where
+  id-gathered : (ds : List (List Field)) → IsIndexOf index ds → (d : List Field) → found (id_key d) ds ≡ Some d → has_within c index.path d ≡ true → among-ids (id_key d) ≡ true
+  id-gathered ds holds d there e =
+      let v = (law c index.path d).0 e in
+      let k = value (canon v.0) in
+      gathered k (id_key d) v.1 (holds.has k (id_key d) ∙ ap (is_key_under k index.path) there ∙ v.2)
+
+  pub gathered-all : (test : List Field → Bool) (ds : List (List Field)) → IsIndexOf index ds → IsAscending ds → ((d : List Field) → test d ≡ true → has_within c index.path d ≡ true) → filter test (filter (λ d. among-ids (id_key d)) ds) ≡ filter test ds
+  gathered-all test ds holds ascending within =
+      narrowed among-ids test (λ d. found (id_key d) ds ≡ Some d) (λ d there e. id-gathered ds holds d there (within d e)) ds (all-found ds ascending)
+
+-- ---- the index on `_id` has the `_id`s alone
+id-covered : KeysAreWithin → (c : Condition) (d : List Field) → HasId d → has_within c (codes "_id" ∷ []) d ≡ true → covers c (id_key d) ≡ true
+unfolding has_within
+id-covered law c [] h e = absurd h
+id-covered law c (f ∷ fs) h e = law c (Some f.1) ∙ sym (ap (list_any (is_within c)) (leaves-id f fs h) ∙ or-false (is_within c (Some f.1))) ∙ e
+
+pub gathered-ids : KeysAreWithin → (c : Condition) (among-ids : KeyTree → Bool) → ((k : KeyTree) → covers c k ≡ true → among-ids k ≡ true) → (test : List Field → Bool) (ds : List (List Field)) → AllByRecursion HasId ds → ((d : List Field) → test d ≡ true → has_within c (codes "_id" ∷ []) d ≡ true) → filter test (filter (λ d. among-ids (id_key d)) ds) ≡ filter test ds
+gathered-ids law c among-ids covered test ds identified within = narrowed among-ids test HasId (λ d h e. covered (id_key d) (id-covered law c d h (within d e))) ds identified
+
+-- ---- the documents whose `_id`s are gathered so, and so all that match, where these have a leaf in the plan's bounds
+pub tried-all : LeavesHaveKeys → OnlyKeysAreWithin → (index : IndexTree) (c : Condition) (ms : Members) (among-ids : KeyTree → Bool) → ((k i : KeyTree) → covers c k ≡ true → has_pair k i index.pairs ≡ true → (IsOnlyKey k i index.pairs → is_in_all k index.path ms ≡ true) → among-ids i ≡ true) → (ds : List (List Field)) → IsIndexOf index ds → IsAscending ds
+    → ((d : List Field) → matches ms d ≡ true → has_within c index.path d ≡ true) → filter (matches ms) (filter (λ d. among-ids (id_key d)) ds) ≡ filter (matches ms) ds
+tried-all law only-law index c ms among-ids gathered ds holds ascending within = narrowed among-ids (matches ms) (λ d. found (id_key d) ds ≡ Some d) one ds (all-found ds ascending)
+  where
+    one : (d : List Field) → found (id_key d) ds ≡ Some d → matches ms d ≡ true → among-ids (id_key d) ≡ true
+    one d there e =
+        let u = (law c index.path d).0 (within d e) in
+        let held : (l : KeyTree) → is_leaf_key l index.path d ≡ true → has_pair l (id_key d) index.pairs ≡ true = λ l leaf. holds.has l (id_key d) ∙ ap (is_key_under l index.path) there ∙ leaf in
+        gathered (value (canon u.0)) (id_key d) u.1 (held (value (canon u.0)) u.2) (λ only. only-law ms index.path d u.0 (λ l leaf. only l (held l leaf)) e)

@@ -1,0 +1,16 @@
+pub mod Lists
+pub mod Ends
+pub mod Entries
+pub mod Firsts
+pub mod Several
+pub mod Noted
+pub mod Between
+pub mod Chosen
+pub mod Ordered
+pub mod Ranges
+pub mod Sound
+pub mod Only
+pub mod Bars
+pub mod Copied
+pub mod Left
+pub mod Gone

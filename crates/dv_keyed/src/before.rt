@@ -1,0 +1,84 @@
+//! What a path sorts before a bar.
+
+ghost use Rattle.std.specs.Prelude.{◌≡◌, true, map, IfOk, OnOk};
+ghost use Rattle.std.specs.BTreeMap.Range.{IsLeBy, IsLtBy, range_contains};
+ghost use Rattle.std.specs.Range.Bound.{IsForward};
+ghost use Rattle.dv_order.specs.Key.{KeyTree, key_order, no_element};
+ghost use Rattle.dv_path.specs.Parts.{part};
+ghost use Rattle.dv_path.specs.SortKey as sorting;
+ghost use Rattle.dv_keyed.specs.Ahead as defined;
+ghost use Rattle.dv_keyed.specs.Ahead.{leaf_sorted_by};
+ghost use Rattle.dv_keyed.specs.Keys.{has_key};
+ghost use Rattle.dv_keyed.specs.Pairs.{has_pair};
+
+use crate::pairs::Pairs;
+use dv_order::{Key, key_of};
+use dv_path::{Direction, SortPart, sort_key};
+use dv_value::{Document, List, NoMemory, Value};
+use std::alloc::Global;
+use std::ops::Bound;
+
+/// Whether the path sorts the document before a bar, in its direction. Fails where memory is wanting.
+pub fn is_ahead(document: &Document, by: &SortPart, bar: &Key) -> Result<bool, NoMemory>
+    ensures { IfOk result (λ ahead. ahead ≡ defined.is_ahead (part by.now) bar.now document.now) }
+{
+    let key = sort_key(document, &by.path, by.direction)?;
+    Ok(stands_first(by.direction, &key, bar))
+}
+
+/// Whether a key stands before another in a direction.
+fn stands_first(direction: Direction, key: &Key, other: &Key) -> bool
+    ensures { result ≡ sorting.stands_first direction key.now other.now }
+{
+    match direction {
+        Direction::Ascending => key < other,
+        Direction::Descending => other < key,
+    }
+}
+
+/// The `_id`s' keys of the pairs of leaves that are sorted by keys before the bar, in no order. Fails where memory is wanting.
+pub fn ids_before<'i>(
+    alloc: Global,
+    index: &'i Pairs,
+    direction: Direction,
+    bar: &Key,
+) -> Result<Vec<&'i Key>, NoMemory>
+    ensures { IfOk result (λ ids. (k i : KeyTree) → sorting.stands_first direction k bar.now ≡ true → has_pair (leaf_sorted_by k) i index.now ≡ true → has_key i (map (λ l. l.now) ids.items) ≡ true) }
+{
+    let (low, high) = ends_before(direction, bar)?;
+    let mut ids = Vec::new(alloc);
+    index.add_ids_between(low, high, &mut ids)?;
+    add_empty_before(alloc, index, direction, bar, &mut ids)?;
+    Ok(ids)
+}
+
+/// Adds the `_id`s' keys that stand under the empty array, where this is sorted before the bar: not by its own key, but by
+/// that which no value has.
+fn add_empty_before<'i>(
+    alloc: Global,
+    index: &'i Pairs,
+    direction: Direction,
+    bar: &Key,
+    ids: &mut Vec<&'i Key>,
+) -> Result<(), NoMemory>
+    ensures added { OnOk result ((i : KeyTree) → sorting.stands_first direction no_element bar.now ≡ true → has_pair (leaf_sorted_by no_element) i index.now ≡ true → has_key i (map (λ l. l.now) ids.new.items) ≡ true) }
+    ensures kept { OnOk result ((i : KeyTree) → has_key i (map (λ l. l.now) ids.old.items) ≡ true → has_key i (map (λ l. l.now) ids.new.items) ≡ true) }
+{
+    if !stands_first(direction, &Key::no_element(), bar) {
+        return Ok(());
+    }
+    let key = key_of(&Value::Array(List::new(alloc)))?;
+    index.add_ids_at(&key, ids)
+}
+
+/// The ends between which the keys stand that are before the bar in a direction. Fails where memory is wanting.
+fn ends_before(direction: Direction, bar: &Key) -> Result<(Bound<Key>, Bound<Key>), NoMemory>
+    ensures forward { IfOk result (λ ends. IsForward (IsLeBy key_order) (IsLtBy key_order) ends.0 ends.1) }
+    ensures holds { IfOk result (λ ends. (k : KeyTree) → sorting.stands_first direction k bar.now ≡ true → range_contains key_order ends.0 ends.1 k ≡ true) }
+{
+    let end = Bound::Excluded(bar.try_clone()?);
+    match direction {
+        Direction::Ascending => Ok((Bound::Unbounded, end)),
+        Direction::Descending => Ok((end, Bound::Unbounded)),
+    }
+}

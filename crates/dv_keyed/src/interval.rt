@@ -1,0 +1,182 @@
+//! Between which keys those stand that are in all bounds of a filter.
+
+ghost use Rattle.std.specs.Prelude.{◌≡◌, true, false, IfOk, IsTrue, OnOk};
+ghost use Rattle.std.specs.BTreeMap.Range.{IsLeBy, IsLtBy, is_from_start, is_past_end};
+ghost use Rattle.std.specs.Range.Bound.{IsForward};
+ghost use Rattle.dv_value.specs.View.{tree};
+ghost use Rattle.dv_match.specs.Filter.{in_range};
+ghost use Rattle.dv_match.specs.View.{condition, member};
+ghost use Rattle.dv_order.specs.Key.{KeyTree, key_order};
+ghost use Rattle.dv_keyed.specs.Interval.{is_between, is_in_all, is_in_bounds, is_in_each, is_in_filters, is_in_member};
+ghost use Rattle.dv_keyed.specs.Within.{covers};
+
+use crate::bounds::ends_within;
+use crate::plan::same_path;
+use dv_candidates::Path;
+use dv_match::{Condition, Conditions, Filter, Filters, Member, Range};
+use dv_order::Key;
+use dv_value::{NoMemory, Value};
+use std::alloc::Global;
+use std::ops::Bound;
+
+/// Two ends, between which keys stand.
+#[derive(Debug, Drop)]
+pub(crate) struct Interval {
+    pub(crate) low: Bound<Key>,
+    pub(crate) high: Bound<Key>,
+}
+
+impl Interval {
+    /// The ends between which stand all keys that are in each range that the filter's top conjunction sets under the path.
+    /// Fails where memory is wanting.
+    pub(crate) fn of(alloc: Global, path: &Path, filter: &Filter) -> Result<Self, NoMemory>
+        ensures { IfOk result (λ ends. (k : KeyTree) → is_in_all k path.now filter.now ≡ true → is_between ends k ≡ true) }
+    {
+        let mut ends = Interval {
+            low: Bound::Unbounded,
+            high: Bound::Unbounded,
+        };
+        narrow_by_filter(alloc, &mut ends, path, filter)?;
+        Ok(ends)
+    }
+
+    /// Whether the first end stands before the other one; else no key stands between them.
+    pub(crate) fn is_forward(&self) -> bool
+        ensures forward { IsTrue result → IsForward (IsLeBy key_order) (IsLtBy key_order) self.now.low self.now.high }
+        ensures empty { result ≡ false → (k : KeyTree) → is_between self.now k ≡ false }
+    {
+        match (&self.low, &self.high) {
+            (Bound::Excluded(low), Bound::Excluded(high)) => low < high,
+            (Bound::Excluded(low), Bound::Included(high)) => low <= high,
+            (Bound::Included(low), Bound::Excluded(high)) => low <= high,
+            (Bound::Included(low), Bound::Included(high)) => low <= high,
+            _ => true,
+        }
+    }
+}
+
+#[cycle(narrowing)]
+fn narrow_by_filter(
+    alloc: Global,
+    ends: &mut Interval,
+    path: &Path,
+    filter: &Filter,
+) -> Result<(), NoMemory>
+    ensures { OnOk result ((k : KeyTree) → is_between ends.old k ≡ true → is_in_all k path.now filter.now ≡ true → is_between ends.new k ≡ true) }
+{
+    for member in filter.members() {
+        narrow_by_member(alloc, ends, path, member)?;
+    }
+    Ok(())
+}
+
+#[cycle(narrowing)]
+#[tactic(auto, unfolding(crate::specs::Interval::is_in_member))]
+fn narrow_by_member(
+    alloc: Global,
+    ends: &mut Interval,
+    path: &Path,
+    part: &Member,
+) -> Result<(), NoMemory>
+    ensures { OnOk result ((k : KeyTree) → is_between ends.old k ≡ true → is_in_member k path.now (member part.now) ≡ true → is_between ends.new k ≡ true) }
+{
+    match part {
+        Member::And(filters) => narrow_by_filters(alloc, ends, path, filters),
+        Member::At(at, conditions) => {
+            if !same_path(at.components(), path.components()) {
+                return Ok(());
+            }
+            narrow_by_conditions(alloc, ends, conditions)
+        }
+        _ => Ok(()),
+    }
+}
+
+#[cycle(narrowing)]
+fn narrow_by_filters(
+    alloc: Global,
+    ends: &mut Interval,
+    path: &Path,
+    filters: &Filters,
+) -> Result<(), NoMemory>
+    ensures { OnOk result ((k : KeyTree) → is_between ends.old k ≡ true → is_in_filters k path.now filters.now ≡ true → is_between ends.new k ≡ true) }
+{
+    for filter in filters.as_slice() {
+        narrow_by_filter(alloc, ends, path, filter)?;
+    }
+    Ok(())
+}
+
+fn narrow_by_conditions(
+    alloc: Global,
+    ends: &mut Interval,
+    conditions: &Conditions,
+) -> Result<(), NoMemory>
+    ensures { OnOk result ((k : KeyTree) → is_between ends.old k ≡ true → is_in_each k conditions.now ≡ true → is_between ends.new k ≡ true) }
+{
+    for condition in conditions.as_slice() {
+        narrow_by_condition(alloc, ends, condition)?;
+    }
+    Ok(())
+}
+
+fn narrow_by_condition(
+    alloc: Global,
+    ends: &mut Interval,
+    wanted: &Condition,
+) -> Result<(), NoMemory>
+    ensures { OnOk result ((k : KeyTree) → is_between ends.old k ≡ true → is_in_bounds k (condition wanted.now) ≡ true → is_between ends.new k ≡ true) }
+{
+    match wanted {
+        Condition::Bound(range, value) => narrow(alloc, ends, *range, value),
+        _ => Ok(()),
+    }
+}
+
+/// Puts the ends closer together, so that still all keys in a range are between them that were.
+fn narrow(alloc: Global, ends: &mut Interval, range: Range, value: &Value) -> Result<(), NoMemory>
+    ensures { OnOk result ((k : KeyTree) → is_between ends.old k ≡ true → covers (in_range range (tree value.now)) k ≡ true → is_between ends.new k ≡ true) }
+{
+    let (low, high) = ends_within(alloc, range, value)?;
+    raise(&mut ends.low, low);
+    lower(&mut ends.high, high);
+    Ok(())
+}
+
+/// Puts the later one of two starts in place of the first one.
+fn raise(low: &mut Bound<Key>, other: Bound<Key>)
+    ensures { (k : KeyTree) → is_from_start key_order low.old k ≡ true → is_from_start key_order other k ≡ true → is_from_start key_order low.new k ≡ true }
+{
+    if is_later(&other, low) {
+        *low = other;
+    }
+}
+
+/// Puts the earlier one of two ends in place of the first one.
+fn lower(high: &mut Bound<Key>, other: Bound<Key>)
+    ensures { (k : KeyTree) → is_past_end key_order high.old k ≡ false → is_past_end key_order other k ≡ false → is_past_end key_order high.new k ≡ false }
+{
+    if is_earlier(&other, high) {
+        *high = other;
+    }
+}
+
+/// Whether no more keys stand from a start on than from another one.
+fn is_later(start: &Bound<Key>, other: &Bound<Key>) -> bool {
+    match (start, other) {
+        (_, Bound::Unbounded) => true,
+        (Bound::Unbounded, _) => false,
+        (Bound::Excluded(key), Bound::Included(than) | Bound::Excluded(than)) => key >= than,
+        (Bound::Included(key), Bound::Included(than) | Bound::Excluded(than)) => key > than,
+    }
+}
+
+/// Whether no more keys stand up to an end than up to another one.
+fn is_earlier(end: &Bound<Key>, other: &Bound<Key>) -> bool {
+    match (end, other) {
+        (_, Bound::Unbounded) => true,
+        (Bound::Unbounded, _) => false,
+        (Bound::Excluded(key), Bound::Included(than) | Bound::Excluded(than)) => key <= than,
+        (Bound::Included(key), Bound::Included(than) | Bound::Excluded(than)) => key < than,
+    }
+}

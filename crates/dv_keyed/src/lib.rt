@@ -1,0 +1,30 @@
+//! Keys of BSON documents, indexes as sets of keys, and which of them answers a filter: what needs no collection.
+#![tactic(auto)]
+
+mod before;
+mod bounds;
+mod ids;
+mod index;
+mod interval;
+mod key_lists;
+mod keys;
+pub mod laws;
+mod leaves;
+mod multi_index;
+mod pairs;
+mod plan;
+mod trial;
+mod tried;
+mod within;
+
+pub use before::{ids_before, is_ahead};
+pub use index::{Index, NewIndex};
+pub use key_lists::{in_order, keys_of_each, lent};
+pub use keys::{Keys, keys_of, keys_without};
+pub use leaves::is_covered;
+pub use multi_index::MultiIndex;
+pub use pairs::Pairs;
+pub use plan::{Bounds, Plan, Planner, same_path};
+pub use trial::{Moved, Trial};
+pub use tried::ids_tried;
+pub use within::ids_within;

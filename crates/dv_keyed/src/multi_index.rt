@@ -1,0 +1,191 @@
+//! Indexes, by which the documents are found that have a key.
+
+ghost use Rattle.std.specs.Prelude.{◌≡◌, ◌≤◌, ◌||◌, ◌&&◌, true, false, not, [], length, map, OnErr, OnOk, IfOk};
+ghost use Rattle.std.specs.Ordering.{is_eq};
+ghost use Rattle.std.specs.BTreeMap.Range.{IsLeBy, IsLtBy};
+ghost use Rattle.std.specs.Range.Bound.{IsForward};
+ghost use Rattle.dv_order.specs.Key.{KeyTree, key_order};
+ghost use Rattle.dv_keyed.specs.Keys.{has_key};
+ghost use Rattle.dv_keyed.specs.Pairs.{IsOnlyKey, has_pair, is_under_another};
+
+use crate::ids::Ids;
+use crate::keys::Keys;
+use crate::pairs::Pairs;
+use dv_order::Key;
+use dv_value::NoMemory;
+use std::alloc::Global;
+use std::marker::Model;
+use std::ops::Bound;
+
+/// A set of pairs: a key, and the key of the `_id` of a document that has it. Beside it stand the keys of the `_id`s that
+/// have several keys: of all others the one key tells which conditions they meet.
+#[derive(Debug, Drop)]
+pub struct MultiIndex {
+    alloc: Global,
+    pairs: Pairs,
+    several: Ids,
+}
+
+impl Model for MultiIndex {
+    ghost use Rattle.std.specs.Prelude as prelude;
+    ghost use Rattle.std.specs.Coded.{coded_list, coded×};
+    ghost use Rattle.dv_order.specs.Key.{coded_key};
+    ghost use Rattle.dv_keyed.specs.Pairs.{AreNoted, Pair};
+
+    ghost Value = { prelude.List Pair };
+
+    ghost coded = { coded_list (coded× coded_key coded_key) };
+
+    ghost view = { λ i. i.pairs };
+
+    ghost invariant = { λ i. AreNoted i.several i.pairs };
+}
+
+impl MultiIndex {
+    /// An index without pairs, whose memory will be allocated by `alloc`.
+    pub fn new(alloc: Global) -> Self
+        ensures { result ≡ [] }
+    {
+        MultiIndex {
+            alloc,
+            pairs: Pairs::new(alloc),
+            several: Ids::none(alloc),
+        }
+    }
+
+    /// Adds the pair of each of the keys and the `_id`'s key. Where memory is wanting, the pairs are those that there were.
+    pub fn add(&mut self, keys: &Keys, id: &Key) -> Result<(), NoMemory>
+        ensures ok { OnOk result ((k i : KeyTree) → has_pair k i self.new ≡ (has_pair k i self.old || (has_key k keys.now && is_eq (key_order i id.now)))) }
+        ensures err { OnErr result ((k i : KeyTree) → has_pair k i self.new ≡ has_pair k i self.old) }
+    {
+        // Whether the `_id` has other keys isn't known.
+        note(&mut self.several, id, true)?;
+        self.pairs.add(keys, id)
+    }
+
+    /// Adds the pair of each of the keys and of the key of an `_id` that has no key yet. Where memory is wanting, the pairs are
+    /// those that there were.
+    pub fn add_first(&mut self, keys: &Keys, id: &Key) -> Result<(), NoMemory>
+        requires { (k : KeyTree) → has_pair k id.now self.old ≡ false }
+        ensures ok { OnOk result ((k i : KeyTree) → has_pair k i self.new ≡ (has_pair k i self.old || (has_key k keys.now && is_eq (key_order i id.now)))) }
+        ensures err { OnErr result ((k i : KeyTree) → has_pair k i self.new ≡ has_pair k i self.old) }
+    {
+        note(&mut self.several, id, keys.len() > 1)?;
+        self.pairs.add(keys, id)
+    }
+
+    /// Adds a pair for each key, none of which is there, to an `_id` that has no keys but those that it holds. Where memory
+    /// is wanting, the pairs are those that there were.
+    pub(crate) fn add_fresh(
+        &mut self,
+        fresh: &[&Key],
+        id: &Key,
+        held: &Keys,
+    ) -> Result<(), NoMemory>
+        requires absent { (k : KeyTree) → has_key k (map (λ l. l.now) fresh.now) ≡ true → has_pair k id.now self.old ≡ false }
+        requires held { (k : KeyTree) → has_pair k id.now self.old ≡ true → has_key k held.now ≡ true }
+        ensures ok { OnOk result ((k i : KeyTree) → has_pair k i self.new ≡ (has_pair k i self.old || (has_key k (map (λ l. l.now) fresh.now) && is_eq (key_order i id.now)))) }
+        ensures err { OnErr result ((k i : KeyTree) → has_pair k i self.new ≡ has_pair k i self.old) }
+    {
+        if fresh.is_empty() {
+            return Ok(());
+        }
+        note(&mut self.several, id, are_several(fresh, held))?;
+        match self.pairs.add_fresh(fresh, id) {
+            Ok(()) => Ok(()),
+            Err(e) => {
+                self.settle(id, held);
+                Err(e)
+            }
+        }
+    }
+
+    /// Takes out the pair of each of the keys and the `_id`'s key, where it is there. Takes no memory.
+    pub fn take_out(&mut self, keys: &Keys, id: &Key)
+        ensures { (k i : KeyTree) → has_pair k i self.new ≡ (has_pair k i self.old && not (has_key k keys.now && is_eq (key_order i id.now))) }
+    {
+        self.pairs.take_out(keys, id);
+    }
+
+    /// Takes out the pair of each key, where it is there, of an `_id` that then has no keys but those that are left. Takes no
+    /// memory.
+    pub(crate) fn take_out_each(&mut self, keys: &[&Key], id: &Key, left: &Keys)
+        requires { (k : KeyTree) → (has_pair k id.now self.old && not (has_key k (map (λ l. l.now) keys.now))) ≡ true → has_key k left.now ≡ true }
+        ensures { (k i : KeyTree) → has_pair k i self.new ≡ (has_pair k i self.old && not (has_key k (map (λ l. l.now) keys.now) && is_eq (key_order i id.now))) }
+    {
+        if keys.is_empty() {
+            return;
+        }
+        self.pairs.take_out_each(keys, id);
+        self.settle(id, left);
+    }
+
+    /// Whether one of the keys stands under another `_id`. Takes no memory.
+    pub fn clash(&self, keys: &Keys, id: &Key) -> bool
+        ensures { result ≡ is_under_another (λ k. has_key k keys.now) id.now self.now }
+    {
+        self.pairs.clash(keys, id)
+    }
+
+    /// A copy of its own. Fails where memory is wanting.
+    pub fn try_clone(&self) -> Result<Self, NoMemory>
+        ensures { IfOk result (λ copy. copy ≡ self.now) }
+    {
+        Ok(MultiIndex {
+            alloc: self.alloc,
+            pairs: self.pairs.try_clone()?,
+            several: self.several.try_clone(self.alloc)?,
+        })
+    }
+
+    /// The pairs.
+    pub fn as_pairs(&self) -> &Pairs
+        ensures { result.now ≡ self.now }
+    {
+        &self.pairs
+    }
+
+    /// Adds to a list the `_id`s' keys that have several keys: then each is there that is there if its key is the only one.
+    /// Where memory is wanting, some of them are added.
+    pub(crate) fn add_several<'i>(&'i self, ids: &mut Vec<&'i Key>) -> Result<(), NoMemory>
+        ensures { OnOk result ((k i : KeyTree) → has_pair k i self.now ≡ true → (IsOnlyKey k i self.now → has_key i (map (λ l. l.now) ids.old.items) ≡ true) → has_key i (map (λ l. l.now) ids.new.items) ≡ true) }
+    {
+        self.several.add_to(ids)
+    }
+
+    /// Whether more `_id`s stand under the keys between two ends than were found, with all that have several keys.
+    pub(crate) fn has_more(&self, low: Bound<Key>, high: Bound<Key>, found: usize) -> bool
+        requires { IsForward (IsLeBy key_order) (IsLtBy key_order) low high }
+    {
+        self.several.is_empty()
+            || self
+                .pairs
+                .has_more(low, high, found.saturating_add(self.several.len()))
+    }
+
+    /// Forgets that the `_id` has several keys, where it has none but those that are left, and these aren't several.
+    fn settle(&mut self, id: &Key, left: &Keys)
+        requires { (k : KeyTree) → has_pair k id.now self.old ≡ true → has_key k left.now ≡ true }
+        ensures { self.new ≡ self.old }
+    {
+        if left.len() <= 1 {
+            self.several.take_out(id);
+        }
+    }
+}
+
+/// Whether these keys, none of which is held, are several together with those that are.
+fn are_several(fresh: &[&Key], held: &Keys) -> bool
+    ensures one { result ≡ false → length fresh.now ≤ 1 }
+    ensures none_held { result ≡ false → held.now ≡ [] }
+{
+    fresh.len() > 1 || held.len() > 0
+}
+
+/// Notes an `_id` where it has several keys. Where memory is wanting, nothing changes.
+fn note(several: &mut Ids, id: &Key, has_several: bool) -> Result<(), NoMemory>
+    ensures ok { OnOk result ((i : KeyTree) → has_key i several.new ≡ (has_key i several.old || (has_several && is_eq (key_order i id.now)))) }
+    ensures err { OnErr result ((i : KeyTree) → has_key i several.new ≡ has_key i several.old) }
+{
+    if has_several { several.add(id) } else { Ok(()) }
+}

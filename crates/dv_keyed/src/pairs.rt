@@ -1,0 +1,292 @@
+//! Sets of pairs of a key and an `_id`, by which the documents are found that have a key.
+
+ghost use Rattle.std.specs.Prelude.{◌≡◌, ◌||◌, ◌&&◌, true, false, not, [], map, filter, OnErr, OnOk, IfOk};
+ghost use Rattle.std.specs.Iterator.{IsFinite};
+ghost use Rattle.std.specs.List.{list_any};
+ghost use Rattle.std.specs.List.Sorted.{IsStrictlySortedBy};
+ghost use Rattle.std.specs.Map.{keys_of};
+ghost use Rattle.std.specs.Ordering.{is_eq};
+ghost use Rattle.std.specs.BTreeMap.Range.{IsLeBy, IsLtBy, range_contains};
+ghost use Rattle.std.specs.Range.Bound.{IsForward};
+ghost use Rattle.dv_order.specs.Key.{KeyTree, key_order};
+ghost use Rattle.dv_keyed.specs.Keys.{has_key};
+ghost use Rattle.dv_keyed.specs.Pairs.{has_another_at, has_id, has_pair, is_under_another};
+
+use crate::ids::Ids;
+use crate::keys::Keys;
+use dv_order::Key;
+use dv_path::Direction;
+use dv_value::NoMemory;
+use std::alloc::Global;
+use std::collections::BTreeMap;
+use std::marker::Model;
+use std::ops::Bound;
+
+/// A set of pairs: a key, and the key of the `_id` of a document that has it.
+#[derive(Debug, Drop)]
+pub struct Pairs {
+    alloc: Global,
+    entries: BTreeMap<Key, Ids>,
+}
+
+impl Model for Pairs {
+    ghost use Rattle.std.specs.Prelude as prelude;
+    ghost use Rattle.std.specs.Coded.{coded_list, coded×};
+    ghost use Rattle.std.specs.List.Sorted.{IsStrictlySortedBy};
+    ghost use Rattle.std.specs.Map.{keys_of};
+    ghost use Rattle.dv_order.specs.Key.{coded_key, key_order};
+    ghost use Rattle.dv_keyed.specs.Pairs.{Pair, pairs_of};
+
+    ghost Value = { prelude.List Pair };
+
+    ghost coded = { coded_list (coded× coded_key coded_key) };
+
+    ghost view = { λ i. pairs_of i.entries.entries };
+
+    ghost invariant = { λ i. IsStrictlySortedBy key_order (keys_of i.entries.entries) };
+}
+
+impl Pairs {
+    /// A set without pairs, whose memory will be allocated by `alloc`.
+    pub(crate) fn new(alloc: Global) -> Self
+        ensures { result ≡ [] }
+    {
+        Pairs {
+            alloc,
+            entries: BTreeMap::new(alloc),
+        }
+    }
+
+    /// Adds the pair of each of the keys and the `_id`'s key. Where memory is wanting, the pairs are those that there were.
+    pub(crate) fn add(&mut self, keys: &Keys, id: &Key) -> Result<(), NoMemory>
+        ensures ok { OnOk result ((k i : KeyTree) → has_pair k i self.new ≡ (has_pair k i self.old || (has_key k keys.now && is_eq (key_order i id.now)))) }
+        ensures err { OnErr result ((k i : KeyTree) → has_pair k i self.new ≡ has_pair k i self.old) }
+    {
+        // A pair that was there stays where memory is wanting.
+        let fresh = self.absent(keys, id)?;
+        self.add_fresh(fresh.as_slice(), id)
+    }
+
+    /// Adds a pair for each key, none of which is there. Where memory is wanting, the pairs are those that there were.
+    pub(crate) fn add_fresh(&mut self, fresh: &[&Key], id: &Key) -> Result<(), NoMemory>
+        requires { (k : KeyTree) → has_key k (map (λ l. l.now) fresh.now) ≡ true → has_pair k id.now self.old ≡ false }
+        ensures ok { OnOk result ((k i : KeyTree) → has_pair k i self.new ≡ (has_pair k i self.old || (has_key k (map (λ l. l.now) fresh.now) && is_eq (key_order i id.now)))) }
+        ensures err { OnErr result ((k i : KeyTree) → has_pair k i self.new ≡ has_pair k i self.old) }
+    {
+        match self.add_each(fresh, id) {
+            Ok(()) => Ok(()),
+            Err(e) => {
+                self.take_out_each(fresh, id);
+                Err(e)
+            }
+        }
+    }
+
+    /// Takes out the pair of each of the keys and the `_id`'s key, where it is there. Takes no memory.
+    pub(crate) fn take_out(&mut self, keys: &Keys, id: &Key)
+        ensures { (k i : KeyTree) → has_pair k i self.new ≡ (has_pair k i self.old && not (has_key k keys.now && is_eq (key_order i id.now))) }
+    {
+        for key in keys.as_set().iter() {
+            self.take_out_pair(key, id);
+        }
+    }
+
+    /// Whether one of the keys stands under another `_id`. Takes no memory.
+    pub(crate) fn clash(&self, keys: &Keys, id: &Key) -> bool
+        ensures { result ≡ is_under_another (λ k. has_key k keys.now) id.now self.now }
+    {
+        self.clash_without(&Pairs::new(self.alloc), keys, id)
+    }
+
+    /// Whether one of the keys stands under another `_id` in a pair that isn't gone. Takes no memory.
+    pub(crate) fn clash_without(&self, gone: &Pairs, keys: &Keys, id: &Key) -> bool
+        ensures { result ≡ list_any (λ k. has_another_at k id.now gone.now self.now) keys.now }
+    {
+        keys.as_set()
+            .iter()
+            .any(|key| self.has_another(key, id, gone))
+    }
+
+    /// Whether another `_id` stands under the key, in a pair that isn't gone.
+    fn has_another(&self, key: &Key, id: &Key, gone: &Pairs) -> bool
+        ensures { result ≡ has_another_at key.now id.now gone.now self.now }
+    {
+        match self.entries.get(key) {
+            Some(ids) => ids.has_another(id, gone.entries.get(key)),
+            None => false,
+        }
+    }
+
+    /// A copy of its own. Fails where memory is wanting.
+    pub(crate) fn try_clone(&self) -> Result<Self, NoMemory>
+        ensures { IfOk result (λ copy. copy ≡ self.now) }
+    {
+        Ok(Pairs {
+            alloc: self.alloc,
+            entries: copy_of(self.alloc, &self.entries)?,
+        })
+    }
+
+    /// Adds to a list the `_id`s' keys that stand under a key. Where memory is wanting, some of them are added.
+    pub(crate) fn add_ids_at<'i>(
+        &'i self,
+        key: &Key,
+        ids: &mut Vec<&'i Key>,
+    ) -> Result<(), NoMemory>
+        ensures { OnOk result ((i : KeyTree) → has_key i (map (λ l. l.now) ids.new.items) ≡ (has_key i (map (λ l. l.now) ids.old.items) || has_pair key.now i self.now)) }
+    {
+        match self.entries.get(key) {
+            Some(found) => found.add_to(ids),
+            None => Ok(()),
+        }
+    }
+
+    /// Adds to a list the `_id`s' keys of the pairs whose keys stand between two ends. Where memory is wanting, some of
+    /// them are added.
+    pub(crate) fn add_ids_between<'i>(
+        &'i self,
+        low: Bound<Key>,
+        high: Bound<Key>,
+        ids: &mut Vec<&'i Key>,
+    ) -> Result<(), NoMemory>
+        requires { IsForward (IsLeBy key_order) (IsLtBy key_order) low high }
+        ensures { OnOk result ((i : KeyTree) → has_key i (map (λ l. l.now) ids.new.items) ≡ (has_key i (map (λ l. l.now) ids.old.items) || has_id i (filter (λ p. range_contains key_order low high p.0) self.now))) }
+    {
+        for (_, found) in self.entries.range((low, high)) {
+            found.add_to(ids)?;
+        }
+        Ok(())
+    }
+
+    /// Whether more `_id`s than `most` stand under the keys between two ends; no more keys are looked at.
+    pub(crate) fn has_more(&self, low: Bound<Key>, high: Bound<Key>, most: usize) -> bool
+        requires { IsForward (IsLeBy key_order) (IsLtBy key_order) low high }
+    {
+        let mut left = most;
+        for (_, ids) in self.entries.range((low, high)) {
+            let count = ids.len();
+            if count > left {
+                return true;
+            }
+            left -= count;
+        }
+        false
+    }
+
+    /// In a direction, the first key behind `least` `_id`s or more, unless more than `most` stand before it. No more keys are
+    /// looked at.
+    pub fn key_behind(&self, direction: Direction, least: usize, most: usize) -> Option<&Key> {
+        match direction {
+            Direction::Ascending => first_behind(self.entries.iter(), least, most),
+            Direction::Descending => first_behind(self.entries.iter().rev(), least, most),
+        }
+    }
+
+    /// The keys whose pairs with the `_id`'s key aren't there.
+    fn absent<'k>(&self, keys: &'k Keys, id: &Key) -> Result<Vec<&'k Key>, NoMemory>
+        ensures { IfOk result (λ fresh. map (λ k. k.now) fresh.items ≡ filter (λ k. not (has_pair k id.now self.now)) keys.now) }
+    {
+        keys.as_set()
+            .iter()
+            .filter(|key| !self.has(key, id))
+            .collect(self.alloc)
+    }
+
+    fn has(&self, key: &Key, id: &Key) -> bool
+        ensures { result ≡ has_pair key.now id.now self.now }
+    {
+        match self.entries.get(key) {
+            Some(ids) => ids.contains(id),
+            None => false,
+        }
+    }
+
+    /// Adds a pair for each key. Where memory is wanting, some of them are added.
+    pub(crate) fn add_each(&mut self, keys: &[&Key], id: &Key) -> Result<(), NoMemory>
+        ensures ok { OnOk result ((k i : KeyTree) → has_pair k i self.new ≡ (has_pair k i self.old || (has_key k (map (λ l. l.now) keys.now) && is_eq (key_order i id.now)))) }
+        ensures err { OnErr result ((k i : KeyTree) → (has_pair k i self.new && not (has_key k (map (λ l. l.now) keys.now) && is_eq (key_order i id.now))) ≡ (has_pair k i self.old && not (has_key k (map (λ l. l.now) keys.now) && is_eq (key_order i id.now)))) }
+    {
+        for key in keys {
+            self.add_pair(key, id)?;
+        }
+        Ok(())
+    }
+
+    /// Takes out the pair of each key, where it is there. Takes no memory.
+    pub(crate) fn take_out_each(&mut self, keys: &[&Key], id: &Key)
+        ensures { (k i : KeyTree) → has_pair k i self.new ≡ (has_pair k i self.old && not (has_key k (map (λ l. l.now) keys.now) && is_eq (key_order i id.now))) }
+    {
+        for key in keys {
+            self.take_out_pair(key, id);
+        }
+    }
+
+    fn add_pair(&mut self, key: &Key, id: &Key) -> Result<(), NoMemory>
+        ensures ok { OnOk result ((k i : KeyTree) → has_pair k i self.new ≡ (has_pair k i self.old || (is_eq (key_order k key.now) && is_eq (key_order i id.now)))) }
+        ensures err { OnErr result ((k i : KeyTree) → has_pair k i self.new ≡ has_pair k i self.old) }
+    {
+        match self.entries.get_mut(key) {
+            Some(ids) => ids.add(id),
+            None => self.add_key(key, id),
+        }
+    }
+
+    /// Adds a key that isn't there, with one `_id`. Where memory is wanting, nothing changes.
+    fn add_key(&mut self, key: &Key, id: &Key) -> Result<(), NoMemory>
+        requires { (i : KeyTree) → has_pair key.now i self.old ≡ false }
+        ensures ok { OnOk result ((k i : KeyTree) → has_pair k i self.new ≡ (has_pair k i self.old || (is_eq (key_order k key.now) && is_eq (key_order i id.now)))) }
+        ensures err { OnErr result ((k i : KeyTree) → has_pair k i self.new ≡ has_pair k i self.old) }
+    {
+        let ids = Ids::of(self.alloc, id.try_clone()?);
+        drop(self.entries.insert(key.try_clone()?, ids)?);
+        Ok(())
+    }
+
+    fn take_out_pair(&mut self, key: &Key, id: &Key)
+        ensures { (k i : KeyTree) → has_pair k i self.new ≡ (has_pair k i self.old && not (is_eq (key_order k key.now) && is_eq (key_order i id.now))) }
+    {
+        let Some(ids) = self.entries.get_mut(key) else {
+            return;
+        };
+        ids.take_out(id);
+        if ids.is_empty() {
+            drop(self.entries.remove(key));
+        }
+    }
+}
+
+/// The first key behind `least` `_id`s or more, unless more than `most` stand before it.
+fn first_behind<'i, I: Iterator<Item = (&'i Key, &'i Ids)>>(
+    entries: I,
+    least: usize,
+    most: usize,
+) -> Option<&'i Key>
+    requires { I.can_next entries × IsFinite (I.remaining entries) }
+{
+    if least > most {
+        return None;
+    }
+    let mut count = 0_usize;
+    for (key, ids) in entries {
+        if count > most {
+            return None;
+        }
+        if count >= least {
+            return Some(key);
+        }
+        count = count.saturating_add(ids.len());
+    }
+    None
+}
+
+/// A copy of the entries. Fails where memory is wanting.
+fn copy_of(alloc: Global, entries: &BTreeMap<Key, Ids>) -> Result<BTreeMap<Key, Ids>, NoMemory>
+    ensures same { IfOk result (λ copy. copy.entries ≡ entries.now.entries) }
+    ensures sorted { IfOk result (λ copy. IsStrictlySortedBy key_order (keys_of copy.entries)) }
+{
+    let mut copy = BTreeMap::new(alloc);
+    'entries: for (key, ids) in entries {
+        drop(copy.insert(key.try_clone()?, ids.try_clone(alloc)?)?);
+    }
+    Ok(copy)
+}

@@ -1,0 +1,63 @@
+//! What an index would be after documents are replaced.
+
+ghost use Rattle.std.specs.Prelude.{◌≡◌, ◌++◌, ◌||◌, ◌&&◌, [], not, OnOk};
+ghost use Rattle.std.specs.Ordering.{is_eq};
+ghost use Rattle.dv_order.specs.Key.{KeyTree, key_order};
+ghost use Rattle.dv_keyed.specs.Keys.{has_key};
+ghost use Rattle.dv_keyed.specs.Pairs.{has_pair, is_under_another, pairs_without};
+
+use crate::index::Index;
+use crate::keys::{Keys, keys_without};
+use crate::pairs::Pairs;
+use dv_order::Key;
+use dv_value::NoMemory;
+use std::alloc::Global;
+
+/// The keys under a path of a document as it was and as it will be, neither having keys where there is none.
+#[derive(Debug, Drop)]
+pub struct Moved {
+    pub id: Key,
+    pub old: Keys,
+    pub new: Keys,
+}
+
+/// What an index would be after some documents are replaced: without the pairs that are gone, and with those that have come.
+#[derive(Debug, Drop)]
+pub struct Trial {
+    pub gone: Pairs,
+    pub come: Pairs,
+}
+
+impl Trial {
+    /// Nothing is replaced yet. Takes no memory.
+    pub fn new(alloc: Global) -> Self
+        ensures gone { result.gone ≡ [] }
+        ensures come { result.come ≡ [] }
+    {
+        Trial {
+            gone: Pairs::new(alloc),
+            come: Pairs::new(alloc),
+        }
+    }
+
+    /// Whether one of the new keys would stand under another `_id`. Takes no memory.
+    pub fn clashes(&self, index: &Index, moved: &Moved) -> bool
+        ensures { result ≡ is_under_another (λ k. has_key k moved.now.new) moved.now.id (pairs_without self.now.gone index.now.pairs ++ self.now.come) }
+    {
+        let held = index.pairs().as_pairs();
+        held.clash_without(&self.gone, &moved.new, &moved.id)
+            || self.come.clash(&moved.new, &moved.id)
+    }
+
+    /// Puts the new keys in place of the old ones; keys that stay are in neither set. Where memory is wanting, it is left with
+    /// some of them.
+    pub fn exchange(&mut self, alloc: Global, moved: &Moved) -> Result<(), NoMemory>
+        ensures gone { OnOk result ((k i : KeyTree) → has_pair k i self.new.gone ≡ (has_pair k i self.old.gone || ((has_key k moved.now.old && not (has_key k moved.now.new)) && is_eq (key_order i moved.now.id)))) }
+        ensures come { OnOk result ((k i : KeyTree) → has_pair k i self.new.come ≡ (has_pair k i self.old.come || ((has_key k moved.now.new && not (has_key k moved.now.old)) && is_eq (key_order i moved.now.id)))) }
+    {
+        let lost = keys_without(alloc, &moved.old, &moved.new)?;
+        let gained = keys_without(alloc, &moved.new, &moved.old)?;
+        self.gone.add_each(lost.as_slice(), &moved.id)?;
+        self.come.add_each(gained.as_slice(), &moved.id)
+    }
+}

@@ -1,0 +1,47 @@
+//! Files by their names: those that are loaded, and one that is checked.
+
+use crate::load::load_file_telling;
+use crate::progress::TerminalLine;
+use dv_core::Store;
+use dv_files::check;
+use dv_streams::{CountedReader, CountedWriter};
+use dv_words::fault::DocdFault;
+use dv_words::words::Load;
+use std::io::{BufWriter, IsTerminal};
+use std::rt::Files;
+use std::{fs, io};
+
+/// A store with the documents of these files, in their order. `CannotRead` where a file can't be opened or not be read to its
+/// end, and else the fault of the first load that has one. Where standard error is a terminal, it shows how far a long load is.
+pub fn loaded<R, E>(rt: &R, standard_error: &E, loads: Vec<Load>) -> Result<Store, DocdFault>
+where
+    R: Files + AllocGlobal,
+    E: Eprint + IsTerminal,
+{
+    let alloc = rt.alloc();
+    let mut store = Store::new(alloc);
+    for Load { namespace, file } in loads {
+        let mut reader = match fs::open(rt, &file) {
+            Ok(reader) => CountedReader::of(reader),
+            Err(_) => return Err(DocdFault::CannotRead { file }),
+        };
+        let mut line = TerminalLine::of(standard_error, file.as_str());
+        let told = load_file_telling(alloc, &mut store, &namespace, &mut reader, &mut line);
+        line.end();
+        told.map_err(|fault| DocdFault::of_load(file, fault))?;
+    }
+    Ok(store)
+}
+
+/// Writes how many documents a file holds to standard output, as `check` does. `CannotRead` where it can't be opened or not be
+/// read to its end, and else the fault of the check.
+pub fn check_file<R: Files + Print + AllocGlobal>(rt: &R, file: String) -> Result<(), DocdFault> {
+    let alloc = rt.alloc();
+    let writer = BufWriter::new(alloc, io::writer(rt)).map_err(|_| DocdFault::NoMemory)?;
+    let mut writer = CountedWriter::of(writer);
+    let mut reader = match fs::open(rt, &file) {
+        Ok(reader) => CountedReader::of(reader),
+        Err(_) => return Err(DocdFault::CannotRead { file }),
+    };
+    check::check(alloc, &mut reader, &mut writer).map_err(|fault| DocdFault::of_check(file, fault))
+}

@@ -1,0 +1,64 @@
+//! How far a load is, told while it goes on.
+
+use std::io::IsTerminal;
+
+/// How many documents are loaded from one telling to the next.
+const STEP: usize = 100_000;
+
+/// What is told how far the load of a file is.
+pub trait Progress {
+    /// So many of its documents are loaded.
+    fn loaded(&mut self, count: usize);
+}
+
+/// Nobody is told.
+#[derive(Clone, Copy)]
+pub struct Untold;
+
+impl Progress for Untold {
+    fn loaded(&mut self, _count: usize) {}
+}
+
+/// A line of a terminal, written over in place: how many documents of a file are loaded so far, each 100,000 and at the end.
+/// Where it isn't a terminal, or takes none, there is none.
+#[derive(Drop)]
+pub struct TerminalLine<'a, E> {
+    terminal: &'a E,
+    file: &'a str,
+    count: usize,
+    has_begun: bool,
+}
+
+impl<'a, E: Eprint + IsTerminal> TerminalLine<'a, E> {
+    /// A line that isn't begun.
+    pub fn of(terminal: &'a E, file: &'a str) -> Self {
+        TerminalLine {
+            terminal,
+            file,
+            count: 0,
+            has_begun: false,
+        }
+    }
+
+    fn write(&self) {
+        let _ = eprint!(self.terminal; "\r{}: {} documents", self.file, self.count);
+    }
+
+    /// Ends it with the last count, where it was begun.
+    pub fn end(self) {
+        if self.has_begun {
+            self.write();
+            let _ = eprint!(self.terminal; "\n");
+        }
+    }
+}
+
+impl<E: Eprint + IsTerminal> Progress for TerminalLine<'_, E> {
+    fn loaded(&mut self, count: usize) {
+        self.count = count;
+        if count % STEP == 0 && self.terminal.is_terminal() {
+            self.has_begun = true;
+            self.write();
+        }
+    }
+}

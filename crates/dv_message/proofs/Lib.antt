@@ -1,0 +1,14 @@
+mod Bytes
+mod Rows
+mod Frames
+mod Together
+mod Names
+mod Reading
+mod Brought
+mod Fronts
+mod Streams
+mod Growth
+mod Spelled
+mod Bring
+mod Worked
+mod Measured

@@ -1,0 +1,15 @@
+use Rattle.std.proofs.Common.{sym, ap, ◌∙◌, refl}
+use Rattle.std.proofs.lemmas.Str.{is_utf8-from_IsUtf8}
+use Rattle.dv_message.specs.Sections.{section_under, section_named}
+use Rattle.dv_message.proofs.Names.{is_utf8-false}
+use Rattle.dv_message.proofs.sections.named_in.Goals as goal
+
+pub returns-in-Ok : goal.returns-in-Ok
+returns-in-Ok c =
+    ap section_named (sym c.in-Some.ensures) ∙ ap (section_under c.in-Some.name.now) c.in_ok-documents.ensures
+    ∙ rw (is_utf8-from_IsUtf8 c.in-Some.name.now c.in-Ok.ensures.cases.1, c.in-Ok.ensures.cases.0) refl
+
+pub returns : goal.returns
+returns c =
+    ap section_named (sym c.in-Some.ensures) ∙ ap (section_under c.in-Some.name.now) c.in_ok-documents.ensures
+    ∙ rw (is_utf8-false c.in-Some.name.now c.in-Err.ensures.cases.0) refl

@@ -1,0 +1,132 @@
+//! The front of a stream: an OP_MSG message with the standard message header (MongoDB manual, "MongoDB Wire Protocol").
+
+ghost use Rattle.std.specs.Prelude.{◌≡◌, ◌<◌, ◌⊎◌, length};
+ghost use Rattle.dv_message.specs.Message as wire;
+ghost use Rattle.dv_message.specs.View.{front_seen};
+
+use crate::fault::CloseFault;
+use crate::sections::{Section, number_behind, sections_in};
+use std::alloc::Global;
+
+/// The operation code of OP_MSG.
+pub(crate) const OP_MSG: u32 = 2013;
+
+/// The bytes of the header, the flags, a kind byte and the smallest document.
+const SHORTEST_MESSAGE: usize = 26;
+
+const LONGEST_MESSAGE: usize = 48_000_000;
+
+/// What a message asks.
+#[derive(Drop)]
+pub struct Message<'a> {
+    pub request_id: u32,
+    /// Whether no reply is to be sent.
+    pub more_to_come: bool,
+    /// In the order of their bytes.
+    pub sections: Vec<Section<'a>>,
+}
+
+/// What stands at the front of a stream.
+#[derive(Drop)]
+pub enum Front<'a> {
+    /// Less than a message.
+    Unfinished,
+    /// A fault that the bytes show already, or want of memory to look at the sections.
+    Closing(CloseFault),
+    /// A message, and the bytes that follow it.
+    Whole {
+        message: Message<'a>,
+        rest: &'a [u8],
+    },
+}
+
+/// Looks at the front of a stream. A message's length is shown by its fourth byte, its code by the sixteenth, its
+/// flags by the twentieth, its sections by its last. Where memory is wanting to look at the sections, that closes.
+#[tactic(auto, unfolding(crate::specs::Message::stream_front))]
+pub fn front_of(alloc: Global, bytes: &[u8]) -> Front<'_>
+    ensures { (front_seen result ≡ wire.stream_front bytes.now) ⊎ (result ≡ Front.Closing CloseFault.NoMemory) }
+{
+    if bytes.len() < 4 {
+        return Front::Unfinished;
+    }
+    let length = number_behind(0, bytes) as usize;
+    if length < SHORTEST_MESSAGE || LONGEST_MESSAGE < length {
+        return Front::Closing(CloseFault::BadLength);
+    }
+    if bytes.len() < 16 {
+        return Front::Unfinished;
+    }
+    if number_behind(12, bytes) != OP_MSG {
+        return Front::Closing(CloseFault::BadOpCode);
+    }
+    if bytes.len() < 20 {
+        return Front::Unfinished;
+    }
+    let flags = number_behind(16, bytes);
+    if has_checksum(flags) {
+        return Front::Closing(CloseFault::Checksum);
+    }
+    if has_unknown_flag(flags) {
+        return Front::Closing(CloseFault::BadFlag);
+    }
+    if bytes.len() < length {
+        return Front::Unfinished;
+    }
+    let (whole, rest) = bytes.split_at(length);
+    let (_, sections) = whole.split_at(20);
+    match sections_in(alloc, sections) {
+        Ok(sections) => Front::Whole {
+            message: Message {
+                request_id: number_behind(4, bytes),
+                more_to_come: has_more_to_come(flags),
+                sections,
+            },
+            rest,
+        },
+        Err(fault) => Front::Closing(fault),
+    }
+}
+
+/// How many bytes of a piece come up to the end of the message that the bytes `kept` in front of it begin, or that the piece
+/// begins where none are kept: so many bring one message at most. As long as the message doesn't show its length, which its
+/// fourth byte does, they come up to that byte. At least 1, and at most all of them.
+pub fn front_length(kept: &[u8], piece: &[u8]) -> usize
+    requires { 0 < length piece.now }
+    ensures { result ≡ wire.front_length kept.now piece.now }
+{
+    let begun = if kept.is_empty() { piece } else { kept };
+    let shown = shown_length(begun);
+    shown.saturating_sub(kept.len()).max(1).min(piece.len())
+}
+
+/// How many bytes the message has that these begin, as far as they show it: its length stands in its first four.
+fn shown_length(bytes: &[u8]) -> usize
+    ensures { result ≡ wire.shown_length bytes.now }
+{
+    if bytes.len() < 4 {
+        4
+    } else {
+        number_behind(0, bytes) as usize
+    }
+}
+
+/// Bit 0, checksumPresent.
+fn has_checksum(flags: u32) -> bool
+    ensures { result ≡ wire.has_checksum flags }
+{
+    flags & 1 == 1
+}
+
+/// Bit 1, moreToCome.
+fn has_more_to_come(flags: u32) -> bool
+    ensures { result ≡ wire.has_more_to_come flags }
+{
+    flags >> 1 & 1 == 1
+}
+
+/// Bits 2 to 15, which nobody knows.
+fn has_unknown_flag(flags: u32) -> bool
+    ensures { result ≡ wire.has_unknown_flag flags }
+{
+    flags >> 2 & 0x3fff != 0
+}

@@ -1,0 +1,17 @@
+//! OP_MSG messages: where one ends in a stream of bytes, what its sections bring, and how a reply is spelled.
+#![tactic(auto)]
+
+mod commands;
+mod fault;
+mod front;
+pub mod laws;
+mod reply;
+mod sections;
+mod shapes;
+
+pub use commands::command_in;
+pub use fault::CloseFault;
+pub use front::{Front, Message, front_length, front_of};
+pub use reply::append_reply;
+pub use sections::Section;
+pub use shapes::Shapes;

@@ -1,0 +1,181 @@
+//! The sections of a message (MongoDB manual, "MongoDB Wire Protocol", OP_MSG).
+
+ghost use Rattle.std.specs.Prelude.{◌≡◌, ◌==◌, ◌+◌, ◌≤◌, length, map, option_map, position, IfOk};
+ghost use Rattle.dv_bson.specs.Reading as bson;
+ghost use Rattle.dv_message.specs.Sections as wire;
+ghost use Rattle.dv_message.specs.SectionsView.{FoundAs, section_seen};
+
+use crate::fault::CloseFault;
+use dv_value::NoMemory;
+use std::alloc::Global;
+use std::collections::BTreeSet;
+
+/// A section, by its kind.
+#[derive(Drop)]
+pub enum Section<'a> {
+    /// Kind 0: the bytes of the document that is the message's body.
+    Body(&'a [u8]),
+    /// Kind 1: a name, and the bytes of each document that stands under it.
+    Named {
+        name: &'a str,
+        documents: Vec<&'a [u8]>,
+    },
+}
+
+/// The sections of a message that the bytes are. `BadSection` where they are none: a section of another kind, a size, a
+/// name or a document's length that doesn't fit, not exactly one body, two lists under one name. `NoMemory` where memory
+/// is wanting.
+#[tactic(auto, unfolding(crate::specs::Sections::sections_in))]
+pub(crate) fn sections_in(alloc: Global, bytes: &[u8]) -> Result<Vec<Section<'_>>, CloseFault>
+    ensures { FoundAs (λ sections. map section_seen sections.items) result (wire.sections_in bytes.now) }
+{
+    let sections = row_of_sections(alloc, bytes)?;
+    if body_count(&sections) == 1 && are_apart(alloc, &sections)? {
+        Ok(sections)
+    } else {
+        Err(CloseFault::BadSection)
+    }
+}
+
+/// The sections, one behind the other, that the bytes are.
+fn row_of_sections(alloc: Global, bytes: &[u8]) -> Result<Vec<Section<'_>>, CloseFault>
+    ensures { FoundAs (λ sections. map section_seen sections.items) result (wire.each_in wire.section_at bytes.now) }
+{
+    let mut sections = Vec::new(alloc);
+    let mut rest = bytes;
+    'sections: while !rest.is_empty() {
+        let (section, following) = section_at(alloc, rest)?;
+        sections.push(section)?;
+        rest = following;
+    }
+    Ok(sections)
+}
+
+/// The section at the front of the bytes, and what follows it.
+#[tactic(auto, unfolding(crate::specs::Sections::section_at))]
+fn section_at(alloc: Global, bytes: &[u8]) -> Result<(Section<'_>, &[u8]), CloseFault>
+    ensures { FoundAs (λ found. (section_seen found.0, found.1.now)) result (wire.section_at bytes.now) }
+{
+    let [kind, behind @ ..] = bytes else {
+        return Err(CloseFault::BadSection);
+    };
+    let Some((frame, following)) = frame_at(behind) else {
+        return Err(CloseFault::BadSection);
+    };
+    let section = section_of(alloc, *kind, frame)?;
+    Ok((section, following))
+}
+
+/// The section of this kind that the framed bytes behind it make.
+fn section_of(alloc: Global, kind: u8, frame: &[u8]) -> Result<Section<'_>, CloseFault>
+    requires { 4 ≤ length frame.now }
+    ensures { FoundAs section_seen result (wire.section_of kind frame.now) }
+{
+    match kind {
+        0 => Ok(Section::Body(frame)),
+        1 => named_in(alloc, &frame[4..]),
+        _ => Err(CloseFault::BadSection),
+    }
+}
+
+/// The name that ends with the first zero, and the documents behind it.
+fn named_in(alloc: Global, bytes: &[u8]) -> Result<Section<'_>, CloseFault>
+    ensures { FoundAs section_seen result (wire.section_named (bson.cut_at_zero bytes.now)) }
+{
+    let Some((name, behind)) = cut_at_zero(bytes) else {
+        return Err(CloseFault::BadSection);
+    };
+    let documents = documents_in(alloc, behind)?;
+    match str::from_utf8(name) {
+        Ok(name) => Ok(Section::Named { name, documents }),
+        Err(_) => Err(CloseFault::BadSection),
+    }
+}
+
+/// The documents, one behind the other, that the bytes are.
+fn documents_in(alloc: Global, bytes: &[u8]) -> Result<Vec<&[u8]>, CloseFault>
+    ensures { FoundAs (λ documents. map (λ d. d.now) documents.items) result (wire.section_documents bytes.now) }
+{
+    let mut documents = Vec::new(alloc);
+    let mut rest = bytes;
+    'documents: while !rest.is_empty() {
+        let Some((document, behind)) = frame_at(rest) else {
+            return Err(CloseFault::BadSection);
+        };
+        documents.push(document)?;
+        rest = behind;
+    }
+    Ok(documents)
+}
+
+/// What a length at the front, at least 5, frames, itself included; and what follows it.
+#[tactic(auto, unfolding(crate::specs::Sections::section_frame))]
+fn frame_at(bytes: &[u8]) -> Option<(&[u8], &[u8])>
+    ensures { option_map (λ parts. (parts.0.now, parts.1.now)) result ≡ wire.section_frame bytes.now }
+{
+    if bytes.len() < 5 {
+        return None;
+    }
+    let length = number_behind(0, bytes) as usize;
+    if length < 5 || bytes.len() < length {
+        return None;
+    }
+    Some(bytes.split_at(length))
+}
+
+/// The bytes before the first zero, and those behind it.
+fn cut_at_zero(bytes: &[u8]) -> Option<(&[u8], &[u8])>
+    ensures { option_map (λ parts. (parts.0.now, parts.1.now)) result ≡ bson.cut_at_zero bytes.now }
+{
+    let end = first_zero_in(bytes)?;
+    Some((&bytes[..end], &bytes[end + 1..]))
+}
+
+/// The place of the first zero.
+fn first_zero_in(bytes: &[u8]) -> Option<usize>
+    ensures { result ≡ position (λ byte. byte == 0) bytes.now }
+{
+    bytes.iter().position(|byte| *byte == 0)
+}
+
+/// How many are bodies.
+fn body_count(sections: &[Section<'_>]) -> usize
+    ensures { result ≡ wire.body_count (map section_seen sections.now) }
+{
+    let mut count = 0;
+    'sections: for section in sections {
+        match section {
+            Section::Body(_) => count += 1,
+            Section::Named { .. } => {}
+        }
+    }
+    count
+}
+
+/// Whether no two have one name.
+fn are_apart(alloc: Global, sections: &[Section<'_>]) -> Result<bool, NoMemory>
+    ensures { IfOk result (λ apart. apart ≡ wire.are_distinct (wire.names_among (map section_seen sections.now))) }
+{
+    let mut names = BTreeSet::new(alloc);
+    'sections: for section in sections {
+        match section {
+            Section::Body(_) => {}
+            Section::Named { name, .. } => {
+                if !names.insert(*name)? {
+                    return Ok(false);
+                }
+            }
+        }
+    }
+    Ok(true)
+}
+
+/// The little-endian number in the four bytes behind the first `place`.
+pub(crate) fn number_behind(place: usize, bytes: &[u8]) -> u32
+    requires { place + 4 ≤ length bytes.now }
+    ensures { result ≡ wire.number_after place bytes.now }
+{
+    let (_, behind) = bytes.split_at(place);
+    let (number, _) = behind.split_at(4);
+    u32::from_le_bytes([number[0], number[1], number[2], number[3]])
+}

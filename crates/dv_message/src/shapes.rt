@@ -1,0 +1,177 @@
+//! The shapes of a session's documents: their names.
+
+use dv_command::Command;
+use dv_value::{BsonFault, Document, List, Value, size};
+use std::alloc::Global;
+
+/// The most bytes of a document whose shape is kept.
+const LARGEST: u32 = 4_096;
+
+/// How many levels a shape has inside a document. What lies deeper has none.
+const LEVELS: u32 = 8;
+
+/// How many documents in a row have another shape, until that of the last one is kept: requests of several shapes that take
+/// turns leave the one that is kept.
+const MOST_OTHERS: u32 = 4;
+
+/// The shapes of the documents that a session's messages brought. A document that is read beside its shape shares the names,
+/// so that messages of one shape take no memory for names. A shape holds no value of a message, and none is kept of a document
+/// of over 4,096 bytes.
+#[derive(Debug, Drop)]
+pub struct Shapes {
+    body: Shape,
+    listed: Shape,
+}
+
+impl Shapes {
+    /// None. Takes no memory.
+    pub fn new(alloc: Global) -> Self {
+        Shapes {
+            body: Shape::none(alloc),
+            listed: Shape::none(alloc),
+        }
+    }
+
+    /// That of bodies; without fields where there is none.
+    pub(crate) fn body(&self) -> &Document {
+        &self.body.names
+    }
+
+    /// That of the documents in lists beside bodies; without fields where there is none.
+    pub(crate) fn listed(&self) -> &Document {
+        &self.listed.names
+    }
+
+    /// Looks at the documents of a command, and keeps their shapes where it is time for others.
+    pub fn keep(&mut self, alloc: Global, command: &Command) {
+        let Command::Sections { body, lists } = command else {
+            return;
+        };
+        self.body.keep(alloc, body);
+        if let Some(document) = lists.first() {
+            self.listed.keep(alloc, document);
+        }
+    }
+}
+
+/// The shape that documents are expected to have.
+#[derive(Debug, Drop)]
+struct Shape {
+    /// Null in place of each value but documents, and but arrays that begin with one.
+    names: Document,
+    /// How many documents came since one had it.
+    others: u32,
+}
+
+impl Shape {
+    /// Nothing is expected.
+    fn none(alloc: Global) -> Self {
+        Shape {
+            names: Document::new(alloc),
+            others: 0,
+        }
+    }
+
+    /// Looks at a document, and takes its shape where it is time for another one. Where memory is wanting there is none then.
+    fn keep(&mut self, alloc: Global, document: &Document) {
+        if has_shape(document, &self.names, LEVELS) {
+            self.others = 0;
+            return;
+        }
+        self.others = self.others.saturating_add(1);
+        if self.others < MOST_OTHERS && !self.names.is_empty() {
+            return;
+        }
+        self.others = 0;
+        self.names = match small_shape_of(alloc, document) {
+            Ok(names) => names,
+            Err(_) => Document::new(alloc),
+        };
+    }
+}
+
+/// Whether the document has this shape, and documents inside it have theirs, down to so many levels.
+#[cycle(comparison)]
+fn has_shape(document: &Document, shape: &Document, levels: u32) -> bool {
+    if document.len() != shape.len() {
+        return false;
+    }
+    'fields: for place in 0..document.len() {
+        if !has_shape_at(place, document, shape, levels) {
+            return false;
+        }
+    }
+    true
+}
+
+/// Whether the field at a place has the name of the one there in the shape, and the shape of its value.
+#[cycle(comparison)]
+fn has_shape_at(place: usize, document: &Document, shape: &Document, levels: u32) -> bool {
+    let Some((name, value)) = document.entry(place) else {
+        return false;
+    };
+    let Some((like, shape)) = shape.entry(place) else {
+        return false;
+    };
+    if name != like {
+        return false;
+    }
+    if levels == 0 {
+        return true;
+    }
+    match (inner(value), inner(shape)) {
+        (None, None) => true,
+        (Some(document), Some(shape)) => has_shape(document, shape, levels - 1),
+        _ => false,
+    }
+}
+
+/// The document that a value is, or the first of an array.
+fn inner(value: &Value) -> Option<&Document> {
+    match value {
+        Value::Doc(document) => Some(document),
+        Value::Array(list) => match list.as_slice().first() {
+            Some(Value::Doc(document)) => Some(document),
+            _ => None,
+        },
+        _ => None,
+    }
+}
+
+/// The shape of a document; without fields where it is too large. Fails where memory is wanting.
+fn small_shape_of(alloc: Global, document: &Document) -> Result<Document, BsonFault> {
+    match size(document) {
+        Some(size) if size <= LARGEST => shape_of(alloc, document, LEVELS),
+        _ => Ok(Document::new(alloc)),
+    }
+}
+
+/// The shape of a document, with so many levels inside: the same names, and null in place of values. Fails where memory is
+/// wanting.
+#[cycle(making)]
+fn shape_of(alloc: Global, document: &Document, levels: u32) -> Result<Document, BsonFault> {
+    let mut shape = Document::expecting(alloc, document)?;
+    'fields: for place in 0..document.len() {
+        if let Some((name, value)) = document.entry(place) {
+            let value = value_shape(alloc, value, levels)?;
+            shape.push(name, value)?;
+        }
+    }
+    Ok(shape)
+}
+
+/// The shape of a document, or of an array's first one; null in place of any other value. Fails where memory is wanting.
+#[cycle(making)]
+fn value_shape(alloc: Global, value: &Value, levels: u32) -> Result<Value, BsonFault> {
+    if levels == 0 {
+        return Ok(Value::Null);
+    }
+    match (value, inner(value)) {
+        (_, None) => Ok(Value::Null),
+        (Value::Array(_), Some(first)) => {
+            let first = Value::Doc(shape_of(alloc, first, levels - 1)?);
+            Ok(Value::Array(List::of(vec![in alloc; first]?)))
+        }
+        (_, Some(document)) => Ok(Value::Doc(shape_of(alloc, document, levels - 1)?)),
+    }
+}

@@ -1,8 +1,0 @@
-use Rattle.std.proofs.Common.{◌≡◌, map, take}
-use Rattle.std.specs.List.{flat_map}
-use Rattle.dv_path.specs.Candidates.{with_elements}
-use Rattle.dv_path.specs.View.{seen}
-use Rattle.dv_path.proofs.listed.leaves.Given as goal
-
-abbrev pub invariant-loop-candidate : goal.invariant-loop-candidate
-invariant-loop-candidate l = map seen l.leaves.items ≡ flat_map with_elements (map seen (take l.candidate-index l.candidate-items))

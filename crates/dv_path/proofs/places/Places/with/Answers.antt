@@ -1,5 +1,0 @@
-use Rattle.dv_path.proofs.Bits.{joined}
-use Rattle.dv_path.proofs.places.Places.with.Goals as goal
-
-pub returns : goal.returns
-returns c = joined c.args.self.mask c.args.others.mask

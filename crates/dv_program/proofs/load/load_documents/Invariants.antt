@@ -1,9 +1,0 @@
-use Rattle.std.proofs.Common.{length}
-use Rattle.dv_program.proofs.Loads.{LoadsSoFar}
-use Rattle.dv_program.proofs.load.load_documents.Given as goal
-
-abbrev pub invariant-documents : goal.invariant-documents
-invariant-documents l = LoadsSoFar l.bytes l.namespace l.fn.store l.number l.rest l.store
-
-abbrev pub decreases-documents : goal.decreases-documents
-decreases-documents l = length l.rest

@@ -1,0 +1,105 @@
+//! The way of a path into a row, through documents.
+
+ghost use Rattle.std.specs.Prelude.{◌≡◌, None, Some, IsSome, IfOk, MatchOption, List};
+ghost use Rattle.std.specs.Option.{option_map};
+ghost use Rattle.dv_candidates.specs.Candidates.{Candidate};
+ghost use Rattle.dv_value.specs.Names.{value_under};
+ghost use Rattle.dv_value.specs.Tree.{document as document_tree, Field, fields_of};
+ghost use Rattle.dv_value.specs.View.{tree};
+ghost use Rattle.dv_row.specs.Crossings.{set_inward, set_on_way};
+ghost use Rattle.dv_row.specs.Unwinding.{in_document, reached, set_through, set_under};
+
+use dv_candidates::{Component, Path, behind};
+use dv_value::{Document, NoMemory, Value};
+use std::alloc::Global;
+
+/// A document that a path leads through, and the component by which it leads on.
+#[derive(Clone, Copy, Debug)]
+pub(crate) struct Crossing<'a> {
+    document: &'a Document,
+    component: &'a Component,
+}
+
+/// The way that a path leads to a value in a row.
+#[derive(Debug, Drop)]
+pub(crate) struct Way<'a> {
+    /// The row.
+    outermost: Crossing<'a>,
+    /// The documents in it, the innermost last.
+    inner: Vec<Crossing<'a>>,
+}
+
+impl<'a> Crossing<'a> {
+    /// The document that the path comes to next, if one is there.
+    fn next(&self) -> Option<&'a Document>
+        ensures { MatchOption result ((look : List Field → Candidate) → in_document look (value_under self.now.component.now self.now.document.now) ≡ None) (λ next. value_under self.now.component.now self.now.document.now ≡ Some (document_tree (fields_of next.now))) }
+    {
+        let Some(value) = self.document.get(self.component.as_str()) else {
+            return None;
+        };
+        match value {
+            Value::Doc(document) => Some(document),
+            _ => None,
+        }
+    }
+
+    /// The document with the value in place of the one under the component's name, or without that one.
+    fn with(&self, value: Option<Value>) -> Result<Document, NoMemory>
+        ensures { IfOk result (λ set. set ≡ set_under self.now.component.now (option_map tree value) self.now.document.now) }
+    {
+        let name = self.component.as_str();
+        let mut set = self.document.try_clone()?;
+        match value {
+            Some(value) => set.put(name, value)?,
+            None => set.remove(name)?,
+        };
+        Ok(set)
+    }
+}
+
+impl<'a> Way<'a> {
+    /// The way that the path leads in the row. Fails where memory is wanting.
+    pub(crate) fn of(alloc: Global, row: &'a Document, path: &'a Path) -> Result<Self, NoMemory>
+        requires { IsSome (reached path.now row.now) }
+        ensures { IfOk result (λ way. (v : Candidate) → set_through path.now v row.now ≡ set_on_way way v) }
+    {
+        let components = path.components();
+        let outermost = Crossing {
+            document: row,
+            component: &components[0],
+        };
+        let mut last = outermost;
+        let mut inner = Vec::new(alloc);
+        'components: for component in behind(components) {
+            let Some(document) = last.next() else {
+                unreachable!();
+            };
+            last = Crossing {
+                document,
+                component,
+            };
+            inner.push(last)?;
+        }
+        Ok(Way { outermost, inner })
+    }
+
+    /// The row with the value in place of the one that the path leads to, or without that one. It shares what it doesn't
+    /// change. Fails where memory is wanting.
+    pub(crate) fn with(&self, value: Option<Value>) -> Result<Document, NoMemory>
+        ensures { IfOk result (λ set. set ≡ set_on_way self.now (option_map tree value)) }
+    {
+        let outermost = set_inside(self.inner.as_slice(), value)?;
+        self.outermost.with(outermost)
+    }
+}
+
+/// What stands in place of the outermost one of the documents, each in the one before it, where the value is set in the last.
+fn set_inside(inner: &[Crossing<'_>], value: Option<Value>) -> Result<Option<Value>, NoMemory>
+    ensures { IfOk result (λ set. option_map tree set ≡ set_inward inner.now (option_map tree value)) }
+{
+    let mut value = value;
+    'outward: for place in (0..inner.len()).rev() {
+        value = Some(Value::Doc(inner[place].with(value)?));
+    }
+    Ok(value)
+}

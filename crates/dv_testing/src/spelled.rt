@@ -1,0 +1,32 @@
+//! Documents as tests write them, by their bytes. What stands beside these as text is what `tools/notation.py` spells so.
+
+use dv_bson::{read_document, write_document};
+use dv_value::{Document, List, Value};
+use std::alloc::Global;
+use std::test::Fail;
+
+/// The document that is spelled so at the front of the bytes, or the failure of a test.
+pub fn document(alloc: Global, bytes: &[u8]) -> Result<Document, Fail> {
+    let (document, _) = read_document(alloc, bytes)?;
+    Ok(document)
+}
+
+/// How a document is spelled.
+pub fn bytes_of(alloc: Global, document: &Document) -> Result<Vec<u8>, Fail> {
+    let mut bytes = Vec::new(alloc);
+    write_document(document, &mut bytes)?;
+    Ok(bytes)
+}
+
+/// The array under the name `p`, or the failure of a test.
+pub fn array_in(document: &Document) -> Result<&List, Fail> {
+    match document.get("p") {
+        Some(Value::Array(list)) => Ok(list),
+        _ => Err(Fail::from("an array")),
+    }
+}
+
+/// Puts a field of this name behind the others. No contract says so, and a test that makes documents is proved in less time.
+pub fn add(document: &mut Document, name: &str, value: Value) -> Result<(), Fail> {
+    Ok(document.push(name, value)?)
+}

@@ -1,0 +1,24 @@
+//! Commands and their replies.
+
+use dv_command::{Command, DocumentList, DocumentLists};
+use dv_core::{Outcome, Store};
+use dv_testing::spelled::{bytes_of, document};
+use std::alloc::Global;
+use std::test::Fail;
+
+/// The bytes of the reply to a command with documents beside it, which no want of memory is told of.
+pub(crate) fn told(
+    alloc: Global,
+    store: &mut Store,
+    body: &[u8],
+    lists: Vec<DocumentList>,
+) -> Result<Vec<u8>, Fail> {
+    let command = Command::Sections {
+        body: document(alloc, body)?,
+        lists: DocumentLists::of(lists),
+    };
+    match store.execute(7, &command) {
+        Outcome::Reply(reply) => bytes_of(alloc, &reply),
+        _ => Err(Fail::from("memory is wanting")),
+    }
+}

@@ -1,0 +1,10 @@
+//! Tests of changes, of stages that are kept by them, and of views, of what neither a contract nor a script says. Worked
+//! examples are `docd`'s data.
+#![tactic(auto)]
+
+#[cfg(test)]
+mod changes;
+#[cfg(test)]
+mod turns;
+#[cfg(test)]
+mod views;

@@ -1,0 +1,321 @@
+//! Stages that are kept by changes: what they hand on, and what they count.
+
+ghost use Rattle.std.specs.List.{AllByRecursion};
+ghost use Rattle.std.specs.Prelude.{◌≡◌, [], IfOk, OnOk};
+ghost use Rattle.dv_change.specs.Linked.{IsLinked, first_left};
+
+use dv_change::{
+    Chain, Change, Input, Live, Ordered, Part, Pos, Taken, Ticks, Turn, hand_on, take_in,
+};
+use dv_flow::{LimitTurn, MatchTurn, ProjectTurn, SimpleTurn, SortTurn, UnwindTurn};
+use dv_match::Filter;
+use dv_path::SortSpec;
+use dv_row::{Project, Unwind};
+use dv_testing::spelled::{add, document};
+use dv_value::{Document, Str, Value};
+use std::alloc::Global;
+use std::collections::BTreeMap;
+use std::test::Fail;
+
+/// The position at the number.
+fn place(alloc: Global, number: u64) -> Result<Pos, Fail> {
+    let start = Pos::of(alloc, Vec::new(alloc))?;
+    Ok(start.with(alloc, Part::At(number))?)
+}
+
+/// The row is put at the number.
+pub(crate) fn put(alloc: Global, number: u64, row: &[u8]) -> Result<Change, Fail> {
+    let (pos, row) = (place(alloc, number)?, document(alloc, row)?);
+    Ok(Change::Put { pos, row })
+}
+
+/// The row at the number goes.
+pub(crate) fn gone(alloc: Global, number: u64) -> Result<Change, Fail> {
+    let pos = place(alloc, number)?;
+    Ok(Change::Gone { pos })
+}
+
+/// What a change tells: the number that its position ends with, and the one under `a` in the row that it puts there.
+type Told = (u64, Option<i32>);
+
+/// What the change tells.
+fn told(change: &Change) -> Told {
+    let (pos, value) = match change {
+        Change::Put { pos, row } => (pos, row.get("a")),
+        Change::Gone { pos } => (pos, None),
+    };
+    let Some(Part::At(last)) = pos.as_slice().last() else {
+        return (0, None);
+    };
+    match value {
+        Some(Value::Int32(number)) => (*last, Some(*number)),
+        _ => (*last, None),
+    }
+}
+
+/// The value 10 at the low position, and 20 at the high one.
+fn valued(alloc: Global, low: &Pos, high: &Pos) -> Result<Ordered<i32>, Fail> {
+    let one = Ordered::new(alloc).with(high.behind(alloc, Vec::new(alloc))?, 20)?;
+    Ok(one.with(low.try_clone()?, 10)?)
+}
+
+#[test]
+fn values_stand_in_the_order_of_positions(rt: HostRuntime) -> Result<(), Fail> {
+    let alloc = rt.alloc();
+    let (low, high) = (place(alloc, 1)?, place(alloc, 2)?);
+    let values = valued(alloc, &low, &high)?;
+    assert_eq!(rt; values.first().map(|(_, value)| *value), Some(10));
+    assert_eq!(rt; values.others().next().map(|(_, value)| *value), Some(20));
+    assert_eq!(rt;
+        values.without(&low).get(&high).map(|value| *value),
+        Some(20)
+    );
+    Ok(())
+}
+
+/// `{k: 1, a: 7}`, `{k: 2, a: 7}` and `{k: 2, a: 8}`.
+const ROWS: [&[u8]; 3] = [
+    b"\x13\0\0\0\x10k\0\x01\0\0\0\x10a\0\x07\0\0\0\0",
+    b"\x13\0\0\0\x10k\0\x02\0\0\0\x10a\0\x07\0\0\0\0",
+    b"\x13\0\0\0\x10k\0\x02\0\0\0\x10a\0\x08\0\0\0\0",
+];
+
+#[test]
+fn a_row_that_is_taken_in_is_handed_on(rt: HostRuntime) -> Result<(), Fail> {
+    let alloc = rt.alloc();
+    let (mut rows, none) = (BTreeMap::new(alloc), Ordered::new(alloc));
+    let Taken { pos, new, .. } = take_in(&mut rows, put(alloc, 1, ROWS[0])?)?;
+    let Some(row) = new else {
+        return Err(Fail::from("a row"));
+    };
+    let (mut ticks, mut out) = (Ticks::new(), Vec::new(alloc));
+    let made = Ordered::new(alloc).with(pos, row)?;
+    hand_on(&none, &made, &mut ticks, &mut out)?;
+    hand_on(&made, &none, &mut ticks, &mut out)?;
+    let told: Vec<Told> = out.iter().map(told).collect(alloc)?;
+    assert_eq!(rt; told.as_slice(), [(1, Some(7)), (1, None)].as_slice());
+    assert_eq!(rt; ticks.count(), 4);
+    Ok(())
+}
+
+/// The turn takes in the change.
+fn feed<T: Turn>(
+    turn: &mut T,
+    change: Change,
+    ticks: &mut Ticks,
+    out: &mut Vec<Change>,
+) -> Result<(), Fail>
+    requires { T.sound turn.old }
+    ensures { OnOk result (T.sound turn.new) }
+{
+    Ok(turn.change(Input::Left, change, ticks, out)?)
+}
+
+/// The counts behind each of three rows that are put at 10 one after the other, and what is told of the changes handed on.
+fn turned<T: Turn>(
+    alloc: Global,
+    turn: &mut T,
+    rows: [&[u8]; 3],
+) -> Result<([u64; 3], Vec<Told>), Fail>
+    requires { T.sound turn.old }
+{
+    let (mut ticks, mut out) = (Ticks::new(), Vec::new(alloc));
+    let [first, second, third] = rows;
+    feed(turn, put(alloc, 10, first)?, &mut ticks, &mut out)?;
+    let at_first = ticks.count();
+    feed(turn, put(alloc, 10, second)?, &mut ticks, &mut out)?;
+    let at_second = ticks.count();
+    feed(turn, put(alloc, 10, third)?, &mut ticks, &mut out)?;
+    let told = out.iter().map(told).collect(alloc)?;
+    Ok(([at_first, at_second, ticks.count()], told))
+}
+
+#[test]
+fn a_match_hands_on_what_matches(rt: HostRuntime) -> Result<(), Fail> {
+    let alloc = rt.alloc();
+    // {k: 1}
+    let filter = Filter::parse(alloc, &document(alloc, b"\x0c\0\0\0\x10k\0\x01\0\0\0\0")?)?;
+    let mut turn = MatchTurn::new(alloc, &filter)?;
+    let (counts, told) = turned(alloc, &mut turn, [ROWS[0], ROWS[0], ROWS[1]])?;
+    assert_eq!(rt; counts, [2, 3, 5]);
+    assert_eq!(rt; told.as_slice(), [(10, Some(7)), (10, None)].as_slice());
+    Ok(())
+}
+
+/// `{a: 1}`.
+const BY_A: &[u8] = b"\x0c\0\0\0\x10a\0\x01\0\0\0\0";
+
+#[test]
+fn a_project_hands_on_what_is_shown(rt: HostRuntime) -> Result<(), Fail> {
+    let alloc = rt.alloc();
+    let project = Project::parse(alloc, &Value::Doc(document(alloc, BY_A)?))?;
+    let mut turn = ProjectTurn::new(alloc, &project)?;
+    let (counts, told) = turned(alloc, &mut turn, ROWS)?;
+    assert_eq!(rt; counts, [2, 3, 5]);
+    assert_eq!(rt; told.as_slice(), [(10, Some(7)), (10, Some(8))].as_slice());
+    Ok(())
+}
+
+#[test]
+fn a_sort_hands_on_the_old_place_and_the_new_one(rt: HostRuntime) -> Result<(), Fail> {
+    let alloc = rt.alloc();
+    let Some(spec) = SortSpec::parse(alloc, &document(alloc, BY_A)?)? else {
+        return Err(Fail::from("a sort"));
+    };
+    let mut turn = SortTurn::new(alloc, &spec)?;
+    let (counts, told) = turned(alloc, &mut turn, ROWS)?;
+    assert_eq!(rt; counts, [2, 4, 7]);
+    assert_eq!(rt;
+        told.as_slice(),
+        [(10, Some(7)), (10, Some(7)), (10, None), (10, Some(8))].as_slice()
+    );
+    Ok(())
+}
+
+/// `{_id: 1, a: [1, 2]}`, `{_id: 1, a: [1, 2, 3]}` and `{_id: 1, a: [4]}`.
+const LISTS: [&[u8]; 3] = [
+    b"$\0\0\0\x10_id\0\x01\0\0\0\x04a\0\x13\0\0\0\x100\0\x01\0\0\0\x101\0\x02\0\0\0\0\0",
+    b"+\0\0\0\x10_id\0\x01\0\0\0\x04a\0\x1a\0\0\0\x100\0\x01\0\0\0\x101\0\x02\0\0\0\x102\0\x03\0\0\0\0\0",
+    b"\x1d\0\0\0\x10_id\0\x01\0\0\0\x04a\0\x0c\0\0\0\x100\0\x04\0\0\0\0\0",
+];
+
+/// `{$unwind: "$a"}`.
+fn unwind(alloc: Global) -> Result<Unwind, Fail> {
+    let path = Value::Text(Str::of(String::from_str(alloc, "$a")?));
+    Ok(Unwind::parse(alloc, &path)?)
+}
+
+#[test]
+fn an_unwind_hands_on_the_rows_of_elements(rt: HostRuntime) -> Result<(), Fail> {
+    let alloc = rt.alloc();
+    let mut turn = UnwindTurn::new(alloc, &unwind(alloc)?)?;
+    let (counts, told) = turned(alloc, &mut turn, LISTS)?;
+    let put = [(0, Some(1)), (1, Some(2)), (2, Some(3))];
+    assert_eq!(rt; counts, [3, 5, 9]);
+    assert_eq!(rt; told.as_slice().get(..3), Some(put.as_slice()));
+    assert_eq!(rt;
+        told.as_slice().get(3..),
+        Some([(1, None), (2, None), (0, Some(4))].as_slice())
+    );
+    Ok(())
+}
+
+#[test]
+fn a_limit_pulls_in_the_next_row(rt: HostRuntime) -> Result<(), Fail> {
+    let alloc = rt.alloc();
+    let (mut ticks, mut out) = (Ticks::new(), Vec::new(alloc));
+    let mut turn = LimitTurn::new(alloc, 2);
+    feed(&mut turn, put(alloc, 10, ROWS[0])?, &mut ticks, &mut out)?;
+    feed(&mut turn, put(alloc, 20, ROWS[1])?, &mut ticks, &mut out)?;
+    feed(&mut turn, put(alloc, 30, ROWS[2])?, &mut ticks, &mut out)?;
+    assert_eq!(rt; ticks.count(), 5);
+    feed(&mut turn, gone(alloc, 10)?, &mut ticks, &mut out)?;
+    assert_eq!(rt; ticks.count(), 8);
+    let told: Vec<Told> = out.iter().map(told).collect(alloc)?;
+    assert_eq!(rt;
+        told.as_slice(),
+        [(10, Some(7)), (20, Some(7)), (10, None), (30, Some(8))].as_slice()
+    );
+    Ok(())
+}
+
+#[test]
+fn a_chain_counts_what_its_turns_hand_on(rt: HostRuntime) -> Result<(), Fail> {
+    let alloc = rt.alloc();
+    let mut turns = Vec::new(alloc);
+    turns.push(SimpleTurn::Unwind(UnwindTurn::new(alloc, &unwind(alloc)?)?))?;
+    turns.push(SimpleTurn::Limit(LimitTurn::new(alloc, 1)))?;
+    let mut chain = Chain::new(alloc, turns);
+    let (mut ticks, mut out) = (Ticks::new(), Vec::new(alloc));
+    chain.change(Input::Left, put(alloc, 10, LISTS[0])?, &mut ticks, &mut out)?;
+    let told: Vec<Told> = out.iter().map(told).collect(alloc)?;
+    assert_eq!(rt; told.as_slice(), [(0, Some(1))].as_slice());
+    assert_eq!(rt; ticks.count(), 6);
+    Ok(())
+}
+
+/// The row `{k: k, a: a}` is put at the number.
+fn put_row(alloc: Global, number: u64, k: i32, a: i32) -> Result<Change, Fail> {
+    let mut row = Document::new(alloc);
+    add(&mut row, "k", Value::Int32(k))?;
+    add(&mut row, "a", Value::Int32(a))?;
+    let pos = place(alloc, number)?;
+    Ok(Change::Put { pos, row })
+}
+
+/// The sort `{a: direction}`.
+fn sort_by_a(alloc: Global, direction: i32) -> Result<SortSpec, Fail> {
+    let mut by = Document::new(alloc);
+    add(&mut by, "a", Value::Int32(direction))?;
+    match SortSpec::parse(alloc, &by)? {
+        Some(spec) => Ok(spec),
+        None => Err(Fail::from("a sort")),
+    }
+}
+
+/// The numbers under `a` in the rows.
+fn numbers(alloc: Global, live: &Live<SimpleTurn>) -> Result<Vec<i32>, Fail> {
+    let mut found = Vec::new(alloc);
+    for row in live.rows() {
+        if let Some(Value::Int32(number)) = row.get("a") {
+            found.push(*number)?;
+        }
+    }
+    Ok(found)
+}
+
+/// The rows behind a change of turns.
+fn kept<T: Turn + Drop>(alloc: Global, live: Live<T>, change: Change) -> Result<Live<T>, Fail>
+    requires { IsLinked T.left T.others T.makes T.sound live.chain (first_left T.left T.others T.makes T.sound live.chain) }
+    ensures { IfOk result (λ kept. IsLinked T.left T.others T.makes T.sound kept.chain (first_left T.left T.others T.makes T.sound kept.chain)) }
+{
+    Ok(live.take(Input::Left, change, &mut Vec::new(alloc))?)
+}
+
+/// The rows behind turns to which rows `{k: k, a: a}` come at numbers, one after the other, and the count behind each.
+fn counted<T: Turn + Drop>(
+    alloc: Global,
+    turns: Vec<T>,
+    rows: &[(u64, i32, i32)],
+) -> Result<(Live<T>, Vec<u64>), Fail>
+    requires { AllByRecursion (λ t. T.sound t × (T.left t ≡ [])) turns.items }
+{
+    let mut live = Live::new(alloc, turns);
+    let mut counts = Vec::new(alloc);
+    'rows: for (number, k, a) in rows {
+        live = kept(alloc, live, put_row(alloc, *number, *k, *a)?)?;
+        counts.push(live.ticks())?;
+    }
+    Ok((live, counts))
+}
+
+#[test]
+fn rows_are_kept_behind_a_match_a_sort_and_a_limit(rt: HostRuntime) -> Result<(), Fail> {
+    let alloc = rt.alloc();
+    let filter = Filter::parse(alloc, &document(alloc, b"\x0c\0\0\0\x10k\0\x01\0\0\0\0")?)?;
+    let matching = MatchTurn::new(alloc, &filter)?;
+    let sort = SortTurn::new(alloc, &sort_by_a(alloc, -1)?)?;
+    let mut turns = Vec::new(alloc);
+    turns.push(SimpleTurn::Match(matching))?;
+    turns.push(SimpleTurn::Sort(sort))?;
+    turns.push(SimpleTurn::Limit(LimitTurn::new(alloc, 2)))?;
+    let rows = [(1, 1, 1), (2, 1, 2), (3, 1, 3), (4, 0, 4), (3, 1, 0)];
+    let (live, counts) = counted(alloc, turns, &rows)?;
+    assert_eq!(rt; counts.as_slice(), [6, 12, 19, 20, 29].as_slice());
+    assert_eq!(rt; numbers(alloc, &live)?.as_slice(), [2, 1].as_slice());
+    Ok(())
+}
+
+#[test]
+fn a_row_comes_back_behind_a_sort_and_a_limit(rt: HostRuntime) -> Result<(), Fail> {
+    let alloc = rt.alloc();
+    let sort = SortTurn::new(alloc, &sort_by_a(alloc, 1)?)?;
+    let mut turns = Vec::new(alloc);
+    turns.push(SimpleTurn::Sort(sort))?;
+    turns.push(SimpleTurn::Limit(LimitTurn::new(alloc, 2)))?;
+    let rows = [(1, 1, 10), (2, 1, 20), (3, 1, 30), (1, 1, 15)];
+    let (live, counts) = counted(alloc, turns, &rows)?;
+    assert_eq!(rt; counts.as_slice().get(2..), Some([11, 20].as_slice()));
+    assert_eq!(rt; numbers(alloc, &live)?.as_slice(), [15, 20].as_slice());
+    Ok(())
+}

@@ -1,0 +1,14 @@
+pub mod Named
+pub mod ByText
+pub mod Places
+pub mod Items
+pub mod Zipped
+pub mod Payloads
+pub mod Rest
+pub mod Moved
+pub mod Changed
+pub mod Pushed
+pub mod Resized
+pub mod Shallow
+pub mod Last
+pub mod Removed

@@ -1,0 +1,59 @@
+-- The spelling of a document field by field, and how long its parts are.
+use Rattle.std.specs.Prelude.{◌≡◌, ℕ, suc, ◌+◌, List, [], ◌∷◌, ◌++◌, length, decimal}
+use Rattle.std.specs.Int.{w32, to_le_bytes}
+use Rattle.std.proofs.Common.{refl, length-append, arith}
+use Rattle.dv_value.specs.declared.kind.Kind.{Kind}
+use Rattle.dv_value.specs.Spelling.{kind_of, framed, counted, tagged, element_spelling, payload, fields_spelling, elements_spelling}
+use Rattle.dv_value.specs.Tree.{Tree, document, array, Fields, Elements, Field, fields_of, elements_of}
+
+-- ---- what a field or an element adds in front of the others
+
+pub fields_spelling-field : (f : Field) (fs : List Field) → fields_spelling (fields_of (f ∷ fs)) ≡ element_spelling (kind_of f.1) f.0 (payload f.1) ++ fields_spelling (fields_of fs)
+unfolding fields_spelling
+fields_spelling-field f fs = refl
+
+pub elements_spelling-element : (place : ℕ) (v : Tree) (vs : List Tree) → elements_spelling place (elements_of (v ∷ vs)) ≡ element_spelling (kind_of v) (decimal place) (payload v) ++ elements_spelling (suc place) (elements_of vs)
+unfolding elements_spelling
+elements_spelling-element place v vs = refl
+
+pub fields_spelling-nil : (fs : List Field) → fs ≡ [] → fields_spelling (fields_of fs) ≡ []
+unfolding fields_spelling
+fields_spelling-nil fs none = rw none refl
+
+pub elements_spelling-nil : (place : ℕ) (vs : List Tree) → vs ≡ [] → elements_spelling place (elements_of vs) ≡ []
+unfolding elements_spelling
+elements_spelling-nil place vs none = rw none refl
+
+-- ---- lengths
+
+-- a count takes four bytes
+length-count : (n : ℕ) → length (to_le_bytes w32 n) ≡ 4
+length-count n = refl
+
+-- a count in front of a text, and a zero behind it
+length-enclosed : (n : ℕ) (text : List ℕ) → length (to_le_bytes w32 n ++ (text ++ 0 ∷ [])) ≡ length text + 5
+length-enclosed n text = omega (arith, length-append (to_le_bytes w32 n) (text ++ 0 ∷ []), length-append text (0 ∷ []), length-count n)
+
+pub length-counted : (text : List ℕ) → length (counted text) ≡ length text + 5
+unfolding counted
+length-counted text = length-enclosed (length text + 1) text
+
+pub length-framed : (elements : List ℕ) → length (framed elements) ≡ length elements + 5
+unfolding framed
+length-framed elements = length-enclosed (length elements + 5) elements
+
+pub length-tagged : (subtype : ℕ) (bytes : List ℕ) → length (tagged subtype bytes) ≡ length bytes + 5
+unfolding tagged
+length-tagged subtype bytes = omega (arith, length-append (to_le_bytes w32 (length bytes)) (subtype ∷ bytes), length-count (length bytes))
+
+pub length-element_spelling : (kind : Kind) (name value : List ℕ) → length (element_spelling kind name value) ≡ length value + length name + 2
+unfolding element_spelling
+length-element_spelling kind name value = omega (arith, length-append name (0 ∷ value))
+
+pub length-document : (fs : Fields) → length (payload (document fs)) ≡ length (fields_spelling fs) + 5
+unfolding payload
+length-document fs = length-framed (fields_spelling fs)
+
+pub length-array : (vs : Elements) → length (payload (array vs)) ≡ length (elements_spelling 0 vs) + 5
+unfolding payload
+length-array vs = length-framed (elements_spelling 0 vs)

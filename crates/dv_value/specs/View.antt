@@ -1,0 +1,26 @@
+-- What a value in memory stands for.
+use Rattle.std.specs.Prelude.{List, [], Option, None, Some}
+use Rattle.std.specs.declared.rc.Rc.{Rc}
+use Rattle.dv_value.specs.declared.value.Value.{Value}
+use Rattle.dv_value.specs.declared.value.Value.TheVariants.{Int32, Int64, Text, Doc, Array, Binary, ObjectId, Bool, Date, Null, Timestamp, MinKey, MaxKey}
+use Rattle.dv_value.specs.Tree.{Tree, int32, int64, string, document, array, boolean, binary, object_id, date, null, timestamp, min_key, max_key, fields_of, elements_of}
+
+abbrev pub tree : Value → Tree
+tree (Int32 n) = int32 n
+tree (Int64 n) = int64 n
+tree (Text s) = string s
+tree (Doc fs) = document (fields_of fs)
+tree (Array vs) = array (elements_of vs)
+tree (Binary subtype bytes) = binary subtype bytes
+tree (ObjectId id) = object_id id
+tree (Bool b) = boolean b
+tree (Date n) = date n
+tree Null = null
+tree (Timestamp n) = timestamp n
+tree MinKey = min_key
+tree MaxKey = max_key
+
+-- what a pointer that may be none holds
+abbrev pub held : {X Y : Type 0} → Option (Rc (List X) Y) → List X
+held None = []
+held (Some shared) = shared.value

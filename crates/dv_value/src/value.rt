@@ -1,0 +1,223 @@
+//! Values, documents and lists of values.
+
+ghost use Rattle.std.specs.Prelude.{◌≡◌};
+ghost use Rattle.dv_value.specs.Spelling.{kind_of};
+ghost use Rattle.dv_value.specs.View.{tree};
+
+mod copies;
+mod documents;
+mod field_lists;
+mod lists;
+mod measures;
+mod sharing;
+
+use crate::bytes::Bytes;
+use crate::kind::Kind;
+use crate::name_list::Names;
+use crate::text::Str;
+use std::alloc::Global;
+use std::marker::Model;
+use std::mem::size_of;
+use std::rc::Rc;
+
+/// A value of a field or of an array. In quotes: its type's name in the BSON specification, version 1.1
+/// (bsonspec.org).
+#[cycle(value)]
+#[derive(Debug, Drop)]
+pub enum Value {
+    /// "32-bit integer", signed.
+    Int32(i32),
+    /// "64-bit integer", signed.
+    Int64(i64),
+    /// "UTF-8 string", which may hold the character U+0000.
+    Text(Str),
+    /// "Embedded document".
+    Doc(Document),
+    /// "Array", of values of any types.
+    Array(List),
+    /// "Binary data": bytes of a use that the subtype names, kept as they are whatever it is.
+    Binary {
+        /// "Binary subtype".
+        subtype: u8,
+        /// The bytes, without the subtype.
+        bytes: Bytes,
+    },
+    /// "ObjectId".
+    ObjectId([u8; 12]),
+    /// "Boolean".
+    Bool(bool),
+    /// "UTC datetime", in milliseconds since the Unix epoch.
+    Date(i64),
+    /// "Null value".
+    Null,
+    /// "Timestamp": an unsigned 64-bit integer, whose lower half counts inside the second that the upper half is.
+    Timestamp(u64),
+    /// "Min key", which comes before all other values.
+    MinKey,
+    /// "Max key", which comes behind all other values.
+    MaxKey,
+}
+
+/// What a value takes inside a list or a document, beside the memory that it owns.
+const _: () = prove!(size_of::<Value>() == 32);
+
+/// Beside the memory that a copy shares.
+const _: () = prove!(size_of::<Document>() == 16);
+
+/// With the two counts of a pointer that is shared, no more than 56 bytes: what malloc hands out in a chunk of 64.
+const _: () = prove!(size_of::<Measured>() == 40);
+
+/// The fields of a document and of its copies, in the order in which they were added: what a reader gathers before there is
+/// a document.
+#[cycle(value)]
+#[derive(Debug, Drop)]
+pub struct Fields {
+    /// Shared with documents of the same names. Names may follow that have no value: those of a longer document, which
+    /// begins with these.
+    names: Rc<Names>,
+    values: Vec<Value>,
+}
+
+/// Fields, and how long their spelling is, if that is known.
+#[cycle(value)]
+#[derive(Debug, Drop)]
+pub(crate) struct Measured {
+    fields: Fields,
+    /// Follows a value that is added, or put in place of one that is dropped; other changes forget it. Where there is one, the
+    /// fields are known to be valid at each of their levels, too, and to have at most 100 of these.
+    size: Option<u32>,
+}
+
+/// Fields in the order in which they were added. No two have one name, and no name holds a zero byte.
+#[cycle(value)]
+#[derive(Debug, Drop)]
+pub struct Document {
+    alloc: Global,
+    /// Shared by a document and its copies until one of them is changed. None where there is no field, since a new
+    /// document takes no memory.
+    fields: Option<Rc<Measured>>,
+}
+
+/// The values of an array, in order.
+#[cycle(value)]
+#[derive(Debug, Drop)]
+pub struct List {
+    values: Vec<Value>,
+}
+
+impl Model for Fields {
+    ghost use Rattle.std.specs.Prelude as prelude;
+    ghost use Rattle.std.specs.Prelude.{ℕ, ◌*◌, ◌≤◌, map, length};
+    ghost use Rattle.std.specs.List.{zip};
+    ghost use Rattle.std.specs.Coded.{coded_list, coded×, coded_ℕ};
+    ghost use Rattle.dv_value.specs.Tree.{Field, fields_of, fields_weight};
+    ghost use Rattle.dv_value.specs.TreeCode.{coded_tree};
+
+    ghost Value = { prelude.List Field };
+
+    ghost coded = { coded_list (coded× (coded_list coded_ℕ) coded_tree) };
+
+    ghost use Rattle.dv_value.specs.View.{tree};
+
+    ghost view = { λ f. zip f.names.value (map tree f.values.items) };
+
+    ghost invariant = { λ f. length f.values.items ≤ length f.names.value };
+
+    ghost size = { λ fs. 3 * fields_weight (fields_of fs) };
+
+    ghost use Rattle.std.proofs.Common.{arith};
+    ghost use Rattle.dv_value.specs.ViewFalls.{fields_fall};
+
+    ghost size_decreases = { λ f h. omega (arith, fields_fall f.names.value f.values.items h) };
+}
+
+impl Model for Measured {
+    ghost use Rattle.std.specs.Prelude as prelude;
+    ghost use Rattle.std.specs.Prelude.{ℕ, suc, ◌*◌, IfSome};
+    ghost use Rattle.std.specs.Coded.{coded_list, coded×, coded_ℕ};
+    ghost use Rattle.dv_value.specs.Tree.{Field, fields_of, fields_weight};
+    ghost use Rattle.dv_value.specs.TreeCode.{coded_tree};
+    ghost use Rattle.dv_value.specs.Measure.{IsMeasure};
+
+    ghost Value = { prelude.List Field };
+
+    ghost coded = { coded_list (coded× (coded_list coded_ℕ) coded_tree) };
+
+    ghost view = { λ m. m.fields };
+
+    ghost invariant = { λ m. IfSome m.size (λ size. IsMeasure size m.fields) };
+
+    ghost size = { λ fs. suc (3 * fields_weight (fields_of fs)) };
+
+    ghost use Rattle.std.proofs.Common.{arith};
+
+    ghost size_decreases = { λ m h. Prim.grind arith };
+}
+
+impl Model for Document {
+    ghost use Rattle.std.specs.Prelude as prelude;
+    ghost use Rattle.std.specs.Prelude.{ℕ, suc, ◌*◌};
+    ghost use Rattle.std.specs.Coded.{coded_list, coded×, coded_ℕ};
+    ghost use Rattle.dv_value.specs.Tree.{Field, fields_of, fields_weight};
+    ghost use Rattle.dv_value.specs.TreeCode.{coded_tree};
+
+    ghost Value = { prelude.List Field };
+
+    ghost coded = { coded_list (coded× (coded_list coded_ℕ) coded_tree) };
+
+    ghost use Rattle.dv_value.specs.View.{held};
+
+    ghost view = { λ d. held d.fields };
+
+    ghost size = { λ fs. suc (suc (3 * fields_weight (fields_of fs))) };
+
+    ghost use Rattle.std.proofs.Common.{arith};
+
+    ghost size_decreases = { λ d h. Prim.grind arith };
+}
+
+impl Model for List {
+    ghost use Rattle.std.specs.Prelude as prelude;
+    ghost use Rattle.std.specs.Prelude.{◌*◌, map};
+    ghost use Rattle.std.specs.Coded.{coded_list};
+    ghost use Rattle.dv_value.specs.Tree.{Tree, elements_of, elements_weight};
+    ghost use Rattle.dv_value.specs.TreeCode.{coded_tree};
+
+    ghost Value = { prelude.List Tree };
+
+    ghost coded = { coded_list coded_tree };
+
+    ghost use Rattle.dv_value.specs.View.{tree};
+
+    ghost view = { λ l. map tree l.values.items };
+
+    ghost size = { λ vs. 3 * elements_weight (elements_of vs) };
+
+    ghost use Rattle.std.proofs.Common.{arith};
+    ghost use Rattle.dv_value.specs.ViewFalls.{values_fall};
+
+    ghost size_decreases = { λ l h. omega (arith, values_fall l.values.items) };
+}
+
+impl Value {
+    /// The type of the value.
+    pub fn kind(&self) -> Kind
+        ensures { result ≡ kind_of (tree self.now) }
+    {
+        match self {
+            Value::Int32(_) => Kind::Int32,
+            Value::Int64(_) => Kind::Int64,
+            Value::Text(_) => Kind::Text,
+            Value::Doc(_) => Kind::Doc,
+            Value::Array(_) => Kind::Array,
+            Value::Binary { .. } => Kind::Binary,
+            Value::ObjectId(_) => Kind::ObjectId,
+            Value::Bool(_) => Kind::Bool,
+            Value::Date(_) => Kind::Date,
+            Value::Null => Kind::Null,
+            Value::Timestamp(_) => Kind::Timestamp,
+            Value::MinKey => Kind::MinKey,
+            Value::MaxKey => Kind::MaxKey,
+        }
+    }
+}

@@ -1,0 +1,329 @@
+//! Documents: how they are made, looked at and changed.
+
+ghost use Rattle.std.specs.Prelude.{◌≡◌, ◌<◌, ◌↔◌, ◌⊎◌, if◌then◌else◌, Some, None, [], ◌∷◌, ◌++◌, true, false, length, IsTrue, OnOk, OnErr, IfOk, IfErr, IfSome, IsErrOf, slice_get};
+ghost use Rattle.std.specs.Option.{option_map};
+ghost use Rattle.dv_value.specs.FieldChange.{with_value_pushed};
+ghost use Rattle.dv_value.specs.Measure.{IsMeasure};
+ghost use Rattle.dv_value.specs.Names.{AreNamed, value_under, with_value_under, without, has_name, has_zero};
+ghost use Rattle.dv_value.specs.View.{tree};
+
+use crate::NoMemory;
+use crate::fault::BsonFault;
+use crate::limits::{document_size, is_shallow};
+use crate::value::{Document, Fields, Measured, Value};
+use std::alloc::Global;
+use std::rc::Rc;
+
+impl Document {
+    /// A document without fields, whose fields will be allocated by `alloc`.
+    pub fn new(alloc: Global) -> Self
+        ensures { result ≡ [] }
+    {
+        Document {
+            alloc,
+            fields: None,
+        }
+    }
+
+    /// A document without fields, with room for as many as `like` has; fields of the same names, added in the same order,
+    /// share its names. Fails where memory is wanting.
+    pub fn expecting(alloc: Global, like: &Document) -> Result<Self, NoMemory>
+        ensures { IfOk result (λ document. document ≡ []) }
+    {
+        if like.is_empty() {
+            return Ok(Document::new(alloc));
+        }
+        let fields = Measured::of(Fields::beside(alloc, like)?, None);
+        let fields = Some(Rc::new(alloc, fields)?);
+        Ok(Document { alloc, fields })
+    }
+
+    /// The document with these fields, whose spelling is so long. They give back what room they have left. Fails where
+    /// memory is wanting.
+    pub fn of(alloc: Global, mut fields: Fields, size: u32) -> Result<Self, NoMemory>
+        requires { IsMeasure size fields }
+        ensures { IfOk result (λ document. document ≡ fields) }
+    {
+        if fields.len() == 0 {
+            return Ok(Document::new(alloc));
+        }
+        fields.trim();
+        let fields = Some(Rc::new(alloc, Measured::of(fields, Some(size)))?);
+        Ok(Document { alloc, fields })
+    }
+
+    /// How many fields there are.
+    pub fn len(&self) -> usize
+        ensures len { result ≡ length self.now }
+        // No name holds a zero byte, and no two fields have one name.
+        ensures named { AreNamed self.now }
+    {
+        match &self.fields {
+            Some(measured) => measured.fields().len(),
+            None => 0,
+        }
+    }
+
+    /// Whether there is no field.
+    pub fn is_empty(&self) -> bool
+        ensures { IsTrue result ↔ (self.now ≡ []) }
+    {
+        self.len() == 0
+    }
+
+    /// The name and the value of the field at `place`, counted from 0 in written order.
+    pub fn entry(&self, place: usize) -> Option<(&str, &Value)>
+        ensures { option_map (λ field. (field.0.now, tree field.1.now)) result ≡ slice_get self.now place }
+    {
+        match &self.fields {
+            Some(measured) => measured.fields().entry(place),
+            None => None,
+        }
+    }
+
+    /// The value under the name, where there is one. Found in time logarithmic in the number of fields,
+    /// whatever the names are.
+    pub fn get(&self, name: &str) -> Option<&Value>
+        ensures { option_map (λ value. tree value.now) result ≡ value_under name.now self.now }
+    {
+        match &self.fields {
+            Some(measured) => measured.fields().get(name),
+            None => None,
+        }
+    }
+
+    /// Adds a field at the end. Refused with `BadName` where the name holds a zero byte, with
+    /// `RepeatedName` where a field has it, and with `NoMemory`; then nothing is changed, and the value is
+    /// dropped.
+    pub fn push(&mut self, name: &str, value: Value) -> Result<(), BsonFault>
+        ensures ok { OnOk result (self.new ≡ self.old ++ (name.now, tree value) ∷ []) }
+        ensures err { OnErr result (self.new ≡ self.old) }
+
+        ensures bad_name { IsErrOf result BsonFault.BadName ↔ (has_zero name.now ≡ true) }
+        ensures repeated { IsErrOf result BsonFault.RepeatedName ↔ (has_name name.now self.old ≡ true) }
+        ensures other { IfErr result (λ e. (e ≡ BsonFault.BadName) ⊎ (e ≡ BsonFault.RepeatedName) ⊎ (e ≡ BsonFault.NoMemory)) }
+    {
+        self.check_new(name)?;
+        Ok(self.add(name, value)?)
+    }
+
+    /// Whether a field with the name can be added, or why it can't be.
+    #[tactic(auto, using(crate::proofs::Named::places))]
+    fn check_new(&self, name: &str) -> Result<(), BsonFault>
+        ensures ok { OnOk result ((has_zero name.now ≡ false) × (has_name name.now self.now ≡ false)) }
+        ensures err { IfErr result (λ e. ((e ≡ BsonFault.BadName) × (has_zero name.now ≡ true) × (has_name name.now self.now ≡ false)) ⊎ ((e ≡ BsonFault.RepeatedName) × (has_name name.now self.now ≡ true) × (has_zero name.now ≡ false))) }
+    {
+        if self.has(name) {
+            return Err(BsonFault::RepeatedName);
+        }
+        if name.as_bytes().contains(&0) {
+            return Err(BsonFault::BadName);
+        }
+        Ok(())
+    }
+
+    /// Whether a field has the name.
+    fn has(&self, name: &str) -> bool
+        ensures has { result ≡ has_name name.now self.now }
+        ensures named { AreNamed self.now }
+    {
+        match &self.fields {
+            Some(measured) => measured.fields().has(name),
+            None => false,
+        }
+    }
+
+    /// Adds a field at the end. The name must hold no zero byte, and no field may have it: `push` looks whether it is so.
+    /// Fields that a copy shares are copied first. Fails where memory is wanting; then nothing is changed, and the value is
+    /// dropped.
+    pub fn add(&mut self, name: &str, value: Value) -> Result<(), NoMemory>
+        requires whole { has_zero name.now ≡ false }
+        requires fresh { has_name name.now self.old ≡ false }
+        ensures ok { OnOk result (self.new ≡ self.old ++ (name.now, tree value) ∷ []) }
+        ensures err { OnErr result (self.new ≡ self.old) }
+    {
+        match &mut self.fields {
+            Some(shared) => Rc::make_mut(shared)?.add(name, value),
+            None => {
+                self.fields = Some(first_field(self.alloc, name, value)?);
+                Ok(())
+            }
+        }
+    }
+
+    /// Makes room for one more value where there is none, and for no further one: a document that is stored gets few more.
+    /// Fields that a copy shares are copied first. Fails where memory is wanting.
+    pub(crate) fn reserve_one(&mut self) -> Result<(), NoMemory>
+        ensures { self.new ≡ self.old }
+    {
+        match &mut self.fields {
+            Some(shared) => Rc::make_mut(shared)?.reserve_one(),
+            None => Ok(()),
+        }
+    }
+
+    /// Puts the value in place of the one under the name, and gives that one. Where no field has the name there is none,
+    /// nothing is changed, and the value is dropped; so it is where memory is wanting. Memory is taken only where a copy
+    /// shares the fields, which are copied first. In time logarithmic in the number of fields where none does.
+    pub fn replace(&mut self, name: &str, value: Value) -> Result<Option<Value>, NoMemory>
+        ensures before { IfOk result (λ before. option_map tree before ≡ value_under name.now self.old) }
+        ensures ok { OnOk result (self.new ≡ with_value_under name.now (tree value) self.old) }
+        ensures err { OnErr result (self.new ≡ self.old) }
+    {
+        if !self.has(name) {
+            drop(value);
+            return Ok(None);
+        }
+        match &mut self.fields {
+            Some(shared) => Ok(Rc::make_mut(shared)?.replace(name, value)),
+            None => unreachable!(),
+        }
+    }
+
+    /// Puts the value in place of the one under the name, which is dropped. Where no field has the name, nothing is changed
+    /// and the value is given back; where memory is wanting, nothing is changed and it is dropped. Memory is taken only
+    /// where a copy shares the fields: then the other values are copied. In time logarithmic in the number of fields where
+    /// none does; where the length of the spelling is kept, both values are measured besides.
+    pub fn put(&mut self, name: &str, value: Value) -> Result<Option<Value>, NoMemory>
+        ensures back { IfOk result (λ back. option_map tree back ≡ (if has_name name.now self.old then None else Some (tree value))) }
+        ensures ok { OnOk result (self.new ≡ with_value_under name.now (tree value) self.old) }
+        ensures err { OnErr result (self.new ≡ self.old) }
+    {
+        match &mut self.fields {
+            Some(shared) => put_value(self.alloc, shared, name, value),
+            None => Ok(Some(value)),
+        }
+    }
+
+    /// Puts the value behind the elements of the array under the name; where there is no array, nothing is changed, and the
+    /// value is dropped. Fields that a copy shares are copied first. Fails where memory is wanting.
+    pub(crate) fn push_element(&mut self, name: &str, value: Value) -> Result<(), NoMemory>
+        ensures ok { OnOk result (self.new ≡ with_value_pushed name.now (tree value) self.old) }
+        ensures err { OnErr result (self.new ≡ self.old) }
+    {
+        let Some(Value::Array(_)) = self.get(name) else {
+            return Ok(());
+        };
+        match &mut self.fields {
+            Some(shared) => Rc::make_mut(shared)?.push_element(name, value),
+            None => Ok(()),
+        }
+    }
+
+    /// Takes away the field with the name, and gives its value. Where no field has the name there is none, and nothing is
+    /// changed; neither is it where memory is wanting. In time linear in the number of fields.
+    pub fn remove(&mut self, name: &str) -> Result<Option<Value>, NoMemory>
+        ensures before { IfOk result (λ before. option_map tree before ≡ value_under name.now self.old) }
+        ensures ok { OnOk result (self.new ≡ without name.now self.old) }
+        ensures err { OnErr result (self.new ≡ self.old) }
+    {
+        if !self.has(name) {
+            return Ok(None);
+        }
+        match &mut self.fields {
+            Some(shared) => Rc::make_mut(shared)?.remove(name),
+            None => unreachable!(),
+        }
+    }
+
+    /// Keeps the length of the spelling beside the fields, if there is one, no copy shares them and they have at most 100
+    /// levels: then `size`, `fits` and writing need not work it out again. It follows a
+    /// value that is added, or put in place of one that is dropped; other changes forget it. Nothing that a caller sees
+    /// changes. Takes no memory. One look where it is kept, and else in time linear in what stands in the document.
+    pub fn keep_size(&mut self)
+        ensures { self.new ≡ self.old }
+    {
+        if self.is_shared() || self.kept_size().is_some() {
+            return;
+        }
+        let Some(size) = document_size(self) else {
+            return;
+        };
+        if !is_shallow(self, size) {
+            return;
+        }
+        if let Some(shared) = &mut self.fields {
+            if let Some(own) = Rc::get_mut(shared) {
+                own.keep(size as u32);
+            }
+        }
+    }
+
+    /// Whether a copy shares the fields.
+    fn is_shared(&self) -> bool {
+        match &self.fields {
+            Some(shared) => Rc::strong_count(shared) > 1,
+            None => false,
+        }
+    }
+
+    /// The length of the spelling, where it is kept.
+    pub(crate) fn kept_size(&self) -> Option<u32>
+        ensures { IfSome result (λ size. IsMeasure size self.now) }
+    {
+        match &self.fields {
+            Some(measured) => measured.size(),
+            None => None,
+        }
+    }
+
+    /// The name and the value of the field at `place`, which is there.
+    pub fn field(&self, place: usize) -> (&str, &Value)
+        requires { place < length self.now }
+        ensures { slice_get self.now place ≡ Some (result.0.now, tree result.1.now) }
+    {
+        match self.entry(place) {
+            Some(field) => field,
+            None => unreachable!(),
+        }
+    }
+
+    /// A copy, which shares the memory of the fields until one of the two is changed: in constant time. Fails where
+    /// memory is wanting.
+    pub fn try_clone(&self) -> Result<Self, NoMemory>
+        ensures { IfOk result (λ copy. copy ≡ self.now) }
+    {
+        let fields = match &self.fields {
+            Some(fields) => Some(fields.clone()?),
+            None => None,
+        };
+        Ok(Document {
+            alloc: self.alloc,
+            fields,
+        })
+    }
+}
+
+/// Puts the value in place of the one under the name; where no field has the name, the value is given back. Fields that a
+/// copy shares are copied without the one that goes.
+fn put_value(
+    alloc: Global,
+    shared: &mut Rc<Measured>,
+    name: &str,
+    value: Value,
+) -> Result<Option<Value>, NoMemory>
+    ensures back { IfOk result (λ back. option_map tree back ≡ (if has_name name.now shared.old.value then None else Some (tree value))) }
+    ensures ok { OnOk result (shared.new.value ≡ with_value_under name.now (tree value) shared.old.value) }
+    ensures err { OnErr result (shared.new.value ≡ shared.old.value) }
+{
+    let Some(place) = shared.fields().place_of(name) else {
+        return Ok(Some(value));
+    };
+    if let Some(own) = Rc::get_mut(shared) {
+        own.put_at(place, value);
+        return Ok(None);
+    }
+    let changed = shared.copy_with(place, value)?;
+    *shared = Rc::new(alloc, changed)?;
+    Ok(None)
+}
+
+/// One field, whose name holds no zero byte. Fails where memory is wanting.
+fn first_field(alloc: Global, name: &str, value: Value) -> Result<Rc<Measured>, NoMemory>
+    requires { has_zero name.now ≡ false }
+    ensures { IfOk result (λ fields. fields.value ≡ (name.now, tree value) ∷ []) }
+{
+    let mut fields = Fields::with_room(alloc, 1)?;
+    fields.add(name, value)?;
+    Ok(Rc::new(alloc, Measured::of(fields, None))?)
+}

@@ -1,0 +1,80 @@
+//! Names that documents of one shape share.
+
+ghost use Rattle.std.specs.Prelude.{◌≡◌, map};
+ghost use Rattle.dv_value.specs.View.{tree};
+
+use crate::limits::MAX_LEVELS;
+use crate::value::{Document, Fields, Measured, Value};
+use std::rc::Rc;
+
+impl Document {
+    /// Lets the names of the fields lie where those of the other document do, if these are the same, or no more than as
+    /// many follow there; where a copy shares the fields, they stay where they are. Nothing that a caller sees changes but
+    /// how much memory is taken. Takes none.
+    pub fn share_names(&mut self, with: &Document)
+        ensures { self.new ≡ self.old }
+    {
+        self.share_names_within(with, MAX_LEVELS);
+    }
+
+    /// As `share_names`, with so many levels left inside the document.
+    #[cycle(sharing)]
+    fn share_names_within(&mut self, with: &Document, levels: u32)
+        ensures { self.new ≡ self.old }
+    {
+        let Some(shared) = &mut self.fields else {
+            return;
+        };
+        let Some(others) = &with.fields else {
+            return;
+        };
+        if let Some(own) = Rc::get_mut(shared) {
+            own.share_names(others.fields(), levels);
+        }
+    }
+}
+
+impl Measured {
+    /// As `share_names` of `Fields`. The spelling stays as it is.
+    #[cycle(sharing)]
+    fn share_names(&mut self, other: &Fields, levels: u32)
+        ensures { self.new ≡ self.old }
+    {
+        self.fields.share_names(other, levels);
+    }
+}
+
+impl Fields {
+    /// Takes the other's names in place of the same ones of its own, and so do documents in documents, with so many levels
+    /// left inside.
+    #[cycle(sharing)]
+    fn share_names(&mut self, other: &Fields, levels: u32)
+        ensures { self.new ≡ self.old }
+    {
+        if !self.names.begins_as(&other.names, self.values.len()) {
+            return;
+        }
+        let Ok(names) = other.names.clone() else {
+            return;
+        };
+        self.names = names;
+        share_inner_names(&mut self.values, &other.values, levels);
+    }
+}
+
+/// Lets the names of the documents among these values lie where those of the documents at their places do.
+#[cycle(sharing)]
+fn share_inner_names(values: &mut [Value], others: &[Value], levels: u32)
+    ensures { map tree values.new ≡ map tree values.old }
+{
+    if levels == 0 {
+        return;
+    }
+    for place in 0..values.len().min(others.len()) {
+        if let Value::Doc(document) = &mut values[place] {
+            if let Value::Doc(other) = &others[place] {
+                document.share_names_within(other, levels - 1);
+            }
+        }
+    }
+}

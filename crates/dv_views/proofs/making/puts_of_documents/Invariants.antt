@@ -1,0 +1,14 @@
+-- The puts so far, and those of the documents that are left, are all.
+use Rattle.std.proofs.Common.{◌≡◌, ◌++◌, drop}
+use Rattle.std.specs.List.{AllByRecursion}
+use Rattle.dv_coll.specs.Collection.{HasId}
+use Rattle.dv_pipe.specs.Sources.{rows_referred}
+use Rattle.dv_views.specs.Filled.{puts_of}
+use Rattle.dv_views.specs.Placed.{positioned}
+use Rattle.dv_views.proofs.making.puts_of_documents.Given as goal
+
+abbrev pub invariant-documents : goal.invariant-documents
+invariant-documents l = record {
+  identified : AllByRecursion HasId (rows_referred (drop l.document-index l.documents));
+  puts : l.puts.items ++ puts_of (positioned (rows_referred (drop l.document-index l.documents))) ≡ puts_of (positioned (rows_referred l.documents));
+}

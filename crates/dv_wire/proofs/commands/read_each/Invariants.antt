@@ -1,6 +1,0 @@
-use Rattle.std.proofs.Common.{◌≡◌, Ok, map, take}
-use Rattle.dv_wire.specs.Commands.{fields_in, each_read}
-use Rattle.dv_wire.proofs.commands.read_each.Given as goal
-
-abbrev pub invariant-documents : goal.invariant-documents
-invariant-documents l = each_read fields_in (map (λ d. d.now) (take l.document-index l.documents)) ≡ Ok l.read.items

@@ -1,8 +1,0 @@
-use Rattle.dv_wire.proofs.Names.{cut_none, cut_some}
-use Rattle.dv_wire.proofs.sections.cut_at_zero.Goals as goal
-
-pub returns-in_err-end : goal.returns-in_err-end
-returns-in_err-end c = rw c.from_residual.ensures (cut_none c.args.bytes.now c.in_err-end.ensures)
-
-pub returns : goal.returns
-returns c = cut_some c.args.bytes.now c.in_ok-end.end c.in_ok-end.ensures

@@ -1,9 +1,0 @@
--- Each level takes two calls.
-use Rattle.std.proofs.Common.{◌+◌, ◌*◌}
-use Rattle.dv_wire.proofs.shapes.+comparison.Given as goal
-
-abbrev pub decreases-has_shape : goal.decreases-has_shape
-decreases-has_shape l = 2 * l.levels + 1
-
-abbrev pub decreases-has_shape_at : goal.decreases-has_shape_at
-decreases-has_shape_at l = 2 * l.levels

@@ -1,0 +1,186 @@
+//! Why the program ends without having done all.
+
+ghost use Rattle.std.specs.Prelude.{◌≡◌, ◌≢◌};
+ghost use Rattle.dv_words.specs.Faults.{NamesCode, TellsLoad, fault_of_check};
+
+use clap::Error as WordFault;
+use clap::error::ErrorKind;
+use dv_files::check::CheckFault;
+use dv_files::fault::LoadFault;
+use dv_value::BsonFault;
+use std::alloc::AllocError;
+use thiserror::Error;
+
+/// Why the program ends without having done all. Its text is what standard error shows.
+#[derive(Debug, Drop, Error)]
+pub enum DocdFault {
+    /// The words are none of the program's forms.
+    #[error("usage")]
+    Usage,
+    /// A file can't be opened, or not be read to its end.
+    #[error("{file}: cannot read")]
+    CannotRead {
+        file: String,
+    },
+    /// A file has more than 1,073,741,824 bytes.
+    #[error("{file}: too large")]
+    TooLarge {
+        file: String,
+    },
+    /// A file's document has a fault: the document of this number, from 1, which begins at this byte, from 0.
+    #[error("{file}: document {number} at byte {at}: {fault}")]
+    Document {
+        file: String,
+        number: usize,
+        at: usize,
+        fault: BsonFault,
+    },
+    /// A file's document is refused under a namespace, and this is why.
+    #[error("{file}: document {number} at byte {at}: {why}")]
+    Refused {
+        file: String,
+        number: usize,
+        at: usize,
+        why: &'static str,
+    },
+    /// The one session was closed, with this number of the fault.
+    #[error("closed {0}")]
+    Closed(u8),
+    /// No port is had, or no connection.
+    #[error("cannot serve")]
+    Serve,
+    /// Standard input failed, or took too many reads.
+    #[error("read failed")]
+    Read,
+    /// Standard output takes no more.
+    #[error("write failed")]
+    Write,
+    /// Memory is wanting.
+    #[error("no memory")]
+    NoMemory,
+    /// The hub opens no session.
+    #[error("too many sessions")]
+    Sessions,
+    /// The script ended before its last line.
+    #[error(transparent)]
+    Script(#[from] ScriptFault),
+}
+
+impl DocdFault {
+    /// Why a file is not `ok`.
+    pub fn of_check(file: String, fault: CheckFault) -> DocdFault
+        ensures { result ≡ fault_of_check file fault }
+    {
+        match fault {
+            CheckFault::Read => DocdFault::CannotRead { file },
+            CheckFault::Write => DocdFault::Write,
+            CheckFault::Document { number, at, fault } => DocdFault::Document {
+                file,
+                number,
+                at,
+                fault,
+            },
+            CheckFault::TooLarge => DocdFault::TooLarge { file },
+            CheckFault::NoMemory => DocdFault::NoMemory,
+        }
+    }
+
+    /// Why a file is not loaded.
+    pub fn of_load(file: String, fault: LoadFault) -> DocdFault
+        ensures { TellsLoad file fault result }
+    {
+        match fault {
+            LoadFault::Read => DocdFault::CannotRead { file },
+            LoadFault::TooLarge => DocdFault::TooLarge { file },
+            LoadFault::Document { number, at, fault } => DocdFault::Document {
+                file,
+                number,
+                at,
+                fault,
+            },
+            LoadFault::Refused { number, at, code } => DocdFault::Refused {
+                file,
+                number,
+                at,
+                why: why_refused(code),
+            },
+            LoadFault::NoMemory => DocdFault::NoMemory,
+        }
+    }
+}
+
+// The name of a code with which a document is refused.
+fn why_refused(code: i32) -> &'static str
+    ensures { NamesCode code result.now }
+{
+    match code {
+        2 => "BadValue",
+        901 => "TooLarge",
+        902 => "OnView",
+        11000 => "DuplicateKey",
+        _ => "Refused",
+    }
+}
+
+impl From<AllocError> for DocdFault {
+    ghost use Rattle.dv_words.specs.declared.fault.DocdFault.TheVariants.{NoMemory};
+
+    ghost from_gives = { λ _ e. e ≡ NoMemory };
+
+    fn from(_e: AllocError) -> DocdFault {
+        DocdFault::NoMemory
+    }
+}
+
+impl From<WordFault> for DocdFault {
+    fn from(fault: WordFault) -> DocdFault {
+        match fault.kind() {
+            ErrorKind::OutOfMemory => DocdFault::NoMemory,
+            _ => DocdFault::Usage,
+        }
+    }
+}
+
+/// The exit status of a fault: 2 for words that are no form of the program, else 1.
+pub fn status(fault: &DocdFault) -> u8
+    ensures usage { fault.now ≡ DocdFault.Usage → result ≡ 2 }
+    ensures other { fault.now ≢ DocdFault.Usage → result ≡ 1 }
+{
+    match fault {
+        DocdFault::Usage => 2,
+        _ => 1,
+    }
+}
+
+/// Why a script ends before its last line.
+#[derive(Clone, Copy, Debug, PartialEq, Eq, Error)]
+pub enum ScriptFault {
+    /// A line has no form, or is too long. Lines count from 1, those that are skipped too.
+    #[error("line {line}: bad line")]
+    BadLine { line: u64 },
+    /// The reader failed.
+    #[error("read failed")]
+    Read,
+    /// The script didn't end within 4,294,967,296 reads.
+    #[error("read failed")]
+    TooManyReads,
+    /// The writer failed.
+    #[error("write failed")]
+    Write,
+    /// Memory is wanting.
+    #[error("no memory")]
+    NoMemory,
+    /// The hub opens no session.
+    #[error("too many sessions")]
+    Sessions,
+}
+
+impl From<AllocError> for ScriptFault {
+    ghost use Rattle.dv_words.specs.declared.fault.ScriptFault.TheVariants.{NoMemory};
+
+    ghost from_gives = { λ _ e. e ≡ NoMemory };
+
+    fn from(_e: AllocError) -> ScriptFault {
+        ScriptFault::NoMemory
+    }
+}

@@ -1,0 +1,7 @@
+//! The program's words, the lines of its scripts, and why it ends.
+#![tactic(auto)]
+
+pub mod fault;
+pub mod line;
+pub mod said;
+pub mod words;
