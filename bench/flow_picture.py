@@ -27,7 +27,7 @@ CRATES = [
     ("dv_wire", "takes whole messages off; dv_bson reads them", "documents"),
     ("dv_core", "carries out a command; dv_command says what is asked", "a statement of the write"),
     ("dv_catalog", "what matches (dv_match), what comes of it (dv_update)", "its changes, one document each"),
-    ("dv_index, dv_coll", "keep the documents by _id, and the indexes", ""),
+    ("dv_index, dv_coll", "keep the documents by _id, and the indexes (dv_keyed)", ""),
 ]
 # The views: their names, what they are, and where they stand.
 VIEWS = [

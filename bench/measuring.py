@@ -1,6 +1,6 @@
 """What the measurements share: messages, their times, a running program, what stands beside it, and tables.
 
-All need the built program (run ./docd once) and the BSON library of Debian's package python3-bson with its C extension
+All need the built program (./docd run < /dev/null) and the BSON library of Debian's package python3-bson with its C extension
 (`apt-get install python3-bson python3-bson-ext`; run with /usr/bin/python3). All times are processor time, which other
 programs on the machine change least, and the least of some runs.
 """
@@ -32,7 +32,7 @@ ALL = 2**31 - 1  # as many rows in a first batch as its bytes let
 
 def check_tools():
     if not os.path.exists(DOCD):
-        sys.exit("bench: build the program first, by running ./docd once")
+        sys.exit("bench: build the program first: ./docd run < /dev/null")
     if not bson.has_c():
         sys.exit("bench: python3-bson has no C extension; install python3-bson-ext")
 

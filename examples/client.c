@@ -5,8 +5,8 @@
  *     cc -o client examples/client.c $(pkg-config --cflags --libs libmongoc-1.0)
  *     ./client 27017
  *
- * docd takes OP_MSG alone, and one connection after the other: hence the version of the Stable API, which makes the driver's
- * first message an OP_MSG too, the direct connection, and a client that isn't a pool.
+ * docd takes OP_MSG alone, and `serve` one connection after the other: hence the version of the Stable API, which makes the
+ * driver's first message an OP_MSG too, the direct connection, and a client that isn't a pool.
  */
 #include <mongoc/mongoc.h>
 #include <stdio.h>

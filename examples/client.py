@@ -4,7 +4,7 @@
 It keeps the orders of a small shop: it inserts some, finds those of a customer, dearest first, in batches, changes one, and
 reads a view of what each customer has spent. What was there under these names is dropped first, so it can be run again.
 
-    ./docd serve --port 27017 --connections 10 &
+    ./docd listen --port 27017 &
     python3 examples/client.py 27017
 """
 import os

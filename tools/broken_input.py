@@ -1,14 +1,14 @@
 #!/usr/bin/python3
-"""Sends broken messages to docd in each of its three ways, and tells the first answer that isn't the model's.
+"""Sends broken messages to docd in each of its four ways, and tells the first answer that isn't the model's.
 
-Needs the built program (run ./docd once). Right messages of all commands (`tools/random_scripts.py`) have bytes changed,
+Needs the built program (./docd run < /dev/null). Right messages of all commands (`tools/random_scripts.py`) have bytes changed,
 cut, repeated, swapped and put in; lengths, flags, operation codes, kinds of sections, types, names and texts made wrong;
 and pieces of one message put behind another. What surrounds a change has its lengths mended in most cases, so that the
 fault lies deep. What they write to is under live views, one of each stage. They are sent to
 
 - `docd run`, one session a run;
 - `docd run --hex`, several sessions side by side, cut anywhere;
-- `docd serve`, many connections one after the other.
+- `docd serve` and `docd listen`, many connections one after the other.
 
 In the end each view is read, and its pipeline is run as an aggregate, in a session of its own where there may be one: both
 have to give the model's rows, which are the same.
@@ -120,6 +120,8 @@ class Script(Way):
 class Serve(Way):
     """Connections, one after the other, over the loopback."""
 
+    word = "serve"
+
     def input(self, rng):
         made, shown = pieces_of(rng, [b"%d" % number for number in range(rng.randint(1, 20))], b"last")
         return [piece for messages in made for piece in recut(rng, messages)] + shown
@@ -133,7 +135,7 @@ class Serve(Way):
 
     def said(self, pieces):
         connections, port = self.connections(pieces), free_port()
-        words = [self.program, "serve", "--port", str(port), "--connections", str(len(connections))]
+        words = [self.program, self.word, "--port", str(port), "--connections", str(len(connections))]
         docd = subprocess.Popen(words, stdout=subprocess.PIPE, stderr=subprocess.PIPE)
         try:
             first = docd.stdout.readline()
@@ -158,7 +160,13 @@ class Serve(Way):
         return (0, b"", output, answers), all_lines
 
 
-WAYS = {"run": Run, "script": Script, "served": Serve}
+class Listen(Serve):
+    """The same where many may come at once."""
+
+    word = "listen"
+
+
+WAYS = {"run": Run, "script": Script, "served": Serve, "listened": Listen}
 
 
 def told(lines):

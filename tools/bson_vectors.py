@@ -1,10 +1,10 @@
 #!/usr/bin/python3
-"""Writes crates/dv_tests/src/bson/vectors.rt: documents spelled by another library, and what they are.
+"""Writes crates/dv_tests_values/src/bson/vectors.rt: documents spelled by another library, and what they are.
 
 The bytes come from the BSON library of Debian's package python3-bson (`apt-get install python3-bson`, run with
 /usr/bin/python3), the text beside them from the values that it was given: plain numbers are int32, L marks int64.
 
-    /usr/bin/python3 tools/bson_vectors.py > crates/dv_tests/src/bson/vectors.rt
+    /usr/bin/python3 tools/bson_vectors.py > crates/dv_tests_values/src/bson/vectors.rt
 """
 import datetime
 import struct

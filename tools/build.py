@@ -1,18 +1,20 @@
 #!/usr/bin/python3
 """Builds docd: proves each crate that it stands on, lowest first, then docd itself, and links the program.
 
-It forecasts how long that takes, says which crate it is at, how long each took and what is left, and goes on where an
-interrupted build was, since each crate keeps its work in its folder `out`. What the prover says is kept in
-crates/docd/out/build.log. A fault is told in one line, and the exit status is then 1.
+It forecasts how long that takes from tools/proof_seconds.txt, says which crate it is at, how long each took and what is left,
+and goes on where an interrupted build was, since each crate keeps its work in its folder `out`. What the prover says is kept in
+crates/docd/out/build.log. A fault is one line, and the exit status is then 1.
 
-Crates of which none stands on another are proved side by side, each with as many processors as memory allows: those with
-the longest chain of others behind them come first, and the others have what these leave. (The kit's `rt lib` would have
+Crates of which none stands on another are proved side by side, each with as many processors as memory allows: the one with
+the longest chain of others behind it comes first, and the others have what it leaves. (The kit's `rt lib` would have
 each wait until no other works on a crate below it, so its own parts are called here.)
 
     python3 tools/build.py            builds
-    python3 tools/build.py --look     only looks whether the kit is there and is the one that README.md names
+    python3 tools/build.py --look     builds nothing, and ends with 0 where the program is proved as its sources are now
 """
 import argparse
+import contextlib
+import functools
 import os
 import pathlib
 import re
@@ -22,35 +24,20 @@ import subprocess
 import sys
 import time
 
-from kit import know_stamps, part
+from kit import Fault, tell, wanted_kit
+from unproved import alone, docd_of, end_with_parent, interrupt
 
 HERE = pathlib.Path(__file__).resolve().parent.parent
 PROGRAM = "docd"
 LOG = HERE / "crates" / PROGRAM / "out" / "build.log"
-FIGURES = HERE / "docs" / "GATE.md"
+SECONDS = HERE / "tools" / "proof_seconds.txt"
 A_CHECK = 3 << 30  # bytes of memory that one crate's check may take
 A_JOB = 3 << 29  # bytes that each further processor of a check may take
 ALL_WORK = 16 << 30  # bytes that the crates' work takes on disk
 SHARED = 1.25  # how much more processor time a check takes that several processors share
+LESS_URGENT = 10  # the priority, by the system's `nice`, of crates that another one goes before
+A_LOOK = 0.2  # seconds from one look at the running checks to the next
 ALONE = 0.9  # how much of its processor time a crate takes at least, however many processors share it, as a first build showed
-
-
-class Fault(Exception):
-    """Why nothing is built, and what to do."""
-
-
-def tell(text):
-    print("docd: " + text, file=sys.stderr, flush=True)
-
-
-def find_kit():
-    """Looks whether `rt` is there, and has the logic that README.md names: kits of one logic prove the same."""
-    wanted = re.search(r"`rt version` prints `[^`]*(logic [^`]+)`", (HERE / "README.md").read_text())[1]
-    if not shutil.which("rt"):
-        raise Fault("no command `rt` is found: put the folder bin of the Rattle kit on the PATH (its `rt version` ends in %s)" % wanted)
-    said = subprocess.run(["rt", "version"], capture_output=True, text=True).stdout.strip()
-    if not said.endswith(wanted):
-        raise Fault("another kit is installed: `rt version` prints %s, and has to end in %s" % (said or "nothing", wanted))
 
 
 def free_memory():
@@ -72,15 +59,20 @@ def find_room():
     return len(os.sched_getaffinity(0)), memory // A_JOB
 
 
+def seconds_known():
+    """The processor seconds that the proof of each crate took, as tools/timed_gate.py wrote them."""
+    lines = SECONDS.read_text().splitlines() if SECONDS.exists() else []
+    return {words[0]: int(words[1]) for words in map(str.split, lines) if words}
+
+
 class Crates:
     """The crates that docd stands on, and docd: what each uses, and what has to be done for it."""
 
     def __init__(self, kit):
         self.of_kit = {it.name: it for it in kit.crates_below(str(HERE))}
         program = self.of_kit[PROGRAM]
-        know_stamps(kit, program.below())
         self.names = [it.name for it in program.below()] + [PROGRAM]
-        seconds = {name: int(told) for name, told in re.findall(r"(?m)^\| `(\w+)` \|(?:[^|]*\|){3} *(\d+) *\|", FIGURES.read_text())}
+        seconds = seconds_known()
         usual = sorted(seconds.values())[len(seconds) // 2] if seconds else 300
         self.seconds = {name: 0 if self.is_built(name) else seconds.get(name, usual) for name in self.names}
 
@@ -90,6 +82,7 @@ class Crates:
     def below(self, name):
         return {it.name for it in self.of_kit[name].below()}
 
+    @functools.cache
     def behind(self, name):
         """The processor seconds of the longest chain of crates from this one on."""
         above = [self.behind(it) for it in self.names if name in {dep.name for dep in self.of_kit[it].deps}]
@@ -102,17 +95,16 @@ class Crates:
         return max(work, chain)
 
 
-def start(name, jobs, idle_only, log):
-    """Begins to prove a crate, on processors that nothing else wants where that is asked for."""
+def start(name, jobs, log):
+    """Begins to prove a crate."""
     # (a group of its own, and no session, among which Linux would share the processors evenly)
     words = [sys.executable, __file__, "--crate", name, "--jobs", str(jobs)]
-    return subprocess.Popen((["nice"] if idle_only else []) + words, stdin=subprocess.DEVNULL, stdout=log, stderr=log, process_group=0)
+    return subprocess.Popen(words, stdin=subprocess.DEVNULL, stdout=log, stderr=log, process_group=0)
 
 
 def prove(kit, name, jobs):
     """Proves one crate. The program is linked too, and run on an empty script. The caller holds the locks of all."""
     crate = next(it for it in kit.crates_below(str(HERE)) if it.name == name)
-    know_stamps(kit, crate.below())
     os.chdir(crate.folder)
     os.makedirs("out", exist_ok=True)
     kit.guarded()
@@ -123,6 +115,8 @@ def prove(kit, name, jobs):
 
 
 def failure(name, status):
+    if min(shutil.disk_usage(it).free for it in (HERE, LOG.parent)) < 1 << 20:
+        return Fault("the disk is full, and %s isn't built: make room there, and the next build goes on from here" % name)
     if status in (-signal.SIGKILL, 128 + signal.SIGKILL):
         return Fault("building %s was stopped from outside, most likely for want of memory: end other programs, and run this again" % name)
     return Fault("building %s failed, and %s says why: its lines with 'error' or 'no proof' are those to read" % (name, LOG.relative_to(HERE)))
@@ -132,59 +126,111 @@ def minutes(seconds):
     return "a minute" if seconds < 90 else "%d minutes" % round(seconds / 60)
 
 
-def build(kit):
-    crates, (processors, room) = Crates(kit), find_room()
-    LOG.parent.mkdir(exist_ok=True)
-    _held = kit.lock([*crates.of_kit[PROGRAM].below(), crates.of_kit[PROGRAM]])
-    done, running, begun = {it for it in crates.names if crates.is_built(it)}, {}, time.monotonic()
-    left = [it for it in crates.names if it not in done]
-    tell("building: %d crates are proved first, some %s with %d processors that have nothing else to do" % (
-        len(left), minutes(crates.forecast(left, processors)), processors))
-    with open(LOG, "w") as log:
+class Build:
+    """A build of all that isn't proved yet."""
+
+    def __init__(self, kit, log):
+        self.crates, (self.processors, self.room) = Crates(kit), find_room()
+        self.log, self.running = log, {}
+        self.done = {it for it in self.crates.names if self.crates.is_built(it)}
+        self.left = [it for it in self.crates.names if it not in self.done]
+
+    def start_ready(self):
+        """Begins the crates that stand on proved ones alone, as far as there is room, the longest chains first."""
+        ready = [it for it in self.left if self.crates.below(it) <= self.done and (it != PROGRAM or not self.running)]
+        for name in sorted(ready, key=self.crates.behind, reverse=True):
+            taken = sum(jobs for _, _, jobs in self.running.values())
+            jobs = min(self.processors, self.room - taken, 2 * self.processors - taken)
+            if jobs < 1 and self.running:
+                break
+            tell("%s, crate %d of %d .." % (name, len(self.done) + len(self.running) + 1, len(self.crates.names)))
+            self.left.remove(name)
+            self.running[name] = start(name, max(1, jobs), self.log), time.monotonic(), max(1, jobs)
+
+    def favour(self):
+        """Has the processors go to the running crate with the longest chain first."""
+        first = max(self.running, key=self.crates.behind)
+        for name, (process, _, _) in self.running.items():
+            with contextlib.suppress(OSError):  # who isn't root can't take a lower priority back
+                os.setpriority(os.PRIO_PGRP, process.pid, 0 if name == first else LESS_URGENT)
+
+    def take_ended(self):
+        """Notes the crates whose proof has ended since the last look, and stops at one that failed. Whether there were any."""
+        ended = [it for it, (process, _, _) in self.running.items() if process.poll() is not None]
+        for name in ended:
+            process, since, _ = self.running.pop(name)
+            if process.returncode:
+                raise failure(name, process.returncode)
+            self.done.add(name)
+            rest = self.crates.forecast([*self.left, *self.running], self.processors)
+            tell("%s is proved: %d s%s" % (name, time.monotonic() - since, "; some %s are left" % minutes(rest) if rest else ""))
+        return bool(ended)
+
+    def stop(self):
+        """Ends what still runs: each crate's group, which has the prover too."""
+        for process, _, _ in self.running.values():
+            os.killpg(process.pid, signal.SIGINT)
+        for process, _, _ in self.running.values():
+            process.wait()
+
+    def run(self):
+        tell("building: %d crates are proved first, some %s with %d processors that have nothing else to do" % (
+            len(self.left), minutes(self.crates.forecast(self.left, self.processors)), self.processors))
         try:
-            while left or running:
-                ready = [it for it in left if crates.below(it) <= done and (it != PROGRAM or not running)]
-                for name in sorted(ready, key=crates.behind, reverse=True):
-                    taken = sum(jobs for _, _, jobs in running.values())
-                    jobs = min(processors, room - taken, 2 * processors - taken)
-                    if jobs < 1 and running:
-                        break
-                    left.remove(name)
-                    tell("%s, crate %d of %d .." % (name, len(done) + len(running) + 1, len(crates.names)))
-                    running[name] = start(name, max(1, jobs), bool(running), log), time.monotonic(), max(1, jobs)
-                time.sleep(0.2)
-                for name, (process, since, _) in list(running.items()):
-                    if process.poll() is not None:
-                        del running[name]
-                        if process.returncode:
-                            raise failure(name, process.returncode)
-                        done.add(name)
-                        rest = crates.forecast([*left, *running], processors)
-                        tell("%s is proved: %d s%s" % (name, time.monotonic() - since, "; some %s are left" % minutes(rest) if rest else ""))
+            while self.left or self.running:
+                self.start_ready()
+                self.favour()
+                while not self.take_ended():
+                    time.sleep(A_LOOK)
         finally:
-            # What stopped here has not ended: its group has the prover too.
-            for process, _, _ in running.values():
-                os.killpg(process.pid, signal.SIGINT)
-            for process, _, _ in running.values():
-                process.wait()
-    os.utime(LOG.parent / PROGRAM)
-    tell("built in %d s" % (time.monotonic() - begun))
+            self.stop()
+
+
+def build(kit):
+    """Builds the program. Its time is that at which the build began, so that what is edited meanwhile is newer."""
+    since, begun = time.time(), time.monotonic()
+    LOG.parent.mkdir(exist_ok=True)
+    with alone(LOG.parent / "lock"):
+        _held = kit.lock([*docd_of(kit).below(), docd_of(kit)])
+        with open(LOG, "w") as log:
+            Build(kit, log).run()
+        os.utime(LOG.parent / PROGRAM, (since, since))
+    tell("built and proved in %d s: ./docd runs this program from now on" % (time.monotonic() - begun))
+
+
+def is_proved(kit):
+    """Whether the program was built from the very sources that are here now. It is then newer than they are."""
+    since, crate = time.time(), docd_of(kit)
+    program = LOG.parent / PROGRAM
+    if not all(it.is_built() for it in crate.below()) or kit.text_of(str(program) + ".stamp") != crate.stamp() + kit.sum_of(str(program)):
+        return False
+    with contextlib.suppress(OSError):
+        os.utime(program, (since, since))
+    return True
 
 
 def main():
     words = argparse.ArgumentParser(description=__doc__, formatter_class=argparse.RawDescriptionHelpFormatter)
-    words.add_argument("--look", action="store_true", help="build nothing: only look whether the kit is there")
+    words.add_argument("--look", action="store_true", help="build nothing: only look whether the program is proved")
     words.add_argument("--crate", help=argparse.SUPPRESS)
     words.add_argument("--jobs", type=int, default=1, help=argparse.SUPPRESS)
     given = words.parse_args()
     try:
-        find_kit()
         if given.crate:
-            return prove(part("rtlib.py"), given.crate, given.jobs)
-        if not given.look:
-            build(part("rtlib.py"))
+            end_with_parent()
+        else:
+            signal.signal(signal.SIGTERM, interrupt)
+        kit = wanted_kit()
+        if given.crate:
+            return prove(kit, given.crate, given.jobs)
+        if given.look:
+            return 0 if is_proved(kit) else 1
+        build(kit)
     except Fault as fault:
         tell(str(fault))
+        return 1
+    except OSError as fault:
+        tell("nothing can be built: %s: %s" % (fault.filename or LOG.parent, fault.strerror))
         return 1
     except KeyboardInterrupt:
         tell("interrupted: the next build goes on from here")

@@ -1,16 +1,18 @@
-"""A connection to a docd that serves on this machine by libmongoc, MongoDB's own driver for C (Debian: apt-get install
-libmongoc-1.0-0), which Python's ctypes calls.
+"""Connections to a docd that serves on this machine by libmongoc, MongoDB's own driver for C (Debian: apt-get install
+libmongoc-1.0-0), which Python's ctypes calls: one by itself, or those of a pool.
 
 Documents are handed to the driver and taken from it as BSON bytes. How it greets, which messages its calls become, which ones
-ask for a cursor's next rows and which end it, is the driver's. Why it is set up so, examples/client.c says.
+ask for a cursor's next rows and which end it, is the driver's. Why it is set up so, examples/client.c and examples/pool.c say.
 """
 import ctypes
+import functools
 from ctypes import POINTER, byref, c_bool, c_char_p, c_int, c_size_t, c_uint32, c_void_p
 
 from extended_json import json_of, value_of
 from model.values import DOCUMENT, int32, read_fields, spelling
 
 API_OF_VERSION_ONE = 0
+ONE_LOOK = b"&heartbeatFrequencyMS=86400000"  # for a pool: one look for the server a day
 ALIGNMENT = 128  # of a bson_t, and its size
 TOP_LEVEL = -2  # of what the driver hands out: a reply has three levels above its rows
 
@@ -43,6 +45,12 @@ CALLS = {
     "mongoc_client_get_collection": (AN_OBJECT, [AN_OBJECT, c_char_p, c_char_p]),
     "mongoc_client_command_simple": (c_bool, [AN_OBJECT, c_char_p, A_DOCUMENT, AN_OBJECT, A_DOCUMENT, POINTER(Error)]),
     "mongoc_client_destroy": (None, [AN_OBJECT]),
+    "mongoc_client_pool_new": (AN_OBJECT, [AN_OBJECT]),
+    "mongoc_client_pool_set_server_api": (c_bool, [AN_OBJECT, AN_OBJECT, POINTER(Error)]),
+    "mongoc_client_pool_pop": (AN_OBJECT, [AN_OBJECT]),
+    "mongoc_client_pool_push": (None, [AN_OBJECT, AN_OBJECT]),
+    "mongoc_client_pool_destroy": (None, [AN_OBJECT]),
+    "mongoc_get_version": (c_char_p, []),
     "mongoc_collection_insert_many": (c_bool, [AN_OBJECT, POINTER(A_DOCUMENT), c_size_t, A_DOCUMENT, A_DOCUMENT, POINTER(Error)]),
     "mongoc_collection_update_one": (c_bool, [AN_OBJECT, A_DOCUMENT, A_DOCUMENT, A_DOCUMENT, A_DOCUMENT, POINTER(Error)]),
     "mongoc_collection_update_many": (c_bool, [AN_OBJECT, A_DOCUMENT, A_DOCUMENT, A_DOCUMENT, A_DOCUMENT, POINTER(Error)]),
@@ -58,6 +66,7 @@ CALLS = {
 }
 
 
+@functools.cache
 def opened_library():
     """The driver. It finds libbson's calls too, on which it stands."""
     library = ctypes.CDLL("libmongoc-1.0.so.0")
@@ -117,24 +126,26 @@ def json_at(library, document):
     return json_of(DOCUMENT, read_fields(ctypes.string_at(data, length), 0, length, TOP_LEVEL, is_array=False))
 
 
-class Driven:
-    """A connection of the driver's to a database. Commands and rows are dicts, as those of served.py."""
+def set_up(making, setting_api, port, options=b""):
+    """What the driver makes for a port of this machine, with a version of the Stable API."""
+    library, error = opened_library(), Error()
+    uri = library.mongoc_uri_new_with_error(b"mongodb://127.0.0.1:%d/?directConnection=true%s" % (port, options), byref(error))
+    api, made = library.mongoc_server_api_new(API_OF_VERSION_ONE), making(uri)
+    if not setting_api(made, api, byref(error)):
+        raise DriverFault(error)
+    library.mongoc_server_api_destroy(api)
+    library.mongoc_uri_destroy(uri)
+    return made
 
-    library = None
 
-    def __init__(self, port, database):
-        Driven.library = self.library = Driven.library or opened_library()
+class Client:
+    """A client of the driver's, at work in a database. Commands and rows are dicts, as those of served.py."""
+
+    def __init__(self, client, database):
+        self.library, self.client = opened_library(), client
         self.database, self.collections, self.opened_cursors = database.encode(), {}, set()
         room = ctypes.create_string_buffer(2 * ALIGNMENT)
         self.room, self.reply = room, ctypes.addressof(room) + -ctypes.addressof(room) % ALIGNMENT
-        error = Error()
-        uri = self.library.mongoc_uri_new_with_error(b"mongodb://127.0.0.1:%d/?directConnection=true" % port, byref(error))
-        self.client = self.library.mongoc_client_new_from_uri(uri)
-        api = self.library.mongoc_server_api_new(API_OF_VERSION_ONE)
-        if not self.library.mongoc_client_set_server_api(self.client, api, byref(error)):
-            raise DriverFault(error)
-        self.library.mongoc_server_api_destroy(api)
-        self.library.mongoc_uri_destroy(uri)
 
     def collection(self, name):
         if name not in self.collections:
@@ -194,12 +205,51 @@ class Driven:
             return Cursor(self, self.library.mongoc_collection_aggregate(collection, 0, *given, None))
 
     def close(self):
-        """Ends the connection, and first the cursors that are open, as the driver asks."""
+        """Ends the cursors that are open, which the driver asks for before a client goes."""
         for cursor in list(self.opened_cursors):
             cursor.close()
         for one in self.collections.values():
             self.library.mongoc_collection_destroy(one)
+
+
+class Driven(Client):
+    """A client by itself, with one connection."""
+
+    def __init__(self, port, database):
+        library = opened_library()
+        super().__init__(set_up(library.mongoc_client_new_from_uri, library.mongoc_client_set_server_api, port), database)
+
+    def close(self):
+        super().close()
         self.library.mongoc_client_destroy(self.client)
+
+
+class Pool:
+    """Clients of the driver's that threads share, each with a connection of its own, and one more that looks for the server."""
+
+    def __init__(self, port, options=b""):
+        self.library = library = opened_library()
+        self.pool = set_up(library.mongoc_client_pool_new, library.mongoc_client_pool_set_server_api, port, ONE_LOOK + options)
+
+    def client(self, database):
+        """A client that nobody else has; waits for one where as many as may be are out."""
+        return Pooled(self, database)
+
+    def close(self):
+        """Ends all connections. Every client has to be back."""
+        self.library.mongoc_client_pool_destroy(self.pool)
+
+
+class Pooled(Client):
+    """A client out of a pool, which goes back where it is closed."""
+
+    def __init__(self, pool, database):
+        super().__init__(pool.library.mongoc_client_pool_pop(pool.pool), database)
+        self.pool = pool.pool
+
+    def close(self):
+        super().close()
+        self.library.mongoc_client_pool_push(self.pool, self.client)
 
 
 def counted(told, **names):

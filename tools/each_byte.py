@@ -1,7 +1,7 @@
 #!/usr/bin/python3
 """Cuts messages behind each of their bytes and changes each of their bytes, and looks whether docd answers as it has to.
 
-Needs the built program (run ./docd once).
+Needs the built program (./docd run < /dev/null).
 
 - All worked examples (tools/worked_examples.txt) but the largest are brought byte by byte: the answers are those that are
   written.

@@ -1,14 +1,31 @@
-"""The kit's own parts, of which its command `rt` is made: what tools/build.py and tools/planted.py have of it."""
+"""The Rattle kit: whether it is installed and the one that the file KIT names, and its parts, which this repository's tools call.
+
+The kit's command `rt` is a Python program, which these tools load as a module. Nothing in it is changed. Of `rtlib`, which it
+brings, they call `crates_below`, `Crate.below`, `is_built`, `build_rlib`, `run`, `sources_below`, `kit_sources`, `lock` and
+`guarded`; tools/planted.py calls the engine of `rt must-fail` too.
+"""
 import importlib.machinery
 import importlib.util
 import os
 import pathlib
 import shutil
+import subprocess
 import sys
+
+WANTED = pathlib.Path(__file__).resolve().parent.parent / "KIT"
+
+
+class Fault(Exception):
+    """Why nothing is built, and what to do about it."""
+
+
+def tell(text):
+    """Writes a line of docd's to standard error."""
+    print("docd: " + text, file=sys.stderr, flush=True)
 
 
 def part(name):
-    """A part of the kit: `rt` itself, or `rtlib.py`, which `rt` is made of; None where there is no command `rt`."""
+    """A part of the kit as a module: `rt` itself, whose `rtlib` has the crates; None where there is no command `rt`."""
     found = shutil.which("rt")
     if not found:
         return None
@@ -21,9 +38,15 @@ def part(name):
     return made
 
 
-def know_stamps(rtlib, crates):
-    """Has the kit reckon what each of these crates was made from once, and not once for each chain of crates that leads to it."""
-    plain, known = rtlib.Crate.stamp, {}
-    rtlib.Crate.stamp = lambda crate: known.get(crate.name) or plain(crate)
-    for crate in crates:
-        known[crate.name] = plain(crate)
+def wanted_kit():
+    """The kit's part `rtlib`, where the installed kit has the logic that KIT names: kits of one logic prove the same."""
+    wanted = WANTED.read_text().strip()
+    if not shutil.which("rt"):
+        raise Fault("no command `rt` is found: put the folder bin of the Rattle kit (%s) on the PATH" % wanted)
+    ran = subprocess.run(["rt", "version"], capture_output=True, text=True)
+    said = ran.stdout.strip()
+    if ran.returncode:
+        raise Fault("`rt version` fails: " + (ran.stderr.strip() or "it says nothing").splitlines()[-1])
+    if not said.endswith(wanted):
+        raise Fault("another Rattle kit is installed: `rt version` prints %s, and has to end in %s" % (said, wanted))
+    return part("rt").rtlib

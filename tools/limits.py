@@ -1,7 +1,7 @@
 #!/usr/bin/python3
 """What docd takes at the limits: the largest and the deepest that each command may bring, at half of that and at all of it.
 
-Needs the built program (run ./docd once). Each case in tools/cases is a session's messages for a size and for twice that
+Needs the built program (./docd run < /dev/null). Each case in tools/cases is a session's messages for a size and for twice that
 size, up to what is allowed. They are run with 8 GB of address space and a stack of 8 MB, for a minute of processor time at
 most. For both sizes the processor time and the most memory that was resident are printed, with their ratios, and what was
 answered: a ratio above 2.5 stands out, as more than the size grows. So does a run that doesn't end well, and then the exit

@@ -75,10 +75,9 @@ def carry_out(lines, action):
 
 def ask(given):
     """Asks a docd that serves."""
-    if given.watch:
-        is_terminal = sys.stdout.isatty()
-        return watch(given.port, given.db, given.watch, given.every, width if is_terminal else lambda: NO_WIDTH, tell)
     asker = Asker(given.port, given.db, tell)
+    if given.watch:
+        return watch(asker, given.watch, given.every, width if sys.stdout.isatty() else lambda: NO_WIDTH, tell)
     if sys.stdin.isatty() and sys.stdout.isatty():
         return Prompt(asker, (lambda reply: printed(reply, True)) if given.json else None).run()
     return carry_out(sys.stdin, lambda _, line: print(printed(asker.reply_to(asker.fields_of(line)), given.json), flush=True))

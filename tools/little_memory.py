@@ -1,7 +1,7 @@
 #!/usr/bin/python3
 """Gives docd little memory and commands that name large sizes, none of which may be answered by want of memory.
 
-Needs the built program (run ./docd once). Once docd has answered a ping, it may have so many megabytes more than it has by
+Needs the built program (./docd run < /dev/null). Once docd has answered a ping, it may have so many megabytes more than it has by
 then. The commands have a text that counts 2,147,483,647 bytes, `$set`s of a place in an array that is too far, and `$in`s of
 100,000 members. Each has to be answered by the fault or the rows that the manual says. Another answer is printed, and then
 the exit status is 1.

@@ -10,7 +10,6 @@ import sys
 import machine
 from checking import status_of
 from model.values import BsonFault, read_document, spelling
-from model.views import KEPT
 from model.work import documents_of
 from notation import fields_of
 from worked_examples import answers, scripts
@@ -29,7 +28,7 @@ def check_examples(tell):
 def are_placed(store, title):
     """Whether the rows of an example's views stand where the pipelines have them."""
     database = title.partition(":")[0].partition(",")[0].encode()
-    views = [(place, view) for place, view in store.views.items() if view.how == KEPT and place.startswith(database + b".")]
+    views = [(place, view) for place, view in store.views.items() if view.is_live and place.startswith(database + b".")]
     return all(documents_of(store.placer()(place)) == store.reader()(place) for place, view in views)
 
 

@@ -1,7 +1,7 @@
 #!/usr/bin/python3
 """Runs the examples of docs/MANUAL.md through docd and through the model of `tools/machine.py`, and compares the replies.
 
-Needs the built program (run ./docd once). In a fenced block a line `> COMMAND` is sent, of session 0, or of another one as
+Needs the built program (./docd run < /dev/null). In a fenced block a line `> COMMAND` is sent, of session 0, or of another one as
 `1> COMMAND`, and the line behind it is its reply; each heading begins with an empty store. These lines are read as
 `tools/lines.py` reads them, and the replies are what it prints. A line `$ WORDS` is typed in a shell, and the lines behind it
 are what is printed; each heading begins with a folder that has `docd`, `tools` and `examples` and nothing else.

@@ -22,7 +22,7 @@ import sys
 import tempfile
 from collections import namedtuple
 
-from kit import know_stamps, part
+from kit import part
 
 ROOT = pathlib.Path(__file__).resolve().parent.parent
 FUNCTION = re.compile(r"\s*(?:pub(?:\(\w+\))? )?(?:const )?(?:unsafe )?fn (\w+)")
@@ -162,7 +162,6 @@ def main():
         print("\n".join(listed(crates)))
         return 0
     os.chdir(ROOT)
-    know_stamps(engine.rtlib, crates)
     tried = failed = 0
     for crate in crates:
         paths = planted(crate)

@@ -3,7 +3,10 @@ import os
 import sys
 
 ROOT = os.path.dirname(os.path.dirname(os.path.abspath(__file__)))
-DOCD = os.path.join(ROOT, "crates", "docd", "out", "docd")
+OUT = os.path.join(ROOT, "crates", "docd", "out")
+PROVED, UNPROVED = os.path.join(OUT, "docd"), os.path.join(OUT, "unproved", "docd")
+# The proved program, where it is built, or else the one without a proof, as ./docd runs them.
+DOCD = PROVED if os.path.exists(PROVED) else UNPROVED
 
 
 def parsed(options, who):
@@ -11,5 +14,5 @@ def parsed(options, who):
     options.add_argument("--program", default=DOCD)
     given = options.parse_args()
     if not os.path.exists(given.program):
-        sys.exit("%s: build the program first, by running ./docd once" % who)
+        sys.exit("%s: build the program first: ./docd run < /dev/null" % who)
     return given

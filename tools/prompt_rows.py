@@ -44,7 +44,7 @@ COMPLETED = [
 # What help is asked of, and what it tells among others.
 TOLD = [
     ("$min", "the least"), ("$max", "the greatest value"), ("$literal", "is that value"), ("$each", "appends a value"), ("$push", "appends"),
-    ("$in", "one of the list"), ("lookup", "into each row"), ("more", "the next rows"), ("insert", "under its _id"), ("$x", "no operator"),
+    ("$in", "one of the list"), ("lookup", "into each row"), ("more", "the next rows"), ("insert", "by their _id"), ("$x", "no operator"),
 ]
 
 # A command that is refused, with which code and for which statement, and a word of what may be wrong in it.

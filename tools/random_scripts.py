@@ -32,6 +32,7 @@ class Maker(Commands):
         super().__init__(rng)
         self.messages = 0
         self.is_crowded = False  # whether there are many documents
+        self.is_large = False  # whether there are some hundred
 
     def first(self, name=b"c", count=None):
         """An insert of some documents into a collection, so that something is there."""
@@ -51,7 +52,7 @@ class Maker(Commands):
     def views(self):
         """Views of what is there, in some scripts, and another collection into which they may look; and towers of views, over few
         documents alone, since their lookups may give each row all others."""
-        names = [b"v", b"w", b"x"][:self.rng.choice([0, 1, 2, 3])]
+        names = [] if self.is_large else [b"v", b"w", b"x"][:self.rng.choice([0, 1, 2, 3])]
         made = ([self.first(b"d")] if names else []) + [self.asked(self.view(name)) for name in names]
         return made + ([self.asked(self.of_tower(*one)) for one in enumerate(self.tower())]
                        if self.often(0.25) and not self.is_crowded else [])
@@ -173,10 +174,26 @@ class Maker(Commands):
         return [self.first(count=self.rng.randint(80, 100)),
                 self.asked([(b"createIndexes", text(b"c")), (b"indexes", array([document(entry)]))])]
 
+    def large(self):
+        """Some hundred small documents, and a view with a `$push` over one group of them or two, in a few scripts."""
+        if self.often(0.96):
+            return []
+        self.is_crowded = self.is_large = True
+        groups, count = self.rng.choice([1, 2]), self.rng.randint(257, 320)
+        rows = [document([(b"_id", number(1_000 + place)), (b"a", number(place % groups)), (b"b", number(place))])
+                for place in range(count * groups)]
+        fields = [(b"_id", text(b"$a")), (b"all", document([(b"$push", text(self.rng.choice([b"$b", b"$_id", b"$a"])))]))]
+        fields += [(b"n", document([(b"$sum", number(1))]))] * self.often(0.5)
+        stages = [document([(b"$group", document(fields))])]
+        stages += [document([(b"$unwind", text(b"$all"))])] * self.often(0.2)
+        view = [(b"create", text(b"y")), (b"viewOn", text(b"c")), (b"pipeline", array(stages))]
+        made = [self.asked([(b"insert", text(b"c")), (b"documents", array(rows))]), self.asked(view)]
+        return made[::-1] if self.often(0.3) else made
+
     def run(self, number):
         """The lines of one session, cut anywhere, and a message in each."""
         self.session = object()
-        made = [] if self.made else [*self.unique(), self.first(), *self.unique(), *self.many(), *self.views()]
+        made = [] if self.made else [*self.unique(), self.first(), *self.unique(), *self.many(), *self.large(), *self.views()]
         for _ in range(self.rng.randint(1, 25)):
             made.append(self.message())
             made += self.written() if self.often(0.1) else []

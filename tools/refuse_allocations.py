@@ -1,7 +1,7 @@
 #!/usr/bin/python3
 """Refuses each of docd's requests for memory in turn, and checks that every run answers as it may.
 
-Needs the built program (run ./docd once) and a C compiler. For each script of `tools/refused_scripts.py` docd runs again and
+Needs the kit and the built program (`./docd run < /dev/null` builds one). For each script of `tools/refused_scripts.py` docd runs again and
 again, with the first, second, .. request refused, until a run meets no refusal. What a run prints must be what the model of
 `tools/machine.py` prints, but that want of memory may show in one of these ways:
 
@@ -10,8 +10,7 @@ again, with the first, second, .. request refused, until a run meets no refusal.
 - a write ends at a statement with a write error of code 900, whose `done` tells how many of that statement's changes were
   made, fewer than all, and what the statements before it did stands;
 - a session is closed with 6: its last command has come to any of these ends, or to its usual one;
-- a view is stale behind a write, as viewStats tells, and is made anew before it is read; one that finds no memory for more than
-  its rows where it is made is stale behind the next write. So are the views that read one like that.
+- a view is stale behind a write, as viewStats tells, and is made anew before it is read. So are the views that read one like that.
 
 The finds of a later session show what stands then, each view beside an aggregate of its pipeline, and each index beside a
 scan. In a run that meets no refusal every view is live at the end.
@@ -21,6 +20,7 @@ is read while memory is wanting for it may stay stale, and one that was made ane
 
     python3 tools/refuse_allocations.py
     python3 tools/refuse_allocations.py --scripts "index,cursor"
+    python3 tools/refuse_allocations.py --part 1/4          the first, fifth, .. script
 """
 import argparse
 import copy
@@ -32,7 +32,6 @@ from model.commands import execute
 from model.refusals import WANT_OF_MEMORY, refused
 from model.store import Store
 from model.values import ARRAY, read_document
-from model.views import MADE, STALE
 from model.writes import NoSuchCut, WRITES
 from program import parsed
 from refused_scripts import End, SCRIPTS, body, lines
@@ -47,7 +46,7 @@ def without_memory(store, usual, step):
     yield refused(WANT_OF_MEMORY), store
     after = store
     for place, view in store.views.items():
-        if not view.is_live() and place in usual.views and usual.views[place].is_live():
+        if not view.is_live and place in usual.views and usual.views[place].is_live:
             after = copy.deepcopy(after)
             after.refresh(place)
             yield refused(WANT_OF_MEMORY), after
@@ -63,32 +62,23 @@ def without_memory(store, usual, step):
 
 
 def without_rows(store, after):
-    """The stores behind a command in which one view has found no memory for all that it keeps."""
+    """The stores behind a command in which one view has found no memory for a change."""
     for place, view in after.views.items():
-        for how in ways_without_rows(store.views.get(place), view):
+        old = store.views.get(place)
+        if old and old.is_live and old.ticks != view.ticks:
             other = copy.deepcopy(after)
-            put(other, place, how)
+            lose(other, place)
             yield other
 
 
-def put(store, place, how):
-    """Has a view its rows so, and each that reads it."""
+def lose(store, place):
+    """Has a view stale, and each that reads it."""
     view = store.views[place]
-    if view.is_live():
-        view.how, view.ticks = how, 0
+    if view.is_live:
+        view.lose()
         for name, other in store.views.items():
             if place in other.reads:
-                put(store, name, how)
-
-
-def ways_without_rows(old, view):
-    """How a view may have its rows behind a command where memory was wanting for it: none by a change; nothing but these where it
-    was made; and one or the other where it was made anew."""
-    if old is None:
-        return [MADE]
-    if not old.is_live():
-        return [MADE, STALE] if view.is_live() else []
-    return [STALE] if old.ticks != view.ticks else []
+                lose(store, name)
 
 
 # What a command may come to: its reply, the store then, whether it was refused or cut for want of memory, and how often memory
@@ -144,7 +134,7 @@ class Trial:
         self.docd, self.name, self.steps = docd, name, steps
         self.script = b"".join(lines(step) for step in steps)
         self.ample = docd.run(self.script)
-        self.seen, self.wrong, self.without_rows = Counter(), 0, {}
+        self.seen, self.wrong, self.without_rows, self.known = Counter(), 0, {}, {}
         is_right = (self.ample.status, self.ample.told) == (0, b"") and fits(steps, self.ample.said, Store(), False, wants=0)
         if not is_right or any(has(line, b"stale") for line in self.ample.said):
             self.tell((), self.ample)
@@ -158,7 +148,7 @@ class Trial:
         start = number = sum(first) + 1
         while (ran := self.docd.run(self.script, [*first, number])).requests >= number:
             is_ended = (ran.status, ran.told) in ((0, b""), (1, b"docd: no memory\n"))
-            if not is_ended or not fits(self.steps, ran.said, Store(), ran.status == 1, wants=1 + len(first)):
+            if not is_ended or not self.is_allowed(ran, 1 + len(first)):
                 self.tell((*first, number), ran)
             how = self.kind(ran)
             self.seen[how] += 1
@@ -167,6 +157,13 @@ class Trial:
                 self.without_rows.setdefault(others, number)
             number += 1
         return number - start
+
+    def is_allowed(self, ran, wants):
+        """Whether a run may print what it did. Most refusals show in the ways of others, which are looked at once."""
+        printed = tuple(ran.said), ran.status == 1, wants
+        if printed not in self.known:
+            self.known[printed] = fits(self.steps, ran.said, Store(), ran.status == 1, wants)
+        return self.known[printed]
 
     def kind(self, ran):
         """How want of memory shows."""
@@ -181,7 +178,7 @@ class Trial:
         return STALE_VIEW
 
 
-STALE_VIEW = "a view stale or made anew"
+STALE_VIEW = "a view stale"
 
 
 def has(line, text):
@@ -192,10 +189,14 @@ def has(line, text):
 def main():
     options = argparse.ArgumentParser(description=__doc__, formatter_class=argparse.RawDescriptionHelpFormatter)
     options.add_argument("--scripts", default="", help="words, joined by commas, of which the names of the scripts have one")
+    options.add_argument("--part", default="1/1", help="the first script and how many further on the next is, as 1/4")
     given = parsed(options, "refuse_allocations")
     words, wrong, refused_in_all = given.scripts.split(","), 0, 0
+    first, step = map(int, given.part.split("/"))
+    named = [name for name in SCRIPTS if any(word in name for word in words)]
     with Refusing(given.program) as docd:
-        for name, steps in ((name, steps) for name, steps in SCRIPTS.items() if any(word in name for word in words)):
+        for name in named[first - 1::step]:
+            steps = SCRIPTS[name]
             trial = Trial(docd, name, steps)
             count = trial.refuse_each()
             later = sum(trial.refuse_each((number,)) for number in [*trial.without_rows.values()])

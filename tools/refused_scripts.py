@@ -52,10 +52,12 @@ def find(name, session=0, **others):
     return Message(session, {"find": name, **others, "$db": "t"})
 
 
-def under(views, *commands, sources=()):
+THREE = [{"_id": place, "n": 7 - place, "tags": ["t%d" % place, "all"]} for place in range(1, 4)]
+
+
+def under(views, *commands, sources=(), there=THREE):
     """Commands on two collections of which the first has these views, or a view that is named as one's source, and what these
     tell and all hold afterwards."""
-    there = [{"_id": place, "n": 7 - place, "tags": ["t%d" % place, "all"]} for place in range(1, 4)]
     over = {**dict.fromkeys(views, "c"), **dict(sources)}
     made = [Message(0, {"create": name, "viewOn": over[name], "pipeline": stages, "$db": "t"}) for name, stages in views.items()]
     told = [Message(1, {"viewStats": name, "$db": "t"}) for name in views]
@@ -81,6 +83,24 @@ def summed(*commands):
     """Commands under two views that add up, one of them all rows together."""
     return under({"v": [{"$group": {"_id": None, "t": {"$sum": "$n"}}}],
                   "w": [{"$unwind": "$tags"}, {"$group": {"_id": "$tags", "n": {"$sum": 1}, "most": {"$max": "$n"}}}]}, *commands)
+
+
+def narrowed(*commands):
+    """Commands under a view that adds up an int32 and an int64."""
+    return under({"v": [{"$group": {"_id": None, "t": {"$sum": "$v"}}}]}, *commands,
+                 there=[{"_id": 1, "v": 1}, {"_id": 2, "v": {"$numberLong": "2"}}])
+
+
+def parents(*commands):
+    """Commands under a view that puts to each document those of the same collection that it names."""
+    looked = {"from": "c", "localField": "p", "foreignField": "_id", "as": "o"}
+    return under({"v": [{"$lookup": looked}]}, *commands, there=[{"_id": 1, "p": 3}, {"_id": 2, "p": 1}])
+
+
+def first_two(*commands):
+    """Commands under a view of the first two documents in order."""
+    there = [{"_id": place, "a": number} for place, number in enumerate([1, 2, 2, 3], 1)]
+    return under({"v": [{"$sort": {"a": 1}}, {"$limit": 2}]}, *commands, there=there)
 
 
 def itself(*commands):
@@ -177,6 +197,10 @@ SCRIPTS = {
     "two views and an insert without a reply": viewed(Message(0, insert("c", [{"_id": 0, "n": 5, "tags": []}]), flags=2)),
     "two sums and what leaves them": summed(
         delete({"q": {"_id": 2}, "limit": 1}), find("v"), delete({"q": {}, "limit": 0})),
+    "a sum of which the int64 leaves, and then all": narrowed(
+        delete({"q": {"_id": 2}, "limit": 1}), find("v"), delete({"q": {"_id": 1}, "limit": 1})),
+    "documents joined with those that they name, and an insert": parents(Message(0, insert("c", [{"_id": 3, "p": 1}]))),
+    "the first two, and a delete of the first": first_two(delete({"q": {"_id": 1}, "limit": 1})),
     "a collection and a view that is refused": viewed(Message(0, {"create": "d", "$db": "t"}),
                                                       Message(0, {"create": "v", "$db": "t"})),
     "two views and a drop": viewed(Message(0, {"drop": "c", "$db": "t"}), Message(0, {"drop": "w", "$db": "t"})),

@@ -1,27 +1,35 @@
-"""Runs docd while its requests for memory are counted, and some of them are refused. Needs a C compiler."""
+"""Runs docd while its requests for memory are counted, and some of them are refused. Needs the kit, whose compiler and C library
+make what is loaded into docd."""
 import os
 import subprocess
+import sys
 import tempfile
 from collections import namedtuple
+
+from kit import part
 
 # Counts the requests, and refuses those whose numbers REFUSE gives. At the end it writes into the file COUNTED how many there
 # were, those that were refused among them.
 SHIM = r"""
-#define _GNU_SOURCE
-#include <dlfcn.h>
-#include <fcntl.h>
-#include <stdio.h>
-#include <stdlib.h>
-#include <unistd.h>
+/* The kit has no headers. */
+typedef unsigned long size_t;
+void *dlsym(void *, const char *);
+char *getenv(const char *);
+long strtol(const char *, char **, int);
+int open(const char *, int, ...);
+long write(int, const void *, size_t);
+
+static void *const RTLD_NEXT = (void *)-1L;
+static const int O_WRONLY = 1;
 
 static long requests, first = -1, second;
 
 static int refuses(void) {
     if (first < 0) {
         const char *numbers = getenv("REFUSE");
-        char *rest = NULL;
+        char *rest = 0;
         first = numbers ? strtol(numbers, &rest, 10) : 0;
-        second = rest ? strtol(rest, NULL, 10) : 0;
+        second = rest ? strtol(rest, 0, 10) : 0;
     }
     requests++;
     return requests == first || requests == second;
@@ -30,21 +38,22 @@ static int refuses(void) {
 void *malloc(size_t size) {
     static void *(*next)(size_t);
     if (!next) next = (void *(*)(size_t))dlsym(RTLD_NEXT, "malloc");
-    return refuses() ? NULL : next(size);
+    return refuses() ? 0 : next(size);
 }
 
 void *realloc(void *old, size_t size) {
     static void *(*next)(void *, size_t);
     if (!next) next = (void *(*)(void *, size_t))dlsym(RTLD_NEXT, "realloc");
-    return refuses() ? NULL : next(old, size);
+    return refuses() ? 0 : next(old, size);
 }
 
 __attribute__((destructor)) static void tell(void) {
     const char *path = getenv("COUNTED");
-    int file = path ? open(path, O_WRONLY | O_TRUNC) : -1;
+    int file = path ? open(path, O_WRONLY) : -1;
     char text[24];
-    int length = snprintf(text, sizeof text, "%ld", requests);
-    if (file >= 0 && write(file, text, length) != length) _exit(70);
+    long place = sizeof text, rest = requests;
+    do text[--place] = '0' + rest % 10; while (rest /= 10);
+    if (file >= 0 && write(file, text + place, sizeof text - place) < 0) __builtin_trap();
 }
 """
 
@@ -58,10 +67,12 @@ class Refusing:
     def __init__(self, program):
         self.program, self.folder = program, tempfile.TemporaryDirectory()
         self.shim, self.counted = (os.path.join(self.folder.name, name) for name in ("shim.so", "counted"))
-        source = os.path.join(self.folder.name, "shim.c")
+        kit = part("rtlib.py") or sys.exit("refusing: no command `rt` is found: put the folder bin of the Rattle kit on the PATH")
+        source, tools = os.path.join(self.folder.name, "shim.c"), os.path.join(kit.KIT, "toolchain")
         with open(source, "w", encoding="ascii") as file:
             file.write(SHIM)
-        subprocess.run(["cc", "-shared", "-fPIC", "-O1", "-o", self.shim, source, "-ldl"], check=True)
+        subprocess.run([os.path.join(tools, "bin", "clang"), "--target=x86_64-unknown-linux-gnu", "--no-default-config", "-shared", "-fPIC",
+                        "-O1", "-nostdlib", "-fuse-ld=lld", "-o", self.shim, source, os.path.join(tools, "lib", "libc.so.6")], check=True)
 
     def __enter__(self):
         return self

@@ -1,7 +1,7 @@
 #!/usr/bin/python3
 """Counts the requests for memory that one insert takes under a view of a thousand rows, and one find on such a view.
 
-Needs the built program (run ./docd once) and a C compiler. A collection has the documents {_id: i, k: i}, i from 1 to 1,000,
+Needs the kit and the built program (`./docd run < /dev/null` builds one). A collection has the documents {_id: i, k: i}, i from 1 to 1,000,
 under one view. docd runs with a last insert of {_id: 1001, k: 1001} and without it, and then also with a find of one row of the
 view. The least number of a request that a run doesn't meet may be 500 higher with the insert, and with the find. So a stage
 that makes all its rows anew for one change stands out, and so does a find that does. What each run shows last is that the view
@@ -81,14 +81,15 @@ class Under:
 
 def main():
     options = argparse.ArgumentParser(description=__doc__, formatter_class=argparse.RawDescriptionHelpFormatter)
-    given, wrong = parsed(options, "requests_counted"), 0
+    given, right, wrong = parsed(options, "requests_counted"), 0, 0
     with Refusing(given.program) as docd:
         for name, view in VIEWS.items():
             for what, count in Under(docd, view).taken().items():
                 is_right = count is not None and count <= MOST
                 told = "the view isn't live with its rows" if count is None else "%d requests" % count
                 print("%s %s, %s: %s" % ("  " if is_right else "!!", name, what, told))
-                wrong += not is_right
+                right, wrong = right + is_right, wrong + (not is_right)
+    print("%d counted, %d wrong" % (right, wrong))
     return 1 if wrong else 0
 
 

@@ -29,17 +29,29 @@ class Served:
         _, fields = value_of(command)
         return json_of(DOCUMENT, self.reply_to(fields))
 
+    def ask_together(self, commands):
+        """The bytes of the replies to commands that are sent in one piece."""
+        self.connection.sendall(b"".join(self.message_of(value_of(one)[1]) for one in commands))
+        return [self.reply() for _ in commands]
+
     def reply_to(self, fields):
         """The fields of the reply to a command of these fields, whose first name is what it does."""
-        self.number += 1
-        self.connection.sendall(message(spelling(fields), self.number))
+        self.connection.sendall(self.message_of(fields))
         if self.tell_waiting and self.number == 1 and not select.select([self.connection], [], [], PATIENCE)[0]:
             self.tell_waiting()
+        return answer(self.reply())
+
+    def message_of(self, fields):
+        self.number += 1
+        return message(spelling(fields), self.number)
+
+    def reply(self):
+        """The bytes of the next reply."""
         head = self.taken(4)
         length = struct.unpack("<i", head)[0]
         if length not in LENGTHS:
             raise NotDocd("no message of docd")
-        return answer(head + self.taken(length - 4))
+        return head + self.taken(length - 4)
 
     def taken(self, count):
         """So many bytes of the replies."""

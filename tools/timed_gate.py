@@ -1,14 +1,17 @@
 #!/usr/bin/python3
-"""Runs the gate, and tells how much processor time the proof of each crate, with that of its tests, and its edits took: the
-table of docs/GATE.md. It is to run alone on the machine, or the figures are too high.
+"""Runs `rt ci`, the gate without what needs no proof, and notes how much processor time the proof of each crate, with that of its tests, and its edits took: in
+tools/proof_seconds.txt, from which tools/build.py forecasts, and from there in the table of docs/GATE.md. It is to run alone
+on the machine, or the figures are too high. A gate that fails notes nothing.
 
-What the gate says goes to its own standard output as it comes, the table behind it. Needs Linux, which tells in /proc what a
-process and its children took; it is looked at each second, so that at most the last second of a process is lost.
+What the gate says goes to its own standard output as it comes. Needs Linux, which tells in /proc what a process and its
+children took; it is looked at each second, so that at most the last second of a process is lost.
 
     tools/timed_gate.py > /tmp/gate.txt
+    tools/timed_gate.py --table             only writes the table anew, with the lines that the crates have now
 """
 import os
 import pathlib
+import re
 import resource
 import subprocess
 import sys
@@ -20,6 +23,8 @@ A_LOOK = 1  # seconds from one look at the processes to the next
 TICKS = os.sysconf("SC_CLK_TCK")
 EDITS, TESTS, PROOF = "edits", "tests", "proof"
 TAKES_EDITS = "rt-edits-"  # in the words of a check of an edit: the folder in which a crate's edits share their work
+SECONDS = ROOT / "tools" / "proof_seconds.txt"
+PAGE = ROOT / "docs" / "GATE.md"
 LINE = "| `%s` | %s | %s | %s | %s | %s | %s |"
 HEAD = ["| Crate | Code | Definitions | Proofs | Proof | Edits | Their time |", "|---|---:|---:|---:|---:|---:|---:|"]
 
@@ -95,17 +100,45 @@ def lines_in(crate, part):
     return sum(1 for it in files for line in it.read_text().splitlines() if line.strip())
 
 
-def table(sums):
+def names():
+    """The crates, as crates.txt lists them."""
+    return [it.split(":")[0].split()[0] for it in (ROOT / "crates.txt").read_text().splitlines() if it and it[0] != "#"]
+
+
+def known():
+    """The seconds of each crate's proof and of its edits, as they are noted."""
+    lines = SECONDS.read_text().splitlines() if SECONDS.exists() else []
+    return {name: (int(proof), int(edits)) for name, proof, edits in map(str.split, lines)}
+
+
+def note(sums):
+    """Notes the seconds of a gate. A crate that it took over from an earlier run, and so didn't prove, keeps its figures."""
+    figures = known()
+    for name in names():
+        if sums[name, PROOF]:
+            figures[name] = round(sums[name, PROOF] + sums[name, TESTS]), round(sums[name, EDITS])
+    SECONDS.write_text("".join("%s %d %d\n" % (name, *figures[name]) for name in names() if name in figures))
+
+
+def table():
     """The lines of the table."""
-    names = [it.partition(":")[0] for it in (ROOT / "crates.txt").read_text().splitlines() if it]
-    for name in names:
+    yield from HEAD
+    for name in names():
+        proof, edits_time = known().get(name, (0, 0))
         edits = len(list((ROOT / "crates" / name / "must-fail").glob("*.edit")))
-        lines = [lines_in(name, part) for part in ("src", "specs", "proofs")]
-        counts = lines + [round(sums[name, PROOF] + sums[name, TESTS]), edits, round(sums[name, EDITS])]
+        counts = [lines_in(name, part) for part in ("src", "specs", "proofs")] + [proof, edits, edits_time]
         yield LINE % (name, *(it or "" for it in counts))
 
 
+def write_table():
+    """Puts the table into the page in the place of the one there."""
+    rows = re.compile(re.escape(HEAD[0]) + r"\n(\|.*\n)+")
+    PAGE.write_text(rows.sub(lambda _: "\n".join(table()) + "\n", PAGE.read_text()))
+
+
 def main():
+    if "--table" in sys.argv[1:]:
+        return write_table()
     start = time.monotonic()
     gate = subprocess.Popen(["rt", "ci"], cwd=ROOT)
     looks = Looks(gate.pid)
@@ -114,7 +147,9 @@ def main():
         time.sleep(A_LOOK)
     used = resource.getrusage(resource.RUSAGE_CHILDREN)
     sums = looks.by_task()
-    print("\n".join([*HEAD, *table(sums)]))
+    if not gate.returncode:
+        note(sums)
+        write_table()
     by_part = Counter()
     for task, seconds in sums.items():
         by_part[task[1] if task else "other"] += seconds

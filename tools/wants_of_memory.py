@@ -1,8 +1,9 @@
 #!/usr/bin/python3
-"""Lists each place of the code that says 'memory is wanting', and tells those that nobody has looked at.
+"""Lists each place of the code that says 'memory is wanting', or leaves a view without rows that changes keep, and tells those
+that nobody has looked at.
 
 A body that answers want of memory where there is memory is proved, since no contract can say that memory is there. So
-each place in crates/*/src that writes such an answer as a value stands in tools/wants_of_memory.txt, by its function,
+each place in crates/*/src that writes such an answer, or such a mark of a view, as a value stands in tools/wants_of_memory.txt, by its function,
 with how many there are and why each of them follows a failed allocation, or hands on an answer that said so. Types,
 patterns, `use` and ghost lines, comments and tests are no values.
 
@@ -20,6 +21,7 @@ import sys
 HERE = pathlib.Path(__file__).resolve().parent.parent
 KNOWN = HERE / "tools" / "wants_of_memory.txt"
 NAMES = {"AllocError", "AllocFailed", "Memory", "NoMemory", "NoReply", "OutOfMemory", "WantOfMemory"}
+MARKS = {"Made", "Stale"}  # of the enum Mark of dv_views
 TOKEN = re.compile(r"""//[^\n]* | b?r?"(?:\\.|[^"\\])*" | b?'(?:\\.[^']*|[^'\\])' | '?[A-Za-z_]\w*
                        | => | -> | :: | [0-9][\w.]* | \s+ | .""", re.X | re.S)
 OPENS, CLOSES = {"(": ")", "[": "]", "{": "}"}, {")", "]", "}"}
@@ -118,8 +120,13 @@ def body_of(code, at):
 def values(code, start, end):
     """The places of the names between two places of a body, where they are values."""
     for at in range(start, end):
-        if code.word(at) in NAMES and not is_type(code, at) and not is_pattern(code, at, start, end):
+        if is_want(code, at) and not is_type(code, at) and not is_pattern(code, at, start, end):
             yield at
+
+
+def is_want(code, at):
+    """Whether a name is one of those that are looked for."""
+    return code.word(at) in NAMES or code.word(at) in MARKS and [code.word(at - 2), code.word(at - 1)] == ["Mark", "::"]
 
 
 def path_start(code, at):

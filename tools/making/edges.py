@@ -72,7 +72,7 @@ def update_edges():
 
 
 def view_edges():
-    """Views of a `$push` over groups of as many rows as are kept by changes, and of more."""
+    """Views of a `$push` over groups of some hundred rows."""
     fields = document([(b"_id", text(b"$k")), (b"all", document([(b"$push", text(b"$_id"))]))])
     view = [(b"create", text(b"v")), (b"viewOn", text(b"c")), (b"pipeline", array([document([(b"$group", fields)])]))]
     read, told = [(b"find", text(b"v"))], [(b"viewStats", text(b"v"))]
@@ -87,7 +87,7 @@ def view_edges():
 
 
 def tower_edges():
-    """Views over one with a $push over a group of about as many rows as are kept by changes: written below, read and told of."""
+    """Views over one with a $push over a group of some hundred rows: written below, read and told of."""
     for seed in range(12):
         rng = random.Random(seed)
         there = insert([document([(b"_id", number(i)), (b"k", number(i % 2))]) for i in range(rng.choice([255, 256, 257]))])

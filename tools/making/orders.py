@@ -33,8 +33,6 @@ VIEWS = {
     "floor_sums": ("shelf_sums", [{"$unwind": "$sum"}, {"$group": {"_id": "$floor", "sum": {"$sum": "$sum"}}}]),
     "all_together": ("together", [{"$unwind": "$all"}, {"$limit": 5}]),
 }
-# A $push over more than 256 rows, behind whose changes its view is stale, and with it what is over that.
-LARGE = {"together", "all_together"}
 # The views that others read.
 READ = VIEWS.keys() & {name for source, stages in VIEWS.values()
                        for name in [source, *(stage["$lookup"]["from"] for stage in stages if "$lookup" in stage)]}
@@ -101,13 +99,13 @@ class Orders:
             return collection, self.insert(collection, (least + most) // 2 - self.counts[collection])
         if self.counts[collection] > most:
             return collection, self.delete(collection)
-        if self.often(0.0005):
-            return collection, {"drop": collection}
         made = self.rng.choice([self.insert, self.delete, self.delete, self.update, self.update, self.update])
         return collection, made(collection)
 
     def insert(self, collection, count=0):
+        """Its documents count as stored at once, so that no other client makes up for the same ones."""
         documents = [self.document(collection) for _ in range(count or self.rng.choice([1, 1, 1, 2, 5]))]
+        self.counts[collection] += len(documents)
         return {"insert": collection, "documents": documents, "ordered": False}
 
     def delete(self, collection):
@@ -120,10 +118,13 @@ class Orders:
 
     def written(self, collection, command, reply):
         """Counts what a write has done to its collection."""
-        if "drop" in command:
-            self.counts[collection] = 0
-        elif "update" not in command:
-            self.counts[collection] += reply["n"] if "insert" in command else -reply["n"]
+        if "insert" in command:
+            self.counts[collection] -= len(command["documents"]) - reply["n"]
+        elif "delete" in command:
+            self.counts[collection] -= reply["n"]
+
+    def dropped(self, collection):
+        self.counts[collection] = 0
 
     def read(self):
         """A find or an aggregate, whose answer may be longer than its first batch."""

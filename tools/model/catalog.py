@@ -51,7 +51,7 @@ def view_stats(store, database, fields):
     if place not in store.views:
         raise Refusal(NAMESPACE_NOT_FOUND)
     view = store.views[place]
-    state, rows = (b"live", len(store.rows(place))) if view.is_live() else (b"stale", 0)
+    state, rows = (b"live", len(store.rows(place))) if view.is_live else (b"stale", 0)
     return [(b"state", (TEXT, state)), (b"rows", (INT64, rows)), (b"ticks", (INT64, view.ticks)), OK]
 
 

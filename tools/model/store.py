@@ -6,7 +6,6 @@ from model.cursors import Cursors
 from model.indexes import ON_ID
 from model.namespaces import joined
 from model.pipelines import rows_of
-from model.views import MADE
 from model.work import through
 
 
@@ -71,10 +70,10 @@ class Store:
     def refresh(self, place):
         """Makes the view under a namespace anew, where it is stale, behind those that it reads."""
         view = self.views.get(place)
-        if view and not view.is_live():
+        if view and not view.is_live:
             for name in view.reads:
                 self.refresh(name)
-            view.refresh(any(self.views[name].how == MADE for name in view.reads if name in self.views), self.placer())
+            view.refresh()
 
     def is_read(self, place):
         """Whether a view reads what stands under a namespace."""

@@ -10,19 +10,11 @@ from collections import namedtuple
 from operator import itemgetter
 
 from model.paths import field_of, sort_key, sort_of
-from model.pipelines import STAGES
 from model.remembered import remembered
-from model.values import DOCUMENT, INT32, key
-
-MOST_PUSHED = 256  # rows of a group with a $push, where it is kept by changes
-ONE = DOCUMENT, [(b"$sum", (INT32, 1))]
+from model.values import key
 
 # What a stage makes of rows, and of the documents that it looks into; and whether it looks into any.
 Placed = namedtuple("Placed", "makes looks", defaults=[False])
-
-
-class Overfull(Exception):
-    """A group is too large for its $push."""
 
 
 class Falling:
@@ -96,19 +88,10 @@ def limited(operand, plain):
 
 def grouped(operand, plain):
     """The row of a group stands under its key."""
-    has_push, sizes = pushes(operand), STAGES[b"$group"]((DOCUMENT, [(b"_id", field_of(operand[1], b"_id")), (b"n", ONE)]))
-
     def makes(rows, others):
         documents = documents_of(rows)
-        if has_push and any(size > MOST_PUSHED for _, (_, (_, size)) in sizes(documents, None)):
-            raise Overfull
         return [((key(field_of(row, b"_id")),), row) for row in plain(documents, None)]
     return Placed(makes)
-
-
-def pushes(operand):
-    """Whether a group has a $push."""
-    return any(name != b"_id" and held[0][0] == b"$push" for name, (_, held) in operand[1])
 
 
 def looked_up(operand, plain):
@@ -126,11 +109,6 @@ PLACED = {b"$match": matched_or_shown, b"$project": matched_or_shown, b"$unwind"
 def placed(stages, functions):
     """The stages of a pipeline, which are these functions of rows, over rows at positions."""
     return [PLACED[held[0][0]](held[0][1], plain) for (_, held), plain in zip(stages, functions)]
-
-
-def has_push(stages):
-    """Whether a stage is a group with a $push."""
-    return any(held[0][0] == b"$group" and pushes(held[0][1]) for _, held in stages)
 
 
 # What comes to each stage, one after the other, and what the last one hands on: a list of lists of changes.

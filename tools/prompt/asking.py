@@ -9,8 +9,8 @@ from served import NotDocd, Served
 COMMAND = re.compile(r"(?:(\d{0,3})>)?\s*(.*)", re.S)
 DATABASE = b"$db"
 ADDRESS = "127.0.0.1:%d"
-WAITS = ("no answer from %s yet: docd takes one connection after the other, and another one may be open, or its last command at "
-         "work; or what listens there isn't docd (Control-C ends this)" % ADDRESS)
+WAITS = ("no answer from %s yet: docd may be at work on a long command, or have as many connections as it takes, 1,000 under "
+         "`listen` and one under `serve`; or what listens there isn't docd (Control-C ends this)" % ADDRESS)
 
 
 class NoDocd(Exception):
@@ -35,9 +35,8 @@ class Asker:
         try:
             self.served = Served(port, lambda: tell(WAITS % port))
         except OSError as error:
-            raise NoDocd("nothing serves at %s (%s): start ./docd serve --port %d --connections 1000000 in another terminal, or "
-                         "name its port; it ends behind the last of its connections" % (
-                             self.address, error.strerror, port)) from None
+            raise NoDocd("nothing serves at %s (%s): start ./docd listen --port %d in another terminal, or name its port" % (
+                self.address, error.strerror, port)) from None
 
     def fields_of(self, line):
         """The fields of a line's command."""

@@ -85,7 +85,7 @@ class Prompt:
         try:
             reply = self.asker.reply_to(fields)
         except KeyboardInterrupt:
-            tell("docd carries this command out to its end, and the next connection waits for that")
+            tell("docd carries this command out to its end, and all other connections wait for that")
             raise
         self.names.learn(fields, reply)
         self.show(fields, reply)

@@ -1,11 +1,7 @@
-"""Shows a view's rows, and again where they change.
-
-docd serves one connection after the other, so each look is a connection of its own: between two looks others can write.
-"""
+"""Shows a view's rows, and again where they change."""
 import time
 
 from model.values import INT32, TEXT
-from prompt.asking import Asker
 from prompt.layout import Layout, batch_of
 
 MOST = 101  # rows that are shown
@@ -68,15 +64,12 @@ class Watching:
         return [*lines_of(self.view, rows, width)]
 
 
-def watch(port, database, view, every, width, tell):
+def watch(asker, view, every, width, tell):
     """Shows a view's rows, looks for others as often as it is told, and never ends by itself."""
-    watching, is_first = Watching(view), True
+    watching = Watching(view)
+    tell_if_none(asker, view, tell)
     while True:
-        asker = Asker(port, database, tell)
-        if is_first:
-            tell_if_none(asker, view, tell)
-        is_first, lines = False, watching.look(asker, width())
-        asker.close()
+        lines = watching.look(asker, width())
         if lines:
             print(*lines, sep="\n", flush=True)
         time.sleep(every)

@@ -1,0 +1,153 @@
+#!/usr/bin/python3
+"""The gate: `rt ci`, and after it what is tried on the program that it built, without a proof.
+
+`rt ci` proves each crate from nothing, tries the edits that must be refused, and runs the tests and the program. Then the parts
+below run, as many side by side as there are processors. Each has to end well, and to say that it looked at no less than is
+known of it: one that crashes, says nothing or looks at nothing has failed. The last line counts what passed, `rt ci`'s first
+number and the parts, and what failed. A part that fails is named with the first lines that it printed, and its log is kept.
+
+Needs the kit and Python alone.
+
+    tools/check.py                                           the gate
+    tools/check.py --program PROGRAM [--parts WORD,WORD]     only the parts, or some of them, on a program: not the gate
+"""
+import argparse
+import os
+import re
+import shutil
+import subprocess
+import sys
+import tempfile
+import threading
+import time
+from collections import namedtuple
+from concurrent.futures import ThreadPoolExecutor
+
+from program import PROVED, ROOT
+
+COUNTS = re.compile(r"(\d+) passed, (\d+) failed")
+A_PART = 3_600  # seconds that a part may take
+FIRST_LINES = 20  # of what a part that failed has printed
+
+# What is tried: its name, the tool's words, what its output says where nothing is wrong, and how many it has looked at then
+# at least; whether it runs the program.
+Part = namedtuple("Part", "name words says least runs", defaults=[True])
+
+RIGHT = r"(\d+) right, 0 wrong"
+REFUSED = r"(\d+) requests refused, 0 wrong"
+COMPARED = r"(\d+) scripts \(seed \d+\) with \d+ messages, and \d+ at the limits: no difference"
+
+# Those that take longest come first.
+PARTS = [
+    Part("rows cut after each byte, and with each byte replaced", ["each_byte.py"], r"(\d+) runs, 0 wrong", 80_000),
+    *[Part("random scripts against the second machine, from %d on" % start,
+           ["compare.py", "--start", str(start), "--count", "125"] + ["--without-limits"] * (start > 0), COMPARED, 120)
+      for start in range(0, 500, 125)],
+    *[Part("each request for memory refused in turn, part %d of 4" % number,
+           ["refuse_allocations.py", "--part", "%d/4" % number], REFUSED, 6_000) for number in range(1, 5)],
+    *[Part("broken messages against the second machine, %s" % way,
+           ["broken_input.py", "--way", way, "--count", "1000"], r"no difference;.* (\d+) messages answered", 1_000)
+      for way in ("run", "script", "served", "listened")],
+    Part("rows as deep as commands can make them", ["deep_rows.py"], RIGHT, 60),
+    Part("the second machine's own rows", ["machine_rows.py"], RIGHT, 5_000, False),
+    Part("the prompt's own rows", ["prompt_rows.py"], RIGHT, 700, False),
+    Part("the worked examples", ["worked_examples.py"], r"(\d+) examples, 0 wrong", 200),
+    Part("the files of the worked examples", ["worked_examples.py", "--look"], r"(\d+) examples, 0 wrong", 200, False),
+    Part("the manual's examples", ["manual.py"], RIGHT, 100),
+    Part("the notation's own rows", ["notation_rows.py"], RIGHT, 2_000, False),
+    Part("requests for memory under a thousand rows", ["requests_counted.py"], r"(\d+) counted, 0 wrong", 8),
+    Part("each place that answers that memory ran out is known", ["wants_of_memory.py"], r"(\d+) places in \d+ functions, each of them listed", 50, False),
+]
+
+
+def say(text):
+    print(text, flush=True)
+
+
+def proved():
+    """Runs `rt ci`, and hands on what it prints. How many passed and failed by its last line, one failing at least where it ended
+    badly."""
+    last = ""
+    if not shutil.which("rt"):
+        say("no command `rt` is found: put the folder bin of the Rattle kit on the PATH")
+        return 0, 1
+    with subprocess.Popen(["rt", "ci"], cwd=ROOT, stdout=subprocess.PIPE, text=True, errors="replace",
+                          env={**os.environ, "PYTHONUNBUFFERED": "1"}) as gate:
+        for line in gate.stdout:
+            print(line, end="", flush=True)
+            last = line.strip() or last
+    found = COUNTS.fullmatch(last)
+    passed, failed = map(int, found.groups()) if found else (0, 1)
+    return passed, max(failed, 1) if gate.returncode else failed
+
+
+def is_well(part, program, log):
+    """Tries a part on the program, and prints how it ended."""
+    words = [sys.executable, os.path.join(ROOT, "tools", part.words[0]), *part.words[1:]]
+    words += ["--program", program] if part.runs else []
+    begun = time.monotonic()
+    with open(log, "wb") as said:
+        status, seconds = ended(words, said)
+    with open(log, errors="replace") as said:
+        lines = said.read().splitlines()
+    counts = [int(found[1]) for found in map(re.compile(part.says).search, lines) if found]
+    if status == 0 and sum(counts) >= part.least:
+        say("%s: passed: %d, in %d s, %d of them of a processor" % (part.name, sum(counts), time.monotonic() - begun, seconds))
+        return True
+    first = "".join("\n    " + line for line in lines[:FIRST_LINES])
+    say("%s: FAILED: status %s, %d looked at of at least %d; %s has what it printed:%s" % (
+        part.name, status, sum(counts), part.least, log, first))
+    return False
+
+
+def ended(words, said):
+    """Runs a tool to its end: its exit status, and the seconds of a processor that it took with what it ran."""
+    tool = subprocess.Popen(words, cwd=ROOT, stdin=subprocess.DEVNULL, stdout=said, stderr=subprocess.STDOUT)
+    clock = threading.Timer(A_PART, tool.kill)
+    clock.start()
+    try:
+        _, status, used = os.wait4(tool.pid, 0)
+    finally:
+        clock.cancel()
+    tool.returncode = os.waitstatus_to_exitcode(status)
+    return tool.returncode, used.ru_utime + used.ru_stime
+
+
+def tried_parts(made, parts):
+    """Whether each part is well, tried on a copy of the program that was made, as many side by side as there are processors. The
+    logs stay where one isn't."""
+    folder = tempfile.mkdtemp(prefix="lofgrim-check-")
+    program = os.path.join(folder, "docd")
+    shutil.copyfile(made, program)
+    os.chmod(program, 0o755)
+    logs = [os.path.join(folder, "%02d-%s.log" % (place, part.words[0])) for place, part in enumerate(parts)]
+    with ThreadPoolExecutor(len(os.sched_getaffinity(0))) as pool:
+        each = [pool.submit(is_well, part, program, log) for part, log in zip(parts, logs)]
+    tried = [one.exception() is None and one.result() for one in each]
+    for part, one in zip(parts, each):
+        if one.exception():
+            say("%s: FAILED: %r" % (part.name, one.exception()))
+    if all(tried):
+        shutil.rmtree(folder)
+    return tried
+
+
+def main():
+    options = argparse.ArgumentParser(description=__doc__, formatter_class=argparse.RawDescriptionHelpFormatter)
+    options.add_argument("--program", help="try the parts alone, on this program")
+    options.add_argument("--parts", default="", help="words, joined by commas, of which the tool's name has one")
+    given = options.parse_args()
+    passed, failed = (0, 0) if given.program else proved()
+    made = given.program or PROVED
+    if not failed and not os.path.exists(made):
+        say("%s isn't there" % made)
+        failed = 1
+    if not failed:
+        tried = tried_parts(made, [part for part in PARTS if any(word in part.words[0] for word in given.parts.split(","))])
+        passed, failed = passed + tried.count(True), tried.count(False)
+    say("%d passed, %d failed" % (passed, failed))
+    return 1 if failed or not passed else 0
+
+
+if __name__ == "__main__":
+    sys.exit(main())
