@@ -32,10 +32,11 @@ PROGRAM = "docd"
 LOG = HERE / "crates" / PROGRAM / "out" / "build.log"
 SECONDS = HERE / "tools" / "proof_seconds.txt"
 A_CHECK = 3 << 30  # bytes of memory that one crate's check may take
-A_JOB = 3 << 29  # bytes that each further processor of a check may take
+A_JOB = 7 << 28  # bytes that each further processor of a check may take
+SIDE_BY_SIDE = 3  # crates that are proved at once, since each leaves processors alone for a while
 ALL_WORK = 16 << 30  # bytes that the crates' work takes on disk
 SHARED = 1.25  # how much more processor time a check takes that several processors share
-LESS_URGENT = 10  # the priority, by the system's `nice`, of crates that another one goes before
+LESS_URGENT = 6  # by how much the priority of a crate is lower, in the system's `nice`, for each that goes before it
 A_LOOK = 0.2  # seconds from one look at the running checks to the next
 ALONE = 0.9  # how much of its processor time a crate takes at least, however many processors share it, as a first build showed
 
@@ -140,7 +141,7 @@ class Build:
         ready = [it for it in self.left if self.crates.below(it) <= self.done and (it != PROGRAM or not self.running)]
         for name in sorted(ready, key=self.crates.behind, reverse=True):
             taken = sum(jobs for _, _, jobs in self.running.values())
-            jobs = min(self.processors, self.room - taken, 2 * self.processors - taken)
+            jobs = min(self.processors, self.room - taken, SIDE_BY_SIDE * self.processors - taken)
             if jobs < 1 and self.running:
                 break
             tell("%s, crate %d of %d .." % (name, len(self.done) + len(self.running) + 1, len(self.crates.names)))
@@ -148,11 +149,12 @@ class Build:
             self.running[name] = start(name, max(1, jobs), self.log), time.monotonic(), max(1, jobs)
 
     def favour(self):
-        """Has the processors go to the running crate with the longest chain first."""
-        first = max(self.running, key=self.crates.behind)
-        for name, (process, _, _) in self.running.items():
+        """Has the processors go to the running crates in the order of what is left of their longest chains."""
+        now = time.monotonic()
+        order = sorted(self.running, key=lambda name: self.crates.behind(name) - (now - self.running[name][1]), reverse=True)
+        for place, name in enumerate(order):
             with contextlib.suppress(OSError):  # who isn't root can't take a lower priority back
-                os.setpriority(os.PRIO_PGRP, process.pid, 0 if name == first else LESS_URGENT)
+                os.setpriority(os.PRIO_PGRP, self.running[name][0].pid, LESS_URGENT * place)
 
     def take_ended(self):
         """Notes the crates whose proof has ended since the last look, and stops at one that failed. Whether there were any."""

@@ -152,7 +152,7 @@ abbrev pub Agreeing : Type 0
 Agreeing = (stages : List Stage) (source : List ℕ) (lists others : Lists) → ((name : List ℕ) → is_read stages source name ≡ true → lists name ≡ others name) → evaluated stages source lists ≡ evaluated stages source others
 
 module _ (source name : List ℕ) where
-  looked_among : (stages : List Stage) → list_any (λ s. is_source_named name (looked_into s source)) stages ≡ is_name_among name (lookups_of stages source)
+  pub looked_among : (stages : List Stage) → list_any (λ s. is_source_named name (looked_into s source)) stages ≡ is_name_among name (lookups_of stages source)
   looked_among [] = refl
   looked_among (s ∷ ss) = by_name (looked_into s source) (looked_among ss)
     where

@@ -18,6 +18,8 @@ pub mod RowsView
 pub mod SearchedView
 pub mod StatsView
 pub mod SourceParts
+pub mod Fronts
+pub mod Behind
 pub mod CatalogParts
 -- facts that a crate above may cite
 pub mod StateLaws

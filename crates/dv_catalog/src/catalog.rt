@@ -8,11 +8,12 @@ use crate::counted::{Counted, NOTHING};
 use crate::delete::deleted;
 use crate::effect::{Changes, Effect};
 use crate::explained::{Explained, explained_in, explained_view};
+use crate::front::rows_of_stages;
 use crate::indexing::IndexCounts;
 use crate::laws::told_changes_are_made;
 use crate::scan::scan;
 use crate::searched::searched_in;
-use crate::sources::{documents_under, rows_under};
+use crate::sources::documents_under;
 use crate::stats::{Stats, is_live};
 use crate::stopped::Stopped;
 use crate::told::{all_told_gone, one_told, told};
@@ -21,7 +22,6 @@ use crate::upkeep::{refresh_read, refresh_under, shown_rows_are_right};
 use dv_command::{Aggregate, Create, Deletion, Find, Refusal, Updating, ViewOn};
 use dv_index::NewIndex;
 use dv_match::Filter;
-use dv_pipe::evaluate;
 use dv_value::{Document, NoMemory};
 use dv_views::{Registry, ViewFault, names_read};
 use std::alloc::Global;
@@ -247,9 +247,13 @@ impl Catalog {
         )?;
         shown_rows_are_right(&self.views);
         dv_pipe::laws::what_is_not_read_does_not_matter();
-        let names = names_read(self.alloc, namespace, pipeline)?;
-        let sources = rows_under(self.alloc, &self.collections, &self.views, &names)?;
-        evaluate(self.alloc, pipeline, namespace, &sources)
+        rows_of_stages(
+            self.alloc,
+            &self.collections,
+            &self.views,
+            pipeline.stages(),
+            namespace,
+        )
     }
 
     /// How the view of a namespace stands; none where no view stands there. A stale view is left so. Takes no memory.

@@ -2,6 +2,7 @@
 #![tactic(auto)]
 
 mod ahead;
+mod behind;
 mod catalog;
 mod chosen;
 mod collections;
@@ -10,6 +11,7 @@ mod counted;
 mod delete;
 mod effect;
 mod explained;
+mod front;
 mod indexing;
 mod insert;
 pub mod laws;

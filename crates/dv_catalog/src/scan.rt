@@ -48,7 +48,7 @@ fn in_order(
 }
 
 /// The first rows that match the filter, in the order of the sort: `most` of them, or all. Fails where memory is wanting.
-fn in_sort(
+pub(crate) fn in_sort(
     alloc: Global,
     within: Searched<'_>,
     filter: &Filter,

@@ -6,4 +6,5 @@ pub mod Through
 pub mod Steps
 pub mod StageLaws
 pub mod Valid
+pub mod RowsJoined
 pub mod Namespaces

@@ -39,19 +39,19 @@ module _ (source : List ℕ) (lists others : Lists) where
   or-right true b e = refl
   or-right false b e = e
 
-  through-same : (stages : List Stage) (rows : List Row) → IsSame (λ name. list_any (λ s. is_source_named name (looked_into s source)) stages) → through stages source lists rows ≡ through stages source others rows
+  pub through_same : (stages : List Stage) (rows : List Row) → IsSame (λ name. list_any (λ s. is_source_named name (looked_into s source)) stages) → through stages source lists rows ≡ through stages source others rows
   unfolding through
-  through-same [] rows same = refl
-  through-same (s ∷ ss) rows same =
+  through_same [] rows same = refl
+  through_same (s ∷ ss) rows same =
       let rest = λ (name : List ℕ). list_any (λ s. is_source_named name (looked_into s source)) ss in
       ap (λ foreign. through ss source lists (stage s rows foreign)) (rows-same (looked_into s source) (λ name h. same name (or-left (is_source_named name (looked_into s source)) (rest name) h)))
-      ∙ through-same ss (stage s rows (foreign_of s source others)) (λ name h. same name (or-right (is_source_named name (looked_into s source)) (rest name) h))
+      ∙ through_same ss (stage s rows (foreign_of s source others)) (λ name h. same name (or-right (is_source_named name (looked_into s source)) (rest name) h))
 
   pub unread : (stages : List Stage) → IsSame (is_read stages source) → evaluated stages source lists ≡ evaluated stages source others
   unread stages same =
       let later = λ (name : List ℕ). list_any (λ s. is_source_named name (looked_into s source)) stages in
       ap (through stages source lists) (same source (or-left (bytes_eq source source) (later source) (bytes-same source)))
-      ∙ through-same stages (others source) (λ name h. same name (or-right (bytes_eq source name) (later name) h))
+      ∙ through_same stages (others source) (λ name h. same name (or-right (bytes_eq source name) (later name) h))
 
 and-true : (a : Bool) → a && true ≡ a
 and-true true = refl

@@ -1,3 +1,4 @@
+pub mod Joined
 pub mod Laws
 pub mod Parts
 pub mod Sources

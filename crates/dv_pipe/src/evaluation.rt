@@ -1,12 +1,13 @@
 //! Pipelines carried out.
 
 ghost use Rattle.std.specs.Prelude.{◌≡◌, IfOk};
-ghost use Rattle.dv_pipe.specs.Sources.{lists_of};
+ghost use Rattle.dv_pipe.specs.Sources.{lists_of, rows_referred};
 ghost use Rattle.dv_pipe.specs.Stages as defined;
 
 use crate::pipeline::Pipeline;
 use crate::run::Run;
 use crate::sources::Sources;
+use crate::stage::Stage;
 use dv_value::{Document, NoMemory};
 use std::alloc::Global;
 
@@ -20,11 +21,31 @@ pub fn evaluate(
 ) -> Result<Vec<Document>, NoMemory>
     ensures { IfOk result (λ rows. rows.items ≡ defined.evaluated pipeline.now source.now (lists_of sources.now)) }
 {
-    let mut run = Run::of(alloc, pipeline.stages(), source, sources)?;
-    let mut rows = run.rows(alloc, sources.get(source))?;
+    rows_through(
+        alloc,
+        pipeline.stages(),
+        source,
+        sources,
+        sources.get(source),
+    )
+}
+
+/// The rows that come out of stages of a pipeline over `source` where these rows go in. They share memory as those of
+/// `evaluate` do. Fails where memory is wanting.
+pub fn rows_through(
+    alloc: Global,
+    stages: &[Stage],
+    source: &str,
+    sources: &Sources<'_>,
+    rows: &[&Document],
+) -> Result<Vec<Document>, NoMemory>
+    ensures { IfOk result (λ left. left.items ≡ defined.through stages.now source.now (lists_of sources.now) (rows_referred rows.now)) }
+{
+    let mut run = Run::of(alloc, stages, source, sources)?;
+    let mut left = run.rows(alloc, rows)?;
     'runs: while !run.later.is_empty() {
         run = Run::of(alloc, run.later, source, sources)?;
-        rows = run.rows_behind(alloc, &rows)?;
+        left = run.rows_behind(alloc, &left)?;
     }
-    Ok(rows)
+    Ok(left)
 }

@@ -1,7 +1,7 @@
 //! What holds of stages and of pipelines, each the contract of a function that does nothing.
 
 ghost use Rattle.std.specs.Prelude.{◌≡◌, ◌++◌, ℕ, List, true, false, filter, min, Ok};
-ghost use Rattle.std.specs.List.{AllByRecursion};
+ghost use Rattle.std.specs.List.{AllByRecursion, list_any};
 ghost use Rattle.dv_value.specs.Spelling.{AreFields, AreElements};
 ghost use Rattle.dv_value.specs.Tree.{Tree, elements_of, fields_of};
 ghost use Rattle.dv_match.specs.Filter.{Members};
@@ -9,7 +9,7 @@ ghost use Rattle.dv_row.specs.declared.unwind.Unwind.{Unwind};
 ghost use Rattle.dv_pipe.specs.Laws.{both, HasNoArrayOnWay, has_value};
 ghost use Rattle.dv_pipe.specs.Sources.{Row};
 ghost use Rattle.dv_pipe.specs.StageParsing.{pipeline_of};
-ghost use Rattle.dv_pipe.specs.Stages.{Lists, evaluated, is_read, stage, through};
+ghost use Rattle.dv_pipe.specs.Stages.{Lists, evaluated, is_read, is_source_named, looked_into, stage, through};
 
 use crate::stage::Stage;
 
@@ -23,6 +23,12 @@ pub fn one_part_after_the_other()
 #[tactic(auto, using(crate::proofs::StageLaws::unread))]
 pub fn what_is_not_read_does_not_matter()
     ensures { (stages : List Stage) (source : List ℕ) (lists others : Lists) → ((name : List ℕ) → is_read stages source name ≡ true → lists name ≡ others name) → evaluated stages source lists ≡ evaluated stages source others }
+{}
+
+/// What stands under a namespace that stages don't look into is no matter to what comes out of them.
+#[tactic(auto, using(crate::proofs::StageLaws::through_same))]
+pub fn what_is_not_looked_into_does_not_matter()
+    ensures { (stages : List Stage) (source : List ℕ) (lists others : Lists) (rows : List Row) → ((name : List ℕ) → list_any (λ s. is_source_named name (looked_into s source)) stages ≡ true → lists name ≡ others name) → through stages source lists rows ≡ through stages source others rows }
 {}
 
 /// A match of a match is the match of both filters.

@@ -2,6 +2,7 @@
 #![tactic(auto)]
 
 mod evaluation;
+mod joined;
 pub mod laws;
 mod namespace;
 mod pipeline;
@@ -12,7 +13,9 @@ mod step;
 
 pub use dv_gather::{Accumulator, Group, GroupField, Lookup};
 pub use dv_row::{Computed, ComputedField, Expr, Paths, PipelineFault, Project, Unwind};
-pub use evaluation::evaluate;
+pub use evaluation::{evaluate, rows_through};
+pub use joined::filter_of_joined;
 pub use pipeline::Pipeline;
+pub use run::references;
 pub use sources::Sources;
 pub use stage::Stage;

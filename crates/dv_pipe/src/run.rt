@@ -203,8 +203,8 @@ fn cut(rows: Vec<Document>, most: Option<usize>) -> Vec<Document>
     left
 }
 
-/// References to the rows.
-fn references<'r>(alloc: Global, rows: &'r [Document]) -> Result<Vec<&'r Document>, NoMemory>
+/// References to the rows. Fails where memory is wanting.
+pub fn references<'r>(alloc: Global, rows: &'r [Document]) -> Result<Vec<&'r Document>, NoMemory>
     ensures { IfOk result (λ lent. rows_referred lent.items ≡ rows.now) }
 {
     let mut lent = Vec::with_capacity(alloc, rows.len())?;

@@ -1,6 +1,6 @@
 //! `$unwind`.
 
-ghost use Rattle.std.specs.Prelude.{◌≡◌, ◌++◌, Some, IfOk, OnOk};
+ghost use Rattle.std.specs.Prelude.{◌≡◌, ◌++◌, length, take, Some, IfOk, OnErr, OnOk};
 ghost use Rattle.dv_value.specs.View.{tree};
 ghost use Rattle.dv_value.specs.Tree.{array, elements_of};
 ghost use Rattle.std.specs.List.{list_all};
@@ -70,10 +70,11 @@ impl Unwind {
         Ok(rows)
     }
 
-    /// Puts the rows of a row behind others.
+    /// Puts the rows of a row behind others. Fails where memory is wanting; then some of them may stand there.
     #[tactic(auto, unfolding(crate::specs::Unwinding::unwound))]
     pub fn push_rows(&self, row: &Document, rows: &mut Vec<Document>) -> Result<(), NoMemory>
-        ensures { OnOk result (rows.new.items ≡ rows.old.items ++ defined.unwound self.now row.now) }
+        ensures rows { OnOk result (rows.new.items ≡ rows.old.items ++ defined.unwound self.now row.now) }
+        ensures begins { OnErr result (take (length rows.old.items) rows.new.items ≡ rows.old.items) }
     {
         let Some(value) = standing(row, self.path.components()).flatten() else {
             return self.preserve(row.try_clone()?, rows);
@@ -90,7 +91,8 @@ impl Unwind {
 
     /// Puts a row behind others where rows without elements stay.
     fn preserve(&self, row: Document, rows: &mut Vec<Document>) -> Result<(), NoMemory>
-        ensures { OnOk result (rows.new.items ≡ rows.old.items ++ defined.preserved self.now.preserve row) }
+        ensures rows { OnOk result (rows.new.items ≡ rows.old.items ++ defined.preserved self.now.preserve row) }
+        ensures begins { OnErr result (take (length rows.old.items) rows.new.items ≡ rows.old.items) }
     {
         if self.preserve {
             rows.push(row)?;
@@ -106,7 +108,8 @@ impl Unwind {
         rows: &mut Vec<Document>,
     ) -> Result<(), NoMemory>
         requires { defined.reached self.now.path row.now ≡ Some (array (elements_of list.now)) }
-        ensures { OnOk result (rows.new.items ≡ rows.old.items ++ defined.rows_of_elements self.now row.now (elements_of list.now)) }
+        ensures rows { OnOk result (rows.new.items ≡ rows.old.items ++ defined.rows_of_elements self.now row.now (elements_of list.now)) }
+        ensures begins { OnErr result (take (length rows.old.items) rows.new.items ≡ rows.old.items) }
     {
         let way = Way::of(*rows.allocator(), row, &self.path)?;
         let elements = list.as_slice();

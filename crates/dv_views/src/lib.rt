@@ -17,7 +17,7 @@ mod turner;
 mod view;
 
 pub use fault::ViewFault;
-pub use lookups::{beside, names_read};
+pub use lookups::{beside, lookups_of, names_read};
 pub use places::{document_gone, document_put, key_of_id};
 pub use registry::Registry;
 pub use rows::Rows;

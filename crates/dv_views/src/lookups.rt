@@ -8,20 +8,16 @@ ghost use Rattle.dv_views.specs.Forms.{is_name_among, names_read};
 ghost use Rattle.dv_views.specs.Placed as defined;
 
 use crate::view::View;
-use dv_pipe::Pipeline;
+use dv_pipe::{Pipeline, Stage};
 use dv_value::{NoMemory, Str};
 use std::alloc::Global;
 
-/// The namespaces that the stages of the pipeline over `source` look into, in their order. Fails where memory is wanting.
-pub(crate) fn lookups_of(
-    alloc: Global,
-    source: &str,
-    pipeline: &Pipeline,
-) -> Result<Vec<Str>, NoMemory>
-    ensures { IfOk result (λ lookups. lookups.items ≡ defined.lookups_of pipeline.now source.now) }
+/// The namespaces that the stages of a pipeline over `source` look into, in their order. Fails where memory is wanting.
+pub fn lookups_of(alloc: Global, source: &str, stages: &[Stage]) -> Result<Vec<Str>, NoMemory>
+    ensures { IfOk result (λ lookups. lookups.items ≡ defined.lookups_of stages.now source.now) }
 {
     let mut lookups = Vec::new(alloc);
-    'stages: for stage in pipeline.stages() {
+    'stages: for stage in stages {
         if let Some(collection) = stage.foreign() {
             lookups.push(Str::of(beside(alloc, source, collection)?))?;
         }

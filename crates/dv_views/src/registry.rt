@@ -244,7 +244,7 @@ impl Registry {
         laws::kept_rows_are_those_from_scratch();
         dv_pipe::laws::what_is_not_read_does_not_matter();
         let height = self.height_over(source, &pipeline);
-        let lookups = lookups_of(self.alloc, source, &pipeline)?;
+        let lookups = lookups_of(self.alloc, source, pipeline.stages())?;
         let ground = Ground {
             views: &self.views,
             place: self.views.len(),

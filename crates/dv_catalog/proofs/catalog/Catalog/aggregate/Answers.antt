@@ -1,10 +1,8 @@
-use Rattle.std.proofs.Common.{ℕ, List, ap, subst, ◌∙◌}
+use Rattle.std.proofs.Common.{ℕ, List, ap, refl, ◌∙◌}
 use Rattle.std.proofs.lemmas.Result.{IfOk-weaker}
 use Rattle.std.specs.String.{string_bytes}
-use Rattle.dv_pipe.specs.Sources.{lists_of}
-use Rattle.dv_pipe.specs.Stages.{evaluated}
+use Rattle.dv_pipe.specs.Stages.{Lists, evaluated}
 use Rattle.dv_views.specs.Forms.{names_read}
-use Rattle.dv_views.specs.Made.{AreAlike}
 use Rattle.dv_catalog.specs.CatalogParts.{AreLive, marked_of, rows_kept, state_of}
 use Rattle.dv_catalog.specs.Marks.{Marked}
 use Rattle.dv_catalog.specs.State.{rows_of}
@@ -12,26 +10,12 @@ use Rattle.dv_catalog.proofs.Refreshed.{kept_alike, reads_on}
 use Rattle.dv_catalog.proofs.Sourced.{evaluated_alike}
 use Rattle.dv_catalog.proofs.catalog.Catalog.aggregate.Goals as goal
 
-pub returns-in_err-names-clause-marks : goal.returns-in_err-names-clause-marks
-returns-in_err-names-clause-marks c =
-    let collections = c.self.inside.collections in
-    let names = names_read c.args.aggregate.now.pipeline (string_bytes c.args.aggregate.now.namespace) in
-    rw (← c.self.view_is)
-    (reads_on names (marked_of collections c.self.inside.views) (marked_of collections c.refresh_read.new.registry) (tt {0}) (rw c.deref.ensures at c.in_ok-refresh_read.ensures.marks) c.from_residual-in_err-names.result)
-
-pub returns-in_err-sources-clause-marks : goal.returns-in_err-sources-clause-marks
-returns-in_err-sources-clause-marks c =
-    let collections = c.self.inside.collections in
-    let names = names_read c.args.aggregate.now.pipeline (string_bytes c.args.aggregate.now.namespace) in
-    rw (← c.self.view_is)
-    (reads_on names (marked_of collections c.self.inside.views) (marked_of collections c.refresh_read.new.registry) (tt {0}) (rw c.deref.ensures at c.in_ok-refresh_read.ensures.marks) c.from_residual-in_err-sources.result)
-
 pub returns-clause-marks : goal.returns-clause-marks
 returns-clause-marks c =
     let collections = c.self.inside.collections in
     let names = names_read c.args.aggregate.now.pipeline (string_bytes c.args.aggregate.now.namespace) in
     rw (← c.self.view_is)
-    (reads_on names (marked_of collections c.self.inside.views) (marked_of collections c.refresh_read.new.registry) (tt {0}) (rw c.deref.ensures at c.in_ok-refresh_read.ensures.marks) c.evaluate.result)
+    (reads_on names (marked_of collections c.self.inside.views) (marked_of collections c.refresh_read.new.registry) (tt {0}) (rw c.deref.ensures at c.in_ok-refresh_read.ensures.marks) c.rows_of_stages.result)
 
 pub returns-clause-rows : goal.returns-clause-rows
 returns-clause-rows c =
@@ -39,14 +23,12 @@ returns-clause-rows c =
     let stages = c.args.aggregate.now.pipeline in
     let collections = c.self.inside.collections in
     let after = c.refresh_read.new.registry in
-    let sources = c.in_ok-sources.sources in
+    let kept : Lists = λ name. rows_kept name collections after in
     let state = state_of collections c.self.inside.views in
     let names : List (List ℕ) = names_read stages source in
     let right = c.refresh_read.ensures.right c.self.invariant.right in
     let same = ap (λ (m : Marked). m.state) c.in_ok-refresh_read.ensures.marks in
     let live : AreLive names after = rw c.deref.ensures at c.in_ok-refresh_read.ensures.live in
-    let those = c.deref-3.ensures.value ∙ c.in_ok-names.ensures ∙ ap (names_read stages) c.deref-2.ensures in
-    let shown : AreAlike names (lists_of sources) (λ name. rows_kept name collections after) = subst (λ (ns : List (List ℕ)). AreAlike ns (lists_of sources) (λ name. rows_kept name collections after)) those c.in_ok-sources.ensures in
-    let alike = kept_alike names (lists_of sources) collections after state (λ name. c.shown_rows_are_right.ensures.kept collections name right) same live shown in
-    let given = ap (λ (n : List ℕ). evaluated stages n (lists_of sources)) c.deref-4.ensures ∙ evaluated_alike c.what_is_not_read_does_not_matter.ensures stages source (lists_of sources) (λ name. rows_of name state) alike in
-    rw (← c.self.view_is) (IfOk-weaker c.evaluate.result _ _ (λ rows is. is ∙ given) c.evaluate.ensures)
+    let alike = kept_alike names kept collections after state (λ name. c.shown_rows_are_right.ensures.kept collections name right) same live (λ name among. refl) in
+    let given = ap (λ ss. evaluated ss c.deref-2.result.now kept) c.stages.ensures ∙ ap (λ (name : List ℕ). evaluated stages name kept) c.deref-2.ensures ∙ evaluated_alike c.what_is_not_read_does_not_matter.ensures stages source kept (λ name. rows_of name state) alike in
+    rw (← c.self.view_is) (IfOk-weaker c.rows_of_stages.result _ _ (λ rows is. is ∙ given) c.rows_of_stages.ensures)

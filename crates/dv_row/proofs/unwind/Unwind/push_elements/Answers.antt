@@ -5,8 +5,8 @@ use Rattle.dv_row.proofs.Items.{take-past, some-left}
 use Rattle.dv_row.proofs.Unwound.{rows-of_some}
 use Rattle.dv_row.proofs.unwind.Unwind.push_elements.Goals as goal
 
-pub returns : goal.returns
-returns c =
+pub returns-clause-rows : goal.returns-clause-rows
+returns-clause-rows c =
     let before = c.args.rows.now.items in
     let es = c.as_slice-elements.result.now in
     let row = c.args.row.now in

@@ -1,0 +1,19 @@
+-- What the stages in front of a pipeline leave, where a find does the same.
+use Rattle.std.specs.Prelude.{ℕ, List, Option, Some, None}
+use Rattle.dv_match.specs.Filter.{Members}
+use Rattle.dv_path.specs.SortSpec.{Part}
+use Rattle.dv_pipe.specs.Sources.{Row}
+use Rattle.dv_sort.specs.Sorting.{front, stable}
+use Rattle.dv_catalog.specs.Scan.{matching}
+
+abbrev pub matching_where : Option Members → List Row → List Row
+matching_where None rows = rows
+matching_where (Some form) rows = matching form rows
+
+abbrev pub sorted_where : Option (List Part) → List Row → List Row
+sorted_where None rows = rows
+sorted_where (Some parts) rows = stable parts rows
+
+-- the first rows of those that match, in the order of a sort
+abbrev pub passed : Option Members → Option (List Part) → Option ℕ → List Row → List Row
+passed form parts most rows = front most (sorted_where parts (matching_where form rows))

@@ -1,0 +1,118 @@
+//! Pipelines whose first stages are a find.
+
+ghost use Rattle.std.specs.Prelude.{◌≡◌, ℕ, List, IfOk};
+ghost use Rattle.std.specs.Option.{option_map};
+ghost use Rattle.dv_catalog.specs.CatalogParts.{rows_kept};
+ghost use Rattle.dv_catalog.specs.Fronts.{matching_where, passed, sorted_where};
+ghost use Rattle.dv_catalog.specs.Scan.{matching};
+ghost use Rattle.dv_match.specs.Filter.{no_members};
+ghost use Rattle.dv_pipe.specs.Sources.{Row};
+ghost use Rattle.dv_pipe.specs.Stages.{Lists, through};
+ghost use Rattle.dv_sort.specs.Sorting.{front};
+
+use crate::behind::rows_behind;
+use crate::collections::Collections;
+use crate::scan::in_sort;
+use crate::searched::{first_found, searched_in};
+use dv_match::Filter;
+use dv_path::SortSpec;
+use dv_pipe::{Stage, references};
+use dv_value::{Document, NoMemory};
+use dv_views::Registry;
+use std::alloc::Global;
+
+/// The first stages of a pipeline, which are a find: a `$match`, a `$sort` and a `$limit`, as far as they follow each other so.
+#[derive(Drop)]
+struct Front<'a> {
+    filter: Option<&'a Filter>,
+    sort: Option<&'a SortSpec>,
+    most: Option<usize>,
+    /// The stages behind them.
+    later: &'a [Stage],
+}
+
+impl<'a> Front<'a> {
+    /// That of these stages.
+    fn of(stages: &'a [Stage]) -> Self
+        ensures { (source : List ℕ) (lists : Lists) (rows : List Row) → through result.later.now source lists (passed (option_map (λ f. f.now) result.filter) (option_map (λ s. s.now) result.sort) result.most rows) ≡ through stages.now source lists rows }
+    {
+        let (filter, stages) = first_match(stages);
+        let (sort, stages) = first_sort(stages);
+        let (most, later) = first_limit(stages);
+        Front {
+            filter,
+            sort,
+            most,
+            later,
+        }
+    }
+}
+
+/// The filter of a `$match` that is the first stage, and the stages behind it.
+fn first_match(stages: &[Stage]) -> (Option<&Filter>, &[Stage])
+    ensures { (source : List ℕ) (lists : Lists) (rows : List Row) → through result.1.now source lists (matching_where (option_map (λ f. f.now) result.0) rows) ≡ through stages.now source lists rows }
+{
+    match stages.split_first() {
+        Some((Stage::Match(filter), later)) => (Some(filter), later),
+        _ => (None, stages),
+    }
+}
+
+/// The order of a `$sort` that is the first stage, and the stages behind it.
+fn first_sort(stages: &[Stage]) -> (Option<&SortSpec>, &[Stage])
+    ensures { (source : List ℕ) (lists : Lists) (rows : List Row) → through result.1.now source lists (sorted_where (option_map (λ s. s.now) result.0) rows) ≡ through stages.now source lists rows }
+{
+    match stages.split_first() {
+        Some((Stage::Sort(spec), later)) => (Some(spec), later),
+        _ => (None, stages),
+    }
+}
+
+/// How many rows a `$limit` leaves that is the first stage, and the stages behind it.
+fn first_limit(stages: &[Stage]) -> (Option<usize>, &[Stage])
+    ensures { (source : List ℕ) (lists : Lists) (rows : List Row) → through result.1.now source lists (front result.0 rows) ≡ through stages.now source lists rows }
+{
+    match stages.split_first() {
+        Some((Stage::Limit(count), later)) => (Some(*count as usize), later),
+        _ => (None, stages),
+    }
+}
+
+/// The filter, or where there is none the one that all documents match.
+fn filter_or<'a>(filter: Option<&'a Filter>, everything: &'a Filter) -> &'a Filter
+    requires { everything.now ≡ no_members }
+    ensures { (rows : List Row) → matching result.now rows ≡ matching_where (option_map (λ f. f.now) filter.entry) rows }
+{
+    match filter {
+        Some(filter) => filter,
+        None => everything,
+    }
+}
+
+/// The rows of stages over what stands under their source. What stages in front find is found as a find's rows are, by the
+/// indexes of a collection. Fails where memory is wanting.
+pub(crate) fn rows_of_stages(
+    alloc: Global,
+    collections: &Collections,
+    registry: &Registry,
+    stages: &[Stage],
+    source: &str,
+) -> Result<Vec<Document>, NoMemory>
+    ensures { IfOk result (λ rows. rows.items ≡ through stages.now source.now (λ name. rows_kept name collections.now registry.now) (rows_kept source.now collections.now registry.now)) }
+{
+    let everything = Filter::of(Vec::new(alloc));
+    let front = Front::of(stages);
+    let filter = filter_or(front.filter, &everything);
+    let within = searched_in(collections, registry, source);
+    match front.sort {
+        Some(sort) => {
+            let rows = in_sort(alloc, within, filter, sort, front.most)?;
+            let lent = references(alloc, &rows)?;
+            rows_behind(alloc, collections, registry, front.later, source, &lent)
+        }
+        None => {
+            let rows = first_found(alloc, within, filter, front.most)?;
+            rows_behind(alloc, collections, registry, front.later, source, &rows)
+        }
+    }
+}

@@ -1,0 +1,87 @@
+//! The documents that a look-up finds, as a filter.
+
+ghost use Rattle.std.specs.Prelude.{◌≡◌, ◌++◌, ◌||◌, Bool, List as Sequence, filter as kept, map, IfOk, OnOk};
+ghost use Rattle.std.specs.List.{list_any};
+ghost use Rattle.dv_candidates.specs.Candidates.{or_null};
+ghost use Rattle.dv_candidates.specs.View.{seen};
+ghost use Rattle.dv_gather.specs.Joining.{joined_by, local_values};
+ghost use Rattle.dv_gather.specs.Lookups.{looked_up};
+ghost use Rattle.dv_match.specs.Match.{matches};
+ghost use Rattle.dv_pipe.specs.Joined.{having_one_of};
+ghost use Rattle.dv_pipe.specs.Sources.{Row, rows_referred};
+ghost use Rattle.dv_value.specs.Tree.{Tree};
+ghost use Rattle.dv_value.specs.View.{tree};
+
+use dv_candidates::{Candidate, Path, fold_whole};
+use dv_gather::Lookup;
+use dv_match::{Choices, Condition, Conditions, Filter, Member};
+use dv_path::array_in;
+use dv_value::{Document, List, NoMemory, Value};
+use std::alloc::Global;
+
+/// A filter that all documents match with which some of the rows are joined: so the rows are joined with the same documents
+/// where only those that match it are there. Fails where memory is wanting.
+pub fn filter_of_joined(
+    alloc: Global,
+    lookup: &Lookup,
+    rows: &[&Document],
+) -> Result<Filter, NoMemory>
+    ensures { IfOk result (λ filter. (others : Sequence Row) → looked_up lookup.now (rows_referred rows.now) (kept (matches filter) others) ≡ looked_up lookup.now (rows_referred rows.now) others) }
+{
+    let mut values = Vec::new(alloc);
+    'rows: for row in rows {
+        values = with_values(values, &lookup.local, row)?;
+    }
+    has_one_of(alloc, &lookup.foreign, List::of(values))
+}
+
+/// The filter that a document matches where some leaf under the path compares equal to one of the values.
+fn has_one_of(alloc: Global, path: &Path, values: List) -> Result<Filter, NoMemory>
+    ensures { IfOk result (λ filter. filter ≡ having_one_of path.now values) }
+{
+    let mut conditions = Vec::with_capacity(alloc, 1)?;
+    conditions.push(Condition::In(Choices::of(values)?))?;
+    let mut members = Vec::with_capacity(alloc, 1)?;
+    members.push(Member::At(path.try_clone()?, Conditions::of(conditions)))?;
+    Ok(Filter::of(members))
+}
+
+/// The values, and those by which a row is joined.
+fn with_values(values: Vec<Value>, local: &Path, row: &Document) -> Result<Vec<Value>, NoMemory>
+    ensures { IfOk result (λ all. (test : Tree → Bool) → list_any test (map tree all.items) ≡ (list_any test (map tree values.items) || list_any test (joined_by local.now row.now))) }
+{
+    let all = fold_whole(row, local, values, |values, candidate| {
+        with_candidate(values, candidate)
+    })?;
+    Ok(all)
+}
+
+/// The values, and those that a candidate stands for: the elements of an array, and null where it is missing.
+fn with_candidate(mut values: Vec<Value>, candidate: Candidate<'_>) -> Result<Vec<Value>, NoMemory>
+    ensures { IfOk result (λ all. map tree all.items ≡ map tree values.items ++ local_values (seen candidate.entry)) }
+{
+    match array_in(candidate) {
+        Some(list) => push_each(&mut values, list)?,
+        None => values.push(value_of(candidate)?)?,
+    }
+    Ok(values)
+}
+
+fn push_each(values: &mut Vec<Value>, list: &List) -> Result<(), NoMemory>
+    ensures { OnOk result (map tree values.new.items ≡ map tree values.old.items ++ list.now) }
+{
+    'elements: for element in list.as_slice() {
+        values.push(element.try_clone()?)?;
+    }
+    Ok(())
+}
+
+/// The value of a candidate, null where it is missing.
+fn value_of(candidate: Candidate<'_>) -> Result<Value, NoMemory>
+    ensures { IfOk result (λ value. tree value ≡ or_null (seen candidate.entry)) }
+{
+    match candidate {
+        Candidate::Found(value) => value.try_clone(),
+        Candidate::Missing => Ok(Value::Null),
+    }
+}
