@@ -1,5 +1,5 @@
 -- Two lists compared from the front, where what is left of both decides. And fields and elements compared so.
-use Rattle.std.specs.Prelude.{◌≡◌, ℕ, ◌+◌, ◌≤◌, List, [], ◌∷◌, length, drop, slice_get, Some, None, true, false, refl, ◌⊎◌, zero, suc}
+use Rattle.std.specs.Prelude.{◌≡◌, ℕ, ◌+◌, ◌≤◌, ◌<◌, List, [], ◌∷◌, length, drop, slice_get, Some, None, true, false, refl, ◌⊎◌, zero, suc}
 use Rattle.std.proofs.Common.{ap, sym, ◌∙◌, arith}
 use Rattle.std.proofs.lemmas.List.{drop_more}
 use Rattle.std.proofs.lemmas.Option.{slice_get_within, get_or_from_slice_get}
@@ -60,6 +60,12 @@ ended {R = R} {xs = xs} {ys = ys} {us = us} {vs = vs} left h = lengths R us vs (
 -- what is left from i on begins with the element there
 pub drop_at : {A : Type 0} (xs : List A) (i : ℕ) (x : A) → Some x ≡ slice_get xs i → drop i xs ≡ x ∷ drop (i + 1) xs
 drop_at xs i x e = drop_more xs i x (slice_get_within xs i x (sym e)) ∙ ap (λ w. w ∷ drop (i + 1) xs) (get_or_from_slice_get xs i x x (sym e))
+
+-- an element stands at each place within
+pub element_at : {A : Type 0} (xs : List A) (i : ℕ) → i < length xs → (x : A) × (Some x ≡ slice_get xs i)
+element_at [] i h = absurd (omega arith)
+element_at (x ∷ xs) zero h = (x, refl)
+element_at (x ∷ xs) (suc i) h = element_at xs i (omega arith)
 
 -- no element at i, so the list ends before it
 pub slice_get_none : {A : Type 0} (xs : List A) (i : ℕ) → None ≡ slice_get xs i → length xs ≤ i

@@ -1,7 +1,7 @@
 //! The order of two values.
 
-ghost use Rattle.std.specs.Prelude.{◌≡◌, ◌==◌};
-ghost use Rattle.dv_value.specs.Tree.{binary, fields_of, elements_of};
+ghost use Rattle.std.specs.Prelude.{◌≡◌, ◌==◌, ◌<◌, Some, length, slice_get};
+ghost use Rattle.dv_value.specs.Tree.{Field, binary, fields_of, elements_of};
 ghost use Rattle.dv_value.specs.View.{tree};
 ghost use Rattle.dv_order.specs.Order.{class, field_order, fields_order, elements_order, order};
 
@@ -67,15 +67,29 @@ fn compare_documents(a: &Document, b: &Document) -> Ordering
     ensures { result ≡ fields_order (fields_of a.now) (fields_of b.now) }
 {
     'fields: for place in 0..a.len() {
-        let (Some((name, x)), Some((other_name, y))) = (a.entry(place), b.entry(place)) else {
+        if place == b.len() {
             break;
-        };
-        let unequal = compare_fields(name, x, other_name, y);
+        }
+        let unequal = compare_at(a, b, place);
         if unequal.is_ne() {
             return unequal;
         }
     }
     a.len().cmp(&b.len())
+}
+
+/// The order of the fields at a place of both documents.
+#[cycle(compare)]
+// Apart, so that none of it takes stack where the values are compared: documents may be in one another some thousand times.
+#[inline(never)]
+fn compare_at(a: &Document, b: &Document, place: usize) -> Ordering
+    requires a { place < length a.now }
+    requires b { place < length b.now }
+    ensures { (f g : Field) → slice_get a.now place ≡ Some f → slice_get b.now place ≡ Some g → result ≡ field_order f g }
+{
+    let (name, x) = a.field(place);
+    let (other_name, y) = b.field(place);
+    compare_fields(name, x, other_name, y)
 }
 
 /// The order of two fields: the class of the value decides, then the name, then the value.
