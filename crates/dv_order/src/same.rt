@@ -6,6 +6,7 @@ ghost use Rattle.dv_value.specs.Tree.{Field, fields_of, elements_of};
 ghost use Rattle.dv_value.specs.View.{tree};
 ghost use Rattle.dv_order.specs.Same as defined;
 
+use crate::placed::value_at;
 use dv_value::{Document, List, Value};
 
 /// Whether two values are the same: of one type and with the same content, the width of integers and the order of fields
@@ -38,7 +39,7 @@ pub fn is_same(a: &Value, b: &Value) -> bool
     }
 }
 
-// Both are apart, so that none of it takes stack where documents are in one another, some thousand times perhaps.
+// Both are apart, so that none of it takes stack where values in one another are compared: there may be thousands of them.
 #[inline(never)]
 fn same_texts(a: &str, b: &str) -> bool
     ensures { result ≡ bytes_eq a.now b.now }
@@ -73,15 +74,24 @@ pub fn same_documents(a: &Document, b: &Document) -> bool
 
 /// Whether the fields at a place of both documents have the same name and value.
 #[cycle(same)]
-#[inline(never)]
 fn same_at(a: &Document, b: &Document, place: usize) -> bool
     requires a { place < length a.now }
     requires b { place < length b.now }
     ensures { (f g : Field) → slice_get a.now place ≡ Some f → slice_get b.now place ≡ Some g → result ≡ (bytes_eq f.0 g.0 && defined.is_same f.1 g.1) }
 {
-    let (name, x) = a.field(place);
-    let (other_name, y) = b.field(place);
-    name == other_name && is_same(x, y)
+    same_names_at(a, b, place) && is_same(value_at(a, place), value_at(b, place))
+}
+
+/// Whether the fields at a place of both documents have the same name.
+#[inline(never)]
+fn same_names_at(a: &Document, b: &Document, place: usize) -> bool
+    requires a { place < length a.now }
+    requires b { place < length b.now }
+    ensures { (f g : Field) → slice_get a.now place ≡ Some f → slice_get b.now place ≡ Some g → result ≡ bytes_eq f.0 g.0 }
+{
+    let (name, _value) = a.field(place);
+    let (other_name, _other_value) = b.field(place);
+    name == other_name
 }
 
 #[cycle(same)]

@@ -2,23 +2,27 @@
 use Rattle.std.proofs.Common.{arith, sym, ap, ◌∙◌, ◌≡◌, ◌⊎◌, length, drop, map, inl, inr, length-drop, rules}
 use Rattle.std.proofs.lemmas.List.{length-map}
 use Rattle.std.specs.Ordering.{nat_cmp}
-use Rattle.dv_value.specs.Tree.{fields_of, fields_weight, elements_of, elements_weight}
+use Rattle.dv_value.specs.Tree.{weight, elements_of, elements_weight}
 use Rattle.dv_value.specs.View.{tree}
 use Rattle.dv_value.specs.Weight.{field_weighs_less}
 use Rattle.dv_order.specs.Order.{order}
-use Rattle.dv_order.proofs.Steps.{IsLeft-all, IsLeft-more, decided, ended, drop_at, element_at, fields_order-fields_of, elements_order-elements_of}
+use Rattle.dv_order.proofs.Steps.{IsLeft-all, IsLeft-more, decided, ended, drop_at, element_at, labels_decide, values_decide, fields_order-fields_of, elements_order-elements_of}
 use Rattle.dv_order.proofs.comparison.+compare.Goals as goal
 use Rattle.dv_order.proofs.comparison.+compare.Goals.{compare_documents-else-fields-test, compare_documents-then-fields-test+then-place-len}
 
-pub compare_at-compare_fields-requires : goal.compare_at-compare_fields-requires
-compare_at-compare_fields-requires t c =
-    (omega (arith, field_weighs_less c.args.a.now c.args.place c.field.result.0.now (tree c.field.result.1.now) (sym c.field.ensures)), tt)
+pub compare_at-compare-requires : goal.compare_at-compare-requires
+compare_at-compare-requires t c =
+    let f = element_at c.args.a.now c.args.place c.requires.a in
+    (omega (arith, field_weighs_less c.args.a.now c.args.place f.0.0 f.0.1 f.1, ap weight (c.value_at.ensures f.0 (sym f.1))), tt)
+
+pub compare_at-returns-then-is_ne : goal.compare_at-returns-then-is_ne
+compare_at-returns-then-is_ne t c = λ f g p q. labels_decide f g c.compare_labels_at-unequal.result (c.compare_labels_at-unequal.ensures f g p q) c.if-is_ne.ensures
 
 pub compare_at-returns : goal.compare_at-returns
 compare_at-returns t c = λ f g p q.
-    let x : f ≡ (c.field.result.0.now, tree c.field.result.1.now) = cc in
-    let y : g ≡ (c.field-2.result.0.now, tree c.field-2.result.1.now) = cc in
-    rw (x, y) c.compare_fields.ensures
+    let x = c.value_at.ensures f p in
+    let y = c.value_at-2.ensures g q in
+    c.compare.ensures ∙ (λ i. order (x i) (y i)) ∙ values_decide f g c.compare_labels_at-unequal.result (c.compare_labels_at-unequal.ensures f g p q) c.if-is_ne.ensures
 
 pub compare_documents-compare_at-unequal-requires : goal.compare_documents-compare_at-unequal-requires
 compare_documents-compare_at-unequal-requires t c = (omega arith, (omega arith, omega (arith, c.if-place-len.false, c.fields.invariant.passed, length-drop c.fields.place c.args.a.now, length-drop c.fields.place c.args.b.now)))

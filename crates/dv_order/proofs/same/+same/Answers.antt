@@ -1,8 +1,7 @@
 -- Each turn of a loop looks at the first of what is left of both, and what is inside weighs less.
 use Rattle.std.proofs.Common.{true, false, arith, sym, ap, ◌∙◌, ◌≡◌, ◌⊎◌, ◌==◌, length, drop, map, inl, inr, length-drop, rules}
 use Rattle.std.proofs.lemmas.List.{length-map}
-use Rattle.std.specs.Str.{bytes_eq}
-use Rattle.dv_value.specs.Tree.{fields_of, fields_weight}
+use Rattle.dv_value.specs.Tree.{weight}
 use Rattle.dv_value.specs.View.{tree}
 use Rattle.dv_value.specs.Weight.{field_weighs_less}
 use Rattle.dv_order.specs.Same.{is_same}
@@ -13,7 +12,8 @@ use Rattle.dv_order.proofs.same.+same.Goals.{same_documents-else-fields-test, sa
 
 pub same_at-is_same-requires : goal.same_at-is_same-requires
 same_at-is_same-requires t c =
-    (omega (arith, field_weighs_less c.args.a.now c.args.place c.field.result.0.now (tree c.field.result.1.now) (sym c.field.ensures)), tt)
+    let f = element_at c.args.a.now c.args.place c.requires.a in
+    (omega (arith, field_weighs_less c.args.a.now c.args.place f.0.0 f.0.1 f.1, ap weight (c.value_at.ensures f.0 (sym f.1))), tt)
 
 pub same_documents-same_at-requires : goal.same_documents-same_at-requires
 same_documents-same_at-requires t c = (omega arith, (omega arith, omega (arith, c.if-place-len.false, c.fields.invariant.passed, length-drop c.fields.place c.args.a.now, length-drop c.fields.place c.args.b.now)))
