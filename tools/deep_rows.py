@@ -1,5 +1,5 @@
 #!/usr/bin/python3
-"""Sends rows about as deep as rows can be through each stage, with four megabytes of stack.
+"""Sends rows about as deep as rows can be through each stage, with two megabytes of stack.
 
 A stored document has at most 100 levels, and a stage wraps a value in at most 96 documents. But each of a pipeline's 16 stages
 may wrap it again, a view may stand on seven others, and an aggregate on the highest. What goes down such a row by calls takes
@@ -31,7 +31,7 @@ from spelled import joined, section
 HEIGHT, STAGES = 8, 16  # of views over one another, and of a pipeline
 STORED = 98  # documents around a number, or an array of numbers, in a stored document
 WRAPPED = 96  # documents in which a stage wraps a value
-STACK = 4 << 10  # kilobytes
+STACK = 2 << 10  # kilobytes
 MOST, STEP = 4 << 10, 8  # kilobytes that are tried to measure what is taken, and how exact that is
 SECONDS = 60  # that a run may take
 

@@ -1,5 +1,5 @@
 -- Two lists gone through side by side from the front, where what is left of both decides.
-use Rattle.std.specs.Prelude.{◌≡◌, ℕ, ◌+◌, ◌==◌, ◌&&◌, not, Bool, List, [], ◌∷◌, length, true, false, refl, ◌⊎◌}
+use Rattle.std.specs.Prelude.{◌≡◌, ℕ, ◌+◌, ◌==◌, ◌&&◌, Bool, List, [], ◌∷◌, length, true, false, refl, ◌⊎◌}
 use Rattle.std.proofs.Common.{ap, sym, ◌∙◌, arith}
 use Rattle.std.specs.Cmp.Lexicographic.{pointwise}
 use Rattle.std.specs.Str.{bytes_eq}
@@ -65,15 +65,3 @@ module _ {A : Type 0} (E : A → A → Bool) {xs ys us vs : List A} (left : IsLe
 
     pub differs : E x y ≡ false → false ≡ pointwise E xs ys
     differs h = decided left p q false (ap (λ b. b && pointwise E us' vs') h)
-
-pub and-true : (p q : Bool) → false ≡ not p → true ≡ q → (p && q) ≡ true
-and-true true q h e = sym e
-and-true false q h e = cc
-
-pub and-first : (p q : Bool) → true ≡ not p → (p && q) ≡ false
-and-first true q h = cc
-and-first false q h = refl
-
-pub and-second : (p q : Bool) → false ≡ q → (p && q) ≡ false
-and-second true q h = sym h
-and-second false q h = refl

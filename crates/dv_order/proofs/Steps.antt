@@ -1,5 +1,5 @@
 -- Two lists compared from the front, where what is left of both decides. And fields and elements compared so.
-use Rattle.std.specs.Prelude.{◌≡◌, ℕ, ◌+◌, ◌≤◌, List, [], ◌∷◌, length, drop, slice_get, Some, None, true, false, refl, ◌⊎◌, zero, suc}
+use Rattle.std.specs.Prelude.{◌≡◌, ℕ, ◌+◌, ◌<◌, List, [], ◌∷◌, length, drop, slice_get, Some, true, false, refl, ◌⊎◌, zero, suc}
 use Rattle.std.proofs.Common.{ap, sym, ◌∙◌, arith}
 use Rattle.std.proofs.lemmas.List.{drop_more}
 use Rattle.std.proofs.lemmas.Option.{slice_get_within, get_or_from_slice_get}
@@ -22,6 +22,16 @@ rest_is : (r o s : Ordering) → ordering_then r o ≡ s → false ≡ is_ne r �
 rest_is Less o s e h = cc
 rest_is Equal o s e h = e
 rest_is Greater o s e h = cc
+
+-- the class and the name count where they tell two fields apart, and else the values
+labels_first : (f g : Field) (r : Ordering) → r ≡ ordering_then (nat_cmp (class f.1) (class g.1)) (slice_cmp nat_cmp f.0 g.0) → ordering_then r (order f.1 g.1) ≡ field_order f g
+labels_first f g r is = ap (λ s. ordering_then s (order f.1 g.1)) is ∙ then_assoc (nat_cmp (class f.1) (class g.1)) (slice_cmp nat_cmp f.0 g.0) (order f.1 g.1)
+
+pub labels_decide : (f g : Field) (r : Ordering) → r ≡ ordering_then (nat_cmp (class f.1) (class g.1)) (slice_cmp nat_cmp f.0 g.0) → true ≡ is_ne r → r ≡ field_order f g
+labels_decide f g r is = first_is r (order f.1 g.1) (field_order f g) (labels_first f g r is)
+
+pub values_decide : (f g : Field) (r : Ordering) → r ≡ ordering_then (nat_cmp (class f.1) (class g.1)) (slice_cmp nat_cmp f.0 g.0) → false ≡ is_ne r → order f.1 g.1 ≡ field_order f g
+values_decide f g r is = rest_is r (order f.1 g.1) (field_order f g) (labels_first f g r is)
 
 -- us and vs are what is left of xs and ys after as many elements of each, and decide as these do
 pub record IsLeft {A : Type 0} (R : A → A → Ordering) (xs ys us vs : List A) : Type 0 where
@@ -61,11 +71,11 @@ ended {R = R} {xs = xs} {ys = ys} {us = us} {vs = vs} left h = lengths R us vs (
 pub drop_at : {A : Type 0} (xs : List A) (i : ℕ) (x : A) → Some x ≡ slice_get xs i → drop i xs ≡ x ∷ drop (i + 1) xs
 drop_at xs i x e = drop_more xs i x (slice_get_within xs i x (sym e)) ∙ ap (λ w. w ∷ drop (i + 1) xs) (get_or_from_slice_get xs i x x (sym e))
 
--- no element at i, so the list ends before it
-pub slice_get_none : {A : Type 0} (xs : List A) (i : ℕ) → None ≡ slice_get xs i → length xs ≤ i
-slice_get_none [] i e = omega arith
-slice_get_none (x ∷ xs) zero e = cc
-slice_get_none (x ∷ xs) (suc i) e = omega (arith, slice_get_none xs i e)
+-- an element stands at each place within
+pub element_at : {A : Type 0} (xs : List A) (i : ℕ) → i < length xs → (x : A) × (Some x ≡ slice_get xs i)
+element_at [] i h = absurd (omega arith)
+element_at (x ∷ xs) zero h = (x, refl)
+element_at (x ∷ xs) (suc i) h = element_at xs i (omega arith)
 
 -- documents and arrays are compared as lists, front to back
 pub fields_order-fields_of : (fs gs : List Field) → fields_order (fields_of fs) (fields_of gs) ≡ slice_cmp field_order fs gs

@@ -1,10 +1,13 @@
 //! The order of two values.
 
-ghost use Rattle.std.specs.Prelude.{◌≡◌, ◌==◌};
-ghost use Rattle.dv_value.specs.Tree.{binary, fields_of, elements_of};
+ghost use Rattle.std.specs.Prelude.{◌≡◌, ◌==◌, ◌<◌, Some, length, slice_get};
+ghost use Rattle.std.specs.Cmp.Lexicographic.{slice_cmp};
+ghost use Rattle.std.specs.Ordering.{nat_cmp, ordering_then};
+ghost use Rattle.dv_value.specs.Tree.{Field, binary, fields_of, elements_of};
 ghost use Rattle.dv_value.specs.View.{tree};
 ghost use Rattle.dv_order.specs.Order.{class, field_order, fields_order, elements_order, order};
 
+use crate::placed::value_at;
 use dv_value::{Document, List, Value};
 use std::cmp::Ordering;
 
@@ -67,10 +70,10 @@ fn compare_documents(a: &Document, b: &Document) -> Ordering
     ensures { result ≡ fields_order (fields_of a.now) (fields_of b.now) }
 {
     'fields: for place in 0..a.len() {
-        let (Some((name, x)), Some((other_name, y))) = (a.entry(place), b.entry(place)) else {
+        if place == b.len() {
             break;
-        };
-        let unequal = compare_fields(name, x, other_name, y);
+        }
+        let unequal = compare_at(a, b, place);
         if unequal.is_ne() {
             return unequal;
         }
@@ -78,15 +81,37 @@ fn compare_documents(a: &Document, b: &Document) -> Ordering
     a.len().cmp(&b.len())
 }
 
-/// The order of two fields: the class of the value decides, then the name, then the value.
+/// The order of the fields at a place of both documents: the class of the value decides, then the name, then the value.
 #[cycle(compare)]
-fn compare_fields(name: &str, a: &Value, other_name: &str, b: &Value) -> Ordering
-    ensures { result ≡ field_order (name.now, tree a.now) (other_name.now, tree b.now) }
+fn compare_at(a: &Document, b: &Document, place: usize) -> Ordering
+    requires a { place < length a.now }
+    requires b { place < length b.now }
+    ensures { (f g : Field) → slice_get a.now place ≡ Some f → slice_get b.now place ≡ Some g → result ≡ field_order f g }
 {
-    match class_of(a).cmp(&class_of(b)).then(name.cmp(other_name)) {
-        Ordering::Equal => compare(a, b),
-        unequal => unequal,
+    let unequal = compare_labels_at(a, b, place);
+    if unequal.is_ne() {
+        return unequal;
     }
+    compare(value_at(a, place), value_at(b, place))
+}
+
+/// The order of the fields at a place of both documents, as far as it is decided by the class of the value and by the name.
+// Apart, so that none of it takes stack where values in one another are compared: there may be thousands of them.
+#[inline(never)]
+fn compare_labels_at(a: &Document, b: &Document, place: usize) -> Ordering
+    requires a { place < length a.now }
+    requires b { place < length b.now }
+    ensures { (f g : Field) → slice_get a.now place ≡ Some f → slice_get b.now place ≡ Some g → result ≡ ordering_then (nat_cmp (class f.1) (class g.1)) (slice_cmp nat_cmp f.0 g.0) }
+{
+    let (name, x) = a.field(place);
+    let (other_name, y) = b.field(place);
+    compare_labels(name, x, other_name, y)
+}
+
+fn compare_labels(name: &str, a: &Value, other_name: &str, b: &Value) -> Ordering
+    ensures { result ≡ ordering_then (nat_cmp (class (tree a.now)) (class (tree b.now))) (slice_cmp nat_cmp name.now other_name.now) }
+{
+    class_of(a).cmp(&class_of(b)).then(name.cmp(other_name))
 }
 
 /// The order of two arrays: the first unequal pair of elements decides, and else the shorter stands first.

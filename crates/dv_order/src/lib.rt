@@ -4,6 +4,7 @@
 mod comparison;
 mod key;
 pub mod laws;
+mod placed;
 mod same;
 
 pub use comparison::{compare, same_class};

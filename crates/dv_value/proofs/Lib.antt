@@ -12,3 +12,4 @@ pub mod Resized
 pub mod Shallow
 pub mod Last
 pub mod Removed
+pub mod Dropped

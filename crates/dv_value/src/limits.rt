@@ -177,6 +177,8 @@ pub fn document_size(document: &Document) -> Option<usize>
 
 /// The same, worked out from the fields.
 #[cycle(size)]
+// Apart, as `list_size` is, so that a level of a value takes the stack of one of the two alone.
+#[inline(never)]
 fn counted_size(document: &Document) -> Option<usize>
     ensures size { SomeIff result (length (spelling document.now) ≤ 2147483647) (length (spelling document.now)) }
     ensures valid { IfSome result (λ _. IsValue (trees.document (fields_of document.now))) }
@@ -190,6 +192,7 @@ fn counted_size(document: &Document) -> Option<usize>
 }
 
 #[cycle(size)]
+#[inline(never)]
 fn list_size(list: &List) -> Option<usize>
     ensures size { SomeIff result (length (payload (trees.array (elements_of list.now))) ≤ 2147483647) (length (payload (trees.array (elements_of list.now)))) }
     ensures valid { IfSome result (λ _. IsValue (trees.array (elements_of list.now))) }

@@ -6,6 +6,7 @@ ghost use Rattle.dv_value.specs.View.{tree};
 
 mod copies;
 mod documents;
+mod dropping;
 mod field_lists;
 mod lists;
 mod measures;
@@ -15,6 +16,7 @@ use crate::bytes::Bytes;
 use crate::kind::Kind;
 use crate::name_list::Names;
 use crate::text::Str;
+use crate::value::dropping::drop_values;
 use std::alloc::Global;
 use std::marker::Model;
 use std::mem::size_of;
@@ -80,7 +82,7 @@ pub struct Fields {
 
 /// Fields, and how long their spelling is, if that is known.
 #[cycle(value)]
-#[derive(Debug, Drop)]
+#[derive(Debug)]
 pub(crate) struct Measured {
     fields: Fields,
     /// Follows a value that is added, or put in place of one that is dropped; other changes forget it. Where there is one, the
@@ -152,6 +154,12 @@ impl Model for Measured {
     ghost use Rattle.std.proofs.Common.{arith};
 
     ghost size_decreases = { λ m h. Prim.grind arith };
+}
+
+impl Drop for Measured {
+    fn drop(self) {
+        drop_values(self.into_values());
+    }
 }
 
 impl Model for Document {

@@ -9,8 +9,8 @@ use Rattle.dv_order.proofs.comparison.+compare.Given as goal
 abbrev pub decreases-compare : goal.decreases-compare
 decreases-compare l = 3 * weight (tree l.a.now)
 
-abbrev pub decreases-compare_fields : goal.decreases-compare_fields
-decreases-compare_fields l = 3 * weight (tree l.a.now) + 1
+abbrev pub decreases-compare_at : goal.decreases-compare_at
+decreases-compare_at l = 3 * fields_weight (fields_of l.a.now) + 1
 
 abbrev pub decreases-compare_documents : goal.decreases-compare_documents
 decreases-compare_documents l = 3 * fields_weight (fields_of l.a.now) + 2
@@ -19,9 +19,7 @@ abbrev pub decreases-compare_lists : goal.decreases-compare_lists
 decreases-compare_lists l = 3 * elements_weight (elements_of l.a.now) + 2
 
 abbrev pub invariant-compare_documents-fields : goal.invariant-compare_documents-fields
-invariant-compare_documents-fields l =
-    let us = drop l.place l.a in
-    (fields_weight (fields_of us) ≤ fields_weight (fields_of l.a)) × IsLeft field_order l.a l.b us (drop l.place l.b)
+invariant-compare_documents-fields l = IsLeft field_order l.a l.b (drop l.place l.a) (drop l.place l.b)
 
 abbrev pub invariant-compare_lists-elements : goal.invariant-compare_lists-elements
 invariant-compare_lists-elements l =

@@ -8,18 +8,19 @@ use Rattle.dv_order.proofs.SameLeft.{IsLeft, same_field}
 use Rattle.dv_order.proofs.same.+same.Given as goal
 
 abbrev pub decreases-is_same : goal.decreases-is_same
-decreases-is_same l = 2 * weight (tree l.a.now)
+decreases-is_same l = 3 * weight (tree l.a.now)
+
+abbrev pub decreases-same_at : goal.decreases-same_at
+decreases-same_at l = 3 * fields_weight (fields_of l.a.now) + 1
 
 abbrev pub decreases-same_documents : goal.decreases-same_documents
-decreases-same_documents l = 2 * fields_weight (fields_of l.a.now) + 1
+decreases-same_documents l = 3 * fields_weight (fields_of l.a.now) + 2
 
 abbrev pub decreases-same_lists : goal.decreases-same_lists
-decreases-same_lists l = 2 * elements_weight (elements_of l.a.now) + 1
+decreases-same_lists l = 3 * elements_weight (elements_of l.a.now) + 2
 
 abbrev pub invariant-same_documents-fields : goal.invariant-same_documents-fields
-invariant-same_documents-fields l =
-    let us = drop l.place l.a in
-    (fields_weight (fields_of us) ≤ fields_weight (fields_of l.a)) × IsLeft (pointwise same_field) l.a l.b us (drop l.place l.b)
+invariant-same_documents-fields l = IsLeft (pointwise same_field) l.a l.b (drop l.place l.a) (drop l.place l.b)
 
 abbrev pub invariant-same_lists-elements : goal.invariant-same_lists-elements
 invariant-same_lists-elements l =

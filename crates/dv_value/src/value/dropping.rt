@@ -1,0 +1,91 @@
+//! How the fields of documents are dropped: in a loop, since rows of views may have documents in one another some thousand
+//! times.
+
+ghost use Rattle.std.specs.Prelude.{◌≡◌, ◌+◌, ◌<◌, IfSome, map};
+ghost use Rattle.dv_value.specs.Tree.{weight, fields_of, fields_weight, elements_of, elements_weight};
+ghost use Rattle.dv_value.specs.View.{tree};
+
+use crate::value::{Document, Fields, List, Measured, Value};
+use std::rc::Rc;
+
+/// Drops the values and all that is in them. Takes no memory, and no more stack where they are deep.
+pub(super) fn drop_values(values: Vec<Value>) {
+    let mut left = values;
+    'values: while let Some(value) = left.pop() {
+        left = opened(value, left);
+    }
+    left.destroy_empty();
+}
+
+/// Drops a value but for those in it. Gives these and the others, which are left.
+fn opened(first: Value, others: Vec<Value>) -> Vec<Value>
+    ensures { elements_weight (elements_of (map tree result.items)) < weight (tree first) + elements_weight (elements_of (map tree others.items)) }
+{
+    let mut value = first;
+    let mut left = others;
+    'inside: loop {
+        let Some(mut inside) = value.into_values() else {
+            return left;
+        };
+        let Some(last) = inside.pop() else {
+            inside.destroy_empty();
+            return left;
+        };
+        // There may be no room for more than one. So the others stand in place of the last one inside, which is next.
+        inside.push_reserved(Value::Array(List::of(left)));
+        left = inside;
+        value = last;
+    }
+}
+
+impl Value {
+    /// The values inside, and nothing where there can be none, or where a copy shares them.
+    fn into_values(self) -> Option<Vec<Value>>
+        ensures { IfSome result (λ values. elements_weight (elements_of (map tree values.items)) < weight (tree self)) }
+    {
+        match self {
+            Value::Doc(document) => document.into_values(),
+            Value::Array(list) => Some(list.into_inner()),
+            Value::Text(_text) => None,
+            Value::Binary {
+                subtype: _,
+                bytes: _bytes,
+            } => None,
+            Value::Int32(_) | Value::Int64(_) | Value::Bool(_) | Value::Date(_) => None,
+            Value::ObjectId(_) | Value::Timestamp(_) => None,
+            Value::Null | Value::MinKey | Value::MaxKey => None,
+        }
+    }
+}
+
+impl Document {
+    /// The values, unless a copy shares them.
+    fn into_values(self) -> Option<Vec<Value>>
+        ensures { IfSome result (λ values. elements_weight (elements_of (map tree values.items)) ≡ fields_weight (fields_of self)) }
+    {
+        let Document { alloc: _, fields } = self;
+        let own = Rc::into_inner(fields?)?;
+        Some(own.into_values())
+    }
+}
+
+impl Measured {
+    /// The values.
+    pub(super) fn into_values(self) -> Vec<Value>
+        ensures { elements_weight (elements_of (map tree result.items)) ≡ fields_weight (fields_of self) }
+    {
+        let Measured { fields, size: _ } = self;
+        fields.into_values()
+    }
+}
+
+impl Fields {
+    /// The values.
+    #[tactic(auto, using(crate::proofs::Dropped::fields_weigh_as_values))]
+    fn into_values(self) -> Vec<Value>
+        ensures { elements_weight (elements_of (map tree result.items)) ≡ fields_weight (fields_of self) }
+    {
+        let Fields { names: _, values } = self;
+        values
+    }
+}
