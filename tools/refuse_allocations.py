@@ -10,7 +10,8 @@ again, with the first, second, .. request refused, until a run meets no refusal.
 - a write ends at a statement with a write error of code 900, whose `done` tells how many of that statement's changes were
   made, fewer than all, and what the statements before it did stands;
 - a session is closed with 6: its last command has come to any of these ends, or to its usual one;
-- a view is stale behind a write, as viewStats tells, and is made anew before it is read. So are the views that read one like that.
+- a view is stale behind a write, as viewStats tells, and is made anew before it is read. So are the views that read one like that,
+  and all that read a collection which is dropped.
 
 The finds of a later session show what stands then, each view beside an aggregate of its pipeline, and each index beside a
 scan. In a run that meets no refusal every view is live at the end.
@@ -61,14 +62,16 @@ def without_memory(store, usual, step):
                 break
 
 
-def without_rows(store, after):
-    """The stores behind a command in which one view has found no memory for a change."""
-    for place, view in after.views.items():
-        old = store.views.get(place)
-        if old and old.is_live and old.ticks != view.ticks:
-            other = copy.deepcopy(after)
+def without_rows(store, after, step):
+    """The stores behind a command in which one view has found no memory for a change, or where a drop found none to tell of a
+    document that goes, and no view to which that comes has rows."""
+    taken = [place for place, view in after.views.items()
+             if place in store.views and store.views[place].is_live and store.views[place].ticks != view.ticks]
+    for places in [[place] for place in taken] + [taken] * (read_document(body(step))[0][0] == b"drop"):
+        other = copy.deepcopy(after)
+        for place in places:
             lose(other, place)
-            yield other
+        yield other
 
 
 def lose(store, place):
@@ -92,12 +95,12 @@ def outcomes(store, step, wants):
     reply = execute(usual, body(step), session=step.session)
     yield Outcome(reply, usual, False, 0)
     if wants:
-        once = [Outcome(reply, other, False, 1) for other in without_rows(store, usual)]
+        once = [Outcome(reply, other, False, 1) for other in without_rows(store, usual, step)]
         once += [Outcome(*end, True, 1) for end in without_memory(store, usual, step)]
         yield from once
     if wants > 1:
         for one in once:
-            for other in without_rows(store, one.after):
+            for other in without_rows(store, one.after, step):
                 yield one._replace(after=other, wants=2)
 
 

@@ -1,5 +1,6 @@
 -- Documents that are deleted.
-use Rattle.std.proofs.Common.{◌≡◌, ℕ, Bool, true, false, cond, not, List, [], ◌∷◌, length, map, Option, None, is_some, Ok, refl, sym, ap, subst, ◌∙◌}
+use Rattle.std.proofs.Common.{◌≡◌, ◌≤◌, ◌<◌, ◌-◌, ◌⊎◌, inl, inr, arith, ℕ, zero, suc, Bool, true, false, cond, not, List, [], ◌∷◌, length, map, take, take-take, Option, None, is_some, Ok, refl, sym, ap, subst, ◌∙◌}
+use Rattle.std.proofs.lemmas.List.{length-map, take-map}
 use Rattle.std.specs.List.{AllByRecursion}
 use Rattle.std.specs.Ordering.{is_eq}
 use Rattle.std.specs.declared.cmp.Ordering.{Ordering}
@@ -8,12 +9,15 @@ use Rattle.dv_value.specs.Tree.{Field}
 use Rattle.dv_coll.specs.Collection.{HasId, id_key, found, has_key, removed}
 use Rattle.dv_command.specs.Entries.{Deletion}
 use Rattle.dv_order.specs.Key.{KeyTree, key_order}
-use Rattle.dv_catalog.specs.Changes.{Change, gone, with_changes}
+use Rattle.dv_catalog.specs.Changes.{Change, changes_of, done_to, gone, with_changes}
 use Rattle.dv_catalog.specs.Effects.{all_or_first, without, delete_chosen}
-use Rattle.dv_catalog.specs.EffectView.{ArePlaced}
-use Rattle.dv_catalog.specs.EffectLaws.{chosen_good, matching_good}
+use Rattle.dv_catalog.specs.EffectView.{AreFirst, ArePlaced}
+use Rattle.dv_catalog.specs.EffectLaws.{chosen_good, done_unbroken, matching_good}
 use Rattle.dv_catalog.specs.Scan.{matching}
+use Rattle.dv_catalog.specs.State.{Collection}
+use Rattle.dv_catalog.proofs.Breaking.{gone_breaks_nothing}
 use Rattle.dv_catalog.proofs.Keys.{all_there, own_key, AreThere, AreBefore, before_matching}
+use Rattle.dv_catalog.proofs.Stopping.{first_placed, take_shorter}
 
 none_chosen : (first : Bool) → all_or_first first [] ≡ []
 none_chosen false = refl
@@ -68,6 +72,60 @@ module _ (deletion : Deletion) (old ds : List (List Field)) (finds : ds ≡ all_
         subst (λ (es : List (List Field)). AreThere old es) (sym finds)
         (chosen_good (λ d. is_some (found (id_key d) old) ≡ true) first rows (matching_good (λ d. is_some (found (id_key d) old) ≡ true) deletion.filter old (all_there old))) in
         subst (λ (ks : List KeyTree). ArePlaced old (map gone ks)) (sym keyed) (gone_placed law old ds before_chosen there)
+
+-- ---- the first of a deletion
+
+first_identified : (n : ℕ) (ds : List (List Field)) → AllByRecursion HasId ds → AllByRecursion HasId (take n ds)
+first_identified zero [] all = tt
+first_identified zero (d ∷ ds) all = tt
+first_identified (suc n) [] all = tt
+first_identified (suc n) (d ∷ ds) all = (all.0, first_identified n ds all.1)
+
+pub all_but_last : {X Y : Type 0} (f : X → Y) (xs some : List X) (n : ℕ) → n ≡ length xs → some ≡ take (n - 1) xs → map f some ≡ take (length (map f xs) - 1) (map f xs)
+all_but_last f xs some n many is = ap (map f) is ∙ sym (take-map f (n - 1) xs) ∙ ap (λ (k : ℕ). take (k - 1) (map f xs)) (many ∙ sym (length-map xs f))
+
+pub one_less : (n : ℕ) → (n - 1 ≡ 0) ⊎ (n - 1 < n)
+one_less zero = inl (omega arith)
+one_less (suc n) = inr (omega arith)
+
+module _ (deletion : Deletion) (c : Collection) where
+  abbrev chosen : List (List Field)
+  chosen = all_or_first deletion.only_first (matching deletion.filter c.documents)
+
+  abbrev changes : List Change
+  changes = map gone (map id_key chosen)
+
+  all_changes : changes_of (done_to c (delete_chosen deletion)) ≡ changes
+  all_changes =
+      ap changes_of
+      (done_unbroken c (delete_chosen deletion) (record { matched = length chosen; changes = changes }) (deletes deletion c.documents chosen refl (map id_key chosen) refl (length chosen) refl) (gone_breaks_nothing c.indexes (map id_key chosen) c.documents))
+
+  -- of these documents, which are found first, the first are taken
+  module _ (many : deletion.only_first ≡ false) (most count : ℕ) (ds : List (List Field)) (found : ds ≡ take most (matching deletion.filter c.documents)) (within : count ≤ length ds) where
+    are_chosen : ds ≡ take most chosen
+    are_chosen = found ∙ ap (λ (first : Bool). take most (all_or_first first (matching deletion.filter c.documents))) (sym many)
+
+    pub some_identified : AllByRecursion HasId c.documents → AllByRecursion HasId (take count ds)
+    some_identified all = first_identified count ds (subst (AllByRecursion HasId) (sym found) (first_identified most (matching deletion.filter c.documents) (matching_good HasId deletion.filter c.documents all)))
+
+    module _ (keys : List KeyTree) (keyed : keys ≡ map id_key (take count ds)) where
+      front : map gone keys ≡ take count changes
+      front =
+          let few : count ≤ most = omega (arith, within, ap length are_chosen, (take_shorter most chosen).0) in
+          ap (map gone) (keyed ∙ ap (map id_key) (ap (take count) are_chosen ∙ take-take count most chosen few) ∙ sym (take-map id_key count chosen)) ∙ sym (take-map gone count (map id_key chosen))
+
+      pub some_first : (count ≡ 0) ⊎ (count < length ds) → AreFirst (map gone keys) (changes_of (done_to c (delete_chosen deletion)))
+      some_first fewer = record { count = count; fewer = by fewer; are = front ∙ ap (take count) (sym all_changes) }
+        where
+          length_is : length (changes_of (done_to c (delete_chosen deletion))) ≡ length chosen
+          length_is = ap length all_changes ∙ length-map (map id_key chosen) gone ∙ length-map chosen id_key
+
+          by : (count ≡ 0) ⊎ (count < length ds) → (count ≡ 0) ⊎ (count < length (changes_of (done_to c (delete_chosen deletion))))
+          by (inl none) = inl none
+          by (inr less) = inr (omega (arith, less, ap length are_chosen, (take_shorter most chosen).1, length_is))
+
+      pub some_placed : NoLongerFound → AreBefore c.documents → ArePlaced c.documents (map gone keys)
+      some_placed law before = subst (ArePlaced c.documents) (sym front) (first_placed c.documents changes count (deletes_placed deletion c.documents chosen refl (map id_key chosen) refl law before))
 
 -- ---- all go
 

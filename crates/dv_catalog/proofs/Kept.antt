@@ -1,11 +1,14 @@
 -- Views and collections stay right where one is made or taken out.
-use Rattle.std.proofs.Common.{◌≡◌, ◌⊎◌, inl, inr, ◌||◌, if◌then◌else◌, ℕ, Bool, true, false, cond, List, [], map, Option, Some, None, is_some, Ok, Err, refl, sym, ap, ◌∙◌}
+use Rattle.std.proofs.Common.{◌≡◌, ◌⊎◌, inl, inr, ◌||◌, if◌then◌else◌, ℕ, Bool, true, false, cond, List, [], ◌∷◌, map, Option, Some, None, is_some, Ok, Err, refl, sym, ap, ◌∙◌}
 use Rattle.std.specs.FinMap as finite
 use Rattle.std.specs.Str.{bytes_eq}
 use Rattle.dv_value.specs.Tree.{Field}
 use Rattle.dv_change.specs.declared.change.Change as flow
 use Rattle.dv_command.specs.Asked.{ViewOn}
 use Rattle.dv_fields.specs.declared.refusal.Refusal.TheVariants.{NamespaceExists, NamespaceNotFound, ReadByView}
+use Rattle.dv_change.specs.declared.change.Change.TheVariants.{Gone}
+use Rattle.dv_views.specs.Changed.{gone_each}
+use Rattle.dv_views.specs.Placed.{own_position}
 use Rattle.dv_views.specs.Views.{Views, view_form, has_view, views_without}
 use Rattle.dv_views.specs.Views as views
 use Rattle.dv_catalog.specs.CatalogParts.{IsKept, state_of}
@@ -14,7 +17,7 @@ use Rattle.dv_catalog.specs.EffectView.{AreAble}
 use Rattle.dv_catalog.specs.Marks.{all_gone}
 use Rattle.dv_catalog.specs.State.{AreOrdered, Namespaces, Standing, State, collection_at, collection_of, documents_of, is_collection, is_there, is_view, with_documents}
 use Rattle.dv_catalog.specs.StateLaws.{get-remove}
-use Rattle.dv_catalog.specs.Told.{AreTold}
+use Rattle.dv_catalog.specs.Told.{AreTold, told}
 use Rattle.dv_catalog.specs.Views as creating
 use Rattle.dv_catalog.specs.Views.{created, dropped, reads_name}
 use Rattle.dv_catalog.proofs.Deleted.{NoLongerFound, all_go, all_go_placed}
@@ -63,6 +66,13 @@ pub all_can_go : NoLongerFound → (namespaces : Namespaces) (name : List ℕ) �
 all_can_go law namespaces name ordered =
     let documents = documents_of name namespaces in
     all_able documents (all_gone documents) (all_go_placed law documents (before_ascending documents ordered.0))
+
+each_told : (ds : List (List Field)) → gone_each ds ≡ map told (all_gone ds)
+each_told [] = refl
+each_told (d ∷ ds) = ap (λ (rest : List flow.Change). Gone (own_position d) ∷ rest) (each_told ds)
+
+pub all_told : (namespace : List ℕ) (vs : Views) (ds : List (List Field)) → AreTold namespace vs (all_gone ds) (gone_each ds)
+all_told namespace vs ds = inl (each_told ds)
 
 pub not_a_view : (namespaces : Namespaces) (vs : Views) (name : List ℕ) → IsKept namespaces vs → is_collection name namespaces ≡ true → is_view name (map view_form vs) ≡ false
 not_a_view namespaces vs name kept there = by_view (is_view name (map view_form vs)) refl

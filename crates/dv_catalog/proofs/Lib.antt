@@ -13,6 +13,7 @@ pub mod ToldChanges
 mod Keeping
 mod Refreshed
 mod Marking
+mod Cutting
 mod StatsTold
 mod Sourced
 mod Making

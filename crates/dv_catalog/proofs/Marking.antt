@@ -106,6 +106,22 @@ unmarked : (namespace : List ℕ) (changes : List Change) (lists : Lists) (forms
 unmarked namespace changes lists forms marks none =
     subst (λ (all : List Share). AreMarkedSo all marks marks) (sym (ap (λ (cs : List Change). shares namespace (map told cs) lists forms) none ∙ no_shares namespace lists forms)) (unmarked_by forms marks)
 
+-- and where they were told of no changes they stand as before
+one_unmarked : (before after : Mark) → IsMarkedBy nothing before after → after ≡ before
+one_unmarked before after (inl is) = is ∙ nothing_counted before
+one_unmarked before after (inr struck) = let no : false ≡ true = struck.reached in absurd (cc no)
+
+unmarked_after : (forms : List ViewForm) (before after : Marks) → AreMarkedSo (map (λ v. nothing) forms) before after → after ≡ before
+unmarked_after [] before after are = are
+unmarked_after (v ∷ forms) [] after are = are
+unmarked_after (v ∷ forms) (mark ∷ before) [] are = absurd are
+unmarked_after (v ∷ forms) (mark ∷ before) (now ∷ after) are = λ i. one_unmarked mark now are.0 i ∷ unmarked_after forms before after are.1 i
+
+pub still_marked : (namespace : List ℕ) (changes : List Change) (lists : Lists) (forms : List ViewForm) (before after : Marks) → changes ≡ [] → AreMarkedBy namespace changes lists forms before after → after ≡ before
+still_marked namespace changes lists forms before after none are =
+    unmarked_after forms before after
+    (subst (λ (all : List Share). AreMarkedSo all before after) (ap (λ (cs : List Change). shares namespace (map told cs) lists forms) none ∙ no_shares namespace lists forms) are)
+
 -- ---- with a view less
 
 less_one : (b : Bool) (v : View) (vs : Views) (rest : List Mark) → marks_of vs ≡ rest → marks_of (if not b then v ∷ vs else vs) ≡ (if b then rest else mark_of v.mark ∷ rest)

@@ -1,5 +1,5 @@
 -- Changes that are made one after the other, all of them or some.
-use Rattle.std.proofs.Common.{◌≡◌, ◌<◌, ◌+◌, ◌++◌, ◌⊎◌, inl, inr, ℕ, Bool, true, is_some, if◌then◌else◌, zero, suc, List, [], ◌∷◌, length, map, take, drop, drop-cons, add-one, get_or, Result, Err, refl, sym, ap, subst, ◌∙◌, append_assoc, length-append}
+use Rattle.std.proofs.Common.{◌≡◌, ◌<◌, ◌≤◌, arith, take-take, ◌+◌, ◌++◌, ◌⊎◌, inl, inr, ℕ, Bool, true, is_some, if◌then◌else◌, zero, suc, List, [], ◌∷◌, length, map, take, drop, drop-cons, add-one, get_or, Result, Err, refl, sym, ap, subst, ◌∙◌, append_assoc, length-append}
 use Rattle.std.proofs.lemmas.List.{map_push}
 use Rattle.dv_value.specs.Tree.{Field}
 use Rattle.dv_fields.specs.declared.refusal.Refusal.{Refusal}
@@ -9,13 +9,19 @@ use Rattle.dv_catalog.specs.declared.counted.Counted.{Counted}
 use Rattle.dv_catalog.specs.declared.stopped.Stopped.{Stopped}
 use Rattle.dv_catalog.specs.Changes.{Change, Effect, apply, changes_of, with_change, with_changes, with_put}
 use Rattle.dv_coll.specs.Collection.{found, id_key, inserted, replaced}
-use Rattle.dv_catalog.specs.EffectView.{ArePlaced}
+use Rattle.dv_catalog.specs.EffectView.{AreFirst, ArePlaced}
 use Rattle.dv_catalog.specs.Parts.{IsCut, IsRefused, MakesSo}
 use Rattle.dv_catalog.specs.State.{Namespaces}
 
 pub take_none : {X : Type 0} (xs : List X) → take 0 xs ≡ []
 take_none [] = refl
 take_none (x ∷ xs) = refl
+
+pub take_shorter : {X : Type 0} (n : ℕ) (xs : List X) → (length (take n xs) ≤ n) × (length (take n xs) ≤ length xs)
+take_shorter zero [] = (omega arith, omega arith)
+take_shorter zero (x ∷ xs) = (omega arith, omega arith)
+take_shorter (suc n) [] = (omega arith, omega arith)
+take_shorter (suc n) (x ∷ xs) = let rest = take_shorter n xs in (omega (arith, rest.0), omega (arith, rest.1))
 
 -- the item at a place, and those behind it
 pub next_item : {X : Type 0} (all : List X) (place : ℕ) (x : X) → place < length all → x ≡ get_or all place x → drop place all ≡ x ∷ drop (place + 1) all
@@ -44,6 +50,21 @@ placed_first documents (change ∷ changes) (suc n) placed = (placed.0, placed_f
 
 pub first_placed : (documents : List (List Field)) (changes : List Change) (n : ℕ) → ArePlaced documents changes → ArePlaced documents (take n changes)
 first_placed = placed_first
+
+-- where not all of the first ones are made
+module _ (some all : List Change) (first : AreFirst some all) (done : ℕ) (within : done ≤ length some) where
+  few : done ≤ first.count
+  few = omega (arith, within, ap length first.are, (take_shorter first.count all).0)
+
+  pub first_made : take done some ≡ take done all
+  first_made = ap (take done) first.are ∙ take-take done first.count all few
+
+  pub first_fewer : (done ≡ 0) ⊎ (done < length all)
+  first_fewer = by first.fewer
+    where
+      by : (first.count ≡ 0) ⊎ (first.count < length all) → (done ≡ 0) ⊎ (done < length all)
+      by (inl none) = inl (omega (arith, few, none))
+      by (inr less) = inr (omega (arith, few, less))
 
 with_last : (documents : List (List Field)) (changes : List Change) (change : Change) → with_changes documents (changes ++ change ∷ []) ≡ with_change (with_changes documents changes) change
 with_last documents [] change = refl

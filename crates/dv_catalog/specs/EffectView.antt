@@ -1,5 +1,5 @@
 -- What stands in memory for the effect of a statement.
-use Rattle.std.specs.Prelude.{◌≡◌, ℕ, true, false, List, [], ◌∷◌, codes, map, is_some, ⊤}
+use Rattle.std.specs.Prelude.{◌≡◌, ◌<◌, ◌⊎◌, ℕ, true, false, List, [], ◌∷◌, codes, length, map, take, is_some, ⊤}
 use Rattle.std.specs.Str.{bytes_eq}
 use Rattle.dv_value.specs.Names.{has_zero}
 use Rattle.dv_value.specs.Tree.{Field}
@@ -62,3 +62,9 @@ StandsFor documents (Gone keys) = ⊤
 abbrev pub HasWholeName : memory.Changes → Type 0
 HasWholeName (Put updates) = has_zero updates.name ≡ false
 HasWholeName (Gone keys) = ⊤
+
+-- the first of changes, not all of them, or none
+pub record AreFirst (some all : List Change) : Type 0 where
+  pub count : ℕ
+  pub fewer : (count ≡ 0) ⊎ (count < length all)
+  pub are : some ≡ take count all

@@ -55,6 +55,12 @@ StandBy namespace does old result after = AreMarkedBy namespace (changes_made do
 abbrev pub StandBehind : {B : Type 0} → List ℕ → Statement → Marked → Result B Stopped → Marks → Type 0
 StandBehind namespace statement old result after = StandBy namespace (done_to (collection_of namespace old.state.namespaces) statement) old result after
 
+-- a statement on them that is cut: its first changes are made, and views stand as behind these
+pub record Cuts (namespace : List ℕ) (statement : Statement) (old : Marked) (stopped : Stopped) (new : Marked) : Type 0 where
+  pub cut : IsCut namespace (done_to (collection_of namespace old.state.namespaces) statement) old.state.namespaces stopped new.state.namespaces
+  pub views : new.state.views ≡ old.state.views
+  pub marks : StandBehind {B = Counted} namespace statement old (Err stopped) new.marks
+
 -- behind what may be refused: so, where it is done, and else as they stood
 abbrev pub StandSo : {B E : Type 0} → (Marks → Type 0) → Marks → Result B E → Marks → Type 0
 StandSo So before (Ok x) after = So after

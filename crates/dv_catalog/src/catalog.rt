@@ -3,9 +3,10 @@
 ghost use Rattle.std.specs.Prelude.{◌≡◌};
 ghost use Rattle.dv_catalog.specs.Views.{view_refusal};
 
+mod deletes;
+
 use crate::collections::Collections;
 use crate::counted::{Counted, NOTHING};
-use crate::delete::deleted;
 use crate::effect::{Changes, Effect};
 use crate::explained::{Explained, explained_in, explained_view};
 use crate::front::rows_of_stages;
@@ -16,10 +17,10 @@ use crate::searched::searched_in;
 use crate::sources::documents_under;
 use crate::stats::{Stats, is_live};
 use crate::stopped::Stopped;
-use crate::told::{all_told_gone, one_told, told};
+use crate::told::{one_told, told};
 use crate::update::updated_in;
 use crate::upkeep::{refresh_read, refresh_under, shown_rows_are_right};
-use dv_command::{Aggregate, Create, Deletion, Find, Refusal, Updating, ViewOn};
+use dv_command::{Aggregate, Create, Find, Refusal, Updating, ViewOn};
 use dv_index::NewIndex;
 use dv_match::Filter;
 use dv_value::{Document, NoMemory};
@@ -56,7 +57,7 @@ impl Catalog {
     ghost use Rattle.std.specs.Option.{option_map};
     ghost use Rattle.std.specs.Prelude.{◌≡◌, ◌≤◌, ◌∷◌, [], true, false, map, take, Ok, Some, IfOk, OnOk, OnErr, length};
     ghost use Rattle.dv_coll.specs.Collection.{HasId};
-    ghost use Rattle.dv_command.specs.View.{aggregate_seen, create_seen, deletion_seen, find_seen, updating_seen, view_on_seen};
+    ghost use Rattle.dv_command.specs.View.{aggregate_seen, create_seen, find_seen, updating_seen, view_on_seen};
     ghost use Rattle.dv_catalog.specs.Changes.{apply};
     ghost use Rattle.dv_catalog.specs.Effects as effects;
     ghost use Rattle.dv_catalog.specs.EffectView.{ArePlaced, StandsFor, changes_seen, effect_seen};
@@ -123,21 +124,6 @@ impl Catalog {
         let whole = self.views.is_read(namespace);
         let effect = match self.collections.get(namespace) {
             Some(collection) => updated_in(self.alloc, collection, updating, whole)?,
-            None => return Ok(NOTHING),
-        };
-        self.carry_out(namespace, effect)
-    }
-
-    /// Takes out the documents of a namespace that a deletion is for. Where memory is wanting, the first so many, not all of
-    /// them, are taken out. No view stands there.
-    pub fn delete(&mut self, namespace: &str, deletion: &Deletion) -> Result<Counted, Stopped>
-        requires { is_view namespace.now self.old.state.views ≡ false }
-        ensures made { Makes (λ counted. counted) namespace.now (effects.delete_chosen (deletion_seen deletion.now)) self.old.state.namespaces result self.new.state.namespaces }
-        ensures views { self.new.state.views ≡ self.old.state.views }
-        ensures marks { StandBehind namespace.now (effects.delete_chosen (deletion_seen deletion.now)) self.old result self.new.marks }
-    {
-        let effect = match self.collections.get(namespace) {
-            Some(collection) => deleted(self.alloc, collection, deletion)?,
             None => return Ok(NOTHING),
         };
         self.carry_out(namespace, effect)
@@ -320,14 +306,15 @@ impl Catalog {
     }
 
     /// Takes out what stands under a namespace: a collection, without which the views that read it find it empty, or a
-    /// view. Refused with `NamespaceNotFound` where nothing stands there, with `ReadByView` where a view reads the one that
-    /// stands there, and with `WantOfMemory`; then nothing is changed.
+    /// view. Refused with `NamespaceNotFound` where nothing stands there, and with `ReadByView` where a view reads the one that
+    /// stands there; then nothing is changed. Where memory is wanting to tell a view, it is stale.
     pub fn remove(&mut self, namespace: &str) -> Result<(), Refusal>
         ensures made { Leaves (making.dropped namespace.now self.old.state) self.old.state result self.new.state }
         ensures marks { StandSo (AreMarkedByDrop namespace.now self.old.state self.old.marks) self.old.marks result self.new.marks }
     {
         if self.collections.has(namespace) {
-            return Ok(self.remove_collection(namespace)?);
+            self.remove_collection(namespace);
+            return Ok(());
         }
         if !self.views.has(namespace) {
             return Err(Refusal::NamespaceNotFound);
@@ -340,24 +327,22 @@ impl Catalog {
         Ok(())
     }
 
-    /// Takes out the collection of a namespace, which is there. Fails where memory is wanting; then nothing is changed.
-    fn remove_collection(&mut self, namespace: &str) -> Result<(), NoMemory>
+    /// Takes out the collection of a namespace, which is there.
+    fn remove_collection(&mut self, namespace: &str)
         requires { is_collection namespace.now self.old.state.namespaces ≡ true }
-        ensures ok { OnOk result (self.new.state ≡ record self.old.state { namespaces = finite.remove self.old.state.namespaces namespace.now }) }
-        ensures err { OnErr result (self.new ≡ self.old) }
-        ensures marks { OnOk result (AreMarkedBy namespace.now (all_gone (documents_of namespace.now self.old.state.namespaces)) (lists_of self.old.state.namespaces) self.old.state.views self.old.marks self.new.marks) }
+        ensures state { self.new.state ≡ record self.old.state { namespaces = finite.remove self.old.state.namespaces namespace.now } }
+        ensures marks { AreMarkedBy namespace.now (all_gone (documents_of namespace.now self.old.state.namespaces)) (lists_of self.old.state.namespaces) self.old.state.views self.old.marks self.new.marks }
     {
-        // Behind the change nothing may want memory.
-        let gone = self.collections.rows(namespace);
-        let told = all_told_gone(self.alloc, &self.views, namespace, gone)?;
         told_changes_are_made();
         dv_views::laws::what_is_not_read_does_not_matter();
         dv_views::laws::what_is_not_read_is_not_counted();
         dv_coll::laws::removed_document_is_not_found();
         self.collections.ordered(namespace);
+        let Some(collection) = self.collections.get(namespace) else {
+            unreachable!()
+        };
+        self.views.apply_gone(namespace, collection.iter());
         self.collections.remove(namespace);
-        self.views.apply(namespace, &told);
-        Ok(())
     }
 
     /// Makes the indexes of these entries under a namespace, in their order, but those that are there; the collection is

@@ -1,12 +1,12 @@
 //! Deleting documents.
 
-ghost use Rattle.std.specs.Prelude.{◌≡◌, ◌≤◌, length, map, take, IfOk, Ok};
+ghost use Rattle.std.specs.Prelude.{◌≡◌, ◌≤◌, false, length, map, take, IfOk, Ok};
 ghost use Rattle.std.specs.List.{AllByRecursion};
 ghost use Rattle.dv_coll.specs.Collection.{HasId, id_key};
 ghost use Rattle.dv_command.specs.View.{deletion_seen};
-ghost use Rattle.dv_catalog.specs.Changes.{done_to, gone, with_changes};
+ghost use Rattle.dv_catalog.specs.Changes.{changes_of, done_to, gone, with_changes};
 ghost use Rattle.dv_catalog.specs.Effects.{delete_chosen};
-ghost use Rattle.dv_catalog.specs.EffectView.{ArePlaced, StandsFor, changes_seen, effect_seen};
+ghost use Rattle.dv_catalog.specs.EffectView.{AreFirst, ArePlaced, StandsFor, changes_seen, effect_seen};
 ghost use Rattle.dv_catalog.specs.State.{AreOrdered};
 ghost use Rattle.dv_index.specs.Indexed.{with_documents};
 ghost use Rattle.dv_pipe.specs.Sources.{rows_referred};
@@ -41,6 +41,28 @@ pub(crate) fn deleted(
         matched: documents.len(),
         changes: Changes::Gone(keys),
     })
+}
+
+/// The keys of the first documents that a deletion is for, one of several documents: `most` of them, but never all. Fails where
+/// memory is wanting.
+pub(crate) fn first_keys(
+    alloc: Global,
+    collection: &IndexedCollection,
+    deletion: &Deletion,
+    most: usize,
+) -> Result<Vec<Key>, NoMemory>
+    requires { deletion.now.only_first ≡ false }
+    ensures first { IfOk result (λ keys. AreFirst (map gone keys.items) (changes_of (done_to collection.now (delete_chosen (deletion_seen deletion.now))))) }
+    ensures ordered { AreOrdered collection.now.documents }
+    ensures placed { IfOk result (λ keys. ArePlaced collection.now.documents (map gone keys.items)) }
+{
+    laws::removed_document_is_not_found();
+    // The documents are in order, and begin with their `_id`s.
+    let _ = collection.len();
+    // That there is one more shows that these aren't all.
+    let mut documents = collection.find_first(&deletion.filter, most.saturating_add(1))?;
+    let _ = documents.pop();
+    keys_of(alloc, &documents)
 }
 
 /// The keys of the documents' `_id`s. Fails where memory is wanting.

@@ -3,18 +3,16 @@
 ghost use Rattle.std.specs.Prelude.{◌≡◌, ◌∷◌, [], false, IfOk, map};
 ghost use Rattle.std.specs.List.{AllByRecursion};
 ghost use Rattle.dv_value.specs.Names.{has_zero};
-ghost use Rattle.dv_coll.specs.Collection.{HasId, id_key};
+ghost use Rattle.dv_coll.specs.Collection.{HasId};
 ghost use Rattle.dv_catalog.specs.Changes as changing;
 ghost use Rattle.dv_catalog.specs.EffectView.{BeginsWithId, HasWholeName, after_of, changes_seen};
-ghost use Rattle.dv_catalog.specs.Marks.{all_gone};
 ghost use Rattle.dv_catalog.specs.Told as defined;
 
 use crate::effect::{Changes, Updates};
-use crate::rows::Rows;
 use dv_change::Change;
 use dv_order::Key;
 use dv_value::{Document, NoMemory};
-use dv_views::{Registry, document_gone, document_put, key_of_id};
+use dv_views::{Registry, document_gone, document_put};
 use std::alloc::Global;
 
 /// The changes as they are told to views: nothing, where no view reads the namespace. Fails where memory is wanting.
@@ -56,34 +54,6 @@ fn all_gone(alloc: Global, keys: &[Key]) -> Result<Vec<Change>, NoMemory>
     let mut all = Vec::with_capacity(alloc, keys.len())?;
     'keys: for key in keys {
         all.push(document_gone(alloc, key.try_clone()?)?)?;
-    }
-    Ok(all)
-}
-
-/// That each of these documents goes, as it is told to views: nothing, where no view reads the namespace. Fails where memory
-/// is wanting.
-pub(crate) fn all_told_gone(
-    alloc: Global,
-    views: &Registry,
-    namespace: &str,
-    documents: Rows<'_>,
-) -> Result<Vec<Change>, NoMemory>
-    requires { AllByRecursion HasId documents }
-    ensures { IfOk result (λ all. defined.AreTold namespace.now views.now (all_gone documents.entry) all.items) }
-{
-    if !views.is_read(namespace) {
-        return Ok(Vec::new(alloc));
-    }
-    each_gone(alloc, documents)
-}
-
-fn each_gone(alloc: Global, documents: Rows<'_>) -> Result<Vec<Change>, NoMemory>
-    requires { AllByRecursion HasId documents }
-    ensures { IfOk result (λ all. all.items ≡ map defined.told (map (λ d. changing.gone (id_key d)) documents.entry)) }
-{
-    let mut all = Vec::new(alloc);
-    'documents: for document in documents {
-        all.push(document_gone(alloc, key_of_id(document)?)?)?;
     }
     Ok(all)
 }

@@ -218,16 +218,16 @@ called-forms : (name : List ℕ) (vs : Views) → list_any (λ v. bytes_eq name 
 called-forms name [] = refl
 called-forms name (v ∷ vs) = ap (λ (b : Bool). bytes_eq name v.name || b) (called-forms name vs)
 
-read-forms : (name : List ℕ) (vs : Views) → is_read_by (map view_form vs) name ≡ reads_name vs name
-read-forms name [] = refl
-read-forms name (v ∷ vs) = ap (λ (b : Bool). is_read v.stages v.source name || b) (read-forms name vs)
+pub read_forms : (name : List ℕ) (vs : Views) → is_read_by (map view_form vs) name ≡ reads_name vs name
+read_forms name [] = refl
+read_forms name (v ∷ vs) = ap (λ (b : Bool). is_read v.stages v.source name || b) (read_forms name vs)
 
 module _ (vs : Views) (name source : List ℕ) (stages : List Stage) where
   is-told : (called read few near : Bool) → has_view name vs ≡ called → (reads_name vs name || is_read stages source name) ≡ read → nat_lt (length vs) most_views ≡ few → nat_lt (height_over (heights (map view_form vs)) stages source) (suc most_height) ≡ near
       → told called read few near ≡ fault_of_new (map view_form vs) name source stages
   is-told called read few near c r f n =
       let called-is : list_any (λ v. bytes_eq name v.name) (map view_form vs) ≡ called = called-forms name vs ∙ c in
-      let read-is : (is_read_by (map view_form vs) name || is_read stages source name) ≡ read = ap (λ (b : Bool). b || is_read stages source name) (read-forms name vs) ∙ r in
+      let read-is : (is_read_by (map view_form vs) name || is_read stages source name) ≡ read = ap (λ (b : Bool). b || is_read stages source name) (read_forms name vs) ∙ r in
       let few-is : nat_lt (length (map view_form vs)) most_views ≡ few = ap (λ (k : ℕ). nat_lt k most_views) (length-map vs view_form) ∙ f in
       sym (λ i. told (called-is i) (read-is i) (few-is i) (n i))
 

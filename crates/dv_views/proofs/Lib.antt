@@ -18,5 +18,6 @@ pub mod Unread
 pub mod Limit
 pub mod OneBehind
 pub mod Behind
+mod Losing
 pub mod Heights
 pub mod Removing

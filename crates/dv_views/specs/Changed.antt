@@ -1,5 +1,5 @@
 -- What changes of a collection make of its documents, and which changes it makes.
-use Rattle.std.specs.Prelude.{◌≡◌, ℕ, List, [], ◌∷◌, IsSome, if◌then◌else◌, ⊤}
+use Rattle.std.specs.Prelude.{◌≡◌, ℕ, List, [], ◌∷◌, map, IsSome, if◌then◌else◌, ⊤}
 use Rattle.std.specs.List.{AllByRecursion}
 use Rattle.std.specs.Str.{bytes_eq}
 use Rattle.dv_coll.specs.Collection.{HasId, IsAscending, found}
@@ -34,3 +34,7 @@ pub record AreMade (changes : List Change) (documents : List Row) : Type 0 where
   pub ascending : IsAscending documents
   pub identified : AllByRecursion HasId documents
   pub in_turn : AreMadeInTurn changes documents
+
+-- these documents go, one after the other
+abbrev pub gone_each : List Row → List Change
+gone_each documents = map (λ d. Gone (own_position d)) documents

@@ -17,3 +17,7 @@ pub record IsTakenAt {Y : Type 0} (namespace : List ℕ) (changes : List Change)
   pub taken : (name : List ℕ) → IsTakenBy (told_before namespace changes place before) (distances_of (views_before place before)) (view_seen name old) (record { view = view_seen name new; told = new.told })
   pub well : IsWellKept old.stages old.mark → IsWellKept new.stages new.mark
   pub height : new.height ≡ old.height
+
+-- the same of a change of which the namespace alone is known
+abbrev pub IsLostAt : {Y : Type 0} → List ℕ → ℕ → Entries Y → Entries Y → Type 0
+IsLostAt namespace place before after = (changes : List Change) → IsTakenAt namespace changes place before after

@@ -5,7 +5,7 @@ use Rattle.dv_change.specs.Changes.{forget, with_changes}
 use Rattle.dv_change.specs.Raised.{raised}
 use Rattle.dv_pipe.specs.declared.stage.Stage.{Stage}
 use Rattle.dv_pipe.specs.Sources.{Row}
-use Rattle.dv_views.specs.Flow.{Arrival, Told, arrivals, handed_by, is_reached, outs_made, taken_after, flow_with_told, work_of}
+use Rattle.dv_views.specs.Flow.{Arrival, Told, arrivals, handed_by, is_reached, outs_made, taken_after, told_at, flow_with_told, work_of}
 use Rattle.dv_views.specs.Forms.{is_name_among, names_read}
 use Rattle.dv_views.specs.Views.{Kept, ViewMark, Taken, View, Views, view_form, is_stale, live, no_distance, stale, with_distance}
 
@@ -55,3 +55,7 @@ pub record HaveTaken (told : Told) (before after : Views) : Type 0 where
   pub tellings : List Telling
   pub views : map (λ t. t.view) tellings ≡ after
   pub taken : AreTakenBy told no_distance before tellings
+
+-- views behind a change of which the namespace alone is known
+abbrev pub HaveLost : List ℕ → Views → Views → Type 0
+HaveLost namespace before after = (changes : List Change) → HaveTaken (told_at namespace changes) before after

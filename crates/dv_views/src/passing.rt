@@ -11,7 +11,7 @@ ghost use Rattle.dv_views.specs.Forms.{names_read};
 ghost use Rattle.dv_views.specs.Ground.{IsLiveView};
 ghost use Rattle.dv_views.specs.Keeping.{IsSoundLive, Turns, kept_seen, lists_of_all};
 ghost use Rattle.dv_views.specs.Older.{told_found, views_before};
-ghost use Rattle.dv_views.specs.Passing.{IsTakenAt};
+ghost use Rattle.dv_views.specs.Passing.{IsLostAt, IsTakenAt};
 ghost use Rattle.dv_views.specs.Placed as defined;
 ghost use Rattle.dv_views.specs.declared.passing.Left.TheVariants.{NoMemory};
 ghost use Rattle.dv_views.specs.Seen.{entry_view};
@@ -182,6 +182,25 @@ pub(crate) fn take_at(
     let view = &views[place];
     let turned = passing.turned(alloc, live, view.pipeline(), view.source(), view.lookups());
     views[place].settle(turned);
+}
+
+/// Hands a change for which memory was wanting on to the view at a place: where it comes to what the view reads, this drops what
+/// it keeps and is stale. Takes no memory.
+pub(crate) fn lose_at(
+    alloc: Global,
+    views: &mut IndexMap<String, View>,
+    place: usize,
+    namespace: &str,
+)
+    requires place { place < length views.old.entries }
+    requires apart { AreNamedApart (map entry_view views.old.entries) }
+    ensures { IsLostAt namespace.now place views.old.entries views.new.entries }
+{
+    if !is_reached(views, place, namespace, &[]) {
+        views[place].leave();
+        return;
+    }
+    let _ = views[place].take_out(Vec::new(alloc));
 }
 
 /// Whether the change comes to what the view at a place reads.

@@ -31,6 +31,14 @@ pub fn document_gone(alloc: Global, key: Key) -> Result<Change, NoMemory>
     })
 }
 
+/// The document, which begins with its `_id`, gone. Fails where memory is wanting.
+pub(crate) fn gone_of(alloc: Global, document: &Document) -> Result<Change, NoMemory>
+    requires { HasId document.now }
+    ensures { IfOk result (λ change. change ≡ Gone (own_position document.now)) }
+{
+    document_gone(alloc, key_of_id(document)?)
+}
+
 /// The key of the `_id` with which the document begins. Fails where memory is wanting.
 pub fn key_of_id(document: &Document) -> Result<Key, NoMemory>
     requires { HasId document.now }

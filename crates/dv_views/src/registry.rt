@@ -15,6 +15,8 @@ ghost use Rattle.dv_views.specs.Seen.{IsSoundRegistry, view_seen};
 ghost use Rattle.dv_views.specs.Turned.{HaveTaken};
 ghost use Rattle.dv_views.specs.Views.{AreInOrder, AreNamedApart, ArePartlyRefreshed, AreRefreshed, AreRight, IsRefusedFor, view_form, has_view, is_stale, reads_name, mark_rows, rows_shown, state_of_mark, mark_ticks, view_under, views_without};
 
+mod gone;
+
 use crate::fault::ViewFault;
 use crate::laws;
 use crate::lookups::{is_listed, lookups_of, names_read, push_names_read};

@@ -1,0 +1,23 @@
+-- The views so far have taken in a change, whatever it is.
+use Rattle.std.proofs.Common.{◌≡◌, ◌≤◌, List, length, map}
+use Rattle.indexmap.specs.IndexMap.{index_map_len}
+use Rattle.dv_change.specs.declared.change.Change.{Change}
+use Rattle.dv_views.specs.Flow.{told_at}
+use Rattle.dv_views.specs.Forms.{heights}
+use Rattle.dv_views.specs.Older.{views}
+use Rattle.dv_views.specs.Seen.{HaveHeights}
+use Rattle.dv_views.specs.Views.{AreNamedApart, view_form, no_distance}
+use Rattle.dv_views.proofs.Marked.{HaveFirst}
+use Rattle.dv_views.proofs.WellKept.{AreWellKept}
+use Rattle.dv_views.proofs.registry.Registry.lose.Given as goal
+
+abbrev pub invariant-views : goal.invariant-views
+invariant-views l = record {
+  taken : (changes : List Change) → HaveFirst l.place (told_at l.namespace changes) no_distance l.fn.self l.self-inside.views.entries;
+  kept : AreWellKept l.self-inside.views.entries;
+  apart : AreNamedApart (views l.self-inside.views.entries);
+  heights : HaveHeights (heights (map view_form l.fn.self)) l.self-inside.views.entries;
+  count : index_map_len l.self-inside.views ≡ l.place-end;
+  all : length l.fn.self ≡ l.place-end;
+  within : l.place ≤ l.place-end;
+}
