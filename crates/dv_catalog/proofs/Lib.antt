@@ -20,3 +20,4 @@ mod Kept
 mod MadeIndexes
 mod Stale
 mod Foremost
+mod ById

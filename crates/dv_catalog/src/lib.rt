@@ -2,6 +2,7 @@
 #![tactic(auto)]
 
 mod ahead;
+mod by_id;
 mod catalog;
 mod chosen;
 mod collections;
