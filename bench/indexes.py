@@ -50,28 +50,36 @@ def finds(count):
         Finds("a range at the end", 1_000, lambda at: {"serial": {"$gte": count - AT_END}}, extracted("serial") + " >= ?",
               lambda at: [count - AT_END]),
         *(between(count, many) for many in BETWEEN),
+        between(count, AT_END, "_id", "id"),
         Finds("`$in` of %d members, a document each" % MEMBERS, 1_000, lambda at: {"serial": {"$in": picked[at]}},
               "%s IN (%s)" % (extracted("serial"), many), lambda at: picked[at]),
         Finds("`$in` of %d members, %d documents each" % (len(picked_buckets[0]), count // len(buckets)), 100,
               lambda at: {"bucket": {"$in": picked_buckets[at]}}, "%s IN (%s)" % (extracted("bucket"), several),
               lambda at: picked_buckets[at]),
         *(first_of(*sort) for sort in [("serial", 1), ("serial", -1), ("bucket", 1)]),
+        first_of("_id", -1, "id"),
+        first_of("serial", 1, least=count // 2),
     ]
 
 
-def first_of(field, direction):
-    """A find of the first documents in a sort by a field that has an index."""
+def first_of(field, direction, column=None, least=None):
+    """A find of the first documents in a sort by a field that has an index, of all or from a number on."""
     order, word = ("", "ascending") if direction == 1 else (" DESC", "descending")
-    return Finds("a sort with limit %d by `%s`, %s" % (FIRST, field, word), 1_000, lambda at: {},
-                 "1 ORDER BY %s%s, id LIMIT %d" % (extracted(field), order, FIRST), lambda at: [],
+    column, of, bounds = column or extracted(field), "", {}
+    condition, values = "1", []
+    if least is not None:
+        of, bounds, condition, values = " of half", {field: {"$gte": least}}, "%s >= ?" % column, [least]
+    return Finds("a sort%s with limit %d by `%s`, %s" % (of, FIRST, field, word), 1_000, lambda at: bounds,
+                 "%s ORDER BY %s%s, id LIMIT %d" % (condition, column, order, FIRST), lambda at: values,
                  {"sort": {field: direction}, "limit": FIRST})
 
 
-def between(count, many):
+def between(count, many, field="serial", column=None):
     """A find by a range with two bounds, in which so many documents are."""
-    starts = random.Random(many).sample(range(count - many), 100)
-    return Finds("between two bounds", 100, lambda at: {"serial": {"$gte": starts[at], "$lt": starts[at] + many}},
-                 "%s >= ? AND %s < ?" % (extracted("serial"), extracted("serial")), lambda at: [starts[at], starts[at] + many])
+    starts, column = random.Random(many).sample(range(count - many), 100), column or extracted(field)
+    return Finds("between two bounds" + " of `_id`" * (field == "_id"), 100,
+                 lambda at: {field: {"$gte": starts[at], "$lt": starts[at] + many}},
+                 "%s >= ? AND %s < ?" % (column, column), lambda at: [starts[at], starts[at] + many])
 
 
 def buckets_of(count):

@@ -170,7 +170,7 @@ class Maker(Commands):
         if self.often(0.92):
             return []
         self.is_crowded = True
-        entry = [(b"key", document([(self.rng.choice([b"a", b"b"]), number(1))])), (b"name", text(b"i"))]
+        entry = [(b"key", document([(self.rng.choice([b"a", b"a", b"b", b"b", b"a.b"]), number(1))])), (b"name", text(b"i"))]
         return [self.first(count=self.rng.randint(80, 100)),
                 self.asked([(b"createIndexes", text(b"c")), (b"indexes", array([document(entry)]))])]
 

@@ -73,13 +73,15 @@ class Commands(Views):
 
     def first_by_index(self):
         """The fields of a find of the first documents in a sort that begins with the path of an index, where there is one."""
-        paths, (_, parts) = [b".".join(index.path) for index in self.indexes()[1:]], self.sort()
+        paths, (_, parts) = [b".".join(index.path) for index in self.indexes()], self.sort()
+        filters = [self.filter(), document([(b"zz", NOTHING)])]
         if paths:
-            path = self.rng.choice([path for path in paths if b"." not in path] or paths)
+            path = self.rng.choice(paths)
             parts = distinct([(path, number(self.rng.choice([1, -1]))), *parts[:self.rng.randrange(3)]])
-        filters = [(b"filter", self.rng.choice([self.filter(), document([(b"zz", NOTHING)])]))]
+            filters += [document([self.bounds(path)])] * 3
+        filters = [(b"filter", self.rng.choice(filters))]
         limits = [(b"limit", number(self.rng.choice([1, 1, 1, 2, 2, 3, 4, 6])))]
-        return (filters * self.often(0.4) + [(b"sort", document(parts))] + limits
+        return (filters * self.often(0.6) + [(b"sort", document(parts))] + limits
                 + [(b"skip", number(self.rng.randrange(3)))] * self.often(0.2))
 
     def indexes(self):

@@ -1,5 +1,6 @@
 """Random paths, filters and sorts."""
 from making.values import Values, distinct
+from model.paths import whole
 from model.values import ARRAY, DOCUMENT, NUMBERS
 from spelled import array, boolean, document, number, text
 
@@ -46,6 +47,8 @@ class Paths(Values):
         for _ in range(self.rng.choice([0, 1, 1, 1, 1, 1, 1, 1, 1, 2, 2, 3])):
             if depth < 3 and self.often(0.12):
                 members.append(self.logic(among, depth))
+            elif self.often(0.08):
+                members.append(self.bounds(b"_id"))
             else:
                 path, value = self.path(among)
                 members.append((path, self.condition(value, depth)))
@@ -61,6 +64,13 @@ class Paths(Values):
 
     def condition(self, value, depth):
         return self.near(value) if self.often(0.3) else self.operators(value, depth)
+
+    def bounds(self, path):
+        """One bound or two on what a path leads to: near what stands there in a document, or of any class."""
+        held = [one for fields in self.documents[:20] for one in whole((DOCUMENT, fields), path.split(b".")) if one]
+        low, high = ((self.rng.choice(names), self.near(self.rng.choice(held)) if held and self.often(0.6) else self.identity())
+                     for names in [(b"$gt", b"$gte"), (b"$lt", b"$lte")])
+        return path, document(self.rng.choice([[low], [high], [low, high], [high, low]]))
 
     def operators(self, value, depth):
         members = [self.operator(value, depth) for _ in range(self.rng.choice([1, 1, 1, 1, 1, 1, 2, 2, 3]))]
@@ -111,7 +121,7 @@ class Paths(Values):
         return self.operators(element, depth + 1)
 
     def sort(self):
-        paths = [self.path()[0] for _ in range(self.rng.choice([1, 1, 2, 3]))]
+        paths = [b"_id"] * self.often(0.1) + [self.path()[0] for _ in range(self.rng.choice([1, 1, 2, 3]))]
         if self.often(0.02):
             paths = [b"n%d" % place for place in range(self.rng.choice([0, 32, 33]))]
         fields = [(path, number(self.rng.choice([1, -1]), self.often(0.2))) for path in paths]

@@ -22,3 +22,4 @@ mod MadeIndexes
 mod Stale
 mod Foremost
 mod Fronts
+mod ById

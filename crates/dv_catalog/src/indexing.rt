@@ -133,7 +133,7 @@ pub(crate) fn is_alike(entry: &NewIndex, name: &str, path: &Path) -> bool
 }
 
 /// Whether the path is `_id`.
-fn is_id(path: &Path) -> bool
+pub(crate) fn is_id(path: &Path) -> bool
     ensures { result ≡ is_same_path path.now id_form.path }
 {
     match path.components() {

@@ -3,6 +3,7 @@
 
 mod ahead;
 mod behind;
+mod by_id;
 mod catalog;
 mod chosen;
 mod collections;

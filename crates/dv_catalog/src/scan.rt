@@ -9,6 +9,7 @@ ghost use Rattle.dv_pipe.specs.Sources.{rows_referred};
 ghost use Rattle.dv_sort.specs.Sorting.{front, stable};
 
 use crate::ahead::first_by_index;
+use crate::by_id::first_by_id;
 use crate::searched::{Searched, first_found};
 use dv_command::Find;
 use dv_match::Filter;
@@ -64,7 +65,7 @@ pub(crate) fn in_sort(
     sorted(alloc, &all, sort, most)
 }
 
-/// The same where an index finds them. Fails where memory is wanting.
+/// The same where the order of `_id`s or an index finds them. Fails where memory is wanting.
 fn by_index(
     alloc: Global,
     within: &Searched<'_>,
@@ -74,11 +75,15 @@ fn by_index(
 ) -> Result<Option<Vec<Document>>, NoMemory>
     ensures { IfOk result (λ found. IfSome found (λ first. first.items ≡ front most (stable sort.now (scans.matching filter.now (searched within.now))))) }
 {
-    match (within, most) {
-        (Searched::Collection(collection), Some(most)) => {
-            first_by_index(alloc, collection, filter, sort, most)
-        }
-        _ => Ok(None),
+    let Searched::Collection(collection) = within else {
+        return Ok(None);
+    };
+    if let Some(first) = first_by_id(alloc, collection, filter, sort, most)? {
+        return Ok(Some(first));
+    }
+    match most {
+        Some(most) => first_by_index(alloc, collection, filter, sort, most),
+        None => Ok(None),
     }
 }
 
@@ -93,7 +98,7 @@ fn most_of(skip: u64, limit: u64) -> Option<usize>
 }
 
 /// The rows, which are shared. Fails where memory is wanting.
-fn copies(alloc: Global, rows: &[&Document]) -> Result<Vec<Document>, NoMemory>
+pub(crate) fn copies(alloc: Global, rows: &[&Document]) -> Result<Vec<Document>, NoMemory>
     ensures { IfOk result (λ copies. copies.items ≡ rows_referred rows.now) }
 {
     let mut copies = Vec::with_capacity(alloc, rows.len())?;

@@ -4,3 +4,4 @@ pub mod Removed
 pub mod Replaced
 pub mod Changed
 pub mod Standing
+pub mod Walked

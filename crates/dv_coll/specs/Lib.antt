@@ -1,3 +1,4 @@
 pub mod Collection
 pub mod Keyed
 pub mod Fault
+pub mod Walk

@@ -1,10 +1,12 @@
 //! Documents by their `_id`.
 
-ghost use Rattle.std.specs.Prelude.{◌≡◌, ◌↔◌, [], None, codes, false, length, IfOk, IsErrOf, IsSome, IsTrue, OnErr, OnOk, is_some};
+ghost use Rattle.std.specs.Prelude.{◌≡◌, ◌↔◌, [], None, codes, false, filter, length, reverse, IfOk, IsErrOf, IsSome, IsTrue, OnErr, OnOk, is_some};
 ghost use Rattle.std.specs.BTreeMap.{get_by};
+ghost use Rattle.std.specs.BTreeMap.Range.{IsLeBy, IsLtBy, range_contains};
 ghost use Rattle.std.specs.Iterator.{YieldsFirstRef, item_count};
 ghost use Rattle.std.specs.List.{AllByRecursion};
 ghost use Rattle.std.specs.Option.{option_map};
+ghost use Rattle.std.specs.Range.Bound.{IsForward};
 ghost use Rattle.std.specs.Str.{bytes_eq};
 ghost use Rattle.dv_value.specs.FieldChange.{with_field_changed};
 ghost use Rattle.dv_value.specs.Names.{has_zero};
@@ -13,12 +15,14 @@ ghost use Rattle.dv_coll.specs.Collection.{HasId, IsAscending, id_key, found, in
 ghost use Rattle.dv_coll.specs.Keyed.{changed_under};
 
 use crate::fault::InsertFault;
+use crate::walk::Walk;
 use dv_order::{Key, key_of, laws, replace_under_first};
 use dv_value::{Document, FieldChange, NoMemory};
 use std::alloc::Global;
 use std::collections::BTreeMap;
 use std::collections::btree_map::{Entry, Values};
 use std::marker::Model;
+use std::ops::Bound;
 
 /// Documents in the order of their `_id`s, no two of which are equal but for the width of integers. `_id` is the first
 /// field of each, and its value no array.
@@ -89,6 +93,22 @@ impl Collection {
         Iter {
             documents: self.documents.values(),
         }
+    }
+
+    /// The documents whose `_id`s' keys stand between two ends, in the order of their `_id`s. Takes no memory.
+    pub fn between(&self, low: Bound<Key>, high: Bound<Key>) -> Walk<'_>
+        requires { IsForward (IsLeBy key_order) (IsLtBy key_order) low high }
+        ensures { result ≡ filter (λ d. range_contains key_order low high (id_key d)) self.now }
+    {
+        Walk::of(self.documents.range((low, high)), false)
+    }
+
+    /// The same from the last one on.
+    pub fn between_from_last(&self, low: Bound<Key>, high: Bound<Key>) -> Walk<'_>
+        requires { IsForward (IsLeBy key_order) (IsLtBy key_order) low high }
+        ensures { result ≡ reverse (filter (λ d. range_contains key_order low high (id_key d)) self.now) }
+    {
+        Walk::of(self.documents.range((low, high)), true)
     }
 
     /// Puts the document in its place. Refused with `Duplicate` where a document has an equal `_id`, and with

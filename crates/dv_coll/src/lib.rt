@@ -4,6 +4,8 @@
 mod collection;
 mod fault;
 pub mod laws;
+mod walk;
 
 pub use collection::{Collection, Iter};
 pub use fault::InsertFault;
+pub use walk::Walk;

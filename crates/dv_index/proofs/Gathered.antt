@@ -60,7 +60,7 @@ no-elements : (v : Tree) → IsNoArray v → flat_map with_elements (Some v ∷ 
 no-elements (array vs) h = absurd h
 no-elements v h = refl
 
-leaves-id : (f : Field) (fs : List Field) → HasId (f ∷ fs) → leaves (f ∷ fs) (codes "_id" ∷ []) ≡ Some f.1 ∷ []
+pub leaves-id : (f : Field) (fs : List Field) → HasId (f ∷ fs) → leaves (f ∷ fs) (codes "_id" ∷ []) ≡ Some f.1 ∷ []
 unfolding leaves whole
 leaves-id f fs h =
     ap (λ b. flat_map with_elements (flat_map (candidates []) (cond b (Some f.1) (value_under (codes "_id") (list_of_fields (fields_of fs))) ∷ []))) ((bytes_eq-Decides (codes "_id") f.0).1 (sym h.0)) ∙ no-elements f.1 h.1

@@ -3,6 +3,7 @@ pub mod Picked
 pub mod Built
 pub mod Places
 pub mod Gathered
+pub mod Walks
 pub mod Foremost
 pub mod Changed
 pub mod FieldChanged

@@ -65,7 +65,7 @@ none-pass : (p : List Field → Bool) (k : KeyTree) (ds : List (List Field)) →
 none-pass p k [] fails h = refl
 none-pass p k (d ∷ ds) fails h = ap (λ b. cond b (d ∷ filter p ds) (filter p ds)) (fails d h.0) ∙ none-pass p k ds fails h.1
 
-not_true : (b : Bool) → (b ≡ true → ⊥) → b ≡ false
+pub not_true : (b : Bool) → (b ≡ true → ⊥) → b ≡ false
 not_true true h = absurd (h refl)
 not_true false h = refl
 

@@ -1,5 +1,6 @@
 pub mod Through
 pub mod Search
+pub mod InDirection
 pub mod View
 pub mod Indexed
 pub mod Change

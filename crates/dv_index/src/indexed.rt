@@ -1,15 +1,12 @@
 //! A collection with its indexes.
 
-ghost use Rattle.std.specs.Prelude.{◌≡◌, ◌↔◌, ◌++◌, ◌∷◌, [], None, List, codes, false, true, filter as kept, is_some, length, map, take, IfOk, IfSome, IsErrOf, IsSome, IsTrue, OnErr, OnOk};
+ghost use Rattle.std.specs.Prelude.{◌≡◌, ◌↔◌, ◌++◌, ◌∷◌, [], None, List, codes, false, true, is_some, length, map, IfOk, IsErrOf, IsSome, IsTrue, OnErr, OnOk};
 ghost use Rattle.std.specs.List.{AllByRecursion, list_any};
 ghost use Rattle.std.specs.Option.{option_map};
 ghost use Rattle.std.specs.Str.{bytes_eq};
 ghost use Rattle.dv_value.specs.Names.{has_zero};
 ghost use Rattle.dv_value.specs.Tree.{Field};
 ghost use Rattle.dv_coll.specs.Collection.{AreStanding, HasId, IsAscending, found, id_key, inserted, removed, replaced, with_field_changed_in};
-ghost use Rattle.dv_match.specs.Match.{matches};
-ghost use Rattle.dv_path.specs.Parts.{part};
-ghost use Rattle.dv_keyed.specs.Ahead.{is_ahead};
 ghost use Rattle.dv_index.specs.Change.{AreIndexesOf, IsChangeOf, IsTaken, documents_after};
 ghost use Rattle.dv_keyed.specs.Index.{form_of, id_form};
 ghost use Rattle.dv_keyed.specs.View.{form_of_new, plan_seen};
@@ -19,25 +16,18 @@ ghost use Rattle.dv_index.specs.Unique.{are_broken};
 ghost use Rattle.dv_index.specs.Indexed as defined;
 ghost use Rattle.dv_index.specs.Unique as uniqueness;
 
-use crate::ahead::{Ahead, candidates_ahead, index_on};
 use crate::change::{Change, key_of_id};
 use crate::coverage::covered;
 use crate::indexes::Indexes;
 use crate::making::indexes_over;
-use crate::search::{all_matching, run, run_first};
 use crate::unique::{Replacing, clashes, replacing_clashes};
 use dv_coll::{Collection, InsertFault, Iter, laws};
 use dv_keyed::{Index, NewIndex, Plan, Planner};
 use dv_match::Filter;
 use dv_order::Key;
-use dv_path::SortPart;
 use dv_value::{Document, FieldChange, NoMemory};
 use std::alloc::{AllocError, Global};
 use std::marker::Model;
-
-/// Of so many documents not more than one is looked up where the order of an index serves: that costs about as much as going
-/// through them.
-const FEW: usize = 16;
 
 /// Documents in the order of their `_id`s, no two of which are equal but for the width of integers, and indexes in the order
 /// in which they were made, the one on `_id` first. `_id` is the first field of each document, and its value no array.
@@ -45,9 +35,9 @@ const FEW: usize = 16;
 /// A document is found by its `_id` in time logarithmic in their number. A change costs what its keys differ, for each index.
 #[derive(Debug, Drop)]
 pub struct IndexedCollection {
-    alloc: Global,
-    documents: Collection,
-    indexes: Indexes,
+    pub(crate) alloc: Global,
+    pub(crate) documents: Collection,
+    pub(crate) indexes: Indexes,
 }
 
 impl Model for IndexedCollection {
@@ -290,63 +280,6 @@ impl IndexedCollection {
         ensures { self.new ≡ with_indexes (id_form ∷ []) self.old }
     {
         self.indexes.clear();
-    }
-
-    /// The documents that match the filter, in the order of their `_id`s, whatever indexes there are. Fails where memory is
-    /// wanting.
-    pub fn find(&self, filter: &Filter) -> Result<Vec<&Document>, NoMemory>
-        ensures { IfOk result (λ found. map (λ d. d.now) found.items ≡ kept (λ d. matches filter.now d) self.now.documents) }
-    {
-        let plan = Planner::choose(filter, self.indexes.as_slice());
-        run(self.alloc, &plan, filter, &self.documents, &self.indexes)
-    }
-
-    /// Documents that match the filter, and a bar: among them are all that match and that a path sorts before the bar. They
-    /// are found by the order of the index on the path, which has `least` documents or more before the bar, some of which may
-    /// not match. `None` where the filter is answered by an index, where the path has several components or no index but that
-    /// on `_id`, where no key stands behind so many, and where more than one of 16 documents would be looked up. Fails where
-    /// memory is wanting.
-    pub fn find_ahead(
-        &self,
-        filter: &Filter,
-        by: &SortPart,
-        least: usize,
-    ) -> Result<Option<Ahead<'_>>, NoMemory>
-        ensures { IfOk result (λ found. IfSome found (λ ahead. kept (is_ahead (part by.now) ahead.bar.now) (map (λ d. d.now) ahead.documents.items) ≡ kept (is_ahead (part by.now) ahead.bar.now) (kept (λ d. matches filter.now d) self.now.documents))) }
-    {
-        let Plan::Scan = Planner::choose(filter, self.indexes.as_slice()) else {
-            return Ok(None);
-        };
-        let Some(index) = index_on(&self.indexes, &by.path) else {
-            return Ok(None);
-        };
-        let most = self.documents.len() / FEW;
-        let pairs = index.pairs().as_pairs();
-        let Some(bar) = pairs.key_behind(by.direction, least, most) else {
-            return Ok(None);
-        };
-        let Some(candidates) = candidates_ahead(self.alloc, index, by, bar, most, &self.documents)?
-        else {
-            return Ok(None);
-        };
-        let documents = all_matching(candidates, filter);
-        Ok(Some(Ahead { documents, bar }))
-    }
-
-    /// The first documents that match the filter, in the order of their `_id`s, and not more than `most`. Where all documents
-    /// are looked at, no document behind the last of these is. Fails where memory is wanting.
-    pub fn find_first(&self, filter: &Filter, most: usize) -> Result<Vec<&Document>, NoMemory>
-        ensures { IfOk result (λ found. map (λ d. d.now) found.items ≡ take most (kept (λ d. matches filter.now d) self.now.documents)) }
-    {
-        let plan = Planner::choose(filter, self.indexes.as_slice());
-        run_first(
-            self.alloc,
-            &plan,
-            filter,
-            &self.documents,
-            &self.indexes,
-            most,
-        )
     }
 
     /// By which index a find is answered, and how many documents it covers. Fails where memory is wanting.

@@ -67,6 +67,13 @@ impl Indexes {
         self.indexes.as_slice()
     }
 
+    /// The path of the first one, which is `_id`. Takes no memory.
+    pub(crate) fn id_path(&self) -> &Path
+        ensures { result.now ≡ id_form.path }
+    {
+        id_path_in(self.indexes.as_slice())
+    }
+
     /// Whether one of them is unique. Takes no memory.
     pub fn has_unique(&self) -> bool
         ensures { result ≡ list_any (λ x. x.unique) (map form_of self.now) }
@@ -155,6 +162,17 @@ fn change_behind_first(
         unreachable!()
     };
     carry_out(alloc, others, documents, change)
+}
+
+/// The path of the first of the indexes, which is the one on `_id`.
+fn id_path_in(indexes: &[Index]) -> &Path
+    requires { BeginsWithId indexes.now }
+    ensures { result.now ≡ id_form.path }
+{
+    let Some((by_id, _others)) = indexes.split_first() else {
+        unreachable!()
+    };
+    by_id.path()
 }
 
 /// The path `_id`. Fails where memory is wanting.

@@ -4,12 +4,14 @@
 mod ahead;
 mod change;
 mod coverage;
+mod finding;
 mod indexed;
 mod indexes;
 pub mod laws;
 mod making;
 mod search;
 mod unique;
+mod walk;
 
 pub use ahead::Ahead;
 pub use coverage::covered;

@@ -2,32 +2,40 @@
 
 ghost use Rattle.std.specs.Prelude.{◌≡◌, ◌++◌, Bool, true, List as Sequence, map, take, filter as kept, IfOk, OnOk};
 ghost use Rattle.dv_value.specs.Tree.{Field};
+ghost use Rattle.dv_match.specs.Filter.{in_range};
 ghost use Rattle.dv_match.specs.Match.{matches};
 ghost use Rattle.dv_keyed.specs.Choice.{chosen};
+ghost use Rattle.std.specs.BTreeMap.Range.{IsLeBy, IsLtBy, range_contains};
 ghost use Rattle.std.specs.List.Sorted.{IsStrictlySortedBy};
 ghost use Rattle.std.specs.Ordering.{is_eq};
+ghost use Rattle.std.specs.Range.Bound.{IsForward};
 ghost use Rattle.dv_coll.specs.Collection.{id_key};
 ghost use Rattle.dv_value.specs.View.{tree};
-ghost use Rattle.dv_order.specs.Key.{key_order};
+ghost use Rattle.dv_order.specs.Key.{KeyTree, key_order};
 ghost use Rattle.dv_path.specs.LeafKeys.{is_key_of, is_some_key};
 ghost use Rattle.dv_index.specs.Change.{AreIndexesOf, IsIndexAt};
 ghost use Rattle.dv_keyed.specs.Index.{id_form};
 ghost use Rattle.dv_keyed.specs.Keys.{has_key};
-ghost use Rattle.dv_keyed.specs.Within.{has_within};
+ghost use Rattle.dv_keyed.specs.Within.{covers, has_within};
 ghost use Rattle.dv_index.specs.Search.{IsIndexOf};
 ghost use Rattle.dv_keyed.specs.View.{bounds_seen, plan_seen};
 
 use crate::indexes::Indexes;
+use crate::walk::{is_walk, walked};
 use dv_coll::Collection;
-use dv_keyed::{Bounds, Index, Plan, ids_tried, ids_within, in_order, keys_of_each, laws, lent};
-use dv_match::Filter;
+use dv_keyed::{
+    Bounds, Index, Plan, ends_within, ids_tried, ids_within, in_order, keys_of_each, laws, lent,
+};
+use dv_match::{Filter, Range};
 use dv_order::{Key, key_of};
+use dv_path::Direction;
 use dv_value::{Document, List, NoMemory, Value};
 use std::alloc::Global;
+use std::ops::Bound;
 
 /// The documents that match the filter, in the order of their `_id`s. By an index only those are looked at that stand under the
-/// keys in the plan's bounds, or may by having several keys; by a range of `_id`s all are. The plan is the filter's, the indexes
-/// have the collection's keys. Fails where memory is wanting.
+/// keys in the plan's bounds, or may by having several keys; by that on `_id` those whose `_id`s are in all ranges that the
+/// filter sets. The plan is the filter's, the indexes have the collection's keys. Fails where memory is wanting.
 pub fn run<'c>(
     alloc: Global,
     plan: &Plan<'_>,
@@ -43,8 +51,8 @@ pub fn run<'c>(
     run_first(alloc, plan, filter, collection, indexes, collection.len())
 }
 
-/// The first documents that match the filter, as `run` finds them, and not more than `most`. A scan ends at the last of
-/// these.
+/// The first documents that match the filter, as `run` finds them, and not more than `most`. A walk in the order of `_id`s ends
+/// at the last of these.
 pub(crate) fn run_first<'c>(
     alloc: Global,
     plan: &Plan<'_>,
@@ -59,32 +67,21 @@ pub(crate) fn run_first<'c>(
 {
     laws::what_matches_is_in_the_bounds();
     if let Plan::Index { place, bounds } = *plan {
-        if let Some(index) = indexes.get(place) {
-            let found = tried(alloc, place, index, bounds, filter, collection)?;
-            return matching(alloc, found, filter, most);
+        if !is_walk(plan) {
+            if let Some(index) = indexes.get(place) {
+                let found = tried(alloc, place, index, bounds, filter, collection)?;
+                return matching(alloc, found, filter, most);
+            }
         }
     }
-    scan(alloc, filter, collection, most)
-}
-
-fn scan<'c>(
-    alloc: Global,
-    filter: &Filter,
-    collection: &'c Collection,
-    most: usize,
-) -> Result<Vec<&'c Document>, NoMemory>
-    ensures { IfOk result (λ found. map (λ d. d.now) found.items ≡ take most (kept (λ d. matches filter.now d) collection.now)) }
-{
-    let mut found = Vec::new(alloc);
-    'documents: for document in collection.iter() {
-        if found.len() == most {
-            return Ok(found);
-        }
-        if filter.matches(document) {
-            found.push(document)?;
-        }
-    }
-    Ok(found)
+    walked(
+        alloc,
+        filter,
+        collection,
+        indexes,
+        Direction::Ascending,
+        most,
+    )
 }
 
 /// Those of the documents that match the filter.
@@ -190,7 +187,7 @@ fn candidates_by_id<'c>(
     match bounds {
         Bounds::Equal(value) => with_id(alloc, value, collection),
         Bounds::Among(choices) => with_ids(alloc, choices.values(), collection),
-        Bounds::Within(..) => all_of(alloc, collection),
+        Bounds::Within(range, value) => with_ids_within(alloc, range, value, collection),
     }
 }
 
@@ -221,10 +218,30 @@ fn with_ids<'c>(
     documents_of(alloc, ids, collection)
 }
 
-fn all_of(alloc: Global, collection: &Collection) -> Result<Vec<&Document>, NoMemory>
-    ensures { IfOk result (λ found. map (λ d. d.now) found.items ≡ collection.now) }
+/// The documents among which are all whose `_id`s stand so to a value and are of its class.
+fn with_ids_within<'c>(
+    alloc: Global,
+    range: Range,
+    value: &Value,
+    collection: &'c Collection,
+) -> Result<Vec<&'c Document>, NoMemory>
+    ensures { IfOk result (λ found. (inside : KeyTree → Bool) × ((k : KeyTree) → covers (in_range range (tree value.now)) k ≡ true → inside k ≡ true) × (map (λ d. d.now) found.items ≡ kept (λ d. inside (id_key d)) collection.now)) }
 {
-    collection.iter().collect(alloc)
+    let (low, high) = ends_within(alloc, range, value)?;
+    documents_between(alloc, collection, low, high)
+}
+
+/// The documents whose `_id`s' keys stand between two ends.
+fn documents_between(
+    alloc: Global,
+    collection: &Collection,
+    low: Bound<Key>,
+    high: Bound<Key>,
+) -> Result<Vec<&Document>, NoMemory>
+    requires { IsForward (IsLeBy key_order) (IsLtBy key_order) low high }
+    ensures { IfOk result (λ found. map (λ d. d.now) found.items ≡ kept (λ d. range_contains key_order low high (id_key d)) collection.now) }
+{
+    collection.between(low, high).collect(alloc)
 }
 
 /// The same of an index that has pairs.

@@ -18,7 +18,7 @@ use std::alloc::Global;
 use std::ops::Bound;
 
 /// The ends between which stand all keys of the value's class that stand so to its key. Fails where memory is wanting.
-pub(crate) fn ends_within(
+pub fn ends_within(
     alloc: Global,
     range: Range,
     value: &Value,

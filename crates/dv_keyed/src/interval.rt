@@ -21,15 +21,17 @@ use std::ops::Bound;
 
 /// Two ends, between which keys stand.
 #[derive(Debug, Drop)]
-pub(crate) struct Interval {
-    pub(crate) low: Bound<Key>,
-    pub(crate) high: Bound<Key>,
+pub struct Interval {
+    /// Before which none stands.
+    pub low: Bound<Key>,
+    /// Behind which none stands.
+    pub high: Bound<Key>,
 }
 
 impl Interval {
     /// The ends between which stand all keys that are in each range that the filter's top conjunction sets under the path.
     /// Fails where memory is wanting.
-    pub(crate) fn of(alloc: Global, path: &Path, filter: &Filter) -> Result<Self, NoMemory>
+    pub fn of(alloc: Global, path: &Path, filter: &Filter) -> Result<Self, NoMemory>
         ensures { IfOk result (λ ends. (k : KeyTree) → is_in_all k path.now filter.now ≡ true → is_between ends k ≡ true) }
     {
         let mut ends = Interval {
@@ -41,7 +43,7 @@ impl Interval {
     }
 
     /// Whether the first end stands before the other one; else no key stands between them.
-    pub(crate) fn is_forward(&self) -> bool
+    pub fn is_forward(&self) -> bool
         ensures forward { IsTrue result → IsForward (IsLeBy key_order) (IsLtBy key_order) self.now.low self.now.high }
         ensures empty { result ≡ false → (k : KeyTree) → is_between self.now k ≡ false }
     {

@@ -18,7 +18,9 @@ mod tried;
 mod within;
 
 pub use before::{ids_before, is_ahead};
+pub use bounds::ends_within;
 pub use index::{Index, NewIndex};
+pub use interval::Interval;
 pub use key_lists::{in_order, keys_of_each, lent};
 pub use keys::{Keys, keys_of, keys_without};
 pub use leaves::is_covered;

@@ -18,3 +18,8 @@ returns-in-Among c = IfOk-weaker c.with_ids.result _ _ (λ found is test within.
     ap (filter test) is
     ∙ gathered-ids c.keys_are_in_the_bounds_of_their_values.ensures (bounds_seen c.args.bounds) (λ k. is_some_key k c.values.result.now) (λ k covered.
     ap (is_some_key k) c.values.ensures ∙ ap (λ b. covers (bounds_seen b) k) (sym c.in-Among.is) ∙ covered) test c.args.collection.now c.len.ensures.identified within) c.with_ids.ensures
+
+pub returns-in-Within : goal.returns-in-Within
+returns-in-Within c = IfOk-weaker c.with_ids_within.result _ _ (λ found within-range test within.
+    ap (filter test) within-range.2
+    ∙ gathered-ids c.keys_are_in_the_bounds_of_their_values.ensures (bounds_seen c.args.bounds) within-range.0 (λ k covered. within-range.1 k (ap (λ b. covers (bounds_seen b) k) (sym c.in-Within.is) ∙ covered)) test c.args.collection.now c.len.ensures.identified within) c.with_ids_within.ensures

@@ -1,0 +1,49 @@
+//! Sorts by `_id`, in whose order the documents of a collection stand.
+
+ghost use Rattle.std.specs.Prelude.{◌≡◌, ◌∷◌, [], codes, IfOk, IfSome, List};
+ghost use Rattle.dv_path.specs.SortSpec.{Part};
+ghost use Rattle.dv_sort.specs.Sorting.{front, stable};
+ghost use Rattle.dv_catalog.specs.Scan.{matching};
+
+use crate::indexing::is_id;
+use crate::scan::copies;
+use dv_coll::laws;
+use dv_index::IndexedCollection;
+use dv_match::Filter;
+use dv_path::{Direction, SortSpec};
+use dv_value::{Document, NoMemory};
+use std::alloc::Global;
+
+/// The first documents that match the filter, in the order of a sort whose first path is `_id`: `most` of them, or all. No two
+/// have equal `_id`s, so further paths are no matter. `None` where the first path is another one. Fails where memory is
+/// wanting.
+pub(crate) fn first_by_id(
+    alloc: Global,
+    collection: &IndexedCollection,
+    filter: &Filter,
+    sort: &SortSpec,
+    most: Option<usize>,
+) -> Result<Option<Vec<Document>>, NoMemory>
+    ensures { IfOk result (λ found. IfSome found (λ first. first.items ≡ front most (stable sort.now (matching filter.now collection.now.documents)))) }
+{
+    let Some(direction) = direction_of_ids(sort) else {
+        return Ok(None);
+    };
+    laws::documents_stand_where_they_are_found();
+    // The documents are in order, and no more match than there are.
+    let all = collection.len();
+    let found = collection.find_in_order(filter, direction, most.unwrap_or(all))?;
+    Ok(Some(copies(alloc, &found)?))
+}
+
+/// The direction in which a sort puts `_id`s, where its first path is `_id`.
+fn direction_of_ids(sort: &SortSpec) -> Option<Direction>
+    ensures { IfSome result (λ direction. (parts : List Part) × (sort.now ≡ (codes "_id" ∷ [], direction) ∷ parts)) }
+{
+    let by = sort.parts().first()?;
+    if is_id(&by.path) {
+        Some(by.direction)
+    } else {
+        None
+    }
+}

@@ -1,0 +1,116 @@
+//! What is found in a collection, by its indexes.
+
+ghost use Rattle.std.specs.Prelude.{◌≡◌, filter as kept, map, reverse, take, IfOk, IfSome};
+ghost use Rattle.dv_match.specs.Match.{matches};
+ghost use Rattle.dv_path.specs.Parts.{part};
+ghost use Rattle.dv_keyed.specs.Ahead.{is_ahead};
+ghost use Rattle.dv_index.specs.InDirection.{in_direction};
+
+use crate::ahead::{Ahead, candidates_ahead, index_on};
+use crate::indexed::IndexedCollection;
+use crate::search::{all_matching, run, run_first};
+use crate::walk::{is_walk, walked};
+use dv_keyed::{Plan, Planner};
+use dv_match::Filter;
+use dv_path::{Direction, SortPart};
+use dv_value::{Document, NoMemory};
+
+/// Of so many documents not more than one is looked up where the order of an index serves: that costs about as much as going
+/// through them.
+const FEW: usize = 16;
+
+impl IndexedCollection {
+    /// The documents that match the filter, in the order of their `_id`s, whatever indexes there are. Fails where memory is
+    /// wanting.
+    pub fn find(&self, filter: &Filter) -> Result<Vec<&Document>, NoMemory>
+        ensures { IfOk result (λ found. map (λ d. d.now) found.items ≡ kept (λ d. matches filter.now d) self.now.documents) }
+    {
+        let plan = Planner::choose(filter, self.indexes.as_slice());
+        run(self.alloc, &plan, filter, &self.documents, &self.indexes)
+    }
+
+    /// The first documents that match the filter, in the order of their `_id`s, and not more than `most`. Where all documents
+    /// are looked at, or a range of `_id`s, no document behind the last of these is. Fails where memory is wanting.
+    pub fn find_first(&self, filter: &Filter, most: usize) -> Result<Vec<&Document>, NoMemory>
+        ensures { IfOk result (λ found. map (λ d. d.now) found.items ≡ take most (kept (λ d. matches filter.now d) self.now.documents)) }
+    {
+        let plan = Planner::choose(filter, self.indexes.as_slice());
+        run_first(
+            self.alloc,
+            &plan,
+            filter,
+            &self.documents,
+            &self.indexes,
+            most,
+        )
+    }
+
+    /// The first documents that match the filter, in a direction of their `_id`s, and not more than `most`. Fails where memory
+    /// is wanting.
+    pub fn find_in_order(
+        &self,
+        filter: &Filter,
+        direction: Direction,
+        most: usize,
+    ) -> Result<Vec<&Document>, NoMemory>
+        ensures { IfOk result (λ found. map (λ d. d.now) found.items ≡ take most (in_direction direction (kept (λ d. matches filter.now d) self.now.documents))) }
+    {
+        match direction {
+            Direction::Ascending => self.find_first(filter, most),
+            Direction::Descending => self.find_last(filter, most),
+        }
+    }
+
+    /// The last documents that match the filter, from the last one on, and not more than `most`.
+    fn find_last(&self, filter: &Filter, most: usize) -> Result<Vec<&Document>, NoMemory>
+        ensures { IfOk result (λ found. map (λ d. d.now) found.items ≡ take most (reverse (kept (λ d. matches filter.now d) self.now.documents))) }
+    {
+        let plan = Planner::choose(filter, self.indexes.as_slice());
+        if is_walk(&plan) {
+            return walked(
+                self.alloc,
+                filter,
+                &self.documents,
+                &self.indexes,
+                Direction::Descending,
+                most,
+            );
+        }
+        let mut found = run(self.alloc, &plan, filter, &self.documents, &self.indexes)?;
+        found.reverse();
+        found.truncate(most);
+        Ok(found)
+    }
+
+    /// Documents that match the filter, and a bar: among them are all that match and that a path sorts before the bar. They
+    /// are found by the order of the index on the path, which has `least` documents or more before the bar, some of which may
+    /// not match. `None` where the filter is answered by an index, where the path has several components or no index but that
+    /// on `_id`, where no key stands behind so many, and where more than one of 16 documents would be looked up. Fails where
+    /// memory is wanting.
+    pub fn find_ahead(
+        &self,
+        filter: &Filter,
+        by: &SortPart,
+        least: usize,
+    ) -> Result<Option<Ahead<'_>>, NoMemory>
+        ensures { IfOk result (λ found. IfSome found (λ ahead. kept (is_ahead (part by.now) ahead.bar.now) (map (λ d. d.now) ahead.documents.items) ≡ kept (is_ahead (part by.now) ahead.bar.now) (kept (λ d. matches filter.now d) self.now.documents))) }
+    {
+        let Plan::Scan = Planner::choose(filter, self.indexes.as_slice()) else {
+            return Ok(None);
+        };
+        let Some(index) = index_on(&self.indexes, &by.path) else {
+            return Ok(None);
+        };
+        let most = self.documents.len() / FEW;
+        let pairs = index.pairs().as_pairs();
+        let Some(bar) = pairs.key_behind(by.direction, least, most) else {
+            return Ok(None);
+        };
+        let Some(candidates) = candidates_ahead(self.alloc, index, by, bar, most, &self.documents)?
+        else {
+            return Ok(None);
+        };
+        let documents = all_matching(candidates, filter);
+        Ok(Some(Ahead { documents, bar }))
+    }
+}
