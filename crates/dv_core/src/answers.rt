@@ -8,18 +8,23 @@ ghost use Rattle.dv_core.specs.declared.outcome.Outcome.TheVariants.{Reply, NoRe
 ghost use Rattle.dv_core.specs.StepParts.{Refuses, TellsReply};
 
 use crate::outcome::Outcome;
+use crate::reserve::Reserve;
 use dv_command::Refusal;
 use dv_command::replies::{hello_reply, refusal_reply, reply_of};
 use dv_value::{Document, NoMemory};
 use std::alloc::Global;
 
 /// The outcome of a command that changes nothing: its reply, or why it is refused.
-pub(crate) fn outcome_of(alloc: Global, reply: Result<Document, Refusal>) -> Outcome
+pub(crate) fn outcome_of(
+    alloc: Global,
+    reserve: &mut Reserve,
+    reply: Result<Document, Refusal>,
+) -> Outcome
     ensures { TellsReply reply result }
 {
     match reply {
         Ok(reply) => Outcome::Reply(reply),
-        Err(refusal) => refuse(alloc, refusal),
+        Err(refusal) => refuse(alloc, reserve, refusal),
     }
 }
 
@@ -35,22 +40,23 @@ pub(crate) fn told(reply: Result<Document, NoMemory>) -> Outcome
 }
 
 /// The outcome of a command that is refused: where memory is wanting for the reply, it is refused for that.
-pub(crate) fn refuse(alloc: Global, refusal: Refusal) -> Outcome
+pub(crate) fn refuse(alloc: Global, reserve: &mut Reserve, refusal: Refusal) -> Outcome
     ensures { Refuses refusal result }
 {
     if matches!(refusal, Refusal::WantOfMemory) {
-        return refuse_for_memory(alloc);
+        return refuse_for_memory(alloc, reserve);
     }
     match refusal_reply(alloc, &refusal) {
         Ok(reply) => Outcome::Reply(reply),
-        Err(_) => refuse_for_memory(alloc),
+        Err(_) => refuse_for_memory(alloc, reserve),
     }
 }
 
-/// The outcome of a command that is refused for want of memory.
-fn refuse_for_memory(alloc: Global) -> Outcome
+/// The outcome of a command that is refused for want of memory. The reserve is given back for its reply.
+fn refuse_for_memory(alloc: Global, reserve: &mut Reserve) -> Outcome
     ensures { Refuses WantOfMemory result }
 {
+    reserve.give_back();
     match refusal_reply(alloc, &Refusal::WantOfMemory) {
         Ok(reply) => Outcome::Wanting(reply),
         Err(_) => Outcome::NoReply,

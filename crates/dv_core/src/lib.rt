@@ -10,6 +10,7 @@ mod machine;
 mod more;
 mod next;
 mod outcome;
+mod reserve;
 mod storable;
 mod store;
 mod writes;

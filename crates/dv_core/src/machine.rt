@@ -6,6 +6,7 @@ use crate::indexing::{explained, new_indexes};
 use crate::loading::namespace_in;
 use crate::more::{kill_all, next_batch};
 use crate::outcome::Outcome;
+use crate::reserve::Reserve;
 use crate::storable::storable;
 use crate::writes::write_all;
 use dv_catalog::Catalog;
@@ -77,41 +78,45 @@ impl Machine {
         }
     }
 
-    /// Carries out one command of a session.
-    pub fn execute(&mut self, session: u32, command: &Command) -> Outcome
+    /// Carries out one command of a session. Where memory is wanting, the reserve is given back for the reply.
+    pub fn execute(&mut self, session: u32, command: &Command, reserve: &mut Reserve) -> Outcome
         ensures step { MemoryStep self.old session command.now result self.new }
         ensures unread { command.now ≡ Invalid NoMemory → TellsOfWant result }
     {
         match parse(self.alloc, command) {
-            Ok(Asked::Hello) => outcome_of(self.alloc, hello(self.alloc)),
-            Ok(Asked::Ping) => outcome_of(self.alloc, ping(self.alloc)),
-            Ok(Asked::Write(write)) => self.write(write),
-            Ok(Asked::Find(find)) => outcome_of(self.alloc, self.find(session, find)),
+            Ok(Asked::Hello) => outcome_of(self.alloc, reserve, hello(self.alloc)),
+            Ok(Asked::Ping) => outcome_of(self.alloc, reserve, ping(self.alloc)),
+            Ok(Asked::Write(write)) => self.write(write, reserve),
+            Ok(Asked::Find(find)) => outcome_of(self.alloc, reserve, self.find(session, find)),
             Ok(Asked::Aggregate(aggregate)) => {
-                outcome_of(self.alloc, self.aggregate(session, aggregate))
+                outcome_of(self.alloc, reserve, self.aggregate(session, aggregate))
             }
-            Ok(Asked::GetMore(asked)) => outcome_of(self.alloc, self.get_more(session, asked)),
-            Ok(Asked::KillCursors(asked)) => self.kill_cursors(session, asked),
-            Ok(Asked::Create(create)) => outcome_of(self.alloc, self.create(create)),
-            Ok(Asked::Drop(drop)) => outcome_of(self.alloc, self.drop_namespace(drop)),
-            Ok(Asked::CreateIndexes(asked)) => self.create_indexes(asked),
-            Ok(Asked::DropIndexes(asked)) => self.drop_indexes(asked),
-            Ok(Asked::Explain(asked)) => outcome_of(self.alloc, self.explain(asked)),
-            Ok(Asked::ViewStats(asked)) => outcome_of(self.alloc, self.view_stats(asked)),
-            Err(refusal) => refuse(self.alloc, refusal),
+            Ok(Asked::GetMore(asked)) => outcome_of(
+                self.alloc,
+                reserve,
+                self.get_more(session, asked),
+            ),
+            Ok(Asked::KillCursors(asked)) => self.kill_cursors(session, asked, reserve),
+            Ok(Asked::Create(create)) => outcome_of(self.alloc, reserve, self.create(create)),
+            Ok(Asked::Drop(drop)) => outcome_of(self.alloc, reserve, self.drop_namespace(drop)),
+            Ok(Asked::CreateIndexes(asked)) => self.create_indexes(asked, reserve),
+            Ok(Asked::DropIndexes(asked)) => self.drop_indexes(asked, reserve),
+            Ok(Asked::Explain(asked)) => outcome_of(self.alloc, reserve, self.explain(asked)),
+            Ok(Asked::ViewStats(asked)) => outcome_of(self.alloc, reserve, self.view_stats(asked)),
+            Err(refusal) => refuse(self.alloc, reserve, refusal),
         }
     }
 
     /// Carries out a write. A statement one of whose changes, made one after the other, would find one of its keys of a
     /// unique index under another `_id` is refused before the first of them.
-    fn write(&mut self, write: Write<'_>) -> Outcome
+    fn write(&mut self, write: Write<'_>, reserve: &mut Reserve) -> Outcome
         ensures { WritesOn (write_by (write_seen write.entry)) self.old result self.new }
     {
         if self.catalog.is_view(&write.namespace) {
-            return refuse(self.alloc, Refusal::OnView);
+            return refuse(self.alloc, reserve, Refusal::OnView);
         }
         self.names.prepare(self.alloc);
-        write_all(self.alloc, &self.names, &mut self.catalog, write)
+        write_all(self.alloc, reserve, &self.names, &mut self.catalog, write)
     }
 
     fn find(&mut self, session: u32, find: Find) -> Result<Document, Refusal>
@@ -166,12 +171,12 @@ impl Machine {
         next_batch(self.alloc, &self.names, &mut self.cursors, session, asked)
     }
 
-    fn kill_cursors(&mut self, session: u32, asked: KillCursors) -> Outcome
+    fn kill_cursors(&mut self, session: u32, asked: KillCursors, reserve: &mut Reserve) -> Outcome
         ensures catalog { self.new.catalog ≡ self.old.catalog }
         ensures reply { Ends (Ok (more.killed session (kill_cursors_seen asked) self.old.cursors)) self.old.cursors result self.new.cursors }
         ensures marks { self.new.marks ≡ self.old.marks }
     {
-        kill_all(self.alloc, &mut self.cursors, session, asked)
+        kill_all(self.alloc, reserve, &mut self.cursors, session, asked)
     }
 
     fn create(&mut self, create: Create) -> Result<Document, Refusal>
@@ -198,22 +203,25 @@ impl Machine {
         Ok(reply)
     }
 
-    fn create_indexes(&mut self, asked: CreateIndexes) -> Outcome
+    fn create_indexes(&mut self, asked: CreateIndexes, reserve: &mut Reserve) -> Outcome
         ensures cursors { self.new.cursors ≡ self.old.cursors }
         ensures reply { Ends (indexing.indexed (create_indexes_seen asked) self.old.catalog) self.old.catalog result self.new.catalog }
         ensures marks { self.new.marks ≡ self.old.marks }
     {
         let CreateIndexes { namespace, indexes } = asked;
         let Ok(entries) = new_indexes(self.alloc, indexes) else {
-            return refuse(self.alloc, Refusal::WantOfMemory);
+            return refuse(self.alloc, reserve, Refusal::WantOfMemory);
         };
         match self.catalog.create_indexes(&namespace, entries) {
-            Ok(counts) => told(create_indexes_reply(self.alloc, counts.before, counts.after)),
-            Err(refusal) => refuse(self.alloc, refusal),
+            Ok(counts) => {
+                reserve.give_back();
+                told(create_indexes_reply(self.alloc, counts.before, counts.after))
+            }
+            Err(refusal) => refuse(self.alloc, reserve, refusal),
         }
     }
 
-    fn drop_indexes(&mut self, asked: DropIndexes) -> Outcome
+    fn drop_indexes(&mut self, asked: DropIndexes, reserve: &mut Reserve) -> Outcome
         ensures cursors { self.new.cursors ≡ self.old.cursors }
         ensures reply { Ends (indexing.unindexed (drop_indexes_seen asked) self.old.catalog) self.old.catalog result self.new.catalog }
         ensures marks { self.new.marks ≡ self.old.marks }
@@ -221,7 +229,7 @@ impl Machine {
         let DropIndexes { namespace, index } = asked;
         match self.catalog.drop_indexes(&namespace, &index) {
             Ok(count) => told(drop_indexes_reply(self.alloc, count)),
-            Err(refusal) => refuse(self.alloc, refusal),
+            Err(refusal) => refuse(self.alloc, reserve, refusal),
         }
     }
 

@@ -10,6 +10,7 @@ ghost use Rattle.dv_core.specs.StepParts.{Ends, GivesAndLeaves};
 use crate::answers::{refuse, told};
 use crate::find::values_of;
 use crate::outcome::Outcome;
+use crate::reserve::Reserve;
 use dv_command::replies::{kill_cursors_reply, next_batch_reply};
 use dv_command::{GetMore, KillCursors, Refusal, ReplyNames};
 use dv_cursor::{Cursors, Rows};
@@ -48,6 +49,7 @@ pub(crate) fn next_batch(
 /// Ends the cursors of a session over a namespace that have one of these ids, and tells which went and which weren't there.
 pub(crate) fn kill_all(
     alloc: Global,
+    reserve: &mut Reserve,
     cursors: &mut Cursors,
     session: u32,
     asked: KillCursors,
@@ -57,7 +59,7 @@ pub(crate) fn kill_all(
     let KillCursors { namespace, ids } = asked;
     match kill_each(alloc, cursors, session, &namespace, &ids) {
         Ok(went) => told(kill_reply(alloc, &ids, &went)),
-        Err(_) => refuse(alloc, Refusal::WantOfMemory),
+        Err(_) => refuse(alloc, reserve, Refusal::WantOfMemory),
     }
 }
 

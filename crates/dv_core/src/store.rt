@@ -1,9 +1,11 @@
 //! The store: the machine, and what is true of it at every moment.
 
+use crate::answers::refuse;
 use crate::laws::states_stay_orderly;
 use crate::machine::Machine;
 use crate::outcome::Outcome;
-use dv_command::Command;
+use crate::reserve::{Reserve, keeps};
+use dv_command::{Command, Refusal};
 use dv_value::Document;
 use dv_views::Rows;
 use std::alloc::Global;
@@ -15,7 +17,9 @@ use std::marker::Model;
 /// which are equal, and no key of a unique index stands in two of them.
 #[derive(Debug, Drop)]
 pub struct Store {
+    alloc: Global,
     machine: Machine,
+    reserve: Reserve,
 }
 
 impl Model for Store {
@@ -47,20 +51,35 @@ impl Store {
     {
         states_stay_orderly();
         Store {
+            alloc,
             machine: Machine::new(alloc),
+            reserve: Reserve::new(alloc),
         }
     }
 
     /// Carries out one command of a session: one step of the machine. A command that is refused is answered so and
     /// changes nothing. Where memory is wanting, it is refused for that, or a write ends at the statement that finds
-    /// none; and after any of these the reply may be left out.
+    /// none; and after any of these the reply may be left out. 1,048,576 bytes are kept from the start for commands that store
+    /// nothing and for replies that tell of want of memory: while these can't be had again, one that stores something is refused.
     pub fn execute(&mut self, session: u32, command: &Command) -> Outcome
         ensures step { MemoryStep self.old session command.now result self.new }
         // A command for which memory was wanting as it was read is told so.
         ensures unread { command.now ≡ Invalid NoMemory → TellsOfWant result }
     {
         states_stay_orderly();
-        self.machine.execute(session, command)
+        if !keeps(command) {
+            self.reserve.make_room();
+        } else if !self.reserve.take() {
+            return refuse(self.alloc, &mut self.reserve, Refusal::WantOfMemory);
+        }
+        self.machine.execute(session, command, &mut self.reserve)
+    }
+
+    /// Gives back the memory that is kept, until the next command: for the bytes of a message, or of its reply, that find none.
+    pub fn give_back(&mut self)
+        ensures { self.new ≡ self.old }
+    {
+        self.reserve.give_back();
     }
 
     /// Loads a document into the collection of a namespace, which is made where it isn't there: what an insert of that

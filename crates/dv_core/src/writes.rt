@@ -13,6 +13,7 @@ ghost use Rattle.dv_core.specs.Writes.{statement_of, write_by};
 
 use crate::next::Next;
 use crate::outcome::Outcome;
+use crate::reserve::Reserve;
 use crate::storable::storable;
 use crate::written::Written;
 use dv_catalog::{Catalog, Counted, Stopped};
@@ -20,10 +21,11 @@ use dv_command::{ReplyNames, Write, WriteKind, deletion_of, updating_of};
 use dv_value::{Document, NoMemory};
 use std::alloc::Global;
 
-/// Carries out the statements of a write one after the other. Where memory is wanting for one the command ends with it;
-/// where it is wanting for the reply, there is none.
+/// Carries out the statements of a write one after the other. Where memory is wanting for one the command ends with it, and the
+/// reserve is given back for the reply; where memory is wanting for that, there is none.
 pub(crate) fn write_all(
     alloc: Global,
+    reserve: &mut Reserve,
     names: &ReplyNames,
     catalog: &mut Catalog,
     write: Write<'_>,
@@ -32,7 +34,7 @@ pub(crate) fn write_all(
     ensures writes { WritesOrCuts (write_by (write_seen write.entry)) catalog.old result catalog.new }
     ensures views { catalog.new.state.views ≡ catalog.old.state.views }
 {
-    match write_each(alloc, names, catalog, write) {
+    match write_each(alloc, reserve, names, catalog, write) {
         Ok(outcome) => outcome,
         Err(_) => Outcome::NoReply,
     }
@@ -41,6 +43,7 @@ pub(crate) fn write_all(
 /// Carries out the statements one after the other. Fails where memory is wanting for the reply.
 fn write_each(
     alloc: Global,
+    reserve: &mut Reserve,
     names: &ReplyNames,
     catalog: &mut Catalog,
     write: Write<'_>,
@@ -59,6 +62,7 @@ fn write_each(
     'entries: for entry in entries {
         match write_next(
             alloc,
+            reserve,
             catalog,
             kind,
             &namespace,
@@ -68,16 +72,17 @@ fn write_each(
         )? {
             Next::Due => {}
             Next::Ended => break,
-            Next::Cut => return Ok(Outcome::Wanting(written.reply(alloc, names, kind)?)),
+            Next::Cut => return Ok(Outcome::Wanting(written.reply(alloc, reserve, names, kind)?)),
         }
     }
-    Ok(Outcome::Reply(written.reply(alloc, names, kind)?))
+    Ok(Outcome::Reply(written.reply(alloc, reserve, names, kind)?))
 }
 
 /// Carries out the next statement, and notes what came of it. Answers what comes behind it; fails where memory is
 /// wanting for the statement's error.
 fn write_next(
     alloc: Global,
+    reserve: &mut Reserve,
     catalog: &mut Catalog,
     kind: WriteKind,
     namespace: &str,
@@ -96,7 +101,10 @@ fn write_next(
             written.count(counted);
             Ok(Next::Due)
         }
-        Err(stopped) => written.note(alloc, ordered, &stopped),
+        Err(stopped) => {
+            reserve.make_room_for(&stopped.refusal);
+            written.note(alloc, ordered, &stopped)
+        }
     }
 }
 

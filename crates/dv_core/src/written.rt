@@ -1,8 +1,11 @@
 //! What the statements of a write did.
 
-ghost use Rattle.std.specs.Prelude.{◌*◌, ◌≤◌, ◌^◌};
+ghost use Rattle.std.specs.Prelude.{◌≡◌, ◌*◌, ◌≤◌, ◌^◌, IfOk, map};
+ghost use Rattle.dv_core.specs.Writes.{reply_by};
+ghost use Rattle.dv_value.specs.View.{tree};
 
 use crate::next::{Next, error_of, next_behind};
+use crate::reserve::Reserve;
 use dv_catalog::{Counted, Stopped};
 use dv_command::replies::{update_reply, write_reply};
 use dv_command::{ReplyNames, WriteKind};
@@ -23,13 +26,11 @@ pub(crate) struct Written {
 }
 
 impl Written {
-    ghost use Rattle.std.specs.Prelude.{◌≡◌, ◌<◌, IfOk, map};
+    ghost use Rattle.std.specs.Prelude.{◌<◌};
     ghost use Rattle.dv_command.specs.Asked.{statement_limit};
     ghost use Rattle.dv_catalog.specs.State.{Namespaces};
     ghost use Rattle.dv_core.specs.Statements.{nothing_written};
     ghost use Rattle.dv_core.specs.WriteParts.{written_seen, with_counted, Notes};
-    ghost use Rattle.dv_core.specs.Writes.{reply_by};
-    ghost use Rattle.dv_value.specs.View.{tree};
 
     /// No statement so far.
     pub(crate) fn new(alloc: Global) -> Self
@@ -70,10 +71,12 @@ impl Written {
         Ok(next_behind(ordered, &stopped.refusal))
     }
 
-    /// The reply of a write. Fails where memory is wanting.
+    /// The reply of a write. Where memory is wanting and there are no errors, the reserve is given back for it. Fails where memory
+    /// is wanting still.
     pub(crate) fn reply(
         self,
         alloc: Global,
+        reserve: &mut Reserve,
         names: &ReplyNames,
         kind: WriteKind,
     ) -> Result<Document, NoMemory>
@@ -85,9 +88,30 @@ impl Written {
             errors,
             ..
         } = self;
-        match kind {
-            WriteKind::Insert | WriteKind::Delete => write_reply(alloc, names, n, errors),
-            WriteKind::Update => update_reply(alloc, names, n, changed, errors),
+        if errors.is_empty() {
+            let reply = reply_with(alloc, names, kind, n, changed, Vec::new(alloc));
+            if reply.is_ok() {
+                return reply;
+            }
+            reserve.give_back();
         }
+        reply_with(alloc, names, kind, n, changed, errors)
+    }
+}
+
+/// The reply of a write that was counted so, with these errors. Fails where memory is wanting.
+fn reply_with(
+    alloc: Global,
+    names: &ReplyNames,
+    kind: WriteKind,
+    n: u128,
+    changed: u128,
+    errors: Vec<Value>,
+) -> Result<Document, NoMemory>
+    ensures { IfOk result (λ reply. reply ≡ reply_by kind n changed (map tree errors.items)) }
+{
+    match kind {
+        WriteKind::Insert | WriteKind::Delete => write_reply(alloc, names, n, errors),
+        WriteKind::Update => update_reply(alloc, names, n, changed, errors),
     }
 }
