@@ -2,3 +2,4 @@ mod Lengths
 mod SoundFields
 mod Sounding
 pub mod Errors
+mod Needs

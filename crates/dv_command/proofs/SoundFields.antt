@@ -9,8 +9,7 @@ use Rattle.dv_value.specs.Spelling.{IsValue, AreFields, AreElements, payload}
 use Rattle.dv_value.specs.Tree.{Tree, int32, int64, string, document, array, Fields, no_fields, field, Elements, no_elements, element, Field, fields_of, list_of_fields, elements_of, list_of_elements}
 use Rattle.dv_pipe.specs.StageParsing as pipelines
 use Rattle.dv_pipe.specs.declared.stage.Stage.{Stage}
-use Rattle.dv_command.specs.Asked.{Find, find, find_in, first_batch_size, explained_by, ViewOn, ViewFields, view_fields_in, view_of, check_count, statement_limit}
-use Rattle.dv_fields.specs.Fields as reading
+use Rattle.dv_command.specs.Asked.{Find, find_in, first_batch_size, explained_by, ViewOn, ViewFields, view_fields_in, view_of, check_count, statement_limit}
 use Rattle.dv_fields.specs.Fields.{update_in, document_under, check_fields, first_name, text_field, document_in, array_field, integer_in, each_document, documents_in, required, text_under, boolean_under, natural_under}
 use Rattle.dv_command.specs.Tables.{index_table}
 use Rattle.dv_command.specs.Lists.{CommandLists, list_under, in_either}

@@ -4,9 +4,9 @@ use Rattle.std.specs.Prelude.{codes}
 use Rattle.std.specs.Str.{IsUtf8}
 use Rattle.dv_value.specs.Names.{value_under}
 use Rattle.dv_value.specs.Spelling.{IsValue, AreFields, spelling}
-use Rattle.dv_value.specs.Tree.{Tree, document, Field, fields_of}
+use Rattle.dv_value.specs.Tree.{Tree, Field, fields_of}
 use Rattle.dv_update.specs.Parsing as updates
-use Rattle.dv_command.specs.Asked.{Asked, Find, hello, ping, write, find, aggregate, get_more, kill_cursors, create, drop, create_indexes, drop_indexes, explain, view_stats, command_named, asked_as, asked_under, hello_of, ping_of, write_of, find_of, find_in, aggregate_of, cursor_size, get_more_of, kill_cursors_of, create_of, drop_of, create_indexes_of, drop_indexes_of, explain_of, view_stats_of, explained_command, view_fields, view_of, looked_database, checked_database, check_count}
+use Rattle.dv_command.specs.Asked.{Asked, hello, ping, write, find, aggregate, get_more, kill_cursors, create, drop, create_indexes, drop_indexes, explain, view_stats, command_named, asked_as, asked_under, hello_of, ping_of, write_of, find_of, find_in, aggregate_of, cursor_size, get_more_of, kill_cursors_of, create_of, drop_of, create_indexes_of, drop_indexes_of, explain_of, view_stats_of, explained_command, view_fields, view_of, looked_database, checked_database, check_count}
 use Rattle.dv_command.specs.declared.asking.WriteKind.{WriteKind}
 use Rattle.dv_command.specs.declared.asking.WriteKind.TheVariants as writes
 use Rattle.dv_command.specs.declared.names.CommandName.{CommandName}

@@ -25,12 +25,6 @@ abbrev pub list_under : List ℕ → CommandLists → Option (List (List Field))
 list_under name [] = None
 list_under name (list ∷ lists) = if bytes_eq name list.0 then Some list.1 else list_under name lists
 
--- the first document of the first list
-abbrev pub first_document : CommandLists → Option (List Field)
-first_document [] = None
-first_document ((name, []) ∷ lists) = None
-first_document ((name, document ∷ documents) ∷ lists) = Some document
-
 -- a list of documents that has to stand in the body or beside it, and not in both
 abbrev pub in_either : Option Tree → Option (List (List Field)) → Result (List (List Field)) Refusal
 in_either (Some value) None = documents_in value

@@ -78,13 +78,6 @@ impl DocumentLists {
         list_under(self.lists.as_slice(), name)
     }
 
-    /// The first document of the first list; `None` where there is no list, or it is empty.
-    pub fn first(&self) -> Option<&Document>
-        ensures { option_map (λ document. document.now) result ≡ defined.first_document self.now }
-    {
-        self.lists.first()?.documents.first()
-    }
-
     /// Whether no list has another name.
     pub fn are_only(&self, name: &str) -> bool
         ensures { result ≡ list_all (λ list. bytes_eq name.now list.0) self.now }

@@ -3,10 +3,12 @@
 ghost use Rattle.std.specs.Prelude.{◌≡◌, ℕ, List, Ok, length};
 ghost use Rattle.dv_value.specs.Spelling.{AreFields, IsValue, spelling};
 ghost use Rattle.dv_value.specs.Tree.{Field, fields_of};
-ghost use Rattle.dv_command.specs.Asked.{Asked, asked_under, command_name};
+ghost use Rattle.dv_command.specs.declared.command.Command.{Command};
+ghost use Rattle.dv_command.specs.Asked.{Asked, asked_by, asked_under, command_name};
 ghost use Rattle.dv_command.specs.Lists.{CommandLists};
 ghost use Rattle.dv_command.specs.Replies.{count};
 ghost use Rattle.dv_command.specs.Entries.{Updating, updating_of};
+ghost use Rattle.dv_command.specs.Needed.{needed};
 ghost use Rattle.dv_command.specs.Sound.{AreValidLists, IsSoundRequest, IsSoundUpdate};
 
 /// What a command asks is sound where the fields of its body and the lists beside it are: the documents in its list, how
@@ -26,4 +28,9 @@ pub fn the_update_of_an_entry_is_sound()
 /// Every number that a reply counts has a spelling.
 pub fn a_count_has_a_spelling()
     ensures { (n : ℕ) → IsValue (count n) }
+{}
+
+/// A command asks the same, or is refused for the same, with no more of its lists than it needs.
+pub fn a_command_needs_no_more()
+    ensures { (command : Command) → asked_by (needed command) ≡ asked_by command }
 {}

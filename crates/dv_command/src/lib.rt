@@ -10,6 +10,7 @@ mod forms;
 pub mod laws;
 mod lists;
 mod names;
+mod needed;
 mod parsing;
 mod reads;
 pub mod replies;
@@ -24,5 +25,6 @@ pub use asking::{
 pub use command::{Command, DocumentList, DocumentLists};
 pub use dv_fields::{Documents, Refusal, namespaces};
 pub use entries::{Deletion, Updating, deletion_of, updating_of};
+pub use needed::documents_needed;
 pub use parsing::parse;
 pub use reply_names::ReplyNames;

@@ -16,7 +16,7 @@ use dv_value::Document;
 use std::alloc::Global;
 
 /// How many statements a command may have.
-const STATEMENT_LIMIT: usize = 100_000;
+pub(crate) const STATEMENT_LIMIT: usize = 100_000;
 
 /// What the write of this name asks, whose entries stand in the list of that name.
 pub(crate) fn write_of<'a>(

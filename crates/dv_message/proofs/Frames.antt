@@ -19,7 +19,7 @@ pub some_if : {A : Type 0} (b : Bool) (x y : A) → cond b (Some x) None ≡ Som
 some_if true x y e = (refl, cc)
 some_if false x y e = absurd cc
 
-some_pair : {A B : Type 0} (a c : A) (b d : B) → ◌≡◌ {A = Option (A × B)} (Some (a, b)) (Some (c, d)) → (a ≡ c) × (b ≡ d)
+pub some_pair : {A B : Type 0} (a c : A) (b d : B) → ◌≡◌ {A = Option (A × B)} (Some (a, b)) (Some (c, d)) → (a ≡ c) × (b ≡ d)
 some_pair {A = A} {B = B} a c b d e = let p : ◌≡◌ {A = A × B} (a, b) (c, d) = cc in (ap (λ (x : A × B). x.0) p, ap (λ (x : A × B). x.1) p)
 
 pub record IsFrame (bytes frame rest : List ℕ) : Type 0 where

@@ -1,9 +1,11 @@
 mod Bytes
 mod Rows
 mod Frames
+mod Walked
 mod Together
 mod Names
 mod Reading
+mod FirstName
 mod Brought
 mod Fronts
 mod Streams

@@ -91,7 +91,7 @@ pub record IsSpelledBy {A : Type 0} (at_front : List ℕ → Option (A × List �
   pub spelled : (bytes : List ℕ) (x : A) (rest : List ℕ) → IsBytes bytes → at_front bytes ≡ Some (x, rest) → (bytes ≡ spell x ++ rest) × (test x ≡ true)
   pub found : (x : A) (rest : List ℕ) → test x ≡ true → length (spell x) < 2 ^ 32 → at_front (spell x ++ rest) ≡ Some (x, rest)
 
-onto_some : {A : Type 0} (x : A) (o : Option (List A)) (xs : List A) → onto x o ≡ Some xs → (ys : List A) × (o ≡ Some ys) × (x ∷ ys ≡ xs)
+pub onto_some : {A : Type 0} (x : A) (o : Option (List A)) (xs : List A) → onto x o ≡ Some xs → (ys : List A) × (o ≡ Some ys) × (x ∷ ys ≡ xs)
 onto_some x None xs e = absurd cc
 onto_some x (Some ys) xs e = (ys, refl, cc)
 

@@ -5,10 +5,7 @@ use Rattle.std.proofs.lemmas.Bool.{eqb-true, and_parts}
 use Rattle.std.proofs.lemmas.List.{length-append}
 use Rattle.dv_value.specs.Spelling.{IsBytes}
 use Rattle.dv_message.specs.Sections.{Section, body, named, section_spelling, sections_spelling, is_section, body_count, names_among, are_distinct, go_together, are_sections, each_in, section_at, sections_together, sections_in}
-use Rattle.dv_message.specs.SectionsView.{MissedBy}
-use Rattle.dv_message.specs.declared.fault.CloseFault.{CloseFault}
-use Rattle.dv_message.specs.declared.fault.CloseFault.TheVariants.{BadLength, BadOpCode, BadFlag, Checksum, BadSection, NoMemory}
-use Rattle.dv_message.proofs.Rows.{row_spelled, row_found, Comes, fails}
+use Rattle.dv_message.proofs.Rows.{row_spelled, row_found}
 use Rattle.dv_message.proofs.Frames.{some_if, sections_advance, sections_are_spelled, framed_least}
 
 together_are : (found : Option (List Section)) (sections : List Section) → sections_together found ≡ Some sections → (found ≡ Some sections) × (go_together sections ≡ true)
@@ -50,14 +47,3 @@ sections_long sections are =
     let parts = and_parts (list_all is_section sections) (go_together sections) are in
     let one = eqb-true (body_count sections) 1 (and_parts (eqb (body_count sections) 1) (are_distinct (names_among sections)) parts.1).0 in
     long_among sections parts.0 (omega arith)
-
--- ---- as the code finds them
-
--- where the next section isn't found, none are
-pub none_in_row : (fault : CloseFault) (all : List ℕ) (found : List Section) (rest : List ℕ) → Comes section_at all found rest → 0 < length rest → MissedBy fault (section_at rest) → MissedBy fault (each_in section_at all)
-none_in_row BadSection all found rest comes some e = fails section_at sections_advance all found rest comes e some
-none_in_row NoMemory all found rest comes some e = tt
-none_in_row BadLength all found rest comes some e = absurd e
-none_in_row BadOpCode all found rest comes some e = absurd e
-none_in_row BadFlag all found rest comes some e = absurd e
-none_in_row Checksum all found rest comes some e = absurd e

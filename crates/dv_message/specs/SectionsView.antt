@@ -1,14 +1,30 @@
 -- What sections in memory stand for.
-use Rattle.std.specs.Prelude.{◌≡◌, map, Option, Some, None, Result, Ok, Err, ⊤}
+use Rattle.std.specs.Prelude.{◌≡◌, ℕ, zero, suc, List, [], ◌∷◌, length, Option, Some, None, Result, Ok, Err, ⊤}
 use Rattle.dv_message.specs.declared.fault.CloseFault.{CloseFault}
 use Rattle.dv_message.specs.declared.fault.CloseFault.TheVariants.{BadLength, BadOpCode, BadFlag, Checksum, BadSection, NoMemory}
+use Rattle.dv_message.specs.declared.framed.Framed.{Framed}
 use Rattle.dv_message.specs.declared.sections.Section as declared
 use Rattle.dv_message.specs.declared.sections.Section.TheVariants.{Body, Named}
-use Rattle.dv_message.specs.Sections.{Section, body, named}
+use Rattle.dv_message.specs.Sections.{Section, body, named, section_frame}
+
+-- the documents that bytes frame, one behind the other, up to where they frame none; as many steps as there are bytes are enough
+abbrev pub frames_from : Option (List ℕ × List ℕ) → (List ℕ → List (List ℕ)) → List (List ℕ)
+frames_from None others = []
+frames_from (Some frame) others = frame.0 ∷ others frame.1
+
+unfoldable pub frames_within : ℕ → List ℕ → List (List ℕ)
+frames_within zero bytes = []
+frames_within (suc steps) bytes = frames_from (section_frame bytes) (frames_within steps)
+
+unfoldable pub frames_in : List ℕ → List (List ℕ)
+frames_in bytes = frames_within (length bytes) bytes
+
+abbrev pub framed_seen : Framed → List (List ℕ)
+framed_seen framed = frames_in framed.bytes.now
 
 abbrev pub section_seen : declared.Section → Section
 section_seen (Body document) = body document.now
-section_seen (Named name documents) = named name.now (map (λ d. d.now) documents.items)
+section_seen (Named name documents) = named name.now (framed_seen documents)
 
 -- there is no such thing, or memory was wanting to look for it
 abbrev pub MissedBy : {Y : Type 0} → CloseFault → Option Y → Type 0

@@ -1,23 +1,29 @@
 //! The commands that messages bring.
 
-ghost use Rattle.std.specs.Prelude.{◌≡◌, ◌⊎◌, map};
+ghost use Rattle.std.specs.Prelude.{◌≡◌, ◌⊎◌, List, map, Ok};
+ghost use Rattle.dv_value.specs.Tree.{Field};
+ghost use Rattle.dv_command.specs.Asked.{command_name};
+ghost use Rattle.dv_command.specs.Lists.{CommandLists};
 ghost use Rattle.dv_command.specs.ListsView.{list_seen};
+ghost use Rattle.dv_command.specs.Needed.{needed};
 ghost use Rattle.dv_message.specs.Commands as brings;
-ghost use Rattle.dv_message.specs.CommandsView.{ReadAs};
-ghost use Rattle.dv_message.specs.Sections as wire;
-ghost use Rattle.dv_message.specs.SectionsView.{section_seen};
+ghost use Rattle.dv_message.specs.CommandsView.{ReadAs, front_read, list_front, needed_read};
+ghost use Rattle.dv_message.specs.SectionsView.{framed_seen, section_seen};
 
-use crate::sections::Section;
+use crate::framed::Framed;
+use crate::sections::{Section, cut_at_zero};
 use crate::shapes::Shapes;
-use dv_bson::read_document_like;
-use dv_command::{Command, DocumentList, DocumentLists};
+use dv_bson::{check_document, read_document_like};
+use dv_command::{Command, DocumentList, DocumentLists, documents_needed};
 use dv_value::{BsonFault, Document, Str};
 use std::alloc::Global;
 
-/// The command that a message's sections bring, or the first fault in their documents; or that memory is wanting to
-/// read them. Documents of the given shapes share their names.
-pub fn command_in(alloc: Global, sections: &[Section<'_>], shapes: &Shapes) -> Command
-    ensures { (brings.command_from (brings.read_in (map section_seen sections.now)) ≡ result) ⊎ (result ≡ Command.Invalid BsonFault.NoMemory) }
+/// The command that a message's sections bring, with no more of its lists than it needs, or the first fault in all of their
+/// documents; or that memory is wanting to read them. Documents of the given shapes share their names. The shapes of these
+/// documents are kept where it is time for others, each before what stands behind it is read: so no memory is left behind a
+/// large message for what was made last.
+pub fn command_in(alloc: Global, sections: &[Section<'_>], shapes: &mut Shapes) -> Command
+    ensures { (needed (brings.command_from (brings.read_in (map section_seen sections.now))) ≡ result) ⊎ (result ≡ Command.Invalid BsonFault.NoMemory) }
 {
     match read_sections(alloc, sections, shapes) {
         Ok(read) => Command::Sections {
@@ -35,37 +41,81 @@ struct Read {
     lists: Vec<DocumentList>,
 }
 
-/// Reads the documents of sections in their order, to the first fault.
+/// Reads the documents of sections in their order, to the first fault, and keeps those that the command needs.
 fn read_sections(
     alloc: Global,
     sections: &[Section<'_>],
-    shapes: &Shapes,
+    shapes: &mut Shapes,
 ) -> Result<Read, BsonFault>
-    ensures { ReadAs (λ read. (read.body, map list_seen read.lists.items)) result (brings.read_in (map section_seen sections.now)) }
+    ensures { ReadAs (λ read. Command.Sections read.body (map list_seen read.lists.items)) result (needed_read (brings.read_in (map section_seen sections.now))) }
 {
+    let command = command_name_in(sections);
     let mut body = Document::new(alloc);
     let mut lists = Vec::new(alloc);
     'sections: for section in sections {
         match section {
-            Section::Body(document) => body = read_one(alloc, document, shapes.body())?,
+            Section::Body(document) => body = read_body(alloc, document, shapes)?,
             Section::Named { name, documents } => {
-                lists.push(read_list(alloc, name, documents, shapes.listed())?)?
+                let most = documents_needed(command, name);
+                lists.push(read_list(alloc, name, *documents, most, shapes)?)?
             }
         }
     }
     Ok(Read { body, lists })
 }
 
-/// Reads the documents that stand under a name. They are likely to be `like` this one.
+/// The name of the command that the sections bring, if their documents can be read: it stands in front of the body, which
+/// may follow the lists.
+fn command_name_in<'a>(sections: &'a [Section<'_>]) -> &'a str
+    ensures { (body : List Field) (lists : CommandLists) → brings.read_in (map section_seen sections.now) ≡ Ok (body, lists) → result.now ≡ command_name body }
+{
+    let mut name = "";
+    'sections: for section in sections {
+        match section {
+            Section::Body(document) => name = first_name_in(document),
+            Section::Named { .. } => {}
+        }
+    }
+    name
+}
+
+/// The name of the first field of the document that the bytes begin with, if it can be read; empty where it has no field.
+fn first_name_in(document: &[u8]) -> &str
+    ensures { (fields : List Field) → brings.fields_in document.now ≡ Ok fields → result.now ≡ command_name fields }
+{
+    // Behind the length stands the type of the first field, or the zero that closes the document.
+    if document.len() < 6 || document[4] == 0 {
+        return "";
+    }
+    let Some((name, _)) = cut_at_zero(&document[5..]) else {
+        return "";
+    };
+    match str::from_utf8(name) {
+        Ok(name) => name,
+        Err(_) => "",
+    }
+}
+
+/// Reads a body, and looks at its shape.
+fn read_body(alloc: Global, document: &[u8], shapes: &mut Shapes) -> Result<Document, BsonFault>
+    ensures { ReadAs (λ read. read) result (brings.fields_in document.now) }
+{
+    let body = read_one(alloc, document, shapes.body())?;
+    shapes.keep_body(alloc, &body);
+    Ok(body)
+}
+
+/// Reads the documents that stand under a name, and keeps the first of them, at most so many.
 fn read_list(
     alloc: Global,
     name: &str,
-    documents: &[&[u8]],
-    like: &Document,
+    documents: Framed<'_>,
+    most: usize,
+    shapes: &mut Shapes,
 ) -> Result<DocumentList, BsonFault>
-    ensures { ReadAs (λ list. brings.brought_list list.name list.documents.items) result (brings.brought_by (wire.named name.now (map (λ d. d.now) documents.now))) }
+    ensures { ReadAs list_seen result (list_front name.now most (framed_seen documents.entry)) }
 {
-    let documents = read_each(alloc, documents, like)?;
+    let documents = read_each(alloc, documents, most, shapes)?;
     let name = String::from_str(alloc, name)?;
     Ok(DocumentList {
         name: Str::of(name),
@@ -73,19 +123,46 @@ fn read_list(
     })
 }
 
-/// Reads documents in their order, to the first fault. They are likely to be `like` this one.
+/// Reads documents in their order, to the first fault, and keeps the first of them, at most so many. Of the others nothing is
+/// made.
 fn read_each(
     alloc: Global,
-    documents: &[&[u8]],
-    like: &Document,
+    documents: Framed<'_>,
+    most: usize,
+    shapes: &mut Shapes,
 ) -> Result<Vec<Document>, BsonFault>
-    ensures { ReadAs (λ read. read.items) result (brings.each_read brings.fields_in (map (λ d. d.now) documents.now)) }
+    ensures { ReadAs (λ read. read.items) result (front_read most (framed_seen documents.entry)) }
 {
     let mut read = Vec::new(alloc);
-    'documents: for document in documents {
-        read.push(read_one(alloc, document, like)?)?;
+    let mut rest = documents;
+    'documents: while let Some((document, others)) = rest.split_first() {
+        if read.len() < most {
+            let document = read_next(alloc, document, read.last(), shapes)?;
+            read.push(document)?;
+        } else {
+            check_document(alloc, document)?;
+        }
+        rest = others;
     }
     Ok(read)
+}
+
+/// Reads the next document of a list, which is likely to be like the one before it, and the first one like the shape that is
+/// kept, at which it looks.
+fn read_next(
+    alloc: Global,
+    document: &[u8],
+    before: Option<&Document>,
+    shapes: &mut Shapes,
+) -> Result<Document, BsonFault>
+    ensures { ReadAs (λ read. read) result (brings.fields_in document.now) }
+{
+    if let Some(before) = before {
+        return read_one(alloc, document, before);
+    }
+    let first = read_one(alloc, document, shapes.listed())?;
+    shapes.keep_listed(alloc, &first);
+    Ok(first)
 }
 
 /// Reads the document that the bytes begin with. Where it has the names of `like`, it shares them.

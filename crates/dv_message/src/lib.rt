@@ -3,6 +3,7 @@
 
 mod commands;
 mod fault;
+mod framed;
 mod front;
 pub mod laws;
 mod reply;
@@ -11,6 +12,7 @@ mod shapes;
 
 pub use commands::command_in;
 pub use fault::CloseFault;
+pub use framed::Framed;
 pub use front::{Front, Message, front_length, front_of};
 pub use reply::append_reply;
 pub use sections::Section;

@@ -6,6 +6,7 @@ ghost use Rattle.dv_message.specs.Sections as wire;
 ghost use Rattle.dv_message.specs.SectionsView.{FoundAs, section_seen};
 
 use crate::fault::CloseFault;
+use crate::framed::{Framed, frame_at};
 use dv_value::NoMemory;
 use std::alloc::Global;
 use std::collections::BTreeSet;
@@ -15,10 +16,10 @@ use std::collections::BTreeSet;
 pub enum Section<'a> {
     /// Kind 0: the bytes of the document that is the message's body.
     Body(&'a [u8]),
-    /// Kind 1: a name, and the bytes of each document that stands under it.
+    /// Kind 1: a name, and the documents that stand under it.
     Named {
         name: &'a str,
-        documents: Vec<&'a [u8]>,
+        documents: Framed<'a>,
     },
 }
 
@@ -44,7 +45,9 @@ fn row_of_sections(alloc: Global, bytes: &[u8]) -> Result<Vec<Section<'_>>, Clos
     let mut sections = Vec::new(alloc);
     let mut rest = bytes;
     'sections: while !rest.is_empty() {
-        let (section, following) = section_at(alloc, rest)?;
+        let Some((section, following)) = section_at(rest) else {
+            return Err(CloseFault::BadSection);
+        };
         sections.push(section)?;
         rest = following;
     }
@@ -53,78 +56,43 @@ fn row_of_sections(alloc: Global, bytes: &[u8]) -> Result<Vec<Section<'_>>, Clos
 
 /// The section at the front of the bytes, and what follows it.
 #[tactic(auto, unfolding(crate::specs::Sections::section_at))]
-fn section_at(alloc: Global, bytes: &[u8]) -> Result<(Section<'_>, &[u8]), CloseFault>
-    ensures { FoundAs (λ found. (section_seen found.0, found.1.now)) result (wire.section_at bytes.now) }
+fn section_at(bytes: &[u8]) -> Option<(Section<'_>, &[u8])>
+    ensures { option_map (λ found. (section_seen found.0, found.1.now)) result ≡ wire.section_at bytes.now }
 {
     let [kind, behind @ ..] = bytes else {
-        return Err(CloseFault::BadSection);
+        return None;
     };
-    let Some((frame, following)) = frame_at(behind) else {
-        return Err(CloseFault::BadSection);
-    };
-    let section = section_of(alloc, *kind, frame)?;
-    Ok((section, following))
+    let (frame, following) = frame_at(behind)?;
+    let section = section_of(*kind, frame)?;
+    Some((section, following))
 }
 
 /// The section of this kind that the framed bytes behind it make.
-fn section_of(alloc: Global, kind: u8, frame: &[u8]) -> Result<Section<'_>, CloseFault>
+fn section_of(kind: u8, frame: &[u8]) -> Option<Section<'_>>
     requires { 4 ≤ length frame.now }
-    ensures { FoundAs section_seen result (wire.section_of kind frame.now) }
+    ensures { option_map section_seen result ≡ wire.section_of kind frame.now }
 {
     match kind {
-        0 => Ok(Section::Body(frame)),
-        1 => named_in(alloc, &frame[4..]),
-        _ => Err(CloseFault::BadSection),
+        0 => Some(Section::Body(frame)),
+        1 => named_in(&frame[4..]),
+        _ => None,
     }
 }
 
 /// The name that ends with the first zero, and the documents behind it.
-fn named_in(alloc: Global, bytes: &[u8]) -> Result<Section<'_>, CloseFault>
-    ensures { FoundAs section_seen result (wire.section_named (bson.cut_at_zero bytes.now)) }
+fn named_in(bytes: &[u8]) -> Option<Section<'_>>
+    ensures { option_map section_seen result ≡ wire.section_named (bson.cut_at_zero bytes.now) }
 {
-    let Some((name, behind)) = cut_at_zero(bytes) else {
-        return Err(CloseFault::BadSection);
-    };
-    let documents = documents_in(alloc, behind)?;
+    let (name, behind) = cut_at_zero(bytes)?;
+    let documents = Framed::of(behind)?;
     match str::from_utf8(name) {
-        Ok(name) => Ok(Section::Named { name, documents }),
-        Err(_) => Err(CloseFault::BadSection),
+        Ok(name) => Some(Section::Named { name, documents }),
+        Err(_) => None,
     }
-}
-
-/// The documents, one behind the other, that the bytes are.
-fn documents_in(alloc: Global, bytes: &[u8]) -> Result<Vec<&[u8]>, CloseFault>
-    ensures { FoundAs (λ documents. map (λ d. d.now) documents.items) result (wire.section_documents bytes.now) }
-{
-    let mut documents = Vec::new(alloc);
-    let mut rest = bytes;
-    'documents: while !rest.is_empty() {
-        let Some((document, behind)) = frame_at(rest) else {
-            return Err(CloseFault::BadSection);
-        };
-        documents.push(document)?;
-        rest = behind;
-    }
-    Ok(documents)
-}
-
-/// What a length at the front, at least 5, frames, itself included; and what follows it.
-#[tactic(auto, unfolding(crate::specs::Sections::section_frame))]
-fn frame_at(bytes: &[u8]) -> Option<(&[u8], &[u8])>
-    ensures { option_map (λ parts. (parts.0.now, parts.1.now)) result ≡ wire.section_frame bytes.now }
-{
-    if bytes.len() < 5 {
-        return None;
-    }
-    let length = number_behind(0, bytes) as usize;
-    if length < 5 || bytes.len() < length {
-        return None;
-    }
-    Some(bytes.split_at(length))
 }
 
 /// The bytes before the first zero, and those behind it.
-fn cut_at_zero(bytes: &[u8]) -> Option<(&[u8], &[u8])>
+pub(crate) fn cut_at_zero(bytes: &[u8]) -> Option<(&[u8], &[u8])>
     ensures { option_map (λ parts. (parts.0.now, parts.1.now)) result ≡ bson.cut_at_zero bytes.now }
 {
     let end = first_zero_in(bytes)?;

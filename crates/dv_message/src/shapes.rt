@@ -1,6 +1,5 @@
 //! The shapes of a session's documents: their names.
 
-use dv_command::Command;
 use dv_value::{BsonFault, Document, List, Value, size};
 use std::alloc::Global;
 
@@ -42,15 +41,14 @@ impl Shapes {
         &self.listed.names
     }
 
-    /// Looks at the documents of a command, and keeps their shapes where it is time for others.
-    pub fn keep(&mut self, alloc: Global, command: &Command) {
-        let Command::Sections { body, lists } = command else {
-            return;
-        };
+    /// Looks at a body, and keeps its shape where it is time for another one.
+    pub(crate) fn keep_body(&mut self, alloc: Global, body: &Document) {
         self.body.keep(alloc, body);
-        if let Some(document) = lists.first() {
-            self.listed.keep(alloc, document);
-        }
+    }
+
+    /// Looks at a document in a list beside a body, and keeps its shape where it is time for another one.
+    pub(crate) fn keep_listed(&mut self, alloc: Global, document: &Document) {
+        self.listed.keep(alloc, document);
     }
 }
 

@@ -1,21 +1,22 @@
 -- What carrying out one message answers.
-use Rattle.std.proofs.Common.{true, ◌≡◌, ℕ, ◌<◌, ◌⊎◌, List, [], ◌∷◌, ◌++◌, length, Some, Result, Ok, Err, refl, sym, ap, ◌∙◌, arith, inl, inr}
+use Rattle.std.proofs.Common.{true, ◌≡◌, ℕ, ◌<◌, ◌⊎◌, List, [], ◌∷◌, ◌++◌, length, Some, Result, Ok, Err, refl, sym, ap, subst, ◌∙◌, arith, inl, inr}
 use Rattle.std.specs.Prelude.{⊤}
 use Rattle.std.proofs.lemmas.List.{append-nil}
 use Rattle.dv_value.specs.declared.fault.BsonFault.TheVariants as bson
 use Rattle.dv_catalog.specs.Marks.{Marks}
+use Rattle.dv_value.specs.Results.{◌>>=◌}
 use Rattle.dv_command.specs.Asked.{Asked, asked_by}
 use Rattle.dv_command.specs.declared.command.Command.{Command}
 use Rattle.dv_command.specs.declared.command.Command.TheVariants.{Invalid}
 use Rattle.dv_fields.specs.declared.refusal.Refusal.{Refusal}
 use Rattle.dv_fields.specs.declared.refusal.Refusal.TheVariants.{WantOfMemory}
-use Rattle.dv_core.specs.Marks.{AreMarkedForWant}
+use Rattle.dv_core.specs.Marks.{AreMarkedAll, AreMarkedForWant}
 use Rattle.dv_core.specs.declared.outcome.Outcome.{Outcome}
 use Rattle.dv_core.specs.declared.outcome.Outcome.TheVariants.{Reply, Wanting, NoReply}
 use Rattle.dv_core.specs.State.{State, standing}
 use Rattle.dv_message.specs.declared.fault.CloseFault.TheVariants.{NoMemory}
 use Rattle.dv_message.specs.Message.{Message, message_spelling, Conversation, reading, closed}
-use Rattle.dv_core.specs.Step.{Answer, MemoryStep, TellsOfWant, answered, counted_step, end_session, step}
+use Rattle.dv_core.specs.Step.{Answer, Cut, MemoryStep, TellsOfWant, answer_to, answered, counted_step, end_session, step}
 use Rattle.dv_wire.specs.Schedule.{Run, in_front, silence, unanswered, bytes_to, CarriesOutMessages, CarriesOutBy, SessionSteps, plain_messages}
 use Rattle.dv_message.specs.Commands.{command_of}
 use Rattle.dv_wire.specs.declared.session.Counts.{Counts}
@@ -47,6 +48,23 @@ pub steps_as : (session : ℕ) (old new : State) (meant read : Command) (outcome
     → MemoryStep old session read outcome new → (read ≡ Invalid bson.NoMemory → TellsOfWant outcome) → MemoryStep old session meant outcome new
 steps_as session old new meant read outcome (inl e) steps told = rw e steps
 steps_as session old new meant read outcome (inr e) steps told = steps_unread session old new meant outcome (rw e at steps) (told e)
+
+-- the answers of a command for which memory is wanting, by what it asks
+abbrev WantsAsked : State → Result Asked Refusal → Answer → Marks → Type 0
+WantsAsked old asked answer marks = ((answer ≡ answered old (Err WantOfMemory)) × AreMarkedForWant old asked marks) ⊎ Cut old asked answer marks
+
+-- commands that ask the same come to the same
+pub steps_alike : (session : ℕ) (old new : State) (meant read : Command) (outcome : Outcome) → asked_by meant ≡ asked_by read → MemoryStep old session read outcome new → MemoryStep old session meant outcome new
+steps_alike session old new meant read (Reply reply) same steps =
+    let answer : Answer = record { reply = reply; state = standing old.marks new } in
+    subst (λ (asked : Result Asked Refusal). (answered old (asked >>= answer_to old session) ≡ answer) × AreMarkedAll old asked new.marks) (sym same) steps
+steps_alike session old new meant read (Wanting reply) same steps =
+    let answer : Answer = record { reply = reply; state = standing old.marks new } in
+    subst (λ (asked : Result Asked Refusal). WantsAsked old asked answer new.marks) (sym same) steps
+steps_alike session old new meant read NoReply same steps =
+    subst (λ (asked : Result Asked Refusal).
+    ((standing old.marks new ≡ (answered old (asked >>= answer_to old session)).state) × AreMarkedAll old asked new.marks)
+    ⊎ ((answer : Answer) × WantsAsked old asked answer new.marks × (standing old.marks new ≡ answer.state))) (sym same) steps
 
 -- ---- one message
 

@@ -236,9 +236,7 @@ fn step(
 ) -> Outcome
     ensures { MemoryStep store.old session (command_of (message_seen message.now)) result store.new }
 {
+    dv_command::laws::a_command_needs_no_more();
     let command = command_in(alloc, &message.sections, shapes);
-    let outcome = store.execute(session, &command);
-    // Behind the command, so that documents that it stored could take the names of their neighbours.
-    shapes.keep(alloc, &command);
-    outcome
+    store.execute(session, &command)
 }

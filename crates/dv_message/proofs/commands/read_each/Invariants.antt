@@ -1,6 +1,10 @@
-use Rattle.std.proofs.Common.{◌≡◌, Ok, map, take}
-use Rattle.dv_message.specs.Commands.{fields_in, each_read}
+use Rattle.std.proofs.Common.{length}
+use Rattle.dv_message.specs.SectionsView.{framed_seen}
+use Rattle.dv_message.proofs.Reading.{KeepsFront}
 use Rattle.dv_message.proofs.commands.read_each.Given as goal
 
 abbrev pub invariant-documents : goal.invariant-documents
-invariant-documents l = each_read fields_in (map (λ d. d.now) (take l.document-index l.documents)) ≡ Ok l.read.items
+invariant-documents l = KeepsFront l.most (framed_seen l.documents) (framed_seen l.rest) l.read.items
+
+abbrev pub decreases-documents : goal.decreases-documents
+decreases-documents l = length (framed_seen l.rest)

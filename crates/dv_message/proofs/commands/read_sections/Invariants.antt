@@ -1,8 +1,8 @@
 use Rattle.std.proofs.Common.{map, take}
 use Rattle.dv_command.specs.ListsView.{list_seen}
 use Rattle.dv_message.specs.SectionsView.{section_seen}
-use Rattle.dv_message.proofs.Brought.{AreRead}
+use Rattle.dv_message.proofs.Brought.{AreKept}
 use Rattle.dv_message.proofs.commands.read_sections.Given as goal
 
 abbrev pub invariant-sections : goal.invariant-sections
-invariant-sections l = AreRead (map section_seen (take l.section-index l.sections)) l.body (map list_seen l.lists.items)
+invariant-sections l = AreKept l.command (map section_seen (take l.section-index l.sections)) l.body (map list_seen l.lists.items)

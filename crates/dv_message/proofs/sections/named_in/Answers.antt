@@ -6,10 +6,10 @@ use Rattle.dv_message.proofs.sections.named_in.Goals as goal
 
 pub returns-in-Ok : goal.returns-in-Ok
 returns-in-Ok c =
-    ap section_named (sym c.in-Some.ensures) ∙ ap (section_under c.in-Some.name.now) c.in_ok-documents.ensures
-    ∙ rw (is_utf8-from_IsUtf8 c.in-Some.name.now c.in-Ok.ensures.cases.1, c.in-Ok.ensures.cases.0) refl
+    sym (ap section_named (sym c.in_ok-name.ensures) ∙ ap (section_under c.in_ok-name.name.now) (sym c.in_ok-documents.ensures)
+    ∙ rw (is_utf8-from_IsUtf8 c.in_ok-name.name.now c.in-Ok.ensures.cases.1, c.in-Ok.ensures.cases.0) refl)
 
-pub returns : goal.returns
-returns c =
-    ap section_named (sym c.in-Some.ensures) ∙ ap (section_under c.in-Some.name.now) c.in_ok-documents.ensures
-    ∙ rw (is_utf8-false c.in-Some.name.now c.in-Err.ensures.cases.0) refl
+pub returns-in-Err : goal.returns-in-Err
+returns-in-Err c =
+    sym (ap section_named (sym c.in_ok-name.ensures) ∙ ap (section_under c.in_ok-name.name.now) (sym c.in_ok-documents.ensures)
+    ∙ rw (is_utf8-false c.in_ok-name.name.now c.in-Err.ensures.cases.0) refl)

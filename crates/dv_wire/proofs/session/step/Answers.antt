@@ -1,9 +1,13 @@
+use Rattle.std.proofs.Common.{sym}
+use Rattle.dv_command.specs.Needed.{needed}
 use Rattle.dv_message.specs.Commands.{command_of}
 use Rattle.dv_message.specs.View.{message_seen}
-use Rattle.dv_wire.proofs.Replies.{steps_as}
+use Rattle.dv_wire.proofs.Replies.{steps_alike, steps_as}
 use Rattle.dv_wire.proofs.session.step.Goals as goal
 
 pub returns : goal.returns
 returns c =
-    steps_as c.args.session c.args.store.now c.execute-outcome.new.self (command_of (message_seen c.args.message.now)) c.command_in-command.result c.execute-outcome.result
-    (rw c.deref.ensures.value at c.command_in-command.ensures) c.execute-outcome.ensures.step c.execute-outcome.ensures.unread
+    let meant = command_of (message_seen c.args.message.now) in
+    steps_alike c.args.session c.args.store.now c.execute.new.self meant (needed meant) c.execute.result (sym (c.a_command_needs_no_more.ensures meant))
+    (steps_as c.args.session c.args.store.now c.execute.new.self (needed meant) c.command_in-command.result c.execute.result
+    (rw c.deref.ensures.value at c.command_in-command.ensures) c.execute.ensures.step c.execute.ensures.unread)
