@@ -5,5 +5,5 @@ use Rattle.dv_wire.proofs.session.step.Goals as goal
 
 pub returns : goal.returns
 returns c =
-    steps_as c.args.session c.args.store.now c.execute-outcome.new.self (command_of (message_seen c.args.message.now)) c.command_in-command.result c.execute-outcome.result
-    (rw c.deref.ensures.value at c.command_in-command.ensures) c.execute-outcome.ensures.step c.execute-outcome.ensures.unread
+    steps_as c.args.session c.args.store.now c.execute-outcome.new.self (command_of (message_seen c.args.message.now)) c.read-command.result c.execute-outcome.result c.read-command.ensures.command
+    (rw c.read-command.ensures.store at c.execute-outcome.ensures.step) c.execute-outcome.ensures.unread
