@@ -1,23 +1,28 @@
 //! One session: its bytes, and its messages one after the other.
 
-ghost use Rattle.std.specs.Prelude.{◌≡◌, ◌≤◌, ◌++◌, IfOk, length, drop, vec_len};
+ghost use Rattle.std.specs.Prelude.{◌≡◌, ◌≤◌, ◌⊎◌, ◌∷◌, ◌++◌, IfOk, OnErr, OnOk, length, drop, vec_len};
+ghost use Rattle.dv_value.specs.Spelling.{spelling};
+ghost use Rattle.dv_command.specs.Needed.{needed};
 ghost use Rattle.dv_message.specs.Commands.{command_of};
 ghost use Rattle.dv_wire.specs.Schedule.{TakesSplit, bytes_to};
 ghost use Rattle.dv_core.specs.Step.{MemoryStep};
-ghost use Rattle.dv_message.specs.Message.{split};
-ghost use Rattle.dv_message.specs.View.{message_seen};
+ghost use Rattle.dv_message.specs.Message.{message_spelling, split, stream_front};
+ghost use Rattle.dv_message.specs.View.{front_seen, message_seen};
 ghost use Rattle.dv_wire.specs.View.{kept_or_closed, left_or_closed, bytes_seen, Answered, Carries};
 
 use crate::hub::Fed;
-use dv_core::{Outcome, Store};
+use dv_core::{Command, Outcome, Store};
 use dv_message::{
     CloseFault, Front, Message, Shapes, append_reply, command_in, front_length, front_of, laws,
 };
-use dv_value::{Document, NoMemory};
+use dv_value::{BsonFault, Document, NoMemory};
 use std::alloc::{AllocError, Global};
 
 /// The most room that is kept for bytes to come, once a session's messages are done and its replies written.
 pub(crate) const ROOM_KEPT: usize = 262_144;
+
+/// The longest unfinished message for which the store's reserve is given back.
+const SHORT: usize = 65_536;
 
 /// How many messages were carried out and how many replies were sent, each at most `u64::MAX`.
 #[derive(Clone, Copy)]
@@ -141,10 +146,25 @@ fn take_in(
 ) -> Result<(), CloseFault>
     ensures { Answered out.old.items out.new.items counts.old counts.new (λ answers. TakesSplit session store.old (split (kept.old.items ++ piece.now)) (record { answers = answers; state = store.new; conversation = kept_or_closed result kept.new.items })) }
 {
-    kept.extend_from_slice(piece)?;
+    keep(store, kept, piece)?;
     let taken = carry_out_all(alloc, store, session, shapes, kept, out, counts)?;
     drop_front(kept, taken);
     Ok(())
+}
+
+/// Appends a piece to the bytes that a session keeps. Where memory is wanting, the store's reserve is given back for them, unless
+/// they are many. Fails where it is wanting still.
+fn keep(store: &mut Store, kept: &mut Vec<u8>, piece: &[u8]) -> Result<(), NoMemory>
+    ensures kept { OnOk result (kept.new.items ≡ kept.old.items ++ piece.now) }
+    ensures store { store.new ≡ store.old }
+{
+    if kept.extend_from_slice(piece).is_ok() {
+        return Ok(());
+    }
+    if kept.len().saturating_add(piece.len()) <= SHORT {
+        store.give_back();
+    }
+    kept.extend_from_slice(piece)
 }
 
 /// Drops the first bytes, and moves the others only where some are dropped. The room that a great message took is
@@ -176,7 +196,7 @@ fn carry_out_all(
     laws::streams_split_by_their_fronts();
     let mut rest = stream;
     'messages: loop {
-        match front_of(alloc, rest) {
+        match front(alloc, store, rest) {
             Front::Unfinished => return Ok(stream.len() - rest.len()),
             Front::Closing(fault) => return Err(fault),
             Front::Whole {
@@ -188,6 +208,19 @@ fn carry_out_all(
             }
         }
     }
+}
+
+/// Looks at the front of a stream. Where memory is wanting, the store's reserve is given back for that.
+fn front<'a>(alloc: Global, store: &mut Store, stream: &'a [u8]) -> Front<'a>
+    ensures front { (front_seen result ≡ stream_front stream.now) ⊎ (result ≡ Front.Closing CloseFault.NoMemory) }
+    ensures store { store.new ≡ store.old }
+{
+    let seen = front_of(alloc, stream);
+    if !matches!(seen, Front::Closing(CloseFault::NoMemory)) {
+        return seen;
+    }
+    store.give_back();
+    front_of(alloc, stream)
 }
 
 /// Carries out a message, appends its reply, and counts them. An error says that memory is wanting for the reply, or
@@ -206,7 +239,7 @@ fn carry_out(
     let outcome = step(alloc, store, session, shapes, message);
     counts.messages = counts.messages.saturating_add(1);
     if let Some(reply) = reply_to(message, outcome)? {
-        append_reply(message.request_id, &reply, out)?;
+        send(store, message.request_id, &reply, out)?;
         counts.replies = counts.replies.saturating_add(1);
     }
     Ok(())
@@ -226,6 +259,44 @@ fn reply_to(message: &Message<'_>, outcome: Outcome) -> Result<Option<Document>,
     }
 }
 
+/// Appends the reply to a request. Where memory is wanting, the store's reserve is given back for it; where it is wanting still,
+/// nothing is appended.
+fn send(
+    store: &mut Store,
+    request_id: u32,
+    reply: &Document,
+    out: &mut Vec<u8>,
+) -> Result<(), NoMemory>
+    ensures ok { OnOk result (out.new.items ≡ out.old.items ++ message_spelling 0 request_id 0 (0 ∷ spelling reply.now)) }
+    ensures err { OnErr result (out.new.items ≡ out.old.items) }
+    ensures store { store.new ≡ store.old }
+{
+    if append_reply(request_id, reply, out).is_ok() {
+        return Ok(());
+    }
+    store.give_back();
+    append_reply(request_id, reply, out)
+}
+
+/// The command that a message's sections bring, with no more of its lists than it needs, or that memory is wanting to read it,
+/// also with the store's reserve.
+fn read(
+    alloc: Global,
+    store: &mut Store,
+    shapes: &mut Shapes,
+    message: &Message<'_>,
+) -> Command
+    ensures command { (needed (command_of (message_seen message.now)) ≡ result) ⊎ (result ≡ Command.Invalid BsonFault.NoMemory) }
+    ensures store { store.new ≡ store.old }
+{
+    let command = command_in(alloc, &message.sections, shapes);
+    if !matches!(command, Command::Invalid(BsonFault::NoMemory)) {
+        return command;
+    }
+    store.give_back();
+    command_in(alloc, &message.sections, shapes)
+}
+
 /// Carries out the command that a message's sections bring.
 fn step(
     alloc: Global,
@@ -237,6 +308,6 @@ fn step(
     ensures { MemoryStep store.old session (command_of (message_seen message.now)) result store.new }
 {
     dv_command::laws::a_command_needs_no_more();
-    let command = command_in(alloc, &message.sections, shapes);
+    let command = read(alloc, store, shapes, message);
     store.execute(session, &command)
 }

@@ -13,18 +13,19 @@ returns-in_err-reply c =
     (is_closed c.args.session c.args.store.now c.step-outcome.new.store (message_seen c.args.message.now) c.step-outcome.result c.step-outcome.ensures _ _ _ _ refl
     (Counted-unanswered _ _ c.saturating_add-counts.ensures refl))
 
-pub returns-in_err-append_reply : goal.returns-in_err-append_reply
-returns-in_err-append_reply c =
-    let p = err_from_is_err_and c.from_residual-in_err-append_reply.result c.from_residual-in_err-append_reply.ensures.1 in
-    rw p.1
+pub returns-in_err-send : goal.returns-in_err-send
+returns-in_err-send c =
+    let p = err_from_is_err_and c.from_residual-in_err-send.result c.from_residual-in_err-send.ensures.1 in
+    rw (p.1, c.in_err-send.ensures.store)
     (is_closed c.args.session c.args.store.now c.step-outcome.new.store (message_seen c.args.message.now) c.step-outcome.result c.step-outcome.ensures _ _ _ _
-    c.in_err-append_reply.ensures.err (Counted-unanswered _ _ c.saturating_add-counts.ensures refl))
+    c.in_err-send.ensures.err (Counted-unanswered _ _ c.saturating_add-counts.ensures refl))
 
-pub returns-in_ok-append_reply : goal.returns-in_ok-append_reply
-returns-in_ok-append_reply c =
-    is_answered c.args.session c.args.store.now c.step-outcome.new.store (message_seen c.args.message.now) c.step-outcome.result c.step-outcome.ensures _ _ _ _ _
-    (sym (rw c.in-Some.is at c.in_ok-reply.ensures)) c.in_ok-append_reply.ensures.ok
-    (Counted-answered _ _ _ c.saturating_add-counts.ensures c.saturating_add-counts-in-Some.ensures (message_spelling-some 0 _ 0 _))
+pub returns-in_ok-send : goal.returns-in_ok-send
+returns-in_ok-send c =
+    rw c.in_ok-send.ensures.store
+    (is_answered c.args.session c.args.store.now c.step-outcome.new.store (message_seen c.args.message.now) c.step-outcome.result c.step-outcome.ensures _ _ _ _ _
+    (sym (rw c.in-Some.is at c.in_ok-reply.ensures)) c.in_ok-send.ensures.ok
+    (Counted-answered _ _ _ c.saturating_add-counts.ensures c.saturating_add-counts-in-Some.ensures (message_spelling-some 0 _ 0 _)))
 
 pub returns-in_default : goal.returns-in_default
 returns-in_default c =

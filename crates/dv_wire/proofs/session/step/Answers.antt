@@ -9,5 +9,5 @@ pub returns : goal.returns
 returns c =
     let meant = command_of (message_seen c.args.message.now) in
     steps_alike c.args.session c.args.store.now c.execute.new.self meant (needed meant) c.execute.result (sym (c.a_command_needs_no_more.ensures meant))
-    (steps_as c.args.session c.args.store.now c.execute.new.self (needed meant) c.command_in-command.result c.execute.result
-    (rw c.deref.ensures.value at c.command_in-command.ensures) c.execute.ensures.step c.execute.ensures.unread)
+    (steps_as c.args.session c.args.store.now c.execute.new.self (needed meant) c.read-command.result c.execute.result c.read-command.ensures.command
+    (rw c.read-command.ensures.store at c.execute.ensures.step) c.execute.ensures.unread)

@@ -6,16 +6,16 @@ use Rattle.dv_wire.proofs.Counting.{Counted-none}
 use Rattle.dv_wire.proofs.session.take_in.Goals as goal
 
 -- no message is carried out
-pub returns-in_err-extend_from_slice : goal.returns-in_err-extend_from_slice
-returns-in_err-extend_from_slice c =
+pub returns-in_err-keep : goal.returns-in_err-keep
+returns-in_err-keep c =
     let p = err_from_is_err_and c.from_residual.result c.from_residual.ensures.1 in
-    rw (p.1, p.2) ([], sym (append-nil _), Counted-none _, takes_some 0 refl)
+    rw (p.1, p.2, c.in_err-keep.ensures.store) ([], sym (append-nil _), Counted-none _, takes_some 0 refl)
 
 pub returns-in_err-taken : goal.returns-in_err-taken
 returns-in_err-taken c =
     let p = err_from_is_err_and c.from_residual-in_err-taken.result c.from_residual-in_err-taken.ensures.1 in
-    rw (p.1, p.2, ← c.in_ok-extend_from_slice.ensures.items, ← c.deref.ensures.value) c.in_err-taken.ensures.carried
+    rw (p.1, p.2, ← c.in_ok-keep.ensures.kept, ← c.deref.ensures.value) (rw c.in_ok-keep.ensures.store at c.in_err-taken.ensures.carried)
 
 pub returns : goal.returns
 returns c =
-    rw (c.drop_front.ensures, ← c.in_ok-extend_from_slice.ensures.items, ← c.deref.ensures.value) c.in_ok-taken.ensures.carried
+    rw (c.drop_front.ensures, ← c.in_ok-keep.ensures.kept, ← c.deref.ensures.value) (rw c.in_ok-keep.ensures.store at c.in_ok-taken.ensures.carried)
