@@ -1,6 +1,7 @@
 pub mod Through
 pub mod Search
 pub mod InDirection
+pub mod Ahead
 pub mod View
 pub mod Indexed
 pub mod Change

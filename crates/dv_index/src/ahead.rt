@@ -1,18 +1,22 @@
 //! The documents that a path sorts first, found by the index on it.
 
-ghost use Rattle.std.specs.Prelude.{◌≡◌, ◌∷◌, [], ℕ, List as Sequence, map, filter as kept, IfOk, IfSome};
+ghost use Rattle.std.specs.Prelude.{◌≡◌, List as Sequence, map, filter as kept, IfOk, IfSome, IsTrue};
 ghost use Rattle.std.specs.List.{AllByRecursion};
 ghost use Rattle.dv_value.specs.Tree.{Field};
+ghost use Rattle.dv_match.specs.Match.{matches};
 ghost use Rattle.dv_path.specs.Parts.{part};
 ghost use Rattle.dv_keyed.specs.Ahead as defined;
+ghost use Rattle.dv_index.specs.Ahead.{LeadsSomewhere};
 ghost use Rattle.dv_index.specs.Change.{AreIndexesOf};
 ghost use Rattle.dv_index.specs.Search.{IsIndexOf};
 
 use crate::indexes::Indexes;
 use crate::search::documents_of;
+use crate::walk::is_range;
 use dv_candidates::Path;
 use dv_coll::Collection;
-use dv_keyed::{Index, ids_before, same_path};
+use dv_keyed::{Index, Plan, ids_ahead, is_null_ahead, laws, same_path};
+use dv_match::Filter;
 use dv_order::Key;
 use dv_path::SortPart;
 use dv_value::{Document, NoMemory};
@@ -27,18 +31,38 @@ pub struct Ahead<'c> {
     pub bar: &'c Key,
 }
 
-/// The index that has pairs and is on the path, where there is one and the path is a single component: a longer one may lead
-/// to nothing in a document, which then has no key under it.
-pub(crate) fn index_on<'i>(indexes: &'i Indexes, path: &Path) -> Option<&'i Index>
+/// The index by whose order documents are found that a path sorts: the one on the path, where by the plan all documents are
+/// looked at or those in a range of it. The index on `_id`, which has no pairs, is none.
+pub(crate) fn index_in_order<'i>(
+    indexes: &'i Indexes,
+    plan: &Plan<'_>,
+    path: &Path,
+) -> Option<&'i Index>
     ensures indexed { IfSome result (λ index. (ds : Sequence (Sequence Field)) → AreIndexesOf indexes.now ds → IsIndexOf index.now ds) }
     ensures path { IfSome result (λ index. index.now.path ≡ path.now) }
-    ensures single { IfSome result (λ index. (name : Sequence ℕ) × (path.now ≡ name ∷ [])) }
 {
-    let [_] = path.components() else {
+    if !is_in_order(indexes, plan, path) {
         return None;
-    };
+    }
     let (_by_id, others) = indexes.as_slice().split_first()?;
     first_on(others, path)
+}
+
+/// Whether by a plan all documents are looked at, or those in a range of the path.
+fn is_in_order(indexes: &Indexes, plan: &Plan<'_>, path: &Path) -> bool {
+    match plan {
+        Plan::Scan => true,
+        Plan::Index { place, bounds } => match indexes.get(*place) {
+            Some(index) => is_range(bounds) && is_on(index, path),
+            None => false,
+        },
+    }
+}
+
+fn is_on(index: &Index, path: &Path) -> bool
+    ensures { IsTrue result → index.now.path ≡ path.now }
+{
+    same_path(index.path().components(), path.components())
 }
 
 /// The first index that is on the path.
@@ -47,18 +71,38 @@ fn first_on<'i>(indexes: &'i [Index], path: &Path) -> Option<&'i Index>
     ensures indexed { IfSome result (λ index. (ds : Sequence (Sequence Field)) → AllByRecursion (λ x. IsIndexOf x ds) indexes.now → IsIndexOf index.now ds) }
 {
     for index in indexes {
-        if same_path(index.path().components(), path.components()) {
+        if is_on(index, path) {
             return Some(index);
         }
     }
     None
 }
 
-/// The documents among which are all that the path sorts before the bar, in the order of their `_id`s, by the index on it,
-/// unless there are more than `most`. Fails where memory is wanting.
+/// Whether the path leads to something in each document that matches the filter and that it sorts before the bar. Where it
+/// leads nowhere, a document has no key, and is sorted as null: only a path of several components does that, as through an
+/// empty array. Fails where memory is wanting.
+pub(crate) fn leads_somewhere(
+    alloc: Global,
+    filter: &Filter,
+    by: &SortPart,
+    bar: &Key,
+) -> Result<bool, NoMemory>
+    ensures { IfOk result (λ leads. IsTrue leads → LeadsSomewhere filter.now (part by.now) bar.now) }
+{
+    laws::an_only_key_is_in_all_bounds();
+    if let [_] = by.path.components() {
+        return Ok(true);
+    }
+    let is_ahead = is_null_ahead(alloc, &by.path, filter, by.direction, bar)?;
+    Ok(!is_ahead)
+}
+
+/// The documents among which are all that match the filter and that the path sorts before the bar, in the order of their
+/// `_id`s, by the index on it, unless there are more than `most`. Fails where memory is wanting.
 pub(crate) fn candidates_ahead<'c>(
     alloc: Global,
     index: &Index,
+    filter: &Filter,
     by: &SortPart,
     bar: &Key,
     most: usize,
@@ -66,12 +110,13 @@ pub(crate) fn candidates_ahead<'c>(
 ) -> Result<Option<Vec<&'c Document>>, NoMemory>
     requires indexed { IsIndexOf index.now collection.now }
     requires path { index.now.path ≡ by.now.path }
-    requires single { (name : Sequence ℕ) × (by.now.path ≡ name ∷ []) }
-    ensures { IfOk result (λ found. IfSome found (λ documents. kept (defined.is_ahead (part by.now) bar.now) (map (λ d. d.now) documents.items) ≡ kept (defined.is_ahead (part by.now) bar.now) collection.now)) }
+    requires somewhere { LeadsSomewhere filter.now (part by.now) bar.now }
+    ensures { IfOk result (λ found. IfSome found (λ documents. kept (defined.is_ahead (part by.now) bar.now) (kept (matches filter.now) (map (λ d. d.now) documents.items)) ≡ kept (defined.is_ahead (part by.now) bar.now) (kept (matches filter.now) collection.now))) }
 {
+    laws::an_only_key_is_in_all_bounds();
     // The documents ascend by their `_id`s.
     let _ = collection.len();
-    let ids = ids_before(alloc, index.pairs().as_pairs(), by.direction, bar)?;
+    let ids = ids_ahead(alloc, index, filter, by.direction, bar)?;
     if ids.len() > most {
         return Ok(None);
     }

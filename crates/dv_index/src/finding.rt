@@ -6,11 +6,11 @@ ghost use Rattle.dv_path.specs.Parts.{part};
 ghost use Rattle.dv_keyed.specs.Ahead.{is_ahead};
 ghost use Rattle.dv_index.specs.InDirection.{in_direction};
 
-use crate::ahead::{Ahead, candidates_ahead, index_on};
+use crate::ahead::{Ahead, candidates_ahead, index_in_order, leads_somewhere};
 use crate::indexed::IndexedCollection;
 use crate::search::{all_matching, run, run_first};
 use crate::walk::{is_walk, walked};
-use dv_keyed::{Plan, Planner};
+use dv_keyed::{Planner, bar_behind};
 use dv_match::Filter;
 use dv_path::{Direction, SortPart};
 use dv_value::{Document, NoMemory};
@@ -84,9 +84,9 @@ impl IndexedCollection {
 
     /// Documents that match the filter, and a bar: among them are all that match and that a path sorts before the bar. They
     /// are found by the order of the index on the path, which has `least` documents or more before the bar, some of which may
-    /// not match. `None` where the filter is answered by an index, where the path has several components or no index but that
-    /// on `_id`, where no key stands behind so many, and where more than one of 16 documents would be looked up. Fails where
-    /// memory is wanting.
+    /// not match; of a filter that is answered by a range of the path, those in the range. `None` where the filter is answered
+    /// by another index, where the path has no index but that on `_id`, where the path may lead nowhere before the bar, where
+    /// no key stands behind so many, and where more than one of 16 documents would be looked up. Fails where memory is wanting.
     pub fn find_ahead(
         &self,
         filter: &Filter,
@@ -95,18 +95,27 @@ impl IndexedCollection {
     ) -> Result<Option<Ahead<'_>>, NoMemory>
         ensures { IfOk result (λ found. IfSome found (λ ahead. kept (is_ahead (part by.now) ahead.bar.now) (map (λ d. d.now) ahead.documents.items) ≡ kept (is_ahead (part by.now) ahead.bar.now) (kept (λ d. matches filter.now d) self.now.documents))) }
     {
-        let Plan::Scan = Planner::choose(filter, self.indexes.as_slice()) else {
-            return Ok(None);
-        };
-        let Some(index) = index_on(&self.indexes, &by.path) else {
+        let alloc = self.alloc;
+        let plan = Planner::choose(filter, self.indexes.as_slice());
+        let Some(index) = index_in_order(&self.indexes, &plan, &by.path) else {
             return Ok(None);
         };
         let most = self.documents.len() / FEW;
-        let pairs = index.pairs().as_pairs();
-        let Some(bar) = pairs.key_behind(by.direction, least, most) else {
+        let Some(bar) = bar_behind(alloc, index, filter, by.direction, least, most)? else {
             return Ok(None);
         };
-        let Some(candidates) = candidates_ahead(self.alloc, index, by, bar, most, &self.documents)?
+        if !leads_somewhere(alloc, filter, by, bar)? {
+            return Ok(None);
+        }
+        let Some(candidates) = candidates_ahead(
+            alloc,
+            index,
+            filter,
+            by,
+            bar,
+            most,
+            &self.documents,
+        )?
         else {
             return Ok(None);
         };

@@ -25,7 +25,8 @@ pub(crate) fn is_walk(plan: &Plan<'_>) -> bool {
     }
 }
 
-fn is_range(bounds: &Bounds<'_>) -> bool {
+/// Whether the bounds are those of a range.
+pub(crate) fn is_range(bounds: &Bounds<'_>) -> bool {
     match bounds {
         Bounds::Within(..) => true,
         Bounds::Equal(_) | Bounds::Among(_) => false,

@@ -1,17 +1,24 @@
 //! What a path sorts before a bar.
 
-ghost use Rattle.std.specs.Prelude.{◌≡◌, true, map, IfOk, OnOk};
+ghost use Rattle.std.specs.Prelude.{◌≡◌, true, false, map, IfOk, OnOk};
 ghost use Rattle.std.specs.BTreeMap.Range.{IsLeBy, IsLtBy, range_contains};
 ghost use Rattle.std.specs.Range.Bound.{IsForward};
-ghost use Rattle.dv_order.specs.Key.{KeyTree, key_order, no_element};
+ghost use Rattle.dv_value.specs.Tree.{null};
+ghost use Rattle.dv_order.specs.Key.{KeyTree, key_order, no_element, value as key_of_tree};
+ghost use Rattle.dv_order.specs.Order.{canon};
 ghost use Rattle.dv_path.specs.Parts.{part};
 ghost use Rattle.dv_path.specs.SortKey as sorting;
 ghost use Rattle.dv_keyed.specs.Ahead as defined;
 ghost use Rattle.dv_keyed.specs.Ahead.{leaf_sorted_by};
+ghost use Rattle.dv_keyed.specs.Interval.{is_between, is_in_all};
 ghost use Rattle.dv_keyed.specs.Keys.{has_key};
-ghost use Rattle.dv_keyed.specs.Pairs.{has_pair};
+ghost use Rattle.dv_keyed.specs.Pairs.{IsOnlyKey, has_pair};
 
+use crate::index::Index;
+use crate::interval::Interval;
 use crate::pairs::Pairs;
+use dv_candidates::Path;
+use dv_match::Filter;
 use dv_order::{Key, key_of};
 use dv_path::{Direction, SortPart, sort_key};
 use dv_value::{Document, List, NoMemory, Value};
@@ -36,20 +43,83 @@ fn stands_first(direction: Direction, key: &Key, other: &Key) -> bool
     }
 }
 
-/// The `_id`s' keys of the pairs of leaves that are sorted by keys before the bar, in no order. Fails where memory is wanting.
-pub fn ids_before<'i>(
+/// In a direction, the first key behind `least` `_id`s or more of those that stand in all ranges which the filter sets, unless
+/// more than `most` stand before it. Fails where memory is wanting.
+pub fn bar_behind<'i>(
     alloc: Global,
-    index: &'i Pairs,
+    index: &'i Index,
+    filter: &Filter,
+    direction: Direction,
+    least: usize,
+    most: usize,
+) -> Result<Option<&'i Key>, NoMemory> {
+    let ends = Interval::of(alloc, index.path(), filter)?;
+    let pairs = index.pairs().as_pairs();
+    Ok(pairs.key_behind(ends, direction, least, most))
+}
+
+/// Whether null is in all ranges that the filter sets under the path, and is sorted before the bar. Fails where memory is
+/// wanting.
+pub fn is_null_ahead(
+    alloc: Global,
+    path: &Path,
+    filter: &Filter,
+    direction: Direction,
+    bar: &Key,
+) -> Result<bool, NoMemory>
+    ensures { IfOk result (λ ahead. ahead ≡ false → is_in_all (key_of_tree (canon null)) path.now filter.now ≡ true → sorting.stands_first direction (key_of_tree (canon null)) bar.now ≡ true → ⊥) }
+{
+    let ends = cut(Interval::of(alloc, path, filter)?, direction, bar)?;
+    let null = key_of(&Value::Null)?;
+    Ok(ends.contains(&null))
+}
+
+/// The `_id`s' keys of the pairs of leaves that are sorted by keys before the bar, in no order; an `_id` that has only one key
+/// may be left out, unless this is in all ranges that the filter sets. Fails where memory is wanting.
+pub fn ids_ahead<'i>(
+    alloc: Global,
+    index: &'i Index,
+    filter: &Filter,
     direction: Direction,
     bar: &Key,
 ) -> Result<Vec<&'i Key>, NoMemory>
-    ensures { IfOk result (λ ids. (k i : KeyTree) → sorting.stands_first direction k bar.now ≡ true → has_pair (leaf_sorted_by k) i index.now ≡ true → has_key i (map (λ l. l.now) ids.items) ≡ true) }
+    ensures { IfOk result (λ ids. (k i : KeyTree) → sorting.stands_first direction k bar.now ≡ true → has_pair (leaf_sorted_by k) i index.now.pairs ≡ true → (IsOnlyKey (leaf_sorted_by k) i index.now.pairs → is_in_all (leaf_sorted_by k) index.now.path filter.now ≡ true) → has_key i (map (λ l. l.now) ids.items) ≡ true) }
 {
-    let (low, high) = ends_before(direction, bar)?;
+    let pairs = index.pairs();
+    let ends = Interval::of(alloc, index.path(), filter)?;
+    let is_everything = ends.is_everything();
+    let mut ids = ids_before(alloc, pairs.as_pairs(), ends, direction, bar)?;
+    if is_everything {
+        return Ok(ids);
+    }
+    pairs.add_several(&mut ids)?;
+    Ok(ids)
+}
+
+/// The `_id`s' keys of the pairs of leaves that are between the ends and sorted by keys before the bar, in no order.
+fn ids_before<'i>(
+    alloc: Global,
+    index: &'i Pairs,
+    ends: Interval,
+    direction: Direction,
+    bar: &Key,
+) -> Result<Vec<&'i Key>, NoMemory>
+    ensures { IfOk result (λ ids. (k i : KeyTree) → sorting.stands_first direction k bar.now ≡ true → is_between ends (leaf_sorted_by k) ≡ true → has_pair (leaf_sorted_by k) i index.now ≡ true → has_key i (map (λ l. l.now) ids.items) ≡ true) }
+{
+    let ends = cut(ends, direction, bar)?;
     let mut ids = Vec::new(alloc);
-    index.add_ids_between(low, high, &mut ids)?;
+    index.add_ids_inside(ends, &mut ids)?;
     add_empty_before(alloc, index, direction, bar, &mut ids)?;
     Ok(ids)
+}
+
+/// The ends between which those of the keys stand that are before the bar in a direction. Fails where memory is wanting.
+fn cut(mut ends: Interval, direction: Direction, bar: &Key) -> Result<Interval, NoMemory>
+    ensures { IfOk result (λ left. (k : KeyTree) → is_between ends k ≡ true → sorting.stands_first direction k bar.now ≡ true → is_between left k ≡ true) }
+{
+    let (low, high) = ends_before(direction, bar)?;
+    ends.close_in(low, high);
+    Ok(ends)
 }
 
 /// Adds the `_id`s' keys that stand under the empty array, where this is sorted before the bar: not by its own key, but by

@@ -1,7 +1,8 @@
 //! Between which keys those stand that are in all bounds of a filter.
 
 ghost use Rattle.std.specs.Prelude.{◌≡◌, true, false, IfOk, IsTrue, OnOk};
-ghost use Rattle.std.specs.BTreeMap.Range.{IsLeBy, IsLtBy, is_from_start, is_past_end};
+ghost use Rattle.std.specs.BTreeMap.Range as ranges;
+ghost use Rattle.std.specs.BTreeMap.Range.{IsLeBy, IsLtBy, range_contains};
 ghost use Rattle.std.specs.Range.Bound.{IsForward};
 ghost use Rattle.dv_value.specs.View.{tree};
 ghost use Rattle.dv_match.specs.Filter.{in_range};
@@ -40,6 +41,31 @@ impl Interval {
         };
         narrow_by_filter(alloc, &mut ends, path, filter)?;
         Ok(ends)
+    }
+
+    /// Puts the ends closer together, so that still all keys are between them that were, and stand between these.
+    pub(crate) fn close_in(&mut self, low: Bound<Key>, high: Bound<Key>)
+        ensures { (k : KeyTree) → is_between self.old k ≡ true → range_contains key_order low high k ≡ true → is_between self.new k ≡ true }
+    {
+        raise(&mut self.low, low);
+        lower(&mut self.high, high);
+    }
+
+    /// Whether all keys stand between the ends.
+    pub(crate) fn is_everything(&self) -> bool
+        ensures { result ≡ true → (k : KeyTree) → is_between self.now k ≡ true }
+    {
+        match (&self.low, &self.high) {
+            (Bound::Unbounded, Bound::Unbounded) => true,
+            _ => false,
+        }
+    }
+
+    /// Whether a key stands between the ends.
+    pub(crate) fn contains(&self, key: &Key) -> bool
+        ensures { result ≡ is_between self.now key.now }
+    {
+        is_from_start(&self.low, key) && !is_past_end(&self.high, key)
     }
 
     /// Whether the first end stands before the other one; else no key stands between them.
@@ -140,14 +166,35 @@ fn narrow(alloc: Global, ends: &mut Interval, range: Range, value: &Value) -> Re
     ensures { OnOk result ((k : KeyTree) → is_between ends.old k ≡ true → covers (in_range range (tree value.now)) k ≡ true → is_between ends.new k ≡ true) }
 {
     let (low, high) = ends_within(alloc, range, value)?;
-    raise(&mut ends.low, low);
-    lower(&mut ends.high, high);
+    ends.close_in(low, high);
     Ok(())
+}
+
+/// Whether a key stands at a start or behind it.
+fn is_from_start(start: &Bound<Key>, key: &Key) -> bool
+    ensures { result ≡ ranges.is_from_start key_order start.now key.now }
+{
+    match start {
+        Bound::Included(start) => start <= key,
+        Bound::Excluded(start) => start < key,
+        Bound::Unbounded => true,
+    }
+}
+
+/// Whether a key stands behind an end, or at one that is left out.
+fn is_past_end(end: &Bound<Key>, key: &Key) -> bool
+    ensures { result ≡ ranges.is_past_end key_order end.now key.now }
+{
+    match end {
+        Bound::Included(end) => end < key,
+        Bound::Excluded(end) => end <= key,
+        Bound::Unbounded => false,
+    }
 }
 
 /// Puts the later one of two starts in place of the first one.
 fn raise(low: &mut Bound<Key>, other: Bound<Key>)
-    ensures { (k : KeyTree) → is_from_start key_order low.old k ≡ true → is_from_start key_order other k ≡ true → is_from_start key_order low.new k ≡ true }
+    ensures { (k : KeyTree) → ranges.is_from_start key_order low.old k ≡ true → ranges.is_from_start key_order other k ≡ true → ranges.is_from_start key_order low.new k ≡ true }
 {
     if is_later(&other, low) {
         *low = other;
@@ -156,7 +203,7 @@ fn raise(low: &mut Bound<Key>, other: Bound<Key>)
 
 /// Puts the earlier one of two ends in place of the first one.
 fn lower(high: &mut Bound<Key>, other: Bound<Key>)
-    ensures { (k : KeyTree) → is_past_end key_order high.old k ≡ false → is_past_end key_order other k ≡ false → is_past_end key_order high.new k ≡ false }
+    ensures { (k : KeyTree) → ranges.is_past_end key_order high.old k ≡ false → ranges.is_past_end key_order other k ≡ false → ranges.is_past_end key_order high.new k ≡ false }
 {
     if is_earlier(&other, high) {
         *high = other;

@@ -17,7 +17,7 @@ mod trial;
 mod tried;
 mod within;
 
-pub use before::{ids_before, is_ahead};
+pub use before::{bar_behind, ids_ahead, is_ahead, is_null_ahead};
 pub use bounds::ends_within;
 pub use index::{Index, NewIndex};
 pub use interval::Interval;

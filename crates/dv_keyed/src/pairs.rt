@@ -9,10 +9,12 @@ ghost use Rattle.std.specs.Ordering.{is_eq};
 ghost use Rattle.std.specs.BTreeMap.Range.{IsLeBy, IsLtBy, range_contains};
 ghost use Rattle.std.specs.Range.Bound.{IsForward};
 ghost use Rattle.dv_order.specs.Key.{KeyTree, key_order};
+ghost use Rattle.dv_keyed.specs.Interval.{is_between};
 ghost use Rattle.dv_keyed.specs.Keys.{has_key};
 ghost use Rattle.dv_keyed.specs.Pairs.{has_another_at, has_id, has_pair, is_under_another};
 
 use crate::ids::Ids;
+use crate::interval::Interval;
 use crate::keys::Keys;
 use dv_order::Key;
 use dv_path::Direction;
@@ -158,6 +160,22 @@ impl Pairs {
         Ok(())
     }
 
+    /// Adds to a list the `_id`s' keys of the pairs whose keys stand between two ends, whichever way round these are. Where
+    /// memory is wanting, some of them are added.
+    pub(crate) fn add_ids_inside<'i>(
+        &'i self,
+        ends: Interval,
+        ids: &mut Vec<&'i Key>,
+    ) -> Result<(), NoMemory>
+        ensures { OnOk result ((k i : KeyTree) → is_between ends k ≡ true → has_pair k i self.now ≡ true → has_key i (map (λ l. l.now) ids.new.items) ≡ true) }
+    {
+        if !ends.is_forward() {
+            return Ok(());
+        }
+        let Interval { low, high } = ends;
+        self.add_ids_between(low, high, ids)
+    }
+
     /// Whether more `_id`s than `most` stand under the keys between two ends; no more keys are looked at.
     pub(crate) fn has_more(&self, low: Bound<Key>, high: Bound<Key>, most: usize) -> bool
         requires { IsForward (IsLeBy key_order) (IsLtBy key_order) low high }
@@ -173,12 +191,23 @@ impl Pairs {
         false
     }
 
-    /// In a direction, the first key behind `least` `_id`s or more, unless more than `most` stand before it. No more keys are
-    /// looked at.
-    pub fn key_behind(&self, direction: Direction, least: usize, most: usize) -> Option<&Key> {
+    /// In a direction, the first key behind `least` `_id`s or more of those between two ends, unless more than `most` stand
+    /// before it. No more keys are looked at.
+    pub(crate) fn key_behind(
+        &self,
+        ends: Interval,
+        direction: Direction,
+        least: usize,
+        most: usize,
+    ) -> Option<&Key> {
+        if !ends.is_forward() {
+            return None;
+        }
+        let Interval { low, high } = ends;
+        let entries = self.entries.range((low, high));
         match direction {
-            Direction::Ascending => first_behind(self.entries.iter(), least, most),
-            Direction::Descending => first_behind(self.entries.iter().rev(), least, most),
+            Direction::Ascending => first_behind(entries, least, most),
+            Direction::Descending => first_behind(entries.rev(), least, most),
         }
     }
 

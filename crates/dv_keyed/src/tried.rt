@@ -50,14 +50,7 @@ fn ids_in_all<'i>(
     ensures { IfOk result (λ ids. (k i : KeyTree) → is_in_all k index.now.path filter.now ≡ true → has_pair k i index.now.pairs ≡ true → has_key i (map (λ l. l.now) ids.items) ≡ true) }
 {
     let ends = Interval::of(alloc, index.path(), filter)?;
-    if !ends.is_forward() {
-        return Ok(Vec::new(alloc));
-    }
-    let Interval { low, high } = ends;
     let mut ids = Vec::new(alloc);
-    index
-        .pairs()
-        .as_pairs()
-        .add_ids_between(low, high, &mut ids)?;
+    index.pairs().as_pairs().add_ids_inside(ends, &mut ids)?;
     Ok(ids)
 }

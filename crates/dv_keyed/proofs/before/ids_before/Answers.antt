@@ -1,19 +1,17 @@
-use Rattle.std.proofs.Common.{Bor, ◌≡◌, ◌∙◌, map, true}
+use Rattle.std.proofs.Common.{Bor, ◌≡◌, map, true}
 use Rattle.dv_order.specs.Key.{KeyTree, value}
 use Rattle.dv_path.specs.SortKey.{stands_first}
 use Rattle.dv_keyed.specs.Ahead.{leaf_sorted_by}
+use Rattle.dv_keyed.specs.Interval.{is_between}
 use Rattle.dv_keyed.specs.Keys.{has_key}
 use Rattle.dv_keyed.specs.Pairs.{has_pair}
 use Rattle.dv_keyed.proofs.Bars.{by-kind}
-use Rattle.dv_keyed.proofs.Ranges.{found-within}
 use Rattle.dv_keyed.proofs.before.ids_before.Goals as goal
 
 pub returns : goal.returns
 returns c =
     let now = λ (l : Bor KeyTree). l.now in
-    by-kind (λ k. (i : KeyTree) → stands_first c.args.direction k c.args.bar.now ≡ true → has_pair (leaf_sorted_by k) i c.args.index.now ≡ true → has_key i (map now c.add_empty_before.new.ids.items) ≡ true)
-    (λ i before there. c.in_ok-add_empty_before.ensures.added i before there)
-    (λ v i before there.
-    c.in_ok-add_empty_before.ensures.kept i
-    (c.in_ok-add_ids_between.ensures i
-    ∙ found-within c.in_ok-low.low c.in_ok-low.high (value v) i c.args.index.now (has_key i (map now c.new-ids.result.items)) (c.in_ok-low.ensures.holds (value v) before) there))
+    by-kind (λ k. (i : KeyTree) → stands_first c.args.direction k c.args.bar.now ≡ true → is_between c.args.ends (leaf_sorted_by k) ≡ true → has_pair (leaf_sorted_by k) i c.args.index.now ≡ true → has_key i (map now c.add_empty_before.new.ids.items) ≡ true)
+    (λ i before inside there. c.in_ok-add_empty_before.ensures.added i before there)
+    (λ v i before inside there.
+    c.in_ok-add_empty_before.ensures.kept i (c.in_ok-add_ids_inside.ensures (value v) i (c.in_ok-ends.ensures (value v) inside before) there))
