@@ -2,8 +2,6 @@
 #![tactic(auto)]
 
 #[cfg(test)]
-mod listening;
-#[cfg(test)]
 mod scripts;
 #[cfg(test)]
 mod serving;
