@@ -280,12 +280,7 @@ fn send(
 
 /// The command that a message's sections bring, with no more of its lists than it needs, or that memory is wanting to read it,
 /// also with the store's reserve.
-fn read(
-    alloc: Global,
-    store: &mut Store,
-    shapes: &mut Shapes,
-    message: &Message<'_>,
-) -> Command
+fn read(alloc: Global, store: &mut Store, shapes: &mut Shapes, message: &Message<'_>) -> Command
     ensures command { (needed (command_of (message_seen message.now)) ≡ result) ⊎ (result ≡ Command.Invalid BsonFault.NoMemory) }
     ensures store { store.new ≡ store.old }
 {
