@@ -1,8 +1,8 @@
 #!/usr/bin/python3
-"""Counts the phrases that the documents avoid, as each of them has a plainer name: `tells` for returns, `anew` for again.
+"""Counts the phrases that the documents avoid, because each has a plainer name: `tells` for returns, `anew` for again.
 
-Prints for each document how often each phrase is in its text, with sums. What is in code font or in a fenced block isn't counted:
-words that formats, commands and replies fix are written so. docs/GLOSSARY.md has the names that are used.
+Prints for each document how often each phrase is in its text, with sums. Code font and code blocks are not counted: words that
+formats, commands and replies fix are written so. docs/GLOSSARY.md has the names that are used.
 
     tools/words.py                    README.md, CONTRIBUTING.md, docs/*.md and bench/README.md
     tools/words.py FILE ..            these
@@ -71,8 +71,8 @@ def main():
     for path in paths:
         text = text_of(path)
         rows.append((named(path), len(text.split()), counts_of(text)))
-        if given.lines:
-            print(*lines_of(named(path), text), sep="\n")
+        for line in lines_of(named(path), text) if given.lines else []:
+            print(line)
     rows.append(("all", sum(words for _, words, _ in rows), [sum(each) for each in zip(*(counts for _, _, counts in rows))]))
     widths = [max(len(name), 5) for name in FOUND]
     print("%-24s %6s  %s  %5s" % ("document", "words", "  ".join("%*s" % one for one in zip(widths, FOUND)), "sum"))
