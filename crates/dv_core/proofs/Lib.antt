@@ -35,3 +35,4 @@ mod Mores
 mod Parted
 mod Alone
 mod WorkedLoads
+pub mod Single

@@ -55,13 +55,21 @@ none_ordered = (tt, tt)
 none_sound : AreSound []
 none_sound = (none_ordered, tt)
 
--- the documents of a collection are in order, and no key of a unique index stands in two of them
+-- the documents of a collection are in order and within the limits, and no key of a unique index stands in two of them
 pub record IsApart (namespace : List ℕ) (c : Collection) : Type 0 where
   pub documents : AreOrdered c.documents
+  pub fits : AllByRecursion Fits c.documents
   pub unique : are_broken c.indexes c.documents ≡ false
 
 abbrev pub AreApart : State → Type 0
 AreApart state = Stands IsApart state.catalog.namespaces
+
+-- which is what every store keeps
+pub apart : (state : State) → IsOrderly state → AreApart state
+apart state keeps = λ namespace. record { documents = keeps.ordered namespace; fits = keeps.fits namespace; unique = keeps.unique namespace }
+
+pub orderly : (state : State) → AreApart state → IsOrderly state
+orderly state are = record { ordered = λ namespace. (are namespace).documents; fits = λ namespace. (are namespace).fits; unique = λ namespace. (are namespace).unique }
 
 -- the documents of a collection are sound, and no key of a unique index stands in two of them
 pub record IsWhole (namespace : List ℕ) (c : Collection) : Type 0 where
@@ -72,13 +80,19 @@ abbrev pub AreWhole : State → Type 0
 AreWhole state = Stands IsWhole state.catalog.namespaces
 
 none_apart : (namespace : List ℕ) → IsApart namespace empty_indexed
-none_apart namespace = record { documents = none_ordered; unique = refl }
+none_apart namespace = record { documents = none_ordered; fits = tt; unique = refl }
 
 none_whole : (namespace : List ℕ) → IsWhole namespace empty_indexed
 none_whole namespace = record { documents = none_sound; unique = refl }
 
+empty_stands : (P : List ℕ → Collection → Type 0) → ((namespace : List ℕ) → P namespace empty_indexed) → Stands P empty_store_state.catalog.namespaces
+empty_stands P none namespace = subst (λ (there : Option Standing). P namespace (collection_at there)) (sym (finite.get-empty (slice_cmp nat_cmp) namespace)) (none namespace)
+
+pub empty_apart : AreApart empty_store_state
+empty_apart = empty_stands IsApart none_apart
+
 pub empty_whole : AreWhole empty_store_state
-empty_whole namespace = subst (λ (there : Option Standing). IsWhole namespace (collection_at there)) (sym (finite.get-empty (slice_cmp nat_cmp) namespace)) (none_whole namespace)
+empty_whole = empty_stands IsWhole none_whole
 
 -- ---- what is stored begins with its `_id`
 
@@ -108,11 +122,14 @@ stored_id d stored is =
     subst GivesId is
     (within_limits (with_id_first d) (first_with_id (has_bad_name d) _ (id_given (codes "_id") refl (value_under (codes "_id") d) (without (codes "_id") d))))
 
--- ---- what becomes of a document that is updated begins with its `_id`
+-- ---- what becomes of a document that is updated begins with its `_id`, and is within the limits
 
-afters_ids : KeepsId → (how : form.Update) (ds : List (List Field)) → AllByRecursion HasId ds → AllByRecursion (λ d. (e : List Field) → after how d ≡ Ok e → HasId e) ds
-afters_ids law how [] all = tt
-afters_ids law how (d ∷ ds) all = ((λ e is. (after_id law how d e all.0 is).0), afters_ids law how ds all.1)
+abbrev FitsAfter : Type 0
+FitsAfter = (update : form.Update) (d made : List Field) → applied update d ≡ Ok made → Fits made
+
+afters_stored : KeepsId → FitsAfter → (how : form.Update) (ds : List (List Field)) → AllByRecursion HasId ds → AllByRecursion (λ d. (e : List Field) → after how d ≡ Ok e → HasId e × Fits e) ds
+afters_stored law fits how [] all = tt
+afters_stored law fits how (d ∷ ds) all = ((λ e is. ((after_id law how d e all.0 is).0, fits how d e (told_after (applied how d) e is))), afters_stored law fits how ds all.1)
 
 -- ---- what changes keep, by the laws of collections
 
@@ -123,56 +140,94 @@ pub record CollectionLaws : Type 0 where
   pub removed_ids : (k : KeyTree) (ds : List (List Field)) → AllByRecursion HasId ds → AllByRecursion HasId (removed k ds)
   pub replaced_ascend : (d : List Field) (ds : List (List Field)) → HasId d → AllByRecursion HasId ds → IsAscending ds → IsAscending (replaced d ds)
   pub id_stays : KeepsId
+  pub fits : FitsAfter
   pub replaced_ids : (d : List Field) (ds : List (List Field)) → HasId d → AllByRecursion HasId ds → AllByRecursion HasId (replaced d ds)
 
 -- what makes updates sound
 pub record UpdateLaws : Type 0 where
   pub of_entries : (entry : List Field) (asked : Updating) → AreFields (fields_of entry) → updating_of entry ≡ Ok asked → IsSoundUpdate asked.update
   pub stays_valid : (fields d made : List Field) (update : form.Update) → AreFields (fields_of fields) → update_of fields ≡ Ok update → AreFields (fields_of d) → applied update d ≡ Ok made → AreFields (fields_of made)
-  pub fits : (update : form.Update) (d made : List Field) → applied update d ≡ Ok made → Fits made
 
--- a document that is put begins with its `_id`
-abbrev pub BeginsWithId : Change → Type 0
-BeginsWithId (put d) = HasId d
-BeginsWithId (gone k) = Unit {0}
+-- a document that is put begins with its `_id`, and is within the limits
+abbrev pub IsStored : Change → Type 0
+IsStored (put d) = HasId d × Fits d
+IsStored (gone k) = Unit {0}
 
 -- and is sound
 abbrev pub IsSoundChange : Change → Type 0
 IsSoundChange (put d) = HasId d × IsSoundDocument d
 IsSoundChange (gone k) = Unit {0}
 
+-- ---- what holds of all documents, and of one that is put, holds of all behind a change
+
+module _ (P : List Field → Type 0) where
+  by_order : (b : Bool) (d e : List Field) (ds after : List (List Field)) → P d → AllByRecursion P (e ∷ ds) → AllByRecursion P after → AllByRecursion P (cond b (d ∷ e ∷ ds) (e ∷ after))
+  by_order true d e ds after good all rest = (good, all)
+  by_order false d e ds after good all rest = (all.0, rest)
+
+  all_inserted : (d : List Field) (ds : List (List Field)) → P d → AllByRecursion P ds → AllByRecursion P (inserted d ds)
+  all_inserted d [] good all = (good, tt)
+  all_inserted d (e ∷ ds) good all = by_order (is_lt (key_order (id_key d) (id_key e))) d e ds (inserted d ds) good all (all_inserted d ds good all.1)
+
+  either_good : (b : Bool) (d e : List Field) → P d → P e → P (cond b d e)
+  either_good true d e good other = good
+  either_good false d e good other = other
+
+  all_replaced : (d : List Field) (ds : List (List Field)) → P d → AllByRecursion P ds → AllByRecursion P (replaced d ds)
+  all_replaced d [] good all = tt
+  all_replaced d (e ∷ ds) good all = (either_good (has_key (id_key d) e) d e good all.0, all_replaced d ds good all.1)
+
+  all_kept : (b : Bool) (d : List Field) (ds : List (List Field)) → P d → AllByRecursion P ds → AllByRecursion P (cond b (d ∷ ds) ds)
+  all_kept true d ds good all = (good, all)
+  all_kept false d ds good all = all
+
+  all_removed : (k : KeyTree) (ds : List (List Field)) → AllByRecursion P ds → AllByRecursion P (removed k ds)
+  all_removed k [] all = tt
+  all_removed k (d ∷ ds) all = all_kept (not (has_key k d)) d (removed k ds) all.0 (all_removed k ds all.1)
+
+  put_good : (b : Bool) (d : List Field) (ds : List (List Field)) → P d → AllByRecursion P ds → AllByRecursion P (cond b (replaced d ds) (inserted d ds))
+  put_good true d ds good all = all_replaced d ds good all
+  put_good false d ds good all = all_inserted d ds good all
+
+  all_changed : (ds : List (List Field)) (d : List Field) → P d → AllByRecursion P ds → AllByRecursion P (with_change ds (put d))
+  all_changed ds d good all = put_good (is_some (found (id_key d) ds)) d ds good all
+
+change_fits : (ds : List (List Field)) (change : Change) → AllByRecursion Fits ds → IsStored change → AllByRecursion Fits (with_change ds change)
+change_fits ds (put d) all good = all_changed Fits ds d good.1 all
+change_fits ds (gone k) all good = all_removed Fits k ds all
+
 module _ (laws : CollectionLaws) where
   put_ordered : (d : List Field) (ds : List (List Field)) (there : Option (List Field)) → found (id_key d) ds ≡ there → HasId d → AreOrdered ds → AreOrdered (cond (is_some there) (replaced d ds) (inserted d ds))
   put_ordered d ds None none has_id ordered = (laws.inserted_ascend d ds ordered.0 none, laws.inserted_ids d ds has_id ordered.1)
   put_ordered d ds (Some e) there has_id ordered = (laws.replaced_ascend d ds has_id ordered.1 ordered.0, laws.replaced_ids d ds has_id ordered.1)
 
-  change_ordered : (ds : List (List Field)) (change : Change) → AreOrdered ds → BeginsWithId change → AreOrdered (with_change ds change)
-  change_ordered ds (put d) ordered has_id = put_ordered d ds (found (id_key d) ds) refl has_id ordered
+  change_ordered : (ds : List (List Field)) (change : Change) → AreOrdered ds → IsStored change → AreOrdered (with_change ds change)
+  change_ordered ds (put d) ordered good = put_ordered d ds (found (id_key d) ds) refl good.0 ordered
   change_ordered ds (gone k) ordered good = (laws.removed_ascend k ds ordered.0, laws.removed_ids k ds ordered.1)
 
   -- ---- whatever the documents of commands are
 
-  module _ (P : List ℕ → Collection → Type 0) (in_order : (namespace : List ℕ) (c : Collection) → P namespace c → AreOrdered c.documents) (changes : ChangesKeep P BeginsWithId) where
-    inserts_hold : (documents : List (List Field)) → AllByRecursion (Keeps P BeginsWithId changes) (map insert_one documents)
+  module _ (P : List ℕ → Collection → Type 0) (in_order : (namespace : List ℕ) (c : Collection) → P namespace c → AreOrdered c.documents) (changes : ChangesKeep P IsStored) where
+    inserts_hold : (documents : List (List Field)) → AllByRecursion (Keeps P IsStored changes) (map insert_one documents)
     inserts_hold [] = tt
-    inserts_hold (d ∷ ds) = (insert_keeps P BeginsWithId changes d (λ stored is. stored_id d stored is), inserts_hold ds)
+    inserts_hold (d ∷ ds) = (insert_keeps P IsStored changes d (λ stored is. (stored_id d stored is, storable_fits d stored is)), inserts_hold ds)
 
     asks_any : (entries : List (List Field)) → AllByRecursion (λ entry. (updating : Updating) → updating_of entry ≡ Ok updating → Unit {0}) entries
     asks_any [] = tt
     asks_any (entry ∷ entries) = ((λ updating is. tt), asks_any entries)
 
-    statements_hold : (kind : WriteKind) (entries : List (List Field)) → AllByRecursion (Keeps P BeginsWithId changes) (map (statement_of kind) entries)
+    statements_hold : (kind : WriteKind) (entries : List (List Field)) → AllByRecursion (Keeps P IsStored changes) (map (statement_of kind) entries)
     statements_hold Insert entries = inserts_hold entries
     statements_hold Update entries =
-        updates_keep P BeginsWithId changes (λ form. Unit {0}) (λ form any namespace c holds. afters_ids laws.id_stays form c.documents (in_order namespace c holds).1) entries (asks_any entries)
-    statements_hold Delete entries = deletes_keep P BeginsWithId changes (λ k. tt) entries
+        updates_keep P IsStored changes (λ form. Unit {0}) (λ form any namespace c holds. afters_stored laws.id_stays laws.fits form c.documents (in_order namespace c holds).1) entries (asks_any entries)
+    statements_hold Delete entries = deletes_keep P IsStored changes (λ k. tt) entries
 
-    writes_hold : (what : Asked) (write : WriteCounts) → asked_write what ≡ Some write → AllByRecursion (Keeps P BeginsWithId changes) write.statements
-    writes_hold (asking.write w) write is = let same : write_by w ≡ write = cc in subst (λ (w : WriteCounts). AllByRecursion (Keeps P BeginsWithId changes) w.statements) same (statements_hold w.kind w.entries)
+    writes_hold : (what : Asked) (write : WriteCounts) → asked_write what ≡ Some write → AllByRecursion (Keeps P IsStored changes) write.statements
+    writes_hold (asking.write w) write is = let same : write_by w ≡ write = cc in subst (λ (w : WriteCounts). AllByRecursion (Keeps P IsStored changes) w.statements) same (statements_hold w.kind w.entries)
     writes_hold what write is = absurd cc
 
     steps_hold : ((what : Asked) → IsKeptBy P what) → (old new : State) (session : ℕ) (command : Command) (outcome : Outcome) → Stands P old.catalog.namespaces → BareStep old session command outcome new → Stands P new.catalog.namespaces
-    steps_hold kept old new session command outcome h steps = step_holds P BeginsWithId changes old new session command outcome kept (λ what write asks is. writes_hold what write is) h steps
+    steps_hold kept old new session command outcome h steps = step_holds P IsStored changes old new session command outcome kept (λ what write asks is. writes_hold what write is) h steps
 
 -- a load keeps what its insert does
 module _ (P : List ℕ → Collection → Type 0) (Good : Change → Type 0) (changes : ChangesKeep P Good) where
@@ -196,17 +251,18 @@ module _ (P : List ℕ → Collection → Type 0) (Good : Change → Type 0) (ch
 -- ---- no key of a unique index comes into two documents, whatever these are
 
 module _ (laws : CollectionLaws) (unique_laws : UniqueLaws) where
-  changes_apart : ChangesKeep IsApart BeginsWithId
+  changes_apart : ChangesKeep IsApart IsStored
   changes_apart namespace c change apart good free = record {
     documents = change_ordered laws c.documents change apart.documents good;
+    fits = change_fits c.documents change apart.fits good;
     unique = change_unbroken unique_laws c.indexes change c.documents apart.documents apart.unique free;
   }
 
   apart_kept : (what : Asked) → IsKeptBy IsApart what
   apart_kept what = record {
     none = none_apart;
-    emptied = λ namespace c apart. record { documents = none_ordered; unique = unique_laws.none_apart c.indexes };
-    indexed = λ namespace c indexes is apart. record { documents = apart.documents; unique = indexes_unbroken unique_laws c what indexes is apart.unique };
+    emptied = λ namespace c apart. record { documents = none_ordered; fits = tt; unique = unique_laws.none_apart c.indexes };
+    indexed = λ namespace c indexes is apart. record { documents = apart.documents; fits = apart.fits; unique = indexes_unbroken unique_laws c what indexes is apart.unique };
   }
 
   apart_ordered : (namespace : List ℕ) (c : Collection) → IsApart namespace c → AreOrdered c.documents
@@ -216,7 +272,7 @@ module _ (laws : CollectionLaws) (unique_laws : UniqueLaws) where
   steps_apart = steps_hold laws IsApart apart_ordered changes_apart apart_kept
 
   pub loaded_apart : (old new : State) (text : List ℕ) (d : List Field) → AreApart old → loaded text d old ≡ Ok new → AreApart new
-  loaded_apart old new text d h is = load_holds IsApart BeginsWithId changes_apart old new (namespace_in text) d (inserts_hold laws IsApart apart_ordered changes_apart (d ∷ [])).0 h is
+  loaded_apart old new text d h is = load_holds IsApart IsStored changes_apart old new (namespace_in text) d (inserts_hold laws IsApart apart_ordered changes_apart (d ∷ [])).0 h is
 
 -- a load that is refused leaves the state
 pub kept_by_load : {A B : Type 0} (text : List ℕ) (d : List Field) (old new : State) (result : Result A B) → (IsLoaded text d old new → IsOrderly new) → OnOk result (IsLoaded text d old new) → OnErr result (new ≡ old) → IsOrderly old → IsOrderly new
@@ -226,37 +282,9 @@ kept_by_load text d old new (Err refusal) keeps loads same orderly = subst IsOrd
 -- ---- and sound, if the documents of commands are, and no key of a unique index comes into two of them
 
 module _ (laws : CollectionLaws) (unique_laws : UniqueLaws) where
-  by_order : (b : Bool) (d e : List Field) (ds after : List (List Field)) → IsSoundDocument d → AllByRecursion IsSoundDocument (e ∷ ds) → AllByRecursion IsSoundDocument after → AllByRecursion IsSoundDocument (cond b (d ∷ e ∷ ds) (e ∷ after))
-  by_order true d e ds after sound all rest = (sound, all)
-  by_order false d e ds after sound all rest = (all.0, rest)
-
-  all_inserted : (d : List Field) (ds : List (List Field)) → IsSoundDocument d → AllByRecursion IsSoundDocument ds → AllByRecursion IsSoundDocument (inserted d ds)
-  all_inserted d [] sound all = (sound, tt)
-  all_inserted d (e ∷ ds) sound all = by_order (is_lt (key_order (id_key d) (id_key e))) d e ds (inserted d ds) sound all (all_inserted d ds sound all.1)
-
-  either_sound : (b : Bool) (d e : List Field) → IsSoundDocument d → IsSoundDocument e → IsSoundDocument (cond b d e)
-  either_sound true d e sound other = sound
-  either_sound false d e sound other = other
-
-  all_replaced : (d : List Field) (ds : List (List Field)) → IsSoundDocument d → AllByRecursion IsSoundDocument ds → AllByRecursion IsSoundDocument (replaced d ds)
-  all_replaced d [] sound all = tt
-  all_replaced d (e ∷ ds) sound all = (either_sound (has_key (id_key d) e) d e sound all.0, all_replaced d ds sound all.1)
-
-  all_kept : (b : Bool) (d : List Field) (ds : List (List Field)) → IsSoundDocument d → AllByRecursion IsSoundDocument ds → AllByRecursion IsSoundDocument (cond b (d ∷ ds) ds)
-  all_kept true d ds sound all = (sound, all)
-  all_kept false d ds sound all = all
-
-  all_removed : (k : KeyTree) (ds : List (List Field)) → AllByRecursion IsSoundDocument ds → AllByRecursion IsSoundDocument (removed k ds)
-  all_removed k [] all = tt
-  all_removed k (d ∷ ds) all = all_kept (not (has_key k d)) d (removed k ds) all.0 (all_removed k ds all.1)
-
-  put_sound : (b : Bool) (d : List Field) (ds : List (List Field)) → IsSoundDocument d → AllByRecursion IsSoundDocument ds → AllByRecursion IsSoundDocument (cond b (replaced d ds) (inserted d ds))
-  put_sound true d ds sound all = all_replaced d ds sound all
-  put_sound false d ds sound all = all_inserted d ds sound all
-
   change_sound : (ds : List (List Field)) (change : Change) → AreSound ds → IsSoundChange change → AreSound (with_change ds change)
-  change_sound ds (put d) sound good = (change_ordered laws ds (put d) sound.0 good.0, put_sound (is_some (found (id_key d) ds)) d ds good.1 sound.1)
-  change_sound ds (gone k) sound good = (change_ordered laws ds (gone k) sound.0 tt, all_removed k ds sound.1)
+  change_sound ds (put d) sound good = (change_ordered laws ds (put d) sound.0 (good.0, good.1.fits), all_changed IsSoundDocument ds d good.1 sound.1)
+  change_sound ds (gone k) sound good = (change_ordered laws ds (gone k) sound.0 tt, all_removed IsSoundDocument k ds sound.1)
 
   change_whole : ChangesKeep IsWhole IsSoundChange
   change_whole namespace c change whole good apart = record {
@@ -281,7 +309,7 @@ module _ (laws : CollectionLaws) (unique_laws : UniqueLaws) where
     afters_sound how asked (d ∷ ds) ids all = (
       (λ e is.
           let does : applied how d ≡ Ok e = told_after (applied how d) e is in
-          ((after_id laws.id_stays how d e ids.0 is).0, record { valid = sound_laws.stays_valid asked.document d e how asked.valid asked.is all.0.valid does; fits = sound_laws.fits how d e does })),
+          ((after_id laws.id_stays how d e ids.0 is).0, record { valid = sound_laws.stays_valid asked.document d e how asked.valid asked.is all.0.valid does; fits = laws.fits how d e does })),
       afters_sound how asked ds ids.1 all.1,
     )
 

@@ -36,10 +36,15 @@ AreSoundIndexes state = (namespace : List ℕ) → AllByRecursion (λ index. IsI
 abbrev pub AreUnique : State → Type 0
 AreUnique state = (namespace : List ℕ) → are_broken (indexes_of namespace state.catalog.namespaces) (documents_of namespace state.catalog.namespaces) ≡ false
 
--- what every store keeps: the documents of each namespace stand in the strict order of their `_id`s, and of a unique index no key stands
--- in two of them
+-- each document of each namespace is within the limits
+abbrev pub AreWithinLimits : State → Type 0
+AreWithinLimits state = (namespace : List ℕ) → AllByRecursion Fits (documents_of namespace state.catalog.namespaces)
+
+-- what every store keeps: the documents of each namespace stand in the strict order of their `_id`s, each is within the limits, and of a
+-- unique index no key stands in two of them
 pub record IsOrderly (state : State) : Type 0 where
   pub ordered : IsOrdered state.catalog
+  pub fits : AreWithinLimits state
   pub unique : AreUnique state
 
 -- the stages of each view were read from valid values

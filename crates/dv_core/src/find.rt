@@ -1,14 +1,18 @@
 //! First batches of rows, and the cursors that keep what is left behind them.
 
-ghost use Rattle.std.specs.Prelude.{◌≡◌, ◌<◌, ◌^◌, IfOk, map};
+ghost use Rattle.std.specs.Prelude.{◌≡◌, ◌<◌, ◌^◌, List as Sequence, IfOk, map};
 ghost use Rattle.std.specs.String.{string_bytes};
+ghost use Rattle.dv_catalog.specs.Scan.{limited};
 ghost use Rattle.dv_core.specs.Find as finding;
 ghost use Rattle.dv_core.specs.StepParts.{GivesAndLeaves};
 ghost use Rattle.dv_command.specs.Replies as replies;
 ghost use Rattle.dv_command.specs.Replies.{document_of};
+ghost use Rattle.dv_cursor.specs.Batch.{batch};
+ghost use Rattle.dv_pipe.specs.Sources.{Row};
 
 use dv_command::replies::first_batch_reply;
 use dv_command::{Refusal, ReplyNames};
+use dv_cursor::laws::a_batch_needs_no_later_row;
 use dv_cursor::{Cursors, Rows};
 use dv_value::{Document, List, NoMemory, Value, fits};
 use std::alloc::Global;
@@ -21,6 +25,19 @@ pub(crate) struct First {
     pub(crate) count: u64,
     /// Whether it is the only one.
     pub(crate) single: bool,
+}
+
+/// How many documents a find needs whose first batch is its only one: no more than may be in that, and than its limit, where 0 is
+/// none.
+pub(crate) fn rows_needed(limit: u64, batch_size: u64) -> u64
+    ensures { (rows : Sequence Row) → batch batch_size (limited result rows) ≡ batch batch_size (limited limit rows) }
+{
+    a_batch_needs_no_later_row();
+    if batch_size > 0 && (limit == 0 || batch_size < limit) {
+        batch_size
+    } else {
+        limit
+    }
 }
 
 /// The reply with the first batch of these rows; where rows are left behind it, and it isn't the only one, a cursor keeps

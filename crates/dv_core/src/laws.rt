@@ -85,8 +85,8 @@ pub fn a_delete_leaves_a_part()
 {}
 
 /// What every store keeps, whatever commands and loads bring: the documents of each namespace stand in the order of their
-/// `_id`s, no two of which are equal, whatever the width of their integers, and no key of a unique index stands in two of them.
-/// So it is before the first command, and so after each command, each load and each end of a session.
+/// `_id`s, no two of which are equal, whatever the width of their integers, each is within the limits for documents, and no key of
+/// a unique index stands in two of them. So it is before the first command, and so after each command, each load and each end of a session.
 pub fn states_stay_orderly()
     ensures before { IsOrderly empty_store_state }
     ensures after { (old new : State) (session : ℕ) (command : Command) (outcome : Outcome) → IsOrderly old → MemoryStep old session command outcome new → IsOrderly new }
@@ -100,6 +100,7 @@ pub fn states_stay_orderly()
     dv_coll::laws::replaced_documents_ascend();
     dv_coll::laws::replaced_documents_begin_with_ids();
     dv_update::laws::the_id_stays();
+    dv_update::laws::what_comes_out_fits();
     dv_index::laws::an_insert_without_a_clash_breaks_nothing();
     dv_index::laws::a_replacement_without_a_clash_breaks_nothing();
     dv_index::laws::a_removal_breaks_nothing();

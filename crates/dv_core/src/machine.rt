@@ -1,7 +1,7 @@
 //! The commands, carried out one by one.
 
 use crate::answers::{hello, outcome_of, ping, refuse, told};
-use crate::find::{First, first_batch};
+use crate::find::{First, first_batch, rows_needed};
 use crate::indexing::{explained, new_indexes};
 use crate::loading::namespace_in;
 use crate::more::{kill_all, next_batch};
@@ -20,6 +20,7 @@ use dv_command::{
 use dv_cursor::Cursors;
 use dv_value::Document;
 use dv_views::Rows;
+use dv_views::laws::what_is_shown_is_right;
 use std::alloc::Global;
 use std::marker::Model;
 
@@ -45,7 +46,8 @@ impl Model for Machine {
 }
 
 impl Machine {
-    ghost use Rattle.std.specs.Prelude.{◌≡◌, [], Ok, IfErr, OnErr, OnOk};
+    ghost use Rattle.std.specs.Prelude.{◌≡◌, ℕ, [], Ok, IfErr, OnErr, OnOk};
+    ghost use Rattle.dv_cursor.specs.Cursors.{Cursors as CursorsSeen};
     ghost use Rattle.dv_value.specs.declared.fault.BsonFault.TheVariants.{NoMemory};
     ghost use Rattle.dv_catalog.specs.Marks.{AreMarkedByDrop, marks_made, names_of_new, stored_of};
     ghost use Rattle.dv_catalog.specs.Parts.{StandMade, StandSo};
@@ -59,6 +61,7 @@ impl Machine {
     ghost use Rattle.dv_core.specs.Indexes as indexing;
     ghost use Rattle.dv_core.specs.More as more;
     ghost use Rattle.dv_core.specs.Load as loading;
+    ghost use Rattle.dv_core.specs.Sound.{AreWithinLimits};
     ghost use Rattle.dv_core.specs.State.{empty_store_state, marked, standing};
     ghost use Rattle.dv_core.specs.Stats as telling;
     ghost use Rattle.dv_core.specs.Step.{MemoryStep, TellsOfWant, end_session, replying};
@@ -80,6 +83,7 @@ impl Machine {
 
     /// Carries out one command of a session. Where memory is wanting, the reserve is given back for the reply.
     pub fn execute(&mut self, session: u32, command: &Command, reserve: &mut Reserve) -> Outcome
+        requires { AreWithinLimits self.old }
         ensures step { MemoryStep self.old session command.now result self.new }
         ensures unread { command.now ≡ Invalid NoMemory → TellsOfWant result }
     {
@@ -120,10 +124,12 @@ impl Machine {
     }
 
     fn find(&mut self, session: u32, find: Find) -> Result<Document, Refusal>
+        requires { AreWithinLimits self.old }
         ensures catalog { self.new.catalog ≡ self.old.catalog }
         ensures reply { GivesAndLeaves (finding.reply_to_find session (find_seen find) self.old.catalog self.old.cursors) self.old.cursors result self.new.cursors }
         ensures marks { StandRead (asking.find (find_seen find)) self.old result self.new.marks }
     {
+        let find = self.with_rows_needed(find);
         let rows = self.catalog.find(&find)?;
         let Find {
             namespace,
@@ -139,6 +145,20 @@ impl Machine {
         };
         self.names.prepare(self.alloc);
         first_batch(self.alloc, &self.names, &mut self.cursors, first, rows)
+    }
+
+    /// The find, of no more documents of a collection than its batch may have where that is the only one: none of them is over
+    /// the limits, for which the find would be refused.
+    fn with_rows_needed(&self, mut find: Find) -> Find
+        requires { AreWithinLimits self.now }
+        ensures reply { (session : ℕ) (cursors : CursorsSeen) → finding.reply_to_find session (find_seen result) self.now.catalog cursors ≡ finding.reply_to_find session (find_seen find) self.now.catalog cursors }
+        ensures namespace { (find_seen result).namespace ≡ (find_seen find).namespace }
+    {
+        if find.single_batch && !self.catalog.is_view(&find.namespace) {
+            what_is_shown_is_right();
+            find.limit = rows_needed(find.limit, find.batch_size);
+        }
+        find
     }
 
     fn aggregate(&mut self, session: u32, aggregate: Aggregate) -> Result<Document, Refusal>

@@ -109,3 +109,23 @@ filled_longest count taken (row ∷ rows) held = at (can_hold count (taken ++ ro
 pub batch-filled : (count : ℕ) (rows : Rows) → batch count rows ≡ filled count [] rows
 unfolding batch
 batch-filled count rows = filled_longest count [] rows (none_held count)
+
+-- ---- a batch needs no row behind those that it may have
+not_held : (n count : ℕ) (b : Bool) → count < n → (nat_le n count && b) ≡ false
+not_held n count b less = grind (arith, nat_tests)
+
+one_too_many : (count : ℕ) (taken : Rows) (row : List Field) → length taken ≡ count → can_hold count (taken ++ row ∷ []) ≡ false
+one_too_many count taken row whole =
+    let after = taken ++ row ∷ [] in
+    not_held (length after) count (nat_le (length after) 1 || nat_le (total_size after) batch_limit) (omega (arith, length-append taken (row ∷ []), whole))
+
+filled_taken : (count more : ℕ) (taken rows : Rows) → length taken + more ≡ count → filled count taken (take more rows) ≡ filled count taken rows
+filled_taken count zero taken [] whole = refl
+filled_taken count zero taken (row ∷ rows) whole = filled-no_more count taken row rows (one_too_many count taken row (omega (arith, whole)))
+filled_taken count (suc more) taken [] whole = refl
+filled_taken count (suc more) taken (row ∷ rows) whole =
+    ap (λ (rs : Rows). cond (can_hold count (taken ++ row ∷ [])) rs taken)
+    (filled_taken count more (taken ++ row ∷ []) rows (omega (arith, length-append taken (row ∷ []), whole)))
+
+pub batch_taken : (count : ℕ) (rows : Rows) → batch count (take count rows) ≡ batch count rows
+batch_taken count rows = batch-filled count (take count rows) ∙ filled_taken count count [] rows (omega arith) ∙ sym (batch-filled count rows)

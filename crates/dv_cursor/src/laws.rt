@@ -22,6 +22,11 @@ pub fn a_batch_is_full()
     ensures some { (count : ℕ) (row : List Field) (rows : List (List Field)) → 0 < count → batch count (row ∷ rows) ≢ [] }
 {}
 
+/// A batch of at most so many rows needs no row behind these.
+pub fn a_batch_needs_no_later_row()
+    ensures { (count : ℕ) (rows : List (List Field)) → batch count (take count rows) ≡ batch count rows }
+{}
+
 /// Batches that are had one after the other, joined, are a front of the rows.
 pub fn batches_are_a_front()
     ensures { (counts : List ℕ) (rows : List (List Field)) → batches_joined counts rows ++ behind_all counts rows ≡ rows }

@@ -1,6 +1,6 @@
-use Rattle.dv_core.specs.State.{standing}
+use Rattle.dv_core.specs.State.{empty_store_state, standing}
 use Rattle.dv_core.proofs.Bare.{bare}
-use Rattle.dv_core.proofs.Ordered.{AreApart, CollectionLaws, empty_whole, loaded_apart, steps_apart}
+use Rattle.dv_core.proofs.Ordered.{CollectionLaws, apart, empty_apart, loaded_apart, orderly, steps_apart}
 use Rattle.dv_core.proofs.Unique.{UniqueLaws}
 use Rattle.dv_core.proofs.laws.states_stay_orderly.Goals as goal
 
@@ -13,6 +13,7 @@ returns c =
       removed_ids = c.removed_documents_begin_with_ids.ensures;
       replaced_ascend = c.replaced_documents_ascend.ensures;
       id_stays = c.the_id_stays.ensures;
+      fits = c.what_comes_out_fits.ensures;
       replaced_ids = c.replaced_documents_begin_with_ids.ensures;
     } in
     let unique : UniqueLaws = record {
@@ -24,13 +25,8 @@ returns c =
       one_by_one = c.indexes_break_one_by_one.ensures;
     } in
     record {
-      before = record { ordered = λ namespace. (empty_whole namespace).documents.0; unique = λ namespace. (empty_whole namespace).unique };
-      after = λ old new session command outcome keeps steps. (
-          let left : AreApart (standing old.marks new) =
-          steps_apart laws unique old (standing old.marks new) session command outcome (λ namespace. record { documents = keeps.ordered namespace; unique = keeps.unique namespace }) (bare old new session command outcome steps) in
-          record { ordered = λ namespace. (left namespace).documents; unique = λ namespace. (left namespace).unique });
-      loaded = λ old new text d keeps is. (
-          let left : AreApart (standing old.marks new) = loaded_apart laws unique old (standing old.marks new) text d (λ namespace. record { documents = keeps.ordered namespace; unique = keeps.unique namespace }) is.so in
-          record { ordered = λ namespace. (left namespace).documents; unique = λ namespace. (left namespace).unique });
-      ended = λ session state keeps. record { ordered = keeps.ordered; unique = keeps.unique };
+      before = orderly empty_store_state empty_apart;
+      after = λ old new session command outcome keeps steps. orderly new (steps_apart laws unique old (standing old.marks new) session command outcome (apart old keeps) (bare old new session command outcome steps));
+      loaded = λ old new text d keeps is. orderly new (loaded_apart laws unique old (standing old.marks new) text d (apart old keeps) is.so);
+      ended = λ session state keeps. record { ordered = keeps.ordered; fits = keeps.fits; unique = keeps.unique };
     }

@@ -17,6 +17,7 @@ returns c =
       removed_ids = c.removed_documents_begin_with_ids.ensures;
       replaced_ascend = c.replaced_documents_ascend.ensures;
       id_stays = c.the_id_stays.ensures;
+      fits = c.what_comes_out_fits.ensures;
       replaced_ids = c.replaced_documents_begin_with_ids.ensures;
     } in
     let unique : UniqueLaws = record {
@@ -27,7 +28,7 @@ returns c =
       fewer_apart = c.fewer_indexes_break_no_more.ensures;
       one_by_one = c.indexes_break_one_by_one.ensures;
     } in
-    let updates : UpdateLaws = record { of_entries = c.the_update_of_an_entry_is_sound.ensures; stays_valid = c.what_comes_out_is_valid.ensures; fits = c.what_comes_out_fits.ensures } in
+    let updates : UpdateLaws = record { of_entries = c.the_update_of_an_entry_is_sound.ensures; stays_valid = c.what_comes_out_is_valid.ensures } in
     let changes = c.a_change_leaves_other_cursors.ensures in
     let cursors : CursorLaws = record { added_at = changes.added; advanced_at = changes.advanced; closed_at = changes.closed; ended_at = changes.ended; next_stays = changes.next; front = c.a_batch_is_a_front.ensures } in
     let asks = c.what_is_asked_is_sound.ensures in
