@@ -1,11 +1,14 @@
 //! Rows that are kept by changes.
 
-ghost use Rattle.std.specs.Prelude.{◌≡◌, ◌↔◌, ◌++◌, [], length, IfOk, IsTrue, OnErr, OnOk};
+ghost use Rattle.std.specs.Prelude.{◌≡◌, ◌↔◌, ◌++◌, [], filter, length, IfOk, IsTrue, OnErr, OnOk};
+ghost use Rattle.std.specs.BTreeMap.Range.{IsLeBy, IsLtBy, range_contains};
 ghost use Rattle.std.specs.List.{AllByRecursion};
+ghost use Rattle.std.specs.Range.Bound.{IsForward};
 ghost use Rattle.dv_change.specs.Beginning.{BeginsWith};
 ghost use Rattle.dv_change.specs.Changes.{Positioned, forget, with_change, with_changes};
 ghost use Rattle.dv_change.specs.Inputs.{left_after};
 ghost use Rattle.dv_change.specs.Linked.{HasTaken, IsLinked, first_left, forms_of};
+ghost use Rattle.dv_change.specs.Positions.{pos_order};
 ghost use Rattle.dv_change.specs.Raised.{raised};
 ghost use Rattle.dv_change.specs.Work.{HasAny, forms_after, pass_in, work_in};
 
@@ -18,7 +21,8 @@ use crate::turn::Turn;
 use dv_value::{Document, NoMemory};
 use std::alloc::Global;
 use std::collections::BTreeMap;
-use std::collections::btree_map::{Iter, Values};
+use std::collections::btree_map::{Iter, Range, Values};
+use std::ops::Bound;
 
 /// The rows that come out of a chain of turns, and the count of the work that its changes took.
 #[derive(Drop)]
@@ -108,6 +112,14 @@ impl<T: Turn + Drop> Live<T> {
         ensures { result ≡ self.now.rows.entries }
     {
         self.rows.iter()
+    }
+
+    /// The rows whose positions stand between two ends, each with its position, in the order of these. Takes no memory.
+    pub fn between(&self, low: Bound<Pos>, high: Bound<Pos>) -> Range<'_, Pos, Document>
+        requires { IsForward (IsLeBy pos_order) (IsLtBy pos_order) low high }
+        ensures { result ≡ filter (λ e. range_contains pos_order low high e.0) self.now.rows.entries }
+    {
+        self.rows.range((low, high))
     }
 
     /// How many rows there are.
