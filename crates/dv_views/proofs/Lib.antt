@@ -21,3 +21,6 @@ pub mod Behind
 mod Losing
 pub mod Heights
 pub mod Removing
+pub mod ById
+pub mod Based
+pub mod Ranges

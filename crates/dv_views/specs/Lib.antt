@@ -1,5 +1,6 @@
 pub mod Placed
 pub mod Forms
+pub mod ById
 pub mod Views
 pub mod Changed
 pub mod Flow
@@ -18,5 +19,6 @@ pub mod Passing
 pub mod Filled
 pub mod Keeping
 pub mod Seen
+pub mod Based
 pub mod MarkView
 pub mod Inside

@@ -2,6 +2,7 @@
 //! it reads.
 #![tactic(auto)]
 
+mod by_id;
 mod fault;
 mod keeping;
 pub mod laws;
@@ -12,10 +13,12 @@ mod passing;
 mod places;
 mod registry;
 mod rows;
+mod standing;
 mod state;
 mod turner;
 mod view;
 
+pub use by_id::{RowsBetween, RowsById, Standing};
 pub use fault::ViewFault;
 pub use lookups::{beside, lookups_of, names_read};
 pub use places::{document_gone, document_put, key_of_id};

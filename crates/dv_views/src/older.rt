@@ -10,7 +10,11 @@ use crate::view::View;
 use indexmap::IndexMap;
 
 /// The place of the view of this name, where it stands before a place.
-fn place_before(views: &IndexMap<String, View>, place: usize, name: &str) -> Option<usize>
+pub(crate) fn place_before(
+    views: &IndexMap<String, View>,
+    place: usize,
+    name: &str,
+) -> Option<usize>
     ensures { result ≡ place_of_name name.now (take place views.now.entries) }
 {
     let found = views.get_index_of(name)?;

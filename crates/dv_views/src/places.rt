@@ -51,7 +51,7 @@ pub fn key_of_id(document: &Document) -> Result<Key, NoMemory>
 }
 
 /// The position under the key.
-fn place_of(alloc: Global, key: Key) -> Result<Pos, NoMemory>
+pub(crate) fn place_of(alloc: Global, key: Key) -> Result<Pos, NoMemory>
     ensures { IfOk result (λ pos. pos ≡ Up key ∷ []) }
 {
     let mut parts = Vec::with_capacity(alloc, 1)?;

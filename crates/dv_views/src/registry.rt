@@ -15,6 +15,7 @@ ghost use Rattle.dv_views.specs.Seen.{IsSoundRegistry, view_seen};
 ghost use Rattle.dv_views.specs.Turned.{HaveTaken};
 ghost use Rattle.dv_views.specs.Views.{AreInOrder, AreNamedApart, ArePartlyRefreshed, AreRefreshed, AreRight, IsRefusedFor, view_form, has_view, is_stale, reads_name, mark_rows, rows_shown, state_of_mark, mark_ticks, view_under, views_without};
 
+mod by_id;
 mod gone;
 
 use crate::fault::ViewFault;
