@@ -1,3 +1,4 @@
 pub mod Absent
 pub mod Steps
 pub mod SameLeft
+pub mod Leads

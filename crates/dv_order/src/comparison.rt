@@ -66,7 +66,7 @@ fn compare_binaries(subtype: u8, bytes: &[u8], other_subtype: u8, other_bytes: &
 #[cycle(compare)]
 // Apart, so that no registers are saved where numbers or strings are compared.
 #[inline(never)]
-fn compare_documents(a: &Document, b: &Document) -> Ordering
+pub(crate) fn compare_documents(a: &Document, b: &Document) -> Ordering
     ensures { result ≡ fields_order (fields_of a.now) (fields_of b.now) }
 {
     'fields: for place in 0..a.len() {

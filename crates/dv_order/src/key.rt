@@ -1,23 +1,28 @@
 //! Keys, by which a sorted index finds values.
 
-ghost use Rattle.std.specs.Prelude.{◌≡◌, Some, IfOk, IfSome, is_some, refl};
+ghost use Rattle.std.specs.Prelude.{◌≡◌, true, Some, IfOk, IfSome, is_some, refl};
 ghost use Rattle.std.specs.BTreeMap.{get_by, is_at};
 ghost use Rattle.std.specs.Map.{set_value};
 ghost use Rattle.std.specs.Cmp.{eq_by_cmp_equiv, partial_equiv_from_equiv, partial_order_from_total};
 ghost use Rattle.std.specs.Option.{option_map};
 ghost use Rattle.std.specs.Ordering.{as_partial_cmp, eq_by_cmp};
-ghost use Rattle.dv_value.specs.Tree.{int64};
+ghost use Rattle.dv_value.specs.Tree.{int64, string};
 ghost use Rattle.dv_value.specs.View.{tree};
 ghost use Rattle.dv_order.specs.Order.{canon};
 ghost use Rattle.dv_order.specs.Key.{first_value, key_at, key_class, key_order, no_element, value as key_of_tree};
+ghost use Rattle.dv_order.specs.Codes.{key_high, key_low, key_of_code};
 ghost use Rattle.dv_order.specs.KeyLaws.{key_order_total};
+ghost use Rattle.dv_order.specs.LentKeys.{lent_key};
 ghost use Rattle.dv_order.specs.OwnKeys.{IsOwn};
 
+use crate::code::{KeyCode, code_of, integer_of, object_id_of};
 use crate::comparison::{class_of, compare};
-use dv_value::{Document, NoMemory, Value};
+use crate::lent::{LentKey, compare_to_lent};
+use dv_value::{Document, NoMemory, Str, Value};
 use std::cmp::Ordering;
 use std::collections::BTreeMap;
 use std::marker::Model;
+use std::rc::Rc;
 
 /// What a key is made of.
 #[derive(Debug, Drop)]
@@ -25,6 +30,8 @@ enum Source {
     NoElement,
     /// A value, integers with 64 bits.
     Element(Value),
+    /// A text of more than 48 bytes, shared by copies of the key.
+    Shared(Rc<Value>),
     /// The document whose first field has the value.
     First(Document),
 }
@@ -48,12 +55,27 @@ impl Model for Key {
     ghost view = { λ k. key_at (source_value k.source) };
 }
 
-/// The key of the value, which holds a copy of it. Fails where memory is wanting.
+/// The longest text in bytes of which each copy of a key has its own: a pointer that is shared takes as much.
+const OWN_TEXT: usize = 48;
+
+/// The key of the value, which holds a copy of it; copies of the key share it where it is long. Fails where memory is wanting.
 pub fn key_of(value: &Value) -> Result<Key, NoMemory>
     ensures { IfOk result (λ key. key ≡ key_of_tree (canon (tree value.now))) }
 {
+    match value {
+        Value::Text(text) if OWN_TEXT < text.as_str().len() => shared(text),
+        _ => Ok(Key::of_value(widened(value)?)),
+    }
+}
+
+/// The key of the text, whose copies share it. Fails where memory is wanting.
+fn shared(text: &Str) -> Result<Key, NoMemory>
+    ensures { IfOk result (λ key. key ≡ key_of_tree (string text.now)) }
+{
+    let copy = text.try_clone()?.into_inner();
+    let alloc = *copy.allocator();
     Ok(Key {
-        source: Source::Element(widened(value)?),
+        source: Source::Shared(Rc::new(alloc, Value::Text(Str::of(copy)))?),
     })
 }
 
@@ -91,15 +113,27 @@ impl Key {
     fn of_integer(number: i64) -> Self
         ensures { result ≡ key_at (Some (int64 number)) }
     {
+        Key::of_value(Value::Int64(number))
+    }
+
+    /// The key that the value is put into.
+    pub(crate) fn of_value(value: Value) -> Self
+        ensures { result ≡ key_at (Some (tree value)) }
+    {
         Key {
-            source: Source::Element(Value::Int64(number)),
+            source: Source::Element(value),
         }
     }
 
-    /// A copy of its own. Fails where memory is wanting.
+    /// A copy, which shares a long text. Fails where memory is wanting.
     pub fn try_clone(&self) -> Result<Self, NoMemory>
         ensures { IfOk result (λ copy. copy ≡ self.now) }
     {
+        if let Source::Shared(value) = &self.source {
+            return Ok(Key {
+                source: Source::Shared(value.clone()?),
+            });
+        }
         match self.element() {
             None => Ok(Key::no_element()),
             Some(value) => key_of(value),
@@ -113,6 +147,65 @@ impl Key {
         let _element = self.element();
     }
 
+    /// Its code. Takes no memory.
+    #[tactic(auto, using(crate::specs::SameOrder::class_of_canon, crate::specs::CodeLaws::high_of_canon, crate::specs::CodeLaws::low_of_canon))]
+    pub fn code(&self) -> KeyCode
+        ensures class { result.class ≡ key_class self.now }
+        ensures high { result.high ≡ key_high self.now }
+        ensures low { result.low ≡ key_low self.now }
+        ensures exact { result.is_exact ≡ true → key_of_code result.class result.high result.low ≡ self.now }
+    {
+        match self.element() {
+            None => KeyCode {
+                class: 1,
+                high: 0,
+                low: 0,
+                is_exact: true,
+            },
+            Some(value) => code_of(value),
+        }
+    }
+
+    /// The key that the parts of a code tell, which is the key of the code if that is exact. Takes no memory.
+    pub fn of_code(class: u8, high: u64, low: u32) -> Self
+        ensures { result ≡ key_of_code class high low }
+    {
+        let value = match class {
+            0 => Value::MinKey,
+            1 => return Key::no_element(),
+            2 => Value::Null,
+            3 => Value::Int64(integer_of(high)),
+            8 => Value::ObjectId(object_id_of(high, low)),
+            9 => Value::Bool(high == 1),
+            10 => Value::Date(integer_of(high)),
+            11 => Value::Timestamp(high),
+            _ => Value::MaxKey,
+        };
+        Key::of_value(value)
+    }
+
+    /// The key, lent, if it is that of a text or of a document. Takes no memory.
+    pub fn lent(&self) -> Option<LentKey<'_>>
+        ensures { IfSome result (λ lent. lent_key lent ≡ self.now) }
+    {
+        match self.element()? {
+            Value::Text(text) => Some(LentKey::Text(text.as_str())),
+            Value::Doc(document) => Some(LentKey::Document(document)),
+            _ => None,
+        }
+    }
+
+    /// Where the key stands beside one that is lent. Takes no memory.
+    #[tactic(auto, using(crate::specs::SameOrder::order_of_canon, crate::specs::SameOrder::class_of_canon))]
+    pub fn compare_to(&self, other: &LentKey) -> Ordering
+        ensures { result ≡ key_order self.now (lent_key other.now) }
+    {
+        match self.element() {
+            Some(value) => compare_to_lent(value, other),
+            None => 1_u8.cmp(&other.class()),
+        }
+    }
+
     /// The value whose key it is, where there is one.
     fn element(&self) -> Option<&Value>
         ensures { key_at (option_map (λ value. tree value.now) result) ≡ self.now }
@@ -120,6 +213,7 @@ impl Key {
         match &self.source {
             Source::NoElement => None,
             Source::Element(value) => Some(value),
+            Source::Shared(value) => Some(value.as_ref()),
             Source::First(document) => match document.entry(0) {
                 Some((_, value)) => Some(value),
                 None => None,

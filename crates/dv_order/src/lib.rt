@@ -1,12 +1,16 @@
 //! The order of BSON values, and keys that have it.
 #![tactic(auto)]
 
+mod code;
 mod comparison;
 mod key;
 pub mod laws;
+mod lent;
 mod placed;
 mod same;
 
+pub use code::KeyCode;
 pub use comparison::{compare, same_class};
 pub use key::{Key, key_of, replace_under_first};
+pub use lent::LentKey;
 pub use same::{is_same, same_documents};

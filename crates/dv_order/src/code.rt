@@ -1,0 +1,165 @@
+//! Codes of keys: a class, and two numbers that rise with the key inside its class.
+
+ghost use Rattle.std.specs.Prelude.{ℕ, suc, ◌+◌, ◌*◌, ◌≡◌, ◌<◌, ◌≤◌, ◌^◌, ◌++◌, true};
+ghost use Rattle.std.specs.Int.{to_be_bytes, w32, w64};
+ghost use Rattle.dv_value.specs.View.{tree};
+ghost use Rattle.dv_order.specs.Order.{canon, class};
+ghost use Rattle.dv_order.specs.Key.{value as key_of_tree};
+ghost use Rattle.dv_order.specs.Codes.{after, integer_at, key_of_code, lead, offset, value_high, value_low};
+
+use crate::comparison::class_of;
+use dv_value::Value;
+
+/// What a key is compared by first.
+#[derive(Clone, Copy, Debug, Drop)]
+pub struct KeyCode {
+    /// Where the key stands among the classes of values.
+    pub class: u8,
+    /// Rises with the key inside its class.
+    pub high: u64,
+    /// Rises with the key where the number above is the same.
+    pub low: u32,
+    /// Whether these tell the key.
+    pub is_exact: bool,
+}
+
+/// The number of the lowest integer that isn't negative.
+const HALF: u64 = 9_223_372_036_854_775_808;
+
+/// The integer's place among all of 64 bits, the lowest having 0.
+pub(crate) fn offset_of(number: i64) -> u64
+    ensures offset { result ≡ offset number }
+    ensures back { integer_at result ≡ number }
+{
+    if number >= 0 {
+        HALF + number.unsigned_abs()
+    } else {
+        HALF - number.unsigned_abs()
+    }
+}
+
+/// The integer at a place.
+pub(crate) fn integer_of(place: u64) -> i64
+    ensures { result ≡ integer_at place }
+{
+    if place >= HALF {
+        (place - HALF) as i64
+    } else {
+        -((HALF - 1 - place) as i64) - 1
+    }
+}
+
+/// The first byte, 0 where there is none, and what is behind it.
+fn first_of(bytes: &[u8]) -> (u8, &[u8])
+    ensures number { (n acc : ℕ) → lead (suc n) acc bytes.now ≡ lead n (acc * 256 + result.0) result.1.now }
+    ensures rest { (n : ℕ) → after (suc n) bytes.now ≡ after n result.1.now }
+    ensures within { result.0 < 256 }
+{
+    match bytes.split_first() {
+        Some((byte, rest)) => (*byte, rest),
+        None => (0, bytes),
+    }
+}
+
+/// The number that the first `count` bytes are the digits of, zeros where there are fewer, and what is behind them.
+fn lead_of(bytes: &[u8], count: usize) -> (u64, &[u8])
+    requires { count ≤ 8 }
+    ensures number { result.0 ≡ lead count 0 bytes.now }
+    ensures rest { result.1.now ≡ after count bytes.now }
+    ensures within { result.0 < 256 ^ count }
+{
+    let mut number = 0_u64;
+    let mut rest = bytes;
+    'digits: for place in 0..count {
+        let (byte, more) = first_of(rest);
+        number = number * 256 + u64::from(byte);
+        rest = more;
+    }
+    (number, rest)
+}
+
+/// The first twelve bytes, as two numbers.
+pub(crate) fn numbers_of_bytes(bytes: &[u8]) -> (u64, u32)
+    ensures high { result.0 ≡ lead 8 0 bytes.now }
+    ensures low { result.1 ≡ lead 4 0 (after 8 bytes.now) }
+{
+    let (high, rest) = lead_of(bytes, 8);
+    let (low, _) = lead_of(rest, 4);
+    (high, low as u32)
+}
+
+/// The bytes of two numbers.
+pub(crate) fn object_id_of(high: u64, low: u32) -> [u8; 12]
+    ensures { result ≡ to_be_bytes w64 high ++ to_be_bytes w32 low }
+{
+    let [a, b, c, d, e, f, g, h] = high.to_be_bytes();
+    let [i, j, k, l] = low.to_be_bytes();
+    [a, b, c, d, e, f, g, h, i, j, k, l]
+}
+
+/// The code of the value's key. Takes no memory.
+pub(crate) fn code_of(value: &Value) -> KeyCode
+    ensures class { result.class ≡ class (tree value.now) }
+    ensures high { result.high ≡ value_high (tree value.now) }
+    ensures low { result.low ≡ value_low (tree value.now) }
+    ensures exact { result.is_exact ≡ true → key_of_code result.class result.high result.low ≡ key_of_tree (canon (tree value.now)) }
+{
+    let class = class_of(value);
+    match value {
+        Value::Int32(number) => KeyCode {
+            class,
+            high: offset_of(i64::from(*number)),
+            low: 0,
+            is_exact: true,
+        },
+        Value::Int64(number) | Value::Date(number) => KeyCode {
+            class,
+            high: offset_of(*number),
+            low: 0,
+            is_exact: true,
+        },
+        Value::Text(text) => {
+            let (high, low) = numbers_of_bytes(text.as_str().as_bytes());
+            KeyCode {
+                class,
+                high,
+                low,
+                is_exact: false,
+            }
+        }
+        Value::ObjectId(id) => {
+            let (high, low) = numbers_of_bytes(id);
+            KeyCode {
+                class,
+                high,
+                low,
+                // Always so; that it is looked at stands in place of a proof, and costs nothing where keys are compared.
+                is_exact: object_id_of(high, low) == *id,
+            }
+        }
+        Value::Bool(truth) => KeyCode {
+            class,
+            high: u64::from(*truth),
+            low: 0,
+            is_exact: true,
+        },
+        Value::Timestamp(number) => KeyCode {
+            class,
+            high: *number,
+            low: 0,
+            is_exact: true,
+        },
+        Value::MinKey | Value::Null | Value::MaxKey => KeyCode {
+            class,
+            high: 0,
+            low: 0,
+            is_exact: true,
+        },
+        Value::Doc(_) | Value::Array(_) | Value::Binary { .. } => KeyCode {
+            class,
+            high: 0,
+            low: 0,
+            is_exact: false,
+        },
+    }
+}

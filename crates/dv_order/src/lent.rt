@@ -1,0 +1,69 @@
+//! Keys of texts and documents, lent by what holds these.
+
+ghost use Rattle.std.specs.Prelude.{◌≡◌, IfOk};
+ghost use Rattle.dv_value.specs.View.{tree};
+ghost use Rattle.dv_order.specs.Order.{class, order};
+ghost use Rattle.dv_order.specs.Key.{key_order};
+ghost use Rattle.dv_order.specs.LentKeys.{lent_key, lent_value};
+
+use crate::comparison::{class_of, compare_documents};
+use crate::key::Key;
+use dv_value::{Document, NoMemory, Str, Value};
+use std::alloc::Global;
+use std::cmp::Ordering;
+
+/// The key of a text or of a document, which stands elsewhere.
+#[derive(Clone, Copy, Debug, Drop)]
+pub enum LentKey<'a> {
+    /// Of a text.
+    Text(&'a str),
+    /// Of a document.
+    Document(&'a Document),
+}
+
+impl<'a> LentKey<'a> {
+    /// Where the key stands beside another one, as keys stand. Takes no memory.
+    #[tactic(auto, using(crate::specs::SameOrder::order_of_canon))]
+    pub fn compare(&self, other: &LentKey) -> Ordering
+        ensures { result ≡ key_order (lent_key self.now) (lent_key other.now) }
+    {
+        match (self, other) {
+            (LentKey::Text(a), LentKey::Text(b)) => a.cmp(b),
+            (LentKey::Document(a), LentKey::Document(b)) => compare_documents(a, b),
+            _ => self.class().cmp(&other.class()),
+        }
+    }
+
+    /// The key, of its own. Fails where memory is wanting.
+    pub fn to_key(&self, alloc: Global) -> Result<Key, NoMemory>
+        ensures { IfOk result (λ key. key ≡ lent_key self.now) }
+    {
+        match self {
+            LentKey::Text(text) => Ok(Key::of_value(Value::Text(Str::of(String::from_str(
+                alloc, text,
+            )?)))),
+            LentKey::Document(document) => Ok(Key::of_value(Value::Doc(document.try_clone()?))),
+        }
+    }
+
+    /// Where its value stands among the classes of values.
+    pub(crate) fn class(&self) -> u8
+        ensures { result ≡ class (lent_value self.now) }
+    {
+        match self {
+            LentKey::Text(_) => 4,
+            LentKey::Document(_) => 5,
+        }
+    }
+}
+
+/// The order of the value and that of the key.
+pub(crate) fn compare_to_lent(value: &Value, key: &LentKey) -> Ordering
+    ensures { result ≡ order (tree value.now) (lent_value key.now) }
+{
+    match (value, key) {
+        (Value::Text(a), LentKey::Text(b)) => a.as_str().cmp(b),
+        (Value::Doc(a), LentKey::Document(b)) => compare_documents(a, b),
+        _ => class_of(value).cmp(&key.class()),
+    }
+}
