@@ -36,6 +36,7 @@ A_JOB = 7 << 28  # bytes that each further processor of a check may take
 SIDE_BY_SIDE = 3  # crates that are proved at once, since each leaves processors alone for a while
 ALL_WORK = 16 << 30  # bytes that the crates' work takes on disk
 SHARED = 1.25  # how much more processor time a check takes that several processors share
+FEWER = 2  # the share of the processors that a crate beside another one gets: each reads the libraries once more, a quarter of a small crate's work
 LESS_URGENT = 6  # by how much the priority of a crate is lower, in the system's `nice`, for each that goes before it
 A_LOOK = 0.2  # seconds from one look at the running checks to the next
 ALONE = 0.9  # how much of its processor time a crate takes at least, however many processors share it, as a first build showed
@@ -141,8 +142,8 @@ class Build:
         ready = [it for it in self.left if self.crates.below(it) <= self.done and (it != PROGRAM or not self.running)]
         for name in sorted(ready, key=self.crates.behind, reverse=True):
             taken = sum(jobs for _, _, jobs in self.running.values())
-            jobs = min(self.processors, self.room - taken, SIDE_BY_SIDE * self.processors - taken)
-            if jobs < 1 and self.running:
+            jobs = min(self.processors if not self.running else max(1, self.processors // FEWER), self.room - taken)
+            if len(self.running) == SIDE_BY_SIDE or (jobs < 1 and self.running):
                 break
             tell("%s, crate %d of %d .." % (name, len(self.done) + len(self.running) + 1, len(self.crates.names)))
             self.left.remove(name)
