@@ -1,10 +1,11 @@
 -- A candidate that is an array.
-use Rattle.std.proofs.Common.{Bor, ◌≡◌, ◌∙◌, ap, Some, List}
+use Rattle.std.proofs.Common.{Bor, ◌≡◌, ◌∙◌, ◌∷◌, ap, ap₂, sym, map, Some, List}
 use Rattle.dv_value.specs.declared.value.Value.{Value}
 use Rattle.dv_value.specs.Tree.{Tree, array, elements_of}
 use Rattle.dv_value.specs.View.{tree}
 use Rattle.dv_candidates.specs.declared.candidate.Candidate as memory
 use Rattle.dv_candidates.specs.declared.candidate.Candidate.TheVariants.{Found}
+use Rattle.dv_candidates.specs.Candidates.{with_elements}
 use Rattle.dv_candidates.specs.View.{seen}
 use Rattle.dv_match.specs.Match.{has_size, elements_in}
 use Rattle.dv_match.proofs.Items.{elements_again}
@@ -19,3 +20,6 @@ module _ (c : memory.Candidate) (value : Bor Value) (at : c ≡ Found value) (l 
 
   pub array-size : (n : ℕ) → has_size n (seen c) ≡ (length l == n)
   array-size n = ap (has_size n) array-seen ∙ ap (λ vs. length vs == n) (elements_again l)
+
+  pub array-parts : with_elements (seen c) ≡ seen c ∷ map Some l
+  array-parts = ap with_elements array-seen ∙ ap₂ (λ d vs. d ∷ map Some vs) (sym array-seen) (elements_again l)

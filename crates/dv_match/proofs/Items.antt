@@ -34,7 +34,7 @@ pub any-map : {X Y : Type 0} (p : Y → Bool) (view : X → Y) (xs : List X) →
 any-map p view [] = refl
 any-map p view (x ∷ xs) = ap (λ b. p (view x) || b) (any-map p view xs)
 
-all-map : {X Y : Type 0} (p : Y → Bool) (view : X → Y) (xs : List X) → list_all p (map view xs) ≡ list_all (λ x. p (view x)) xs
+pub all-map : {X Y : Type 0} (p : Y → Bool) (view : X → Y) (xs : List X) → list_all p (map view xs) ≡ list_all (λ x. p (view x)) xs
 all-map p view [] = refl
 all-map p view (x ∷ xs) = ap (λ b. p (view x) && b) (all-map p view xs)
 

@@ -5,4 +5,5 @@ pub mod First
 pub mod Collected
 pub mod Few
 pub mod Chosen
+pub mod Marked
 pub mod Interval

@@ -1,4 +1,5 @@
 pub mod Asked
+pub mod Blocks
 pub mod Choices
 pub mod Examples
 pub mod Straight

@@ -1,17 +1,19 @@
-//! The values of `$in` and `$nin`.
+//! The values of `$in`, `$nin` and `$all`.
 
 ghost use Rattle.std.specs.Prelude.{◌≡◌, IfOk};
 ghost use Rattle.std.specs.List.{list_any};
 ghost use Rattle.std.specs.Ordering.{is_eq};
 ghost use Rattle.dv_value.specs.View.{tree};
 ghost use Rattle.dv_order.specs.Order.{order};
+ghost use Rattle.dv_match.specs.Choices.{AreChoicesInOrder};
 
+use crate::ascending::place_of;
 use dv_order::compare;
 use dv_value::{List, NoMemory, Value};
 use std::marker::Model;
 
-/// The values of `$in` or `$nin`, in written order. Beside them stands a copy in the order of values, among which a value
-/// is looked up.
+/// The values of `$in`, `$nin` or `$all`, in written order. Beside them stand copies in the order of values, of equal ones
+/// one, among which a value is looked up.
 #[derive(Debug, Drop)]
 pub struct Choices {
     values: List,
@@ -41,6 +43,7 @@ impl Choices {
     {
         let mut ascending = values.try_clone()?.into_inner();
         ascending.sort_by(|first, second| compare(first, second))?;
+        ascending.dedup_by(|later, earlier| compare(later, earlier).is_eq());
         Ok(Choices { values, ascending })
     }
 
@@ -51,15 +54,19 @@ impl Choices {
         &self.values
     }
 
+    /// Copies of the values in ascending order, and of those that compare equal one.
+    pub(crate) fn ascending(&self) -> &[Value]
+        ensures { AreChoicesInOrder self.now result.now }
+    {
+        self.ascending.as_slice()
+    }
+
     /// Whether one of the values compares equal to this one. Takes no memory, and comparisons logarithmic in the number
     /// of values.
     pub fn contains(&self, value: &Value) -> bool
         ensures { result ≡ list_any (λ v. is_eq (order (tree value.now) v)) self.now }
     {
-        let found = self
-            .ascending
-            .binary_search_by(|member| compare(member, value));
-        found.is_ok()
+        place_of(self.ascending(), value).is_some()
     }
 
     /// A copy of its own. Fails where memory is wanting.

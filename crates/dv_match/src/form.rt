@@ -7,7 +7,7 @@ ghost use Rattle.dv_match.specs.View.{member, condition};
 use crate::choices::Choices;
 use crate::range::Range;
 use dv_candidates::Path;
-use dv_value::{List, NoMemory, Value};
+use dv_value::{NoMemory, Value};
 use std::marker::Model;
 
 /// What a document has to be in order to match a filter.
@@ -42,7 +42,7 @@ pub enum Condition {
     /// `$not`: not all conditions are met.
     Not(Conditions),
     /// `$all`: there are values, and to each some leaf compares equal.
-    All(List),
+    All(Choices),
     /// `$exists`: whether some candidate isn't missing.
     Exists(bool),
     /// `$size`: some candidate is an array of so many elements.

@@ -1,11 +1,13 @@
 //! Filters of BSON documents.
 #![tactic(auto)]
 
+mod ascending;
 mod choices;
 mod fault;
 mod form;
 pub mod laws;
 mod leaf;
+mod marks;
 mod matching;
 mod operand;
 mod operator;

@@ -11,14 +11,18 @@ ghost use Rattle.dv_match.specs.View.{member, condition, test};
 use crate::choices::Choices;
 use crate::form::{Condition, Conditions, Filter, Filters, Member, Test};
 use crate::leaf::{has_size, is_among, is_equal, is_found, is_in_range};
+use crate::marks::have_equals;
 use crate::place::{Place, any_candidate, any_part};
 use crate::range::Range;
 use dv_candidates::Candidate;
 use dv_value::{Document, List, Value};
 
+/// How many values of `$all` are looked for one after the other. For more of them marks are kept.
+const FEW: usize = 8;
+
 impl Filter {
     /// Whether the document matches: all the filter's members match. Takes no memory, and stops as soon as the answer is
-    /// known.
+    /// known; for more than eight values of `$all` all leaves are looked at, once for each 128 of them.
     #[cycle(matching)]
     pub fn matches(&self, document: &Document) -> bool
         ensures { result ≡ defined.matches self.now document.now }
@@ -100,7 +104,7 @@ impl Condition {
             Condition::In(choices) => has_among(place, choices),
             Condition::Nin(choices) => !has_among(place, choices),
             Condition::Not(conditions) => !conditions.are_met(place),
-            Condition::All(values) => has_every(place, values),
+            Condition::All(choices) => has_every(place, choices),
             Condition::Exists(wanted) => has_any(place) == *wanted,
             Condition::Size(size) => has_sized(place, *size),
             Condition::ElemMatch(wanted) => any_candidate(
@@ -172,7 +176,19 @@ fn has_among(place: Place<'_>, choices: &Choices) -> bool
 }
 
 /// Whether there are values, and to each some leaf compares equal.
-fn has_every(place: Place<'_>, values: &List) -> bool
+fn has_every(place: Place<'_>, choices: &Choices) -> bool
+    ensures { result ≡ defined.holds_every choices.now (parts place.entry) }
+{
+    let values = choices.values();
+    if values.as_slice().len() > FEW {
+        have_equals(place, choices.ascending())
+    } else {
+        has_each(place, values)
+    }
+}
+
+/// The same, looking at the leaves for one value after the other.
+fn has_each(place: Place<'_>, values: &List) -> bool
     ensures { result ≡ defined.holds_every values.now (parts place.entry) }
 {
     let members = values.as_slice();

@@ -55,16 +55,15 @@ pub(crate) fn choices_of(value: &Value) -> Result<Choices, FilterFault>
 
 /// The values of an array, none of which is an operator list.
 #[tactic(auto, using(crate::proofs::Items::elements_again))]
-pub(crate) fn plain_values_of(value: &Value) -> Result<&List, FilterFault>
-    ensures { Gives (λ list. list.now) result (defined.plain_values (tree value.now)) }
+pub(crate) fn plain_choices_of(value: &Value) -> Result<Choices, FilterFault>
+    ensures { Gives (λ choices. choices) result (defined.plain_values (tree value.now)) }
 {
     match value {
         Value::Array(list) => {
             if any_operator_list(list) {
-                Err(FilterFault::BadOperand)
-            } else {
-                Ok(list)
+                return Err(FilterFault::BadOperand);
             }
+            Ok(Choices::of(list.try_clone()?)?)
         }
         _ => Err(FilterFault::BadOperand),
     }

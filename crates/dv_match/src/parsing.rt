@@ -11,7 +11,7 @@ ghost use Rattle.dv_match.specs.View.{member, condition, test};
 use crate::fault::FilterFault;
 use crate::form::{Condition, Conditions, Filter, Filters, Member, Test};
 use crate::operand::{
-    choices_of, lists_conditions, lists_operators, plain_values_of, size_of, truth_of,
+    choices_of, lists_conditions, lists_operators, plain_choices_of, size_of, truth_of,
 };
 use crate::operator::{Operator, operator_named};
 use crate::range::Range;
@@ -169,7 +169,7 @@ fn condition_of(alloc: Global, name: &str, value: &Value) -> Result<Condition, F
         Operator::In => Ok(Condition::In(choices_of(value)?)),
         Operator::Nin => Ok(Condition::Nin(choices_of(value)?)),
         Operator::Not => Ok(Condition::Not(negated_of(alloc, value)?)),
-        Operator::All => Ok(Condition::All(plain_values_of(value)?.try_clone()?)),
+        Operator::All => Ok(Condition::All(plain_choices_of(value)?)),
         Operator::Exists => Ok(Condition::Exists(truth_of(value)?)),
         Operator::Size => Ok(Condition::Size(size_of(value)?)),
         Operator::ElemMatch => Ok(Condition::ElemMatch(test_of(alloc, value)?)),

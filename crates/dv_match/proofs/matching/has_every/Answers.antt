@@ -1,20 +1,11 @@
-use Rattle.std.proofs.Common.{◌≡◌, ◌∙◌, ◌&&◌, ◌==◌, not, ap, sym, true, length}
-use Rattle.std.specs.List.{list_any, list_all}
-use Rattle.dv_value.specs.View.{tree}
+use Rattle.std.proofs.Common.{◌∙◌, ◌<◌, ap, arith, length}
 use Rattle.dv_match.specs.Asked.{parts}
-use Rattle.dv_match.specs.Match.{is_equal}
-use Rattle.dv_match.proofs.Items.{length-seen, all-but-here, all-over, and-false, and-true}
+use Rattle.dv_match.proofs.Items.{length-seen}
+use Rattle.dv_match.proofs.Marked.{every-chosen}
 use Rattle.dv_match.proofs.matching.has_every.Goals as goal
 
-pub returns-then-not-has_equal : goal.returns-then-not-has_equal
-returns-then-not-has_equal c =
-    let vs = c.args.values.now in
-    sym (ap (λ b. not (length vs == 0) && b) (all-but-here (λ v. list_any (is_equal v) (parts c.args.place)) tree c.as_slice-members.result.now vs c.as_slice-members.ensures c.loop-value.value-index c.value-item.result c.loop-value-test.true c.value-item.is (sym c.if-not-has_equal.ensures)) ∙ and-false (not (length vs == 0)))
-
-pub returns : goal.returns
-returns c =
-    let vs = c.args.values.now in
-    let members = c.as_slice-members.result.now in
-    let len : length members ≡ length vs = sym (length-seen members) ∙ ap length c.as_slice-members.ensures in
-    let every : list_all (λ v. list_any (is_equal v) (parts c.args.place)) vs ≡ true = all-over (λ v. list_any (is_equal v) (parts c.args.place)) tree members vs c.as_slice-members.ensures c.loop-value.value-index c.loop-value-test.false c.loop-value.invariant in
-    ap not (c.is_empty.ensures ∙ ap (λ n. n == 0) len) ∙ sym (ap (λ b. not (length vs == 0) && b) every ∙ and-true (not (length vs == 0)))
+pub returns-then-as_slice-gt-FEW : goal.returns-then-as_slice-gt-FEW
+returns-then-as_slice-gt-FEW c =
+    let values = c.as_slice.result.now in
+    let some : 0 < length c.args.choices.now = omega (arith, length-seen values, ap length c.as_slice.ensures, ap length c.values-values.ensures, c.if-as_slice-gt-FEW.true) in
+    c.have_equals.ensures ∙ every-chosen c.args.choices.now c.ascending.result.now (parts c.args.place) c.ascending.ensures some
