@@ -73,8 +73,8 @@ module _ (m : ℕ) (name : List ℕ) (names : Path) (d e : List Field) where
 abbrev Reaches : ℕ → Path → Type 0
 Reaches m names = below names m ≡ most_levels
 
-reach : (names : Path) → length names ≤ 999 → Reaches (999 - length names) names
-reach names h = omega (arith, below-sum names (999 - length names))
+reach : (names : Path) → length names ≤ 299 → Reaches (299 - length names) names
+reach names h = omega (arith, below-sum names (299 - length names))
 
 module _ (m : ℕ) (name : List ℕ) (names : Path) (is : Reaches m names) (d e : List Field) (alike : fields_down_to most_levels d ≡ fields_down_to most_levels e) where
   alike-below : fields_down_to (below names m) d ≡ fields_down_to (below names m) e
@@ -201,9 +201,9 @@ module _ (m : ℕ) (name : List ℕ) (names : Path) (is : Reaches m names) (d e 
   edits-alike (pull p) other shallow = pulls-alike m name names is d e alike p (slot d (name ∷ names)) (slot e (name ∷ names)) (slots-alike m name names is d e alike) shallow
 
 -- an edit whose path has few components
-pub short_edit : (path : Path) (o : Operation) (d e : List Field) → (path ≡ [] → ⊥) → length path ≤ 1000 → is_removal o ≡ false → PullsShallow (1000 - length path) o (slot e path) → Alike d e → marked most_levels (edit_at path o d) ≡ marked most_levels (edit_at path o e)
+pub short_edit : (path : Path) (o : Operation) (d e : List Field) → (path ≡ [] → ⊥) → length path ≤ 300 → is_removal o ≡ false → PullsShallow (300 - length path) o (slot e path) → Alike d e → marked most_levels (edit_at path o d) ≡ marked most_levels (edit_at path o e)
 unfolding Alike
 short_edit [] o d e some short other shallow alike = absurd (some refl)
 short_edit (name ∷ names) o d e some short other shallow alike =
-    let left : 1000 - length (name ∷ names) ≡ 999 - length names = omega arith in
-    edits-alike (999 - length names) name names (reach names (omega arith)) d e alike o other (subst (λ m. PullsShallow m o (slot e (name ∷ names))) left shallow)
+    let left : 300 - length (name ∷ names) ≡ 299 - length names = omega arith in
+    edits-alike (299 - length names) name names (reach names (omega arith)) d e alike o other (subst (λ m. PullsShallow m o (slot e (name ∷ names))) left shallow)

@@ -98,12 +98,12 @@ was-blocked free e = absurd cc
 was-blocked blocked e = refl
 was-blocked (taken v) e = absurd cc
 
-module _ (s : Path) (far : length s ≡ 1000) (d e : List Field) (alike : Alike d e) where
+module _ (s : Path) (far : length s ≡ 300) (d e : List Field) (alike : Alike d e) where
   ends-alike : slot_down_to 0 (slot d s) ≡ slot_down_to 0 (slot e s)
   unfolding Alike
   ends-alike = at s far
     where
-      at : (s : Path) → length s ≡ 1000 → slot_down_to 0 (slot d s) ≡ slot_down_to 0 (slot e s)
+      at : (s : Path) → length s ≡ 300 → slot_down_to 0 (slot d s) ≡ slot_down_to 0 (slot e s)
       at [] far = absurd (omega arith)
       at (name ∷ names) far = slots-alike 0 name names (omega (arith, below-sum names 0)) d e alike
 
@@ -117,7 +117,7 @@ module _ (s : Path) (far : length s ≡ 1000) (d e : List Field) (alike : Alike 
   unfolding Alike
   pieces-alike t u same = at s far
     where
-      at : (s : Path) → length s ≡ 1000 → marked most_levels (set_at s t d) ≡ marked most_levels (set_at s u e)
+      at : (s : Path) → length s ≡ 300 → marked most_levels (set_at s t d) ≡ marked most_levels (set_at s u e)
       at [] far = absurd (omega arith)
       at (name ∷ names) far = sets-alike 0 name names (omega (arith, below-sum names 0)) d e alike t u same
 
@@ -145,7 +145,7 @@ pub record IsFar (made : Result (List Field) UpdateFault) (s r : Path) (size : �
   pub alike : Alike after e
   pub last : IsLast after s r size
 
-module _ (there : IsThere) (s q : Path) (far : length s ≡ 1000) (start : begins s q ≡ true) (o : Operation) (v : Tree) (new : new_value o ≡ Some v) (d e : List Field) (alike : Alike d e) (size : ℕ) (w : Tree) (filled : in_one_piece w ≡ piece size) where
+module _ (there : IsThere) (s q : Path) (far : length s ≡ 300) (start : begins s q ≡ true) (o : Operation) (v : Tree) (new : new_value o ≡ Some v) (d e : List Field) (alike : Alike d e) (size : ℕ) (w : Tree) (filled : in_one_piece w ≡ piece size) where
   module _ (u : Option Tree) (t : Tree) (here : slot d s ≡ slot_of u) (open-end : slot_behind (drop (length s) q) (slot_of u) ≡ free) (made : put_behind (drop (length s) q) v u ≡ Ok t) (way : IsLastWay (drop (length s) q) t) (some : (drop (length s) q ≡ [] → ⊥)) (long : length (payload t) ≡ size) where
     edit-is : edit_at q o d ≡ set_at s t d
     edit-is =
@@ -154,7 +154,7 @@ module _ (there : IsThere) (s q : Path) (far : length s ≡ 1000) (start : begin
         let none : slot d q ≡ free = ap (slot d) (sym whole) ∙ slot-joined d s r ∙ ap (slot_behind r) here ∙ open-end in
         new_at_free q o d v none new ∙ ap (λ p. set_at p v d) (sym whole) ∙ ap told (at s r far here made)
       where
-        at : (s r : Path) → length s ≡ 1000 → slot d s ≡ slot_of u → put_behind r v u ≡ Ok t → put d (s ++ r) v ≡ put d s t
+        at : (s r : Path) → length s ≡ 300 → slot d s ≡ slot_of u → put_behind r v u ≡ Ok t → put d (s ++ r) v ≡ put d s t
         at [] r far here made = absurd (omega arith)
         at (name ∷ names) r far here made = put-far r v t u made d name names here
 
@@ -178,7 +178,7 @@ module _ (there : IsThere) (s q : Path) (far : length s ≡ 1000) (start : begin
         was-put (Ok x) after e = let same : x ≡ after = cc in ap Ok same
         was-put (Err f) after e = absurd cc
 
-        at : (s : Path) → length s ≡ 1000 → set_at s t d ≡ Ok after → slot after s ≡ taken t
+        at : (s : Path) → length s ≡ 300 → set_at s t d ≡ Ok after → slot after s ≡ taken t
         at [] far e = absurd (omega arith)
         at (name ∷ names) far e = there d name names t after (was-put (put d (name ∷ names) t) after e)
 

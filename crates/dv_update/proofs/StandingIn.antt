@@ -33,7 +33,7 @@ alike_itself d = refl
 
 -- ---- paths of few components
 
-module _ (path : Path) (o : Operation) (some : path ≢ []) (near : length path ≤ 1000) (other : is_removal o ≡ false) (d e : List Field) (shallow : PullsShallow (1000 - length path) o (slot e path)) (alike : Alike d e) where
+module _ (path : Path) (o : Operation) (some : path ≢ []) (near : length path ≤ 300) (other : is_removal o ≡ false) (d e : List Field) (shallow : PullsShallow (300 - length path) o (slot e path)) (alike : Alike d e) where
   pub near_made : (f : List Field) → edit_at path o e ≡ Ok f → (after : List Field) × (edit_at path o d ≡ Ok after) × Stands after f None
   near_made f is =
       let done = alike_made (edit_at path o d) (edit_at path o e) f (short_edit path o d e some near other shallow alike) is in
@@ -60,9 +60,9 @@ put_refused s e t fault h = told-refused (put e s t) fault h
 far_stands : (made : Result (List Field) UpdateFault) (f : List Field) (last : Last) → IsFar made last.beginning last.rest.now last.size f → (after : List Field) × (made ≡ Ok after) × Stands after f (Some last)
 far_stands made f last far = (far.after, far.is, record { alike = far.alike; known = far.last })
 
-module _ (there : IsThere) (s q : Path) (o : Operation) (v : Tree) (begin : (length s ≡ 1000) × (begins s q ≡ true)) (long : 1000 < length q) (new : new_value o ≡ Some v) (size : ℕ) (w : Tree) (filled : in_one_piece w ≡ piece size) (d e : List Field) (alike : Alike d e) where
-  module _ (none : slot e s ≡ free) (sum : size ≡ 0 + names_length (drop 1000 q) + length (payload v)) where
-    rest-is : drop (length s) q ≡ drop 1000 q
+module _ (there : IsThere) (s q : Path) (o : Operation) (v : Tree) (begin : (length s ≡ 300) × (begins s q ≡ true)) (long : 300 < length q) (new : new_value o ≡ Some v) (size : ℕ) (w : Tree) (filled : in_one_piece w ≡ piece size) (d e : List Field) (alike : Alike d e) where
+  module _ (none : slot e s ≡ free) (sum : size ≡ 0 + names_length (drop 300 q) + length (payload v)) where
+    rest-is : drop (length s) q ≡ drop 300 q
     rest-is = ap (λ n. drop n q) begin.0
 
     some : drop (length s) q ≢ []
@@ -76,13 +76,13 @@ module _ (there : IsThere) (s q : Path) (o : Operation) (v : Tree) (begin : (len
     pub first_put_refused : (f : UpdateFault) → (f ≡ NoMemory) ⊎ (set_at s w e ≡ Err f) → (f ≡ NoMemory) ⊎ (edit_at q o d ≡ Err f)
     first_put_refused = far_refused_so (edit_at q o d) (set_at s w e) (first_refused there s q begin.0 begin.1 o v new d e alike size w filled none some sum-there)
 
-    pub first_put : (f : List Field) (last : Last) → last.beginning ≡ s → last.rest.now ≡ drop 1000 q → last.size ≡ size → set_at s w e ≡ Ok f → (after : List Field) × (edit_at q o d ≡ Ok after) × Stands after f (Some last)
+    pub first_put : (f : List Field) (last : Last) → last.beginning ≡ s → last.rest.now ≡ drop 300 q → last.size ≡ size → set_at s w e ≡ Ok f → (after : List Field) × (edit_at q o d ≡ Ok after) × Stands after f (Some last)
     first_put f last same-s same-r same-size is =
         let far : IsFar (edit_at q o d) s (drop (length s) q) size f = first_stands there s q begin.0 begin.1 o v new d e alike size w filled none some sum-there f is in
         far_stands (edit_at q o d) f last (rw (same-s, same-r, same-size, ← rest-is) far)
 
-  module _ (before rest : Path) (before-size : ℕ) (last-is : IsLast d s before before-size) (parts : parting before (drop 1000 q) ≡ Some rest) (sum : size + 5 ≡ before-size + names_length rest + length (payload v)) where
-    rest-so : drop (length s) q ≡ drop 1000 q
+  module _ (before rest : Path) (before-size : ℕ) (last-is : IsLast d s before before-size) (parts : parting before (drop 300 q) ≡ Some rest) (sum : size + 5 ≡ before-size + names_length rest + length (payload v)) where
+    rest-so : drop (length s) q ≡ drop 300 q
     rest-so = ap (λ n. drop n q) begin.0
 
     parts-so : parting before (drop (length s) q) ≡ Some rest
@@ -91,14 +91,14 @@ module _ (there : IsThere) (s q : Path) (o : Operation) (v : Tree) (begin : (len
     pub next_put_refused : (f : UpdateFault) → (f ≡ NoMemory) ⊎ (set_at s w e ≡ Err f) → (f ≡ NoMemory) ⊎ (edit_at q o d ≡ Err f)
     next_put_refused = far_refused_so (edit_at q o d) (set_at s w e) (next_refused there s q begin.0 begin.1 o v new d e alike size w filled before rest before-size last-is parts-so sum)
 
-    pub next_put : (f : List Field) (last : Last) → last.beginning ≡ s → last.rest.now ≡ drop 1000 q → last.size ≡ size → set_at s w e ≡ Ok f → (after : List Field) × (edit_at q o d ≡ Ok after) × Stands after f (Some last)
+    pub next_put : (f : List Field) (last : Last) → last.beginning ≡ s → last.rest.now ≡ drop 300 q → last.size ≡ size → set_at s w e ≡ Ok f → (after : List Field) × (edit_at q o d ≡ Ok after) × Stands after f (Some last)
     next_put f last same-s same-r same-size is =
         let far : IsFar (edit_at q o d) s (drop (length s) q) size f = next_stands there s q begin.0 begin.1 o v new d e alike size w filled before rest before-size last-is parts-so sum f is in
         far_stands (edit_at q o d) f last (rw (same-s, same-r, same-size, ← rest-so) far)
 
 -- ---- where nothing comes
 
-module _ (s q : Path) (o : Operation) (begin : (length s ≡ 1000) × (begins s q ≡ true)) (d e : List Field) (alike : Alike d e) where
+module _ (s q : Path) (o : Operation) (begin : (length s ≡ 300) × (begins s q ≡ true)) (d e : List Field) (alike : Alike d e) where
   slot-whole : slot d q ≡ slot_behind (drop (length s) q) (slot d s)
   slot-whole = ap (slot d) (sym (begins-split s q begin.1)) ∙ slot-joined d s (drop (length s) q)
 
@@ -125,10 +125,10 @@ module _ (s q : Path) (o : Operation) (begin : (length s ≡ 1000) × (begins s 
   pub free_stays : slot e s ≡ free → is_removal o ≡ false → new_value o ≡ None → edit_at q o d ≡ Ok d
   free_stays here other none = none_at_free q o d (free-far here) other none
 
-  module _ (before rest : Path) (size : ℕ) (last-is : IsLast d s before size) (parts : parting before (drop 1000 q) ≡ Some rest) where
+  module _ (before rest : Path) (size : ℕ) (last-is : IsLast d s before size) (parts : parting before (drop 300 q) ≡ Some rest) where
     pub next_stays : is_removal o ≡ false → new_value o ≡ None → edit_at q o d ≡ Ok d
     next_stays other none =
-        let r-is : drop 1000 q ≡ drop (length s) q = ap (λ n. drop n q) (sym begin.0) in
+        let r-is : drop 300 q ≡ drop (length s) q = ap (λ n. drop n q) (sym begin.0) in
         let next = added null before (drop (length s) q) last-is.there.0 rest last-is.there.2 (ap (parting before) (sym r-is) ∙ parts) in
         none_at_free q o d (slot-whole ∙ ap (slot_behind (drop (length s) q)) last-is.there.1 ∙ next.free) other none
 

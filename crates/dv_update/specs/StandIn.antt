@@ -28,7 +28,7 @@ fields_down_to n fs = map (λ f. let g : Field = (f.0, down_to n f.1) in g) fs
 
 -- how many levels stand below a document's fields until documents are in one piece
 abbrev pub most_levels : ℕ
-most_levels = 999
+most_levels = 299
 
 -- alike down to there, and as long
 unfoldable pub Alike : List Field → List Field → Type 0
@@ -61,7 +61,7 @@ parting (a ∷ p) (b ∷ q) = parted (component_order a b) (b ∷ q) (parting p 
 -- where the last path of many components led: what stands there is so long, and of documents that are one in another along the rest of
 -- the path
 pub record IsLast (made : List Field) (beginning rest : List (List ℕ)) (size : ℕ) : Type 0 where
-  pub far : length beginning ≡ 1000
+  pub far : length beginning ≡ 300
   pub there : (t : Tree) × (slot made beginning ≡ taken t) × IsLastWay rest t × (length (payload t) ≡ size)
 
 -- what comes where nothing stands

@@ -14,7 +14,7 @@ use std::cmp::Ordering;
 
 /// How many components a path has at most that is made as it is: behind more, a document has ten times the levels that any
 /// stored one has.
-pub(crate) const MOST_COMPONENTS: usize = 1_000;
+pub(crate) const MOST_COMPONENTS: usize = 300;
 
 /// What the path leads through from where it parts from one that stands before it.
 pub(crate) fn parting<'a>(before: &[Component], path: &'a [Component]) -> Option<&'a [Component]>
@@ -46,7 +46,7 @@ pub(crate) fn lead_far(edits: &[Edit]) -> bool {
 
 /// The path of as many first components as are made. Fails where memory is wanting.
 pub(crate) fn beginning(alloc: Global, path: &Path) -> Result<Option<Path>, NoMemory>
-    ensures { IfOk result (λ found. IfSome found (λ beginning. (length beginning ≡ 1000) × (begins_with beginning path.now ≡ true))) }
+    ensures { IfOk result (λ found. IfSome found (λ beginning. (length beginning ≡ 300) × (begins_with beginning path.now ≡ true))) }
 {
     let text = joined(alloc, path.components())?;
     let beginning = match Path::parse(alloc, text.as_str()) {
@@ -63,8 +63,8 @@ pub(crate) fn beginning(alloc: Global, path: &Path) -> Result<Option<Path>, NoMe
 
 /// The components behind those.
 pub(crate) fn further(path: &Path) -> &[Component]
-    requires { 1000 ≤ length path.now }
-    ensures { result.now ≡ drop 1000 path.now }
+    requires { 300 ≤ length path.now }
+    ensures { result.now ≡ drop 300 path.now }
 {
     let components = path.components();
     &components[MOST_COMPONENTS..]

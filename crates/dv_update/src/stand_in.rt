@@ -1,7 +1,7 @@
 //! What edits make of a document, or what stands in for it where paths of many components would make it too deep.
 //!
 //! A path may have millions of components, and the documents that stand one in another along it would take stack for each of
-//! them. So what such a path makes below its first 1,000 components is made in one piece: a value that has as many bytes. It is
+//! them. So what such a path makes below its first 300 components is made in one piece: a value that has as many bytes. It is
 //! refused as the document itself would be: it has as many bytes, more levels than any stored document, and no other `_id`.
 
 ghost use Rattle.std.specs.Prelude.{◌≡◌, is_some, ◌≢◌, [], ◌+◌, ◌-◌, Some, ◌<◌, ◌≤◌, List, map, length, true, false, IfOk, IfSome, IsTrue};
@@ -40,7 +40,7 @@ pub(crate) struct StandIn<'a> {
 /// Where the last path of many components led.
 #[derive(Drop)]
 pub(crate) struct Last<'a> {
-    /// Its first 1,000 components.
+    /// Its first 300 components.
     beginning: Path,
     /// The others.
     rest: &'a [Component],
@@ -131,7 +131,7 @@ fn with_near<'a>(
 ) -> Result<Option<StandIn<'a>>, UpdateFault>
     requires other { last_of.is_removal (operation edit.now.operation) ≡ false }
     requires some { edit.now.path ≢ [] }
-    requires near { length edit.now.path ≤ 1000 }
+    requires near { length edit.now.path ≤ 300 }
     ensures { (made : List Field) → Alike made document → Becomes result (defined.edit_at edit.now.path (operation edit.now.operation) made) }
 {
     if !pulls_shallow(&document, edit) {
@@ -144,7 +144,7 @@ fn with_near<'a>(
     }))
 }
 
-/// With what an edit makes whose path has many components, the first 1,000 as none before.
+/// With what an edit makes whose path has many components, the first 300 as none before.
 fn with_far<'a>(
     alloc: Global,
     document: Document,
@@ -152,7 +152,7 @@ fn with_far<'a>(
     edit: &'a Edit,
 ) -> Result<Option<StandIn<'a>>, UpdateFault>
     requires other { last_of.is_removal (operation edit.now.operation) ≡ false }
-    requires far { 1000 < length edit.now.path }
+    requires far { 300 < length edit.now.path }
     ensures { (made : List Field) → Stands made document last.entry → Becomes result (defined.edit_at edit.now.path (operation edit.now.operation) made) }
 {
     let Some(beginning) = beginning(alloc, &edit.path)? else {
@@ -173,7 +173,7 @@ fn with_blocked<'a>(
     edit: &'a Edit,
 ) -> Result<Option<StandIn<'a>>, UpdateFault>
     requires other { last_of.is_removal (operation edit.now.operation) ≡ false }
-    requires beginning { (length beginning.now ≡ 1000) × (begins_with beginning.now edit.now.path ≡ true) }
+    requires beginning { (length beginning.now ≡ 300) × (begins_with beginning.now edit.now.path ≡ true) }
     requires blocked { slot document beginning.now ≡ blocked }
     ensures { (made : List Field) → Stands made document last.entry → Becomes result (defined.edit_at edit.now.path (operation edit.now.operation) made) }
 {
@@ -193,8 +193,8 @@ fn with_free<'a>(
     edit: &'a Edit,
 ) -> Result<Option<StandIn<'a>>, UpdateFault>
     requires other { last_of.is_removal (operation edit.now.operation) ≡ false }
-    requires far { 1000 < length edit.now.path }
-    requires beginning { (length beginning ≡ 1000) × (begins_with beginning edit.now.path ≡ true) }
+    requires far { 300 < length edit.now.path }
+    requires beginning { (length beginning ≡ 300) × (begins_with beginning edit.now.path ≡ true) }
     requires free { slot document beginning ≡ free }
     ensures { (made : List Field) → Stands made document last.entry → Becomes result (defined.edit_at edit.now.path (operation edit.now.operation) made) }
 {
@@ -212,8 +212,8 @@ fn with_first<'a>(
     edit: &'a Edit,
     value: Value,
 ) -> Result<Option<StandIn<'a>>, UpdateFault>
-    requires far { 1000 < length edit.now.path }
-    requires beginning { (length beginning ≡ 1000) × (begins_with beginning edit.now.path ≡ true) }
+    requires far { 300 < length edit.now.path }
+    requires beginning { (length beginning ≡ 300) × (begins_with beginning edit.now.path ≡ true) }
     requires free { slot document beginning ≡ free }
     requires value { new_value (operation edit.now.operation) ≡ Some (tree value) }
     ensures { (made : List Field) → Alike made document → Becomes result (defined.edit_at edit.now.path (operation edit.now.operation) made) }
@@ -235,7 +235,7 @@ fn with_first<'a>(
     }))
 }
 
-/// With what an edit makes whose path has many components, the first 1,000 as the last one.
+/// With what an edit makes whose path has many components, the first 300 as the last one.
 fn with_next<'a>(
     alloc: Global,
     document: Document,
@@ -243,7 +243,7 @@ fn with_next<'a>(
     edit: &'a Edit,
 ) -> Result<Option<StandIn<'a>>, UpdateFault>
     requires other { last_of.is_removal (operation edit.now.operation) ≡ false }
-    requires far { 1000 < length edit.now.path }
+    requires far { 300 < length edit.now.path }
     requires begins { begins_with last.beginning edit.now.path ≡ true }
     ensures { (made : List Field) → Stands made document (Some last.entry) → Becomes result (defined.edit_at edit.now.path (operation edit.now.operation) made) }
 {
@@ -303,14 +303,14 @@ fn size_behind(before: usize, names: &[Component], value: &Value) -> Option<usiz
 
 /// Whether no element is taken out of an array that may hold what is in one piece.
 fn pulls_shallow(document: &Document, edit: &Edit) -> bool
-    ensures { IsTrue result → PullsShallow (1000 - length edit.now.path) (operation edit.now.operation) (slot document.now edit.now.path) }
+    ensures { IsTrue result → PullsShallow (300 - length edit.now.path) (operation edit.now.operation) (slot document.now edit.now.path) }
 {
     if !matches!(edit.operation, Operation::Pull(_)) {
         return true;
     }
     match slot_at(document, &edit.path) {
         Slot::Taken(there) => {
-            edit.path.components().len() < 900 && value_within(there, MAX_LEVELS)
+            edit.path.components().len() < 200 && value_within(there, MAX_LEVELS)
         }
         _ => true,
     }

@@ -5,4 +5,4 @@ use Rattle.dv_update.proofs.far.further.Goals as goal
 pub returns : goal.returns
 returns c =
     let all = c.components-components.result.now in
-    ap (λ n. take n (drop 1000 all)) (sym (length-drop 1000 all)) ∙ take-length (drop 1000 all) ∙ ap (drop 1000) c.components-components.ensures.components
+    ap (λ n. take n (drop 300 all)) (sym (length-drop 300 all)) ∙ take-length (drop 300 all) ∙ ap (drop 300) c.components-components.ensures.components

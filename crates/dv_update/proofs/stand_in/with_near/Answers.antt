@@ -12,12 +12,12 @@ returns-in_err-document c = λ made alike.
     let o = operation c.args.edit.now.operation in
     let fault = c.in_err-document.field-0.0 in
     let told : c.from_residual.result ≡ Err fault = search (rules, c.from_residual.ensures) in
-    let shallow : PullsShallow (1000 - length path) o (slot c.args.document path) = c.pulls_shallow.ensures (search rules) in
+    let shallow : PullsShallow (300 - length path) o (slot c.args.document path) = c.pulls_shallow.ensures (search rules) in
     becomes_refused c.from_residual.result fault (edit_at path o made) told (near_refused path o c.requires.some c.requires.near c.requires.other made c.args.document shallow alike fault c.in_err-document.ensures)
 
 pub returns : goal.returns
 returns c = λ made alike.
     let path = c.args.edit.now.path in
     let o = operation c.args.edit.now.operation in
-    let shallow : PullsShallow (1000 - length path) o (slot c.args.document path) = c.pulls_shallow.ensures (search rules) in
+    let shallow : PullsShallow (300 - length path) o (slot c.args.document path) = c.pulls_shallow.ensures (search rules) in
     near_made path o c.requires.some c.requires.near c.requires.other made c.args.document shallow alike c.in_ok-document.document c.in_ok-document.ensures

@@ -12,7 +12,7 @@ returns-in_default-2 c = λ made stands.
     let path = c.args.edit.now.path in
     let o = operation c.args.edit.now.operation in
     let last = c.args.last in
-    let parts : parting last.rest.now (drop 1000 path) ≡ Some c.in-Some.parting.now = ap (parting last.rest.now) (sym c.further-rest.ensures) ∙ sym c.in-Some.ensures in
+    let parts : parting last.rest.now (drop 300 path) ≡ Some c.in-Some.parting.now = ap (parting last.rest.now) (sym c.further-rest.ensures) ∙ sym c.in-Some.ensures in
     let none : new_value o ≡ None = search (rules, c.in_ok-value.ensures) in
     (made, next_stays last.beginning path o (stands.known.far, c.requires.begins) made c.args.document stands.alike last.rest.now c.in-Some.parting.now last.size stands.known parts c.requires.other none, stands)
 
@@ -21,7 +21,7 @@ returns-in_err-document c = λ made stands.
     let path = c.args.edit.now.path in
     let o = operation c.args.edit.now.operation in
     let last = c.args.last in
-    let parts : parting last.rest.now (drop 1000 path) ≡ Some c.in-Some.parting.now = ap (parting last.rest.now) (sym c.further-rest.ensures) ∙ sym c.in-Some.ensures in
+    let parts : parting last.rest.now (drop 300 path) ≡ Some c.in-Some.parting.now = ap (parting last.rest.now) (sym c.further-rest.ensures) ∙ sym c.in-Some.ensures in
     let value = tree c.in-Some-2.value in
     let new : new_value o ≡ Some value = search (rules, c.in_ok-value.ensures) in
     let size : ℕ = c.in-Some-size_behind.size in
@@ -36,7 +36,7 @@ returns c = λ made stands.
     let path = c.args.edit.now.path in
     let o = operation c.args.edit.now.operation in
     let last = c.args.last in
-    let parts : parting last.rest.now (drop 1000 path) ≡ Some c.in-Some.parting.now = ap (parting last.rest.now) (sym c.further-rest.ensures) ∙ sym c.in-Some.ensures in
+    let parts : parting last.rest.now (drop 300 path) ≡ Some c.in-Some.parting.now = ap (parting last.rest.now) (sym c.further-rest.ensures) ∙ sym c.in-Some.ensures in
     let value = tree c.in-Some-2.value in
     let new : new_value o ≡ Some value = search (rules, c.in_ok-value.ensures) in
     let size : ℕ = c.in-Some-size_behind.size in
