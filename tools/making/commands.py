@@ -17,7 +17,7 @@ class Commands(Views):
         self.session = object()
         shares = {self.insert: 5, self.find: 10, self.ping: 1, self.hello: 1, self.delete: 3, self.update_command: 7,
                   self.aggregate: 7, self.create: 2, self.drop: 1, self.create_indexes: 3, self.drop_indexes: 1,
-                  self.explain: 4, self.get_more: 6, self.kill_cursors: 1, self.view_stats: 3}
+                  self.explain: 4, self.get_more: 6, self.kill_cursors: 1, self.view_stats: 3, self.rows_by_id: 5}
         self.makers = [maker for maker, share in shares.items() for _ in range(share)]
 
     def readable(self):
@@ -83,6 +83,27 @@ class Commands(Views):
         limits = [(b"limit", number(self.rng.choice([1, 1, 1, 2, 2, 3, 4, 6])))]
         return (filters * self.often(0.6) + [(b"sort", document(parts))] + limits
                 + [(b"skip", number(self.rng.randrange(3)))] * self.often(0.2))
+
+    def rows_by_id(self):
+        """A find of a view, or an aggregate over it, that asks for rows by their `_id`s: for one, for some, for those in a range,
+        or for the first or all in their order."""
+        if not self.standing:
+            return self.find()
+        name = self.rng.choice(self.standing)
+        self.along = self.rows_under(name) or None
+        held = [value for fields in self.documents for field, value in fields[:1] if field == b"_id"] or [self.identity()]
+        one, some = (self.near(self.rng.choice(held)), array(self.near(self.rng.choice(held)) for _ in range(self.rng.randrange(5))))
+        members = [self.rng.choice([(b"_id", one), (b"_id", document([(b"$in", some)])), self.bounds(b"_id"), self.bounds(b"_id")])]
+        members += self.filter()[1] * self.often(0.3)
+        parts = [(b"_id", number(self.rng.choice([1, -1]))), *self.sort()[1] * self.often(0.2)]
+        self.along = None
+        asked = [(b"filter", document(distinct(members)))] * self.often(0.8) + [(b"sort", document(distinct(parts)))] * self.often(0.5)
+        asked += [(b"limit", number(self.rng.choice([1, 1, 2, 3])))] * self.often(0.4)
+        if self.often(0.6):
+            return [(b"find", text(name)), *asked, *[(b"skip", number(self.rng.randrange(3)))] * self.often(0.2), *self.batch(0.2)]
+        stages = {b"filter": b"$match", b"sort": b"$sort", b"limit": b"$limit"}
+        pipeline = [document([(stages[field], operand)]) for field, operand in asked]
+        return [(b"aggregate", text(name)), (b"pipeline", array(pipeline + list(self.pipeline()[1]) * self.often(0.3)))]
 
     def indexes(self):
         """Those of the collection `c`."""

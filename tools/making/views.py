@@ -11,6 +11,9 @@ CHAINS = [line.split() for line in """
     $group
     $lookup
     $unwind
+    $match
+    $match $limit
+    $project $match
     $match $sort $limit
     $sort $limit $group
     $unwind $group

@@ -136,12 +136,15 @@ front-of : (most : Option ℕ) (all : ℕ) (rows : Rows) → length rows ≤ all
 front-of None all rows enough = take_all all rows enough
 front-of (Some n) all rows enough = refl
 
+-- rows that ascend stand in the order of a sort by `_id`
+pub in-order : (sort : List Part) (direction : Direction) → (parts : List Part) × (sort ≡ by_id direction parts) → (rows : Rows) → AllByRecursion HasId rows → IsAscending rows → (most : Option ℕ) → front most (in_direction direction rows) ≡ front most (stable sort rows)
+in-order sort direction is rows identified ascending most = ap (front most) (sym (stable-by-id is.0 direction rows identified ascending) ∙ sym (ap (λ parts. stable parts rows) is.1))
+
 pub first-by-id : (sort : List Part) (direction : Direction) → (parts : List Part) × (sort ≡ by_id direction parts) → (test : List Field → Bool) (ds : Rows) → AllByRecursion HasId (filter test ds) → IsAscending (filter test ds) → (most : Option ℕ) → take (unwrap_or most (length ds)) (in_direction direction (filter test ds)) ≡ front most (stable sort (filter test ds))
 first-by-id sort direction is test ds identified ascending most =
     let rows = filter test ds in
     let enough : length (in_direction direction rows) ≤ length ds = omega (arith, fewer test ds, as-many direction rows) in
-    front-of most (length ds) (in_direction direction rows) enough
-    ∙ ap (front most) (sym (stable-by-id is.0 direction rows identified ascending) ∙ sym (ap (λ parts. stable parts rows) is.1))
+    front-of most (length ds) (in_direction direction rows) enough ∙ in-order sort direction is rows identified ascending most
 
 -- ---- the path `_id`
 last-false : (b : Bool) → b && false ≡ false

@@ -23,3 +23,4 @@ mod Stale
 mod Foremost
 mod Fronts
 mod ById
+mod Narrowed

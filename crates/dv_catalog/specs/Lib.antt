@@ -13,6 +13,7 @@ pub mod ScanParts
 pub mod Parts
 pub mod IndexParts
 pub mod ComingParts
+pub mod Equalities
 pub mod EffectView
 pub mod RowsView
 pub mod SearchedView

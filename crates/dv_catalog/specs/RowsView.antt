@@ -2,9 +2,10 @@
 use Rattle.std.specs.Prelude.{List, []}
 use Rattle.dv_value.specs.Tree.{Field}
 use Rattle.dv_catalog.specs.declared.rows.Origin.{Origin}
-use Rattle.dv_catalog.specs.declared.rows.Origin.TheVariants.{Nothing, Collection, View}
+use Rattle.dv_catalog.specs.declared.rows.Origin.TheVariants.{Nothing, Collection, View, Between}
 
 abbrev pub rows : Origin → List (List Field)
 rows Nothing = []
 rows (Collection documents) = documents
 rows (View others) = others
+rows (Between others) = others

@@ -2,8 +2,9 @@
 use Rattle.std.specs.Prelude.{List}
 use Rattle.dv_value.specs.Tree.{Field}
 use Rattle.dv_catalog.specs.declared.searched.Searched.{Searched}
-use Rattle.dv_catalog.specs.declared.searched.Searched.TheVariants.{Collection, Rows}
+use Rattle.dv_catalog.specs.declared.searched.Searched.TheVariants.{Collection, ById, Rows}
 
 abbrev pub searched : Searched → List (List Field)
 searched (Collection c) = c.now.documents
+searched (ById rows) = rows
 searched (Rows others) = others

@@ -5,9 +5,11 @@ ghost use Rattle.std.specs.List.{list_all};
 ghost use Rattle.dv_catalog.specs.Behind.{looks_nowhere};
 ghost use Rattle.dv_catalog.specs.CatalogParts.{rows_kept};
 ghost use Rattle.dv_catalog.specs.SearchedView.{searched};
+ghost use Rattle.dv_catalog.specs.State.{lists_of};
 ghost use Rattle.dv_gather.specs.Lookups.{looked_up};
 ghost use Rattle.dv_pipe.specs.Sources.{rows_referred};
 ghost use Rattle.dv_pipe.specs.Stages.{through};
+ghost use Rattle.dv_views.specs.Views.{AreRight};
 
 use crate::collections::Collections;
 use crate::searched::{Searched, first_found, searched_in};
@@ -31,6 +33,7 @@ pub(crate) fn rows_behind(
     source: &str,
     rows: &[&Document],
 ) -> Result<Vec<Document>, NoMemory>
+    requires { AreRight (lists_of collections.now) registry.now }
     ensures { IfOk result (λ left. left.items ≡ through stages.now source.now (λ name. rows_kept name collections.now registry.now) (rows_referred rows.now)) }
 {
     let (before, from_lookup) = stages.split_at(first_lookup(stages));

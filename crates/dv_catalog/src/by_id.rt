@@ -1,4 +1,4 @@
-//! Sorts by `_id`, in whose order the documents of a collection stand.
+//! Sorts by `_id`, in whose order the documents of a collection stand, and the rows of some views.
 
 ghost use Rattle.std.specs.Prelude.{◌≡◌, ◌∷◌, [], codes, IfOk, IfSome, List};
 ghost use Rattle.dv_path.specs.SortSpec.{Part};
@@ -6,12 +6,14 @@ ghost use Rattle.dv_sort.specs.Sorting.{front, stable};
 ghost use Rattle.dv_catalog.specs.Scan.{matching};
 
 use crate::indexing::is_id;
+use crate::keyed::first_by_key;
 use crate::scan::copies;
 use dv_coll::laws;
 use dv_index::IndexedCollection;
 use dv_match::Filter;
 use dv_path::{Direction, SortSpec};
 use dv_value::{Document, NoMemory};
+use dv_views::RowsById;
 use std::alloc::Global;
 
 /// The first documents that match the filter, in the order of a sort whose first path is `_id`: `most` of them, or all. No two
@@ -33,6 +35,30 @@ pub(crate) fn first_by_id(
     // The documents are in order, and no more match than there are.
     let all = collection.len();
     let found = collection.find_in_order(filter, direction, most.unwrap_or(all))?;
+    Ok(Some(copies(alloc, &found)?))
+}
+
+/// The same of the rows of a view that stand by their `_id`s. `None` also where one of these is an array, by whose elements it
+/// is sorted.
+pub(crate) fn first_rows_by_id(
+    alloc: Global,
+    rows: &RowsById<'_>,
+    filter: &Filter,
+    sort: &SortSpec,
+    most: Option<usize>,
+) -> Result<Option<Vec<Document>>, NoMemory>
+    ensures { IfOk result (λ found. IfSome found (λ first. first.items ≡ front most (stable sort.now (matching filter.now rows.now)))) }
+{
+    let Some(direction) = direction_of_ids(sort) else {
+        return Ok(None);
+    };
+    if rows.has_array_id()? {
+        return Ok(None);
+    }
+    laws::documents_stand_where_they_are_found();
+    // The rows are in order.
+    let _ = rows.len();
+    let found = first_by_key(alloc, rows, filter, direction, most)?;
     Ok(Some(copies(alloc, &found)?))
 }
 

@@ -8,7 +8,9 @@ ghost use Rattle.dv_catalog.specs.Scan.{matching};
 ghost use Rattle.dv_match.specs.Filter.{no_members};
 ghost use Rattle.dv_pipe.specs.Sources.{Row};
 ghost use Rattle.dv_pipe.specs.Stages.{Lists, through};
+ghost use Rattle.dv_catalog.specs.State.{lists_of};
 ghost use Rattle.dv_sort.specs.Sorting.{front};
+ghost use Rattle.dv_views.specs.Views.{AreRight};
 
 use crate::behind::rows_behind;
 use crate::collections::Collections;
@@ -98,6 +100,7 @@ pub(crate) fn rows_of_stages(
     stages: &[Stage],
     source: &str,
 ) -> Result<Vec<Document>, NoMemory>
+    requires { AreRight (lists_of collections.now) registry.now }
     ensures { IfOk result (λ rows. rows.items ≡ through stages.now source.now (λ name. rows_kept name collections.now registry.now) (rows_kept source.now collections.now registry.now)) }
 {
     let everything = Filter::of(Vec::new(alloc));

@@ -15,6 +15,7 @@ mod explained;
 mod front;
 mod indexing;
 mod insert;
+mod keyed;
 pub mod laws;
 mod rows;
 mod scan;

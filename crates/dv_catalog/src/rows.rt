@@ -4,6 +4,7 @@ ghost use Rattle.std.specs.Prelude.{◌≡◌, []};
 
 use dv_coll::Iter;
 use dv_value::Document;
+use dv_views::RowsBetween;
 use std::marker::Model;
 
 /// Where rows come from.
@@ -15,6 +16,8 @@ enum Origin<'a> {
     Collection(Iter<'a>),
     /// The rows of a view.
     View(dv_views::Rows<'a>),
+    /// Rows of a view between two ends, in an order of their `_id`s.
+    Between(RowsBetween<'a>),
 }
 
 /// Rows that are still to come.
@@ -64,6 +67,15 @@ impl<'a> Rows<'a> {
             origin: Origin::View(rows),
         }
     }
+
+    /// Rows of a view between two ends.
+    pub(crate) fn of_between(rows: RowsBetween<'a>) -> Self
+        ensures { result ≡ rows.entry }
+    {
+        Rows {
+            origin: Origin::Between(rows),
+        }
+    }
 }
 
 impl<'a> Iterator for Rows<'a> {
@@ -80,6 +92,7 @@ impl<'a> Iterator for Rows<'a> {
             Origin::Nothing => None,
             Origin::Collection(documents) => documents.next(),
             Origin::View(rows) => rows.next(),
+            Origin::Between(rows) => rows.next(),
         }
     }
 }

@@ -9,9 +9,10 @@ ghost use Rattle.dv_pipe.specs.Sources.{rows_referred};
 ghost use Rattle.dv_sort.specs.Sorting.{front, stable};
 
 use crate::ahead::first_by_index;
-use crate::by_id::first_by_id;
+use crate::by_id::{first_by_id, first_rows_by_id};
 use crate::searched::{Searched, first_found};
 use dv_command::Find;
+use dv_index::IndexedCollection;
 use dv_match::Filter;
 use dv_path::SortSpec;
 use dv_sort::{Sorter, laws};
@@ -75,9 +76,23 @@ fn by_index(
 ) -> Result<Option<Vec<Document>>, NoMemory>
     ensures { IfOk result (λ found. IfSome found (λ first. first.items ≡ front most (stable sort.now (scans.matching filter.now (searched within.now))))) }
 {
-    let Searched::Collection(collection) = within else {
-        return Ok(None);
-    };
+    match within {
+        Searched::Collection(collection) => in_collection(alloc, collection, filter, sort, most),
+        Searched::ById(rows) => first_rows_by_id(alloc, rows, filter, sort, most),
+        Searched::Rows(_) => Ok(None),
+    }
+}
+
+/// The same of the documents of a collection.
+fn in_collection(
+    alloc: Global,
+    collection: &IndexedCollection,
+    filter: &Filter,
+    sort: &SortSpec,
+    most: Option<usize>,
+) -> Result<Option<Vec<Document>>, NoMemory>
+    ensures { IfOk result (λ found. IfSome found (λ first. first.items ≡ front most (stable sort.now (scans.matching filter.now collection.now.documents)))) }
+{
     if let Some(first) = first_by_id(alloc, collection, filter, sort, most)? {
         return Ok(Some(first));
     }

@@ -1,18 +1,22 @@
 //! What a find looks through.
 
-ghost use Rattle.std.specs.Prelude.{◌≡◌, IfOk};
+ghost use Rattle.std.specs.Prelude.{◌≡◌, Some, IfOk, IfSome};
 ghost use Rattle.dv_catalog.specs.CatalogParts.{rows_kept};
 ghost use Rattle.dv_catalog.specs.SearchedView.{searched};
 ghost use Rattle.dv_catalog.specs.Scan as scans;
 ghost use Rattle.dv_pipe.specs.Sources.{rows_referred};
+ghost use Rattle.dv_catalog.specs.State.{lists_of};
 ghost use Rattle.dv_sort.specs.Sorting.{front};
+ghost use Rattle.dv_views.specs.Views.{AreRight, rows_shown};
 
 use crate::collections::Collections;
+use crate::keyed::first_by_key;
 use crate::rows::Rows;
 use dv_index::IndexedCollection;
 use dv_match::Filter;
+use dv_path::Direction;
 use dv_value::{Document, NoMemory};
-use dv_views::Registry;
+use dv_views::{Registry, RowsById};
 use std::alloc::Global;
 
 /// What stands under a namespace.
@@ -20,7 +24,9 @@ use std::alloc::Global;
 pub(crate) enum Searched<'a> {
     /// A collection, with its indexes.
     Collection(&'a IndexedCollection),
-    /// The rows of a view, or none.
+    /// The rows of a view that stand by their `_id`s.
+    ById(RowsById<'a>),
+    /// The rows of another view, or none.
     Rows(Rows<'a>),
 }
 
@@ -30,10 +36,14 @@ pub(crate) fn searched_in<'a>(
     registry: &'a Registry,
     namespace: &str,
 ) -> Searched<'a>
+    requires { AreRight (lists_of collections.now) registry.now }
     ensures { searched result ≡ rows_kept namespace.now collections.now registry.now }
 {
     if let Some(rows) = registry.rows(namespace) {
-        return Searched::Rows(Rows::of_view(rows));
+        return match by_id(collections, registry, namespace) {
+            Some(rows) => Searched::ById(rows),
+            None => Searched::Rows(Rows::of_view(rows)),
+        };
     }
     match collections.get(namespace) {
         Some(collection) => Searched::Collection(collection),
@@ -41,8 +51,23 @@ pub(crate) fn searched_in<'a>(
     }
 }
 
+/// The rows of the view under a namespace by their `_id`s, where they stand so.
+fn by_id<'a>(
+    collections: &Collections,
+    registry: &'a Registry,
+    namespace: &str,
+) -> Option<RowsById<'a>>
+    requires { AreRight (lists_of collections.now) registry.now }
+    ensures { IfSome result (λ rows. rows_shown namespace.now registry.now ≡ Some rows) }
+{
+    let standing = registry.standing(namespace)?;
+    // The documents of a collection begin with their `_id`s.
+    collections.ordered(standing.base());
+    Some(standing.by_id())
+}
+
 /// The first rows that match the filter, in their order: `most` of them, or all. Of a collection they are found by its
-/// indexes. Fails where memory is wanting.
+/// indexes, and of a view whose rows stand by their `_id`s by these. Fails where memory is wanting.
 pub(crate) fn first_found<'a>(
     alloc: Global,
     within: Searched<'a>,
@@ -56,12 +81,13 @@ pub(crate) fn first_found<'a>(
             Some(most) => collection.find_first(filter, most),
             None => collection.find(filter),
         },
+        Searched::ById(rows) => first_by_key(alloc, &rows, filter, Direction::Ascending, most),
         Searched::Rows(rows) => first_matching(alloc, rows, filter, most),
     }
 }
 
 /// The first rows that match the filter, in their order: `most` of them, or all. Fails where memory is wanting.
-fn first_matching<'a>(
+pub(crate) fn first_matching<'a>(
     alloc: Global,
     rows: Rows<'a>,
     filter: &Filter,

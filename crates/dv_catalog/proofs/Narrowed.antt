@@ -1,0 +1,165 @@
+-- Rows of a view among which are all that match a filter, by the keys of their `_id`s.
+use Rattle.std.proofs.Common.{◌≡◌, ◌∙◌, ◌&&◌, ◌||◌, not, ℕ, zero, suc, Bool, true, false, cond, List, [], ◌∷◌, ◌++◌, map, filter, reverse, Option, None, Some, codes, slice_get, refl, ap, sym, append-nil}
+use Rattle.std.proofs.lemmas.List.{reverse-append}
+use Rattle.std.proofs.lemmas.List.Elements.{filter-append}
+use Rattle.std.proofs.lemmas.Slice.Eq.{bytes_eq-Decides}
+use Rattle.std.specs.List.{AllByRecursion, flat_map, list_any}
+use Rattle.std.specs.BTreeMap.Range.{range_contains}
+use Rattle.std.specs.Cmp.{Equal-is}
+use Rattle.std.specs.Ordering.{is_eq, is_le, is_lt, ordering_reverse}
+use Rattle.std.specs.declared.ops.Bound.TheVariants.{Included}
+use Rattle.dv_value.specs.Names.{value_under}
+use Rattle.dv_value.specs.Tree.{Tree, Field, array, fields_of, list_of_fields}
+use Rattle.dv_order.specs.Key.{KeyTree, key_order, value}
+use Rattle.dv_order.specs.KeyLaws.{key_order_total}
+use Rattle.dv_order.specs.Order.{canon}
+use Rattle.dv_candidates.specs.Candidates.{Candidate, candidates, leaves, or_null, whole, with_elements}
+use Rattle.dv_path.specs.LeafKeys.{is_key_of, is_leaf_key, is_some_key, leaf_values}
+use Rattle.dv_path.specs.declared.direction.Direction.{Direction}
+use Rattle.dv_path.specs.declared.direction.Direction.TheVariants.{Ascending, Descending}
+use Rattle.dv_match.specs.Filter.{Condition, Members, equal}
+use Rattle.dv_match.specs.Match.{matches}
+use Rattle.dv_coll.specs.Collection.{HasId, IsNoArray, id_key}
+use Rattle.dv_keyed.specs.Choice.{chosen}
+use Rattle.dv_keyed.specs.Index.{IndexForm, IndexTree, form_of, id_form}
+use Rattle.dv_keyed.specs.Interval.{is_in_all}
+use Rattle.dv_keyed.specs.Within.{covers, has_within, is_within}
+use Rattle.dv_index.specs.InDirection.{in_direction}
+use Rattle.dv_catalog.specs.Equalities.{equal_in}
+
+abbrev Rows : Type 0
+Rows = List (List Field)
+
+-- ---- what dv_keyed's laws say
+
+abbrev pub MatchesAreWithin : Type 0
+MatchesAreWithin = (form : Members) (paths : List (List (List ℕ))) (place : ℕ) (bounds : Condition) → chosen form paths ≡ Some (place, bounds) → (path : List (List ℕ)) × (slice_get paths place ≡ Some path) × ((d : List Field) → matches form d ≡ true → has_within bounds path d ≡ true)
+
+abbrev pub OnlyKeysAreWithin : Type 0
+OnlyKeysAreWithin = (form : Members) (path : List (List ℕ)) (d : List Field) (v : Tree) → ((l : KeyTree) → is_leaf_key l path d ≡ true → is_eq (key_order l (value (canon v))) ≡ true) → matches form d ≡ true → is_in_all (value (canon v)) path form ≡ true
+
+abbrev pub KeysAreWithin : Type 0
+KeysAreWithin = (bounds : Condition) (c : Candidate) → covers bounds (value (canon (or_null c))) ≡ is_within bounds c
+
+-- ---- the path `_id` leads to one value
+
+or-false : (a : Bool) → a || false ≡ a
+or-false true = refl
+or-false false = refl
+
+no-elements : (v : Tree) → IsNoArray v → flat_map with_elements (Some v ∷ []) ≡ Some v ∷ []
+no-elements (array vs) h = absurd h
+no-elements v h = refl
+
+leaves-id : (f : Field) (fs : List Field) → HasId (f ∷ fs) → leaves (f ∷ fs) (codes "_id" ∷ []) ≡ Some f.1 ∷ []
+unfolding leaves whole
+leaves-id f fs h =
+    ap (λ b. flat_map with_elements (flat_map (candidates []) (cond b (Some f.1) (value_under (codes "_id") (list_of_fields (fields_of fs))) ∷ []))) ((bytes_eq-Decides (codes "_id") f.0).1 (sym h.0)) ∙ no-elements f.1 h.1
+
+-- its key is in the bounds of a plan, and in each range
+id-covered : KeysAreWithin → (c : Condition) (d : List Field) → HasId d → has_within c (codes "_id" ∷ []) d ≡ true → covers c (id_key d) ≡ true
+unfolding has_within
+id-covered law c [] h e = absurd h
+id-covered law c (f ∷ fs) h e = law c (Some f.1) ∙ sym (ap (list_any (is_within c)) (leaves-id f fs h) ∙ or-false (is_within c (Some f.1))) ∙ e
+
+pub id_in_all : OnlyKeysAreWithin → (form : Members) (d : List Field) → HasId d → matches form d ≡ true → is_in_all (id_key d) (codes "_id" ∷ []) form ≡ true
+unfolding is_leaf_key leaf_values
+id_in_all law form [] h e = absurd h
+id_in_all law form (f ∷ fs) h e =
+    law form (codes "_id" ∷ []) (f ∷ fs) f.1 (λ l leaf. sym (or-false (is_key_of l f.1)) ∙ sym (ap (λ cs. is_some_key l (map or_null cs)) (leaves-id f fs h)) ∙ leaf) e
+
+-- ---- what the index on `_id` is asked for
+
+only-path : (p q : List (List ℕ)) (n : ℕ) → slice_get (p ∷ []) n ≡ Some q → q ≡ p
+only-path p q zero e = cc
+only-path p q (suc n) e = absurd cc
+
+paths-of-forms : (xs : List IndexTree) → map (λ (x : IndexTree). x.path) xs ≡ map (λ (x : IndexForm). x.path) (map form_of xs)
+paths-of-forms [] = refl
+paths-of-forms (x ∷ xs) = ap (λ ps. x.path ∷ ps) (paths-of-forms xs)
+
+asked-plan : (n : ℕ) (c : Condition) (v : Tree) → equal_in (Some (n, c)) ≡ Some v → c ≡ equal v
+asked-plan n (equal w) v e = let same : w ≡ v = cc in ap equal same
+asked-plan n c v e = absurd cc
+
+pub equal_asked : MatchesAreWithin → KeysAreWithin → (form : Members) (xs : List IndexTree) (v : Tree) → map form_of xs ≡ id_form ∷ [] → equal_in (chosen form (map (λ (x : IndexTree). x.path) xs)) ≡ Some v
+    → (d : List Field) → HasId d → matches form d ≡ true → is_key_of (id_key d) v ≡ true
+equal_asked within keys form xs v are asked d h e = by (chosen form paths) refl asked
+  where
+    paths : List (List (List ℕ))
+    paths = map (λ (x : IndexTree). x.path) xs
+
+    one : paths ≡ (codes "_id" ∷ []) ∷ []
+    one = paths-of-forms xs ∙ ap (map (λ (x : IndexForm). x.path)) are
+
+    by : (p : Option (ℕ × Condition)) → chosen form paths ≡ p → equal_in p ≡ Some v → is_key_of (id_key d) v ≡ true
+    by None is none = absurd cc
+    by (Some (n, c)) is some =
+        let bounds = within form paths n c is in
+        let path : bounds.0 ≡ codes "_id" ∷ [] = only-path (codes "_id" ∷ []) bounds.0 n (ap (λ ps. slice_get ps n) (sym one) ∙ bounds.1) in
+        let covered : covers c (id_key d) ≡ true = id-covered keys c d h (ap (λ p. has_within c p d) (sym path) ∙ bounds.2 d e) in
+        ap (λ b. covers b (id_key d)) (sym (asked-plan n c v some)) ∙ covered
+
+-- a key stands between two ends that are equal to it
+pub at_key : (k l : KeyTree) → is_eq (key_order k l) ≡ true → range_contains key_order (Included l) (Included l) k ≡ true
+at_key k l e = ap (λ o. is_le o && not (is_lt o)) (key_order_total.antisymm l k ∙ ap ordering_reverse ((Equal-is (key_order k l)).0 e))
+
+-- ---- what holds of each row
+
+pub each : (P : List Field → Type 0) → ((d : List Field) → P d) → (ds : Rows) → AllByRecursion P ds
+each P holds [] = tt
+each P holds (d ∷ ds) = (holds d, each P holds ds)
+
+pub each_identified : (P : List Field → Type 0) → ((d : List Field) → HasId d → P d) → (ds : Rows) → AllByRecursion HasId ds → AllByRecursion P ds
+each_identified P holds [] all = tt
+each_identified P holds (d ∷ ds) all = (holds d all.0, each_identified P holds ds all.1)
+
+-- ---- rows in a direction
+
+module _ (test inside : List Field → Bool) where
+  kept-inside : (ds : Rows) → AllByRecursion (λ d. test d ≡ true → inside d ≡ true) ds → filter test (filter inside ds) ≡ filter test ds
+  kept-inside [] all = refl
+  kept-inside (d ∷ ds) all = by (inside d) (test d) refl refl (kept-inside ds all.1)
+    where
+      others : Rows
+      others = filter inside ds
+
+      by : (a b : Bool) → inside d ≡ a → test d ≡ b → filter test others ≡ filter test ds → filter test (cond a (d ∷ others) others) ≡ cond b (d ∷ filter test ds) (filter test ds)
+      by true true e f rest = ap (λ x. cond x (d ∷ filter test others) (filter test others)) f ∙ ap (λ (xs : Rows). d ∷ xs) rest
+      by true false e f rest = ap (λ x. cond x (d ∷ filter test others) (filter test others)) f ∙ rest
+      by false true e f rest = absurd (let there = all.0 f in cc)
+      by false false e f rest = rest
+
+  filter-reverse : (ds : Rows) → filter test (reverse ds) ≡ reverse (filter test ds)
+  filter-reverse [] = refl
+  filter-reverse (d ∷ ds) =
+      ap (filter test) (reverse-append (d ∷ []) ds)
+      ∙ filter-append test (reverse ds) (d ∷ [])
+      ∙ ap (λ (xs : Rows). xs ++ filter test (d ∷ [])) (filter-reverse ds)
+      ∙ by (test d)
+    where
+      by : (b : Bool) → reverse (filter test ds) ++ cond b (d ∷ []) [] ≡ reverse (cond b (d ∷ filter test ds) (filter test ds))
+      by true = sym (reverse-append (d ∷ []) (filter test ds))
+      by false = append-nil (reverse (filter test ds))
+
+  filter-directed : (direction : Direction) (ds : Rows) → filter test (in_direction direction ds) ≡ in_direction direction (filter test ds)
+  filter-directed Ascending ds = refl
+  filter-directed Descending ds = filter-reverse ds
+
+  pub kept_directed : (direction : Direction) (ds : Rows) → AllByRecursion (λ d. test d ≡ true → inside d ≡ true) ds → filter test (in_direction direction (filter inside ds)) ≡ in_direction direction (filter test ds)
+  kept_directed direction ds all = filter-directed direction (filter inside ds) ∙ ap (in_direction direction) (kept-inside ds all)
+
+  none-match : (ds : Rows) → AllByRecursion (λ d. test d ≡ true → inside d ≡ true) ds → ((d : List Field) → inside d ≡ false) → filter test ds ≡ []
+  none-match [] all none = refl
+  none-match (d ∷ ds) all none = by (test d) refl (none-match ds all.1 none)
+    where
+      by : (b : Bool) → test d ≡ b → filter test ds ≡ [] → cond b (d ∷ filter test ds) (filter test ds) ≡ []
+      by true e rest = absurd (let there = all.0 e in let away = none d in cc)
+      by false e rest = rest
+
+  none-directed : (direction : Direction) → [] ≡ in_direction {X = List Field} direction []
+  none-directed Ascending = refl
+  none-directed Descending = refl
+
+  pub nothing_directed : (direction : Direction) (ds : Rows) → AllByRecursion (λ d. test d ≡ true → inside d ≡ true) ds → ((d : List Field) → inside d ≡ false) → [] ≡ in_direction direction (filter test ds)
+  nothing_directed direction ds all none = none-directed direction ∙ ap (in_direction direction) (sym (none-match ds all none))
