@@ -259,7 +259,7 @@ def chained(count, writes, postgres):
 
 def tell_chain(sizes, writes, postgres):
     heads("the chain, microseconds", "documents", "a write without it", "a write", "SQLite", "less the one without",
-          "the eight by themselves", "a write and a read", "SQLite", "anew: docd", "SQLite", "PostgreSQL: eight REFRESH")
+          "the eight by themselves", "a write and a read", "SQLite", "recomputed: docd", "SQLite", "PostgreSQL: eight REFRESH")
     for count in sizes:
         it = chained(count, writes, postgres)
         told = [it.bare[0], *it.write, it.write[0] - it.bare[0], it.alone, *it.both, *it.anew, it.refresh]
@@ -291,7 +291,7 @@ def lines_of(found):
     """The lines of a case's picture, each with its points."""
     counts = [it.count for it in found]
     lines = [("a write through the view", [it.write[0] for it in found]), ("a read of 101 rows", [it.read[0] for it in found]),
-             ("these rows anew", [it.anew[0] for it in found]), ("PostgreSQL's REFRESH", [it.refresh for it in found])]
+             ("recomputed rows", [it.anew[0] for it in found]), ("PostgreSQL's REFRESH", [it.refresh for it in found])]
     return [Line(name, list(zip(counts, [1e6 * one for one in seconds]))) for name, seconds in lines if None not in seconds]
 
 
@@ -312,8 +312,8 @@ def main():
             tell_chain(sizes, given.writes, None if postgres.told else postgres)
         if not chosen:
             return
-        heads("a view, microseconds", "documents", "a write without it", "a write", "SQLite", "a read", "SQLite", "anew: docd",
-              "SQLite", "PostgreSQL: REFRESH", "bytes kept for a document")
+        heads("a view, microseconds", "documents", "a write without it", "a write", "SQLite", "a read", "SQLite",
+              "recomputed: docd", "SQLite", "PostgreSQL: REFRESH", "bytes kept for a document")
         for case in chosen:
             for count in sizes:
                 it = measured(case, count, given.writes, None if postgres.told else postgres)
