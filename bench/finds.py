@@ -117,7 +117,7 @@ def tell(name, count, few, by_docd, by_sqlite, by_mongomock):
     asked = [by_docd, by_sqlite] + [by_mongomock] * (by_mongomock is not None)
     spent, other, *mocked = in_turn(*((one.action, one.clock) for one in asked))
     if by_docd.told() != by_sqlite.told():
-        sys.exit("bench: %s: docd tells of %d documents and SQLite of %d" % (name, by_docd.told(), by_sqlite.told()))
+        sys.exit("bench: %s: docd returns %d documents and SQLite %d" % (name, by_docd.told(), by_sqlite.told()))
     cells = [name, "%d" % by_docd.told(), "%.1f" % (1e3 * spent), "%.0f" % (count / spent / 1e3)]
     cells += ["%.0f" % (count / other / 1e3), "%.1f" % (other / spent)]
     row(*cells, *(["%.1f" % (few / mocked[0] / 1e3), "%.0f" % (count / spent / few * mocked[0])] if mocked else ["-", "-"]))

@@ -91,7 +91,7 @@ def tell(docd, base, asked):
     given = sum(map(rows_given, docd.ask(*commands)))
     told = sum(len(base.execute(*one).fetchall()) for one in statements)
     if given != told:
-        sys.exit("bench: %s: docd gives %d rows and SQLite %d" % (asked.name, given, told))
+        sys.exit("bench: %s: docd returns %d rows and SQLite %d" % (asked.name, given, told))
     stream = measuring.stream_of(commands)
 
     def ask_sqlite():

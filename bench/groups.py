@@ -71,7 +71,7 @@ def main():
         reply, = docd.ask(command)
         found, told = len(reply["cursor"]["firstBatch"]), len(base.execute(sql).fetchall())
         if found != told:
-            sys.exit("bench: %s: docd gives %d rows and SQLite %d" % (name, found, told))
+            sys.exit("bench: %s: docd returns %d rows and SQLite %d" % (name, found, told))
         spent, other = in_turn((lambda: docd.send(stream, 1), docd.clock),
                                (lambda: base.execute(sql).fetchall(), time.thread_time))
         row(name, "%d" % found, "%.1f" % (1e3 * spent), "%.0f" % (count / spent / 1e3),

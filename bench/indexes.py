@@ -164,10 +164,10 @@ def tell_find(docd, base, asked):
             base.execute(sql, values).fetchall()
     told = sum(len(base.execute(sql, values).fetchall()) for values in statements)
     if given != told:
-        sys.exit("bench: %s: docd gives %d documents and SQLite %d" % (asked.name, given, told))
+        sys.exit("bench: %s: docd returns %d documents and SQLite %d" % (asked.name, given, told))
     explained, = docd.ask({"explain": {"find": "c", "filter": asked.filter(0)}})
     if explained["stage"] != "IXSCAN" and not asked.first:
-        sys.exit("bench: %s: docd makes no use of an index: %r" % (asked.name, explained))
+        sys.exit("bench: %s: docd does not use an index: %r" % (asked.name, explained))
     spent, other = in_turn((lambda: docd.send(stream, asked.times), docd.clock), (ask_sqlite, time.thread_time))
     row(asked.name, "%.0f" % (given / asked.times), "%.1f" % (1e6 * spent / asked.times), "%.1f" % (1e6 * other / asked.times),
         "%.2f" % (other / spent))
@@ -212,7 +212,7 @@ def docd_writes(found, stream, updates, fields):
     updated = docd.clock() - start
     docd.close()
     if sum(reply.get("nModified", 0) for reply in replies) != len(updates):
-        sys.exit("bench: docd changes others than %d: %r" % (len(updates), replies[0]))
+        sys.exit("bench: docd does not change %d documents: %r" % (len(updates), replies[0]))
     return inserted / len(found), updated / len(updates)
 
 
@@ -299,7 +299,7 @@ def update_all(docd, count, is_free=True):
     """Adds a number to each `serial`, after which the numbers are others than before."""
     reply, = docd.ask({"update": "c", "updates": [{"q": {}, "u": {"$inc": {"serial": count}}, "multi": True}]})
     if ("writeErrors" in reply) == is_free:
-        sys.exit("bench: an update of all is answered %r" % reply)
+        sys.exit("bench: the reply to an update of all is %r" % reply)
 
 
 def update_all_sqlite(base, count, is_free=True):
@@ -311,7 +311,7 @@ def update_all_sqlite(base, count, is_free=True):
         base.rollback()
         is_free = not is_free
     if not is_free:
-        sys.exit("bench: SQLite carries out what is to be refused, or refuses what is to be carried out")
+        sys.exit("bench: SQLite carries out an update that it should refuse, or refuses one that it should carry out")
 
 
 def refused_updates(docd, base, count):

@@ -35,7 +35,7 @@ def updated_by_docd(docd, update, count, is_each):
         commands = [{"update": "c", "updates": entries[i:i + STATEMENTS]} for i in range(0, len(entries), STATEMENTS)]
         replies = docd.ask(*commands)
         if sum(reply.get("nModified", 0) for reply in replies) != count:
-            sys.exit("bench: %s: docd changes others than %d: %r" % (update.name, count, replies[0]))
+            sys.exit("bench: %s: docd does not change %d documents: %r" % (update.name, count, replies[0]))
     return run, docd.clock
 
 

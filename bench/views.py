@@ -190,10 +190,10 @@ def check(docd, base):
     """That a view has the rows that its stages make anew, and so has what SQLite keeps."""
     kept, anew = docd.rows(docd.find()), docd.rows(docd.aggregate())
     if kept != anew:
-        sys.exit("bench: %s: the view doesn't show what its stages make anew" % docd.case.name)
+        sys.exit("bench: %s: the view has other rows than its pipeline" % docd.case.name)
     others = [sorted(base.base.execute(query).fetchall()) for query in (docd.case.read, docd.case.query[0])]
     if others[0] != others[1] or min(SHOWN, len(others[0])) != len(kept):
-        sys.exit("bench: %s: SQLite keeps other rows" % docd.case.name)
+        sys.exit("bench: %s: SQLite has other rows" % docd.case.name)
 
 
 # The chain.

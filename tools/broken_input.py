@@ -257,7 +257,7 @@ def main():
     options = argparse.ArgumentParser(description=__doc__, formatter_class=argparse.RawDescriptionHelpFormatter)
     options.add_argument("--seed", type=int, default=1)
     options.add_argument("--count", type=int, default=10_000, help="how many messages are answered, in each way")
-    options.add_argument("--way", choices=list(WAYS), help="one of the ways alone")
+    options.add_argument("--way", choices=list(WAYS), help="only one of the ways")
     given = parsed(options, "broken_input")
     for name in [given.way] if given.way else WAYS:
         seen = compare(WAYS[name](given.program), name, given.seed, given.count)

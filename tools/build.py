@@ -1,16 +1,16 @@
 #!/usr/bin/python3
-"""Builds docd: proves each crate that it stands on, lowest first, then docd itself, and links the program.
+"""Builds docd: proves each crate that it uses, lowest first, then docd itself, and links the program.
 
-It forecasts how long that takes from tools/proof_seconds.txt, says which crate it is at, how long each took and what is left,
-and goes on where an interrupted build was, since each crate keeps its work in its folder `out`. What the prover says is kept in
-crates/docd/out/build.log. A fault is one line, and the exit status is then 1.
+It forecasts from tools/proof_seconds.txt how long that takes. It prints which crate it is proving, how long each took, and what
+is left. An interrupted build continues where it stopped, since each crate keeps its work in its folder `out`. The output of
+the prover is in crates/docd/out/build.log. A fault is printed in one line, and the exit status is then 1.
 
-Crates of which none stands on another are proved side by side, each with as many processors as memory allows: the one with
-the longest chain of others behind it comes first, and the others have what it leaves. (The kit's `rt lib` would have
-each wait until no other works on a crate below it, so its own parts are called here.)
+Crates of which none uses another are proved side by side, each with as many processors as memory allows. The one with the
+longest chain of crates that wait for it comes first, and the others get what it leaves. (With the kit's `rt lib` each would
+wait until no other works on a crate that it uses, so the parts of `rt lib` are called here.)
 
     python3 tools/build.py            builds
-    python3 tools/build.py --look     builds nothing, and ends with 0 where the program is proved as its sources are now
+    python3 tools/build.py --look     builds nothing, and ends with 0 if the program is proved from the present sources
 """
 import argparse
 import contextlib
@@ -54,10 +54,10 @@ def find_room():
     """How many processors there are, and how many jobs may run side by side by the memory."""
     disk = shutil.disk_usage(HERE).free
     if disk < ALL_WORK and not (LOG.parent / PROGRAM).exists():
-        raise Fault("the disk has %.1f GB left, and a first build keeps %d GB below crates/*/out: make room there" % (disk / 2**30, ALL_WORK >> 30))
+        raise Fault("the disk has %.1f GB left, but a first build stores %d GB below crates/*/out: free some space" % (disk / 2**30, ALL_WORK >> 30))
     memory = free_memory()
     if memory < A_CHECK:
-        raise Fault("%.1f GB of memory are free, and the build takes %d GB: end other programs, or take a machine with more" % (memory / 2**30, A_CHECK >> 30))
+        raise Fault("%.1f GB of memory are free, but a build needs %d GB: end other programs, or use a larger machine" % (memory / 2**30, A_CHECK >> 30))
     return len(os.sched_getaffinity(0)), memory // A_JOB
 
 
@@ -118,10 +118,10 @@ def prove(kit, name, jobs):
 
 def failure(name, status):
     if min(shutil.disk_usage(it).free for it in (HERE, LOG.parent)) < 1 << 20:
-        return Fault("the disk is full, and %s isn't built: make room there, and the next build goes on from here" % name)
+        return Fault("the disk is full, so %s is not built: free some space, and run this again; it continues from here" % name)
     if status in (-signal.SIGKILL, 128 + signal.SIGKILL):
-        return Fault("building %s was stopped from outside, most likely for want of memory: end other programs, and run this again" % name)
-    return Fault("building %s failed, and %s says why: its lines with 'error' or 'no proof' are those to read" % (name, LOG.relative_to(HERE)))
+        return Fault("building %s was stopped, most likely because memory ran out: end other programs, and run this again" % name)
+    return Fault("building %s failed: read the lines with 'error' or 'no proof' in %s" % (name, LOG.relative_to(HERE)))
 
 
 def minutes(seconds):
@@ -145,7 +145,7 @@ class Build:
             jobs = min(self.processors if not self.running else max(1, self.processors // FEWER), self.room - taken)
             if len(self.running) == SIDE_BY_SIDE or (jobs < 1 and self.running):
                 break
-            tell("%s, crate %d of %d .." % (name, len(self.done) + len(self.running) + 1, len(self.crates.names)))
+            tell("proving %s, crate %d of %d .." % (name, len(self.done) + len(self.running) + 1, len(self.crates.names)))
             self.left.remove(name)
             self.running[name] = start(name, max(1, jobs), self.log), time.monotonic(), max(1, jobs)
 
@@ -177,7 +177,7 @@ class Build:
             process.wait()
 
     def run(self):
-        tell("building: %d crates are proved first, some %s with %d processors that have nothing else to do" % (
+        tell("building: %d crates are to be proved, in some %s if the %d processors have nothing else to do" % (
             len(self.left), minutes(self.crates.forecast(self.left, self.processors)), self.processors))
         try:
             while self.left or self.running:
@@ -214,7 +214,7 @@ def is_proved(kit):
 
 def main():
     words = argparse.ArgumentParser(description=__doc__, formatter_class=argparse.RawDescriptionHelpFormatter)
-    words.add_argument("--look", action="store_true", help="build nothing: only look whether the program is proved")
+    words.add_argument("--look", action="store_true", help="build nothing: only check whether the program is proved")
     words.add_argument("--crate", help=argparse.SUPPRESS)
     words.add_argument("--jobs", type=int, default=1, help=argparse.SUPPRESS)
     given = words.parse_args()
@@ -233,10 +233,10 @@ def main():
         tell(str(fault))
         return 1
     except OSError as fault:
-        tell("nothing can be built: %s: %s" % (fault.filename or LOG.parent, fault.strerror))
+        tell("cannot build: %s: %s" % (fault.filename or LOG.parent, fault.strerror))
         return 1
     except KeyboardInterrupt:
-        tell("interrupted: the next build goes on from here")
+        tell("interrupted: the next build continues from here")
         return 1
     return 0
 

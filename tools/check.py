@@ -69,7 +69,7 @@ def proved():
     badly."""
     last = ""
     if not shutil.which("rt"):
-        say("no command `rt` is found: put the folder bin of the Rattle kit on the PATH")
+        say("the command `rt` is not found: put the folder bin of the Rattle kit on the PATH")
         return 0, 1
     with subprocess.Popen(["rt", "ci"], cwd=ROOT, stdout=subprocess.PIPE, text=True, errors="replace",
                           env={**os.environ, "PYTHONUNBUFFERED": "1"}) as gate:
@@ -95,7 +95,7 @@ def is_well(part, program, log):
         say("%s: passed: %d, in %d s, %d of them of a processor" % (part.name, sum(counts), time.monotonic() - begun, seconds))
         return True
     first = "".join("\n    " + line for line in lines[:FIRST_LINES])
-    say("%s: FAILED: status %s, %d looked at of at least %d; %s has what it printed:%s" % (
+    say("%s: FAILED: status %s, %d checked of at least %d; its output is in %s and begins:%s" % (
         part.name, status, sum(counts), part.least, log, first))
     return False
 
@@ -134,13 +134,13 @@ def tried_parts(made, parts):
 
 def main():
     options = argparse.ArgumentParser(description=__doc__, formatter_class=argparse.RawDescriptionHelpFormatter)
-    options.add_argument("--program", help="try the parts alone, on this program")
-    options.add_argument("--parts", default="", help="words, joined by commas, of which the tool's name has one")
+    options.add_argument("--program", help="run only the parts, on this program")
+    options.add_argument("--parts", default="", help="words, joined by commas: run the parts whose tool's name has one of them")
     given = options.parse_args()
     passed, failed = (0, 0) if given.program else proved()
     made = given.program or PROVED
     if not failed and not os.path.exists(made):
-        say("%s isn't there" % made)
+        say("%s does not exist: name a program that does, or build one: ./docd --prove" % made)
         failed = 1
     if not failed:
         tried = tried_parts(made, [part for part in PARTS if any(word in part.words[0] for word in given.parts.split(","))])

@@ -192,7 +192,7 @@ def main():
     for place in range(given.start, given.start + given.count):
         made = random_script(given.seed, place)
         if made is None:
-            print("compare: seed %d, script %d is passed over" % (given.seed, place), file=sys.stderr, flush=True)
+            print("compare: seed %d, script %d is skipped: the model takes too long" % (given.seed, place), file=sys.stderr, flush=True)
             continue
         cut, plain, count, wanted = made
         if answer(given.program, cut) != wanted:

@@ -290,7 +290,7 @@ def main():
     options = argparse.ArgumentParser(description=__doc__, formatter_class=argparse.RawDescriptionHelpFormatter)
     options.add_argument("--cases", default="", help="words, joined by commas, of which the names of the cases have one")
     options.add_argument("--stack", type=int, default=STACK, help="the kilobytes of stack")
-    options.add_argument("--measure", action="store_true", help="tell what is taken instead")
+    options.add_argument("--measure", action="store_true", help="print the stack that is used instead")
     given = parsed(options, "deep_rows")
     deep = Tower(WRAPPED).cases()
     names = [name for name in deep if any(word in name for word in given.cases.split(","))]

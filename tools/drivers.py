@@ -80,7 +80,7 @@ class Worker:
         self.update_all(client)
         self.same(first + rows(cursor), [{**one, "n": one["n"] - 1} if "n" in one else one for one in self.held],
                   "a cursor over what was there")
-        self.same(rows(client.opened({"find": self.name, "batchSize": 50})), self.held, "a find behind it")
+        self.same(rows(client.opened({"find": self.name, "batchSize": 50})), self.held, "a find after it")
 
     def update_all(self, client):
         entry = {"q": {"n": {"$exists": True}}, "u": {"$inc": {"n": 1}}, "multi": True}

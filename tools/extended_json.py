@@ -53,14 +53,14 @@ def extended(fields):
     """The value that a document of JSON is: itself, or one of a kind that JSON lacks."""
     names = tuple(name for name, _ in fields)
     if names in LACKING:
-        raise ValueError("%s is of a kind that docd doesn't have" % names[0].decode())
+        raise ValueError("%s is of a type that docd doesn't have" % names[0].decode())
     if names not in EXTENDED:
         return DOCUMENT, fields
     made, form = EXTENDED[names]
     try:
         return made(fields[0][1])
     except (ValueError, TypeError, KeyError, OverflowError):
-        raise ValueError("%s is written %s" % (names[0].decode(), form)) from None
+        raise ValueError("%s has a wrong value: write %s" % (names[0].decode(), form)) from None
 
 
 def digits_of(value, bits):

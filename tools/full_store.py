@@ -116,7 +116,7 @@ def fill_and_empty(program, megabytes, rich, drops):
         raise Wrong("%d documents are counted in an empty collection" % store.count)
     while store.count < filled - filled // 20:
         if not store.insert(100):
-            raise Wrong("behind %s %d documents are stored of %d before" % (how, store.count, filled))
+            raise Wrong("after %s only %d documents can be stored, of %d before" % (how, store.count, filled))
     if rich:
         store.compare_views()
     return "%d documents, %s, and %d documents" % (filled, how, store.count)

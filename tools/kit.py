@@ -42,11 +42,11 @@ def wanted_kit():
     """The kit's part `rtlib`, where the installed kit has the logic that KIT names: kits of one logic prove the same."""
     wanted = WANTED.read_text().strip()
     if not shutil.which("rt"):
-        raise Fault("no command `rt` is found: put the folder bin of the Rattle kit (%s) on the PATH" % wanted)
+        raise Fault("the command `rt` is not found: put the folder bin of the Rattle kit (%s) on the PATH" % wanted)
     ran = subprocess.run(["rt", "version"], capture_output=True, text=True)
     said = ran.stdout.strip()
     if ran.returncode:
-        raise Fault("`rt version` fails: " + (ran.stderr.strip() or "it says nothing").splitlines()[-1])
+        raise Fault("`rt version` failed: " + (ran.stderr.strip() or "it printed nothing").splitlines()[-1])
     if not said.endswith(wanted):
-        raise Fault("another Rattle kit is installed: `rt version` prints %s, and has to end in %s" % (said, wanted))
+        raise Fault("another Rattle kit is installed: `rt version` prints %s, but must end in %s: install that kit" % (said, wanted))
     return part("rt").rtlib

@@ -124,7 +124,7 @@ def of_one_write(program, make, size, writes, folder):
         took[count].append(run(program, False, os.path.join(folder, str(count)), answer).seconds)
     all_writes = min(took[writes]) - min(took[0])
     if all_writes <= max(took[0]) - min(took[0]):
-        return "a write takes too little to tell"
+        return "a write takes too little time to measure"
     return "a write %.3f ms" % (1_000 * all_writes / writes)
 
 
@@ -142,7 +142,7 @@ def main():
     words = given.cases.split(",")
     with tempfile.TemporaryDirectory() as folder:
         right = [measured(given.program, name, given.part, folder) for name in CASES if any(word in name for word in words)]
-    print("%d cases, of which %d stand out" % (len(right), right.count(False)))
+    print("%d cases, of which %d failed or grew too much" % (len(right), right.count(False)))
     return 0 if all(right) else 1
 
 

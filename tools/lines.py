@@ -1,22 +1,23 @@
 #!/usr/bin/python3
-r"""Makes a script's lines of commands, and reads docd's lines back; asks a docd that serves; or makes a file to be loaded.
+r"""Makes a script from commands, and reads docd's output; sends commands to a docd that serves; or makes a file to be loaded.
 
-One command a line on standard input, as docs/MANUAL.md writes them; lines that are empty or begin with `#` are skipped. How
-values are written says tools/notation.py: as in the manual, as JSON or as extended JSON. A command that names no database is
-one of `t`, or of the one that `--db` names.
+Standard input has one command a line, as in docs/MANUAL.md. Empty lines and lines that begin with `#` are skipped. Values are
+written as in the manual, as JSON or as extended JSON (tools/notation.py). A command that names no database is for `t`, or for
+the one that `--db` names.
 
     printf '%s\n' '{insert: "c", documents: [{_id: 1, a: "x"}]}' '{find: "c"}' |
         tools/lines.py | ./docd run --hex | tools/lines.py --read
     tools/lines.py --port 27017 < examples/shop.txt
 
-With a port each command is sent to 127.0.0.1 as its line comes, and its reply is printed; a line that can't be read ends the
-work. At a terminal this is a prompt (tools/prompt): with history, completion by Tab, `help`, long replies laid out, and what a
-refusal means. `--json` prints replies as extended JSON. With `--watch` a view's rows are printed, and again where they change:
+With a port each command is sent to 127.0.0.1 as soon as its line is read, and its reply is printed. A wrong line ends the tool.
+At a terminal this is a prompt (tools/prompt) with history, completion by Tab, `help`, long replies over several lines, and the
+meaning of each refusal. `--json` prints replies as extended JSON. `--watch` prints a view's rows, and again when they change:
 
     tools/lines.py --port 27017 --db fair --watch spent
 
-A sign `>` in front of a command is passed over; in a script `N>` is the session that it comes from, 0 where there is none. With
-`--documents` each line is a document, and its bytes are written, one behind the other, as `docd check` and `--load` read them:
+A sign `>` before a command is skipped. In a script, `N>` before a command is its session; without it the session is 0. With
+`--documents` each line is a document, and the documents' bytes are written one after the other, as `docd check` and `--load`
+read them:
 
     printf '%s\n' '{_id: 1, a: "x"}' '{_id: 2}' | tools/lines.py --documents > two.bson
 """
@@ -56,7 +57,7 @@ def read(line, is_json=False):
     try:
         return "%s %s" % (session, printed(answer(bytes.fromhex(rest)), is_json))
     except (ValueError, BsonFault, struct.error):
-        sys.exit("lines: this line is none that docd prints: " + line)
+        sys.exit("lines: --read reads the output of `docd run --hex`, which has no such line: " + line)
 
 
 def carry_out(lines, action):
@@ -85,13 +86,13 @@ def ask(given):
 
 def a_port(text):
     if not text.isdigit() or not 0 < int(text) < 65536:
-        raise argparse.ArgumentTypeError("a port is a number from 1 to 65535, as docd prints it behind `serving 127.0.0.1:`")
+        raise argparse.ArgumentTypeError("a port is a number from 1 to 65535; docd prints its own after `serving 127.0.0.1:`")
     return int(text)
 
 
 def a_database(text):
     if not text or "." in text or "\0" in text:
-        raise argparse.ArgumentTypeError("a database has a name without a dot")
+        raise argparse.ArgumentTypeError("write a database's name without a dot")
     return text
 
 
@@ -107,18 +108,18 @@ def seconds(text):
 def words():
     options = argparse.ArgumentParser(description=__doc__, formatter_class=argparse.RawDescriptionHelpFormatter)
     ways = options.add_mutually_exclusive_group()
-    ways.add_argument("--read", action="store_true", help="read docd's lines")
-    ways.add_argument("--port", type=a_port, help="ask the docd that serves there")
+    ways.add_argument("--read", action="store_true", help="read the output of `docd run --hex`")
+    ways.add_argument("--port", type=a_port, help="send the commands to the docd that serves there")
     ways.add_argument("--documents", action="store_true", help="write the bytes of documents")
     options.add_argument("--db", type=a_database, default="t",
-                         help="the database of commands that name none, t where this isn't given")
+                         help="the database of commands that name none (default: t)")
     options.add_argument("--json", action="store_true", help="print replies as extended JSON")
-    options.add_argument("--watch", metavar="VIEW", help="with --port: print a view's rows, and again where they change")
+    options.add_argument("--watch", metavar="VIEW", help="with --port: print a view's rows, and again when they change")
     options.add_argument("--every", type=seconds, default=1, metavar="SECONDS",
-                         help="with --watch: between two looks, 1 where this isn't given")
+                         help="with --watch: the time between two looks (default: 1)")
     given = options.parse_args()
     if given.watch and not given.port:
-        options.error("--watch needs --port, where docd serves")
+        options.error("--watch needs --port: the port of a docd that serves")
     return given
 
 
@@ -144,7 +145,7 @@ def main():
     except Refused as refused:
         sys.exit("lines: the find is refused: %s" % printed(refused.args[0], given.json))
     except UnicodeDecodeError:
-        sys.exit("lines: standard input is no text in UTF-8")
+        sys.exit("lines: standard input is not UTF-8 text")
     except BrokenPipeError:
         os.dup2(os.open(os.devnull, os.O_WRONLY), sys.stdout.fileno())  # nobody reads what is left
         sys.exit(1)

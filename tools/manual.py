@@ -30,7 +30,7 @@ def examples_of(blocks):
         lines = block.splitlines()
         for command, reply in zip(lines[::2], lines[1::2], strict=True):
             if not COMMAND.fullmatch(command):
-                sys.exit("manual: no command, which begins with >: " + command)
+                sys.exit("manual: a command must begin with >: " + command)
             examples.append((command, reply))
     return examples
 

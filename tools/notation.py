@@ -64,16 +64,16 @@ def number_of(value):
 
 # The kinds that are written with brackets: how they are read, and what is told where they can't be.
 CALLS = {
-    "ObjectId": (object_id, 'an ObjectId is written with 24 hexadecimal digits: ObjectId("507f1f77bcf86cd799439011")'),
-    "Date": (date, 'a date is written Date("2026-11-22T18:30:15.123Z"), or with its milliseconds since 1970: Date(0)'),
-    "Timestamp": (timestamp, "a timestamp is written with its seconds and its count: Timestamp(1, 2)"),
-    "Binary": (binary, 'binary data are written with their subtype and pairs of hexadecimal digits: Binary(0, "00ff")'),
+    "ObjectId": (object_id, 'write an ObjectId with 24 hexadecimal digits: ObjectId("507f1f77bcf86cd799439011")'),
+    "Date": (date, 'write a date as Date("2026-11-22T18:30:15.123Z"), or with its milliseconds since 1970: Date(0)'),
+    "Timestamp": (timestamp, "write a timestamp with its seconds and its count: Timestamp(1, 2)"),
+    "Binary": (binary, 'write binary data with their subtype and pairs of hexadecimal digits: Binary(0, "00ff")'),
 }
 # What is told of words of MongoDB's shell.
 FOREIGN = {
     "new": "leave new out", "ISODate": CALLS["Date"][1], "BinData": CALLS["Binary"][1], "UUID": CALLS["Binary"][1],
     **dict.fromkeys(["NumberInt", "NumberLong", "NumberDecimal", "Int32", "Long", "Double", "Decimal128"],
-                    "docd has whole numbers alone: 5 has 32 bits, 5L has 64"),
+                    "docd has only whole numbers: write 5 (32 bits) or 5L (64 bits)"),
 }
 
 
@@ -128,15 +128,15 @@ class Reader:
         if word in CALLS and self.takes("("):
             return self.call(word, start)
         if word:
-            self.fail(FOREIGN.get(word, "`%s` is no value: a text stands in double quotes" % word), start)
+            self.fail(FOREIGN.get(word, "`%s` is no value: write a string in double quotes" % word), start)
         if self.text.startswith("'", start):
-            self.fail("a text stands in double quotes")
-        return self.lacks("a value is missing: a number, a text in double quotes, {..}, [..], true, false or null")
+            self.fail("write a string in double quotes")
+        return self.lacks("a value is missing: a number, a string in double quotes, {..}, [..], true, false or null")
 
     def number(self, digits, start):
         form = WHOLE.fullmatch(digits)
         if not form:
-            self.fail("%s is no whole number, and docd has no others: write one as 5 or 5L" % digits, start)
+            self.fail("%s is no whole number, and docd has only whole numbers: write 5 or 5L" % digits, start)
         number = int(form[1])
         if not -2**63 <= number < 2**63:
             self.fail("%s has more than 64 bits: write a smaller number" % digits, start)
@@ -146,22 +146,22 @@ class Reader:
         """The bytes of a text in quotes."""
         start, written = self.at, self.match(QUOTED)
         if not written:
-            self.fail("this text has no end: write a double quote behind it")
+            self.fail("this string has no end: write a double quote after it")
         try:
             return json.loads(ESCAPE.sub(lambda one: "\\u0000" if one[1] == "0" else one[0], written), strict=False).encode()
         except ValueError:
-            return self.fail('%s has a wrong escape: there are \\" \\\\ \\/ \\b \\f \\n \\r \\t \\0 and \\u00e9' % written, start)
+            return self.fail('%s has a wrong escape: write one of \\" \\\\ \\/ \\b \\f \\n \\r \\t \\0 and \\u00e9' % written, start)
 
     def members(self, closing, one):
         found = []
         while not self.takes(closing):
             if not self.has():
-                self.lacks("the line ends where a %s is missing" % closing)
+                self.lacks("a %s is missing at the end of the line" % closing)
             if found and not self.takes(","):
                 self.fail("a comma is missing, or a %s" % closing)
             if found and self.text.startswith(closing, self.at):
                 wanted = "name" if closing == "}" else "value"
-                self.fail("a %s is missing behind the comma: write none behind the last" % wanted)
+                self.fail("a %s is missing after the comma: write no comma after the last one" % wanted)
             found.append(one())
         return found
 
@@ -183,7 +183,7 @@ class Reader:
         if b"\0" in name:
             self.fail("a name can't have a zero byte", start)
         if not self.takes(":"):
-            self.lacks("a colon is missing behind the name; one that is more than a word stands in double quotes")
+            self.lacks("a colon is missing after the name; write a name that is more than a word in double quotes")
         return is_quoted, name, self.value()
 
     def call(self, word, start):
@@ -232,11 +232,11 @@ def document_of(text):
     try:
         kind, fields = reader.value()
     except RecursionError:
-        reader.fail("this is too deep: a document has 100 levels at most")
+        reader.fail("this is nested too deep: a document has at most 100 levels")
     if reader.has():
         reader.fail("the document has ended here: write one a line")
     if kind != DOCUMENT:
-        raise ValueError("column 1: a document is wanted, and no value of another kind: write {name: value, ..}")
+        raise ValueError("column 1: this has to be a document, and no value of another kind: write {name: value, ..}")
     return fields
 
 

@@ -148,15 +148,15 @@ def listed(crates):
 def main():
     words = argparse.ArgumentParser(description=__doc__, formatter_class=argparse.RawDescriptionHelpFormatter)
     words.add_argument("crates", nargs="*", metavar="CRATE")
-    words.add_argument("--alone", action="store_true", help="try each edit alone, which takes longer")
+    words.add_argument("--alone", action="store_true", help="try each edit by itself, which takes longer")
     words.add_argument("--list", action="store_true", help="only list the edits of the gate")
     words.add_argument("--jobs", type=int, default=2, help="processors for a check")
     given = words.parse_args()
-    engine = part("rt") or sys.exit("planted: no command `rt` is found: put the folder bin of the Rattle kit on the PATH")
+    engine = part("rt") or sys.exit("planted: the command `rt` is not found: put the folder bin of the Rattle kit on the PATH")
     crates = engine.rtlib.crates_below(str(ROOT))
     unknown = set(given.crates) - {it.name for it in crates}
     if unknown:
-        sys.exit(f"planted: no crate is named {', '.join(sorted(unknown))}")
+        sys.exit(f"planted: there is no crate {', '.join(sorted(unknown))}: crates.txt lists them")
     crates = [it for it in crates if not given.crates or it.name in given.crates]
     if given.list:
         print("\n".join(listed(crates)))
@@ -167,14 +167,14 @@ def main():
         paths = planted(crate)
         edits = [read_edit(it, crate) for it in paths]
         for path in [path for path, edit in zip(paths, edits) if edit is None]:
-            print(f"{crate.name}/{path.stem}: BAD EDIT: a text that it replaces doesn't stand once in its file", flush=True)
+            print(f"{crate.name}/{path.stem}: BAD EDIT: a text that it replaces is not in its file exactly once", flush=True)
             failed += 1
         edits = [it for it in edits if it]
         if not edits:
             continue
         held = engine.rtlib.lock([*crate.below(), crate])
         if any(it.build_rlib(["--jobs", str(given.jobs)], anew=False) for it in crate.below()):
-            sys.exit(f"planted: a crate below {crate.name} isn't proved")
+            sys.exit(f"planted: a crate that {crate.name} uses is not proved: prove it first (rt check in its folder)")
         failed += try_crate(engine, crate, edits, given.alone, given.jobs)
         tried += len(edits)
         for it in held:

@@ -58,8 +58,8 @@ SUSPECTED = [
     ('{insert: "c", documents: [{_id: 1}]}', 11000, 0, "_id"), ('{update: "c", updates: [{q: {}, u: {$st: {a: 1}}}]}', 9, 0, "$set may be meant"),
     ('{update: "c", updates: [{q: {}}]}', 9, 0, "u is missing"), ('{update: "c", updates: [{q: {}, w: {}}]}', 9, 0, "in updates.0 there is no field w"), ('{update: "c", updates: [{q: {}, u: {$inc: {a: "x"}}}]}', 14, 0, '$inc: {a: "x"}'),
     ('{update: "c", updates: [{q: {}, u: {a: 1}}]}', 28, 0, "updates.0"), ('{delete: "c", deletes: [{q: {}, limit: 2}]}', 2, 0, "limit: 2"),
-    ('{explain: {count: "c"}}', 59, None, "a find alone"), ('{find: "c", filter: {a: {$regex: "b"}}}', 2, None, "$regex"),
-    ('{find: "c", projection: {a: 1}}', 9, None, "{} alone"), ('{find: "c", skip: 1, skip: 2}', 22, None, "skip stands twice"), ('{aggregate: "c", pipeline: [{$group: {_id: 1, n: {$avg: "$a"}}}]}', 9, None, "$avg"),
+    ('{explain: {count: "c"}}', 59, None, "only a find"), ('{find: "c", filter: {a: {$regex: "b"}}}', 2, None, "$regex"),
+    ('{find: "c", projection: {a: 1}}', 9, None, "only {}"), ('{find: "c", skip: 1, skip: 2}', 22, None, "skip is given twice"), ('{aggregate: "c", pipeline: [{$group: {_id: 1, n: {$avg: "$a"}}}]}', 9, None, "$avg"),
     ('{$db: "t"}', 59, None, "no command"), ('{explain: {find: "c", limt: 5}}', 9, None, "limit may be meant"), ('{createIndexes: "c", indexes: [{key: {a: 1}}]}', 9, None, "the index"), ('{ping: 1, $db: "a.b"}', 2, None, "the database"),
 ]
 

@@ -204,7 +204,7 @@ def main():
             count = trial.refuse_each()
             later = sum(trial.refuse_each((number,)) for number in [*trial.without_rows.values()])
             shown = ", ".join("%d %s" % (count, how) for how, count in sorted(trial.seen.items()))
-            print("%s: %d requests, each refused, and %d behind another: %s" % (name, count, later, shown), flush=True)
+            print("%s: %d requests, each refused, and %d after another one: %s" % (name, count, later, shown), flush=True)
             wrong, refused_in_all = wrong + trial.wrong, refused_in_all + count + later
     print("%d requests refused, %d wrong" % (refused_in_all, wrong))
     sys.exit(1 if wrong else 0)

@@ -67,7 +67,7 @@ class Refusing:
     def __init__(self, program):
         self.program, self.folder = program, tempfile.TemporaryDirectory()
         self.shim, self.counted = (os.path.join(self.folder.name, name) for name in ("shim.so", "counted"))
-        kit = part("rtlib.py") or sys.exit("refusing: no command `rt` is found: put the folder bin of the Rattle kit on the PATH")
+        kit = part("rtlib.py") or sys.exit("refusing: the command `rt` is not found: put the folder bin of the Rattle kit on the PATH")
         source, tools = os.path.join(self.folder.name, "shim.c"), os.path.join(kit.KIT, "toolchain")
         with open(source, "w", encoding="ascii") as file:
             file.write(SHIM)

@@ -114,7 +114,7 @@ def right(command, reply):
 def rows_told(stats):
     """How many rows viewStats tells of a view, which has to be live."""
     if stats["state"] != "live":
-        raise Difference("a view is told so: %r" % stats)
+        raise Difference("a view is not live: viewStats returns %r" % stats)
     return int(stats["rows"]["$numberLong"])
 
 
@@ -213,7 +213,7 @@ class Comparer:
             if before["ticks"] != after["ticks"]:
                 self.seen["views that changed while they were compared"] += 1
             elif batch_in(found) != batch_in(made) or rows_in(batch_in(found)) != rows_told(before):
-                raise Difference("%s: told are %r, found %r, made %r" % (view, before, read_answer(found), read_answer(made)))
+                raise Difference("%s: viewStats returns %r, the find %r, the pipeline %r" % (view, before, read_answer(found), read_answer(made)))
             else:
                 self.seen["comparisons beside writes"] += 1
 

@@ -154,7 +154,7 @@ def seen_by(texts, table):
     except Wrong:
         raise
     except Exception as fault:
-        raise Wrong("%r behind %s" % (fault, at)) from None
+        raise Wrong("%r after %s" % (fault, at)) from None
     return None
 
 
@@ -186,7 +186,7 @@ def main():
     examples = tables(texts)
     signal.signal(signal.SIGALRM, stop)
     if any(seen_by(texts, table) for table in examples):
-        sys.exit("turned_rules: the model answers otherwise before a rule is turned: run tools/machine_rows.py")
+        sys.exit("turned_rules: the model is wrong before a rule is changed: run tools/machine_rows.py")
     for turn in [one for one in turns() if given.only in one.name + " " + one.file]:
         seen, is_in_gate, fault = told_of(texts, turn, examples)
         counts.update(["turned"] + ["seen"] * bool(seen) + ["in the gate"] * is_in_gate)

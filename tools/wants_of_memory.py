@@ -187,7 +187,7 @@ def known():
         if line and not line.startswith("#"):
             match = re.fullmatch(r"(\S.*) (\d+): (\S.*)", line)
             if not match or match[1] in listed:
-                sys.exit("%s:%d: no line of the form 'FUNCTION COUNT: REASON', or one that stands there twice" % (KNOWN, number))
+                sys.exit("%s:%d: write 'FUNCTION COUNT: REASON', once for each function" % (KNOWN, number))
             listed[match[1]] = int(match[2]), match[3]
     return listed
 

@@ -9,8 +9,8 @@ from served import NotDocd, Served
 COMMAND = re.compile(r"(?:(\d{0,3})>)?\s*(.*)", re.S)
 DATABASE = b"$db"
 ADDRESS = "127.0.0.1:%d"
-WAITS = ("no answer from %s yet: docd may be at work on a long command, or have as many connections as it takes, 1,000 under "
-         "`listen` and one under `serve`; or what listens there isn't docd (Control-C ends this)" % ADDRESS)
+WAITS = ("no reply from %s yet: docd may be carrying out a long command, or have as many connections as it serves (1,000 under "
+         "`listen`, one under `serve`); or another program listens there. Wait, or press Control-C to end this" % ADDRESS)
 
 
 class NoDocd(Exception):
@@ -35,7 +35,7 @@ class Asker:
         try:
             self.served = Served(port, lambda: tell(WAITS % port))
         except OSError as error:
-            raise NoDocd("nothing serves at %s (%s): start ./docd listen --port %d in another terminal, or name its port" % (
+            raise NoDocd("nothing serves at %s (%s): start ./docd listen --port %d in another terminal, or give docd's port" % (
                 self.address, error.strerror, port)) from None
 
     def fields_of(self, line):
@@ -50,9 +50,9 @@ class Asker:
         try:
             return self.served.reply_to(fields)
         except (NotDocd, BsonFault, struct.error):
-            raise NoDocd("what listens at %s isn't docd: it sends no reply of its form" % self.address) from None
+            raise NoDocd("another program than docd listens at %s, since its reply has another form: give docd's port" % self.address) from None
         except ConnectionError as error:
-            raise NoDocd("the connection to %s has ended (%s): look in docd's terminal whether it has ended, or closed this "
+            raise NoDocd("the connection to %s has ended (%s): see in docd's terminal whether docd has ended or has closed this "
                          "connection" % (self.address, error.strerror or error)) from None
 
     def close(self):

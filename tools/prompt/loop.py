@@ -85,7 +85,7 @@ class Prompt:
         try:
             reply = self.asker.reply_to(fields)
         except KeyboardInterrupt:
-            tell("docd carries this command out to its end, and all other connections wait for that")
+            tell("docd goes on with this command to its end, and all other connections wait for it")
             raise
         self.names.learn(fields, reply)
         self.show(fields, reply)
@@ -101,7 +101,7 @@ class Prompt:
     def laid_out(self, reply, is_whole=False):
         layout = Layout(width(), is_whole)
         text = layout.reply(reply)
-        return text + ("\n# something is cut: type whole for all of it" if layout.has_cut else "")
+        return text + ("\n# the reply is shortened: type whole to see all of it" if layout.has_cut else "")
 
     def rows_told(self, reply):
         """How many rows an answer has where they stand in lines of their own, and how the next ones are had."""
@@ -109,7 +109,7 @@ class Prompt:
             rows, cursor = batch
             self.cursor = self.more_of(reply, cursor) if cursor[1] else None
             if self.cursor:
-                yield "# %s, and there are others: type more, or {getMore: %dL, collection: %s}" % (
+                yield "# %s, and there are more: type more, or {getMore: %dL, collection: %s}" % (
                     counted(rows), cursor[1], quotes(self.cursor[1][1][1]))
             elif "\n" in self.laid_out(reply):
                 yield "# " + counted(rows)
@@ -129,18 +129,18 @@ class Prompt:
 
     def use(self, name):
         if not name or "." in name:
-            raise ValueError("write use and the name of a database, which has no dot: use fair")
+            raise ValueError("write use and a database's name, which has no dot: use fair")
         self.asker.database, self.watching = name, None
-        self.say(["commands that name no database are of %s now" % name])
+        self.say(["commands that name no database are now for %s" % name])
 
     def more(self, _):
         if not self.cursor:
-            raise ValueError("the last answer has no more rows")
+            raise ValueError("the last reply has no more rows")
         self.ask(self.cursor)
 
     def whole(self, _):
         if not self.last:
-            raise ValueError("there is no answer yet")
+            raise ValueError("there is no reply yet: type a command first")
         self.say([self.laid_out(self.last, is_whole=True)])
 
     def watch(self, name):

@@ -25,11 +25,11 @@ OF_NAMES = NAMESPACE_NOT_FOUND, NAMESPACE_EXISTS, ON_VIEW, READ_BY_VIEW
 ENTRIES = {b"updates": UPDATE_ENTRY, b"deletes": DELETE_ENTRY}
 IN_STAGES = {*STAGES, *LOGIC, *CONDITIONS, *ACCUMULATORS, b"$literal"}
 KINDS = {
-    kinds.text: "a text", kinds.documents: "an array of documents", kinds.boolean: "true or false", kinds.document: "a document",
+    kinds.text: "a string", kinds.documents: "an array of documents", kinds.boolean: "true or false", kinds.document: "a document",
     kinds.array: "an array of stages", kinds.natural: "a number from 0", kinds.any_number: "a number",
     kinds.numbers: "an array of numbers", kinds.batch_document: "{batchSize: a number from 0}", kinds.find_document: "a find",
-    kinds.nothing_but_empty: "{} alone", kinds.anything: "anything", kinds.zero_or_one: "0, for all, or 1",
-    kinds.update_document: "operators, or a document in place of the old one", kinds.false_alone: "false alone",
+    kinds.nothing_but_empty: "only {}", kinds.anything: "anything", kinds.zero_or_one: "0 (all) or 1",
+    kinds.update_document: "operators, or a document that replaces the old one", kinds.false_alone: "only false",
 }
 
 
@@ -37,9 +37,9 @@ def suspect(fields, code, index=None):
     """What may be wrong in a command that was refused with a code, or in its statement of an index; None where nothing shows."""
     name, value = fields[0]
     if code == COMMAND_NOT_FOUND and name == b"$db":
-        return "no command stands in front"
+        return "no command: its name has to be the first field"
     if code == COMMAND_NOT_FOUND:
-        return "explain takes a find alone" if name in COMMANDS else misnamed("command", name, COMMANDS)
+        return "explain takes only a find" if name in COMMANDS else misnamed("command", name, COMMANDS)
     if code in OF_NAMES and value[0] == TEXT:
         return "the name %s" % shown(value)
     if index is None:
@@ -117,7 +117,7 @@ def of_fields(place, fields, known, ignored=frozenset()):
             yield place + misnamed("field", name, known), lambda one=one: check_fields(one, known, ignored)
     twice = next((name for place, (name, _) in enumerate(fields) if name in dict(fields[:place])), None)
     if twice:
-        yield "%sthe field %s stands twice" % (place, shown_name(twice)), lambda: refuse(INVALID_BSON)
+        yield "%sthe field %s is given twice" % (place, shown_name(twice)), lambda: refuse(INVALID_BSON)
 
 
 def held_in(fields):

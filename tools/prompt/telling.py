@@ -9,12 +9,12 @@ from prompt.suspects import KINDS, suspect
 
 MORE = 101  # rows that the prompt's word `more` asks for
 WORDS = [
-    ("help", "this; help find, help $set and help 11000 tell of a command, an operator and a code"),
-    ("use NAME", "commands that name no database are of this one"),
-    ("more", "the next rows of the last answer, %d at most" % MORE),
-    ("whole", "the last answer, with nothing cut"),
-    ("watch VIEW", "shows a view's rows behind each command that changes them; watch alone ends that"),
-    ("exit", "ends, as Control-D does"),
+    ("help", "shows this; help find, help $set and help 11000 explain a command, an operator and a code"),
+    ("use NAME", "from now on, commands that name no database are for this one"),
+    ("more", "shows the next rows of the last reply, at most %d" % MORE),
+    ("whole", "shows the last reply in full"),
+    ("watch VIEW", "shows a view's rows after each command that changes them; watch without a name ends this"),
+    ("exit", "ends the connection, as Control-D does"),
 ]
 MOST = 5  # refused statements that something is told of
 ENTRIES = {b"update": ("updates", UPDATE_ENTRY), b"delete": ("deletes", DELETE_ENTRY)}
@@ -48,7 +48,7 @@ def help_of(topic, width):
         return [*table(words, width)]
     if guide.told_of("$" + name)[0]:
         return [*of_operator("$" + name, width)]
-    return ["nothing is known of %s: help lists the commands" % name]
+    return ["there is no command, operator or code %s: type help for the commands" % name]
 
 
 def overview(width):
@@ -71,25 +71,25 @@ def of_command(name, width):
     if name.encode() in ENTRIES:
         yield "fields of each of its %s" % ENTRIES[name.encode()][0]
         yield from table([field_row(one, kind, {"q", "u", "limit"}) for one, kind in ENTRIES[name.encode()][1].items()], width)
-    yield from wrapped("In every command these change nothing: %s." % ", ".join(sorted(one.decode() for one in IGNORED)), width)
+    yield from wrapped("Every command ignores these fields: %s." % ", ".join(sorted(one.decode() for one in IGNORED)), width)
     if example := guide.example_of(name):
         yield "for example"
         yield from ("  " + line for line in example)
     yield "may be refused with"
     yield from table([("%d %s" % (code.number, code.name), code.meaning) for code in guide.codes_of(name)], width)
     if row:
-        yield "docs/MANUAL.md, \"%s\", tells more." % guide.section_at(row.place)[0]
+        yield "docs/MANUAL.md has more, under \"%s\"." % guide.section_at(row.place)[0]
 
 
 def field_row(name, kind, wanted):
     text = name.decode()
-    return text, KINDS.get(kind, "") + (", which is needed" if text in wanted else "")
+    return text, KINDS.get(kind, "") + (", required" if text in wanted else "")
 
 
 def of_operator(name, width):
     told, example = guide.told_of(name)
     if not told:
-        yield "there is no operator %s: Tab lists those that may stand at a place" % name
+        yield "there is no operator %s: Tab lists those that a place may have" % name
         return
     yield from wrapped(told, width)
     if example:

@@ -33,7 +33,7 @@ def tell_if_none(asker, view, tell):
     """Tells where no view has the name."""
     reply = asker.reply_to([(b"viewStats", (TEXT, view.encode())), (b"$db", (TEXT, asker.database.encode()))])
     if dict(reply)[b"ok"][1] != 1:
-        tell("no view is named %s in the database %s: shown are the rows of a collection, where one has the name" % (
+        tell("there is no view %s in the database %s: the rows of the collection of this name are shown, if there is one" % (
             view, asker.database))
 
 
